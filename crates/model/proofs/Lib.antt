@@ -1,0 +1,15 @@
+pub mod MapsLemmas
+pub mod RankLemmas
+pub mod TableLemmas
+pub mod FinMapLemmas
+pub mod CompositionLemmas
+pub mod WritesLemmas
+pub mod MergingLemmas
+pub mod PlacesLemmas
+pub mod EditsLemmas
+pub mod WriteEditsLemmas
+pub mod EntriesLemmas
+pub mod ClashesLemmas
+pub mod RebasingLemmas
+pub mod FoldingSteps
+pub mod FoldingLemmas

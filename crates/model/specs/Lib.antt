@@ -1,0 +1,14 @@
+pub mod Maps
+pub mod Table
+pub mod Effects
+pub mod Composition
+pub mod Writes
+pub mod Clashes
+pub mod History
+pub mod Entries
+pub mod Merging
+pub mod Places
+pub mod Edits
+pub mod Rebasing
+pub mod Folding
+pub mod Laws
