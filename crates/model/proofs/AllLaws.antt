@@ -1,0 +1,137 @@
+-- The laws, in the words that contracts cite.
+use Rattle.std.proofs.Common.{◌≡◌, ℕ, Bool, true, false, cond, T, [], ◌∷◌, refl, sym, subst}
+use Rattle.std.specs.Prelude.{IsTrue}
+use Rattle.std.specs.List.{list_all}
+use Rattle.std.proofs.lemmas.Float.{T_from_true}
+use Rattle.values.specs.Orders.{key_cmp}
+use Rattle.values.specs.Shape.{Columns, fits_schema}
+use Rattle.model.specs.declared.write.Write.{Write}
+use Rattle.model.specs.Maps.{is_sorted}
+use Rattle.model.specs.Table.{Table, is_keyed_table, IsTable}
+use Rattle.model.specs.Effects.{Effects, effect_fits_schema, are_keyed_effects, all_fit, table_with, AreEffects, AreOver}
+use Rattle.model.specs.Composition.{composed_effects}
+use Rattle.model.specs.Writes.{write_fits_schema, key_of_write, effect_of_write, reply_to, is_done, effects_after}
+use Rattle.model.specs.Entries.{canonical_entries, are_ordered}
+use Rattle.model.specs.Laws.{MergesToTable, LeavesTable, ComposesInTurn, WriteKeeps, WriteEdits, ConflictIsFound, RebasesEntries, FoldsToComposed}
+use Rattle.model.proofs.MapsLemmas.{first, second}
+use Rattle.model.proofs.MergingLemmas.{merged_rows-canonical_entries}
+use Rattle.model.proofs.CompositionLemmas.{table_with-composed_effects, all_fit-composed_effects}
+use Rattle.model.proofs.WritesLemmas.{is_keyed_table-table_with, are_keyed_effects-composed_effects, follows, write_kept}
+use Rattle.model.proofs.FittingLemmas.{composed_effects-fit, table_with-fits, effect_of_write-fits, sets_no_key-fits}
+use Rattle.model.proofs.WriteEditsLemmas.{canonical_entries-written}
+use Rattle.model.proofs.ClashesLemmas.{first_clash-canonical_entries, all_fit-unclashed}
+use Rattle.model.proofs.RebasingLemmas.{rebased_entry-canonical_entries}
+use Rattle.model.proofs.FoldingLemmas.{folded_entries-canonical_entries}
+use Rattle.model.proofs.EntriesLemmas.{ordered-canonical_entries}
+
+is_true : (b : Bool) → T b → IsTrue b
+is_true true h = refl
+is_true false h = absurd h
+
+-- the tests behind the records
+record Tests (schema : Columns) (t : Table) (x : Effects) : Type 0 where
+  table : T (is_keyed_table schema.key_cols t)
+  rows_fit : T (list_all (λ e. fits_schema schema e.1) t)
+  effects : T (are_keyed_effects schema.key_cols x)
+  effects_fit : T (list_all (λ e. effect_fits_schema schema e.1) x)
+  fit : T (all_fit t x)
+
+module _ (schema : Columns) where
+  tests : (t : Table) (x : Effects) → AreOver schema t x → Tests schema t x
+  tests t x h = record {
+    table = T_from_true _ h.table.keyed;
+    rows_fit = T_from_true _ h.table.fitting;
+    effects = T_from_true _ h.effects_are.keyed;
+    effects_fit = T_from_true _ h.effects_are.fitting;
+    fit = T_from_true _ h.fit;
+  }
+
+  over : (t : Table) (x : Effects) → Tests schema t x → AreOver schema t x
+  over t x h = record {
+    table = record { keyed = is_true _ h.table; fitting = is_true _ h.rows_fit };
+    effects_are = record { keyed = is_true _ h.effects; fitting = is_true _ h.effects_fit };
+    fit = is_true _ h.fit;
+  }
+
+  pub merges : MergesToTable schema
+  merges t x h = let k = tests t x h in merged_rows-canonical_entries t x (first _ _ k.table) (first _ _ k.effects) k.fit
+
+  pub leaves : LeavesTable schema
+  leaves t x h =
+      let k = tests t x h in
+      record {
+        keyed = is_true _ (is_keyed_table-table_with schema.key_cols t x k.table k.effects);
+        fitting = is_true _ (table_with-fits schema t x (first _ _ k.table) (first _ _ k.effects) k.rows_fit k.effects_fit);
+      }
+
+  pub composes : ComposesInTurn schema
+  composes t x f h g =
+      let k = tests t x h in
+      let l = tests (table_with t x) f g in
+      let in_turn = follows schema.key_cols t x f k.table k.effects k.fit l.effects l.fit in (
+        over t (composed_effects x f) (record {
+          table = k.table;
+          rows_fit = k.rows_fit;
+          effects = are_keyed_effects-composed_effects schema.key_cols x f k.effects l.effects;
+          effects_fit = composed_effects-fit schema x f (first _ _ k.effects) (first _ _ l.effects) k.effects_fit l.effects_fit;
+          fit = all_fit-composed_effects t x f in_turn;
+        }),
+        table_with-composed_effects t x f in_turn,
+      )
+
+  -- the effects of a write alone, after those so far
+  written_fit : (x : Effects) (write : Write) (done : Bool) → T (is_sorted key_cmp x) → T (list_all (λ e. effect_fits_schema schema e.1) x) → T (write_fits_schema schema write) →
+      T (list_all (λ e. effect_fits_schema schema e.1) (cond done (composed_effects x ((key_of_write schema.key_cols write, effect_of_write write) ∷ [])) x))
+  written_fit x write true sorted h is = composed_effects-fit schema x ((key_of_write schema.key_cols write, effect_of_write write) ∷ []) sorted tt h (effect_of_write-fits schema write is)
+  written_fit x write false sorted h is = h
+
+  pub keeps : WriteKeeps schema
+  keeps limit t x write h is =
+      let k = tests t x h in
+      let fitting = T_from_true _ is in
+      let kept = write_kept schema.key_cols limit t x k.table k.effects k.fit write (sets_no_key-fits schema write fitting) in
+      over t (effects_after schema.key_cols limit t x write) (record {
+        table = k.table;
+        rows_fit = k.rows_fit;
+        effects = kept.lawful;
+        effects_fit = written_fit x write (is_done (reply_to schema.key_cols limit t x write)) (first _ _ k.effects) k.effects_fit fitting;
+        fit = kept.fit;
+      })
+
+  pub edits : WriteEdits schema
+  edits limit t x write h = let k = tests t x h in canonical_entries-written schema.key_cols limit t x k.table k.effects k.fit write
+
+  pub finds : ConflictIsFound schema
+  finds t x y h g =
+      let k = tests t x h in
+      let l = tests t y g in
+      first_clash-canonical_entries schema.key_cols t x y k.effects l.effects k.fit l.fit
+
+  pub rebases : RebasesEntries schema
+  rebases t x y h g free =
+      let k = tests t x h in
+      let l = tests t y g in (
+        record {
+          table = leaves t y g;
+          effects_are = h.effects_are;
+          fit = is_true _ (all_fit-unclashed t x y (first _ _ l.effects) k.fit l.fit free);
+        },
+        rebased_entry-canonical_entries schema.key_cols t x y (first _ _ k.table) k.effects l.effects k.fit l.fit free,
+      )
+
+  pub folds : FoldsToComposed schema
+  folds t x f h g =
+      let k = tests t x h in
+      let l = tests (table_with t x) f g in
+      folded_entries-canonical_entries schema.key_cols t x f (record {
+        table_sorted = first _ _ k.table;
+        x_sorted = first _ _ k.effects;
+        x_effects = second _ _ k.effects;
+        x_fits = k.fit;
+        f_sorted = first _ _ l.effects;
+        f_effects = second _ _ l.effects;
+        f_fits = l.fit;
+      })
+
+  pub ordered : (t : Table) (x : Effects) → AreOver schema t x → IsTrue (are_ordered schema.key_cols (canonical_entries t x))
+  ordered t x h = let k = tests t x h in is_true _ (ordered-canonical_entries schema.key_cols t x k.effects k.fit)
