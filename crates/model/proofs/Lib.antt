@@ -15,3 +15,5 @@ pub mod FoldingSteps
 pub mod FoldingLemmas
 pub mod FittingLemmas
 pub mod AllLaws
+pub mod WorkedTransactions
+pub mod WorkedTrees
