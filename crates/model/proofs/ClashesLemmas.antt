@@ -78,11 +78,11 @@ module _ (key_cols : ℕ) where
   abbrev clashes_with : List Entry → Entry → Bool
   clashes_with ys x = list_any (do_clash x) ys
 
-  is_some-or_clash : (i j : ℕ) (kind : Option ClashKind) (other : Option Clash) → is_some (or_clash key_cols i j kind other) ≡ (is_some kind || is_some other)
+  is_some-or_clash : (i j : ℕ) (kind : Option ClashKind) (other : Option Clash) → is_some (or_clash i j kind other) ≡ (is_some kind || is_some other)
   is_some-or_clash i j None other = refl
   is_some-or_clash i j (Some kind) other = refl
 
-  is_some-or_else : (a b : Option Clash) → is_some (or_else key_cols a b) ≡ (is_some a || is_some b)
+  is_some-or_else : (a b : Option Clash) → is_some (or_else a b) ≡ (is_some a || is_some b)
   is_some-or_else None b = refl
   is_some-or_else (Some a) b = refl
 

@@ -22,8 +22,8 @@ use Rattle.values.specs.Shape.{key_of}
 use Rattle.model.specs.Effects.{Cells, Effects, is_keyed_effect, fits}
 use Rattle.model.specs.declared.effect.Effect.{Effect}
 use Rattle.model.specs.declared.effect.Effect.TheVariants as effect
-use Rattle.model.specs.Entries.{entry_at, entries_of, canonical_entries, change_cmp, entry_cmp}
-use Rattle.model.specs.Edits.{put_entry, is_insert_of, is_modify, change_with_cell, put_ins, put_mod, put_del, take_ins, set_ins}
+use Rattle.model.specs.Entries.{entry_at, is_modify, entries_of, canonical_entries, change_cmp, entry_cmp}
+use Rattle.model.specs.Edits.{put_entry, is_insert_of, change_with_cell, put_ins, put_mod, put_del, take_ins, set_ins}
 use Rattle.model.proofs.MapsLemmas.{both, first, second, less, turn_less, turn_greater, find_below, below_less, find_past, store_past, without_below}
 use Rattle.model.proofs.RebasingLemmas.{is_placed, rank-le, rank-lt}
 
@@ -277,13 +277,13 @@ module _ (key_cols : ℕ) (t : Table) where
       change es = set_ins key_cols (rank k t) k col value es
 
       change-skips : (e : Entry) (es : List Entry) → is_it e ≡ false → change (e ∷ es) ≡ e ∷ change es
-      change-skips e es h = ap (λ b. cond b (entry_at e.sid (change_with_cell key_cols col value e.change)) e ∷ change es) h
+      change-skips e es h = ap (λ b. cond b (entry_at e.sid (change_with_cell col value e.change)) e ∷ change es) h
 
       change-changes : (row : Row) (es : List Entry) → T (eq_by_cmp key_cmp k (key_of key_cols row)) → change (entry_at (rank k t) (Ins row) ∷ es) ≡ entry_at (rank k t) (Ins (set row col value)) ∷ change es
       change-changes row es h = ap (λ b. cond b (entry_at (rank k t) (Ins (set row col value))) (entry_at (rank k t) (Ins row)) ∷ change es) (its_own row h)
 
       change-joins : (ys zs : List Entry) → change (ys ++ zs) ≡ change ys ++ change zs
-      change-joins ys zs = map-append (λ e. cond (is_it e) (entry_at e.sid (change_with_cell key_cols col value e.change)) e) ys zs
+      change-joins ys zs = map-append (λ e. cond (is_it e) (entry_at e.sid (change_with_cell col value e.change)) e) ys zs
 
       change-rest : (es : Effects) → T (below_all key_cmp k es) → T (are_lawful es) → change (canonical_entries t es) ≡ canonical_entries t es
       change-rest es h l = it-rest change change-joins refl change-skips es h l
@@ -304,9 +304,9 @@ module _ (key_cols : ℕ) (t : Table) where
 
     module _ (there : T (is_some (row_at t k))) where
       abbrev drop : List Entry → List Entry
-      drop es = filter (λ e. not ((e.sid == rank k t) && is_modify key_cols e.change)) es
+      drop es = filter (λ e. not ((e.sid == rank k t) && is_modify e.change)) es
 
-      drop-skips : (e : Entry) (es : List Entry) → ((e.sid == rank k t) && is_modify key_cols e.change) ≡ false → drop (e ∷ es) ≡ e ∷ drop es
+      drop-skips : (e : Entry) (es : List Entry) → ((e.sid == rank k t) && is_modify e.change) ≡ false → drop (e ∷ es) ≡ e ∷ drop es
       drop-skips e es h = ap (λ b. cond (not b) (e ∷ drop es) (drop es)) h
 
       apart_cells : (j : Key) (cells : Cells) → rank j t ≢ rank k t → drop (map (λ x. entry_at (rank j t) (Mod x.0 x.1)) cells) ≡ map (λ x. entry_at (rank j t) (Mod x.0 x.1)) cells
@@ -324,7 +324,7 @@ module _ (key_cols : ℕ) (t : Table) where
           ∙ ap (λ es. entry_at (rank j t) (Ins row) ∷ es) (drop-skips (entry_at (rank j t) (Del j)) [] (and_false (rank j t == rank k t) false refl))
 
       drop-joins : (ys zs : List Entry) → drop (ys ++ zs) ≡ drop ys ++ drop zs
-      drop-joins ys zs = filter-append (λ e. not ((e.sid == rank k t) && is_modify key_cols e.change)) ys zs
+      drop-joins ys zs = filter-append (λ e. not ((e.sid == rank k t) && is_modify e.change)) ys zs
 
       lt_ne : (n m : ℕ) → n < m → n ≢ m
       lt_ne n m h e = omega arith

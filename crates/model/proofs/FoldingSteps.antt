@@ -39,10 +39,10 @@ module _ (key_cols : ℕ) where
   abbrev pub outcome : Meeting → Entry → (ℕ → ℕ → List Entry → List Entry) → ℕ → ℕ → Entry → List Entry → List Entry
   outcome m lower rest added gone upper uppers =
       elim m as (λ _. List Entry) [
-        | Upper ↦ lowered_entry key_cols added gone upper ∷ fold_one key_cols lower rest added gone uppers
-        | Lower ↦ lower ∷ rest (added + added_by key_cols lower.change) (gone + gone_by key_cols lower.change) (upper ∷ uppers)
+        | Upper ↦ lowered_entry added gone upper ∷ fold_one key_cols lower rest added gone uppers
+        | Lower ↦ lower ∷ rest (added + added_by lower.change) (gone + gone_by lower.change) (upper ∷ uppers)
         | Over ↦ rest added gone (upper ∷ uppers)
-        | Neither ↦ rest (added + added_by key_cols lower.change) (gone + gone_by key_cols lower.change) uppers
+        | Neither ↦ rest (added + added_by lower.change) (gone + gone_by lower.change) uppers
         | Into change ↦ fold_one key_cols (entry_at lower.sid change) rest added gone uppers
       ]
 
@@ -54,12 +54,12 @@ module _ (key_cols : ℕ) where
     here : (c u : Change) → meet key_cols a d (entry_at n c) (entry_at n' u) ≡ changes_meet key_cols c u
     here c u = ap (λ r. positions_meet key_cols r c u) (cmp_equal (n' + d) (n + a) level)
 
-    pub lowered_here : (u : Change) → lowered_entry key_cols a d (entry_at n' u) ≡ entry_at n u
+    pub lowered_here : (u : Change) → lowered_entry a d (entry_at n' u) ≡ entry_at n u
     lowered_here u = ap (λ m. entry_at m u) (take_off n n' a d level)
 
     -- each lower entry stands after place n: the upper one comes first
     pub upper_first : (ls : List Entry) → T (all_after n ls) → (u : Change) (us : List Entry) → fold_from key_cols ls a d (entry_at n' u ∷ us) ≡ entry_at n u ∷ fold_from key_cols ls a d us
-    upper_first [] h u us = ap (λ e. e ∷ map (lowered_entry key_cols a d) us) (lowered_here u)
+    upper_first [] h u us = ap (λ e. e ∷ map (lowered_entry a d) us) (lowered_here u)
     upper_first (l ∷ ls) h u us =
         let lt = lt_of n l.sid (first _ _ h) in
         let far : n' + d < l.sid + a = omega arith in
@@ -67,7 +67,7 @@ module _ (key_cols : ℕ) where
         ∙ ap (λ e. e ∷ fold_from key_cols (l ∷ ls) a d us) (lowered_here u)
 
     -- each upper entry stands after position n': the lower one comes first
-    pub lower_first : (c : Change) (ls us : List Entry) → T (all_after n' us) → fold_from key_cols (entry_at n c ∷ ls) a d us ≡ entry_at n c ∷ fold_from key_cols ls (a + added_by key_cols c) (d + gone_by key_cols c) us
+    pub lower_first : (c : Change) (ls us : List Entry) → T (all_after n' us) → fold_from key_cols (entry_at n c ∷ ls) a d us ≡ entry_at n c ∷ fold_from key_cols ls (a + added_by c) (d + gone_by c) us
     lower_first c ls [] h = refl
     lower_first c ls (u ∷ us) h =
         let lt = lt_of n' u.sid (first _ _ h) in
@@ -80,13 +80,13 @@ module _ (key_cols : ℕ) where
         met Upper (entry_at n c) (fold_from key_cols ls) a d (entry_at n' u) us (here c u ∙ m)
         ∙ ap (λ e. e ∷ fold_from key_cols (entry_at n c ∷ ls) a d us) (lowered_here u)
 
-    pub lower_here : (c u : Change) (ls us : List Entry) → changes_meet key_cols c u ≡ Lower → fold_from key_cols (entry_at n c ∷ ls) a d (entry_at n' u ∷ us) ≡ entry_at n c ∷ fold_from key_cols ls (a + added_by key_cols c) (d + gone_by key_cols c) (entry_at n' u ∷ us)
+    pub lower_here : (c u : Change) (ls us : List Entry) → changes_meet key_cols c u ≡ Lower → fold_from key_cols (entry_at n c ∷ ls) a d (entry_at n' u ∷ us) ≡ entry_at n c ∷ fold_from key_cols ls (a + added_by c) (d + gone_by c) (entry_at n' u ∷ us)
     lower_here c u ls us m = met Lower (entry_at n c) (fold_from key_cols ls) a d (entry_at n' u) us (here c u ∙ m)
 
     pub over_here : (c u : Change) (ls us : List Entry) → changes_meet key_cols c u ≡ Over → fold_from key_cols (entry_at n c ∷ ls) a d (entry_at n' u ∷ us) ≡ fold_from key_cols ls a d (entry_at n' u ∷ us)
     over_here c u ls us m = met Over (entry_at n c) (fold_from key_cols ls) a d (entry_at n' u) us (here c u ∙ m)
 
-    pub neither_here : (c u : Change) (ls us : List Entry) → changes_meet key_cols c u ≡ Neither → fold_from key_cols (entry_at n c ∷ ls) a d (entry_at n' u ∷ us) ≡ fold_from key_cols ls (a + added_by key_cols c) (d + gone_by key_cols c) us
+    pub neither_here : (c u : Change) (ls us : List Entry) → changes_meet key_cols c u ≡ Neither → fold_from key_cols (entry_at n c ∷ ls) a d (entry_at n' u ∷ us) ≡ fold_from key_cols ls (a + added_by c) (d + gone_by c) us
     neither_here c u ls us m = met Neither (entry_at n c) (fold_from key_cols ls) a d (entry_at n' u) us (here c u ∙ m)
 
     pub into_here : (c u new : Change) (ls us : List Entry) → changes_meet key_cols c u ≡ Into new → fold_from key_cols (entry_at n c ∷ ls) a d (entry_at n' u ∷ us) ≡ fold_from key_cols (entry_at n new ∷ ls) a d us

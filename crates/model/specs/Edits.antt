@@ -13,7 +13,13 @@ use Rattle.model.specs.declared.write.Write.{Write}
 use Rattle.model.specs.declared.write.Write.TheVariants.{Insert, Delete, Set}
 use Rattle.model.specs.declared.effect.Effect.{Effect}
 use Rattle.model.specs.declared.effect.Effect.TheVariants as effect
-use Rattle.model.specs.Entries.{entry_at, entry_cmp}
+use Rattle.model.specs.Entries.{entry_at, is_modify, entry_cmp}
+
+-- an insert with another value in a cell of its row
+abbrev pub change_with_cell : ℕ → Value → Change → Change
+change_with_cell col value (Ins row) = Ins (slice_set row col value)
+change_with_cell col value (Del key) = Del key
+change_with_cell col value (Mod other w) = Mod other w
 
 module _ (key_cols : ℕ) where
   -- the entries with this one, in place of one that ties with it
@@ -26,17 +32,6 @@ module _ (key_cols : ℕ) where
   is_insert_of key (Ins row) = eq_by_cmp key_cmp key (key_of key_cols row)
   is_insert_of key (Del other) = false
   is_insert_of key (Mod col value) = false
-
-  abbrev pub is_modify : Change → Bool
-  is_modify (Ins row) = false
-  is_modify (Del key) = false
-  is_modify (Mod col value) = true
-
-  -- an insert with another value in a cell of its row
-  abbrev pub change_with_cell : ℕ → Value → Change → Change
-  change_with_cell col value (Ins row) = Ins (slice_set row col value)
-  change_with_cell col value (Del key) = Del key
-  change_with_cell col value (Mod other w) = Mod other w
 
   -- ---- the changes of a tree
 

@@ -1,5 +1,5 @@
 -- Effects by position: the entries of a delta tree, and their order.
-use Rattle.std.specs.Prelude.{ℕ, ◌≤◌, ◌<◌, ◌^◌, Bool, true, ◌&&◌, IsTrue, List, [], ◌∷◌, map, flat_map, length}
+use Rattle.std.specs.Prelude.{ℕ, ◌≤◌, ◌<◌, ◌^◌, Bool, true, false, ◌&&◌, IsTrue, List, [], ◌∷◌, map, flat_map, length}
 use Rattle.std.proofs.Common.{Ordering, Less, Equal, Greater}
 use Rattle.std.specs.Ordering.{nat_cmp, is_lt, ordering_then}
 use Rattle.std.specs.List.{list_all, All}
@@ -16,6 +16,21 @@ use Rattle.model.specs.Effects.{Effects}
 
 abbrev pub entry_at : ℕ → Change → Entry
 entry_at sid change = record { sid = sid; change = change }
+
+abbrev pub is_insert : Change → Bool
+is_insert (Ins row) = true
+is_insert (Del key) = false
+is_insert (Mod col value) = false
+
+abbrev pub is_delete : Change → Bool
+is_delete (Ins row) = false
+is_delete (Del key) = true
+is_delete (Mod col value) = false
+
+abbrev pub is_modify : Change → Bool
+is_modify (Ins row) = false
+is_modify (Del key) = false
+is_modify (Mod col value) = true
 
 -- the entries of one effect, at the place of its key
 abbrev pub entries_of : ℕ → Key → Effect → List Entry

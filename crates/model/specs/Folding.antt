@@ -27,6 +27,20 @@ columns_meet Less = Upper
 columns_meet Equal = Over
 columns_meet Greater = Lower
 
+abbrev pub added_by : Change → ℕ
+added_by (Ins row) = 1
+added_by (Del key) = 0
+added_by (Mod col value) = 0
+
+abbrev pub gone_by : Change → ℕ
+gone_by (Ins row) = 0
+gone_by (Del key) = 1
+gone_by (Mod col value) = 0
+
+-- the upper entry, at its place in the lower tree's base
+abbrev pub lowered_entry : ℕ → ℕ → Entry → Entry
+lowered_entry added gone upper = entry_at ((upper.sid + gone) - added) upper.change
+
 module _ (key_cols : ℕ) where
   -- a lower and an upper change at one position
   abbrev pub changes_meet : Change → Change → Meeting
@@ -47,20 +61,6 @@ module _ (key_cols : ℕ) where
   -- where `added` inserts and `gone` deletes of the lower tree were passed
   abbrev pub meet : ℕ → ℕ → Entry → Entry → Meeting
   meet added gone lower upper = positions_meet (nat_cmp (upper.sid + gone) (lower.sid + added)) lower.change upper.change
-
-  abbrev pub added_by : Change → ℕ
-  added_by (Ins row) = 1
-  added_by (Del key) = 0
-  added_by (Mod col value) = 0
-
-  abbrev pub gone_by : Change → ℕ
-  gone_by (Ins row) = 0
-  gone_by (Del key) = 1
-  gone_by (Mod col value) = 0
-
-  -- the upper entry, at its place in the lower tree's base
-  abbrev pub lowered_entry : ℕ → ℕ → Entry → Entry
-  lowered_entry added gone upper = entry_at ((upper.sid + gone) - added) upper.change
 
   -- the upper entries against one lower entry; `rest` walks the lower ones after it
   abbrev pub fold_one : Entry → (ℕ → ℕ → List Entry → List Entry) → ℕ → ℕ → List Entry → List Entry

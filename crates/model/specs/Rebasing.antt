@@ -9,9 +9,19 @@ use Rattle.model.specs.declared.clash.ClashKind.{ClashKind}
 use Rattle.model.specs.declared.clash.ClashKind.TheVariants.{InsertInsert, DeleteDelete, DeleteModify, ModifyModify}
 use Rattle.model.specs.declared.clash.Clash.{Clash}
 use Rattle.values.specs.Shape.{key_of}
-use Rattle.model.specs.Entries.{entry_at}
+use Rattle.model.specs.Entries.{entry_at, is_insert, is_delete}
 
 -- ---- clashes of two trees over one image
+
+-- a clash of this kind at these places, or else the other
+abbrev pub or_clash : ℕ → ℕ → Option ClashKind → Option Clash → Option Clash
+or_clash i j None other = other
+or_clash i j (Some kind) other = Some (record { kind = kind; x = i; y = j })
+
+-- the clash, or else the other
+abbrev pub or_else : Option Clash → Option Clash → Option Clash
+or_else (Some clash) other = Some clash
+or_else None other = other
 
 module _ (key_cols : ℕ) where
   -- how two changes clash, where they stand at one place or not
@@ -27,20 +37,12 @@ module _ (key_cols : ℕ) where
   abbrev pub clash_of_entries : Entry → Entry → Option ClashKind
   clash_of_entries x y = clash_of_changes (x.sid == y.sid) x.change y.change
 
-  -- the clash, or else the other
-  abbrev pub or_clash : ℕ → ℕ → Option ClashKind → Option Clash → Option Clash
-  or_clash i j None other = other
-  or_clash i j (Some kind) other = Some (record { kind = kind; x = i; y = j })
-
   -- the first clash of the entry at place i with those from place j on
   abbrev pub clash_with : ℕ → Entry → ℕ → List Entry → Option Clash
   clash_with i x j [] = None
   clash_with i x j (y ∷ ys) = or_clash i j (clash_of_entries x y) (clash_with i x (suc j) ys)
 
-  abbrev pub or_else : Option Clash → Option Clash → Option Clash
-  or_else (Some clash) other = Some clash
-  or_else None other = other
-
+  -- the first clash of the entries from place i on
   abbrev pub first_clash_from : ℕ → List Entry → List Entry → Option Clash
   first_clash_from i [] ys = None
   first_clash_from i (x ∷ xs) ys = or_else (clash_with i x 0 ys) (first_clash_from (suc i) xs ys)
@@ -69,16 +71,6 @@ module _ (key_cols : ℕ) where
   stands_first (Ins row) (Ins other) = is_lt (key_cmp (key_of key_cols row) (key_of key_cols other))
   stands_first (Ins row) x = true
   stands_first y x = false
-
-  abbrev pub is_insert : Change → Bool
-  is_insert (Ins row) = true
-  is_insert (Del key) = false
-  is_insert (Mod col value) = false
-
-  abbrev pub is_delete : Change → Bool
-  is_delete (Ins row) = false
-  is_delete (Del key) = true
-  is_delete (Mod col value) = false
 
   -- whether y is an insert before x, and whether it is a delete before x
   abbrev pub inserts_before : Entry → Entry → Bool
