@@ -13,3 +13,5 @@ pub mod ClashesLemmas
 pub mod RebasingLemmas
 pub mod FoldingSteps
 pub mod FoldingLemmas
+pub mod TurnsLemmas
+pub mod HistoryLemmas

@@ -147,5 +147,5 @@ module _ (schema : Columns) where
 
   -- and no table of it has more rows than the limit
   abbrev pub LegalTablesKeepLimit : Type 0
-  LegalTablesKeepLimit = (limit recent : ℕ) (opening : Table) (history : List Record) (k : ℕ) → IsTable schema opening → length opening ≤ limit → IsLegal schema limit recent opening history →
+  LegalTablesKeepLimit = (limit recent : ℕ) (opening : Table) (history : List Record) (k : ℕ) → length opening ≤ limit → IsLegal schema limit recent opening history →
       length (table_after opening (commits_of schema limit recent opening history) k) ≤ limit
