@@ -15,3 +15,4 @@ pub mod FoldingSteps
 pub mod FoldingLemmas
 pub mod TurnsLemmas
 pub mod HistoryLemmas
+pub mod FirstClashLemmas
