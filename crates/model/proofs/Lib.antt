@@ -16,3 +16,4 @@ pub mod FoldingLemmas
 pub mod TurnsLemmas
 pub mod HistoryLemmas
 pub mod FirstClashLemmas
+pub mod PositionsLemmas
