@@ -17,3 +17,4 @@ pub mod TurnsLemmas
 pub mod HistoryLemmas
 pub mod FirstClashLemmas
 pub mod PositionsLemmas
+pub mod SplitLemmas
