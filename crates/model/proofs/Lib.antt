@@ -18,3 +18,4 @@ pub mod HistoryLemmas
 pub mod FirstClashLemmas
 pub mod PositionsLemmas
 pub mod SplitLemmas
+pub mod LimitLemmas

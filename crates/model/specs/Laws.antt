@@ -54,7 +54,7 @@ module _ (schema : Columns) where
 
   -- no write takes the image past the row limit
   abbrev pub WriteKeepsLimit : Type 0
-  WriteKeepsLimit = (limit : ℕ) (t : Table) (x : Effects) (write : Write) → AreOver schema t x → IsTrue (write_fits_schema schema write) →
+  WriteKeepsLimit = (limit : ℕ) (t : Table) (x : Effects) (write : Write) → AreOver schema t x →
       length (table_with t x) ≤ limit → length (table_with t (effects_after schema.key_cols limit t x write)) ≤ limit
 
   -- a write that is done is one edit of the entries, at the number of keys below its own; another leaves them
