@@ -1,5 +1,5 @@
 -- The laws, in the words that contracts cite.
-use Rattle.std.proofs.Common.{◌≡◌, ℕ, Bool, true, false, cond, T, [], ◌∷◌, refl, sym, subst}
+use Rattle.std.proofs.Common.{Bool, true, false, cond, T, [], ◌∷◌, refl}
 use Rattle.std.specs.Prelude.{IsTrue}
 use Rattle.std.specs.List.{list_all}
 use Rattle.std.proofs.lemmas.Float.{T_from_true}
@@ -7,12 +7,11 @@ use Rattle.values.specs.Orders.{key_cmp}
 use Rattle.values.specs.Shape.{Columns, fits_schema}
 use Rattle.model.specs.declared.write.Write.{Write}
 use Rattle.model.specs.Maps.{is_sorted}
-use Rattle.model.specs.Table.{Table, is_keyed_table, IsTable}
-use Rattle.model.specs.Effects.{Effects, effect_fits_schema, are_keyed_effects, all_fit, table_with, AreEffects, AreOver}
+use Rattle.model.specs.Table.{Table, is_keyed_table}
+use Rattle.model.specs.Effects.{Effects, effect_fits_schema, are_keyed_effects, all_fit, table_with, AreOver}
 use Rattle.model.specs.Composition.{composed_effects}
 use Rattle.model.specs.Writes.{write_fits_schema, key_of_write, effect_of_write, reply_to, is_done, effects_after}
-use Rattle.model.specs.Entries.{canonical_entries, are_ordered}
-use Rattle.model.specs.Laws.{MergesToTable, LeavesTable, ComposesInTurn, WriteKeeps, WriteEdits, ConflictIsFound, RebasesEntries, FoldsToComposed}
+use Rattle.model.specs.Laws.{MergesToTable, LeavesTable, ComposesInTurn, WriteKeeps, WritesKeep, WriteEdits, EntriesAreOrdered, ConflictIsFound, RebasesEntries, FoldsToComposed, DecidesInTurn, FitsTheNewest, LegalCommitsFit}
 use Rattle.model.proofs.MapsLemmas.{first, second}
 use Rattle.model.proofs.MergingLemmas.{merged_rows-canonical_entries}
 use Rattle.model.proofs.CompositionLemmas.{table_with-composed_effects, all_fit-composed_effects}
@@ -23,6 +22,9 @@ use Rattle.model.proofs.ClashesLemmas.{first_clash-canonical_entries, all_fit-un
 use Rattle.model.proofs.RebasingLemmas.{rebased_entry-canonical_entries}
 use Rattle.model.proofs.FoldingLemmas.{folded_entries-canonical_entries}
 use Rattle.model.proofs.EntriesLemmas.{ordered-canonical_entries}
+use Rattle.model.proofs.SplitLemmas.{canonical_entries-placed}
+use Rattle.model.proofs.TurnsLemmas.{over-table_with_all, passed_entries-trees_of}
+use Rattle.model.proofs.HistoryLemmas.{over-effects_after_all, AreCommits-commits_of}
 
 is_true : (b : Bool) → T b → IsTrue b
 is_true true h = refl
@@ -133,5 +135,19 @@ module _ (schema : Columns) where
         f_fits = l.fit;
       })
 
-  pub ordered : (t : Table) (x : Effects) → AreOver schema t x → IsTrue (are_ordered schema.key_cols (canonical_entries t x))
-  ordered t x h = let k = tests t x h in is_true _ (ordered-canonical_entries schema.key_cols t x k.effects k.fit)
+  pub ordered : EntriesAreOrdered schema
+  ordered t x h =
+      let k = tests t x h in
+      record { ordered = is_true _ (ordered-canonical_entries schema.key_cols t x k.effects k.fit); placed = canonical_entries-placed t x }
+
+  pub all_keep : WritesKeep schema
+  all_keep = over-effects_after_all schema keeps
+
+  pub decides : DecidesInTurn schema
+  decides = passed_entries-trees_of schema rebases finds
+
+  pub fits_newest : FitsTheNewest schema
+  fits_newest = over-table_with_all schema rebases
+
+  pub commits_fit : LegalCommitsFit schema
+  commits_fit = AreCommits-commits_of schema leaves keeps rebases

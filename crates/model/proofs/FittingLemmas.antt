@@ -1,16 +1,16 @@
 -- Rows that fit the schema stay so under effects, composition and writes.
-use Rattle.std.proofs.Common.{◌≡◌, ℕ, zero, suc, Bool, true, false, cond, not, ◌&&◌, T, Option, Some, None, is_some, is_none, List, [], ◌∷◌, length, set, length-set, nat_lt, nat_le, nat_cmp, Ordering, Less, Equal, Greater, refl, sym, ap, ◌∙◌, subst, arith}
+use Rattle.std.proofs.Common.{◌≡◌, ℕ, zero, suc, Bool, true, false, cond, not, ◌&&◌, T, Option, Some, None, is_none, List, [], ◌∷◌, length, set, length-set, nat_lt, nat_le, nat_cmp, Less, Equal, Greater, refl, sym, subst, arith}
 use Rattle.std.proofs.lemmas.Bool.Decides.{nat_tests}
 use Rattle.std.specs.Prelude.{◌==◌, slice_get}
 use Rattle.std.specs.FinMap.{nat_cmp-IsAntisymmetric}
 use Rattle.std.specs.FinMap.Entries.{by_order}
 use Rattle.std.specs.List.{list_all}
 use Rattle.values.specs.Orders.{key_cmp, key_cmp_total, key_cmp-IsAntisymmetric}
-use Rattle.values.specs.Shape.{Columns, has_type, is_too_long, value_fault, or_fault, values_fault, list_fault, cell_fault_at, cell_fault, fits_schema, cell_fits_schema}
+use Rattle.values.specs.Shape.{Columns, has_type, is_too_long, value_fault, or_fault, values_fault, list_fault, cell_fault_at, fits_schema, cell_fits_schema}
 use Rattle.values.specs.declared.value.ColumnType.{ColumnType}
 use Rattle.values.specs.declared.value.Value.{Value}
 use Rattle.values.specs.declared.fault.ShapeFault.{ShapeFault}
-use Rattle.values.specs.declared.fault.ShapeFault.TheVariants.{WrongCount, WrongType, TextTooLong, NoSuchColumn, KeyColumn}
+use Rattle.values.specs.declared.fault.ShapeFault.TheVariants.{WrongCount, WrongType, TextTooLong, KeyColumn}
 use Rattle.values.specs.declared.row.Row.{Row}
 use Rattle.values.specs.declared.row.Key.{Key}
 use Rattle.model.specs.declared.effect.Effect.{Effect}

@@ -21,7 +21,7 @@ use Rattle.model.specs.declared.effect.Effect.TheVariants as effect
 use Rattle.model.specs.Entries.{entry_at, entries_of, canonical_entries}
 use Rattle.model.specs.Folding.{Upper, Lower, changes_meet, positions_meet, meet, fold_from, folded_entries}
 use Rattle.model.proofs.MapsLemmas.{both, first, second, less, turn_greater, below_head, below_less, find_below, alter_all_past, find_first, changed_by}
-use Rattle.model.proofs.MergingLemmas.{all_after, canon_from, canon_from_zero, canon_from_past, canon_from_after, rank_below, put_below, fits_past, found_here, canon_here, apply_here, apply_deleted}
+use Rattle.model.proofs.MergingLemmas.{all_after, canonical_entries_from, canonical_entries_from_zero, canonical_entries_from_past, canonical_entries_from_after, rank_below, put_below, all_fit_past, found_here, canon_here, apply_here, apply_deleted}
 use Rattle.model.proofs.CompositionLemmas.{cells_ascend, row_at-table_with}
 use Rattle.model.proofs.FoldingSteps.{met, lowered_here, upper_first, lower_first, upper_here, neither_here, mods, mods_upper, mods_lower, mods_deleted, mods_after_insert, mods_into, mods_merged}
 
@@ -97,17 +97,17 @@ module _ (k : Key) (g f : Effect) (x fs : Effects) (bx : T (below_all key_cmp k 
 
 -- ---- entries and tables at the first key
 
-canon_first : (n : ℕ) (t : Table) (k : Key) (f : Effect) (fs : Effects) → T (below_all key_cmp k t) → canon_from n t ((k, f) ∷ fs) ≡ entries_of n k f ++ canon_from n t fs
+canon_first : (n : ℕ) (t : Table) (k : Key) (f : Effect) (fs : Effects) → T (below_all key_cmp k t) → canonical_entries_from n t ((k, f) ∷ fs) ≡ entries_of n k f ++ canonical_entries_from n t fs
 canon_first n t k f fs bt =
     let none : rank k t ≡ 0 = rank_below k t bt in
     let place : n + rank k t ≡ n = omega arith in
-    ap (λ m. entries_of m k f ++ canon_from n t fs) place
+    ap (λ m. entries_of m k f ++ canonical_entries_from n t fs) place
 
 apply_inserted : (t : Table) (k : Key) (row : Row) (x : Effects) → T (below_all key_cmp k t) → T (below_all key_cmp k x) → table_with t ((k, effect.Ins row) ∷ x) ≡ (k, row) ∷ table_with t x
 apply_inserted t k row x bt bx = ap (alter_all key_cmp row_after x) (put_below k row t bt) ∙ alter_all_past key_cmp key_cmp_total row_after x (k, row) t bx
 
-after_next : (n : ℕ) (t : Table) (x : Effects) → T (all_after n (canon_from (suc n) t x))
-after_next n t x = let lt : n < suc n = omega arith in canon_from_after n (suc n) t x lt
+after_next : (n : ℕ) (t : Table) (x : Effects) → T (all_after n (canonical_entries_from (suc n) t x))
+after_next n t x = let lt : n < suc n = omega arith in canonical_entries_from_after n (suc n) t x lt
 
 le_sum : (n r : ℕ) → n ≤ n + r
 le_sum n r = omega arith
@@ -148,7 +148,7 @@ module _ (key_cols : ℕ) where
 
   module _ (n n' a d : ℕ) (level : n' + d ≡ n + a) where
     -- an upper insert of a key below all of the lower effects'
-    insert_first : (t : Table) (x : Effects) (k : Key) (new : Row) (us : List Entry) → T (is_keyed k new) → T (below_all key_cmp k x) → fold_from key_cols (canon_from n t x) a d (entry_at n' (Ins new) ∷ us) ≡ entry_at n (Ins new) ∷ fold_from key_cols (canon_from n t x) a d us
+    insert_first : (t : Table) (x : Effects) (k : Key) (new : Row) (us : List Entry) → T (is_keyed k new) → T (below_all key_cmp k x) → fold_from key_cols (canonical_entries_from n t x) a d (entry_at n' (Ins new) ∷ us) ≡ entry_at n (Ins new) ∷ fold_from key_cols (canonical_entries_from n t x) a d us
     insert_first t [] k new us h bx = upper_first key_cols n n' a d level [] tt (Ins new) us
     insert_first t (e ∷ x) k new us h bx = by_effect (insert_first t x k new us h (second _ _ bx)) e.1
       where
@@ -157,27 +157,27 @@ module _ (key_cols : ℕ) where
             met key_cols Upper (entry_at (n + rank e.0 t) c) (fold_from key_cols ls) a d (entry_at n' (Ins new)) us (meets_upper n n' a d (n + rank e.0 t) c (Ins new) level (le_sum n (rank e.0 t)) is)
             ∙ ap (λ u. u ∷ fold_from key_cols (entry_at (n + rank e.0 t) c ∷ ls) a d us) (lowered_here key_cols n n' a d level (Ins new))
 
-        by_effect : fold_from key_cols (canon_from n t x) a d (entry_at n' (Ins new) ∷ us) ≡ entry_at n (Ins new) ∷ fold_from key_cols (canon_from n t x) a d us → (g : Effect) → fold_from key_cols (entries_of (n + rank e.0 t) e.0 g ++ canon_from n t x) a d (entry_at n' (Ins new) ∷ us) ≡ entry_at n (Ins new) ∷ fold_from key_cols (entries_of (n + rank e.0 t) e.0 g ++ canon_from n t x) a d us
-        by_effect rest (effect.Ins row) = one_entry (Ins row) (canon_from n t x) refl
-        by_effect rest effect.Del = one_entry (Del e.0) (canon_from n t x) (insert_meets_delete k e.0 new Less h (less _ (first _ _ bx)))
+        by_effect : fold_from key_cols (canonical_entries_from n t x) a d (entry_at n' (Ins new) ∷ us) ≡ entry_at n (Ins new) ∷ fold_from key_cols (canonical_entries_from n t x) a d us → (g : Effect) → fold_from key_cols (entries_of (n + rank e.0 t) e.0 g ++ canonical_entries_from n t x) a d (entry_at n' (Ins new) ∷ us) ≡ entry_at n (Ins new) ∷ fold_from key_cols (entries_of (n + rank e.0 t) e.0 g ++ canonical_entries_from n t x) a d us
+        by_effect rest (effect.Ins row) = one_entry (Ins row) (canonical_entries_from n t x) refl
+        by_effect rest effect.Del = one_entry (Del e.0) (canonical_entries_from n t x) (insert_meets_delete k e.0 new Less h (less _ (first _ _ bx)))
         by_effect rest (effect.Mod []) = rest
-        by_effect rest (effect.Mod (c ∷ cells)) = one_entry (Mod c.0 c.1) (mods (n + rank e.0 t) cells ++ canon_from n t x) refl
-        by_effect rest (effect.Rep row) = one_entry (Ins row) (entry_at (n + rank e.0 t) (Del e.0) ∷ canon_from n t x) refl
+        by_effect rest (effect.Mod (c ∷ cells)) = one_entry (Mod c.0 c.1) (mods (n + rank e.0 t) cells ++ canonical_entries_from n t x) refl
+        by_effect rest (effect.Rep row) = one_entry (Ins row) (entry_at (n + rank e.0 t) (Del e.0) ∷ canonical_entries_from n t x) refl
 
     -- a lower delete of a key below all of the upper effects'
-    delete_first : (u : Table) (fs : Effects) (g : Key) (ls : List Entry) → T (list_all (λ e. is_keyed_effect key_cols e.0 e.1) fs) → T (below_all key_cmp g fs) → fold_from key_cols (entry_at n (Del g) ∷ ls) a d (canon_from n' u fs) ≡ entry_at n (Del g) ∷ fold_from key_cols ls (a + 0) (d + 1) (canon_from n' u fs)
+    delete_first : (u : Table) (fs : Effects) (g : Key) (ls : List Entry) → T (list_all (λ e. is_keyed_effect key_cols e.0 e.1) fs) → T (below_all key_cmp g fs) → fold_from key_cols (entry_at n (Del g) ∷ ls) a d (canonical_entries_from n' u fs) ≡ entry_at n (Del g) ∷ fold_from key_cols ls (a + 0) (d + 1) (canonical_entries_from n' u fs)
     delete_first u [] g ls h bf = refl
     delete_first u (e ∷ fs) g ls h bf = by_effect (delete_first u fs g ls (second _ _ h) (second _ _ bf)) e.1 (first _ _ h)
       where
         one_entry : (c : Change) (us : List Entry) → changes_meet key_cols (Del g) c ≡ Lower → fold_from key_cols (entry_at n (Del g) ∷ ls) a d (entry_at (n' + rank e.0 u) c ∷ us) ≡ entry_at n (Del g) ∷ fold_from key_cols ls (a + 0) (d + 1) (entry_at (n' + rank e.0 u) c ∷ us)
         one_entry c us is = met key_cols Lower (entry_at n (Del g)) (fold_from key_cols ls) a d (entry_at (n' + rank e.0 u) c) us (meets_lower n n' a d (n' + rank e.0 u) (Del g) c level (le_sum n' (rank e.0 u)) is)
 
-        by_effect : fold_from key_cols (entry_at n (Del g) ∷ ls) a d (canon_from n' u fs) ≡ entry_at n (Del g) ∷ fold_from key_cols ls (a + 0) (d + 1) (canon_from n' u fs) → (f : Effect) → T (is_keyed_effect key_cols e.0 f) → fold_from key_cols (entry_at n (Del g) ∷ ls) a d (entries_of (n' + rank e.0 u) e.0 f ++ canon_from n' u fs) ≡ entry_at n (Del g) ∷ fold_from key_cols ls (a + 0) (d + 1) (entries_of (n' + rank e.0 u) e.0 f ++ canon_from n' u fs)
-        by_effect rest (effect.Ins row) k = one_entry (Ins row) (canon_from n' u fs) (insert_meets_delete e.0 g row Greater k (below_head key_cmp_total g e fs bf))
-        by_effect rest effect.Del k = one_entry (Del e.0) (canon_from n' u fs) refl
+        by_effect : fold_from key_cols (entry_at n (Del g) ∷ ls) a d (canonical_entries_from n' u fs) ≡ entry_at n (Del g) ∷ fold_from key_cols ls (a + 0) (d + 1) (canonical_entries_from n' u fs) → (f : Effect) → T (is_keyed_effect key_cols e.0 f) → fold_from key_cols (entry_at n (Del g) ∷ ls) a d (entries_of (n' + rank e.0 u) e.0 f ++ canonical_entries_from n' u fs) ≡ entry_at n (Del g) ∷ fold_from key_cols ls (a + 0) (d + 1) (entries_of (n' + rank e.0 u) e.0 f ++ canonical_entries_from n' u fs)
+        by_effect rest (effect.Ins row) k = one_entry (Ins row) (canonical_entries_from n' u fs) (insert_meets_delete e.0 g row Greater k (below_head key_cmp_total g e fs bf))
+        by_effect rest effect.Del k = one_entry (Del e.0) (canonical_entries_from n' u fs) refl
         by_effect rest (effect.Mod []) k = rest
-        by_effect rest (effect.Mod (c ∷ cells)) k = one_entry (Mod c.0 c.1) (mods (n' + rank e.0 u) cells ++ canon_from n' u fs) refl
-        by_effect rest (effect.Rep row) k = one_entry (Ins row) (entry_at (n' + rank e.0 u) (Del e.0) ∷ canon_from n' u fs) (insert_meets_delete e.0 g row Greater k (below_head key_cmp_total g e fs bf))
+        by_effect rest (effect.Mod (c ∷ cells)) k = one_entry (Mod c.0 c.1) (mods (n' + rank e.0 u) cells ++ canonical_entries_from n' u fs) refl
+        by_effect rest (effect.Rep row) k = one_entry (Ins row) (entry_at (n' + rank e.0 u) (Del e.0) ∷ canonical_entries_from n' u fs) (insert_meets_delete e.0 g row Greater k (below_head key_cmp_total g e fs bf))
 
     -- all entries of an upper effect come before the lower ones
     effect_first : (k : Key) (f : Effect) (ls us : List Entry) → T (all_after n ls) → fold_from key_cols ls a d (entries_of n' k f ++ us) ≡ entries_of n k f ++ fold_from key_cols ls a d us
@@ -191,7 +191,7 @@ module _ (key_cols : ℕ) where
   -- ---- the walk at the first key
 
   abbrev IsFolded : Table → Effects → Effects → ℕ → ℕ → ℕ → ℕ → Type 0
-  IsFolded t x f n n' a d = fold_from key_cols (canon_from n t x) a d (canon_from n' (table_with t x) f) ≡ canon_from n t (composed_effects x f)
+  IsFolded t x f n n' a d = fold_from key_cols (canonical_entries_from n t x) a d (canonical_entries_from n' (table_with t x) f) ≡ canonical_entries_from n t (composed_effects x f)
 
   -- wherever the upper tree and the counts stand
   abbrev AreFolded : Table → Effects → Effects → ℕ → Type 0
@@ -200,51 +200,51 @@ module _ (key_cols : ℕ) where
   -- an upper insert before all else
   upper_insert : (n : ℕ) (t : Table) (x : Effects) (k : Key) (row : Row) (fs : Effects) → T (is_keyed k row) → T (below_all key_cmp k t) → T (below_all key_cmp k x) → T (below_all key_cmp k fs) → AreFolded t x fs n → AreFolded t x ((k, effect.Ins row) ∷ fs) n
   upper_insert n t x k row fs h bt bx bf rest n' a d level =
-      ap (fold_from key_cols (canon_from n t x) a d) (canon_first n' (table_with t x) k (effect.Ins row) fs (below_apply k t x bt bx))
-      ∙ insert_first n n' a d level t x k row (canon_from n' (table_with t x) fs) h bx
+      ap (fold_from key_cols (canonical_entries_from n t x) a d) (canon_first n' (table_with t x) k (effect.Ins row) fs (below_apply k t x bt bx))
+      ∙ insert_first n n' a d level t x k row (canonical_entries_from n' (table_with t x) fs) h bx
       ∙ ap (λ es. entry_at n (Ins row) ∷ es) (rest n' a d level)
-      ∙ sym (ap (canon_from n t) (compose_first k (effect.Ins row) x fs bx bf) ∙ canon_first n t k (effect.Ins row) (composed_effects x fs) bt)
+      ∙ sym (ap (canonical_entries_from n t) (compose_first k (effect.Ins row) x fs bx bf) ∙ canon_first n t k (effect.Ins row) (composed_effects x fs) bt)
 
   -- a lower insert before all else
   lower_insert : (n : ℕ) (t : Table) (k : Key) (row : Row) (x fs : Effects) → T (below_all key_cmp k t) → T (below_all key_cmp k x) → T (below_all key_cmp k fs) → AreFolded t x fs n → AreFolded t ((k, effect.Ins row) ∷ x) fs n
   lower_insert n t k row x fs bt bx bf rest n' a d level =
       let next : suc n' + (d + 0) ≡ n + (a + 1) = omega arith in
-      (λ i. fold_from key_cols (canon_first n t k (effect.Ins row) x bt i) a d (canon_from n' (apply_inserted t k row x bt bx i) fs))
-      ∙ ap (fold_from key_cols (entry_at n (Ins row) ∷ canon_from n t x) a d) (canon_from_past n' (k, row) (table_with t x) fs bf)
-      ∙ lower_first key_cols n n' a d level (Ins row) (canon_from n t x) (canon_from (suc n') (table_with t x) fs) (after_next n' (table_with t x) fs)
+      (λ i. fold_from key_cols (canon_first n t k (effect.Ins row) x bt i) a d (canonical_entries_from n' (apply_inserted t k row x bt bx i) fs))
+      ∙ ap (fold_from key_cols (entry_at n (Ins row) ∷ canonical_entries_from n t x) a d) (canonical_entries_from_past n' (k, row) (table_with t x) fs bf)
+      ∙ lower_first key_cols n n' a d level (Ins row) (canonical_entries_from n t x) (canonical_entries_from (suc n') (table_with t x) fs) (after_next n' (table_with t x) fs)
       ∙ ap (λ es. entry_at n (Ins row) ∷ es) (rest (suc n') (a + 1) (d + 0) next)
-      ∙ sym (ap (canon_from n t) (compose_past k (effect.Ins row) x fs bf) ∙ canon_first n t k (effect.Ins row) (composed_effects x fs) bt)
+      ∙ sym (ap (canonical_entries_from n t) (compose_past k (effect.Ins row) x fs bf) ∙ canon_first n t k (effect.Ins row) (composed_effects x fs) bt)
 
   -- an upper effect on an inserted row
   module _ (n : ℕ) (t : Table) (k : Key) (row : Row) (x fs : Effects) (bt : T (below_all key_cmp k t)) (bx : T (below_all key_cmp k x)) (bf : T (below_all key_cmp k fs)) (rest : AreFolded t x fs n) where
     next_level : (n' a d : ℕ) → n' + d ≡ n + a → suc n' + (d + 0) ≡ n + (a + 1)
     next_level n' a d level = omega arith
 
-    start : (f : Effect) (n' a d : ℕ) → fold_from key_cols (canon_from n t ((k, effect.Ins row) ∷ x)) a d (canon_from n' (table_with t ((k, effect.Ins row) ∷ x)) ((k, f) ∷ fs)) ≡ fold_from key_cols (entry_at n (Ins row) ∷ canon_from n t x) a d (entries_of n' k f ++ canon_from (suc n') (table_with t x) fs)
+    start : (f : Effect) (n' a d : ℕ) → fold_from key_cols (canonical_entries_from n t ((k, effect.Ins row) ∷ x)) a d (canonical_entries_from n' (table_with t ((k, effect.Ins row) ∷ x)) ((k, f) ∷ fs)) ≡ fold_from key_cols (entry_at n (Ins row) ∷ canonical_entries_from n t x) a d (entries_of n' k f ++ canonical_entries_from (suc n') (table_with t x) fs)
     start f n' a d =
-        (λ i. fold_from key_cols (canon_first n t k (effect.Ins row) x bt i) a d (canon_from n' (apply_inserted t k row x bt bx i) ((k, f) ∷ fs)))
-        ∙ ap (fold_from key_cols (entry_at n (Ins row) ∷ canon_from n t x) a d) (canon_here (k, row) (table_with t x) (below_apply k t x bt bx) n' fs bf f)
+        (λ i. fold_from key_cols (canon_first n t k (effect.Ins row) x bt i) a d (canonical_entries_from n' (apply_inserted t k row x bt bx i) ((k, f) ∷ fs)))
+        ∙ ap (fold_from key_cols (entry_at n (Ins row) ∷ canonical_entries_from n t x) a d) (canon_here (k, row) (table_with t x) (below_apply k t x bt bx) n' fs bf f)
 
     on_inserted : (f : Effect) → T (fits (Some row) f) → AreFolded t ((k, effect.Ins row) ∷ x) ((k, f) ∷ fs) n
     on_inserted (effect.Ins new) fit n' a d level = absurd fit
     on_inserted effect.Del fit n' a d level =
         start effect.Del n' a d
-        ∙ neither_here key_cols n n' a d level (Ins row) (Del k) (canon_from n t x) (canon_from (suc n') (table_with t x) fs) refl
+        ∙ neither_here key_cols n n' a d level (Ins row) (Del k) (canonical_entries_from n t x) (canonical_entries_from (suc n') (table_with t x) fs) refl
         ∙ rest (suc n') (a + 1) (d + 0) (next_level n' a d level)
-        ∙ sym (ap (canon_from n t) (compose_gone k (effect.Ins row) effect.Del x fs bx bf refl))
+        ∙ sym (ap (canonical_entries_from n t) (compose_gone k (effect.Ins row) effect.Del x fs bx bf refl))
     on_inserted (effect.Mod cells) fit n' a d level =
         start (effect.Mod cells) n' a d
-        ∙ mods_into key_cols n n' a d level cells row (canon_from n t x) (canon_from (suc n') (table_with t x) fs)
-        ∙ lower_first key_cols n n' a d level (Ins (set_cells cells row)) (canon_from n t x) (canon_from (suc n') (table_with t x) fs) (after_next n' (table_with t x) fs)
+        ∙ mods_into key_cols n n' a d level cells row (canonical_entries_from n t x) (canonical_entries_from (suc n') (table_with t x) fs)
+        ∙ lower_first key_cols n n' a d level (Ins (set_cells cells row)) (canonical_entries_from n t x) (canonical_entries_from (suc n') (table_with t x) fs) (after_next n' (table_with t x) fs)
         ∙ ap (λ es. entry_at n (Ins (set_cells cells row)) ∷ es) (rest (suc n') (a + 1) (d + 0) (next_level n' a d level))
-        ∙ sym (ap (canon_from n t) (compose_kept k (effect.Ins row) (effect.Mod cells) x fs bx bf (effect.Ins (set_cells cells row)) refl) ∙ canon_first n t k (effect.Ins (set_cells cells row)) (composed_effects x fs) bt)
+        ∙ sym (ap (canonical_entries_from n t) (compose_kept k (effect.Ins row) (effect.Mod cells) x fs bx bf (effect.Ins (set_cells cells row)) refl) ∙ canon_first n t k (effect.Ins (set_cells cells row)) (composed_effects x fs) bt)
     on_inserted (effect.Rep new) fit n' a d level =
         start (effect.Rep new) n' a d
-        ∙ upper_here key_cols n n' a d level (Ins row) (Ins new) (canon_from n t x) (entry_at n' (Del k) ∷ canon_from (suc n') (table_with t x) fs) refl
+        ∙ upper_here key_cols n n' a d level (Ins row) (Ins new) (canonical_entries_from n t x) (entry_at n' (Del k) ∷ canonical_entries_from (suc n') (table_with t x) fs) refl
         ∙ ap (λ es. entry_at n (Ins new) ∷ es)
-        (neither_here key_cols n n' a d level (Ins row) (Del k) (canon_from n t x) (canon_from (suc n') (table_with t x) fs) refl
+        (neither_here key_cols n n' a d level (Ins row) (Del k) (canonical_entries_from n t x) (canonical_entries_from (suc n') (table_with t x) fs) refl
         ∙ rest (suc n') (a + 1) (d + 0) (next_level n' a d level))
-        ∙ sym (ap (canon_from n t) (compose_kept k (effect.Ins row) (effect.Rep new) x fs bx bf (effect.Ins new) refl) ∙ canon_first n t k (effect.Ins new) (composed_effects x fs) bt)
+        ∙ sym (ap (canonical_entries_from n t) (compose_kept k (effect.Ins row) (effect.Rep new) x fs bx bf (effect.Ins new) refl) ∙ canon_first n t k (effect.Ins new) (composed_effects x fs) bt)
 
   -- ---- the walk at the first row
 
@@ -253,79 +253,79 @@ module _ (key_cols : ℕ) where
     untouched : (x fs : Effects) → T (below_all key_cmp e.0 x) → T (below_all key_cmp e.0 fs) → AreFolded t x fs (suc n) → AreFolded (e ∷ t) x fs n
     untouched x fs bx bf rest n' a d level =
         let next : suc n' + d ≡ suc n + a = omega arith in
-        (λ i. fold_from key_cols (canon_from_past n e t x bx i) a d (canon_from n' (alter_all_past key_cmp key_cmp_total row_after x e t bx i) fs))
-        ∙ ap (fold_from key_cols (canon_from (suc n) t x) a d) (canon_from_past n' e (table_with t x) fs bf)
+        (λ i. fold_from key_cols (canonical_entries_from_past n e t x bx i) a d (canonical_entries_from n' (alter_all_past key_cmp key_cmp_total row_after x e t bx i) fs))
+        ∙ ap (fold_from key_cols (canonical_entries_from (suc n) t x) a d) (canonical_entries_from_past n' e (table_with t x) fs bf)
         ∙ rest (suc n') a d next
-        ∙ sym (canon_from_past n e t (composed_effects x fs) (below_compose e.0 x fs bx bf))
+        ∙ sym (canonical_entries_from_past n e t (composed_effects x fs) (below_compose e.0 x fs bx bf))
 
     -- with an upper effect alone
     upper_alone : (x : Effects) (f : Effect) (fs : Effects) → T (below_all key_cmp e.0 x) → T (below_all key_cmp e.0 fs) → AreFolded t x fs (suc n) → AreFolded (e ∷ t) x ((e.0, f) ∷ fs) n
     upper_alone x f fs bx bf rest n' a d level =
         let next : suc n' + d ≡ suc n + a = omega arith in
-        (λ i. fold_from key_cols (canon_from_past n e t x bx i) a d (canon_from n' (alter_all_past key_cmp key_cmp_total row_after x e t bx i) ((e.0, f) ∷ fs)))
-        ∙ ap (fold_from key_cols (canon_from (suc n) t x) a d) (canon_here e (table_with t x) (below_apply e.0 t x bt bx) n' fs bf f)
-        ∙ effect_first n n' a d level e.0 f (canon_from (suc n) t x) (canon_from (suc n') (table_with t x) fs) (after_next n t x)
+        (λ i. fold_from key_cols (canonical_entries_from_past n e t x bx i) a d (canonical_entries_from n' (alter_all_past key_cmp key_cmp_total row_after x e t bx i) ((e.0, f) ∷ fs)))
+        ∙ ap (fold_from key_cols (canonical_entries_from (suc n) t x) a d) (canon_here e (table_with t x) (below_apply e.0 t x bt bx) n' fs bf f)
+        ∙ effect_first n n' a d level e.0 f (canonical_entries_from (suc n) t x) (canonical_entries_from (suc n') (table_with t x) fs) (after_next n t x)
         ∙ ap (λ es. entries_of n e.0 f ++ es) (rest (suc n') a d next)
-        ∙ sym (ap (canon_from n (e ∷ t)) (compose_first e.0 f x fs bx bf) ∙ canon_here e t bt n (composed_effects x fs) (below_compose e.0 x fs bx bf) f)
+        ∙ sym (ap (canonical_entries_from n (e ∷ t)) (compose_first e.0 f x fs bx bf) ∙ canon_here e t bt n (composed_effects x fs) (below_compose e.0 x fs bx bf) f)
 
     module _ (x fs : Effects) (bx : T (below_all key_cmp e.0 x)) (bf : T (below_all key_cmp e.0 fs)) (hf : T (list_all (λ e. is_keyed_effect key_cols e.0 e.1) fs)) (rest : AreFolded t x fs (suc n)) where
       abbrev lowers : List Entry
-      lowers = canon_from (suc n) t x
+      lowers = canonical_entries_from (suc n) t x
 
       -- the entries of an effect that is left at the row, and then the others'
-      ended : (h : Effect) → canon_from n (e ∷ t) ((e.0, h) ∷ composed_effects x fs) ≡ entries_of n e.0 h ++ canon_from (suc n) t (composed_effects x fs)
+      ended : (h : Effect) → canonical_entries_from n (e ∷ t) ((e.0, h) ∷ composed_effects x fs) ≡ entries_of n e.0 h ++ canonical_entries_from (suc n) t (composed_effects x fs)
       ended h = canon_here e t bt n (composed_effects x fs) (below_compose e.0 x fs bx bf) h
 
-      kept : (g f h : Effect) → composed_effect f (Some g) ≡ Some h → entries_of n e.0 h ++ canon_from (suc n) t (composed_effects x fs) ≡ canon_from n (e ∷ t) (composed_effects ((e.0, g) ∷ x) ((e.0, f) ∷ fs))
-      kept g f h is = sym (ap (canon_from n (e ∷ t)) (compose_kept e.0 g f x fs bx bf h is) ∙ ended h)
+      kept : (g f h : Effect) → composed_effect f (Some g) ≡ Some h → entries_of n e.0 h ++ canonical_entries_from (suc n) t (composed_effects x fs) ≡ canonical_entries_from n (e ∷ t) (composed_effects ((e.0, g) ∷ x) ((e.0, f) ∷ fs))
+      kept g f h is = sym (ap (canonical_entries_from n (e ∷ t)) (compose_kept e.0 g f x fs bx bf h is) ∙ ended h)
 
-      passed : (g : Effect) → entries_of n e.0 g ++ canon_from (suc n) t (composed_effects x fs) ≡ canon_from n (e ∷ t) (composed_effects ((e.0, g) ∷ x) fs)
-      passed g = sym (ap (canon_from n (e ∷ t)) (compose_past e.0 g x fs bf) ∙ ended g)
+      passed : (g : Effect) → entries_of n e.0 g ++ canonical_entries_from (suc n) t (composed_effects x fs) ≡ canonical_entries_from n (e ∷ t) (composed_effects ((e.0, g) ∷ x) fs)
+      passed g = sym (ap (canonical_entries_from n (e ∷ t)) (compose_past e.0 g x fs bf) ∙ ended g)
 
       -- the two lists, where the lower effect leaves a row
-      lists_past : (g : Effect) (row : Row) → row_after g (Some e.1) ≡ Some row → (n' a d : ℕ) → fold_from key_cols (canon_from n (e ∷ t) ((e.0, g) ∷ x)) a d (canon_from n' (table_with (e ∷ t) ((e.0, g) ∷ x)) fs) ≡ fold_from key_cols (entries_of n e.0 g ++ lowers) a d (canon_from (suc n') (table_with t x) fs)
+      lists_past : (g : Effect) (row : Row) → row_after g (Some e.1) ≡ Some row → (n' a d : ℕ) → fold_from key_cols (canonical_entries_from n (e ∷ t) ((e.0, g) ∷ x)) a d (canonical_entries_from n' (table_with (e ∷ t) ((e.0, g) ∷ x)) fs) ≡ fold_from key_cols (entries_of n e.0 g ++ lowers) a d (canonical_entries_from (suc n') (table_with t x) fs)
       lists_past g row is n' a d =
-          (λ i. fold_from key_cols (canon_here e t bt n x bx g i) a d (canon_from n' (apply_here e t bt n x bx g row is i) fs))
-          ∙ ap (fold_from key_cols (entries_of n e.0 g ++ lowers) a d) (canon_from_past n' (e.0, row) (table_with t x) fs bf)
+          (λ i. fold_from key_cols (canon_here e t bt n x bx g i) a d (canonical_entries_from n' (apply_here e t bt n x bx g row is i) fs))
+          ∙ ap (fold_from key_cols (entries_of n e.0 g ++ lowers) a d) (canonical_entries_from_past n' (e.0, row) (table_with t x) fs bf)
 
-      lists_both : (g f : Effect) (row : Row) → row_after g (Some e.1) ≡ Some row → (n' a d : ℕ) → fold_from key_cols (canon_from n (e ∷ t) ((e.0, g) ∷ x)) a d (canon_from n' (table_with (e ∷ t) ((e.0, g) ∷ x)) ((e.0, f) ∷ fs)) ≡ fold_from key_cols (entries_of n e.0 g ++ lowers) a d (entries_of n' e.0 f ++ canon_from (suc n') (table_with t x) fs)
+      lists_both : (g f : Effect) (row : Row) → row_after g (Some e.1) ≡ Some row → (n' a d : ℕ) → fold_from key_cols (canonical_entries_from n (e ∷ t) ((e.0, g) ∷ x)) a d (canonical_entries_from n' (table_with (e ∷ t) ((e.0, g) ∷ x)) ((e.0, f) ∷ fs)) ≡ fold_from key_cols (entries_of n e.0 g ++ lowers) a d (entries_of n' e.0 f ++ canonical_entries_from (suc n') (table_with t x) fs)
       lists_both g f row is n' a d =
-          (λ i. fold_from key_cols (canon_here e t bt n x bx g i) a d (canon_from n' (apply_here e t bt n x bx g row is i) ((e.0, f) ∷ fs)))
+          (λ i. fold_from key_cols (canon_here e t bt n x bx g i) a d (canonical_entries_from n' (apply_here e t bt n x bx g row is i) ((e.0, f) ∷ fs)))
           ∙ ap (fold_from key_cols (entries_of n e.0 g ++ lowers) a d) (canon_here (e.0, row) (table_with t x) (below_apply e.0 t x bt bx) n' fs bf f)
 
       -- past a deleted row, and past one that was replaced
-      past_deleted : (n' a d : ℕ) → n' + d ≡ n + a → fold_from key_cols (entry_at n (Del e.0) ∷ lowers) a d (canon_from n' (table_with t x) fs) ≡ entry_at n (Del e.0) ∷ canon_from (suc n) t (composed_effects x fs)
+      past_deleted : (n' a d : ℕ) → n' + d ≡ n + a → fold_from key_cols (entry_at n (Del e.0) ∷ lowers) a d (canonical_entries_from n' (table_with t x) fs) ≡ entry_at n (Del e.0) ∷ canonical_entries_from (suc n) t (composed_effects x fs)
       past_deleted n' a d level =
           let next : n' + (d + 1) ≡ suc n + (a + 0) = omega arith in
           delete_first n n' a d level (table_with t x) fs e.0 lowers hf bf
           ∙ ap (λ es. entry_at n (Del e.0) ∷ es) (rest n' (a + 0) (d + 1) next)
 
-      past_replaced : (row : Row) (n' a d : ℕ) → n' + d ≡ n + a → fold_from key_cols (entry_at n (Ins row) ∷ entry_at n (Del e.0) ∷ lowers) a d (canon_from (suc n') (table_with t x) fs) ≡ entry_at n (Ins row) ∷ entry_at n (Del e.0) ∷ canon_from (suc n) t (composed_effects x fs)
+      past_replaced : (row : Row) (n' a d : ℕ) → n' + d ≡ n + a → fold_from key_cols (entry_at n (Ins row) ∷ entry_at n (Del e.0) ∷ lowers) a d (canonical_entries_from (suc n') (table_with t x) fs) ≡ entry_at n (Ins row) ∷ entry_at n (Del e.0) ∷ canonical_entries_from (suc n) t (composed_effects x fs)
       past_replaced row n' a d level =
           let next : suc n' + (d + 0) ≡ n + (a + 1) = omega arith in
-          lower_first key_cols n n' a d level (Ins row) (entry_at n (Del e.0) ∷ lowers) (canon_from (suc n') (table_with t x) fs) (after_next n' (table_with t x) fs)
+          lower_first key_cols n n' a d level (Ins row) (entry_at n (Del e.0) ∷ lowers) (canonical_entries_from (suc n') (table_with t x) fs) (after_next n' (table_with t x) fs)
           ∙ ap (λ es. entry_at n (Ins row) ∷ es) (past_deleted (suc n') (a + 1) (d + 0) next)
 
       -- a replaced row that goes away
-      replaced_gone : (row : Row) (n' a d : ℕ) → n' + d ≡ n + a → fold_from key_cols (entry_at n (Ins row) ∷ entry_at n (Del e.0) ∷ lowers) a d (entry_at n' (Del e.0) ∷ canon_from (suc n') (table_with t x) fs) ≡ entry_at n (Del e.0) ∷ canon_from (suc n) t (composed_effects x fs)
+      replaced_gone : (row : Row) (n' a d : ℕ) → n' + d ≡ n + a → fold_from key_cols (entry_at n (Ins row) ∷ entry_at n (Del e.0) ∷ lowers) a d (entry_at n' (Del e.0) ∷ canonical_entries_from (suc n') (table_with t x) fs) ≡ entry_at n (Del e.0) ∷ canonical_entries_from (suc n) t (composed_effects x fs)
       replaced_gone row n' a d level =
           let next : suc n' + (d + 0) ≡ n + (a + 1) = omega arith in
-          neither_here key_cols n n' a d level (Ins row) (Del e.0) (entry_at n (Del e.0) ∷ lowers) (canon_from (suc n') (table_with t x) fs) refl
+          neither_here key_cols n n' a d level (Ins row) (Del e.0) (entry_at n (Del e.0) ∷ lowers) (canonical_entries_from (suc n') (table_with t x) fs) refl
           ∙ past_deleted (suc n') (a + 1) (d + 0) next
 
-      past : (n' a d : ℕ) → n' + d ≡ n + a → fold_from key_cols lowers a d (canon_from (suc n') (table_with t x) fs) ≡ canon_from (suc n) t (composed_effects x fs)
+      past : (n' a d : ℕ) → n' + d ≡ n + a → fold_from key_cols lowers a d (canonical_entries_from (suc n') (table_with t x) fs) ≡ canonical_entries_from (suc n) t (composed_effects x fs)
       past n' a d level = let next : suc n' + d ≡ suc n + a = omega arith in rest (suc n') a d next
 
       -- with a lower effect alone
       lower_alone : (g : Effect) → T (fits (Some e.1) g) → AreFolded (e ∷ t) ((e.0, g) ∷ x) fs n
       lower_alone (effect.Ins row) fit n' a d level = absurd fit
       lower_alone effect.Del fit n' a d level =
-          (λ i. fold_from key_cols (canon_here e t bt n x bx effect.Del i) a d (canon_from n' (apply_deleted e t bt n x bx i) fs))
+          (λ i. fold_from key_cols (canon_here e t bt n x bx effect.Del i) a d (canonical_entries_from n' (apply_deleted e t bt n x bx i) fs))
           ∙ past_deleted n' a d level
           ∙ passed effect.Del
       lower_alone (effect.Mod cells) fit n' a d level =
           lists_past (effect.Mod cells) (set_cells cells e.1) refl n' a d
-          ∙ mods_lower key_cols n n' a d level cells lowers (canon_from (suc n') (table_with t x) fs) (after_next n' (table_with t x) fs)
+          ∙ mods_lower key_cols n n' a d level cells lowers (canonical_entries_from (suc n') (table_with t x) fs) (after_next n' (table_with t x) fs)
           ∙ ap (λ es. mods n cells ++ es) (past n' a d level)
           ∙ passed (effect.Mod cells)
       lower_alone (effect.Rep row) fit n' a d level =
@@ -337,9 +337,9 @@ module _ (key_cols : ℕ) where
       both_at : (g f : Effect) → T (fits (Some e.1) g) → T (fits (row_after g (Some e.1)) f) → T (cells_ascend g) → T (cells_ascend f) → T (is_keyed_effect key_cols e.0 f) → AreFolded (e ∷ t) ((e.0, g) ∷ x) ((e.0, f) ∷ fs) n
       both_at (effect.Ins row) f fg ff ag af kf n' a d level = absurd fg
       both_at effect.Del (effect.Ins new) fg ff ag af kf n' a d level =
-          (λ i. fold_from key_cols (canon_here e t bt n x bx effect.Del i) a d (canon_from n' (apply_deleted e t bt n x bx i) ((e.0, effect.Ins new) ∷ fs)))
+          (λ i. fold_from key_cols (canon_here e t bt n x bx effect.Del i) a d (canonical_entries_from n' (apply_deleted e t bt n x bx i) ((e.0, effect.Ins new) ∷ fs)))
           ∙ ap (fold_from key_cols (entry_at n (Del e.0) ∷ lowers) a d) (canon_first n' (table_with t x) e.0 (effect.Ins new) fs (below_apply e.0 t x bt bx))
-          ∙ upper_here key_cols n n' a d level (Del e.0) (Ins new) lowers (canon_from n' (table_with t x) fs) (insert_meets_delete e.0 e.0 new Equal kf (tied_itself key_cmp_total e.0))
+          ∙ upper_here key_cols n n' a d level (Del e.0) (Ins new) lowers (canonical_entries_from n' (table_with t x) fs) (insert_meets_delete e.0 e.0 new Equal kf (tied_itself key_cmp_total e.0))
           ∙ ap (λ es. entry_at n (Ins new) ∷ es) (past_deleted n' a d level)
           ∙ kept effect.Del (effect.Ins new) (effect.Rep new) refl
       both_at effect.Del effect.Del fg ff ag af kf n' a d level = absurd ff
@@ -348,21 +348,21 @@ module _ (key_cols : ℕ) where
       both_at (effect.Mod cells) (effect.Ins new) fg ff ag af kf n' a d level = absurd ff
       both_at (effect.Mod cells) effect.Del fg ff ag af kf n' a d level =
           lists_both (effect.Mod cells) effect.Del (set_cells cells e.1) refl n' a d
-          ∙ mods_deleted key_cols n n' a d level cells e.0 lowers (canon_from (suc n') (table_with t x) fs)
-          ∙ upper_first key_cols n n' a d level lowers (after_next n t x) (Del e.0) (canon_from (suc n') (table_with t x) fs)
+          ∙ mods_deleted key_cols n n' a d level cells e.0 lowers (canonical_entries_from (suc n') (table_with t x) fs)
+          ∙ upper_first key_cols n n' a d level lowers (after_next n t x) (Del e.0) (canonical_entries_from (suc n') (table_with t x) fs)
           ∙ ap (λ es. entry_at n (Del e.0) ∷ es) (past n' a d level)
           ∙ kept (effect.Mod cells) effect.Del effect.Del refl
       both_at (effect.Mod cells) (effect.Mod later) fg ff ag af kf n' a d level =
           lists_both (effect.Mod cells) (effect.Mod later) (set_cells cells e.1) refl n' a d
-          ∙ mods_merged key_cols n n' a d level cells lowers (canon_from (suc n') (table_with t x) fs) (after_next n t x) (after_next n' (table_with t x) fs) ag later af
+          ∙ mods_merged key_cols n n' a d level cells lowers (canonical_entries_from (suc n') (table_with t x) fs) (after_next n t x) (after_next n' (table_with t x) fs) ag later af
           ∙ ap (λ es. mods n (over_cells cells later) ++ es) (past n' a d level)
           ∙ kept (effect.Mod cells) (effect.Mod later) (effect.Mod (over_cells cells later)) refl
       both_at (effect.Mod cells) (effect.Rep new) fg ff ag af kf n' a d level =
           lists_both (effect.Mod cells) (effect.Rep new) (set_cells cells e.1) refl n' a d
-          ∙ mods_after_insert key_cols n n' a d level cells new lowers (entry_at n' (Del e.0) ∷ canon_from (suc n') (table_with t x) fs) (after_next n t x)
+          ∙ mods_after_insert key_cols n n' a d level cells new lowers (entry_at n' (Del e.0) ∷ canonical_entries_from (suc n') (table_with t x) fs) (after_next n t x)
           ∙ ap (λ es. entry_at n (Ins new) ∷ es)
-          (mods_deleted key_cols n n' a d level cells e.0 lowers (canon_from (suc n') (table_with t x) fs)
-          ∙ upper_first key_cols n n' a d level lowers (after_next n t x) (Del e.0) (canon_from (suc n') (table_with t x) fs)
+          (mods_deleted key_cols n n' a d level cells e.0 lowers (canonical_entries_from (suc n') (table_with t x) fs)
+          ∙ upper_first key_cols n n' a d level lowers (after_next n t x) (Del e.0) (canonical_entries_from (suc n') (table_with t x) fs)
           ∙ ap (λ es. entry_at n (Del e.0) ∷ es) (past n' a d level))
           ∙ kept (effect.Mod cells) (effect.Rep new) (effect.Rep new) refl
       both_at (effect.Rep row) (effect.Ins new) fg ff ag af kf n' a d level = absurd ff
@@ -372,12 +372,12 @@ module _ (key_cols : ℕ) where
           ∙ kept (effect.Rep row) effect.Del effect.Del refl
       both_at (effect.Rep row) (effect.Mod cells) fg ff ag af kf n' a d level =
           lists_both (effect.Rep row) (effect.Mod cells) row refl n' a d
-          ∙ mods_into key_cols n n' a d level cells row (entry_at n (Del e.0) ∷ lowers) (canon_from (suc n') (table_with t x) fs)
+          ∙ mods_into key_cols n n' a d level cells row (entry_at n (Del e.0) ∷ lowers) (canonical_entries_from (suc n') (table_with t x) fs)
           ∙ past_replaced (set_cells cells row) n' a d level
           ∙ kept (effect.Rep row) (effect.Mod cells) (effect.Rep (set_cells cells row)) refl
       both_at (effect.Rep row) (effect.Rep new) fg ff ag af kf n' a d level =
           lists_both (effect.Rep row) (effect.Rep new) row refl n' a d
-          ∙ upper_here key_cols n n' a d level (Ins row) (Ins new) (entry_at n (Del e.0) ∷ lowers) (entry_at n' (Del e.0) ∷ canon_from (suc n') (table_with t x) fs) refl
+          ∙ upper_here key_cols n n' a d level (Ins row) (Ins new) (entry_at n (Del e.0) ∷ lowers) (entry_at n' (Del e.0) ∷ canonical_entries_from (suc n') (table_with t x) fs) refl
           ∙ ap (λ es. entry_at n (Ins new) ∷ es) (replaced_gone row n' a d level)
           ∙ kept (effect.Rep row) (effect.Rep new) (effect.Rep new) refl
 
@@ -420,7 +420,7 @@ module _ (key_cols : ℕ) where
     x_fits = second _ _ l.x_fits;
     f_sorted = l.f_sorted;
     f_effects = l.f_effects;
-    f_fits = subst T (ap (λ u. all_fit u f) (apply_inserted t k row x bt (first _ _ l.x_sorted)) ∙ fits_past (k, row) (table_with t x) f bf) l.f_fits;
+    f_fits = subst T (ap (λ u. all_fit u f) (apply_inserted t k row x bt (first _ _ l.x_sorted)) ∙ all_fit_past (k, row) (table_with t x) f bf) l.f_fits;
   }
 
   drop_row : (e : Key × Row) (t : Table) (x f : Effects) → T (below_all key_cmp e.0 x) → T (below_all key_cmp e.0 f) → AreLawful (e ∷ t) x f → AreLawful t x f
@@ -428,17 +428,17 @@ module _ (key_cols : ℕ) where
     table_sorted = second _ _ l.table_sorted;
     x_sorted = l.x_sorted;
     x_effects = l.x_effects;
-    x_fits = subst T (fits_past e t x bx) l.x_fits;
+    x_fits = subst T (all_fit_past e t x bx) l.x_fits;
     f_sorted = l.f_sorted;
     f_effects = l.f_effects;
-    f_fits = subst T (ap (λ u. all_fit u f) (alter_all_past key_cmp key_cmp_total row_after x e t bx) ∙ fits_past e (table_with t x) f bf) l.f_fits;
+    f_fits = subst T (ap (λ u. all_fit u f) (alter_all_past key_cmp key_cmp_total row_after x e t bx) ∙ all_fit_past e (table_with t x) f bf) l.f_fits;
   }
 
   fits_after : (e : Key × Row) (t : Table) (g : Effect) (x f : Effects) → T (below_all key_cmp e.0 t) → T (below_all key_cmp e.0 x) → T (below_all key_cmp e.0 f) → T (fits (Some e.1) g) → all_fit (table_with (e ∷ t) ((e.0, g) ∷ x)) f ≡ all_fit (table_with t x) f
   fits_after e t (effect.Ins row) x f bt bx bf fit = absurd fit
   fits_after e t effect.Del x f bt bx bf fit = ap (λ u. all_fit u f) (apply_deleted e t bt 0 x bx)
-  fits_after e t (effect.Mod cells) x f bt bx bf fit = ap (λ u. all_fit u f) (apply_here e t bt 0 x bx (effect.Mod cells) (set_cells cells e.1) refl) ∙ fits_past (e.0, set_cells cells e.1) (table_with t x) f bf
-  fits_after e t (effect.Rep row) x f bt bx bf fit = ap (λ u. all_fit u f) (apply_here e t bt 0 x bx (effect.Rep row) row refl) ∙ fits_past (e.0, row) (table_with t x) f bf
+  fits_after e t (effect.Mod cells) x f bt bx bf fit = ap (λ u. all_fit u f) (apply_here e t bt 0 x bx (effect.Mod cells) (set_cells cells e.1) refl) ∙ all_fit_past (e.0, set_cells cells e.1) (table_with t x) f bf
+  fits_after e t (effect.Rep row) x f bt bx bf fit = ap (λ u. all_fit u f) (apply_here e t bt 0 x bx (effect.Rep row) row refl) ∙ all_fit_past (e.0, row) (table_with t x) f bf
 
   -- the lower effect on the first row fits it
   lower_fits : (e : Key × Row) (t : Table) (g : Effect) (x f : Effects) → AreLawful (e ∷ t) ((e.0, g) ∷ x) f → T (fits (Some e.1) g)
@@ -452,7 +452,7 @@ module _ (key_cols : ℕ) where
         table_sorted = second _ _ l.table_sorted;
         x_sorted = second _ _ l.x_sorted;
         x_effects = second _ _ l.x_effects;
-        x_fits = subst T (fits_past e t x bx) (second _ _ l.x_fits);
+        x_fits = subst T (all_fit_past e t x bx) (second _ _ l.x_fits);
         f_sorted = l.f_sorted;
         f_effects = l.f_effects;
         f_fits = subst T (fits_after e t g x f bt bx bf (lower_fits e t g x f l)) l.f_fits;
@@ -594,6 +594,6 @@ module _ (key_cols : ℕ) where
   -- the walk over the entries of X and of F over the table after X gives the entries of the two composed
   pub folded_entries-canonical_entries : (t : Table) (x f : Effects) → AreLawful t x f → folded_entries key_cols (canonical_entries t x) (canonical_entries (table_with t x) f) ≡ canonical_entries t (composed_effects x f)
   folded_entries-canonical_entries t x f l =
-      (λ i. fold_from key_cols (sym (canon_from_zero t x) i) 0 0 (sym (canon_from_zero (table_with t x) f) i))
+      (λ i. fold_from key_cols (sym (canonical_entries_from_zero t x) i) 0 0 (sym (canonical_entries_from_zero (table_with t x) f) i))
       ∙ folded_from t 0 x f l 0 0 0 refl
-      ∙ canon_from_zero t (composed_effects x f)
+      ∙ canonical_entries_from_zero t (composed_effects x f)

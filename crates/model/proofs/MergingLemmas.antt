@@ -53,58 +53,58 @@ changes_at_after n (e ∷ es) h =
 before_other : (n m : ℕ) → n < m → (n == m) ≡ false
 before_other n m lt = grind (arith, nat_tests)
 
-pub patch_from_past : (n m : ℕ) (c : Change) (base : List Row) (es : List Entry) → n < m → merged_rows_from m base (entry_at n c ∷ es) ≡ merged_rows_from m base es
-patch_from_past n m c [] es lt = ap inserted_rows (changes_at_other m (entry_at n c) es (before_other n m lt))
-patch_from_past n m c (row ∷ base) es lt =
+pub merged_rows_from_past : (n m : ℕ) (c : Change) (base : List Row) (es : List Entry) → n < m → merged_rows_from m base (entry_at n c ∷ es) ≡ merged_rows_from m base es
+merged_rows_from_past n m c [] es lt = ap inserted_rows (changes_at_other m (entry_at n c) es (before_other n m lt))
+merged_rows_from_past n m c (row ∷ base) es lt =
     let here = changes_at_other m (entry_at n c) es (before_other n m lt) in
     let later : n < suc m = omega arith in
-    λ i. inserted_rows (here i) ++ (left_of row (here i) ++ patch_from_past n (suc m) c base es later i)
+    λ i. inserted_rows (here i) ++ (left_of row (here i) ++ merged_rows_from_past n (suc m) c base es later i)
 
 -- an insert at the first place comes first
-pub patch_from_insert : (n : ℕ) (new : Row) (base : List Row) (es : List Entry) → merged_rows_from n base (entry_at n (Ins new) ∷ es) ≡ new ∷ merged_rows_from n base es
-patch_from_insert n new [] es = ap inserted_rows (changes_at_here n (Ins new) es)
-patch_from_insert n new (row ∷ base) es =
+pub merged_rows_from_insert : (n : ℕ) (new : Row) (base : List Row) (es : List Entry) → merged_rows_from n base (entry_at n (Ins new) ∷ es) ≡ new ∷ merged_rows_from n base es
+merged_rows_from_insert n new [] es = ap inserted_rows (changes_at_here n (Ins new) es)
+merged_rows_from_insert n new (row ∷ base) es =
     let here = changes_at_here n (Ins new) es in
     let lt : n < suc n = omega arith in
-    λ i. inserted_rows (here i) ++ (left_of row (here i) ++ patch_from_past n (suc n) (Ins new) base es lt i)
+    λ i. inserted_rows (here i) ++ (left_of row (here i) ++ merged_rows_from_past n (suc n) (Ins new) base es lt i)
 
 -- without entries at the first place its row stands
-pub patch_from_none : (n : ℕ) (row : Row) (base : List Row) (es : List Entry) → T (all_after n es) → merged_rows_from n (row ∷ base) es ≡ row ∷ merged_rows_from (suc n) base es
-patch_from_none n row base es h =
+pub merged_rows_from_none : (n : ℕ) (row : Row) (base : List Row) (es : List Entry) → T (all_after n es) → merged_rows_from n (row ∷ base) es ≡ row ∷ merged_rows_from (suc n) base es
+merged_rows_from_none n row base es h =
     ap (λ cs. inserted_rows cs ++ (left_of row cs ++ merged_rows_from (suc n) base es)) (changes_at_after n es h)
 
 -- a delete at the first place takes its row away
-pub patch_from_delete : (n : ℕ) (key : Key) (row : Row) (base : List Row) (es : List Entry) → T (all_after n es) → merged_rows_from n (row ∷ base) (entry_at n (Del key) ∷ es) ≡ merged_rows_from (suc n) base es
-patch_from_delete n key row base es h =
+pub merged_rows_from_delete : (n : ℕ) (key : Key) (row : Row) (base : List Row) (es : List Entry) → T (all_after n es) → merged_rows_from n (row ∷ base) (entry_at n (Del key) ∷ es) ≡ merged_rows_from (suc n) base es
+merged_rows_from_delete n key row base es h =
     let here = changes_at_here n (Del key) es ∙ ap (λ cs. Del key ∷ cs) (changes_at_after n es h) in
     let lt : n < suc n = omega arith in
-    λ i. inserted_rows (here i) ++ (left_of row (here i) ++ patch_from_past n (suc n) (Del key) base es lt i)
+    λ i. inserted_rows (here i) ++ (left_of row (here i) ++ merged_rows_from_past n (suc n) (Del key) base es lt i)
 
 -- modifies at the first place change its row's cells
-pub patch_from_modify : (n : ℕ) (cells : Cells) (row : Row) (base : List Row) (es : List Entry) → T (all_after n es) → merged_rows_from n (row ∷ base) (map (λ c. entry_at n (Mod c.0 c.1)) cells ++ es) ≡ set_cells cells row ∷ merged_rows_from (suc n) base es
-patch_from_modify n [] row base es h = patch_from_none n row base es h
-patch_from_modify n (c ∷ cells) row base es h =
+pub merged_rows_from_modify : (n : ℕ) (cells : Cells) (row : Row) (base : List Row) (es : List Entry) → T (all_after n es) → merged_rows_from n (row ∷ base) (map (λ c. entry_at n (Mod c.0 c.1)) cells ++ es) ≡ set_cells cells row ∷ merged_rows_from (suc n) base es
+merged_rows_from_modify n [] row base es h = merged_rows_from_none n row base es h
+merged_rows_from_modify n (c ∷ cells) row base es h =
     let rest = map (λ c. entry_at n (Mod c.0 c.1)) cells ++ es in
     let here = changes_at_here n (Mod c.0 c.1) rest in
     let lt : n < suc n = omega arith in
-    (λ i. inserted_rows (here i) ++ (left_of row (here i) ++ patch_from_past n (suc n) (Mod c.0 c.1) base rest lt i))
-    ∙ patch_from_modify n cells (slice_set row c.0 c.1) base es h
+    (λ i. inserted_rows (here i) ++ (left_of row (here i) ++ merged_rows_from_past n (suc n) (Mod c.0 c.1) base rest lt i))
+    ∙ merged_rows_from_modify n cells (slice_set row c.0 c.1) base es h
 
 -- no entries change nothing
-pub patch_from_nothing : (n : ℕ) (base : List Row) → merged_rows_from n base [] ≡ base
-patch_from_nothing n [] = refl
-patch_from_nothing n (row ∷ base) = ap (λ rows_of. row ∷ rows_of) (patch_from_nothing (suc n) base)
+pub merged_rows_from_nothing : (n : ℕ) (base : List Row) → merged_rows_from n base [] ≡ base
+merged_rows_from_nothing n [] = refl
+merged_rows_from_nothing n (row ∷ base) = ap (λ rows_of. row ∷ rows_of) (merged_rows_from_nothing (suc n) base)
 
 -- ---- the entries of effects over a table whose first row has the place n
 
-abbrev pub canon_from : ℕ → Table → Effects → List Entry
-canon_from n t effects = flat_map (λ e. entries_of (n + rank e.0 t) e.0 e.1) effects
+abbrev pub canonical_entries_from : ℕ → Table → Effects → List Entry
+canonical_entries_from n t effects = flat_map (λ e. entries_of (n + rank e.0 t) e.0 e.1) effects
 
-pub canon_from_zero : (t : Table) (effects : Effects) → canon_from 0 t effects ≡ canonical_entries t effects
-canon_from_zero t [] = refl
-canon_from_zero t (e ∷ effects) =
+pub canonical_entries_from_zero : (t : Table) (effects : Effects) → canonical_entries_from 0 t effects ≡ canonical_entries t effects
+canonical_entries_from_zero t [] = refl
+canonical_entries_from_zero t (e ∷ effects) =
     let z : 0 + rank e.0 t ≡ rank e.0 t = omega arith in
-    λ i. entries_of (z i) e.0 e.1 ++ canon_from_zero t effects i
+    λ i. entries_of (z i) e.0 e.1 ++ canonical_entries_from_zero t effects i
 
 rank_past : (k : Key) (e : Key × Row) (t : Table) → key_cmp e.0 k ≡ Less → rank k (e ∷ t) ≡ suc (rank k t)
 rank_past k e t h = ap (λ r. length (cond (is_lt r) (e ∷ filter (λ e. is_lt (key_cmp e.0 k)) t) (filter (λ e. is_lt (key_cmp e.0 k)) t))) h
@@ -117,11 +117,11 @@ move_suc : (n r : ℕ) → n + suc r ≡ suc n + r
 move_suc n r = omega arith
 
 -- past a row with a smaller key than any effect's
-pub canon_from_past : (n : ℕ) (e : Key × Row) (t : Table) (effects : Effects) → T (below_all key_cmp e.0 effects) → canon_from n (e ∷ t) effects ≡ canon_from (suc n) t effects
-canon_from_past n e t [] h = refl
-canon_from_past n e t (x ∷ effects) h =
+pub canonical_entries_from_past : (n : ℕ) (e : Key × Row) (t : Table) (effects : Effects) → T (below_all key_cmp e.0 effects) → canonical_entries_from n (e ∷ t) effects ≡ canonical_entries_from (suc n) t effects
+canonical_entries_from_past n e t [] h = refl
+canonical_entries_from_past n e t (x ∷ effects) h =
     let place = ap (λ m. n + m) (rank_past x.0 e t (less _ (first _ _ h))) ∙ move_suc n (rank x.0 t) in
-    λ i. entries_of (place i) x.0 x.1 ++ canon_from_past n e t effects (second _ _ h) i
+    λ i. entries_of (place i) x.0 x.1 ++ canonical_entries_from_past n e t effects (second _ _ h) i
 
 after_append : (n : ℕ) (es fs : List Entry) → T (all_after n es) → T (all_after n fs) → T (all_after n (es ++ fs))
 after_append n [] fs p q = q
@@ -137,34 +137,34 @@ entries_after n m k effect.Del lt = both _ _ (of_lt n m lt) tt
 entries_after n m k (effect.Mod cells) lt = cells_after n m cells lt
 entries_after n m k (effect.Rep row) lt = both _ _ (of_lt n m lt) (both _ _ (of_lt n m lt) tt)
 
-pub canon_from_after : (n m : ℕ) (t : Table) (effects : Effects) → n < m → T (all_after n (canon_from m t effects))
-canon_from_after n m t [] lt = tt
-canon_from_after n m t (e ∷ effects) lt =
+pub canonical_entries_from_after : (n m : ℕ) (t : Table) (effects : Effects) → n < m → T (all_after n (canonical_entries_from m t effects))
+canonical_entries_from_after n m t [] lt = tt
+canonical_entries_from_after n m t (e ∷ effects) lt =
     let far : n < m + rank e.0 t = omega arith in
-    after_append n (entries_of (m + rank e.0 t) e.0 e.1) (canon_from m t effects) (entries_after n (m + rank e.0 t) e.0 e.1 far) (canon_from_after n m t effects lt)
+    after_append n (entries_of (m + rank e.0 t) e.0 e.1) (canonical_entries_from m t effects) (entries_after n (m + rank e.0 t) e.0 e.1 far) (canonical_entries_from_after n m t effects lt)
 
 -- ---- the law
 
-pub fits_past : (e : Key × Row) (t : Table) (effects : Effects) → T (below_all key_cmp e.0 effects) → all_fit (e ∷ t) effects ≡ all_fit t effects
-fits_past e t [] h = refl
-fits_past e t (x ∷ effects) h =
+pub all_fit_past : (e : Key × Row) (t : Table) (effects : Effects) → T (below_all key_cmp e.0 effects) → all_fit (e ∷ t) effects ≡ all_fit t effects
+all_fit_past e t [] h = refl
+all_fit_past e t (x ∷ effects) h =
     let found = find_past key_cmp x.0 e t (below_head key_cmp_total e.0 x effects h) in
-    λ i. fits (found i) x.1 && fits_past e t effects (second _ _ h) i
+    λ i. fits (found i) x.1 && all_fit_past e t effects (second _ _ h) i
 
 pub put_below : (k : Key) (row : Row) (t : Table) → T (below_all key_cmp k t) → put key_cmp k row t ≡ (k, row) ∷ t
 put_below k row [] h = refl
 put_below k row (e ∷ t) h = ap (λ r. by_order r ((k, row) ∷ e ∷ t) ((e.0, row) ∷ t) (e ∷ put key_cmp k row t)) (less _ (first _ _ h))
 
 abbrev IsPatchedRight : Table → ℕ → Effects → Type 0
-IsPatchedRight t n effects = merged_rows_from n (rows_of t) (canon_from n t effects) ≡ rows_of (table_with t effects)
+IsPatchedRight t n effects = merged_rows_from n (rows_of t) (canonical_entries_from n t effects) ≡ rows_of (table_with t effects)
 
 -- an insert before each row
 inserted_first : (n : ℕ) (k : Key) (row : Row) (t : Table) (effects : Effects) → T (below_all key_cmp k t) → T (below_all key_cmp k effects) → IsPatchedRight t n effects → IsPatchedRight t n ((k, effect.Ins row) ∷ effects)
 inserted_first n k row t effects bt be rest =
     let none : rank k t ≡ 0 = rank_below k t bt in
     let here : n + rank k t ≡ n = omega arith in
-    ap (λ m. merged_rows_from n (rows_of t) (entry_at m (Ins row) ∷ canon_from n t effects)) here
-    ∙ patch_from_insert n row (rows_of t) (canon_from n t effects)
+    ap (λ m. merged_rows_from n (rows_of t) (entry_at m (Ins row) ∷ canonical_entries_from n t effects)) here
+    ∙ merged_rows_from_insert n row (rows_of t) (canonical_entries_from n t effects)
     ∙ ap (λ rs. row ∷ rs) rest
     ∙ sym (ap rows_of (ap (alter_all key_cmp row_after effects) (put_below k row t bt) ∙ alter_all_past key_cmp key_cmp_total row_after effects (k, row) t be))
 
@@ -205,14 +205,14 @@ module _ (e : Key × Row) (t : Table) where
 
     module _ (n : ℕ) (effects : Effects) (be : T (below_all key_cmp e.0 effects)) where
       -- the entries of an effect here, and then those of the others
-      pub canon_here : (f : Effect) → canon_from n (e ∷ t) ((e.0, f) ∷ effects) ≡ entries_of n e.0 f ++ canon_from (suc n) t effects
+      pub canon_here : (f : Effect) → canonical_entries_from n (e ∷ t) ((e.0, f) ∷ effects) ≡ entries_of n e.0 f ++ canonical_entries_from (suc n) t effects
       canon_here f =
           let z : n + 0 ≡ n = omega arith in
           let place = ap (λ m. n + m) rank_here ∙ z in
-          λ i. entries_of (place i) e.0 f ++ canon_from_past n e t effects be i
+          λ i. entries_of (place i) e.0 f ++ canonical_entries_from_past n e t effects be i
 
-      far : T (all_after n (canon_from (suc n) t effects))
-      far = let lt : n < suc n = omega arith in canon_from_after n (suc n) t effects lt
+      far : T (all_after n (canonical_entries_from (suc n) t effects))
+      far = let lt : n < suc n = omega arith in canonical_entries_from_after n (suc n) t effects lt
 
       -- the table after an effect here that leaves a row
       pub apply_here : (f : Effect) (row : Row) → row_after f (Some e.1) ≡ Some row → table_with (e ∷ t) ((e.0, f) ∷ effects) ≡ (e.0, row) ∷ table_with t effects
@@ -228,30 +228,30 @@ module _ (e : Key × Row) (t : Table) where
         present_here (effect.Ins row) fit = absurd fit
         present_here effect.Del fit =
             ap (merged_rows_from n (rows_of (e ∷ t))) (canon_here effect.Del)
-            ∙ patch_from_delete n e.0 e.1 (rows_of t) (canon_from (suc n) t effects) far
+            ∙ merged_rows_from_delete n e.0 e.1 (rows_of t) (canonical_entries_from (suc n) t effects) far
             ∙ rest ∙ sym (ap rows_of apply_deleted)
         present_here (effect.Mod cells) fit =
             ap (merged_rows_from n (rows_of (e ∷ t))) (canon_here (effect.Mod cells))
-            ∙ patch_from_modify n cells e.1 (rows_of t) (canon_from (suc n) t effects) far
+            ∙ merged_rows_from_modify n cells e.1 (rows_of t) (canonical_entries_from (suc n) t effects) far
             ∙ ap (λ rs. set_cells cells e.1 ∷ rs) rest
             ∙ sym (ap rows_of (apply_here (effect.Mod cells) (set_cells cells e.1) refl))
         present_here (effect.Rep row) fit =
             ap (merged_rows_from n (rows_of (e ∷ t))) (canon_here (effect.Rep row))
-            ∙ patch_from_insert n row (rows_of (e ∷ t)) (entry_at n (Del e.0) ∷ canon_from (suc n) t effects)
-            ∙ ap (λ rs. row ∷ rs) (patch_from_delete n e.0 e.1 (rows_of t) (canon_from (suc n) t effects) far ∙ rest)
+            ∙ merged_rows_from_insert n row (rows_of (e ∷ t)) (entry_at n (Del e.0) ∷ canonical_entries_from (suc n) t effects)
+            ∙ ap (λ rs. row ∷ rs) (merged_rows_from_delete n e.0 e.1 (rows_of t) (canonical_entries_from (suc n) t effects) far ∙ rest)
             ∙ sym (ap rows_of (apply_here (effect.Rep row) row refl))
 
 -- all effects above the first row
 patched_past : (n : ℕ) (e : Key × Row) (t : Table) (effects : Effects) → T (below_all key_cmp e.0 effects) → IsPatchedRight t (suc n) effects → IsPatchedRight (e ∷ t) n effects
 patched_past n e t effects be rest =
     let lt : n < suc n = omega arith in
-    ap (merged_rows_from n (rows_of (e ∷ t))) (canon_from_past n e t effects be)
-    ∙ patch_from_none n e.1 (rows_of t) (canon_from (suc n) t effects) (canon_from_after n (suc n) t effects lt)
+    ap (merged_rows_from n (rows_of (e ∷ t))) (canonical_entries_from_past n e t effects be)
+    ∙ merged_rows_from_none n e.1 (rows_of t) (canonical_entries_from (suc n) t effects) (canonical_entries_from_after n (suc n) t effects lt)
     ∙ ap (λ rs. e.1 ∷ rs) rest
     ∙ sym (ap rows_of (alter_all_past key_cmp key_cmp_total row_after effects e t be))
 
 patched_cons : (e : Key × Row) (t : Table) → T (below_all key_cmp e.0 t) → ((n : ℕ) (effects : Effects) → T (is_sorted key_cmp effects) → T (all_fit t effects) → IsPatchedRight t n effects) → (n : ℕ) (effects : Effects) → T (is_sorted key_cmp effects) → T (all_fit (e ∷ t) effects) → IsPatchedRight (e ∷ t) n effects
-patched_cons e t bt rest n [] sorted fit = patch_from_nothing n (rows_of (e ∷ t))
+patched_cons e t bt rest n [] sorted fit = merged_rows_from_nothing n (rows_of (e ∷ t))
 patched_cons e t bt rest n (x ∷ effects) sorted fit =
     elim (key_cmp x.0 e.0) as (λ r. key_cmp x.0 e.0 ≡ r → IsPatchedRight (e ∷ t) n (x ∷ effects)) [
       | Less ↦ λ p.
@@ -265,12 +265,12 @@ patched_cons e t bt rest n (x ∷ effects) sorted fit =
           let fit' = subst (λ k. T (fits (row_at (e ∷ t) k) x.1)) same (first _ _ fit) in
           subst (λ k. IsPatchedRight (e ∷ t) n ((k, x.1) ∷ effects)) (sym same)
           (present_here e t bt n effects be
-          (rest (suc n) effects (second _ _ sorted) (subst T (fits_past e t effects be) (second _ _ fit)))
+          (rest (suc n) effects (second _ _ sorted) (subst T (all_fit_past e t effects be) (second _ _ fit)))
           x.1 (subst (λ old. T (fits old x.1)) (found_here e t) fit'))
       | Greater ↦ λ p.
           let lt = turn_greater key_cmp_total x.0 e.0 p in
           let be : T (below_all key_cmp e.0 (x ∷ effects)) = both _ _ (subst (λ r. T (is_lt r)) (sym lt) tt) (below_less key_cmp_total e.0 x.0 effects lt (first _ _ sorted)) in
-          patched_past n e t (x ∷ effects) be (rest (suc n) (x ∷ effects) sorted (subst T (fits_past e t (x ∷ effects) be) fit))
+          patched_past n e t (x ∷ effects) be (rest (suc n) (x ∷ effects) sorted (subst T (all_fit_past e t (x ∷ effects) be) fit))
     ] refl
 
 patched : (t : Table) → T (is_sorted key_cmp t) → (n : ℕ) (effects : Effects) → T (is_sorted key_cmp effects) → T (all_fit t effects) → IsPatchedRight t n effects
@@ -280,4 +280,4 @@ patched (e ∷ t) st n effects sorted fit = patched_cons e t (first _ _ st) (pat
 -- the rows patched by the entries of effects are those of the table after them
 pub merged_rows-canonical_entries : (t : Table) (effects : Effects) → T (is_sorted key_cmp t) → T (is_sorted key_cmp effects) → T (all_fit t effects) → merged_rows (rows_of t) (canonical_entries t effects) ≡ rows_of (table_with t effects)
 merged_rows-canonical_entries t effects st sorted fit =
-    ap (merged_rows (rows_of t)) (sym (canon_from_zero t effects)) ∙ patched t st 0 effects sorted fit
+    ap (merged_rows (rows_of t)) (sym (canonical_entries_from_zero t effects)) ∙ patched t st 0 effects sorted fit

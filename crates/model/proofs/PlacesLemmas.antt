@@ -15,32 +15,32 @@ skip (x ∷ xs) ys i = let s : suc (length xs) + i ≡ suc (length xs + i) = ome
 
 -- ---- counts below a place
 
-inserted_rows-append : (xs ys : List Change) → inserted_rows (xs ++ ys) ≡ inserted_rows xs ++ inserted_rows ys
+pub inserted_rows-append : (xs ys : List Change) → inserted_rows (xs ++ ys) ≡ inserted_rows xs ++ inserted_rows ys
 inserted_rows-append [] ys = refl
 inserted_rows-append (Ins row ∷ xs) ys = ap (λ rs. row ∷ rs) (inserted_rows-append xs ys)
 inserted_rows-append (Del key ∷ xs) ys = inserted_rows-append xs ys
 inserted_rows-append (Mod col value ∷ xs) ys = inserted_rows-append xs ys
 
-abbrev counted : (Change → ℕ) → (Entry → Bool) → List Entry → ℕ
+abbrev pub counted : (Change → ℕ) → (Entry → Bool) → List Entry → ℕ
 counted worth p [] = 0
 counted worth p (e ∷ es) = cond (p e) (worth e.change) 0 + counted worth p es
 
-abbrev ins_worth : Change → ℕ
+abbrev pub ins_worth : Change → ℕ
 ins_worth (Ins row) = 1
 ins_worth (Del key) = 0
 ins_worth (Mod col value) = 0
 
-abbrev del_worth : Change → ℕ
+abbrev pub del_worth : Change → ℕ
 del_worth (Ins row) = 0
 del_worth (Del key) = 1
 del_worth (Mod col value) = 0
 
-one_more : (c : Change) (cs : List Change) → length (inserted_rows (c ∷ cs)) ≡ ins_worth c + length (inserted_rows cs)
+pub one_more : (c : Change) (cs : List Change) → length (inserted_rows (c ∷ cs)) ≡ ins_worth c + length (inserted_rows cs)
 one_more (Ins row) cs = omega arith
 one_more (Del key) cs = omega arith
 one_more (Mod col value) cs = omega arith
 
-one_gone : (c : Change) (cs : List Change) → length (deleted_keys (c ∷ cs)) ≡ del_worth c + length (deleted_keys cs)
+pub one_gone : (c : Change) (cs : List Change) → length (deleted_keys (c ∷ cs)) ≡ del_worth c + length (deleted_keys cs)
 one_gone (Ins row) cs = omega arith
 one_gone (Del key) cs = omega arith
 one_gone (Mod col value) cs = omega arith
@@ -90,7 +90,7 @@ count_none worth (e ∷ es) = let h = never e.sid (worth e.change) in let r = co
 
 -- ---- the rows before a place
 
-left_length : (row : Row) (cs : List Change) → length (deleted_keys cs) ≤ 1 → length (left_of row cs) + length (deleted_keys cs) ≡ 1
+pub left_length : (row : Row) (cs : List Change) → length (deleted_keys cs) ≤ 1 → length (left_of row cs) + length (deleted_keys cs) ≡ 1
 left_length row [] h = refl
 left_length row (Ins new ∷ cs) h = left_length row cs h
 left_length row (Del key ∷ cs) h = omega arith

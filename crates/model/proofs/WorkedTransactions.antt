@@ -1,5 +1,5 @@
 -- Transactions over the base table, computed by the definitions.
-use Rattle.std.proofs.Common.{◌≡◌, ℕ, ◌≤◌, Option, Some, None, List, [], ◌∷◌, map, pos, codes, nat_cmp, lit≤, refl}
+use Rattle.std.proofs.Common.{◌≡◌, ℕ, Option, Some, None, List, [], ◌∷◌, map, pos, codes, nat_cmp, lit≤, refl}
 use Rattle.std.specs.Prelude.{slice_set}
 use Rattle.values.specs.Shape.{Columns, cell_fault}
 use Rattle.values.specs.declared.fault.ShapeFault.TheVariants.{KeyColumn}
@@ -9,7 +9,7 @@ use Rattle.values.specs.declared.value.Value.{Value}
 use Rattle.values.specs.declared.value.Value.TheVariants.{Int, Text}
 use Rattle.values.specs.declared.value.ColumnType.TheVariants as column
 use Rattle.model.specs.declared.entry.Entry.{Entry}
-use Rattle.model.specs.declared.entry.Change.TheVariants.{Ins, Del, Mod}
+use Rattle.model.specs.declared.entry.Change.TheVariants.{Ins, Del}
 use Rattle.model.specs.declared.effect.Effect.{Effect}
 use Rattle.model.specs.declared.effect.Effect.TheVariants as effect
 use Rattle.model.specs.declared.write.Write.{Write}
@@ -20,12 +20,11 @@ use Rattle.model.specs.declared.write.CommitReply.{CommitReply}
 use Rattle.model.specs.declared.write.CommitReply.TheVariants.{Committed, Conflict, TooOld, Full as TableFull}
 use Rattle.model.specs.Maps.{put}
 use Rattle.model.specs.Table.{Table, rows_of}
-use Rattle.model.specs.Effects.{Cells, Effects, table_with}
+use Rattle.model.specs.Effects.{Cells}
 use Rattle.model.specs.Composition.{composed_effect}
 use Rattle.model.specs.Writes.{effects_after_all}
 use Rattle.model.specs.Entries.{entry_at, canonical_entries}
-use Rattle.model.specs.Merging.{merged_rows}
-use Rattle.model.specs.History.{Record, IsLegalRecord, IsLegal, commits_of, table_with_all}
+use Rattle.model.specs.History.{Record, IsLegal, commits_of, table_with_all}
 
 -- ---- what a write that is done makes of the effect on its key
 

@@ -4,7 +4,7 @@ use Rattle.std.specs.Ordering.{nat_cmp}
 use Rattle.std.specs.List.{list_any}
 use Rattle.values.specs.Orders.{key_cmp}
 use Rattle.model.specs.declared.effect.Effect.{Effect}
-use Rattle.model.specs.declared.effect.Effect.TheVariants.{Ins, Del, Mod, Rep}
+use Rattle.model.specs.declared.effect.Effect.TheVariants.{Ins, Mod}
 use Rattle.model.specs.Maps.{find}
 use Rattle.model.specs.Effects.{Effects}
 

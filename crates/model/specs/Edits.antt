@@ -1,5 +1,5 @@
 -- The changes of a tree, as edits of its list of entries.
-use Rattle.std.specs.Prelude.{ℕ, ◌==◌, Bool, true, false, cond, not, ◌&&◌, Option, Some, List, [], ◌∷◌, map, filter, slice_set}
+use Rattle.std.specs.Prelude.{ℕ, ◌==◌, Bool, false, cond, not, ◌&&◌, Option, Some, List, [], ◌∷◌, map, filter, slice_set}
 use Rattle.std.specs.Ordering.{eq_by_cmp, match_ordering}
 use Rattle.values.specs.Orders.{key_cmp}
 use Rattle.values.specs.Shape.{key_of}

@@ -1,5 +1,5 @@
 -- The laws of the definitions, for every table and all effects.
-use Rattle.std.specs.Prelude.{◌≡◌, ℕ, ◌+◌, ◌<◌, ◌≤◌, false, cond, not, IsTrue, IsNone, IfSome, Option, Some, None, is_some, List, [], ◌∷◌, ◌++◌, map, filter, length, slice_get}
+use Rattle.std.specs.Prelude.{◌≡◌, ℕ, ◌≤◌, false, cond, not, IsTrue, IsNone, IfSome, Some, None, is_some, List, [], ◌∷◌, ◌++◌, filter, length, slice_get}
 use Rattle.std.specs.Ordering.{is_lt}
 use Rattle.std.specs.List.{list_all, list_any, All}
 use Rattle.values.specs.Orders.{key_cmp}
@@ -54,7 +54,7 @@ module _ (schema : Columns) where
 
   -- no write takes the image past the row limit
   abbrev pub WriteKeepsLimit : Type 0
-  WriteKeepsLimit = (limit : ℕ) (t : Table) (x : Effects) (write : Write) → AreOver schema t x → IsTrue (write_fits_schema schema write) →
+  WriteKeepsLimit = (limit : ℕ) (t : Table) (x : Effects) (write : Write) → AreOver schema t x →
       length (table_with t x) ≤ limit → length (table_with t (effects_after schema.key_cols limit t x write)) ≤ limit
 
   -- a write that is done is one edit of the entries, at the number of keys below its own; another leaves them
@@ -147,5 +147,5 @@ module _ (schema : Columns) where
 
   -- and no table of it has more rows than the limit
   abbrev pub LegalTablesKeepLimit : Type 0
-  LegalTablesKeepLimit = (limit recent : ℕ) (opening : Table) (history : List Record) (k : ℕ) → IsTable schema opening → length opening ≤ limit → IsLegal schema limit recent opening history →
+  LegalTablesKeepLimit = (limit recent : ℕ) (opening : Table) (history : List Record) (k : ℕ) → length opening ≤ limit → IsLegal schema limit recent opening history →
       length (table_after opening (commits_of schema limit recent opening history) k) ≤ limit

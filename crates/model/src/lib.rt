@@ -12,7 +12,9 @@ pub use clash::{Clash, ClashKind};
 pub use effect::{Cells, Effect};
 pub use entry::{Change, Entry};
 pub use laws::{
-    composes_in_turn, conflict_is_found, folds_to_composed, leaves_table, merges_to_table,
-    rebases_entries, write_edits, write_keeps,
+    base_stands_at_rid, composes_in_turn, conflict_is_found, decides_in_turn, entries_are_ordered,
+    entries_split, first_clash_is_least, fits_the_newest, folds_to_composed, insert_stands_at_rid,
+    leaves_table, legal_commits_fit, legal_tables_keep_limit, merges_to_table, rebases_entries,
+    write_edits, write_keeps, write_keeps_limit, writes_keep,
 };
 pub use write::{CommitReply, Write, WriteReply};

@@ -1,0 +1,5 @@
+use Rattle.model.proofs.PositionsLemmas.{merged_rows-rid_of_base}
+use Rattle.model.proofs.laws.base_stands_at_rid.Goals as goal
+
+pub returns : goal.returns
+returns c = merged_rows-rid_of_base
