@@ -4,6 +4,7 @@ use Rattle.values.specs.declared.value.ColumnType.{ColumnType}
 use Rattle.values.specs.declared.value.ColumnType.TheVariants as column
 use Rattle.values.specs.declared.value.Value.{Value}
 use Rattle.values.specs.declared.value.Value.TheVariants.{Int, Text, Bool as Truth}
+use Rattle.values.specs.declared.limits.TheConstants.{MAX_TEXT_BYTES}
 use Rattle.values.specs.declared.fault.ShapeFault.{ShapeFault}
 use Rattle.values.specs.declared.fault.ShapeFault.TheVariants.{WrongCount, WrongType, TextTooLong, NoSuchColumn, KeyColumn}
 
@@ -21,7 +22,7 @@ has_type other value = false
 
 -- whether a value is a text of more than 4,096 bytes
 abbrev pub is_too_long : Value → Bool
-is_too_long (Text bytes) = nat_lt 4096 (length bytes)
+is_too_long (Text bytes) = nat_lt MAX_TEXT_BYTES (length bytes)
 is_too_long (Int x) = false
 is_too_long (Truth x) = false
 

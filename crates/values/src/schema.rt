@@ -3,6 +3,7 @@ ghost use Rattle.std.specs.Prelude.{◌≡◌, ◌==◌, ◌≤◌, ℕ, length,
 ghost use Rattle.values.specs.Shape.{row_fault, key_fault, cell_fault, value_fault, list_fault, values_fault, answer_of, has_type, is_too_long};
 
 use crate::fault::ShapeFault;
+use crate::limits::MAX_TEXT_BYTES;
 use crate::row::{Key, Row};
 use crate::text::Text;
 use crate::value::{ColumnType, Value};
@@ -78,7 +79,7 @@ fn check_value(column: ColumnType, col: usize, value: &Value) -> Result<(), Shap
         (ColumnType::Int, Value::Int(_)) => Ok(()),
         (ColumnType::Bool, Value::Bool(_)) => Ok(()),
         (ColumnType::Text, Value::Text(text)) => {
-            if text.as_str().len() > 4096 {
+            if text.as_str().len() > MAX_TEXT_BYTES {
                 Err(ShapeFault::TextTooLong(col))
             } else {
                 Ok(())
