@@ -83,6 +83,12 @@ has_type column.Text (Text x) = true
 has_type column.Bool (Truth x) = true
 has_type other value = false
 
+-- whether a value is a text, which alone takes memory
+abbrev pub is_text : Value → Bool
+is_text (Text bytes) = true
+is_text (Int x) = false
+is_text (Truth x) = false
+
 -- whether a value is a text of more than 4,096 bytes
 abbrev pub is_too_long : Value → Bool
 is_too_long (Text bytes) = nat_lt MAX_TEXT_BYTES (length bytes)

@@ -11,6 +11,8 @@ mod fault;
 pub mod limits;
 mod row;
 mod schema;
+#[cfg(test)]
+mod tests;
 mod text;
 mod value;
 

@@ -55,16 +55,14 @@ impl Row {
         ensures { IfOk result (λ copied. copied ≡ self.now) }
     {
         let alloc = *self.cells.allocator();
-        Ok(Row {
-            cells: copy_values(alloc, self.cells.as_slice())?,
-        })
+        Ok(Row::new(copy_values(alloc, self.cells())?))
     }
 }
 
 /// The first values of a row, by which rows are ordered: value by value, and a beginning before what goes on from it.
 #[derive(Debug, Drop)]
 pub struct Key {
-    cells: Vec<Value>,
+    values: Vec<Value>,
 }
 
 impl Model for Key {
@@ -73,29 +71,29 @@ impl Model for Key {
 
     ghost Value = { List Cell };
 
-    ghost view = { λ k. k.cells.items };
+    ghost view = { λ k. k.values.items };
 }
 
 impl Key {
     /// The values as a key. Takes no memory, and checks nothing.
-    pub fn new(cells: Vec<Value>) -> Key
-        ensures { result ≡ cells.items }
+    pub fn new(values: Vec<Value>) -> Key
+        ensures { result ≡ values.items }
     {
-        Key { cells }
+        Key { values }
     }
 
     /// The values in the order of the key columns, lent.
     pub fn cells(&self) -> &[Value]
         ensures { result.now ≡ self.now }
     {
-        self.cells.as_slice()
+        self.values.as_slice()
     }
 
     /// The values that it was made of. Takes no memory.
     pub fn into_cells(self) -> Vec<Value>
         ensures { result.items ≡ self }
     {
-        self.cells
+        self.values
     }
 
     /// The same key, in memory of its own.
@@ -106,10 +104,8 @@ impl Key {
     pub fn copy(&self) -> Result<Key, NoMemory>
         ensures { IfOk result (λ copied. copied ≡ self.now) }
     {
-        let alloc = *self.cells.allocator();
-        Ok(Key {
-            cells: copy_values(alloc, self.cells.as_slice())?,
-        })
+        let alloc = *self.values.allocator();
+        Ok(Key::new(copy_values(alloc, self.cells())?))
     }
 }
 

@@ -114,7 +114,7 @@ impl Schema {
         let alloc = *self.names.allocator();
         Ok(Schema {
             names: copy_texts(alloc, self.names.as_slice())?,
-            types: self.types.as_slice().to_vec(alloc)?,
+            types: self.types().to_vec(alloc)?,
             key_cols: self.key_cols,
         })
     }
@@ -128,7 +128,7 @@ impl Schema {
     pub fn check_row(&self, row: &Row) -> Result<(), ShapeFault>
         ensures { result ≡ answer_of (row_fault self.now row.now) }
     {
-        check_values(self.types.as_slice(), row.cells())
+        check_values(self.types(), row.cells())
     }
 
     /// Tests a key against the key columns. Takes no memory.

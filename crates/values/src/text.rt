@@ -48,8 +48,6 @@ impl Text {
     pub fn copy(&self) -> Result<Text, NoMemory>
         ensures { IfOk result (λ copied. copied ≡ self.now) }
     {
-        Ok(Text {
-            text: self.text.clone()?,
-        })
+        Ok(Text::new(self.text.clone()?))
     }
 }

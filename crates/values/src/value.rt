@@ -1,9 +1,10 @@
 //! A cell of a row, owned or lent, and its order.
-ghost use Rattle.std.specs.Prelude.{◌≡◌, IfOk, refl};
+ghost use Rattle.std.specs.Prelude.{◌≡◌, false, IfOk, IsOk, refl};
 ghost use Rattle.std.specs.Cmp.{eq_by_cmp_equiv, partial_equiv_from_equiv, po, on_per, on_equiv, on_po, on_total};
 ghost use Rattle.std.specs.Ordering.{eq_by_cmp, as_partial_cmp};
 ghost use Rattle.values.specs.Orders.{value_cmp, value_cmp_total};
 ghost use Rattle.values.specs.Lent.{value_of};
+ghost use Rattle.values.specs.Shape.{is_text};
 
 use crate::fault::NoMemory;
 use crate::text::Text;
@@ -53,7 +54,8 @@ impl Value {
     ///
     /// `NoMemory` where a growth is refused.
     pub fn copy(&self) -> Result<Value, NoMemory>
-        ensures { IfOk result (λ copied. copied ≡ self.now) }
+        ensures same { IfOk result (λ copied. copied ≡ self.now) }
+        ensures inline { is_text self.now ≡ false → IsOk result }
     {
         match self {
             Value::Int(number) => Ok(Value::Int(*number)),
@@ -70,7 +72,8 @@ impl<'a> ValueRef<'a> {
     ///
     /// `NoMemory` where a growth is refused.
     pub fn copy(&self, alloc: Global) -> Result<Value, NoMemory>
-        ensures { IfOk result (λ copied. copied ≡ value_of self.now) }
+        ensures same { IfOk result (λ copied. copied ≡ value_of self.now) }
+        ensures inline { is_text (value_of self.now) ≡ false → IsOk result }
     {
         match self {
             ValueRef::Int(number) => Ok(Value::Int(*number)),
