@@ -52,114 +52,83 @@ fn wide_text(alloc: Global, pairs: usize, rest: &str) -> Result<String, NoMemory
     Ok(text)
 }
 
-#[test]
-fn columns_make_a_schema_or_the_first_fault(rt: HostRuntime) -> Result<(), Fail> {
-    let alloc = rt.alloc();
-    for (label, cols, key_cols, fault) in [
-        (
-            "no columns",
-            numbers(alloc, &[])?,
-            1,
-            SchemaFault::NoColumns,
-        ),
-        (
-            "no columns and no key",
-            numbers(alloc, &[])?,
-            0,
-            SchemaFault::NoColumns,
-        ),
-        (
-            "33 columns",
-            numbers(alloc, &NAMES)?,
-            1,
-            SchemaFault::TooManyColumns,
-        ),
-        (
-            "33 columns and no key",
-            numbers(alloc, &NAMES)?,
-            0,
-            SchemaFault::TooManyColumns,
-        ),
-        (
-            "no key",
-            numbers(alloc, &["a"])?,
-            0,
-            SchemaFault::BadKeyCount,
-        ),
-        (
-            "5 key columns",
-            numbers(alloc, &["a", "b", "c", "d", "e"])?,
-            5,
-            SchemaFault::BadKeyCount,
-        ),
-        (
-            "a key above the columns",
-            numbers(alloc, &["a", "b"])?,
-            3,
-            SchemaFault::BadKeyCount,
-        ),
-        (
-            "a bad key and a repeated name",
-            numbers(alloc, &["a", "a"])?,
-            3,
-            SchemaFault::BadKeyCount,
-        ),
-        (
-            "the first name again",
-            numbers(alloc, &["a", "b", "a"])?,
-            1,
-            SchemaFault::RepeatedName(2),
-        ),
-        (
-            "a name that is there thrice",
-            numbers(alloc, &["a", "a", "a"])?,
-            1,
-            SchemaFault::RepeatedName(1),
-        ),
-        (
-            "two names that are there twice",
-            numbers(alloc, &["a", "b", "b", "a"])?,
-            1,
-            SchemaFault::RepeatedName(2),
-        ),
-        (
-            "the empty name again",
-            numbers(alloc, &["", "a", ""])?,
-            2,
-            SchemaFault::RepeatedName(2),
-        ),
-    ] {
-        match Schema::new(alloc, cols, key_cols) {
-            Ok(_) => assert!(rt; false, "a schema at {label}"),
-            Err(SchemaFault::NoMemory) => return Err(Fail::from(NoMemory)),
-            Err(found) => assert_eq!(rt; found, fault, "at {label}"),
-        }
+/// The fault of columns of numbers by these names.
+fn fault_of(
+    alloc: Global,
+    names: &[&str],
+    key_cols: usize,
+) -> Result<Option<SchemaFault>, NoMemory> {
+    match Schema::new(alloc, numbers(alloc, names)?, key_cols) {
+        Err(SchemaFault::NoMemory) => Err(NoMemory),
+        answer => Ok(answer.err()),
     }
+}
+
+#[test]
+fn the_first_fault_of_columns_is_named(rt: HostRuntime) -> Result<(), Fail> {
+    let alloc = rt.alloc();
+    let none = Some(SchemaFault::NoColumns);
+    assert_eq!(rt; fault_of(alloc, &[], 1)?, none, "no columns");
+    assert_eq!(rt; fault_of(alloc, &[], 0)?, none, "no columns and no key");
+    let too_many = Some(SchemaFault::TooManyColumns);
+    assert_eq!(rt; fault_of(alloc, &NAMES, 1)?, too_many, "33 columns");
+    assert_eq!(rt;
+        fault_of(alloc, &NAMES, 0)?,
+        too_many,
+        "33 columns and no key"
+    );
+    let bad_key = Some(SchemaFault::BadKeyCount);
+    assert_eq!(rt; fault_of(alloc, &["a"], 0)?, bad_key, "no key");
+    assert_eq!(rt; fault_of(alloc, &NAMES[..5], 5)?, bad_key, "5 key columns");
+    assert_eq!(rt;
+        fault_of(alloc, &["a", "b"], 3)?,
+        bad_key,
+        "a key above the columns"
+    );
+    assert_eq!(rt;
+        fault_of(alloc, &["a", "a"], 3)?,
+        bad_key,
+        "a bad key and a name twice"
+    );
+    let second = Some(SchemaFault::RepeatedName(1));
+    assert_eq!(rt;
+        fault_of(alloc, &["a", "a", "a"], 1)?,
+        second,
+        "a name thrice"
+    );
+    let third = Some(SchemaFault::RepeatedName(2));
+    assert_eq!(rt;
+        fault_of(alloc, &["a", "b", "a"], 1)?,
+        third,
+        "the first name twice"
+    );
+    assert_eq!(rt;
+        fault_of(alloc, &["a", "b", "b", "a"], 1)?,
+        third,
+        "two names twice"
+    );
+    assert_eq!(rt;
+        fault_of(alloc, &["", "a", ""], 2)?,
+        third,
+        "the empty name twice"
+    );
     Ok(())
 }
 
 #[test]
-fn the_widest_and_the_narrowest_schema_are_made(rt: HostRuntime) -> Result<(), Fail> {
+fn the_widest_and_the_narrowest_columns_have_no_fault(rt: HostRuntime) -> Result<(), Fail> {
     let alloc = rt.alloc();
-    for (label, cols, width, key_cols) in [
-        (
-            "32 columns, 4 of them the key",
-            numbers(alloc, &NAMES[..32])?,
-            32,
-            4,
-        ),
-        ("one column of no name", numbers(alloc, &[""])?, 1, 1),
-        (
-            "no column but the key, names in two cases",
-            numbers(alloc, &["a", "A"])?,
-            2,
-            2,
-        ),
-    ] {
-        let schema = Schema::new(alloc, cols, key_cols)?;
-        assert_eq!(rt; schema.width(), width, "at {label}");
-        assert_eq!(rt; schema.key_cols(), key_cols, "at {label}");
-    }
+    assert_eq!(rt;
+        fault_of(alloc, &NAMES[..32], 4)?,
+        None,
+        "32 columns, 4 of them the key"
+    );
+    assert_eq!(rt; fault_of(alloc, &[""], 1)?, None, "one column of no name");
+    assert_eq!(rt;
+        fault_of(alloc, &["a", "A"], 2)?,
+        None,
+        "nothing but the key, two cases"
+    );
     Ok(())
 }
 
@@ -182,135 +151,152 @@ fn a_schema_and_its_copy_show_the_columns(rt: HostRuntime) -> Result<(), Fail> {
     Ok(())
 }
 
+/// What the check of these cells as a row answers.
+fn row_answer(alloc: Global, cells: &[ValueRef]) -> Result<Result<(), ShapeFault>, SchemaFault> {
+    let row = Row::new(values_of(alloc, cells)?);
+    Ok(base_schema(alloc)?.check_row(&row))
+}
+
 #[test]
-fn rows_fit_or_the_first_fault_is_named(rt: HostRuntime) -> Result<(), Fail> {
-    let schema = base_schema(rt.alloc())?;
-    let longest = wide_text(rt.alloc(), 2_048, "")?;
-    let too_long = wide_text(rt.alloc(), 2_048, "x")?;
+fn the_first_fault_of_a_row_is_named(rt: HostRuntime) -> Result<(), Fail> {
+    let alloc = rt.alloc();
+    let (longest, too_long) = (wide_text(alloc, 2_048, "")?, wide_text(alloc, 2_048, "x")?);
     assert_eq!(rt; (longest.len(), too_long.len()), (4_096, 4_097));
+    let (id, name, open) = (
+        ValueRef::Int(10),
+        ValueRef::Text("Ann"),
+        ValueRef::Bool(true),
+    );
+    let (longest, too_long) = (
+        ValueRef::Text(longest.as_str()),
+        ValueRef::Text(too_long.as_str()),
+    );
+    assert_eq!(rt; row_answer(alloc, &[id, name, open])?, Ok(()), "fits");
+    assert_eq!(rt;
+        row_answer(alloc, &[id, longest, open])?,
+        Ok(()),
+        "4,096 bytes"
+    );
+    let fault = Err(ShapeFault::TextTooLong(1));
+    assert_eq!(rt;
+        row_answer(alloc, &[id, too_long, open])?,
+        fault,
+        "2,049 characters, 4,097 bytes"
+    );
+    assert_eq!(rt;
+        row_answer(alloc, &[id, too_long, id])?,
+        fault,
+        "too long, then a wrong type"
+    );
+    let fault = Err(ShapeFault::WrongCount);
+    assert_eq!(rt; row_answer(alloc, &[id, name])?, fault, "too few");
+    assert_eq!(rt;
+        row_answer(alloc, &[name, id, id, id])?,
+        fault,
+        "too many, and wrong types"
+    );
+    assert_eq!(rt;
+        row_answer(alloc, &[name, name, open])?,
+        Err(ShapeFault::WrongType(0)),
+        "a text as the key"
+    );
+    assert_eq!(rt;
+        row_answer(alloc, &[id, open, id])?,
+        Err(ShapeFault::WrongType(1)),
+        "two wrong types"
+    );
+    assert_eq!(rt;
+        row_answer(alloc, &[id, name, too_long])?,
+        Err(ShapeFault::WrongType(2)),
+        "a long text for a truth"
+    );
+    Ok(())
+}
+
+/// What the check of these cells as a key answers.
+fn key_answer(alloc: Global, cells: &[ValueRef]) -> Result<Result<(), ShapeFault>, SchemaFault> {
+    let key = Key::new(values_of(alloc, cells)?);
+    Ok(base_schema(alloc)?.check_key(&key))
+}
+
+#[test]
+fn the_first_fault_of_a_key_is_named(rt: HostRuntime) -> Result<(), Fail> {
     let alloc = rt.alloc();
     let (id, name, open) = (
         ValueRef::Int(10),
         ValueRef::Text("Ann"),
         ValueRef::Bool(true),
     );
-    let longest = ValueRef::Text(longest.as_str());
-    let too_long = ValueRef::Text(too_long.as_str());
-    for (label, cells, answer) in [
-        ("fits", values_of(alloc, &[id, name, open])?, Ok(())),
-        (
-            "4,096 bytes",
-            values_of(alloc, &[id, longest, open])?,
-            Ok(()),
-        ),
-        (
-            "4,097 bytes in 2,049 characters",
-            values_of(alloc, &[id, too_long, open])?,
-            Err(ShapeFault::TextTooLong(1)),
-        ),
-        (
-            "too few",
-            values_of(alloc, &[id, name])?,
-            Err(ShapeFault::WrongCount),
-        ),
-        (
-            "too many, and a wrong type",
-            values_of(alloc, &[name, name, open, open])?,
-            Err(ShapeFault::WrongCount),
-        ),
-        (
-            "a text as the key",
-            values_of(alloc, &[name, name, open])?,
-            Err(ShapeFault::WrongType(0)),
-        ),
-        (
-            "two of wrong types",
-            values_of(alloc, &[id, open, id])?,
-            Err(ShapeFault::WrongType(1)),
-        ),
-        (
-            "too long, then a wrong type",
-            values_of(alloc, &[id, too_long, id])?,
-            Err(ShapeFault::TextTooLong(1)),
-        ),
-        (
-            "too long where a truth stands",
-            values_of(alloc, &[id, name, too_long])?,
-            Err(ShapeFault::WrongType(2)),
-        ),
-    ] {
-        assert_eq!(rt; schema.check_row(&Row::new(cells)), answer, "at {label}");
-    }
+    assert_eq!(rt; key_answer(alloc, &[id])?, Ok(()), "fits");
+    assert_eq!(rt;
+        key_answer(alloc, &[])?,
+        Err(ShapeFault::WrongCount),
+        "none"
+    );
+    assert_eq!(rt;
+        key_answer(alloc, &[id, name, open])?,
+        Err(ShapeFault::WrongCount),
+        "a whole row"
+    );
+    assert_eq!(rt;
+        key_answer(alloc, &[open])?,
+        Err(ShapeFault::WrongType(0)),
+        "a truth"
+    );
     Ok(())
 }
 
+/// What the check of this value for a cell of the column answers.
+fn cell_answer(
+    alloc: Global,
+    col: usize,
+    cell: ValueRef,
+) -> Result<Result<(), ShapeFault>, SchemaFault> {
+    let value = cell.copy(alloc)?;
+    Ok(base_schema(alloc)?.check_cell(col, &value))
+}
+
 #[test]
-fn keys_fit_or_the_first_fault_is_named(rt: HostRuntime) -> Result<(), Fail> {
-    let schema = base_schema(rt.alloc())?;
+fn the_first_fault_of_a_cell_is_named(rt: HostRuntime) -> Result<(), Fail> {
     let alloc = rt.alloc();
-    let (id, name, open) = (
+    let (longest, too_long) = (wide_text(alloc, 2_048, "")?, wide_text(alloc, 2_048, "x")?);
+    let (number, name, open) = (
         ValueRef::Int(10),
         ValueRef::Text("Ann"),
         ValueRef::Bool(true),
     );
-    for (label, cells, answer) in [
-        ("fits", values_of(alloc, &[id])?, Ok(())),
-        ("none", values_of(alloc, &[])?, Err(ShapeFault::WrongCount)),
-        (
-            "a whole row",
-            values_of(alloc, &[id, name, open])?,
-            Err(ShapeFault::WrongCount),
-        ),
-        (
-            "a truth",
-            values_of(alloc, &[open])?,
-            Err(ShapeFault::WrongType(0)),
-        ),
-    ] {
-        assert_eq!(rt; schema.check_key(&Key::new(cells)), answer, "at {label}");
-    }
-    Ok(())
-}
-
-#[test]
-fn cells_are_set_or_the_first_fault_is_named(rt: HostRuntime) -> Result<(), Fail> {
-    let schema = base_schema(rt.alloc())?;
-    let longest = wide_text(rt.alloc(), 2_048, "")?;
-    let too_long = wide_text(rt.alloc(), 2_048, "x")?;
-    let cases: [(&str, usize, ValueRef, Result<(), ShapeFault>); 8] = [
-        ("a text", 1, ValueRef::Text("Ann"), Ok(())),
-        ("4,096 bytes", 1, ValueRef::Text(longest.as_str()), Ok(())),
-        (
-            "4,097 bytes",
-            1,
-            ValueRef::Text(too_long.as_str()),
-            Err(ShapeFault::TextTooLong(1)),
-        ),
-        ("a truth", 2, ValueRef::Bool(false), Ok(())),
-        (
-            "a number for a truth",
-            2,
-            ValueRef::Int(0),
-            Err(ShapeFault::WrongType(2)),
-        ),
-        (
-            "past the last column",
-            3,
-            ValueRef::Int(0),
-            Err(ShapeFault::NoSuchColumn),
-        ),
-        ("the key", 0, ValueRef::Int(0), Err(ShapeFault::KeyColumn)),
-        (
-            "the key, of a wrong type",
-            0,
-            ValueRef::Text("x"),
-            Err(ShapeFault::KeyColumn),
-        ),
-    ];
-    for (label, col, value, answer) in cases {
-        let value = value.copy(rt.alloc())?;
-        assert_eq!(rt; schema.check_cell(col, &value), answer, "at {label}");
-    }
+    let (longest, too_long) = (
+        ValueRef::Text(longest.as_str()),
+        ValueRef::Text(too_long.as_str()),
+    );
+    assert_eq!(rt; cell_answer(alloc, 1, name)?, Ok(()), "a text");
+    assert_eq!(rt; cell_answer(alloc, 1, longest)?, Ok(()), "4,096 bytes");
+    assert_eq!(rt;
+        cell_answer(alloc, 1, too_long)?,
+        Err(ShapeFault::TextTooLong(1)),
+        "4,097 bytes"
+    );
+    assert_eq!(rt; cell_answer(alloc, 2, open)?, Ok(()), "a truth");
+    assert_eq!(rt;
+        cell_answer(alloc, 2, number)?,
+        Err(ShapeFault::WrongType(2)),
+        "a number for a truth"
+    );
+    assert_eq!(rt;
+        cell_answer(alloc, 3, number)?,
+        Err(ShapeFault::NoSuchColumn),
+        "past the last column"
+    );
+    assert_eq!(rt;
+        cell_answer(alloc, 0, number)?,
+        Err(ShapeFault::KeyColumn),
+        "the key"
+    );
+    assert_eq!(rt;
+        cell_answer(alloc, 0, name)?,
+        Err(ShapeFault::KeyColumn),
+        "the key, of a wrong type"
+    );
     Ok(())
 }
 
