@@ -1,0 +1,58 @@
+-- How many inserts and deletes entries have, part by part.
+use Rattle.std.proofs.Common.{◌≡◌, ℕ, ◌+◌, ◌≤◌, List, [], ◌∷◌, ◌++◌, map, length, sym, ap, ◌∙◌, arith, zero-add}
+use Rattle.model.specs.declared.entry.Entry.{Entry}
+use Rattle.model.specs.declared.entry.Change.{Change}
+use Rattle.model.specs.declared.entry.Change.TheVariants.{Ins, Del, Mod}
+use Rattle.model.specs.Merging.{inserted_rows}
+use Rattle.model.specs.Places.{deleted_keys, insert_count, delete_count}
+
+abbrev pub insert_worth : Change → ℕ
+insert_worth (Ins row) = 1
+insert_worth (Del key) = 0
+insert_worth (Mod col value) = 0
+
+abbrev pub delete_worth : Change → ℕ
+delete_worth (Ins row) = 0
+delete_worth (Del key) = 1
+delete_worth (Mod col value) = 0
+
+pub insert_count-cons : (e : Entry) (es : List Entry) → insert_count (e ∷ es) ≡ insert_worth e.change + insert_count es
+insert_count-cons e es = by e.change
+  where
+    by : (c : Change) → length (inserted_rows (c ∷ map (λ x. x.change) es)) ≡ insert_worth c + insert_count es
+    by (Ins row) = omega arith
+    by (Del key) = omega arith
+    by (Mod col value) = omega arith
+
+pub delete_count-cons : (e : Entry) (es : List Entry) → delete_count (e ∷ es) ≡ delete_worth e.change + delete_count es
+delete_count-cons e es = by e.change
+  where
+    by : (c : Change) → length (deleted_keys (c ∷ map (λ x. x.change) es)) ≡ delete_worth c + delete_count es
+    by (Ins row) = omega arith
+    by (Del key) = omega arith
+    by (Mod col value) = omega arith
+
+step_add : (w a b n m : ℕ) → n ≡ w + m → m ≡ a + b → n ≡ (w + a) + b
+step_add w a b n m p q = omega arith
+
+pub insert_count-append : (xs ys : List Entry) → insert_count (xs ++ ys) ≡ insert_count xs + insert_count ys
+insert_count-append [] ys = sym (zero-add (insert_count ys))
+insert_count-append (x ∷ xs) ys =
+    step_add (insert_worth x.change) (insert_count xs) (insert_count ys) _ _ (insert_count-cons x (xs ++ ys)) (insert_count-append xs ys)
+    ∙ ap (λ n. n + insert_count ys) (sym (insert_count-cons x xs))
+
+pub delete_count-append : (xs ys : List Entry) → delete_count (xs ++ ys) ≡ delete_count xs + delete_count ys
+delete_count-append [] ys = sym (zero-add (delete_count ys))
+delete_count-append (x ∷ xs) ys =
+    step_add (delete_worth x.change) (delete_count xs) (delete_count ys) _ _ (delete_count-cons x (xs ++ ys)) (delete_count-append xs ys)
+    ∙ ap (λ n. n + delete_count ys) (sym (delete_count-cons x xs))
+
+worth_le : (c : Change) → insert_worth c + delete_worth c ≤ 1
+worth_le (Ins row) = omega arith
+worth_le (Del key) = omega arith
+worth_le (Mod col value) = omega arith
+
+-- each entry counts once at most
+pub counts-le : (es : List Entry) → insert_count es + delete_count es ≤ length es
+counts-le [] = omega arith
+counts-le (e ∷ es) = omega (arith, worth_le e.change, insert_count-cons e es, delete_count-cons e es, counts-le es)

@@ -1,0 +1,4 @@
+pub mod SearchLemmas
+pub mod CountLemmas
+pub mod ChangesLemmas
+pub mod ChangeCountLemmas

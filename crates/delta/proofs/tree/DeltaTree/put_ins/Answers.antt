@@ -1,0 +1,49 @@
+use Rattle.std.proofs.Common.{◌≡◌, ℕ, List, sym, ap, ◌∙◌, subst, arith}
+use Rattle.values.specs.Shape.{key_of}
+use Rattle.values.specs.declared.row.Key.{Key}
+use Rattle.model.specs.declared.entry.Entry.{Entry}
+use Rattle.model.specs.declared.entry.Change.TheVariants.{Ins}
+use Rattle.model.specs.Entries.{entry_at, IsLawful}
+use Rattle.model.specs.Edits.{put_ins}
+use Rattle.model.specs.Places.{insert_count, delete_count}
+use Rattle.delta.specs.Tree.{Tree}
+use Rattle.delta.specs.Search.{insert_cmp, stands_before, IsSplit}
+use Rattle.delta.specs.Changes.{with_run}
+use Rattle.delta.proofs.CountLemmas.{insert_worth, delete_worth, counts-le}
+use Rattle.delta.proofs.ChangesLemmas.{put_ins-split}
+use Rattle.delta.proofs.ChangeCountLemmas.{counts_inserts, counts_deletes, count-insert}
+use Rattle.delta.proofs.tree.DeltaTree.put_ins.Goals as goal
+
+pub overflow_add-self : goal.overflow_add-self
+overflow_add-self c = omega (arith, counts-le c.self.inside.entries.items, c.self.invariant.0.counted, c.self.invariant.1)
+
+pub returns-clause-ok : goal.returns-clause-ok
+returns-clause-ok c =
+    let t = c.args.self.now in
+    let e = entry_at c.args.sid (Ins c.args.row) in
+    let n = c.place_of_insert-place.result in
+    let width : c.self.inside.key_cols ≡ t.key_cols = ap (λ (w : Tree). w.key_cols) c.self.view_is in
+    let list : c.self.inside.entries.items ≡ t.entries = ap (λ (w : Tree). w.entries) c.self.view_is in
+    let key : c.key_of.result.now ≡ key_of t.key_cols c.args.row = c.key_of.ensures ∙ ap (λ k. key_of k c.args.row) width in
+    let split = subst (λ (k : Key). IsSplit (stands_before (insert_cmp t.key_cols k) c.args.sid) t.entries n) key c.place_of_insert-place.ensures in
+    let same : c.replace_run.new.entries.items ≡ put_ins t.key_cols c.args.sid c.args.row t.entries =
+    c.in_ok-replace_run.ensures.ok ∙ ap (λ (es : List Entry). with_run es n n e) list ∙ sym (put_ins-split t.key_cols c.args.sid c.args.row t.entries n split c.requires.free) in
+    λ i. record { key_cols = width i; entries = same i }
+
+pub invariant_of-self-2 : goal.invariant_of-self-2
+invariant_of-self-2 c =
+    let t = c.args.self.now in
+    let e = entry_at c.args.sid (Ins c.args.row) in
+    let n = c.place_of_insert-place.result in
+    let es = c.self.inside.entries.items in
+    let width : c.self.inside.key_cols ≡ t.key_cols = ap (λ (w : Tree). w.key_cols) c.self.view_is in
+    let list : es ≡ t.entries = ap (λ (w : Tree). w.entries) c.self.view_is in
+    let key : c.key_of.result.now ≡ key_of t.key_cols c.args.row = c.key_of.ensures ∙ ap (λ k. key_of k c.args.row) width in
+    let split = subst (λ (k : Key). IsSplit (stands_before (insert_cmp t.key_cols k) c.args.sid) t.entries n) key c.place_of_insert-place.ensures in
+    let new = c.replace_run.new.entries.items in
+    let same : new ≡ put_ins t.key_cols c.args.sid c.args.row t.entries =
+    c.in_ok-replace_run.ensures.ok ∙ ap (λ (xs : List Entry). with_run xs n n e) list ∙ sym (put_ins-split t.key_cols c.args.sid c.args.row t.entries n split c.requires.free) in
+    let lawful : IsLawful c.self.inside.key_cols new = subst (λ (k : ℕ). IsLawful k new) (sym width) (subst (λ (xs : List Entry). IsLawful t.key_cols xs) (sym same) c.requires.lawful) in
+    let inserts = ap insert_count c.in_ok-replace_run.ensures.ok ∙ count-insert insert_count insert_worth counts_inserts es n e in
+    let deletes = ap delete_count c.in_ok-replace_run.ensures.ok ∙ count-insert delete_count delete_worth counts_deletes es n e in
+    (lawful, omega (arith, inserts, c.self.invariant.1), omega (arith, deletes, c.self.invariant.2))

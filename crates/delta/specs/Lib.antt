@@ -1,0 +1,4 @@
+pub mod Tree
+pub mod Lookups
+pub mod Search
+pub mod Changes

@@ -1,0 +1,155 @@
+//! The changes of a tree: an insert, a delete or a modify that comes, changes or goes.
+ghost use Rattle.std.specs.Prelude.{◌≡◌, ◌<◌, ◌≤◌, IsFalse, IsNone, IsSome, IsSomeAnd, OnOk, OnErr, drop, length, vec_len};
+ghost use Rattle.values.specs.Shape.{key_of};
+ghost use Rattle.model.specs.Entries.{entry_at, IsLawful};
+ghost use Rattle.model.specs.Edits.{change_with_cell, put_ins, put_del, put_mod, take_ins, set_ins};
+ghost use Rattle.delta.specs.Lookups.{has_delete, inserted_row};
+ghost use Rattle.delta.specs.Changes.{is_modify_at, modify_count, has_cell, with_run};
+
+use crate::sorted::key_of;
+use crate::tree::DeltaTree;
+use model::{Change, Entry};
+use values::{Key, NoMemory, Row, Value};
+
+impl DeltaTree {
+    /// Puts in an insert of the row, after those of smaller keys at its SID.
+    ///
+    /// # Errors
+    ///
+    /// `NoMemory` where a growth is refused: the tree is as it was, and the row is dropped.
+    pub fn put_ins(&mut self, sid: u64, row: Row) -> Result<(), NoMemory>
+        requires free { IsNone (inserted_row self.old.key_cols sid (key_of self.old.key_cols row) self.old.entries) }
+        requires lawful { IsLawful self.old.key_cols (put_ins self.old.key_cols sid row self.old.entries) }
+        ensures ok { OnOk result (self.new ≡ record self.old { entries = put_ins self.old.key_cols sid row self.old.entries }) }
+        ensures err { OnErr result (self.new ≡ self.old) }
+    {
+        let place = self.place_of_insert(sid, key_of(self.key_cols, &row));
+        let change = Change::Ins(row);
+        replace_run(&mut self.entries, place, place, Entry { sid, change })?;
+        self.inserts += 1;
+        Ok(())
+    }
+
+    /// Puts in a delete of the base row at the SID, which has this key. The modifies of that row go away.
+    ///
+    /// # Errors
+    ///
+    /// `NoMemory` where a growth is refused: the tree is as it was, and the key is dropped.
+    pub fn put_del(&mut self, sid: u64, key: Key) -> Result<(), NoMemory>
+        requires free { IsFalse (has_delete sid self.old.entries) }
+        requires lawful { IsLawful self.old.key_cols (put_del self.old.key_cols sid key self.old.entries) }
+        ensures ok { OnOk result (self.new ≡ record self.old { entries = put_del self.old.key_cols sid key self.old.entries }) }
+        ensures err { OnErr result (self.new ≡ self.old) }
+    {
+        let place = self.place_of_base(sid);
+        let end = self.place_past(sid);
+        let change = Change::Del(key);
+        replace_run(&mut self.entries, place, end, Entry { sid, change })?;
+        self.deletes += 1;
+        Ok(())
+    }
+
+    /// Puts in a modify of a column of the base row at the SID, in place of one that is there.
+    ///
+    /// # Errors
+    ///
+    /// `NoMemory` where a growth is refused: the tree is as it was, and the value is dropped.
+    pub fn put_mod(&mut self, sid: u64, col: usize, value: Value) -> Result<(), NoMemory>
+        requires free { IsFalse (has_delete sid self.old.entries) }
+        requires lawful { IsLawful self.old.key_cols (put_mod self.old.key_cols sid col value self.old.entries) }
+        ensures ok { OnOk result (self.new ≡ record self.old { entries = put_mod self.old.key_cols sid col value self.old.entries }) }
+        ensures err { OnErr result (self.new ≡ self.old) }
+    {
+        let place = self.place_of_modify(sid, col);
+        let end = place + self.modifies_at(place, sid, col);
+        let change = Change::Mod(col, value);
+        replace_run(&mut self.entries, place, end, Entry { sid, change })?;
+        Ok(())
+    }
+
+    /// Takes the insert of this key at the SID away. It takes no memory.
+    ///
+    /// # Errors
+    ///
+    /// None today; a tree whose nodes are shared has to copy some of them.
+    pub fn take_ins(&mut self, sid: u64, key: &Key) -> Result<(), NoMemory>
+        requires there { IsSome (inserted_row self.old.key_cols sid key.now self.old.entries) }
+        requires lawful { IsLawful self.old.key_cols (take_ins self.old.key_cols sid key.now self.old.entries) }
+        ensures ok { OnOk result (self.new ≡ record self.old { entries = take_ins self.old.key_cols sid key.now self.old.entries }) }
+        ensures err { OnErr result (self.new ≡ self.old) }
+    {
+        let place = self.place_of_insert(sid, key.cells());
+        drop(self.entries.remove(place));
+        self.inserts -= 1;
+        Ok(())
+    }
+
+    /// Puts another value into a cell of the row that is inserted with this key at the SID. It takes no memory.
+    ///
+    /// # Errors
+    ///
+    /// None today; a tree whose nodes are shared has to copy some of them.
+    pub fn set_ins(&mut self, sid: u64, key: &Key, col: usize, value: Value) -> Result<(), NoMemory>
+        requires there { IsSomeAnd (inserted_row self.old.key_cols sid key.now self.old.entries) (λ row. col < length row) }
+        requires outside_key { self.old.key_cols ≤ col }
+        requires lawful { IsLawful self.old.key_cols (set_ins self.old.key_cols sid key.now col value self.old.entries) }
+        ensures ok { OnOk result (self.new ≡ record self.old { entries = set_ins self.old.key_cols sid key.now col value self.old.entries }) }
+        ensures err { OnErr result (self.new ≡ self.old) }
+    {
+        let place = self.place_of_insert(sid, key.cells());
+        set_cell(&mut self.entries[place], col, value);
+        Ok(())
+    }
+
+    /// How many of the entries from `place` on are the modify of this column at the SID: one or none.
+    fn modifies_at(&self, place: usize, sid: u64, col: usize) -> usize
+        ensures { result ≡ modify_count sid col (drop place self.now.entries) }
+    {
+        match self.entries.get(place) {
+            Some(entry) if is_modify_at(entry, sid, col) => 1,
+            _ => 0,
+        }
+    }
+}
+
+/// Whether the entry is a modify of the column at the SID.
+fn is_modify_at(entry: &Entry, sid: u64, col: usize) -> bool
+    ensures { result ≡ is_modify_at sid col entry.now }
+{
+    match &entry.change {
+        Change::Mod(other, _) => entry.sid == sid && *other == col,
+        _ => false,
+    }
+}
+
+/// Puts another value into a cell of the row that the entry inserts.
+fn set_cell(entry: &mut Entry, col: usize, value: Value)
+    requires { has_cell col entry.old.change }
+    ensures { entry.new ≡ entry_at entry.old.sid (change_with_cell col value entry.old.change) }
+{
+    if let Change::Ins(row) = &mut entry.change {
+        row.set(col, value);
+    }
+}
+
+/// Puts the entry in the place of those from `start` up to `end`. Where there are some, their room serves, and nothing
+/// is refused.
+fn replace_run(
+    entries: &mut Vec<Entry>,
+    start: usize,
+    end: usize,
+    entry: Entry,
+) -> Result<(), NoMemory>
+    requires start_le_end { start ≤ end }
+    requires within { end ≤ vec_len entries.old }
+    ensures ok { OnOk result (entries.new.items ≡ with_run entries.old.items start end entry) }
+    ensures err { OnErr result (entries.new.items ≡ entries.old.items) }
+{
+    if start < end {
+        entries[start] = entry;
+        drop(entries.drain(start + 1..end));
+    } else {
+        entries.insert(start, entry)?;
+    }
+    Ok(())
+}

@@ -1,0 +1,15 @@
+//! Delta trees: the entries of a transaction, or of a layer, over the rows of the image below it (Héman et al. 2010,
+//! "Positional Delta Tree").
+//!
+//! A contract sees a tree as its lawful list of entries: in ascending SID, at one SID the inserts by key and then
+//! either one delete or the modifies by column. It stands on `values` and `model`.
+#![tactic(auto)]
+
+mod changes;
+mod entries;
+mod sorted;
+mod tree;
+
+pub use entries::Iter;
+pub use model::{Change, Entry};
+pub use tree::DeltaTree;

@@ -1,0 +1,98 @@
+//! Binary search in the entries of a tree: by SID, and among those of one SID by what the change is.
+ghost use Rattle.std.specs.Prelude.{◌≡◌};
+ghost use Rattle.values.specs.Shape.{key_of};
+ghost use Rattle.delta.specs.Search.{insert_cmp, base_cmp, modify_cmp, past_cmp, stands_before, IsSplit};
+
+use crate::tree::DeltaTree;
+use model::Change;
+use std::cmp::Ordering;
+use values::{Row, Value};
+
+impl DeltaTree {
+    /// How many entries stand before the inserts of this key, or a greater one, at the SID.
+    pub(crate) fn place_of_insert(&self, sid: u64, key: &[Value]) -> usize
+        ensures { IsSplit (stands_before (insert_cmp self.now.key_cols key.now) sid) self.now.entries result }
+    {
+        let key_cols = self.key_cols;
+        self.entries.as_slice().partition_point(|entry| {
+            sid.cmp(&entry.sid)
+                .then(compare_insert(key_cols, key, &entry.change))
+                .is_gt()
+        })
+    }
+
+    /// How many entries stand before the delete, or the modifies, at the SID.
+    pub(crate) fn place_of_base(&self, sid: u64) -> usize
+        ensures { IsSplit (stands_before base_cmp sid) self.now.entries result }
+    {
+        self.entries.as_slice().partition_point(|entry| {
+            sid.cmp(&entry.sid)
+                .then(compare_base(&entry.change))
+                .is_gt()
+        })
+    }
+
+    /// How many entries stand at SIDs up to this one.
+    pub(crate) fn place_past(&self, sid: u64) -> usize
+        ensures { IsSplit (stands_before past_cmp sid) self.now.entries result }
+    {
+        self.entries.as_slice().partition_point(|entry| sid
+            .cmp(&entry.sid)
+            .then(Ordering::Greater)
+            .is_gt())
+    }
+
+    /// How many entries stand before the modifies of this column, or a greater one, at the SID.
+    pub(crate) fn place_of_modify(&self, sid: u64, col: usize) -> usize
+        ensures { IsSplit (stands_before (modify_cmp col) sid) self.now.entries result }
+    {
+        self.entries.as_slice().partition_point(|entry| {
+            sid.cmp(&entry.sid)
+                .then(compare_modify(col, &entry.change))
+                .is_gt()
+        })
+    }
+}
+
+/// The key of a row: its first `key_cols` cells.
+pub(crate) fn key_of(key_cols: usize, row: &Row) -> &[Value]
+    ensures { result.now ≡ key_of key_cols row.now }
+{
+    let cells = row.cells();
+    if key_cols < cells.len() {
+        &cells[..key_cols]
+    } else {
+        cells
+    }
+}
+
+/// How an insert of the key stands to a change at its SID.
+pub(crate) fn compare_insert(key_cols: usize, key: &[Value], change: &Change) -> Ordering
+    ensures { result ≡ insert_cmp key_cols key.now change.now }
+{
+    match change {
+        Change::Ins(row) => key.cmp(key_of(key_cols, row)),
+        _ => Ordering::Less,
+    }
+}
+
+/// How what becomes of the base row stands to a change at its SID.
+fn compare_base(change: &Change) -> Ordering
+    ensures { result ≡ base_cmp change.now }
+{
+    match change {
+        Change::Ins(_) => Ordering::Greater,
+        _ => Ordering::Equal,
+    }
+}
+
+/// How a modify of the column stands to a change at its SID.
+fn compare_modify(col: usize, change: &Change) -> Ordering
+    ensures { result ≡ modify_cmp col change.now }
+{
+    match change {
+        Change::Ins(_) => Ordering::Greater,
+        Change::Del(_) => Ordering::Equal,
+        Change::Mod(other, _) => col.cmp(other),
+    }
+}
