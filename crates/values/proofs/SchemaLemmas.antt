@@ -1,12 +1,12 @@
 -- Names of columns, one after the other.
-use Rattle.std.proofs.Common.{◌≡◌, ◌<◌, ◌+◌, ◌-◌, ℕ, suc, Bool, cond, Option, Some, List, [], ◌∷◌, ◌||◌, ◌∙◌, sym, get_or, ap, refl, arith, length, take, slice_get, string_bytes, nat_eq}
+use Rattle.std.proofs.Common.{◌≡◌, ◌<◌, ◌+◌, ◌-◌, ℕ, suc, Bool, cond, Some, List, [], ◌∷◌, ◌||◌, ◌∙◌, sym, get_or, ap, refl, arith, length, take, slice_get, string_bytes, nat_eq}
 use Rattle.std.specs.Prelude.{map, find, unwrap_or}
 use Rattle.std.specs.List.{list_any, range_with_len}
 use Rattle.std.specs.Option.{option_map}
 use Rattle.std.specs.Cmp.Lexicographic.{pointwise}
 use Rattle.std.proofs.lemmas.List.{take-map}
 use Rattle.std.proofs.lemmas.Option.{slice_get-map, slice_get-get_or}
-use Rattle.values.specs.Shape.{Column, names_of, name_at, stands_before, is_among}
+use Rattle.values.specs.Shape.{Column, names_of, name_at, stands_before}
 
 -- a test of what a function makes is a test of what it is made of
 pub list_any-map : {X Y : Type 0} (p : Y → Bool) (f : X → Y) (xs : List X) → list_any p (map f xs) ≡ list_any (λ x. p (f x)) xs

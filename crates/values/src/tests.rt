@@ -5,16 +5,18 @@ use super::*;
 use std::alloc::Global;
 use std::test::Fail;
 
-/// As many names as a table may have columns, and one more.
-const NAMES: [&str; 33] = [
-    "0", "1", "2", "3", "4", "5", "6", "7", "8", "9", "10", "11", "12", "13", "14", "15", "16",
-    "17", "18", "19", "20", "21", "22", "23", "24", "25", "26", "27", "28", "29", "30", "31", "32",
-];
+/// As many names as a table may have columns, a line each.
+const WIDEST: &str =
+    "0\n1\n2\n3\n4\n5\n6\n7\n8\n9\n10\n11\n12\n13\n14\n15\n16\n17\n18\n19\n20\n21\n22\n23\n24\n25\n26\n27\n28\n29\n30\n31\n";
 
-/// Columns of numbers.
-fn numbers(alloc: Global, names: &[&str]) -> Result<Vec<(String, ColumnType)>, NoMemory> {
+/// One name more.
+const TOO_WIDE: &str =
+    "0\n1\n2\n3\n4\n5\n6\n7\n8\n9\n10\n11\n12\n13\n14\n15\n16\n17\n18\n19\n20\n21\n22\n23\n24\n25\n26\n27\n28\n29\n30\n31\n32\n";
+
+/// Columns of numbers, named by the lines.
+fn numbers(alloc: Global, names: &str) -> Result<Vec<(String, ColumnType)>, NoMemory> {
     let mut cols = Vec::new(alloc);
-    for name in names {
+    for name in names.lines() {
         cols.push((String::from_str(alloc, name)?, ColumnType::Int))?;
     }
     Ok(cols)
@@ -34,6 +36,49 @@ fn base_schema(alloc: Global) -> Result<Schema, SchemaFault> {
     Schema::new(alloc, cols, 1)
 }
 
+/// What stands in a cell of a case.
+#[derive(Clone, Copy)]
+enum Given {
+    Number,
+    Name,
+    Truth,
+    /// 4,096 bytes, in 2,048 characters.
+    Longest,
+    /// 4,097 bytes, in 2,049 characters.
+    TooLong,
+}
+
+fn cell(alloc: Global, given: Given) -> Result<Value, NoMemory> {
+    match given {
+        Given::Number => ValueRef::Int(10).copy(alloc),
+        Given::Name => ValueRef::Text("Ann").copy(alloc),
+        Given::Truth => ValueRef::Bool(true).copy(alloc),
+        Given::Longest => Ok(Value::Text(Text::new(wide(alloc)?))),
+        Given::TooLong => {
+            let mut text = wide(alloc)?;
+            text.push_str("x")?;
+            Ok(Value::Text(Text::new(text)))
+        }
+    }
+}
+
+/// 2,048 characters of two bytes each.
+fn wide(alloc: Global) -> Result<String, NoMemory> {
+    let mut text = String::new(alloc);
+    for _ in 0..2_048 {
+        text.push_str("é")?;
+    }
+    Ok(text)
+}
+
+fn cells(alloc: Global, given: &[Given]) -> Result<Vec<Value>, NoMemory> {
+    let mut values = Vec::new(alloc);
+    for one in given {
+        values.push(cell(alloc, *one)?)?;
+    }
+    Ok(values)
+}
+
 fn values_of(alloc: Global, lent: &[ValueRef]) -> Result<Vec<Value>, NoMemory> {
     let mut values = Vec::new(alloc);
     for value in lent {
@@ -42,93 +87,65 @@ fn values_of(alloc: Global, lent: &[ValueRef]) -> Result<Vec<Value>, NoMemory> {
     Ok(values)
 }
 
-/// A text of `pairs` characters of two bytes each, and then the rest.
-fn wide_text(alloc: Global, pairs: usize, rest: &str) -> Result<String, NoMemory> {
-    let mut text = String::new(alloc);
-    for _ in 0..pairs {
-        text.push_str("é")?;
-    }
-    text.push_str(rest)?;
-    Ok(text)
-}
-
-/// The fault of columns of numbers by these names.
-fn fault_of(
-    alloc: Global,
-    names: &[&str],
-    key_cols: usize,
-) -> Result<Option<SchemaFault>, NoMemory> {
-    match Schema::new(alloc, numbers(alloc, names)?, key_cols) {
-        Err(SchemaFault::NoMemory) => Err(NoMemory),
-        answer => Ok(answer.err()),
-    }
-}
-
 #[test]
 fn the_first_fault_of_columns_is_named(rt: HostRuntime) -> Result<(), Fail> {
-    let alloc = rt.alloc();
-    let none = Some(SchemaFault::NoColumns);
-    assert_eq!(rt; fault_of(alloc, &[], 1)?, none, "no columns");
-    assert_eq!(rt; fault_of(alloc, &[], 0)?, none, "no columns and no key");
-    let too_many = Some(SchemaFault::TooManyColumns);
-    assert_eq!(rt; fault_of(alloc, &NAMES, 1)?, too_many, "33 columns");
-    assert_eq!(rt;
-        fault_of(alloc, &NAMES, 0)?,
-        too_many,
-        "33 columns and no key"
-    );
-    let bad_key = Some(SchemaFault::BadKeyCount);
-    assert_eq!(rt; fault_of(alloc, &["a"], 0)?, bad_key, "no key");
-    assert_eq!(rt; fault_of(alloc, &NAMES[..5], 5)?, bad_key, "5 key columns");
-    assert_eq!(rt;
-        fault_of(alloc, &["a", "b"], 3)?,
-        bad_key,
-        "a key above the columns"
-    );
-    assert_eq!(rt;
-        fault_of(alloc, &["a", "a"], 3)?,
-        bad_key,
-        "a bad key and a name twice"
-    );
-    let second = Some(SchemaFault::RepeatedName(1));
-    assert_eq!(rt;
-        fault_of(alloc, &["a", "a", "a"], 1)?,
-        second,
-        "a name thrice"
-    );
-    let third = Some(SchemaFault::RepeatedName(2));
-    assert_eq!(rt;
-        fault_of(alloc, &["a", "b", "a"], 1)?,
-        third,
-        "the first name twice"
-    );
-    assert_eq!(rt;
-        fault_of(alloc, &["a", "b", "b", "a"], 1)?,
-        third,
-        "two names twice"
-    );
-    assert_eq!(rt;
-        fault_of(alloc, &["", "a", ""], 2)?,
-        third,
-        "the empty name twice"
-    );
-    Ok(())
-}
-
-#[test]
-fn the_widest_and_the_narrowest_columns_have_no_fault(rt: HostRuntime) -> Result<(), Fail> {
-    let alloc = rt.alloc();
-    assert_eq!(rt;
-        fault_of(alloc, &NAMES[..32], 4)?,
-        None,
-        "32 columns, 4 of them the key"
-    );
-    assert_eq!(rt; fault_of(alloc, &[""], 1)?, None, "one column of no name");
-    assert_eq!(rt;
-        fault_of(alloc, &["a", "A"], 2)?,
-        None,
-        "nothing but the key, two cases"
-    );
+    for (label, names, key_cols, fault) in [
+        ("no columns", "", 1, Some(SchemaFault::NoColumns)),
+        ("no columns and no key", "", 0, Some(SchemaFault::NoColumns)),
+        ("33 columns", TOO_WIDE, 1, Some(SchemaFault::TooManyColumns)),
+        (
+            "33 columns, no key",
+            TOO_WIDE,
+            0,
+            Some(SchemaFault::TooManyColumns),
+        ),
+        ("no key", "a\n", 0, Some(SchemaFault::BadKeyCount)),
+        ("5 key columns", WIDEST, 5, Some(SchemaFault::BadKeyCount)),
+        (
+            "a key above the columns",
+            "a\nb\n",
+            3,
+            Some(SchemaFault::BadKeyCount),
+        ),
+        (
+            "a bad key, a name twice",
+            "a\na\n",
+            3,
+            Some(SchemaFault::BadKeyCount),
+        ),
+        (
+            "a name thrice",
+            "a\na\na\n",
+            1,
+            Some(SchemaFault::RepeatedName(1)),
+        ),
+        (
+            "the first name twice",
+            "a\nb\na\n",
+            1,
+            Some(SchemaFault::RepeatedName(2)),
+        ),
+        (
+            "two names twice",
+            "a\nb\nb\na\n",
+            1,
+            Some(SchemaFault::RepeatedName(2)),
+        ),
+        (
+            "the empty name twice",
+            "\na\n\n",
+            2,
+            Some(SchemaFault::RepeatedName(2)),
+        ),
+        ("32 columns, 4 key columns", WIDEST, 4, None),
+        ("one column of no name", "\n", 1, None),
+        ("nothing but the key, names in two cases", "a\nA\n", 2, None),
+    ] {
+        match Schema::new(rt.alloc(), numbers(rt.alloc(), names)?, key_cols) {
+            Err(SchemaFault::NoMemory) => return Err(Fail::from(NoMemory)),
+            answer => assert_eq!(rt; answer.err(), fault, "at {label}"),
+        }
+    }
     Ok(())
 }
 
@@ -151,152 +168,109 @@ fn a_schema_and_its_copy_show_the_columns(rt: HostRuntime) -> Result<(), Fail> {
     Ok(())
 }
 
-/// What the check of these cells as a row answers.
-fn row_answer(alloc: Global, cells: &[ValueRef]) -> Result<Result<(), ShapeFault>, SchemaFault> {
-    let row = Row::new(values_of(alloc, cells)?);
-    Ok(base_schema(alloc)?.check_row(&row))
-}
-
 #[test]
 fn the_first_fault_of_a_row_is_named(rt: HostRuntime) -> Result<(), Fail> {
-    let alloc = rt.alloc();
-    let (longest, too_long) = (wide_text(alloc, 2_048, "")?, wide_text(alloc, 2_048, "x")?);
-    assert_eq!(rt; (longest.len(), too_long.len()), (4_096, 4_097));
-    let (id, name, open) = (
-        ValueRef::Int(10),
-        ValueRef::Text("Ann"),
-        ValueRef::Bool(true),
-    );
-    let (longest, too_long) = (
-        ValueRef::Text(longest.as_str()),
-        ValueRef::Text(too_long.as_str()),
-    );
-    assert_eq!(rt; row_answer(alloc, &[id, name, open])?, Ok(()), "fits");
-    assert_eq!(rt;
-        row_answer(alloc, &[id, longest, open])?,
-        Ok(()),
-        "4,096 bytes"
-    );
-    let fault = Err(ShapeFault::TextTooLong(1));
-    assert_eq!(rt;
-        row_answer(alloc, &[id, too_long, open])?,
-        fault,
-        "2,049 characters, 4,097 bytes"
-    );
-    assert_eq!(rt;
-        row_answer(alloc, &[id, too_long, id])?,
-        fault,
-        "too long, then a wrong type"
-    );
-    let fault = Err(ShapeFault::WrongCount);
-    assert_eq!(rt; row_answer(alloc, &[id, name])?, fault, "too few");
-    assert_eq!(rt;
-        row_answer(alloc, &[name, id, id, id])?,
-        fault,
-        "too many, and wrong types"
-    );
-    assert_eq!(rt;
-        row_answer(alloc, &[name, name, open])?,
-        Err(ShapeFault::WrongType(0)),
-        "a text as the key"
-    );
-    assert_eq!(rt;
-        row_answer(alloc, &[id, open, id])?,
-        Err(ShapeFault::WrongType(1)),
-        "two wrong types"
-    );
-    assert_eq!(rt;
-        row_answer(alloc, &[id, name, too_long])?,
-        Err(ShapeFault::WrongType(2)),
-        "a long text for a truth"
-    );
+    use Given::{Longest, Name, Number, TooLong, Truth};
+    let schema = base_schema(rt.alloc())?;
+    let cases: [(&str, &[Given], Result<(), ShapeFault>); 9] = [
+        ("fits", &[Number, Name, Truth], Ok(())),
+        ("4,096 bytes", &[Number, Longest, Truth], Ok(())),
+        (
+            "4,097 bytes",
+            &[Number, TooLong, Truth],
+            Err(ShapeFault::TextTooLong(1)),
+        ),
+        (
+            "too long, then wrong",
+            &[Number, TooLong, Name],
+            Err(ShapeFault::TextTooLong(1)),
+        ),
+        ("too few", &[Number, Name], Err(ShapeFault::WrongCount)),
+        (
+            "too many, and wrong",
+            &[Name, Name, Name, Name],
+            Err(ShapeFault::WrongCount),
+        ),
+        (
+            "a text as the key",
+            &[Name, Name, Truth],
+            Err(ShapeFault::WrongType(0)),
+        ),
+        (
+            "two wrong types",
+            &[Number, Truth, Number],
+            Err(ShapeFault::WrongType(1)),
+        ),
+        (
+            "a long text for a truth",
+            &[Number, Name, TooLong],
+            Err(ShapeFault::WrongType(2)),
+        ),
+    ];
+    for (label, given, answer) in cases {
+        let row = Row::new(cells(rt.alloc(), given)?);
+        assert_eq!(rt; schema.check_row(&row), answer, "at {label}");
+    }
     Ok(())
-}
-
-/// What the check of these cells as a key answers.
-fn key_answer(alloc: Global, cells: &[ValueRef]) -> Result<Result<(), ShapeFault>, SchemaFault> {
-    let key = Key::new(values_of(alloc, cells)?);
-    Ok(base_schema(alloc)?.check_key(&key))
 }
 
 #[test]
 fn the_first_fault_of_a_key_is_named(rt: HostRuntime) -> Result<(), Fail> {
-    let alloc = rt.alloc();
-    let (id, name, open) = (
-        ValueRef::Int(10),
-        ValueRef::Text("Ann"),
-        ValueRef::Bool(true),
-    );
-    assert_eq!(rt; key_answer(alloc, &[id])?, Ok(()), "fits");
-    assert_eq!(rt;
-        key_answer(alloc, &[])?,
-        Err(ShapeFault::WrongCount),
-        "none"
-    );
-    assert_eq!(rt;
-        key_answer(alloc, &[id, name, open])?,
-        Err(ShapeFault::WrongCount),
-        "a whole row"
-    );
-    assert_eq!(rt;
-        key_answer(alloc, &[open])?,
-        Err(ShapeFault::WrongType(0)),
-        "a truth"
-    );
+    use Given::{Name, Number, Truth};
+    let schema = base_schema(rt.alloc())?;
+    let cases: [(&str, &[Given], Result<(), ShapeFault>); 4] = [
+        ("fits", &[Number], Ok(())),
+        ("none", &[], Err(ShapeFault::WrongCount)),
+        (
+            "a whole row",
+            &[Number, Name, Truth],
+            Err(ShapeFault::WrongCount),
+        ),
+        ("a truth", &[Truth], Err(ShapeFault::WrongType(0))),
+    ];
+    for (label, given, answer) in cases {
+        let key = Key::new(cells(rt.alloc(), given)?);
+        assert_eq!(rt; schema.check_key(&key), answer, "at {label}");
+    }
     Ok(())
-}
-
-/// What the check of this value for a cell of the column answers.
-fn cell_answer(
-    alloc: Global,
-    col: usize,
-    cell: ValueRef,
-) -> Result<Result<(), ShapeFault>, SchemaFault> {
-    let value = cell.copy(alloc)?;
-    Ok(base_schema(alloc)?.check_cell(col, &value))
 }
 
 #[test]
 fn the_first_fault_of_a_cell_is_named(rt: HostRuntime) -> Result<(), Fail> {
-    let alloc = rt.alloc();
-    let (longest, too_long) = (wide_text(alloc, 2_048, "")?, wide_text(alloc, 2_048, "x")?);
-    let (number, name, open) = (
-        ValueRef::Int(10),
-        ValueRef::Text("Ann"),
-        ValueRef::Bool(true),
-    );
-    let (longest, too_long) = (
-        ValueRef::Text(longest.as_str()),
-        ValueRef::Text(too_long.as_str()),
-    );
-    assert_eq!(rt; cell_answer(alloc, 1, name)?, Ok(()), "a text");
-    assert_eq!(rt; cell_answer(alloc, 1, longest)?, Ok(()), "4,096 bytes");
-    assert_eq!(rt;
-        cell_answer(alloc, 1, too_long)?,
-        Err(ShapeFault::TextTooLong(1)),
-        "4,097 bytes"
-    );
-    assert_eq!(rt; cell_answer(alloc, 2, open)?, Ok(()), "a truth");
-    assert_eq!(rt;
-        cell_answer(alloc, 2, number)?,
-        Err(ShapeFault::WrongType(2)),
-        "a number for a truth"
-    );
-    assert_eq!(rt;
-        cell_answer(alloc, 3, number)?,
-        Err(ShapeFault::NoSuchColumn),
-        "past the last column"
-    );
-    assert_eq!(rt;
-        cell_answer(alloc, 0, number)?,
-        Err(ShapeFault::KeyColumn),
-        "the key"
-    );
-    assert_eq!(rt;
-        cell_answer(alloc, 0, name)?,
-        Err(ShapeFault::KeyColumn),
-        "the key, of a wrong type"
-    );
+    let schema = base_schema(rt.alloc())?;
+    for (label, col, given, answer) in [
+        ("a text", 1, Given::Name, Ok(())),
+        ("4,096 bytes", 1, Given::Longest, Ok(())),
+        (
+            "4,097 bytes",
+            1,
+            Given::TooLong,
+            Err(ShapeFault::TextTooLong(1)),
+        ),
+        ("a truth", 2, Given::Truth, Ok(())),
+        (
+            "a number for a truth",
+            2,
+            Given::Number,
+            Err(ShapeFault::WrongType(2)),
+        ),
+        (
+            "past the last column",
+            3,
+            Given::Number,
+            Err(ShapeFault::NoSuchColumn),
+        ),
+        ("the key", 0, Given::Number, Err(ShapeFault::KeyColumn)),
+        (
+            "the key, of a wrong type",
+            0,
+            Given::Name,
+            Err(ShapeFault::KeyColumn),
+        ),
+    ] {
+        let value = cell(rt.alloc(), given)?;
+        assert_eq!(rt; schema.check_cell(col, &value), answer, "at {label}");
+    }
     Ok(())
 }
 
@@ -359,68 +333,59 @@ fn keys_ascend_column_by_column(rt: HostRuntime) -> Result<(), Fail> {
 }
 
 #[test]
-fn copies_hold_the_same_and_give_it_back(rt: HostRuntime) -> Result<(), Fail> {
-    let lent = [
-        ValueRef::Int(10),
-        ValueRef::Text("Ann"),
-        ValueRef::Bool(true),
-    ];
-    let row = Row::new(values_of(rt.alloc(), &lent)?);
-    let key = Key::new(values_of(rt.alloc(), &lent)?);
-    assert_eq!(rt; row.copy()?.cells(), key.copy()?.cells());
-    assert_eq!(rt; key.copy()? == key, true);
-    let cells = row.into_cells();
-    assert_eq!(rt; cells.as_slice(), key.into_cells().as_slice());
-    for (value, lent) in cells.iter().zip(lent.iter()) {
-        assert_eq!(rt; value.copy()?.as_ref() == *lent, true);
+fn a_copied_row_or_key_holds_the_same_and_gives_it_back(rt: HostRuntime) -> Result<(), Fail> {
+    let given = [Given::Number, Given::Name, Given::Truth];
+    let row = Row::new(cells(rt.alloc(), &given)?).copy()?;
+    let key = Key::new(cells(rt.alloc(), &given)?).copy()?;
+    assert_eq!(rt; row.cells(), key.cells());
+    assert_eq!(rt; row.into_cells().as_slice(), key.into_cells().as_slice());
+    Ok(())
+}
+
+#[test]
+fn a_copied_value_says_the_same(rt: HostRuntime) -> Result<(), Fail> {
+    for given in [Given::Number, Given::Name, Given::Truth, Given::TooLong] {
+        let value = cell(rt.alloc(), given)?;
+        let copied = value.copy()?;
+        assert!(rt; copied == value);
+        assert!(rt; copied.as_ref() == value.as_ref());
     }
-    let text = Text::new(String::from_str(rt.alloc(), "Ann")?);
-    assert_eq!(rt; text.copy()?.as_str(), "Ann");
+    Ok(())
+}
+
+#[test]
+fn a_copied_text_gives_the_string_back(rt: HostRuntime) -> Result<(), Fail> {
+    let text = Text::new(String::from_str(rt.alloc(), "Ann")?).copy()?;
+    assert_eq!(rt; text.as_str(), "Ann");
     assert_eq!(rt; text.into_string().as_str(), "Ann");
     Ok(())
 }
 
 #[test]
-fn faults_show_as_their_names_and_numbers(rt: HostRuntime) -> Result<(), Fail> {
-    let alloc = rt.alloc();
-    for (shown, want) in [
-        (format!(in alloc; "{NoMemory}")?, "NoMemory"),
-        (
-            format!(in alloc; "{}", SchemaFault::NoColumns)?,
-            "NoColumns",
-        ),
-        (
-            format!(in alloc; "{}", SchemaFault::TooManyColumns)?,
-            "TooManyColumns",
-        ),
-        (
-            format!(in alloc; "{}", SchemaFault::BadKeyCount)?,
-            "BadKeyCount",
-        ),
-        (
-            format!(in alloc; "{}", SchemaFault::RepeatedName(31))?,
-            "RepeatedName 31",
-        ),
-        (format!(in alloc; "{}", SchemaFault::NoMemory)?, "NoMemory"),
-        (
-            format!(in alloc; "{}", ShapeFault::WrongCount)?,
-            "WrongCount",
-        ),
-        (
-            format!(in alloc; "{}", ShapeFault::WrongType(0))?,
-            "WrongType 0",
-        ),
-        (
-            format!(in alloc; "{}", ShapeFault::TextTooLong(7))?,
-            "TextTooLong 7",
-        ),
-        (
-            format!(in alloc; "{}", ShapeFault::NoSuchColumn)?,
-            "NoSuchColumn",
-        ),
-        (format!(in alloc; "{}", ShapeFault::KeyColumn)?, "KeyColumn"),
+fn schema_faults_show_as_their_names_and_numbers(rt: HostRuntime) -> Result<(), Fail> {
+    for (fault, want) in [
+        (SchemaFault::NoColumns, "NoColumns"),
+        (SchemaFault::TooManyColumns, "TooManyColumns"),
+        (SchemaFault::BadKeyCount, "BadKeyCount"),
+        (SchemaFault::RepeatedName(31), "RepeatedName 31"),
+        (SchemaFault::NoMemory, "NoMemory"),
     ] {
-        assert_eq!(rt; shown.as_str(), want);
+        assert_eq!(rt; fault.to_string(rt.alloc())?.as_str(), want);
     }
+    Ok(())
+}
+
+#[test]
+fn shape_faults_show_as_their_names_and_numbers(rt: HostRuntime) -> Result<(), Fail> {
+    for (fault, want) in [
+        (ShapeFault::WrongCount, "WrongCount"),
+        (ShapeFault::WrongType(0), "WrongType 0"),
+        (ShapeFault::TextTooLong(7), "TextTooLong 7"),
+        (ShapeFault::NoSuchColumn, "NoSuchColumn"),
+        (ShapeFault::KeyColumn, "KeyColumn"),
+    ] {
+        assert_eq!(rt; fault.to_string(rt.alloc())?.as_str(), want);
+    }
+    assert_eq!(rt; NoMemory.to_string(rt.alloc())?.as_str(), "NoMemory");
     Ok(())
 }
