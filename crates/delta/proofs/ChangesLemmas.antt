@@ -27,21 +27,21 @@ use Rattle.delta.proofs.SearchLemmas.{is_true, greater, nat_cmp-greater, at_inde
 
 -- ---- tests of lists
 
-all_drop : {A : Type 0} (p : A → Bool) (n : ℕ) (xs : List A) → T (list_all p xs) → T (list_all p (drop n xs))
+pub all_drop : {A : Type 0} (p : A → Bool) (n : ℕ) (xs : List A) → T (list_all p xs) → T (list_all p (drop n xs))
 all_drop p zero xs h = h
 all_drop p (suc n) [] h = tt
 all_drop p (suc n) (x ∷ xs) h = all_drop p n xs (second (p x) _ h)
 
-all_take : {A : Type 0} (p : A → Bool) (n : ℕ) (xs : List A) → T (list_all p xs) → T (list_all p (take n xs))
+pub all_take : {A : Type 0} (p : A → Bool) (n : ℕ) (xs : List A) → T (list_all p xs) → T (list_all p (take n xs))
 all_take p zero xs h = tt
 all_take p (suc n) [] h = tt
 all_take p (suc n) (x ∷ xs) h = both (p x) _ (first (p x) _ h) (all_take p n xs (second (p x) _ h))
 
-all_from : {A : Type 0} (p q : A → Bool) → ((x : A) → T (p x) → T (q x)) → (xs : List A) → T (list_all p xs) → T (list_all q xs)
+pub all_from : {A : Type 0} (p q : A → Bool) → ((x : A) → T (p x) → T (q x)) → (xs : List A) → T (list_all p xs) → T (list_all q xs)
 all_from p q f [] h = tt
 all_from p q f (x ∷ xs) h = both (q x) _ (f x (first (p x) _ h)) (all_from p q f xs (second (p x) _ h))
 
-all_both : {A : Type 0} (p q : A → Bool) (xs : List A) → T (list_all p xs) → T (list_all q xs) → T (list_all (λ x. p x && q x) xs)
+pub all_both : {A : Type 0} (p q : A → Bool) (xs : List A) → T (list_all p xs) → T (list_all q xs) → T (list_all (λ x. p x && q x) xs)
 all_both p q [] h g = tt
 all_both p q (x ∷ xs) h g =
     let here : T (p x && q x) = both (p x) _ (first (p x) _ h) (first (q x) _ g) in
@@ -174,7 +174,7 @@ module _ (key_cols sid : ℕ) where
   modify_cmp-same col value (Mod other w) = refl
 
   -- an entry ties where it stands at the SID and its change ties
-  tie_is : (change : Change) (y : Entry) → is_eq (entry_cmp key_cols (entry_at sid change) y) ≡ (y.sid == sid) && is_eq (change_cmp key_cols change y.change)
+  pub tie_is : (change : Change) (y : Entry) → is_eq (entry_cmp key_cols (entry_at sid change) y) ≡ (y.sid == sid) && is_eq (change_cmp key_cols change y.change)
   tie_is change y = and_eq (nat_cmp sid y.sid) (change_cmp key_cols change y.change) ∙ ap (λ b. b && is_eq (change_cmp key_cols change y.change)) (is_eq-nat_cmp sid y.sid)
 
   -- ---- inserts
@@ -189,16 +189,16 @@ module _ (key_cols sid : ℕ) where
   not_inserted_here key true (Del k) other rest f h = both true rest tt (f h)
   not_inserted_here key true (Mod col value) other rest f h = both true rest tt (f h)
 
-  not_inserted : (key : Key) (es : List Entry) → is_some (inserted_row key_cols sid key es) ≡ false → T (list_all (λ e. not (is_insert_at key_cols sid key e)) es)
+  pub not_inserted : (key : Key) (es : List Entry) → is_some (inserted_row key_cols sid key es) ≡ false → T (list_all (λ e. not (is_insert_at key_cols sid key e)) es)
   not_inserted key [] h = tt
   not_inserted key (e ∷ es) h = not_inserted_here key (e.sid == sid) e.change (inserted_row key_cols sid key es) _ (not_inserted key es) h
 
-  insert_tie : (row : Row) (c : Change) → is_eq (change_cmp key_cols (Ins row) c) ≡ is_insert_of key_cols (key_of key_cols row) c
+  pub insert_tie : (row : Row) (c : Change) → is_eq (change_cmp key_cols (Ins row) c) ≡ is_insert_of key_cols (key_of key_cols row) c
   insert_tie row (Ins other) = refl
   insert_tie row (Del key) = refl
   insert_tie row (Mod col value) = refl
 
-  false_of : (b : Bool) → T (not b) → b ≡ false
+  pub false_of : (b : Bool) → T (not b) → b ≡ false
   false_of true h = absurd h
   false_of false h = refl
 
@@ -218,10 +218,10 @@ module _ (key_cols sid : ℕ) where
 
   -- ---- modifies
 
-  not_deleted : (es : List Entry) → has_delete sid es ≡ false → T (list_all (λ e. not ((e.sid == sid) && is_delete e.change)) es)
+  pub not_deleted : (es : List Entry) → has_delete sid es ≡ false → T (list_all (λ e. not ((e.sid == sid) && is_delete e.change)) es)
   not_deleted es h = none_any (λ e. (e.sid == sid) && is_delete e.change) es h
 
-  modify_tie : (col : ℕ) (value : Value) (here : Bool) (c : Change) → T (not (here && is_delete c)) → here && is_eq (change_cmp key_cols (Mod col value) c) ≡ here && modifies_column col c
+  pub modify_tie : (col : ℕ) (value : Value) (here : Bool) (c : Change) → T (not (here && is_delete c)) → here && is_eq (change_cmp key_cols (Mod col value) c) ≡ here && modifies_column col c
   modify_tie col value true (Ins other) h = refl
   modify_tie col value true (Del key) h = absurd h
   modify_tie col value true (Mod other w) h = is_eq-nat_cmp col other
@@ -305,7 +305,7 @@ module _ (key_cols sid : ℕ) where
       by true false f g = absurd (f tt)
       by false p f g = tt
 
-  past_sid : (z : Entry) → T (not (stands_before past_cmp sid z)) → (z.sid == sid) ≡ false
+  pub past_sid : (z : Entry) → T (not (stands_before past_cmp sid z)) → (z.sid == sid) ≡ false
   past_sid z h =
       elim (nat_cmp sid z.sid) as (λ r. nat_cmp sid z.sid ≡ r → T (not (is_gt (ordering_then r Greater))) → (z.sid == sid) ≡ false) [
         | Less ↦ λ e g. below_sid z.sid e

@@ -2,3 +2,5 @@ pub mod SearchLemmas
 pub mod CountLemmas
 pub mod ChangesLemmas
 pub mod ChangeCountLemmas
+pub mod OrderLemmas
+pub mod LawfulLemmas

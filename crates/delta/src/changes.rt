@@ -1,7 +1,7 @@
 //! The changes of a tree: an insert, a delete or a modify that comes, changes or goes.
-ghost use Rattle.std.specs.Prelude.{◌≡◌, ◌<◌, ◌≤◌, IsFalse, IsNone, IsSome, IsSomeAnd, OnOk, OnErr, drop, length, vec_len};
+ghost use Rattle.std.specs.Prelude.{◌≡◌, ◌<◌, ◌≤◌, ◌^◌, IsFalse, IsNone, IsSome, IsSomeAnd, OnOk, OnErr, drop, length, vec_len};
 ghost use Rattle.values.specs.Shape.{key_of};
-ghost use Rattle.model.specs.Entries.{entry_at, IsLawful};
+ghost use Rattle.model.specs.Entries.{entry_at};
 ghost use Rattle.model.specs.Edits.{change_with_cell, put_ins, put_del, put_mod, take_ins, set_ins};
 ghost use Rattle.delta.specs.Lookups.{has_delete, inserted_row};
 ghost use Rattle.delta.specs.Changes.{is_modify_at, modify_count, has_cell, with_run};
@@ -19,7 +19,8 @@ impl DeltaTree {
     /// `NoMemory` where a growth is refused: the tree is as it was, and the row is dropped.
     pub fn put_ins(&mut self, sid: u64, row: Row) -> Result<(), NoMemory>
         requires free { IsNone (inserted_row self.old.key_cols sid (key_of self.old.key_cols row) self.old.entries) }
-        requires lawful { IsLawful self.old.key_cols (put_ins self.old.key_cols sid row self.old.entries) }
+        requires place { sid < 2 ^ 32 }
+        requires room { length (put_ins self.old.key_cols sid row self.old.entries) ≤ 2 ^ 40 }
         ensures ok { OnOk result (self.new ≡ record self.old { entries = put_ins self.old.key_cols sid row self.old.entries }) }
         ensures err { OnErr result (self.new ≡ self.old) }
     {
@@ -37,7 +38,8 @@ impl DeltaTree {
     /// `NoMemory` where a growth is refused: the tree is as it was, and the key is dropped.
     pub fn put_del(&mut self, sid: u64, key: Key) -> Result<(), NoMemory>
         requires free { IsFalse (has_delete sid self.old.entries) }
-        requires lawful { IsLawful self.old.key_cols (put_del self.old.key_cols sid key self.old.entries) }
+        requires place { sid < 2 ^ 32 }
+        requires room { length (put_del self.old.key_cols sid key self.old.entries) ≤ 2 ^ 40 }
         ensures ok { OnOk result (self.new ≡ record self.old { entries = put_del self.old.key_cols sid key self.old.entries }) }
         ensures err { OnErr result (self.new ≡ self.old) }
     {
@@ -56,7 +58,8 @@ impl DeltaTree {
     /// `NoMemory` where a growth is refused: the tree is as it was, and the value is dropped.
     pub fn put_mod(&mut self, sid: u64, col: usize, value: Value) -> Result<(), NoMemory>
         requires free { IsFalse (has_delete sid self.old.entries) }
-        requires lawful { IsLawful self.old.key_cols (put_mod self.old.key_cols sid col value self.old.entries) }
+        requires place { sid < 2 ^ 32 }
+        requires room { length (put_mod self.old.key_cols sid col value self.old.entries) ≤ 2 ^ 40 }
         ensures ok { OnOk result (self.new ≡ record self.old { entries = put_mod self.old.key_cols sid col value self.old.entries }) }
         ensures err { OnErr result (self.new ≡ self.old) }
     {
@@ -73,8 +76,7 @@ impl DeltaTree {
     ///
     /// None today; a tree whose nodes are shared has to copy some of them.
     pub fn take_ins(&mut self, sid: u64, key: &Key) -> Result<(), NoMemory>
-        requires there { IsSome (inserted_row self.old.key_cols sid key.now self.old.entries) }
-        requires lawful { IsLawful self.old.key_cols (take_ins self.old.key_cols sid key.now self.old.entries) }
+        requires { IsSome (inserted_row self.old.key_cols sid key.now self.old.entries) }
         ensures ok { OnOk result (self.new ≡ record self.old { entries = take_ins self.old.key_cols sid key.now self.old.entries }) }
         ensures err { OnErr result (self.new ≡ self.old) }
     {
@@ -92,7 +94,6 @@ impl DeltaTree {
     pub fn set_ins(&mut self, sid: u64, key: &Key, col: usize, value: Value) -> Result<(), NoMemory>
         requires there { IsSomeAnd (inserted_row self.old.key_cols sid key.now self.old.entries) (λ row. col < length row) }
         requires outside_key { self.old.key_cols ≤ col }
-        requires lawful { IsLawful self.old.key_cols (set_ins self.old.key_cols sid key.now col value self.old.entries) }
         ensures ok { OnOk result (self.new ≡ record self.old { entries = set_ins self.old.key_cols sid key.now col value self.old.entries }) }
         ensures err { OnErr result (self.new ≡ self.old) }
     {

@@ -9,6 +9,7 @@ use Rattle.delta.specs.Changes.{with_run}
 use Rattle.delta.proofs.CountLemmas.{insert_worth, delete_worth, counts-le}
 use Rattle.delta.proofs.ChangesLemmas.{is_kept, base-le-past, filter-kept, put_del-split}
 use Rattle.delta.proofs.ChangeCountLemmas.{counts_inserts, counts_deletes, count-delete}
+use Rattle.delta.proofs.LawfulLemmas.{IsLawful-put_del}
 use Rattle.delta.proofs.tree.DeltaTree.put_del.Goals as goal
 
 pub replace_run-requires-clause-start_le_end : goal.replace_run-requires-clause-start_le_end
@@ -41,7 +42,8 @@ invariant_of-self-2 c =
     let new = c.replace_run.new.entries.items in
     let same : new ≡ put_del t.key_cols c.args.sid c.args.key t.entries =
     c.in_ok-replace_run.ensures.ok ∙ ap (λ (xs : List Entry). with_run xs n m e) list ∙ sym (put_del-split t.key_cols c.args.sid c.args.key t.entries n m c.place_of_base-place.ensures c.place_past-end.ensures c.requires.free) in
-    let lawful : IsLawful c.self.inside.key_cols new = subst (λ (k : ℕ). IsLawful k new) (sym width) (subst (λ (xs : List Entry). IsLawful t.key_cols xs) (sym same) c.requires.lawful) in
+    let lawful_before : IsLawful t.key_cols t.entries = subst (λ (w : Tree). IsLawful w.key_cols w.entries) c.self.view_is c.self.invariant.0 in
+    let lawful : IsLawful c.self.inside.key_cols new = subst (λ (k : ℕ). IsLawful k new) (sym width) (subst (λ (xs : List Entry). IsLawful t.key_cols xs) (sym same) (IsLawful-put_del t.key_cols c.args.sid c.args.key t.entries n m lawful_before c.place_of_base-place.ensures c.place_past-end.ensures c.requires.free c.requires.place c.requires.room)) in
     let gone : filter (is_kept c.args.sid) es ≡ take n es ++ drop m es =
     subst (λ (xs : List Entry). filter (is_kept c.args.sid) xs ≡ take n xs ++ drop m xs) (sym list) (filter-kept t.key_cols c.args.sid t.entries n m c.place_of_base-place.ensures c.place_past-end.ensures c.requires.free) in
     let inserts = ap insert_count c.in_ok-replace_run.ensures.ok ∙ count-delete insert_count insert_worth counts_inserts es n m e c.args.sid gone in

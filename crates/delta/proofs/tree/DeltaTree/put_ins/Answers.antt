@@ -12,6 +12,7 @@ use Rattle.delta.specs.Changes.{with_run}
 use Rattle.delta.proofs.CountLemmas.{insert_worth, delete_worth, counts-le}
 use Rattle.delta.proofs.ChangesLemmas.{put_ins-split}
 use Rattle.delta.proofs.ChangeCountLemmas.{counts_inserts, counts_deletes, count-insert}
+use Rattle.delta.proofs.LawfulLemmas.{IsLawful-put_ins}
 use Rattle.delta.proofs.tree.DeltaTree.put_ins.Goals as goal
 
 pub overflow_add-self : goal.overflow_add-self
@@ -43,7 +44,8 @@ invariant_of-self-2 c =
     let new = c.replace_run.new.entries.items in
     let same : new ≡ put_ins t.key_cols c.args.sid c.args.row t.entries =
     c.in_ok-replace_run.ensures.ok ∙ ap (λ (xs : List Entry). with_run xs n n e) list ∙ sym (put_ins-split t.key_cols c.args.sid c.args.row t.entries n split c.requires.free) in
-    let lawful : IsLawful c.self.inside.key_cols new = subst (λ (k : ℕ). IsLawful k new) (sym width) (subst (λ (xs : List Entry). IsLawful t.key_cols xs) (sym same) c.requires.lawful) in
+    let lawful_before : IsLawful t.key_cols t.entries = subst (λ (w : Tree). IsLawful w.key_cols w.entries) c.self.view_is c.self.invariant.0 in
+    let lawful : IsLawful c.self.inside.key_cols new = subst (λ (k : ℕ). IsLawful k new) (sym width) (subst (λ (xs : List Entry). IsLawful t.key_cols xs) (sym same) (IsLawful-put_ins t.key_cols c.args.sid c.args.row t.entries n lawful_before split c.requires.free c.requires.place c.requires.room)) in
     let inserts = ap insert_count c.in_ok-replace_run.ensures.ok ∙ count-insert insert_count insert_worth counts_inserts es n e in
     let deletes = ap delete_count c.in_ok-replace_run.ensures.ok ∙ count-insert delete_count delete_worth counts_deletes es n e in
     (lawful, omega (arith, inserts, c.self.invariant.1), omega (arith, deletes, c.self.invariant.2))

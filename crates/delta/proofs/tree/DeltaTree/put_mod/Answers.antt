@@ -9,6 +9,7 @@ use Rattle.delta.specs.Changes.{with_run, modify_count}
 use Rattle.delta.proofs.CountLemmas.{insert_worth, delete_worth}
 use Rattle.delta.proofs.ChangesLemmas.{put_mod-split}
 use Rattle.delta.proofs.ChangeCountLemmas.{counts_inserts, counts_deletes, count-modify}
+use Rattle.delta.proofs.LawfulLemmas.{IsLawful-put_mod}
 use Rattle.delta.proofs.tree.DeltaTree.put_mod.Goals as goal
 
 pub returns-clause-ok : goal.returns-clause-ok
@@ -36,7 +37,8 @@ invariant_of-self-2 c =
     let run : new ≡ with_run t.entries n (n + modify_count c.args.sid c.args.col (drop n t.entries)) e = c.in_ok-replace_run.ensures.ok ∙ (λ i. with_run (list i) n (n + c.modifies_at.ensures i) e) in
     let same : new ≡ put_mod t.key_cols c.args.sid c.args.col c.args.value t.entries =
     run ∙ sym (put_mod-split t.key_cols c.args.sid c.args.col c.args.value t.entries n c.place_of_modify-place.ensures c.requires.free) in
-    let lawful : IsLawful c.self.inside.key_cols new = subst (λ (k : ℕ). IsLawful k new) (sym width) (subst (λ (xs : List Entry). IsLawful t.key_cols xs) (sym same) c.requires.lawful) in
+    let lawful_before : IsLawful t.key_cols t.entries = subst (λ (w : Tree). IsLawful w.key_cols w.entries) c.self.view_is c.self.invariant.0 in
+    let lawful : IsLawful c.self.inside.key_cols new = subst (λ (k : ℕ). IsLawful k new) (sym width) (subst (λ (xs : List Entry). IsLawful t.key_cols xs) (sym same) (IsLawful-put_mod t.key_cols c.args.sid c.args.col c.args.value t.entries n lawful_before c.place_of_modify-place.ensures c.requires.free c.requires.place c.requires.room)) in
     let inserts = ap insert_count run ∙ count-modify insert_count insert_worth counts_inserts t.entries n c.args.sid c.args.col c.args.value ∙ ap insert_count (sym list) in
     let deletes = ap delete_count run ∙ count-modify delete_count delete_worth counts_deletes t.entries n c.args.sid c.args.col c.args.value ∙ ap delete_count (sym list) in
     (lawful, c.self.invariant.1 ∙ sym inserts, c.self.invariant.2 ∙ sym deletes)

@@ -10,6 +10,7 @@ use Rattle.delta.proofs.ChangesLemmas.{nothing, found_in, same_item, some_of, ce
 use Rattle.delta.proofs.ChangeCountLemmas.{counts_inserts, counts_deletes, count-set}
 use Rattle.std.specs.Prelude.{IsSomeAnd}
 use Rattle.values.specs.declared.row.Row.{Row}
+use Rattle.delta.proofs.LawfulLemmas.{IsLawful-set_ins}
 use Rattle.delta.proofs.tree.DeltaTree.set_ins.Goals as goal
 
 pub index_mut-requires : goal.index_mut-requires
@@ -59,7 +60,8 @@ invariant_of-self c =
     let entry = c.set_cell.ensures ∙ ap (λ (e : Entry). entry_at e.sid (change_with_cell c.args.col c.args.value e.change)) item in
     let new = set c.self.inside.entries.items n c.set_cell.new.entry in
     let written : new ≡ set t.entries n (entry_at y.sid (change_with_cell c.args.col c.args.value y.change)) = λ i. set (list i) n (entry i) in
-    let lawful : IsLawful c.self.inside.key_cols new = subst (λ (k : ℕ). IsLawful k new) (sym width) (subst (λ (xs : List Entry). IsLawful t.key_cols xs) (sym (written ∙ sym (found.with_cell c.args.col c.args.value))) c.requires.lawful) in
+    let lawful_before : IsLawful t.key_cols t.entries = subst (λ (w : Tree). IsLawful w.key_cols w.entries) c.self.view_is c.self.invariant.0 in
+    let lawful : IsLawful c.self.inside.key_cols new = subst (λ (k : ℕ). IsLawful k new) (sym width) (subst (λ (xs : List Entry). IsLawful t.key_cols xs) (sym (written ∙ sym (found.with_cell c.args.col c.args.value))) (IsLawful-set_ins t.key_cols c.args.sid c.args.key.now c.args.col c.args.value t.entries n lawful_before found c.requires.outside_key)) in
     let inserts = ap insert_count written ∙ count-set insert_count insert_worth counts_inserts t.entries n c.args.col c.args.value found.short ∙ ap insert_count (sym list) in
     let deletes = ap delete_count written ∙ count-set delete_count delete_worth counts_deletes t.entries n c.args.col c.args.value found.short ∙ ap delete_count (sym list) in
     (lawful, c.self.invariant.1 ∙ sym inserts, c.self.invariant.2 ∙ sym deletes)
