@@ -384,7 +384,7 @@ module _ (key_cols sid : ℕ) where
     abbrev before : Entry → Bool
     before e = stands_before (insert_cmp key_cols key) sid e
 
-    not_match : (x : Entry) → T (before x) → T (not (matches x))
+    pub not_match : (x : Entry) → T (before x) → T (not (matches x))
     not_match x h =
         elim (nat_cmp sid x.sid) as (λ r. nat_cmp sid x.sid ≡ r → T (is_gt (ordering_then r (insert_cmp key_cols key x.change))) → T (not (matches x))) [
           | Less ↦ λ e g. absurd g
@@ -430,7 +430,7 @@ module _ (key_cols sid : ℕ) where
           | Greater ↦ λ e g. cc
         ] refl b
 
-    none_after : (y : Entry) (zs : List Entry) → T (not (before y)) → T (list_all (λ z. is_lt (entry_cmp key_cols y z)) zs) → T (list_all (λ z. not (matches z)) zs)
+    pub none_after : (y : Entry) (zs : List Entry) → T (not (before y)) → T (list_all (λ z. is_lt (entry_cmp key_cols y z)) zs) → T (list_all (λ z. not (matches z)) zs)
     none_after y [] h g = tt
     none_after y (z ∷ zs) h g =
         both (not (matches z)) _
@@ -445,11 +445,11 @@ module _ (key_cols sid : ℕ) where
     skipped : (x : Entry) (es : List Entry) → T (not (matches x)) → inserted_row key_cols sid key (x ∷ es) ≡ inserted_row key_cols sid key es
     skipped x es h = ap (λ b. cond b (row_of x.change) (inserted_row key_cols sid key es)) (false_of (matches x) h)
 
-    all_skipped : (xs es : List Entry) → T (list_all (λ x. not (matches x)) xs) → inserted_row key_cols sid key (xs ++ es) ≡ inserted_row key_cols sid key es
+    pub all_skipped : (xs es : List Entry) → T (list_all (λ x. not (matches x)) xs) → inserted_row key_cols sid key (xs ++ es) ≡ inserted_row key_cols sid key es
     all_skipped [] es h = refl
     all_skipped (x ∷ xs) es h = skipped x (xs ++ es) (first (not (matches x)) _ h) ∙ all_skipped xs es (second (not (matches x)) _ h)
 
-    none_inserted : (es : List Entry) → T (list_all (λ x. not (matches x)) es) → inserted_row key_cols sid key es ≡ None
+    pub none_inserted : (es : List Entry) → T (list_all (λ x. not (matches x)) es) → inserted_row key_cols sid key es ≡ None
     none_inserted [] h = refl
     none_inserted (e ∷ es) h = skipped e es (first (not (matches e)) _ h) ∙ none_inserted es (second (not (matches e)) _ h)
 
@@ -461,7 +461,7 @@ module _ (key_cols sid : ℕ) where
         by true e = tt
         by false e = let none = ap is_some (none_inserted zs (none_after y zs h g)) in cc
 
-    ordered_drop : (n : ℕ) (es : List Entry) → T (are_ordered key_cols es) → T (are_ordered key_cols (drop n es))
+    pub ordered_drop : (n : ℕ) (es : List Entry) → T (are_ordered key_cols es) → T (are_ordered key_cols (drop n es))
     ordered_drop zero es h = h
     ordered_drop (suc n) [] h = tt
     ordered_drop (suc n) (e ∷ es) h = ordered_drop n es (second (list_all (λ y. is_lt (entry_cmp key_cols e y)) es) _ h)

@@ -1,6 +1,6 @@
 -- A change keeps the list lawful.
-use Rattle.std.proofs.Common.{is_lt, take-append-drop, ◌≡◌, ℕ, suc, ◌+◌, ◌<◌, ◌≤◌, ◌^◌, Bool, not, ◌&&◌, T, is_some, List, ◌∷◌, ◌++◌, length, take, drop, set, get_or, remove, refl, sym, ap, ◌∙◌, subst, arith, length-append, length-take, length-drop}
-use Rattle.std.specs.Prelude.{◌==◌, false, true}
+use Rattle.std.proofs.Common.{is_lt, take-append-drop, ◌≡◌, ℕ, suc, ◌+◌, ◌<◌, ◌≤◌, ◌^◌, not, ◌&&◌, T, is_some, List, ◌∷◌, length, take, drop, set, get_or, remove, sym, subst, arith, length-append, length-take, length-drop}
+use Rattle.std.specs.Prelude.{◌==◌, false}
 use Rattle.std.proofs.lemmas.Float.{T_from_true}
 use Rattle.std.proofs.lemmas.List.{length-set}
 use Rattle.std.specs.List.{list_all, All}

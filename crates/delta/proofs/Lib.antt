@@ -4,3 +4,4 @@ pub mod ChangesLemmas
 pub mod ChangeCountLemmas
 pub mod OrderLemmas
 pub mod LawfulLemmas
+pub mod LookupLemmas

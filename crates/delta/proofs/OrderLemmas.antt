@@ -1,10 +1,9 @@
 -- A change keeps the entries in order.
-use Rattle.std.proofs.Common.{◌≡◌, ℕ, zero, suc, ◌+◌, ◌<◌, ◌≤◌, ◌^◌, Bool, true, false, cond, not, ◌&&◌, T, List, [], ◌∷◌, ◌++◌, length, take, drop, set, get_or, remove, nat_cmp, Ordering, Less, Equal, Greater, is_lt, is_eq, is_gt, refl, sym, ap, ◌∙◌, subst, arith, take-append-drop, drop-cons}
+use Rattle.std.proofs.Common.{◌≡◌, ℕ, zero, suc, ◌<◌, ◌≤◌, Bool, true, false, cond, not, ◌&&◌, T, List, [], ◌∷◌, ◌++◌, length, take, drop, set, get_or, remove, nat_cmp, Ordering, Less, Equal, Greater, is_lt, is_eq, is_gt, refl, sym, ap, ◌∙◌, subst, arith, take-append-drop, drop-cons}
 use Rattle.std.specs.Ordering.{ordering_then, ordering_reverse}
-use Rattle.std.specs.Cmp.{ranked, nat_cmp_total, tied_itself}
-use Rattle.std.specs.List.{list_all, All}
+use Rattle.std.specs.Cmp.{ranked, nat_cmp_total}
+use Rattle.std.specs.List.{list_all}
 use Rattle.std.proofs.lemmas.List.{take-set-le}
-use Rattle.std.proofs.lemmas.List.Elements.{All-cons, All-append, All-take, All-drop, All-set}
 use Rattle.values.specs.Orders.{key_cmp, key_cmp_total}
 use Rattle.values.specs.Shape.{key_of}
 use Rattle.values.specs.declared.row.Row.{Row}
@@ -15,8 +14,8 @@ use Rattle.model.specs.declared.entry.Change.{Change}
 use Rattle.model.specs.declared.entry.Change.TheVariants.{Ins, Del, Mod}
 use Rattle.model.specs.Entries.{entry_at, is_delete, change_cmp, entry_cmp, are_ordered}
 use Rattle.model.specs.Edits.{change_with_cell}
-use Rattle.model.proofs.MapsLemmas.{both, first, second, less, turn_less, turn_greater}
-use Rattle.delta.specs.Search.{insert_cmp, base_cmp, modify_cmp, past_cmp, stands_before, IsSplit}
+use Rattle.model.proofs.MapsLemmas.{both, first, second, less}
+use Rattle.delta.specs.Search.{insert_cmp, modify_cmp, past_cmp, stands_before}
 use Rattle.delta.specs.Changes.{modifies_column, is_modify_at, modify_count, with_run}
 use Rattle.delta.proofs.SearchLemmas.{greater}
 use Rattle.std.specs.Prelude.{◌==◌}

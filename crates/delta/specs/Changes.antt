@@ -1,8 +1,12 @@
 -- Single entries that a change of a tree looks at.
-use Rattle.std.specs.Prelude.{ℕ, ◌<◌, ◌==◌, Bool, false, ◌&&◌, cond, List, [], ◌∷◌, ◌++◌, length, take, drop}
+use Rattle.std.specs.Prelude.{ℕ, ◌<◌, ◌==◌, Bool, false, ◌&&◌, cond, Option, None, List, [], ◌∷◌, ◌++◌, length, take, drop}
+use Rattle.values.specs.declared.row.Key.{Key}
+use Rattle.values.specs.declared.row.Row.{Row}
 use Rattle.model.specs.declared.entry.Entry.{Entry}
 use Rattle.model.specs.declared.entry.Change.{Change}
 use Rattle.model.specs.declared.entry.Change.TheVariants.{Ins, Del, Mod}
+use Rattle.model.specs.Entries.{is_delete}
+use Rattle.delta.specs.Lookups.{row_of, is_insert_at}
 
 abbrev pub modifies_column : ℕ → Change → Bool
 modifies_column col (Ins row) = false
@@ -12,6 +16,13 @@ modifies_column col (Mod other value) = other == col
 -- whether the entry is a modify of the column at the SID
 abbrev pub is_modify_at : ℕ → ℕ → Entry → Bool
 is_modify_at sid col e = (e.sid == sid) && modifies_column col e.change
+
+abbrev pub is_delete_at : ℕ → Entry → Bool
+is_delete_at sid e = (e.sid == sid) && is_delete e.change
+
+-- the row of an entry, where that is the insert of the key at the SID
+abbrev pub row_at : ℕ → ℕ → Key → Entry → Option Row
+row_at key_cols sid key e = cond (is_insert_at key_cols sid key e) (row_of e.change) None
 
 -- how many of the entries are the modify of the column at the SID, of which the first may be one
 abbrev pub modify_count : ℕ → ℕ → List Entry → ℕ

@@ -7,6 +7,7 @@
 
 mod changes;
 mod entries;
+mod lookup;
 mod sorted;
 mod tree;
 

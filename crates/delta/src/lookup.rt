@@ -1,0 +1,52 @@
+//! What stands at a SID, found by binary search.
+ghost use Rattle.std.specs.Prelude.{◌≡◌};
+ghost use Rattle.std.specs.Option.{option_copied};
+ghost use Rattle.delta.specs.Lookups.{has_delete, inserted_row};
+ghost use Rattle.delta.specs.Changes.{row_at, is_delete_at};
+
+use crate::sorted::compare_insert;
+use crate::tree::DeltaTree;
+use model::{Change, Entry};
+use values::{Key, Row};
+
+impl DeltaTree {
+    /// The row that is inserted with this key at the SID, if there is one. It takes no memory.
+    pub fn find_insert(&self, sid: u64, key: &Key) -> Option<&Row>
+        ensures { option_copied result ≡ inserted_row self.now.key_cols sid key.now self.now.entries }
+    {
+        let entry = self.entries.get(self.place_of_insert(sid, key.cells()))?;
+        inserted_at(self.key_cols, entry, sid, key)
+    }
+
+    /// Whether the base row at the SID is deleted. It takes no memory.
+    pub fn has_delete(&self, sid: u64) -> bool
+        ensures { result ≡ has_delete sid self.now.entries }
+    {
+        match self.entries.get(self.place_of_base(sid)) {
+            Some(entry) => is_delete_at(entry, sid),
+            None => false,
+        }
+    }
+}
+
+/// The row of the entry, where that is the insert of this key at the SID.
+fn inserted_at<'a>(key_cols: usize, entry: &'a Entry, sid: u64, key: &Key) -> Option<&'a Row>
+    ensures { option_copied result ≡ row_at key_cols sid key.now entry.now }
+{
+    match &entry.change {
+        Change::Ins(row)
+            if entry.sid == sid && compare_insert(key_cols, key.cells(), &entry.change).is_eq() =>
+            Some(row),
+        _ => None,
+    }
+}
+
+/// Whether the entry is a delete at the SID.
+fn is_delete_at(entry: &Entry, sid: u64) -> bool
+    ensures { result ≡ is_delete_at sid entry.now }
+{
+    match &entry.change {
+        Change::Del(_) => entry.sid == sid,
+        _ => false,
+    }
+}
