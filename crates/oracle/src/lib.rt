@@ -1,0 +1,6 @@
+//! The slow, plain program beside the definitions: what each call answers is a definition of `model`, word for word.
+//! Maps are std's ordered maps, and everything is copied. Tests compare the faster crates with it.
+#![tactic(auto)]
+
+mod effect;
+mod map;
