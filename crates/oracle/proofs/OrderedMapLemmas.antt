@@ -11,6 +11,10 @@ use Rattle.std.specs.FinMap.Entries.{by_order, below_all}
 use Rattle.model.specs.Maps.{find, put, is_sorted, without, store, alter_all}
 use Rattle.model.proofs.MapsLemmas.{both, first, second, less, without_below, below_tied, changed_by, find-alter_all, sorted-alter_all, same_map}
 
+pub is_true : (b : Bool) → T b → b ≡ true
+is_true true h = refl
+is_true false h = absurd h
+
 chosen : {A : Type 0} (r : Ordering) (a b c d : A) → c ≡ d → match_ordering r a b c ≡ by_order r a b d
 chosen Less a b c d e = refl
 chosen Equal a b c d e = refl

@@ -3,4 +3,9 @@
 #![tactic(auto)]
 
 mod effect;
+mod effects;
 mod map;
+mod table;
+
+pub use effects::Effects;
+pub use table::OrderedTable;
