@@ -4,8 +4,10 @@
 
 mod effect;
 mod effects;
+mod entries;
 mod map;
 mod table;
 
 pub use effects::Effects;
+pub use entries::{canonical_entries, merged_rows};
 pub use table::OrderedTable;

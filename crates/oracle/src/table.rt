@@ -1,12 +1,16 @@
 //! A table as an ordered map, and the writes of a transaction over it.
 ghost use Rattle.std.specs.Prelude.{◌≡◌, [], length, IfOk, OnOk, OnErr, IsTrue};
 ghost use Rattle.std.specs.Option.{option_copied};
+ghost use Rattle.std.specs.Ordering.{is_lt};
 ghost use Rattle.values.specs.Orders.{key_cmp};
-ghost use Rattle.model.specs.Maps.{is_sorted, alter};
-ghost use Rattle.model.specs.Table.{row_at, rows_of};
+ghost use Rattle.values.specs.Shape.{key_of};
+ghost use Rattle.model.specs.Maps.{is_sorted, alter, alter_all};
+ghost use Rattle.model.specs.Table.{row_at, rows_of, table_of, rank};
 ghost use Rattle.model.specs.Effects.{row_after, fits, all_fit, table_with};
 
-use crate::effect::{fits, row_after};
+mod writes;
+
+use crate::effect::{copy_values, fits, row_after};
 use crate::effects::Effects;
 use crate::map::{put, store};
 use model::Effect;
@@ -41,6 +45,25 @@ impl OrderedTable {
         }
     }
 
+    /// The table of these rows. Of two rows of one key the later one stays.
+    pub fn from_rows(
+        alloc: Global,
+        key_cols: usize,
+        rows: Vec<Row>,
+    ) -> Result<OrderedTable, NoMemory>
+        ensures put { IfOk result (λ table. table ≡ alter_all key_cmp (λ row old. Some row) (table_of key_cols rows.items) []) }
+        ensures ascending { IfOk result (λ table. IsTrue (is_sorted key_cmp (table_of key_cols rows.items)) → table ≡ table_of key_cols rows.items) }
+    {
+        let mut by_key = BTreeMap::new(alloc);
+        for row in rows {
+            put(&mut by_key, key_of(alloc, key_cols, &row)?, row)?;
+        }
+        Ok(OrderedTable {
+            rows: by_key,
+            alloc,
+        })
+    }
+
     /// The map from key to row.
     pub fn by_key(&self) -> &BTreeMap<Key, Row>
         ensures { result.now.entries ≡ self.now }
@@ -61,6 +84,27 @@ impl OrderedTable {
         ensures { option_copied result ≡ row_at self.now key.now }
     {
         self.rows.get(key)
+    }
+
+    /// The number of rows of lower keys. Goes over all rows.
+    pub fn rank(&self, key: &Key) -> usize
+        ensures { result ≡ rank key.now self.now }
+    {
+        self.by_key()
+            .iter()
+            .filter(|entry| is_below(entry.0, key))
+            .count()
+    }
+
+    /// The rows in key order, copied.
+    pub fn rows(&self) -> Result<Vec<Row>, NoMemory>
+        ensures { IfOk result (λ rows. rows.items ≡ rows_of self.now) }
+    {
+        let mut rows = Vec::new(self.alloc);
+        for row in self.by_key().values() {
+            rows.push(row.copy()?)?;
+        }
+        Ok(rows)
     }
 
     pub fn copy(&self) -> Result<OrderedTable, NoMemory>
@@ -111,4 +155,19 @@ impl OrderedTable {
     {
         fits(self.row_at(key), effect)
     }
+}
+
+fn is_below(key: &Key, bound: &Key) -> bool
+    ensures { result ≡ is_lt (key_cmp key.now bound.now) }
+{
+    key.cmp(bound).is_lt()
+}
+
+/// The key of the row: its first columns.
+pub(crate) fn key_of(alloc: Global, key_cols: usize, row: &Row) -> Result<Key, NoMemory>
+    ensures { IfOk result (λ key. key ≡ key_of key_cols row.now) }
+{
+    let cells = row.cells();
+    let count = key_cols.min(cells.len());
+    Ok(Key::new(copy_values(alloc, &cells[..count])?))
 }
