@@ -6,8 +6,12 @@ mod effect;
 mod effects;
 mod entries;
 mod map;
+mod record;
+mod replay;
 mod table;
 
 pub use effects::Effects;
 pub use entries::{canonical_entries, merged_rows};
+pub use record::Record;
+pub use replay::{due_reply, is_legal, table_after};
 pub use table::OrderedTable;

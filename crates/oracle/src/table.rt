@@ -7,6 +7,7 @@ ghost use Rattle.values.specs.Shape.{key_of};
 ghost use Rattle.model.specs.Maps.{is_sorted, alter, alter_all};
 ghost use Rattle.model.specs.Table.{row_at, rows_of, table_of, rank};
 ghost use Rattle.model.specs.Effects.{row_after, fits, all_fit, table_with};
+ghost use Rattle.model.specs.History.{table_with_all};
 
 mod writes;
 
@@ -136,6 +137,17 @@ impl OrderedTable {
         let mut table = self.copy()?;
         for (key, effect) in effects.by_key() {
             table.change(key, effect)?;
+        }
+        Ok(table)
+    }
+
+    /// The table after the commits, in order.
+    pub fn with_all(&self, commits: &[Effects]) -> Result<OrderedTable, NoMemory>
+        ensures { IfOk result (λ table. table ≡ table_with_all self.now commits.now) }
+    {
+        let mut table = self.copy()?;
+        for effects in commits {
+            table = table.with(effects)?;
         }
         Ok(table)
     }

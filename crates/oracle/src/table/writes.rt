@@ -1,6 +1,7 @@
 //! The writes of a transaction over its snapshot.
 ghost use Rattle.std.specs.Prelude.{◌≡◌, ◌∷◌, [], IfOk, OnOk, OnErr};
 ghost use Rattle.model.specs.Writes.{key_of_write, effect_of_write, reply_where, is_done, reply_to, effects_after, replies_to, effects_after_all};
+ghost use Rattle.oracle.specs.Replay.{AreAnswered};
 
 use crate::effects::Effects;
 use crate::table::{OrderedTable, key_of};
@@ -66,6 +67,24 @@ impl OrderedTable {
         }
         *effects = after;
         Ok(replies)
+    }
+
+    /// The effects of the writes, where each got the reply that is due.
+    pub fn answered_effects(
+        &self,
+        key_cols: usize,
+        limit: u64,
+        writes: &[(Write, WriteReply)],
+    ) -> Result<Option<Effects>, NoMemory>
+        ensures { IfOk result (λ found. AreAnswered key_cols limit self.now writes.now found) }
+    {
+        let mut effects = Effects::new(self.alloc);
+        for (write, reply) in writes {
+            if self.write(key_cols, limit, &mut effects, write)? != *reply {
+                return Ok(None);
+            }
+        }
+        Ok(Some(effects))
     }
 }
 
