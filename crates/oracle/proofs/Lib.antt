@@ -1,1 +1,2 @@
 pub mod OrderedMapLemmas
+pub mod ReplayLemmas

@@ -1,11 +1,12 @@
 -- A history decided record by record, whatever the schema's columns: only the number of key columns matters to a reply.
-use Rattle.std.specs.Prelude.{◌≡◌, ℕ, ◌≤◌, MatchOption, Option, List, [], ◌∷◌, map, length}
+use Rattle.std.specs.Prelude.{◌≡◌, ℕ, ◌≤◌, IsTrue, MatchOption, Option, List, [], ◌∷◌, map, length}
+use Rattle.std.specs.List.{list_all}
 use Rattle.values.specs.Shape.{Columns}
 use Rattle.model.specs.declared.write.Write.{Write}
 use Rattle.model.specs.declared.write.WriteReply.{WriteReply}
 use Rattle.model.specs.Table.{Table}
 use Rattle.model.specs.Effects.{Effects}
-use Rattle.model.specs.Writes.{replies_to, effects_after_all}
+use Rattle.model.specs.Writes.{write_fits_schema, replies_to, effects_after_all}
 use Rattle.model.specs.History.{table_after, Record, writes_of, replies_of, due_reply, effects_of_record, commits_after}
 
 module _ (key_cols limit : ℕ) (t : Table) where
@@ -37,3 +38,7 @@ module _ (key_cols limit recent : ℕ) (opening : Table) where
   -- the effects of a record that is due, or none of another
   abbrev pub AreDueEffects : List Effects → Record → Option Effects → Type 0
   AreDueEffects commits r found = MatchOption found (¬ (IsDue commits r)) (λ effects. IsDue commits r × (effects ≡ effects_of_record (keyed_by key_cols) limit recent opening commits r))
+
+-- each write of a history may be asked for under the schema
+abbrev pub AllFitSchema : Columns → List Record → Type 0
+AllFitSchema schema history = IsTrue (list_all (λ r. list_all (write_fits_schema schema) (writes_of r)) history)

@@ -2,8 +2,9 @@
 ghost use Rattle.std.specs.Prelude.{◌≡◌, ◌↔◌, [], length, min, IfOk, IsTrue};
 ghost use Rattle.std.specs.List.{list_any};
 ghost use Rattle.model.specs.Clashes.{conflicts};
-ghost use Rattle.model.specs.History.{table_after, due_reply};
-ghost use Rattle.oracle.specs.Replay.{AreDueEffects, AreDueFrom};
+ghost use Rattle.values.specs.Shape.{Columns};
+ghost use Rattle.model.specs.History.{table_after, due_reply, IsLegal};
+ghost use Rattle.oracle.specs.Replay.{AreDueEffects, AreDueFrom, AllFitSchema};
 
 use crate::effects::Effects;
 use crate::record::Record;
@@ -49,10 +50,26 @@ pub fn due_reply(
     Ok(CommitReply::Committed(count + 1))
 }
 
-/// Whether each record of a history got the replies that are due after those before it: it began at a commit that was
-/// there, and its writes and its commit were answered as the sequential table answers them. That rows, keys and cells fit
-/// the schema isn't looked at.
+/// Whether the history is legal: each record began at a commit that was there, and its writes and its commit were answered
+/// as the sequential table answers them after the records before it. That rows, keys and cells fit a schema isn't looked
+/// at. Takes copies of the table for each write and each commit.
 pub fn is_legal(
+    alloc: Global,
+    key_cols: usize,
+    limit: u64,
+    recent: usize,
+    opening: &OrderedTable,
+    history: &[Record],
+) -> Result<bool, NoMemory>
+    ensures due { IfOk result (λ legal. IsTrue legal ↔ AreDueFrom key_cols limit recent opening.now [] history.now) }
+    ensures legal { IfOk result (λ legal. (schema : Columns) → schema.key_cols ≡ key_cols → AllFitSchema schema history.now
+        → (IsTrue legal ↔ IsLegal schema limit recent opening.now history.now)) }
+{
+    are_due(alloc, key_cols, limit, recent, opening, history)
+}
+
+/// Whether each record is due after those before it.
+fn are_due(
     alloc: Global,
     key_cols: usize,
     limit: u64,

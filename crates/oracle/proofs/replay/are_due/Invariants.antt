@@ -1,6 +1,6 @@
 use Rattle.std.proofs.Common.{[], drop}
 use Rattle.oracle.specs.Replay.{AreDueFrom}
-use Rattle.oracle.proofs.replay.is_legal.Given as goal
+use Rattle.oracle.proofs.replay.are_due.Given as goal
 
 abbrev pub invariant-loop-entry : goal.invariant-loop-entry
 invariant-loop-entry l = record {
