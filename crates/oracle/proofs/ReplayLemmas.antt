@@ -18,15 +18,17 @@ both_second false b h = cc
 module _ (schema : Columns) (limit recent : ℕ) (opening : Table) where
   legal-due : (commits : List Effects) (history : List Record) → AllFitSchema schema history → AreDueFrom schema.key_cols limit recent opening commits history → IsLegalFrom schema limit recent opening commits history
   legal-due commits [] fitting due = tt
-  legal-due commits (r ∷ history) fitting due =
-      (record { begun = due.0.begun; fitting = both_first _ _ fitting; answered = due.0.answered; replied = due.0.replied },
-      legal-due (commits_after schema limit recent opening commits r) history (both_second _ _ fitting) due.1)
+  legal-due commits (r ∷ history) fitting due = (
+    record { begun = due.0.begun; fitting = both_first _ _ fitting; answered = due.0.answered; replied = due.0.replied },
+    legal-due (commits_after schema limit recent opening commits r) history (both_second _ _ fitting) due.1,
+  )
 
   due-legal : (commits : List Effects) (history : List Record) → IsLegalFrom schema limit recent opening commits history → AreDueFrom schema.key_cols limit recent opening commits history
   due-legal commits [] legal = tt
-  due-legal commits (r ∷ history) legal =
-      (record { begun = legal.0.begun; answered = legal.0.answered; replied = legal.0.replied },
-      due-legal (commits_after schema limit recent opening commits r) history legal.1)
+  due-legal commits (r ∷ history) legal = (
+    record { begun = legal.0.begun; answered = legal.0.answered; replied = legal.0.replied },
+    due-legal (commits_after schema limit recent opening commits r) history legal.1,
+  )
 
   pub IsLegal-AreDueFrom : (key_cols : ℕ) (history : List Record) (b : Bool) → schema.key_cols ≡ key_cols → AllFitSchema schema history → (IsTrue b ↔ AreDueFrom key_cols limit recent opening [] history) → (IsTrue b ↔ IsLegal schema limit recent opening history)
   IsLegal-AreDueFrom key_cols history b same fitting due =

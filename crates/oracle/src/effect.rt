@@ -46,10 +46,7 @@ pub(crate) fn copy_effect(alloc: Global, effect: &Effect) -> Result<Effect, NoMe
     match effect {
         Effect::Ins(row) => Ok(Effect::Ins(row.copy()?)),
         Effect::Del => Ok(Effect::Del),
-        Effect::Mod(cells) => Ok(Effect::Mod(Cells::new(copy_columns(
-            alloc,
-            cells.values(),
-        )?))),
+        Effect::Mod(cells) => Ok(Effect::Mod(Cells::new(copy_columns(alloc, cells.values())?))),
         Effect::Rep(row) => Ok(Effect::Rep(row.copy()?)),
     }
 }

@@ -93,7 +93,7 @@ impl Effects {
         })
     }
 
-    /// These effects and then the later ones, as those of one transaction. Takes a copy and one change for each later effect.
+    /// These effects and then the later ones, as those of one transaction. Takes a copy and a change for each later one.
     pub fn composed(&self, later: &Effects) -> Result<Effects, NoMemory>
         ensures { IfOk result (λ composed. composed ≡ composed_effects self.now later.now) }
     {

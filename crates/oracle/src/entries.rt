@@ -55,7 +55,8 @@ fn push_entry(entries: &mut Vec<Entry>, sid: u64, change: Change) -> Result<(), 
 
 /// Adds a modify for each cell.
 fn push_modifies(entries: &mut Vec<Entry>, sid: u64, cells: &Cells) -> Result<(), NoMemory>
-    ensures { OnOk result (entries.new.items ≡ entries.old.items ++ map (λ c. entry_at sid (change.Mod c.0 c.1)) cells.now) }
+    ensures { OnOk result (entries.new.items
+        ≡ entries.old.items ++ map (λ c. entry_at sid (change.Mod c.0 c.1)) cells.now) }
 {
     for (col, value) in cells.values() {
         push_entry(entries, sid, Change::Mod(*col, value.copy()?))?;
@@ -78,7 +79,8 @@ pub fn merged_rows(alloc: Global, base: &[Row], entries: &[Entry]) -> Result<Vec
 
 /// Adds the rows that are inserted at the place.
 fn push_inserted(rows: &mut Vec<Row>, entries: &[Entry], sid: u64) -> Result<(), NoMemory>
-    ensures { OnOk result (rows.new.items ≡ rows.old.items ++ inserted_rows (changes_at sid entries.now)) }
+    ensures { OnOk result (rows.new.items
+        ≡ rows.old.items ++ inserted_rows (changes_at sid entries.now)) }
 {
     for entry in entries {
         if entry.sid == sid {
@@ -98,7 +100,8 @@ fn push_left(
     sid: u64,
     row: &Row,
 ) -> Result<(), NoMemory>
-    ensures { OnOk result (rows.new.items ≡ rows.old.items ++ left_of row.now (changes_at sid entries.now)) }
+    ensures { OnOk result (rows.new.items
+        ≡ rows.old.items ++ left_of row.now (changes_at sid entries.now)) }
 {
     let mut cells = copy_values(alloc, row.cells())?;
     for entry in entries {

@@ -15,3 +15,6 @@ pub use entries::{canonical_entries, merged_rows};
 pub use record::Record;
 pub use replay::{due_reply, is_legal, table_after};
 pub use table::OrderedTable;
+
+#[cfg(test)]
+mod tests;

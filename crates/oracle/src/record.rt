@@ -29,7 +29,8 @@ impl Record {
         writes: Vec<(Write, WriteReply)>,
         reply: CommitReply,
     ) -> Record
-        ensures { result ≡ record { client = client; begin = begin; writes = writes.items; reply = reply } }
+        ensures { result
+            ≡ record { client = client; begin = begin; writes = writes.items; reply = reply } }
     {
         Record {
             client,
@@ -37,6 +38,13 @@ impl Record {
             writes,
             reply,
         }
+    }
+
+    /// The client's number.
+    pub fn client(&self) -> u32
+        ensures { result ≡ self.now.client }
+    {
+        self.client
     }
 
     /// How many commits its snapshot has.

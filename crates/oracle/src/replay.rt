@@ -34,7 +34,8 @@ pub fn due_reply(
     begin: u64,
     effects: &Effects,
 ) -> Result<CommitReply, NoMemory>
-    ensures { IfOk result (λ reply. reply ≡ due_reply limit recent opening.now commits.now begin effects.now) }
+    ensures { IfOk result (λ reply. reply
+        ≡ due_reply limit recent opening.now commits.now begin effects.now) }
 {
     let count = commits.len() as u64;
     if (recent as u64) < count.saturating_sub(begin) {
@@ -61,8 +62,11 @@ pub fn is_legal(
     opening: &OrderedTable,
     history: &[Record],
 ) -> Result<bool, NoMemory>
-    ensures due { IfOk result (λ legal. IsTrue legal ↔ AreDueFrom key_cols limit recent opening.now [] history.now) }
-    ensures legal { IfOk result (λ legal. (schema : Columns) → schema.key_cols ≡ key_cols → AllFitSchema schema history.now
+    ensures due { IfOk result (λ legal. IsTrue legal
+        ↔ AreDueFrom key_cols limit recent opening.now [] history.now) }
+    ensures legal { IfOk result (λ legal. (schema : Columns)
+        → schema.key_cols ≡ key_cols
+        → AllFitSchema schema history.now
         → (IsTrue legal ↔ IsLegal schema limit recent opening.now history.now)) }
 {
     are_due(alloc, key_cols, limit, recent, opening, history)
@@ -77,7 +81,8 @@ fn are_due(
     opening: &OrderedTable,
     history: &[Record],
 ) -> Result<bool, NoMemory>
-    ensures { IfOk result (λ due. IsTrue due ↔ AreDueFrom key_cols limit recent opening.now [] history.now) }
+    ensures { IfOk result (λ due. IsTrue due
+        ↔ AreDueFrom key_cols limit recent opening.now [] history.now) }
 {
     let mut commits = Vec::new(alloc);
     for entry in history {
@@ -102,7 +107,8 @@ fn due_effects(
     commits: &[Effects],
     entry: &Record,
 ) -> Result<Option<Effects>, NoMemory>
-    ensures { IfOk result (λ found. AreDueEffects key_cols limit recent opening.now commits.now entry.now found) }
+    ensures { IfOk result (λ found.
+        AreDueEffects key_cols limit recent opening.now commits.now entry.now found) }
 {
     let begin = entry.begin();
     if (commits.len() as u64) < begin {

@@ -52,8 +52,11 @@ impl OrderedTable {
         key_cols: usize,
         rows: Vec<Row>,
     ) -> Result<OrderedTable, NoMemory>
-        ensures put { IfOk result (λ table. table ≡ alter_all key_cmp (λ row old. Some row) (table_of key_cols rows.items) []) }
-        ensures ascending { IfOk result (λ table. IsTrue (is_sorted key_cmp (table_of key_cols rows.items)) → table ≡ table_of key_cols rows.items) }
+        // The rows are put in turn, and rows in ascending key are the table's.
+        ensures put { IfOk result (λ table. table
+            ≡ alter_all key_cmp (λ row old. Some row) (table_of key_cols rows.items) []) }
+        ensures ascending { IfOk result (λ table. IsTrue (is_sorted key_cmp (table_of key_cols rows.items))
+            → table ≡ table_of key_cols rows.items) }
     {
         let mut by_key = BTreeMap::new(alloc);
         for row in rows {

@@ -1,6 +1,7 @@
 //! The writes of a transaction over its snapshot.
 ghost use Rattle.std.specs.Prelude.{◌≡◌, ◌∷◌, [], IfOk, OnOk, OnErr};
-ghost use Rattle.model.specs.Writes.{key_of_write, effect_of_write, reply_where, is_done, reply_to, effects_after, replies_to, effects_after_all};
+ghost use Rattle.model.specs.Writes.{key_of_write, effect_of_write, reply_where, is_done};
+ghost use Rattle.model.specs.Writes.{reply_to, effects_after, replies_to, effects_after_all};
 ghost use Rattle.oracle.specs.Replay.{AreAnswered};
 
 use crate::effects::Effects;
@@ -19,7 +20,8 @@ impl OrderedTable {
         effects: &Effects,
         write: &Write,
     ) -> Result<WriteReply, NoMemory>
-        ensures { IfOk result (λ reply. reply ≡ reply_to key_cols limit self.now effects.now write.now) }
+        ensures { IfOk result (λ reply. reply
+            ≡ reply_to key_cols limit self.now effects.now write.now) }
     {
         let image = self.with(effects)?;
         let key = key_of_write(self.alloc, key_cols, write)?;
@@ -35,8 +37,10 @@ impl OrderedTable {
         effects: &mut Effects,
         write: &Write,
     ) -> Result<WriteReply, NoMemory>
-        ensures reply { IfOk result (λ reply. reply ≡ reply_to key_cols limit self.now effects.old write.now) }
-        ensures ok { OnOk result (effects.new ≡ effects_after key_cols limit self.now effects.old write.now) }
+        ensures reply { IfOk result (λ reply. reply
+            ≡ reply_to key_cols limit self.now effects.old write.now) }
+        ensures ok { OnOk result (effects.new
+            ≡ effects_after key_cols limit self.now effects.old write.now) }
         ensures err { OnErr result (effects.new ≡ effects.old) }
     {
         let reply = self.reply_to(key_cols, limit, effects, write)?;
@@ -56,8 +60,10 @@ impl OrderedTable {
         effects: &mut Effects,
         writes: &[Write],
     ) -> Result<Vec<WriteReply>, NoMemory>
-        ensures replies { IfOk result (λ replies. replies.items ≡ replies_to key_cols limit self.now effects.old writes.now) }
-        ensures ok { OnOk result (effects.new ≡ effects_after_all key_cols limit self.now effects.old writes.now) }
+        ensures replies { IfOk result (λ replies. replies.items
+            ≡ replies_to key_cols limit self.now effects.old writes.now) }
+        ensures ok { OnOk result (effects.new
+            ≡ effects_after_all key_cols limit self.now effects.old writes.now) }
         ensures err { OnErr result (effects.new ≡ effects.old) }
     {
         let mut after = effects.copy()?;
