@@ -1,14 +1,14 @@
 -- std's ordered map as the model's: the entries in ascending key.
 use Rattle.std.proofs.Common.{◌≡◌, Bool, true, false, cond, not, T, Option, Some, None, List, [], ◌∷◌, ◌++◌, Ordering, Less, Equal, Greater, is_lt, is_eq, append_assoc, refl, sym, ap, ◌∙◌, subst}
-use Rattle.std.specs.Ordering.{eq_by_cmp, match_ordering, ordering_reverse}
+use Rattle.std.specs.Ordering.{match_ordering, ordering_reverse}
 use Rattle.std.specs.Cmp.{IsTotalOrder}
 use Rattle.std.specs.FinMap.{IsAntisymmetric}
 use Rattle.std.specs.List.{AllByRecursion}
 use Rattle.std.specs.List.Sorted.{IsStrictlySortedBy}
-use Rattle.std.specs.Map.{keys_of, lookup, remove_entry}
+use Rattle.std.specs.Map.{keys_of, remove_entry}
 use Rattle.std.specs.BTreeMap.{insert_entry, is_at}
 use Rattle.std.specs.FinMap.Entries.{by_order, below_all}
-use Rattle.model.specs.Maps.{find, put, is_sorted, without, store, alter_all}
+use Rattle.model.specs.Maps.{find, put, is_sorted, without, alter_all}
 use Rattle.model.proofs.MapsLemmas.{both, first, second, less, without_below, below_tied, changed_by, find-alter_all, sorted-alter_all, same_map}
 
 pub is_true : (b : Bool) → T b → b ≡ true

@@ -1,11 +1,11 @@
 -- Where the writes fit the schema, a history is legal exactly where each record is due.
-use Rattle.std.proofs.Common.{◌≡◌, ◌↔◌, ℕ, Bool, true, false, ◌&&◌, List, [], ◌∷◌, refl, sym, ap, subst}
+use Rattle.std.proofs.Common.{◌≡◌, ◌↔◌, ℕ, Bool, true, false, ◌&&◌, List, [], ◌∷◌, refl, sym, subst}
 use Rattle.std.specs.Prelude.{IsTrue}
 use Rattle.values.specs.Shape.{Columns}
 use Rattle.model.specs.Table.{Table}
 use Rattle.model.specs.Effects.{Effects}
 use Rattle.model.specs.History.{Record, IsLegalFrom, IsLegal, commits_after}
-use Rattle.oracle.specs.Replay.{IsDue, AreDueFrom, AllFitSchema}
+use Rattle.oracle.specs.Replay.{AreDueFrom, AllFitSchema}
 
 both_first : (a b : Bool) → IsTrue (a && b) → IsTrue a
 both_first true b h = refl

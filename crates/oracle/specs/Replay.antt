@@ -7,7 +7,7 @@ use Rattle.model.specs.declared.write.WriteReply.{WriteReply}
 use Rattle.model.specs.Table.{Table}
 use Rattle.model.specs.Effects.{Effects}
 use Rattle.model.specs.Writes.{write_fits_schema, replies_to, effects_after_all}
-use Rattle.model.specs.History.{table_after, Record, writes_of, replies_of, due_reply, effects_of_record, commits_after}
+use Rattle.model.specs.History.{table_after, Record, writes_of, due_reply, effects_of_record, commits_after}
 
 module _ (key_cols limit : ℕ) (t : Table) where
   -- each write got the reply that is due after those before it

@@ -1,4 +1,4 @@
-use Rattle.std.proofs.Common.{◌≡◌, ◌∙◌, ◌++◌, ap, nat_cmp}
+use Rattle.std.proofs.Common.{◌∙◌, ◌++◌, ap, nat_cmp}
 use Rattle.std.specs.Cmp.{nat_cmp_total}
 use Rattle.model.specs.Maps.{put}
 use Rattle.oracle.proofs.OrderedMapLemmas.{copied-put, is_sorted-ordered}

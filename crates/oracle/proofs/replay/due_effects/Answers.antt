@@ -1,7 +1,7 @@
-use Rattle.std.proofs.Common.{◌≡◌, ◌≤◌, [], length, arith, rules}
+use Rattle.std.proofs.Common.{◌≡◌, ◌≤◌, [], length, arith}
 use Rattle.std.proofs.lemmas.Grind.{common_steps}
 use Rattle.model.specs.History.{table_after, due_reply, effects_of_record}
-use Rattle.oracle.specs.Replay.{GotDueReplies, keyed_by, IsDue}
+use Rattle.oracle.specs.Replay.{GotDueReplies, keyed_by}
 use Rattle.oracle.proofs.replay.due_effects.Goals as goal
 
 pub returns : goal.returns

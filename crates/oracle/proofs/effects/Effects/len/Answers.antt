@@ -1,4 +1,4 @@
-use Rattle.std.proofs.Common.{T, ap, ◌∙◌, sym}
+use Rattle.std.proofs.Common.{ap, ◌∙◌, sym}
 use Rattle.values.specs.Orders.{key_cmp}
 use Rattle.model.specs.Maps.{is_sorted}
 use Rattle.oracle.proofs.OrderedMapLemmas.{is_true, is_sorted-ordered}
