@@ -1,0 +1,2 @@
+pub mod OrderedMapLemmas
+pub mod ReplayLemmas

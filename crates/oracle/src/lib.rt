@@ -1,0 +1,20 @@
+//! The slow, plain program beside the definitions: what each call answers is a definition of `model`, word for word.
+//! Maps are std's ordered maps, and everything is copied. Tests compare the faster crates with it.
+#![tactic(auto)]
+
+mod effect;
+mod effects;
+mod entries;
+mod map;
+mod record;
+mod replay;
+mod table;
+
+pub use effects::Effects;
+pub use entries::{canonical_entries, merged_rows};
+pub use record::Record;
+pub use replay::{due_reply, is_legal, table_after};
+pub use table::OrderedTable;
+
+#[cfg(test)]
+mod tests;

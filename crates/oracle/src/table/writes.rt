@@ -1,0 +1,140 @@
+//! The writes of a transaction over its snapshot.
+ghost use Rattle.std.specs.Prelude.{◌≡◌, ◌∷◌, [], IfOk, OnOk, OnErr};
+ghost use Rattle.model.specs.Writes.{key_of_write, effect_of_write, reply_where, is_done};
+ghost use Rattle.model.specs.Writes.{reply_to, effects_after, replies_to, effects_after_all};
+ghost use Rattle.oracle.specs.Replay.{AreAnswered};
+
+use crate::effects::Effects;
+use crate::table::{OrderedTable, key_of};
+use model::{Cells, Effect, Write, WriteReply};
+use std::alloc::Global;
+use std::collections::BTreeMap;
+use values::{Key, NoMemory};
+
+impl OrderedTable {
+    /// The reply to a write after these effects, where a table may have `limit` rows. Takes a copy of the table.
+    pub fn reply_to(
+        &self,
+        key_cols: usize,
+        limit: u64,
+        effects: &Effects,
+        write: &Write,
+    ) -> Result<WriteReply, NoMemory>
+        ensures { IfOk result (λ reply. reply
+            ≡ reply_to key_cols limit self.now effects.now write.now) }
+    {
+        let image = self.with(effects)?;
+        let key = key_of_write(self.alloc, key_cols, write)?;
+        let there = image.row_at(&key).is_some();
+        Ok(reply_where(limit, there, image.len(), write))
+    }
+
+    /// Answers a write, and adds what it does to the effects. On want of memory they stay.
+    pub fn write(
+        &self,
+        key_cols: usize,
+        limit: u64,
+        effects: &mut Effects,
+        write: &Write,
+    ) -> Result<WriteReply, NoMemory>
+        ensures reply { IfOk result (λ reply. reply
+            ≡ reply_to key_cols limit self.now effects.old write.now) }
+        ensures ok { OnOk result (effects.new
+            ≡ effects_after key_cols limit self.now effects.old write.now) }
+        ensures err { OnErr result (effects.new ≡ effects.old) }
+    {
+        let reply = self.reply_to(key_cols, limit, effects, write)?;
+        if is_done(reply) {
+            let key = key_of_write(self.alloc, key_cols, write)?;
+            let effect = effect_of_write(self.alloc, write)?;
+            effects.compose(&key, &effect)?;
+        }
+        Ok(reply)
+    }
+
+    /// Answers writes in order. On want of memory the effects stay.
+    pub fn write_all(
+        &self,
+        key_cols: usize,
+        limit: u64,
+        effects: &mut Effects,
+        writes: &[Write],
+    ) -> Result<Vec<WriteReply>, NoMemory>
+        ensures replies { IfOk result (λ replies. replies.items
+            ≡ replies_to key_cols limit self.now effects.old writes.now) }
+        ensures ok { OnOk result (effects.new
+            ≡ effects_after_all key_cols limit self.now effects.old writes.now) }
+        ensures err { OnErr result (effects.new ≡ effects.old) }
+    {
+        let mut after = effects.copy()?;
+        let mut replies = Vec::new(self.alloc);
+        for write in writes {
+            replies.push(self.write(key_cols, limit, &mut after, write)?)?;
+        }
+        *effects = after;
+        Ok(replies)
+    }
+
+    /// The effects of the writes, where each got the reply that is due.
+    pub fn answered_effects(
+        &self,
+        key_cols: usize,
+        limit: u64,
+        writes: &[(Write, WriteReply)],
+    ) -> Result<Option<Effects>, NoMemory>
+        ensures { IfOk result (λ found. AreAnswered key_cols limit self.now writes.now found) }
+    {
+        let mut effects = Effects::new(self.alloc);
+        for (write, reply) in writes {
+            if self.write(key_cols, limit, &mut effects, write)? != *reply {
+                return Ok(None);
+            }
+        }
+        Ok(Some(effects))
+    }
+}
+
+/// The key that a write is about.
+fn key_of_write(alloc: Global, key_cols: usize, write: &Write) -> Result<Key, NoMemory>
+    ensures { IfOk result (λ key. key ≡ key_of_write key_cols write.now) }
+{
+    match write {
+        Write::Insert(row) => key_of(alloc, key_cols, row),
+        Write::Delete(key) => key.copy(),
+        Write::Set(key, _, _) => key.copy(),
+    }
+}
+
+/// What a write does to its key where it is done.
+fn effect_of_write(alloc: Global, write: &Write) -> Result<Effect, NoMemory>
+    ensures { IfOk result (λ effect. effect ≡ effect_of_write write.now) }
+{
+    match write {
+        Write::Insert(row) => Ok(Effect::Ins(row.copy()?)),
+        Write::Delete(_) => Ok(Effect::Del),
+        Write::Set(_, col, value) => {
+            let mut cells = BTreeMap::new(alloc);
+            cells.insert(*col, value.copy()?)?;
+            Ok(Effect::Mod(Cells::new(cells)))
+        }
+    }
+}
+
+/// The reply where the key is, or isn't, in a table of `count` rows.
+fn reply_where(limit: u64, there: bool, count: usize, write: &Write) -> WriteReply
+    ensures { result ≡ reply_where limit there count write.now }
+{
+    match write {
+        Write::Insert(_) if there => WriteReply::Duplicate,
+        Write::Insert(_) if limit <= count as u64 => WriteReply::Full,
+        Write::Insert(_) => WriteReply::Done,
+        _ if there => WriteReply::Done,
+        _ => WriteReply::Missing,
+    }
+}
+
+fn is_done(reply: WriteReply) -> bool
+    ensures { result ≡ is_done reply }
+{
+    matches!(reply, WriteReply::Done)
+}

@@ -1,0 +1,510 @@
+//! What no clause says: that the calls succeed, and that the definitions are the ones that were meant. Each test runs
+//! transactions over one small table and compares with what a person expects. That a refused growth is answered by
+//! `NoMemory`, and by nothing else, shows under `rt try --test --fail-alloc 1..`: each `?` then ends its test.
+use super::*;
+use CommitReply::{Committed, Conflict, Full, TooOld};
+use Reply::{Begun, Decided, Wrote};
+use WriteReply::{Done, Duplicate, Missing};
+use model::{Change, CommitReply, Entry, Write, WriteReply};
+use std::alloc::{AllocError, Global};
+use std::mem::swap;
+use std::process::Abort;
+use std::test::Fail;
+use values::{Key, NoMemory, Row, Text, Value};
+
+/// The columns are id, which is the key, name and quantity.
+const NAME: usize = 1;
+
+const QUANTITY: usize = 2;
+
+const AMPLE: u64 = 2_147_483_647;
+
+const RECENT: usize = 64;
+
+fn text(alloc: Global, name: &str) -> Result<Value, AllocError> {
+    Ok(Value::Text(Text::new(String::from_str(alloc, name)?)))
+}
+
+fn row(alloc: Global, id: i64, name: &str, quantity: i64) -> Result<Row, NoMemory> {
+    let mut cells = Vec::new(alloc);
+    cells.push(Value::Int(id))?;
+    cells.push(text(alloc, name)?)?;
+    cells.push(Value::Int(quantity))?;
+    Ok(Row::new(cells))
+}
+
+fn key(alloc: Global, id: i64) -> Result<Key, NoMemory> {
+    let mut cells = Vec::new(alloc);
+    cells.push(Value::Int(id))?;
+    Ok(Key::new(cells))
+}
+
+fn base_table(alloc: Global) -> Result<OrderedTable, NoMemory> {
+    let mut rows = Vec::new(alloc);
+    for (id, name, quantity) in [(10, "Ann", 1), (20, "Bob", 2), (30, "Cid", 3)] {
+        rows.push(row(alloc, id, name, quantity)?)?;
+    }
+    OrderedTable::from_rows(alloc, 1, rows)
+}
+
+/// The cells with commas between them.
+fn shown_cells(text: &mut String, cells: &[Value]) -> Result<(), AllocError> {
+    let mut between = "";
+    for cell in cells {
+        text.push_str(between)?;
+        between = ",";
+        shown_cell(text, cell)?;
+    }
+    Ok(())
+}
+
+fn shown_cell(text: &mut String, cell: &Value) -> Result<(), AllocError> {
+    match cell {
+        Value::Int(number) => write!(text, "{number}"),
+        Value::Text(name) => text.push_str(name.as_str()),
+        Value::Bool(truth) => write!(text, "{truth}"),
+    }
+}
+
+fn shown_rows(alloc: Global, rows: &[Row]) -> Result<String, AllocError> {
+    let mut text = String::new(alloc);
+    let mut between = "";
+    for row in rows {
+        text.push_str(between)?;
+        between = " ";
+        shown_cells(&mut text, row.cells())?;
+    }
+    Ok(text)
+}
+
+fn shown_entries(alloc: Global, entries: &[Entry]) -> Result<String, AllocError> {
+    let mut text = String::new(alloc);
+    let mut between = "";
+    for entry in entries {
+        text.push_str(between)?;
+        between = " ";
+        shown_entry(&mut text, entry)?;
+    }
+    Ok(text)
+}
+
+fn shown_entry(text: &mut String, entry: &Entry) -> Result<(), AllocError> {
+    write!(text, "{}:", entry.sid)?;
+    match &entry.change {
+        Change::Ins(row) => {
+            text.push_str("+")?;
+            shown_cells(text, row.cells())
+        }
+        Change::Del(key) => {
+            text.push_str("-")?;
+            shown_cells(text, key.cells())
+        }
+        Change::Mod(col, value) => {
+            write!(text, "{col}=")?;
+            shown_cell(text, value)
+        }
+    }
+}
+
+/// A call of a client.
+#[derive(Clone, Copy, Debug)]
+enum Call {
+    Begin,
+    Insert(i64, &'static str, i64),
+    Delete(i64),
+    SetName(i64, &'static str),
+    SetQuantity(i64, i64),
+    Commit,
+}
+
+#[derive(Clone, Copy, Debug, PartialEq, Eq)]
+enum Reply {
+    Begun,
+    Wrote(WriteReply),
+    Decided(CommitReply),
+    NoClient,
+}
+
+fn written(alloc: Global, call: Call) -> Result<Option<Write>, NoMemory> {
+    match call {
+        Call::Insert(id, name, quantity) => Ok(Some(Write::Insert(row(
+            alloc, id, name, quantity,
+        )?))),
+        Call::Delete(id) => Ok(Some(Write::Delete(key(alloc, id)?))),
+        Call::SetName(id, name) => Ok(Some(Write::Set(key(alloc, id)?, NAME, text(alloc, name)?))),
+        Call::SetQuantity(id, quantity) => {
+            Ok(Some(Write::Set(key(alloc, id)?, QUANTITY, Value::Int(quantity))))
+        }
+        _ => Ok(None),
+    }
+}
+
+/// A transaction, and what it was answered.
+#[derive(Drop)]
+struct Client {
+    begin: u64,
+    snapshot: OrderedTable,
+    effects: Effects,
+    writes: Vec<(Write, WriteReply)>,
+}
+
+/// The commits over a table, and the history of all who asked for one.
+#[derive(Drop)]
+struct Trial {
+    alloc: Global,
+    limit: u64,
+    recent: usize,
+    opening: OrderedTable,
+    commits: Vec<Effects>,
+    history: Vec<Record>,
+    clients: Vec<Client>,
+}
+
+impl Trial {
+    /// Three clients who have begun, over the base table.
+    fn new(alloc: Global, limit: u64, recent: usize) -> Result<Trial, NoMemory> {
+        let mut trial = Trial {
+            alloc,
+            limit,
+            recent,
+            opening: base_table(alloc)?,
+            commits: Vec::new(alloc),
+            history: Vec::new(alloc),
+            clients: Vec::new(alloc),
+        };
+        for _ in 0..3 {
+            let client = trial.begun()?;
+            trial.clients.push(client)?;
+        }
+        Ok(trial)
+    }
+
+    fn begun(&self) -> Result<Client, NoMemory> {
+        let begin = self.commits.len() as u64;
+        Ok(Client {
+            begin,
+            snapshot: table_after(&self.opening, self.commits.as_slice(), begin)?,
+            effects: Effects::new(self.alloc),
+            writes: Vec::new(self.alloc),
+        })
+    }
+
+    fn answer(&mut self, name: usize, call: Call) -> Result<Reply, NoMemory> {
+        let mut begun = self.begun()?;
+        let Some(client) = self.clients.get_mut(name) else {
+            return Ok(Reply::NoClient);
+        };
+        if let Some(write) = written(self.alloc, call)? {
+            let effects = &mut client.effects;
+            let reply = client.snapshot.write(1, self.limit, effects, &write)?;
+            client.writes.push((write, reply))?;
+            return Ok(Reply::Wrote(reply));
+        }
+        swap(client, &mut begun);
+        match call {
+            Call::Commit => Ok(Reply::Decided(self.decide(begun)?)),
+            _ => Ok(Reply::Begun),
+        }
+    }
+
+    fn decide(&mut self, client: Client) -> Result<CommitReply, NoMemory> {
+        let Client {
+            begin,
+            snapshot: _,
+            effects,
+            writes,
+        } = client;
+        let commits = self.commits.as_slice();
+        let reply = due_reply(
+            self.limit,
+            self.recent,
+            &self.opening,
+            commits,
+            begin,
+            &effects,
+        )?;
+        if let Committed(_) = reply {
+            self.commits.push(effects)?;
+        }
+        self.history.push(Record::new(0, begin, writes, reply))?;
+        Ok(reply)
+    }
+
+    /// The rows after all commits.
+    fn image(&self) -> Result<String, NoMemory> {
+        let rows = self.opening.with_all(self.commits.as_slice())?.rows()?;
+        Ok(shown_rows(self.alloc, rows.as_slice())?)
+    }
+
+    fn is_legal(&self) -> Result<bool, NoMemory> {
+        let history = self.history.as_slice();
+        is_legal(
+            self.alloc,
+            1,
+            self.limit,
+            self.recent,
+            &self.opening,
+            history,
+        )
+    }
+}
+
+/// That the calls get these replies and leave this image, and that their history is legal.
+fn runs(
+    rt: &impl Abort,
+    mut trial: Trial,
+    calls: &[(usize, Call, Reply)],
+    image: &str,
+) -> Result<(), Fail> {
+    for (name, call, reply) in calls {
+        let given = trial.answer(*name, *call)?;
+        assert_eq!(rt; given, *reply, "client {name} {call:?}");
+    }
+    assert_eq!(rt; trial.image()?.as_str(), image);
+    assert!(rt; trial.is_legal()?);
+    Ok(())
+}
+
+const A: usize = 0;
+
+const B: usize = 1;
+
+const C: usize = 2;
+
+#[test]
+fn refused_writes_leave_the_image(rt: HostRuntime) -> Result<(), Fail> {
+    let trial = Trial::new(rt.alloc(), AMPLE, RECENT)?;
+    let calls = [
+        (A, Call::Insert(20, "Bob", 2), Wrote(Duplicate)),
+        (A, Call::Delete(25), Wrote(Missing)),
+        (A, Call::Commit, Decided(Committed(1))),
+    ];
+    runs(&rt, trial, calls.as_slice(), "10,Ann,1 20,Bob,2 30,Cid,3")
+}
+
+#[test]
+fn an_insert_changed_and_deleted_leaves_no_entry(rt: HostRuntime) -> Result<(), Fail> {
+    let trial = Trial::new(rt.alloc(), AMPLE, RECENT)?;
+    let calls = [
+        (A, Call::Insert(25, "Dee", 4), Wrote(Done)),
+        (A, Call::SetQuantity(25, 5), Wrote(Done)),
+        (A, Call::Delete(25), Wrote(Done)),
+        (A, Call::Commit, Decided(Committed(1))),
+    ];
+    runs(&rt, trial, calls.as_slice(), "10,Ann,1 20,Bob,2 30,Cid,3")
+}
+
+#[test]
+fn a_replaced_row_conflicts_with_a_modify(rt: HostRuntime) -> Result<(), Fail> {
+    let trial = Trial::new(rt.alloc(), AMPLE, RECENT)?;
+    let calls = [
+        (A, Call::Delete(20), Wrote(Done)),
+        (A, Call::Insert(20, "Bea", 9), Wrote(Done)),
+        (B, Call::SetQuantity(20, 7), Wrote(Done)),
+        (A, Call::Commit, Decided(Committed(1))),
+        (B, Call::Commit, Decided(Conflict(1))),
+    ];
+    runs(&rt, trial, calls.as_slice(), "10,Ann,1 20,Bea,9 30,Cid,3")
+}
+
+#[test]
+fn modifies_of_two_columns_both_commit(rt: HostRuntime) -> Result<(), Fail> {
+    let trial = Trial::new(rt.alloc(), AMPLE, RECENT)?;
+    let calls = [
+        (A, Call::SetName(20, "Bea"), Wrote(Done)),
+        (B, Call::SetQuantity(20, 7), Wrote(Done)),
+        (A, Call::Commit, Decided(Committed(1))),
+        (B, Call::Commit, Decided(Committed(2))),
+    ];
+    runs(&rt, trial, calls.as_slice(), "10,Ann,1 20,Bea,7 30,Cid,3")
+}
+
+#[test]
+fn same_value_modifies_conflict(rt: HostRuntime) -> Result<(), Fail> {
+    let trial = Trial::new(rt.alloc(), AMPLE, RECENT)?;
+    let calls = [
+        (A, Call::SetQuantity(20, 2), Wrote(Done)),
+        (B, Call::SetQuantity(20, 2), Wrote(Done)),
+        (A, Call::Commit, Decided(Committed(1))),
+        (B, Call::Commit, Decided(Conflict(1))),
+    ];
+    runs(&rt, trial, calls.as_slice(), "10,Ann,1 20,Bob,2 30,Cid,3")
+}
+
+#[test]
+fn only_inserts_of_one_key_conflict(rt: HostRuntime) -> Result<(), Fail> {
+    let trial = Trial::new(rt.alloc(), AMPLE, RECENT)?;
+    let calls = [
+        (A, Call::Insert(25, "Dee", 4), Wrote(Done)),
+        (B, Call::Insert(25, "Eve", 5), Wrote(Done)),
+        (C, Call::Insert(26, "Flo", 6), Wrote(Done)),
+        (A, Call::Commit, Decided(Committed(1))),
+        (B, Call::Commit, Decided(Conflict(1))),
+        (C, Call::Commit, Decided(Committed(2))),
+    ];
+    runs(
+        &rt,
+        trial,
+        calls.as_slice(),
+        "10,Ann,1 20,Bob,2 25,Dee,4 26,Flo,6 30,Cid,3",
+    )
+}
+
+#[test]
+fn a_commit_undone_by_another_still_conflicts(rt: HostRuntime) -> Result<(), Fail> {
+    let trial = Trial::new(rt.alloc(), AMPLE, RECENT)?;
+    let calls = [
+        (B, Call::Insert(25, "Dee", 4), Wrote(Done)),
+        (B, Call::Commit, Decided(Committed(1))),
+        (C, Call::Begin, Begun),
+        (C, Call::Delete(25), Wrote(Done)),
+        (C, Call::Commit, Decided(Committed(2))),
+        (A, Call::Insert(25, "Eve", 5), Wrote(Done)),
+        (A, Call::Commit, Decided(Conflict(2))),
+    ];
+    runs(&rt, trial, calls.as_slice(), "10,Ann,1 20,Bob,2 30,Cid,3")
+}
+
+#[test]
+fn write_skew_commits(rt: HostRuntime) -> Result<(), Fail> {
+    let trial = Trial::new(rt.alloc(), AMPLE, RECENT)?;
+    let calls = [
+        (A, Call::SetQuantity(20, 0), Wrote(Done)),
+        (B, Call::SetQuantity(10, 0), Wrote(Done)),
+        (A, Call::Commit, Decided(Committed(1))),
+        (B, Call::Commit, Decided(Committed(2))),
+    ];
+    runs(&rt, trial, calls.as_slice(), "10,Ann,0 20,Bob,0 30,Cid,3")
+}
+
+#[test]
+fn an_old_begin_is_decided_or_too_old(rt: HostRuntime) -> Result<(), Fail> {
+    let trial = Trial::new(rt.alloc(), AMPLE, 2)?;
+    let calls = [
+        (B, Call::Commit, Decided(Committed(1))),
+        (B, Call::Begin, Begun),
+        (B, Call::Commit, Decided(Committed(2))),
+        (A, Call::SetQuantity(30, 9), Wrote(Done)),
+        (A, Call::Commit, Decided(Committed(3))),
+        (C, Call::Commit, Decided(TooOld(3))),
+    ];
+    runs(&rt, trial, calls.as_slice(), "10,Ann,1 20,Bob,2 30,Cid,9")
+}
+
+#[test]
+fn the_row_limit_holds_in_and_across_transactions(rt: HostRuntime) -> Result<(), Fail> {
+    let trial = Trial::new(rt.alloc(), 4, RECENT)?;
+    let calls = [
+        (A, Call::Insert(40, "Dee", 4), Wrote(Done)),
+        (A, Call::Insert(41, "Eve", 5), Wrote(WriteReply::Full)),
+        (B, Call::Insert(50, "Flo", 6), Wrote(Done)),
+        (A, Call::Commit, Decided(Committed(1))),
+        (B, Call::Commit, Decided(Full(1))),
+    ];
+    runs(
+        &rt,
+        trial,
+        calls.as_slice(),
+        "10,Ann,1 20,Bob,2 30,Cid,3 40,Dee,4",
+    )
+}
+
+#[test]
+fn a_history_with_another_answer_is_not_legal(rt: HostRuntime) -> Result<(), Fail> {
+    let alloc = rt.alloc();
+    let opening = base_table(alloc)?;
+    for (label, begin, reply, commit, legal) in [
+        ("as it was", 0, Done, Committed(1), true),
+        (
+            "another reply to the write",
+            0,
+            Missing,
+            Committed(1),
+            false,
+        ),
+        ("another reply to the commit", 0, Done, Conflict(0), false),
+        ("another number", 0, Done, Committed(2), false),
+        ("a begin that was not there", 1, Done, Committed(1), false),
+    ] {
+        let mut writes = Vec::new(alloc);
+        writes.push((Write::Delete(key(alloc, 20)?), reply))?;
+        let mut history = Vec::new(alloc);
+        let entry = Record::new(7, begin, writes, commit);
+        assert_eq!(rt; (entry.client(), entry.begin()), (7, begin));
+        assert_eq!(rt; (entry.writes().len(), entry.reply()), (1, commit));
+        history.push(entry)?;
+        let answer = is_legal(alloc, 1, AMPLE, RECENT, &opening, history.as_slice())?;
+        assert_eq!(rt; answer, legal, "{label}");
+    }
+    Ok(())
+}
+
+/// What the writes do to the base table, and then the later ones.
+fn effects_of(alloc: Global, table: &OrderedTable, calls: &[Call]) -> Result<Effects, NoMemory> {
+    let mut writes = Vec::new(alloc);
+    for call in calls {
+        if let Some(write) = written(alloc, *call)? {
+            writes.push(write)?;
+        }
+    }
+    let mut effects = Effects::new(alloc);
+    let _replies = table.write_all(1, AMPLE, &mut effects, writes.as_slice())?;
+    Ok(effects)
+}
+
+#[test]
+fn entries_stand_in_order_and_merge(rt: HostRuntime) -> Result<(), Fail> {
+    let alloc = rt.alloc();
+    let table = base_table(alloc)?;
+    let first = [
+        Call::Delete(20),
+        Call::Insert(20, "Bea", 9),
+        Call::Insert(35, "Dee", 4),
+    ];
+    let first = effects_of(alloc, &table, first.as_slice())?;
+    let later = [
+        Call::Delete(10),
+        Call::SetName(30, "Eve"),
+        Call::SetQuantity(35, 5),
+    ];
+    let later = effects_of(alloc, &table.with(&first)?, later.as_slice())?;
+    let both = first.composed(&later)?;
+    let entries = canonical_entries(alloc, &table, &both)?;
+    let shown = shown_entries(alloc, entries.as_slice())?;
+    assert_eq!(rt;
+        shown.as_str(),
+        "0:-10 1:+20,Bea,9 1:-20 2:1=Eve 3:+35,Dee,5"
+    );
+    let merged = merged_rows(alloc, table.rows()?.as_slice(), entries.as_slice())?;
+    let shown = shown_rows(alloc, merged.as_slice())?;
+    assert_eq!(rt; shown.as_str(), "20,Bea,9 30,Eve,3 35,Dee,5");
+    Ok(())
+}
+
+#[test]
+fn tables_and_effects_are_read(rt: HostRuntime) -> Result<(), Fail> {
+    let alloc = rt.alloc();
+    let table = base_table(alloc)?;
+    let bound = key(alloc, 25)?;
+    assert_eq!(rt;
+        (
+            table.len(),
+            table.rank(&bound),
+            table.row_at(&bound).is_some()
+        ),
+        (3, 2, false)
+    );
+    let mut effects = effects_of(alloc, &table, [Call::Insert(25, "Dee", 4)].as_slice())?;
+    assert!(rt; table.all_fit(&effects));
+    assert!(rt; !table.with(&effects)?.all_fit(&effects));
+    assert!(rt; effects.conflicts(&effects.copy()?));
+    assert!(rt; effects.get(&bound).is_some());
+    let again = Write::Insert(row(alloc, 25, "Eve", 5)?);
+    assert_eq!(rt; table.reply_to(1, AMPLE, &effects, &again)?, Duplicate);
+    effects.store(bound, None)?;
+    assert_eq!(rt;
+        (effects.len(), OrderedTable::new(alloc).copy()?.len()),
+        (0, 0)
+    );
+    Ok(())
+}
