@@ -1,6 +1,6 @@
 //! What no clause says: the limits and the order of the tests, as a person would name them, and what a fault shows.
-//! That a refused growth is answered by `NoMemory`, and by nothing else, shows under `rt try --test --fail-alloc 1..`:
-//! each `?` below then ends its test.
+//! That a refused growth is answered by `NoMemory` shows under `rt try --test --fail-alloc N`, for N from 1 on: each `?`
+//! below then ends its test with it. (A string that a test makes for itself ends it with `AllocError`.)
 use super::*;
 use std::alloc::Global;
 use std::test::Fail;
