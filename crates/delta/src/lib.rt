@@ -10,6 +10,8 @@ mod entries;
 mod laws;
 mod lookup;
 mod sorted;
+#[cfg(test)]
+mod tests;
 mod tree;
 
 pub use entries::Iter;
