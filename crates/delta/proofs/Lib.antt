@@ -5,3 +5,5 @@ pub mod ChangeCountLemmas
 pub mod OrderLemmas
 pub mod LawfulLemmas
 pub mod LookupLemmas
+pub mod CallerLemmas
+pub mod LawsLemmas

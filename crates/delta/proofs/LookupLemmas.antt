@@ -55,7 +55,7 @@ module _ (key_cols sid : ℕ) where
               let gt : x.sid < sid = ranked sid x.sid Greater (sym f) in
               omega arith
 
-  no_deletes : (xs : List Entry) → T (list_all (λ x. not (is_delete_at sid x)) xs) → has_delete sid xs ≡ false
+  pub no_deletes : (xs : List Entry) → T (list_all (λ x. not (is_delete_at sid x)) xs) → has_delete sid xs ≡ false
   no_deletes [] h = refl
   no_deletes (x ∷ xs) h =
       let none : is_delete_at sid x ≡ false = false_of (is_delete_at sid x) (first (not (is_delete_at sid x)) (list_all (λ y. not (is_delete_at sid y)) xs) h) in
@@ -65,7 +65,7 @@ module _ (key_cols sid : ℕ) where
       false_of true h = absurd h
       false_of false h = refl
 
-  skip_deletes : (xs ys : List Entry) → T (list_all (λ x. not (is_delete_at sid x)) xs) → has_delete sid (xs ++ ys) ≡ has_delete sid ys
+  pub skip_deletes : (xs ys : List Entry) → T (list_all (λ x. not (is_delete_at sid x)) xs) → has_delete sid (xs ++ ys) ≡ has_delete sid ys
   skip_deletes [] ys h = refl
   skip_deletes (x ∷ xs) ys h =
       let none : is_delete_at sid x ≡ false = false_of (is_delete_at sid x) (first (not (is_delete_at sid x)) (list_all (λ y. not (is_delete_at sid y)) xs) h) in

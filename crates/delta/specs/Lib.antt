@@ -2,3 +2,4 @@ pub mod Tree
 pub mod Lookups
 pub mod Search
 pub mod Changes
+pub mod Laws

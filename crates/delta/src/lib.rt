@@ -7,10 +7,14 @@
 
 mod changes;
 mod entries;
+mod laws;
 mod lookup;
 mod sorted;
+#[cfg(test)]
+mod tests;
 mod tree;
 
 pub use entries::Iter;
+pub use laws::{a_write_is_one_call, canonical_look_ups, inserts_ascend_at_a_sid};
 pub use model::{Change, Entry};
 pub use tree::DeltaTree;

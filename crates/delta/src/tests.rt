@@ -1,0 +1,327 @@
+//! The changes of a tree over the rows (10, Ann, 1), (20, Bob, 2) and (30, Cid, 3), whose key is their first cell. The
+//! entries are written as a person reads them: `1+15,Flo,5` is an insert at SID 1, `1-20` a delete, `2:2=7` a modify of
+//! column 2.
+//!
+//! That a refused growth leaves the entries shows under `rt try --test --fail-alloc N`, for N from 1 on.
+ghost use Rattle.std.specs.Prelude.{◌≡◌, ◌<◌, ◌≤◌, IsTrue, IsSome, IsSomeAnd, length};
+ghost use Rattle.delta.specs.Lookups.{inserted_row};
+
+use super::*;
+use std::alloc::Global;
+use std::process::Abort;
+use std::test::Fail;
+use values::{Key, NoMemory, Row, Value, ValueRef};
+
+/// One change of a tree.
+#[derive(Clone, Copy)]
+enum Step {
+    Insert(u64, i64, &'static str, i64),
+    Delete(u64, i64),
+    Modify(u64, usize, ValueRef<'static>),
+    TakeInsert(u64, i64),
+    SetInsert(u64, i64, usize, ValueRef<'static>),
+}
+
+/// A row of these cells.
+fn row(alloc: Global, id: i64, name: &str, qty: i64) -> Result<Row, NoMemory> {
+    let mut values = Vec::new(alloc);
+    values.push(Value::Int(id))?;
+    values.push(ValueRef::Text(name).copy(alloc)?)?;
+    values.push(Value::Int(qty))?;
+    Ok(Row::new(values))
+}
+
+/// The key of the rows with this number.
+fn key(alloc: Global, id: i64) -> Result<Key, NoMemory> {
+    let mut values = Vec::new(alloc);
+    values.push(Value::Int(id))?;
+    Ok(Key::new(values))
+}
+
+/// Writes the cells, with a comma between two.
+fn write_cells(text: &mut String, cells: &[Value]) -> Result<(), Fail> {
+    for (col, cell) in cells.iter().enumerate() {
+        if col > 0 {
+            text.push_str(",")?;
+        }
+        write_cell(text, cell)?;
+    }
+    Ok(())
+}
+
+/// Writes the cell.
+fn write_cell(text: &mut String, cell: &Value) -> Result<(), Fail> {
+    match cell.as_ref() {
+        ValueRef::Int(number) => write!(text, "{number}")?,
+        ValueRef::Text(characters) => text.push_str(characters)?,
+        ValueRef::Bool(truth) => write!(text, "{truth}")?,
+    }
+    Ok(())
+}
+
+/// The entries as a person reads them.
+fn shown(alloc: Global, tree: &DeltaTree) -> Result<String, Fail> {
+    let mut text = String::new(alloc);
+    for entry in tree.iter() {
+        if !text.is_empty() {
+            text.push_str(" ")?;
+        }
+        let sid = entry.sid;
+        match &entry.change {
+            Change::Ins(row) => {
+                write!(text, "{sid}+")?;
+                write_cells(&mut text, row.cells())?;
+            }
+            Change::Del(key) => {
+                write!(text, "{sid}-")?;
+                write_cells(&mut text, key.cells())?;
+            }
+            Change::Mod(col, value) => {
+                write!(text, "{sid}:{col}=")?;
+                write_cell(&mut text, value)?;
+            }
+        }
+    }
+    Ok(text)
+}
+
+/// Puts the row in, where its key isn't inserted at the SID.
+fn put_ins(
+    rt: &impl Abort,
+    tree: &mut DeltaTree,
+    sid: u64,
+    row: Row,
+) -> Result<Result<(), NoMemory>, Fail> {
+    let mut cells = row.copy()?.into_cells();
+    cells.truncate(tree.key_cols);
+    let key = Key::new(cells);
+    assert!(rt; sid < 100);
+    assert!(rt; tree.len() < 100);
+    assert!(rt; tree.find_insert(sid, &key).is_none());
+    Ok(tree.put_ins(sid, row))
+}
+
+/// Deletes the base row at the SID, where it isn't deleted.
+fn put_del(rt: &impl Abort, tree: &mut DeltaTree, sid: u64, key: Key) -> Result<(), NoMemory> {
+    assert!(rt; sid < 100);
+    assert!(rt; tree.len() < 100);
+    assert!(rt; !tree.has_delete(sid));
+    tree.put_del(sid, key)
+}
+
+/// Modifies the base row at the SID, where it isn't deleted.
+fn put_mod(
+    rt: &impl Abort,
+    tree: &mut DeltaTree,
+    sid: u64,
+    col: usize,
+    value: Value,
+) -> Result<(), NoMemory> {
+    assert!(rt; sid < 100);
+    assert!(rt; tree.len() < 100);
+    assert!(rt; !tree.has_delete(sid));
+    tree.put_mod(sid, col, value)
+}
+
+/// Takes the insert of the key away, where it is there.
+fn take_ins(rt: &impl Abort, tree: &mut DeltaTree, sid: u64, key: &Key) -> Result<(), NoMemory> {
+    assert!(rt; tree.find_insert(sid, key).is_some());
+    tree.take_ins(sid, key)
+}
+
+/// Whether a row that has the column is inserted with the key at the SID.
+fn has_cell(tree: &DeltaTree, sid: u64, key: &Key, col: usize) -> bool
+    ensures { IsTrue result → IsSomeAnd (inserted_row tree.now.key_cols sid key.now tree.now.entries) (λ row. col < length row) }
+{
+    match tree.find_insert(sid, key) {
+        Some(row) => col < row.cells().len(),
+        None => false,
+    }
+}
+
+/// Changes a cell of the row that is inserted with the key, where it is there.
+fn set_ins(
+    rt: &impl Abort,
+    tree: &mut DeltaTree,
+    sid: u64,
+    key: &Key,
+    col: usize,
+    value: Value,
+) -> Result<(), NoMemory> {
+    assert!(rt; tree.key_cols <= col);
+    assert!(rt; has_cell(tree, sid, key, col));
+    tree.set_ins(sid, key, col, value)
+}
+
+/// Makes the change. The answer within is that of the tree.
+fn change(
+    rt: &impl Abort,
+    alloc: Global,
+    tree: &mut DeltaTree,
+    step: Step,
+) -> Result<Result<(), NoMemory>, Fail> {
+    match step {
+        Step::Insert(sid, id, name, qty) => put_ins(rt, tree, sid, row(alloc, id, name, qty)?),
+        Step::Delete(sid, id) => Ok(put_del(rt, tree, sid, key(alloc, id)?)),
+        Step::Modify(sid, col, value) => Ok(put_mod(rt, tree, sid, col, value.copy(alloc)?)),
+        Step::TakeInsert(sid, id) => Ok(take_ins(rt, tree, sid, &key(alloc, id)?)),
+        Step::SetInsert(sid, id, col, value) => {
+            Ok(set_ins(rt, tree, sid, &key(alloc, id)?, col, value.copy(alloc)?))
+        }
+    }
+}
+
+/// Makes the changes in turn in a tree with no entries, and looks at the entries after each. A change that is refused
+/// leaves them as they were, and ends the turn: then there is no tree.
+fn changed(
+    rt: &impl Abort,
+    alloc: Global,
+    cases: &[(Step, &str)],
+) -> Result<Option<DeltaTree>, Fail> {
+    let mut tree = DeltaTree::new(alloc, 1);
+    let mut before = "";
+    for (step, after) in cases {
+        let answer = change(rt, alloc, &mut tree, *step)?;
+        let text = shown(alloc, &tree)?;
+        match answer {
+            Ok(()) => assert_eq!(rt; text.as_str(), *after),
+            Err(NoMemory) => {
+                assert_eq!(rt; text.as_str(), before, "refused before {after}");
+                return Ok(None);
+            }
+        }
+        before = after;
+    }
+    Ok(Some(tree))
+}
+
+#[test]
+fn each_change_leaves_its_list(rt: HostRuntime) -> Result<(), Fail> {
+    let cases: [(Step, &str); 9] = [
+        (Step::Insert(1, 15, "Flo", 5), "1+15,Flo,5"),
+        (Step::Insert(0, 5, "Eve", 4), "0+5,Eve,4 1+15,Flo,5"),
+        (
+            Step::Modify(2, 2, ValueRef::Int(7)),
+            "0+5,Eve,4 1+15,Flo,5 2:2=7",
+        ),
+        (Step::Delete(1, 20), "0+5,Eve,4 1+15,Flo,5 1-20 2:2=7"),
+        (
+            Step::SetInsert(1, 15, 2, ValueRef::Int(6)),
+            "0+5,Eve,4 1+15,Flo,6 1-20 2:2=7",
+        ),
+        (
+            Step::Modify(2, 2, ValueRef::Int(8)),
+            "0+5,Eve,4 1+15,Flo,6 1-20 2:2=8",
+        ),
+        (Step::TakeInsert(0, 5), "1+15,Flo,6 1-20 2:2=8"),
+        (
+            Step::Insert(3, 40, "Gus", 9),
+            "1+15,Flo,6 1-20 2:2=8 3+40,Gus,9",
+        ),
+        (Step::Delete(0, 10), "0-10 1+15,Flo,6 1-20 2:2=8 3+40,Gus,9"),
+    ];
+    changed(&rt, rt.alloc(), cases.as_slice())?;
+    Ok(())
+}
+
+#[test]
+fn inserts_stand_by_key_before_a_delete(rt: HostRuntime) -> Result<(), Fail> {
+    let cases: [(Step, &str); 4] = [
+        (Step::Delete(1, 20), "1-20"),
+        (Step::Insert(1, 25, "Hal", 6), "1+25,Hal,6 1-20"),
+        (Step::Insert(1, 15, "Flo", 5), "1+15,Flo,5 1+25,Hal,6 1-20"),
+        (
+            Step::Insert(1, 20, "Bea", 8),
+            "1+15,Flo,5 1+20,Bea,8 1+25,Hal,6 1-20",
+        ),
+    ];
+    changed(&rt, rt.alloc(), cases.as_slice())?;
+    Ok(())
+}
+
+#[test]
+fn modifies_stand_by_column_until_their_row_is_deleted(rt: HostRuntime) -> Result<(), Fail> {
+    let cases: [(Step, &str); 6] = [
+        (Step::Modify(1, 2, ValueRef::Int(7)), "1:2=7"),
+        (Step::Modify(1, 1, ValueRef::Text("Bo")), "1:1=Bo 1:2=7"),
+        (Step::Insert(1, 15, "Flo", 5), "1+15,Flo,5 1:1=Bo 1:2=7"),
+        (
+            Step::Modify(2, 2, ValueRef::Int(9)),
+            "1+15,Flo,5 1:1=Bo 1:2=7 2:2=9",
+        ),
+        (
+            Step::Modify(1, 1, ValueRef::Text("Ben")),
+            "1+15,Flo,5 1:1=Ben 1:2=7 2:2=9",
+        ),
+        (Step::Delete(1, 20), "1+15,Flo,5 1-20 2:2=9"),
+    ];
+    changed(&rt, rt.alloc(), cases.as_slice())?;
+    Ok(())
+}
+
+#[test]
+fn an_insert_changed_and_deleted_leaves_no_entry(rt: HostRuntime) -> Result<(), Fail> {
+    let cases: [(Step, &str); 3] = [
+        (Step::Insert(1, 15, "Flo", 5), "1+15,Flo,5"),
+        (
+            Step::SetInsert(1, 15, 1, ValueRef::Text("Fay")),
+            "1+15,Fay,5",
+        ),
+        (Step::TakeInsert(1, 15), ""),
+    ];
+    changed(&rt, rt.alloc(), cases.as_slice())?;
+    Ok(())
+}
+
+#[test]
+fn a_replaced_row_is_an_insert_and_a_delete_at_one_sid(rt: HostRuntime) -> Result<(), Fail> {
+    let cases: [(Step, &str); 5] = [
+        (Step::Modify(1, 2, ValueRef::Int(7)), "1:2=7"),
+        (Step::Delete(1, 20), "1-20"),
+        (Step::Insert(1, 20, "Bea", 8), "1+20,Bea,8 1-20"),
+        (
+            Step::SetInsert(1, 20, 2, ValueRef::Int(9)),
+            "1+20,Bea,9 1-20",
+        ),
+        (Step::TakeInsert(1, 20), "1-20"),
+    ];
+    changed(&rt, rt.alloc(), cases.as_slice())?;
+    Ok(())
+}
+
+#[test]
+fn a_tree_says_what_is_in_it(rt: HostRuntime) -> Result<(), Fail> {
+    let alloc = rt.alloc();
+    let empty = DeltaTree::new(alloc, 1);
+    assert!(rt; empty.is_empty());
+    assert_eq!(rt; empty.len(), 0);
+    assert_eq!(rt; empty.total(), 0);
+    assert!(rt; empty.iter().next().is_none());
+    let cases: [(Step, &str); 4] = [
+        (Step::Delete(1, 20), "1-20"),
+        (Step::Modify(2, 2, ValueRef::Int(7)), "1-20 2:2=7"),
+        (Step::Delete(0, 10), "0-10 1-20 2:2=7"),
+        (Step::Insert(1, 20, "Bea", 8), "0-10 1+20,Bea,8 1-20 2:2=7"),
+    ];
+    let Some(tree) = changed(&rt, alloc, cases.as_slice())? else {
+        return Ok(());
+    };
+    assert!(rt; !tree.is_empty());
+    assert_eq!(rt; tree.len(), 4);
+    assert_eq!(rt; tree.total(), -1);
+    for (sid, deleted) in [(0, true), (1, true), (2, false), (3, false)] {
+        assert_eq!(rt; tree.has_delete(sid), deleted, "at {sid}");
+    }
+    for (sid, id, there) in [
+        (1, 20, true),
+        (1, 15, false),
+        (1, 25, false),
+        (0, 20, false),
+        (2, 20, false),
+        (0, 10, false),
+    ] {
+        let found = tree.find_insert(sid, &key(alloc, id)?);
+        assert_eq!(rt; found.is_some(), there, "of {id} at {sid}");
+    }
+    Ok(())
+}
