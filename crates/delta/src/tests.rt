@@ -197,7 +197,7 @@ fn changed(
 
 #[test]
 fn each_change_leaves_its_list(rt: HostRuntime) -> Result<(), Fail> {
-    let cases: [(Step, &str); 9] = [
+    const CASES: [(Step, &str); 9] = [
         (Step::Insert(1, 15, "Flo", 5), "1+15,Flo,5"),
         (Step::Insert(0, 5, "Eve", 4), "0+5,Eve,4 1+15,Flo,5"),
         (
@@ -220,13 +220,13 @@ fn each_change_leaves_its_list(rt: HostRuntime) -> Result<(), Fail> {
         ),
         (Step::Delete(0, 10), "0-10 1+15,Flo,6 1-20 2:2=8 3+40,Gus,9"),
     ];
-    changed(&rt, rt.alloc(), cases.as_slice())?;
+    changed(&rt, rt.alloc(), CASES.as_slice())?;
     Ok(())
 }
 
 #[test]
 fn inserts_stand_by_key_before_a_delete(rt: HostRuntime) -> Result<(), Fail> {
-    let cases: [(Step, &str); 4] = [
+    const CASES: [(Step, &str); 4] = [
         (Step::Delete(1, 20), "1-20"),
         (Step::Insert(1, 25, "Hal", 6), "1+25,Hal,6 1-20"),
         (Step::Insert(1, 15, "Flo", 5), "1+15,Flo,5 1+25,Hal,6 1-20"),
@@ -235,13 +235,13 @@ fn inserts_stand_by_key_before_a_delete(rt: HostRuntime) -> Result<(), Fail> {
             "1+15,Flo,5 1+20,Bea,8 1+25,Hal,6 1-20",
         ),
     ];
-    changed(&rt, rt.alloc(), cases.as_slice())?;
+    changed(&rt, rt.alloc(), CASES.as_slice())?;
     Ok(())
 }
 
 #[test]
 fn modifies_stand_by_column_until_their_row_is_deleted(rt: HostRuntime) -> Result<(), Fail> {
-    let cases: [(Step, &str); 6] = [
+    const CASES: [(Step, &str); 6] = [
         (Step::Modify(1, 2, ValueRef::Int(7)), "1:2=7"),
         (Step::Modify(1, 1, ValueRef::Text("Bo")), "1:1=Bo 1:2=7"),
         (Step::Insert(1, 15, "Flo", 5), "1+15,Flo,5 1:1=Bo 1:2=7"),
@@ -255,13 +255,13 @@ fn modifies_stand_by_column_until_their_row_is_deleted(rt: HostRuntime) -> Resul
         ),
         (Step::Delete(1, 20), "1+15,Flo,5 1-20 2:2=9"),
     ];
-    changed(&rt, rt.alloc(), cases.as_slice())?;
+    changed(&rt, rt.alloc(), CASES.as_slice())?;
     Ok(())
 }
 
 #[test]
 fn an_insert_changed_and_deleted_leaves_no_entry(rt: HostRuntime) -> Result<(), Fail> {
-    let cases: [(Step, &str); 3] = [
+    const CASES: [(Step, &str); 3] = [
         (Step::Insert(1, 15, "Flo", 5), "1+15,Flo,5"),
         (
             Step::SetInsert(1, 15, 1, ValueRef::Text("Fay")),
@@ -269,13 +269,13 @@ fn an_insert_changed_and_deleted_leaves_no_entry(rt: HostRuntime) -> Result<(), 
         ),
         (Step::TakeInsert(1, 15), ""),
     ];
-    changed(&rt, rt.alloc(), cases.as_slice())?;
+    changed(&rt, rt.alloc(), CASES.as_slice())?;
     Ok(())
 }
 
 #[test]
 fn a_replaced_row_is_an_insert_and_a_delete_at_one_sid(rt: HostRuntime) -> Result<(), Fail> {
-    let cases: [(Step, &str); 5] = [
+    const CASES: [(Step, &str); 5] = [
         (Step::Modify(1, 2, ValueRef::Int(7)), "1:2=7"),
         (Step::Delete(1, 20), "1-20"),
         (Step::Insert(1, 20, "Bea", 8), "1+20,Bea,8 1-20"),
@@ -285,7 +285,7 @@ fn a_replaced_row_is_an_insert_and_a_delete_at_one_sid(rt: HostRuntime) -> Resul
         ),
         (Step::TakeInsert(1, 20), "1-20"),
     ];
-    changed(&rt, rt.alloc(), cases.as_slice())?;
+    changed(&rt, rt.alloc(), CASES.as_slice())?;
     Ok(())
 }
 
@@ -297,13 +297,13 @@ fn a_tree_says_what_is_in_it(rt: HostRuntime) -> Result<(), Fail> {
     assert_eq!(rt; empty.len(), 0);
     assert_eq!(rt; empty.total(), 0);
     assert!(rt; empty.iter().next().is_none());
-    let cases: [(Step, &str); 4] = [
+    const CASES: [(Step, &str); 4] = [
         (Step::Delete(1, 20), "1-20"),
         (Step::Modify(2, 2, ValueRef::Int(7)), "1-20 2:2=7"),
         (Step::Delete(0, 10), "0-10 1-20 2:2=7"),
         (Step::Insert(1, 20, "Bea", 8), "0-10 1+20,Bea,8 1-20 2:2=7"),
     ];
-    let Some(tree) = changed(&rt, alloc, cases.as_slice())? else {
+    let Some(tree) = changed(&rt, alloc, CASES.as_slice())? else {
         return Ok(());
     };
     assert!(rt; !tree.is_empty());
