@@ -1,6 +1,6 @@
 -- The laws of lists of entries, in the words that contracts cite.
 use Rattle.std.proofs.Common.{◌≡◌, ◌≢◌, ℕ, ◌<◌, ◌≤◌, Bool, true, false, cond, not, ◌&&◌, ◌||◌, T, Option, Some, None, is_some, List, [], ◌∷◌, ◌++◌, map, filter, length, Ordering, Less, Equal, Greater, is_lt, is_eq, nat_cmp, refl, sym, ap, ◌∙◌, subst, arith}
-use Rattle.std.specs.Prelude.{◌==◌, nat_lt, nat_le, IsSomeAnd, is_none, slice_get}
+use Rattle.std.specs.Prelude.{◌==◌, nat_le, IsSomeAnd, is_none, slice_get}
 use Rattle.std.specs.Bool.{passes}
 use Rattle.std.specs.Ordering.{eq_by_cmp, ordering_then}
 use Rattle.std.specs.Cmp.{tied_itself, nat_cmp_total}
@@ -29,10 +29,9 @@ use Rattle.model.specs.Effects.{Cells, Effects, is_keyed_effect, are_keyed_effec
 use Rattle.model.specs.Writes.{write_fits_schema, key_of_write, effect_of_write, reply_to, is_done}
 use Rattle.model.specs.Entries.{entry_at, is_delete, is_modify, entries_of, canonical_entries, change_cmp, entry_cmp, are_ordered}
 use Rattle.model.specs.Merging.{changes_at, inserted_rows}
-use Rattle.model.specs.Edits.{is_insert_of}
-use Rattle.model.proofs.MapsLemmas.{both, first, second, less, turn_greater, find_below, below_tied, changed_by, holds_at, each_at}
+use Rattle.model.proofs.MapsLemmas.{both, first, second, less, turn_greater, below_tied, changed_by, holds_at, each_at}
 use Rattle.model.proofs.CompositionLemmas.{row_at-table_with}
-use Rattle.model.proofs.WritesLemmas.{sets_no_key, done_fits}
+use Rattle.model.proofs.WritesLemmas.{done_fits}
 use Rattle.model.proofs.FittingLemmas.{sets_no_key-fits}
 use Rattle.model.proofs.PositionsLemmas.{single_delete}
 use Rattle.model.proofs.RebasingLemmas.{is_placed, rank-lt}
