@@ -1,5 +1,5 @@
 -- What callers need of a list after a change: how long it is at most.
-use Rattle.std.proofs.Common.{◌≡◌, ℕ, ◌+◌, ◌≤◌, not, ◌&&◌, List, [], ◌∷◌, filter, length, Less, Equal, Greater, refl, arith}
+use Rattle.std.proofs.Common.{ℕ, ◌+◌, ◌≤◌, not, ◌&&◌, List, [], ◌∷◌, filter, length, Less, Equal, Greater, arith}
 use Rattle.std.specs.Prelude.{◌==◌}
 use Rattle.std.specs.Ordering.{match_ordering}
 use Rattle.std.proofs.lemmas.List.Sums.{length-filter, count_by-le-length}

@@ -1,6 +1,6 @@
 -- The laws of lists of entries, in the words that contracts cite.
 use Rattle.std.proofs.Common.{◌≡◌, ◌≢◌, ℕ, ◌<◌, ◌≤◌, Bool, true, false, cond, not, ◌&&◌, ◌||◌, T, Option, Some, None, is_some, List, [], ◌∷◌, ◌++◌, map, filter, length, Ordering, Less, Equal, Greater, is_lt, is_eq, nat_cmp, refl, sym, ap, ◌∙◌, subst, arith}
-use Rattle.std.specs.Prelude.{◌==◌, nat_lt, nat_le, IsSomeAnd, is_none, slice_get}
+use Rattle.std.specs.Prelude.{◌==◌, nat_le, IsSomeAnd, is_none, slice_get}
 use Rattle.std.specs.Bool.{passes}
 use Rattle.std.specs.Ordering.{eq_by_cmp, ordering_then}
 use Rattle.std.specs.Cmp.{tied_itself, nat_cmp_total}
@@ -29,10 +29,9 @@ use Rattle.model.specs.Effects.{Cells, Effects, is_keyed_effect, are_keyed_effec
 use Rattle.model.specs.Writes.{write_fits_schema, key_of_write, effect_of_write, reply_to, is_done}
 use Rattle.model.specs.Entries.{entry_at, is_delete, is_modify, entries_of, canonical_entries, change_cmp, entry_cmp, are_ordered}
 use Rattle.model.specs.Merging.{changes_at, inserted_rows}
-use Rattle.model.specs.Edits.{is_insert_of}
-use Rattle.model.proofs.MapsLemmas.{both, first, second, less, turn_greater, find_below, below_tied, changed_by, holds_at, each_at}
+use Rattle.model.proofs.MapsLemmas.{both, first, second, less, turn_greater, below_tied, changed_by, holds_at, each_at}
 use Rattle.model.proofs.CompositionLemmas.{row_at-table_with}
-use Rattle.model.proofs.WritesLemmas.{sets_no_key, done_fits}
+use Rattle.model.proofs.WritesLemmas.{done_fits}
 use Rattle.model.proofs.FittingLemmas.{sets_no_key-fits}
 use Rattle.model.proofs.PositionsLemmas.{single_delete}
 use Rattle.model.proofs.RebasingLemmas.{is_placed, rank-lt}
@@ -136,22 +135,27 @@ shared key_cols entries sid lawful =
 
 -- ---- the entries of other keys
 
+-- a tie
 equal : (r : Ordering) → T (is_eq r) → r ≡ Equal
 equal Less p = absurd p
 equal Equal p = refl
 equal Greater p = absurd p
 
+-- keys that tie are the same
 same_key : (x y : Key) → T (eq_by_cmp key_cmp x y) → x ≡ y
 same_key x y h = key_cmp-IsAntisymmetric x y (equal _ h)
 
+-- what isn't true
 not_true : (b : Bool) → b ≡ false → T (not b)
 not_true true e = cc
 not_true false e = tt
 
+-- with what isn't true nothing is
 and_none : (a b : Bool) → b ≡ false → T (not (a && b))
 and_none true b e = not_true b e
 and_none false b e = tt
 
+-- a number is itself
 same_number : (n : ℕ) → (n == n) ≡ true
 same_number n = grind (arith, nat_tests)
 
@@ -168,19 +172,23 @@ module _ (key_cols : ℕ) (t : Table) (k : Key) where
       differ : (n m : ℕ) → n ≢ m → (n == m) ≡ false
       differ n m h = grind (arith, nat_tests)
 
-  -- a test that no entry of another key passes
+  -- of a test that no entry of another key passes
   module _ (p : Entry → Bool) (apart : (j : Key) (c : Change) → eq_by_cmp key_cmp k j ≡ false → T (is_placed key_cols t j c) → T (not (p (entry_at (rank j t) c)))) where
+    -- none of the entries passes
     abbrev none : List Entry → Bool
     none es = list_all (λ e. not (p e)) es
 
+    -- nor do two such lists, one after the other
     none-append : (xs ys : List Entry) → T (none xs) → T (none ys) → T (none (xs ++ ys))
     none-append [] ys h g = g
     none-append (x ∷ xs) ys h g = both (not (p x)) _ (first (not (p x)) (none xs) h) (none-append xs ys (second (not (p x)) (none xs) h) g)
 
+    -- the modifies of another row don't
     none_of_cells : (j : Key) (cells : Cells) → eq_by_cmp key_cmp k j ≡ false → T (is_some (row_at t j)) → T (none (map (λ d. entry_at (rank j t) (Mod d.0 d.1)) cells))
     none_of_cells j [] ne hj = tt
     none_of_cells j (d ∷ cells) ne hj = both (not (p (entry_at (rank j t) (Mod d.0 d.1)))) _ (apart j (Mod d.0 d.1) ne hj) (none_of_cells j cells ne hj)
 
+    -- nor does any entry of another key's effect
     none_of : (j : Key) (g : Effect) → eq_by_cmp key_cmp k j ≡ false → T (is_keyed_effect key_cols j g) → T (fits (row_at t j) g) → T (none (entries_of (rank j t) j g))
     none_of j (effect.Ins row) ne he hf = both (not (p (entry_at (rank j t) (Ins row)))) true (apart j (Ins row) ne he) tt
     none_of j effect.Del ne he hf = both (not (p (entry_at (rank j t) (Del j)))) true (apart j (Del j) ne hf) tt
@@ -203,6 +211,7 @@ module _ (key_cols : ℕ) (t : Table) (k : Key) where
       (skips : (xs ys : List Entry) → T (list_all (λ e. not (p e)) xs) → look (xs ++ ys) ≡ look ys)
       (nothing : look [] ≡ found None)
       (own : (f : Effect) (ys : List Entry) → T (is_keyed_effect key_cols k f) → T (list_all (λ e. not (p e)) ys) → look (entries_of (rank k t) k f ++ ys) ≡ found (Some f)) where
+    -- by the effects in turn
     look-canonical_entries : (x : Effects) → T (is_sorted key_cmp x) → T (list_all (λ e. is_keyed_effect key_cols e.0 e.1) x) → T (all_fit t x) → look (canonical_entries t x) ≡ found (find key_cmp k x)
     look-canonical_entries [] hs he hf = nothing
     look-canonical_entries (e ∷ x) hs he hf =
@@ -224,21 +233,26 @@ module _ (key_cols : ℕ) (t : Table) (k : Key) where
 
   -- ---- the insert of the key
 
+  -- whether an entry is the insert of the key
   abbrev its_insert : Entry → Bool
   its_insert e = is_insert_at key_cols (rank k t) k e
 
+  -- no entry of another key is
   other_insert : (j : Key) (c : Change) → eq_by_cmp key_cmp k j ≡ false → T (is_placed key_cols t j c) → T (not (its_insert (entry_at (rank j t) c)))
   other_insert j (Ins row) ne h = and_none (rank j t == rank k t) (eq_by_cmp key_cmp k (key_of key_cols row)) (ap (eq_by_cmp key_cmp k) (sym (same_key j (key_of key_cols row) h)) ∙ ne)
   other_insert j (Del key) ne h = and_none (rank j t == rank k t) false refl
   other_insert j (Mod col value) ne h = and_none (rank j t == rank k t) false refl
 
+  -- no modify is
   no_cell_inserts : (cells : Cells) → T (list_all (λ e. not (its_insert e)) (map (λ d. entry_at (rank k t) (Mod d.0 d.1)) cells))
   no_cell_inserts [] = tt
   no_cell_inserts (d ∷ cells) = both (not ((rank k t == rank k t) && false)) _ (and_none (rank k t == rank k t) false refl) (no_cell_inserts cells)
 
+  -- the insert of a row with the key is
   its_own : (row : Row) → T (eq_by_cmp key_cmp k (key_of key_cols row)) → its_insert (entry_at (rank k t) (Ins row)) ≡ true
   its_own row h = ap (λ b. b && eq_by_cmp key_cmp k (key_of key_cols row)) (same_number (rank k t)) ∙ is_true (eq_by_cmp key_cmp k (key_of key_cols row)) h
 
+  -- so of the key's own entries the row of its insert is found
   own_insert : (f : Effect) (ys : List Entry) → T (is_keyed_effect key_cols k f) → T (list_all (λ e. not (its_insert e)) ys) → inserted_row key_cols (rank k t) k (entries_of (rank k t) k f ++ ys) ≡ row_inserted (Some f)
   own_insert (effect.Ins row) ys h none = ap (λ b. cond b (Some row) (inserted_row key_cols (rank k t) k ys)) (its_own row h)
   own_insert effect.Del ys h none =
@@ -252,24 +266,30 @@ module _ (key_cols : ℕ) (t : Table) (k : Key) where
   -- ---- the delete of its row
 
   module _ (there : T (is_some (row_at t k))) where
+    -- whether an entry is the delete of the row
     abbrev its_delete : Entry → Bool
     its_delete e = is_delete_at (rank k t) e
 
+    -- no entry of another key is
     other_delete : (j : Key) (c : Change) → eq_by_cmp key_cmp k j ≡ false → T (is_placed key_cols t j c) → T (not (its_delete (entry_at (rank j t) c)))
     other_delete j (Ins row) ne h = and_none (rank j t == rank k t) false refl
     other_delete j (Del key) ne h = not_true ((rank j t == rank k t) && true) (ap (λ b. b && true) (other_rank j ne there h))
     other_delete j (Mod col value) ne h = and_none (rank j t == rank k t) false refl
 
+    -- no modify is
     no_cell_deletes : (cells : Cells) → T (list_all (λ e. not (its_delete e)) (map (λ d. entry_at (rank k t) (Mod d.0 d.1)) cells))
     no_cell_deletes [] = tt
     no_cell_deletes (d ∷ cells) = both (not ((rank k t == rank k t) && false)) _ (and_none (rank k t == rank k t) false refl) (no_cell_deletes cells)
 
+    -- nor is an insert
     no_delete_first : (row : Row) → T (list_all (λ e. not (its_delete e)) (entry_at (rank k t) (Ins row) ∷ []))
     no_delete_first row = both (not ((rank k t == rank k t) && false)) true (and_none (rank k t == rank k t) false refl) tt
 
+    -- the delete itself is
     delete_here : (ys : List Entry) → has_delete (rank k t) (entry_at (rank k t) (Del k) ∷ ys) ≡ true
     delete_here ys = ap (λ b. (b && true) || has_delete (rank k t) ys) (same_number (rank k t))
 
+    -- so of the key's own entries its delete is found
     own_delete : (f : Effect) (ys : List Entry) → T (is_keyed_effect key_cols k f) → T (list_all (λ e. not (its_delete e)) ys) → has_delete (rank k t) (entries_of (rank k t) k f ++ ys) ≡ deletes_row (Some f)
     own_delete (effect.Ins row) ys h none =
         skip_deletes key_cols (rank k t) (entry_at (rank k t) (Ins row) ∷ []) ys (no_delete_first row) ∙ no_deletes key_cols (rank k t) ys none
@@ -314,22 +334,27 @@ cell_within schema col value h = by (slice_get schema.types col) refl h
     by None is g = absurd g
     by (Some type) is g = slice_get_within schema.types col type is
 
+-- so it is in the row
 in_row : (schema : Columns) (row : Row) (col : ℕ) (value : Value) → T (fits_schema schema row) → T (cell_fits_schema schema col value) → col < length row
 in_row schema row col value h g = let same = length-fits schema row h in let within = cell_within schema col value g in omega arith
 
+-- a column outside the key
 past_key : (n m : ℕ) → T (nat_le n m) → n ≤ m
 past_key n m h = let is = is_true (nat_le n m) h in decided n m is
   where
     decided : (n m : ℕ) → nat_le n m ≡ true → n ≤ m
     decided n m is = grind (arith, nat_tests)
 
+-- what holds of the row that is found
 some_and : (o : Option Row) (row : Row) (P : Row → Type 0) → o ≡ Some row → P row → IsSomeAnd o P
 some_and o row P is h = subst (λ (p : Option Row). IsSomeAnd p P) (sym is) h
 
 module _ (schema : Columns) (t : Table) (x : Effects) (k : Key) where
+  -- the key's place
   abbrev sid : ℕ
   sid = rank k t
 
+  -- the entries of all effects
   abbrev entries : List Entry
   entries = canonical_entries t x
 
@@ -341,6 +366,7 @@ module _ (schema : Columns) (t : Table) (x : Effects) (k : Key) where
       fit : T (holds_at (fits (row_at t k)) old)
       shaped : T (holds_at (effect_fits_schema schema) old)
 
+  -- the key's row may be deleted
   may_delete : (old : Option Effect) → Known old → T (fits (changed_by row_after old (row_at t k)) effect.Del) → MayEdit schema.key_cols sid (Delete k) old entries
   may_delete None h done = h.delete (is_true (is_some (row_at t k)) done)
   may_delete (Some (effect.Ins row)) h done = ap is_some h.insert
@@ -349,6 +375,7 @@ module _ (schema : Columns) (t : Table) (x : Effects) (k : Key) where
   may_delete (Some (effect.Rep row)) h done = ap is_some h.insert
 
   module _ (col : ℕ) (value : Value) (fitting : T (cell_fits_schema schema col value)) (outside : schema.key_cols ≤ col) where
+    -- and a cell of it may be set
     may_set : (old : Option Effect) → Known old → T (fits (changed_by row_after old (row_at t k)) (effect.Mod ((col, value) ∷ []))) → MayEdit schema.key_cols sid (Set k col value) old entries
     may_set None h done = h.delete (is_true (is_some (row_at t k)) done)
     may_set (Some (effect.Ins row)) h done = (some_and (inserted_row schema.key_cols sid k entries) row (λ inserted. col < length inserted) h.insert (in_row schema row col value h.shaped fitting), outside)
@@ -365,15 +392,19 @@ may_insert o (Some (effect.Mod cells)) there row is done = ap is_some is
 may_insert o (Some (effect.Rep r)) there row is done = absurd done
 
 module _ (schema : Columns) (limit : ℕ) (t : Table) (x : Effects) (over : AreOver schema t x) where
+  -- the effects stand under their keys
   keyed : T (are_keyed_effects schema.key_cols x)
   keyed = passes (are_keyed_effects schema.key_cols x) over.effects_are.keyed
 
+  -- so do the rows of the table
   table_keyed : T (is_keyed_table schema.key_cols t)
   table_keyed = passes (is_keyed_table schema.key_cols t) over.table.keyed
 
+  -- and the effects fit the table
   fit_all : T (all_fit t x)
   fit_all = passes (all_fit t x) over.fit
 
+  -- what is known of a key
   known : (k : Key) → Known schema t x k (find key_cmp k x)
   known k =
       let found = finds_effect schema t x k over in
@@ -391,6 +422,7 @@ module _ (schema : Columns) (limit : ℕ) (t : Table) (x : Effects) (over : AreO
       subst (λ o. T (fits o (effect_of_write write))) (row_at-table_with t x k (first (is_sorted key_cmp x) (list_all (λ e. is_keyed_effect schema.key_cols e.0 e.1) x) keyed))
       (done_fits schema.key_cols limit t x table_keyed keyed fit_all (row_at (table_with t x) k) (length (table_with t x)) write done)
 
+  -- so each write may make its edit
   may_edit : (write : Write) → T (write_fits_schema schema write) → T (is_done (reply_to schema.key_cols limit t x write)) → (let k = key_of_write schema.key_cols write in MayEdit schema.key_cols (rank k t) write (find key_cmp k x) (canonical_entries t x))
   may_edit (Insert row) h done =
       let k = key_of schema.key_cols row in

@@ -24,14 +24,14 @@ use Rattle.delta.specs.Lookups.{has_delete, inserted_row}
 
 module _ (key_cols : ℕ) where
   -- the inserts in strictly ascending key, and one delete at most, with no modify beside it
-  pub record ShareASid (changes : List Change) : Type 0 where
+  pub record AtOneSid (changes : List Change) : Type 0 where
     pub inserts : IsTrue (is_sorted key_cmp (table_of key_cols (inserted_rows changes)))
     pub deletes : length (deleted_keys changes) ≤ 1
     pub alone : IsTrue (list_any is_delete changes) → IsTrue (not (list_any is_modify changes))
 
   -- the changes of a lawful list at any SID
   abbrev pub InsertsAscendAtASid : Type 0
-  InsertsAscendAtASid = (entries : List Entry) (sid : ℕ) → IsLawful key_cols entries → ShareASid (changes_at sid entries)
+  InsertsAscendAtASid = (entries : List Entry) (sid : ℕ) → IsLawful key_cols entries → AtOneSid (changes_at sid entries)
 
 -- ---- what a transaction finds of its own effects
 

@@ -2,7 +2,9 @@
 //! entries are written as a person reads them: `1+15,Flo,5` is an insert at SID 1, `1-20` a delete, `2:2=7` a modify of
 //! column 2.
 //!
-//! That a refused growth leaves the entries shows under `rt try --test --fail-alloc N`, for N from 1 on.
+//! That a refused growth leaves the entries shows under `rt try --test --fail-alloc N`, for N from 1 on: a test ends well
+//! after it has looked at them. (Where a row, a key or a text that a test makes for itself is refused, it ends with that
+//! error.)
 ghost use Rattle.std.specs.Prelude.{◌≡◌, ◌<◌, ◌≤◌, IsTrue, IsSome, IsSomeAnd, length};
 ghost use Rattle.delta.specs.Lookups.{inserted_row};
 
