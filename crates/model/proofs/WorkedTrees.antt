@@ -38,7 +38,7 @@ replaces_20 = (id 20, effect.Rep bea) ∷ []
 abbrev sets_qty : ℕ → ℕ → Effects
 sets_qty n qty = (id n, effect.Mod ((2, Int (pos qty)) ∷ [])) ∷ []
 
--- to row 20: another name, and a quantity
+-- to the row of key 20: another name, and a quantity
 abbrev sets_both : ℕ → Effects
 sets_both qty = (id 20, effect.Mod ((1, Text (codes "Bea")) ∷ (2, Int (pos qty)) ∷ [])) ∷ []
 
@@ -185,7 +185,7 @@ write_rows = merged_rows read_rows (canonical_entries (table_with base read_laye
 three_layers_make_one_image : merged_rows write_rows (canonical_entries (table_with (table_with base read_layer) write_layer) trans_layer) ≡ item 15 (codes "Flo") 6 ∷ item 20 (codes "Bob") 2 ∷ item 30 (codes "Zed") 7 ∷ item 35 (codes "Gus") 8 ∷ []
 three_layers_make_one_image = refl
 
--- ---- positions in the image: row 15 stands after row 10, and row 20 after both
+-- ---- positions in the image: key 15 stands after key 10, and key 20 after both
 
 the_position_of_an_insert : rid_of_insert [] 1 ≡ 1
 the_position_of_an_insert = refl
