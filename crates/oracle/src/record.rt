@@ -23,6 +23,7 @@ impl Model for Record {
 }
 
 impl Record {
+    /// A record of a client that began at this number of commits, with the replies to its writes and to its commit.
     pub fn new(
         client: u32,
         begin: u64,
@@ -54,12 +55,14 @@ impl Record {
         self.begin
     }
 
+    /// Its writes in order, each with the reply to it.
     pub fn writes(&self) -> &[(Write, WriteReply)]
         ensures { result.now ≡ self.now.writes }
     {
         self.writes.as_slice()
     }
 
+    /// The reply to its commit.
     pub fn reply(&self) -> CommitReply
         ensures { result ≡ self.now.reply }
     {
