@@ -1,2 +1,3 @@
+pub mod Lent
 pub mod Orders
 pub mod Shape

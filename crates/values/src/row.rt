@@ -1,12 +1,16 @@
-//! Rows and keys, seen by contracts as the lists of their values.
-ghost use Rattle.std.specs.Prelude.{◌≡◌, IfOk};
+//! Rows and keys, which contracts see as the lists of their values, and the order of keys.
+ghost use Rattle.std.specs.Prelude.{◌≡◌, IfOk, refl};
+ghost use Rattle.std.specs.Cmp.{eq_by_cmp_equiv, partial_equiv_from_equiv, po};
+ghost use Rattle.std.specs.Ordering.{eq_by_cmp, as_partial_cmp};
+ghost use Rattle.values.specs.Orders.{key_cmp, key_cmp_total};
 
 use crate::fault::NoMemory;
 use crate::value::{Value, copy_values};
+use std::cmp::Ordering;
 use std::marker::Model;
 
-/// A row, or a list of values that is to be checked as one.
-#[derive(Drop)]
+/// A row, or any list of values that is to be checked as one.
+#[derive(Debug, Drop)]
 pub struct Row {
     cells: Vec<Value>,
 }
@@ -21,32 +25,44 @@ impl Model for Row {
 }
 
 impl Row {
-    pub fn copy(&self) -> Result<Row, NoMemory>
-        ensures { IfOk result (λ copied. copied ≡ self.now) }
-    {
-        let alloc = *self.cells.allocator();
-        Ok(Row {
-            cells: copy_values(alloc, self.cells.as_slice())?,
-        })
-    }
-
+    /// The values as a row. Takes no memory, and checks nothing.
     pub fn new(cells: Vec<Value>) -> Row
         ensures { result ≡ cells.items }
     {
         Row { cells }
     }
 
+    /// The values in the order of the columns, lent.
     pub fn cells(&self) -> &[Value]
         ensures { result.now ≡ self.now }
     {
         self.cells.as_slice()
     }
+
+    /// The values that it was made of. Takes no memory.
+    pub fn into_cells(self) -> Vec<Value>
+        ensures { result.items ≡ self }
+    {
+        self.cells
+    }
+
+    /// The same row, in memory of its own.
+    ///
+    /// # Errors
+    ///
+    /// `NoMemory` where a growth is refused.
+    pub fn copy(&self) -> Result<Row, NoMemory>
+        ensures { IfOk result (λ copied. copied ≡ self.now) }
+    {
+        let alloc = *self.cells.allocator();
+        Ok(Row::new(copy_values(alloc, self.cells())?))
+    }
 }
 
-/// The first values of a row, by which rows are ordered.
-#[derive(Drop)]
+/// The first values of a row, by which rows are ordered: value by value, and a beginning before what goes on from it.
+#[derive(Debug, Drop)]
 pub struct Key {
-    cells: Vec<Value>,
+    values: Vec<Value>,
 }
 
 impl Model for Key {
@@ -55,28 +71,78 @@ impl Model for Key {
 
     ghost Value = { List Cell };
 
-    ghost view = { λ k. k.cells.items };
+    ghost view = { λ k. k.values.items };
 }
 
 impl Key {
-    pub fn copy(&self) -> Result<Key, NoMemory>
-        ensures { IfOk result (λ copied. copied ≡ self.now) }
+    /// The values as a key. Takes no memory, and checks nothing.
+    pub fn new(values: Vec<Value>) -> Key
+        ensures { result ≡ values.items }
     {
-        let alloc = *self.cells.allocator();
-        Ok(Key {
-            cells: copy_values(alloc, self.cells.as_slice())?,
-        })
+        Key { values }
     }
 
-    pub fn new(cells: Vec<Value>) -> Key
-        ensures { result ≡ cells.items }
-    {
-        Key { cells }
-    }
-
+    /// The values in the order of the key columns, lent.
     pub fn cells(&self) -> &[Value]
         ensures { result.now ≡ self.now }
     {
-        self.cells.as_slice()
+        self.values.as_slice()
+    }
+
+    /// The values that it was made of. Takes no memory.
+    pub fn into_cells(self) -> Vec<Value>
+        ensures { result.items ≡ self }
+    {
+        self.values
+    }
+
+    /// The same key, in memory of its own.
+    ///
+    /// # Errors
+    ///
+    /// `NoMemory` where a growth is refused.
+    pub fn copy(&self) -> Result<Key, NoMemory>
+        ensures { IfOk result (λ copied. copied ≡ self.now) }
+    {
+        let alloc = *self.values.allocator();
+        Ok(Key::new(copy_values(alloc, self.cells())?))
+    }
+}
+
+impl PartialEq for Key {
+    ghost eq = { eq_by_cmp key_cmp };
+
+    ghost laws = { partial_equiv_from_equiv (eq_by_cmp_equiv key_cmp_total) };
+
+    fn eq(&self, other: &Key) -> bool {
+        self.cmp(other).is_eq()
+    }
+}
+
+impl Eq for Key {
+    ghost laws = { eq_by_cmp_equiv key_cmp_total };
+}
+
+impl PartialOrd for Key {
+    ghost partial_cmp = { as_partial_cmp key_cmp };
+
+    ghost laws = { po key_cmp_total (λ x y. refl) };
+
+    fn partial_cmp(&self, other: &Key) -> Option<Ordering> {
+        Some(self.cmp(other))
+    }
+}
+
+impl Ord for Key {
+    ghost cmp = { key_cmp };
+
+    ghost total = { key_cmp_total };
+
+    ghost matches_partial_cmp = { λ x y. refl };
+
+    ghost matches_eq = { λ x y. refl };
+
+    fn cmp(&self, other: &Key) -> Ordering {
+        self.cells().cmp(other.cells())
     }
 }

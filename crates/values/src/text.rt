@@ -1,11 +1,11 @@
-//! A text cell, seen by contracts as its bytes.
+//! A text, which contracts see as its bytes.
 ghost use Rattle.std.specs.Prelude.{◌≡◌, IfOk, string_bytes};
 
 use crate::fault::NoMemory;
 use std::marker::Model;
 
-/// A text, of at most 4,096 bytes where it stands in a checked row.
-#[derive(Drop)]
+/// A text of any length: how long it may be is asked where it is checked as a cell.
+#[derive(Debug, Drop)]
 pub struct Text {
     text: String,
 }
@@ -19,23 +19,35 @@ impl Model for Text {
 }
 
 impl Text {
+    /// The string as a text. Takes no memory.
     pub fn new(text: String) -> Text
         ensures { result ≡ string_bytes text }
     {
         Text { text }
     }
 
+    /// The characters, lent.
     pub fn as_str(&self) -> &str
         ensures { result.now ≡ self.now }
     {
         self.text.as_str()
     }
 
-    pub fn copy(&self) -> Result<Text, NoMemory>
-        ensures { IfOk result (λ t. t ≡ self.now) }
+    /// The string that it was made of. Takes no memory.
+    pub fn into_string(self) -> String
+        ensures { string_bytes result ≡ self }
     {
-        Ok(Text {
-            text: self.text.clone()?,
-        })
+        self.text
+    }
+
+    /// The same text, in memory of its own.
+    ///
+    /// # Errors
+    ///
+    /// `NoMemory` where a growth is refused.
+    pub fn copy(&self) -> Result<Text, NoMemory>
+        ensures { IfOk result (λ copied. copied ≡ self.now) }
+    {
+        Ok(Text::new(self.text.clone()?))
     }
 }
