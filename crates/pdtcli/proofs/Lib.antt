@@ -1,0 +1,6 @@
+mod ReadLemmas
+mod CellLemmas
+mod HeaderLemmas
+mod RowLemmas
+mod OrderLemmas
+mod TableLemmas

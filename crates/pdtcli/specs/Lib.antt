@@ -1,1 +1,6 @@
+pub mod Cells
+pub mod Header
+pub mod Input
+pub mod Order
+pub mod Reading
 pub mod Words

@@ -9,6 +9,15 @@
 //! for the command line, and `thiserror` for what a fault shows.
 #![tactic(auto)]
 
+mod cell;
+mod fault;
+mod header;
+mod order;
+mod reading;
+mod row;
+mod table;
 mod words;
 
+pub use fault::TableFault;
+pub use table::read_table;
 pub use words::{Settings, read_words};

@@ -79,7 +79,9 @@ fn program<'a>(alloc: Global) -> Result<Command<'a>, Error> {
         .arg(table)?
         .arg(script)?
         .arg(limit)?;
-    Ok(Command::new(alloc, "pdt")
-        .subcommand_required(true)
-        .subcommand(run)?)
+    Ok(
+        Command::new(alloc, "pdt")
+            .subcommand_required(true)
+            .subcommand(run)?,
+    )
 }
