@@ -10,7 +10,7 @@ use Rattle.std.specs.Str.Parse.{ParsesSigned, digits_value, starts_with_minus, w
 use Rattle.std.specs.Char.{is_ascii_digit}
 use Rattle.values.specs.declared.value.ColumnType.TheVariants as column
 use Rattle.values.specs.declared.value.Value.TheVariants.{Text}
-use Rattle.pdtcli.specs.Cells.{is_numeral, signed_number, int_of}
+use Rattle.pdtcli.specs.Cells.{is_numeral, signed_number, int_of, value_of}
 use Rattle.pdtcli.specs.Input.{cell_of}
 use Rattle.pdtcli.specs.declared.fault.TableFault.TheVariants.{TextTooLong, BadText}
 
@@ -37,6 +37,12 @@ text-long bs n at u h = rw (is_utf8-from_IsUtf8 bs u, lt_true 4096 (length bs) h
 pub text-bad : (bs : List ℕ) (n at : ℕ) → ¬ (IsUtf8 bs) → cell_of column.Text n at bs ≡ Err (BadText n at)
 text-bad bs n at u = rw (not_utf8 bs u) refl
 
+pub value_of-no_text : (bs : List ℕ) → ¬ (IsUtf8 bs) → value_of column.Text bs ≡ None
+value_of-no_text bs u = rw (not_utf8 bs u) refl
+
+pub value_of-text : (bs : List ℕ) → IsUtf8 bs → value_of column.Text bs ≡ Some (Text bs)
+value_of-text bs u = rw (is_utf8-from_IsUtf8 bs u) refl
+
 -- ---- numbers
 
 numerals : IsNumeralModel (λ ds. all_ascii_digits ds ≡ true) (digits_value 10)
@@ -60,8 +66,11 @@ and-false true true h = absurd (h refl refl)
 and-false true false h = refl
 and-false false b h = refl
 
-le_true : (a b : ℕ) → a ≤ b → nat_le a b ≡ true
+pub le_true : (a b : ℕ) → a ≤ b → nat_le a b ≡ true
 le_true a b h = grind (arith, nat_tests)
+
+pub le_false : (a b : ℕ) → b < a → nat_le a b ≡ false
+le_false a b h = grind (arith, nat_tests)
 
 le_from : (a b : ℕ) → nat_le a b ≡ true → a ≤ b
 le_from a b h = grind (arith, nat_tests)

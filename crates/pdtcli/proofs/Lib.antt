@@ -4,3 +4,4 @@ mod HeaderLemmas
 mod RowLemmas
 mod OrderLemmas
 mod TableLemmas
+mod ScriptLemmas

@@ -3,4 +3,5 @@ pub mod Header
 pub mod Input
 pub mod Order
 pub mod Reading
+pub mod Script
 pub mod Words

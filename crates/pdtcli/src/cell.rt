@@ -1,12 +1,12 @@
 //! The value that a cell's bytes say.
 ghost use Rattle.std.specs.Prelude.{◌≡◌, ◌≢◌, IfOk, IfErr, Ok, Err, Some, None};
-ghost use Rattle.pdtcli.specs.Cells.{int_of, truth_of};
+ghost use Rattle.pdtcli.specs.Cells.{int_of, truth_of, value_of};
 ghost use Rattle.pdtcli.specs.Input.{cell_of};
 
 use crate::fault::TableFault;
 use std::alloc::Global;
 use values::limits::MAX_TEXT_BYTES;
-use values::{ColumnType, Text, Value};
+use values::{ColumnType, NoMemory, Text, Value};
 
 /// The cell `at` of the record of this number, as a value of its column's type.
 pub(crate) fn read_cell(
@@ -45,6 +45,38 @@ fn read_text(alloc: Global, number: u64, at: usize, bytes: &[u8]) -> Result<Valu
         return Err(TableFault::TextTooLong(number, at));
     }
     Ok(Value::Text(Text::new(String::from_str(alloc, text)?)))
+}
+
+/// The value of this type that the bytes say, if they say one. A text may have any length.
+pub(crate) fn read_value(
+    alloc: Global,
+    column: ColumnType,
+    bytes: &[u8],
+) -> Result<Option<Value>, NoMemory>
+    ensures { IfOk result (λ value. value ≡ value_of column bytes.now) }
+{
+    match column {
+        ColumnType::Int => match read_int(bytes) {
+            Some(number) => Ok(Some(Value::Int(number))),
+            None => Ok(None),
+        },
+        ColumnType::Bool => match read_truth(bytes) {
+            Some(truth) => Ok(Some(Value::Bool(truth))),
+            None => Ok(None),
+        },
+        ColumnType::Text => read_any_text(alloc, bytes),
+    }
+}
+
+/// The same of a text column.
+fn read_any_text(alloc: Global, bytes: &[u8]) -> Result<Option<Value>, NoMemory>
+    ensures { IfOk result (λ value. value ≡ value_of ColumnType.Text bytes.now) }
+{
+    let text = match str::from_utf8(bytes) {
+        Ok(text) => text,
+        Err(_) => return Ok(None),
+    };
+    Ok(Some(Value::Text(Text::new(String::from_str(alloc, text)?))))
 }
 
 /// The number that the bytes write, of 64 bits with a sign.

@@ -1,6 +1,7 @@
-//! What is refused of a table. Each fault shows as its name and its numbers.
+//! What is refused of a table or a script. Each fault shows as its name and its numbers.
 ghost use Rattle.std.specs.Prelude.{◌≡◌};
 ghost use Rattle.pdtcli.specs.declared.fault.TableFault.TheVariants as table_fault;
+ghost use Rattle.pdtcli.specs.declared.fault.ScriptFault.TheVariants as script_fault;
 
 use std::alloc::{AllocError, AllocFailed};
 use thiserror::Error;
@@ -42,6 +43,32 @@ pub enum TableFault {
     NoMemory,
 }
 
+/// The first fault of a script's text. Records count from 1, and fields from 0, the client's name being field 0.
+#[derive(Clone, Copy, Debug, PartialEq, Eq, Error)]
+pub enum ScriptFault {
+    /// Some field of this record is not UTF-8.
+    #[error("BadText {0}")]
+    BadText(u64),
+    /// This record's first field is not a client: 1 to 32 ASCII letters, digits, `-` or `_`.
+    #[error("BadClient {0}")]
+    BadClient(u64),
+    /// This record names one client more than there may be.
+    #[error("TooManyClients {0}")]
+    TooManyClients(u64),
+    /// This record has no verb, or not as many arguments as its verb wants.
+    #[error("BadCount {0}")]
+    BadCount(u64),
+    /// This record's verb is none that there is.
+    #[error("BadVerb {0}")]
+    BadVerb(u64),
+    /// In this record, this field is not a cell of its column's type, or not a column's name.
+    #[error("BadArgument {0} {1}")]
+    BadArgument(u64, usize),
+    /// A growth was refused.
+    #[error("NoMemory")]
+    NoMemory,
+}
+
 impl From<NoMemory> for TableFault {
     ghost from_gives = { λ _ fault. fault ≡ table_fault.NoMemory };
 
@@ -63,5 +90,29 @@ impl<T: Drop> From<AllocFailed<T>> for TableFault {
 
     fn from(_: AllocFailed<T>) -> TableFault {
         TableFault::NoMemory
+    }
+}
+
+impl From<NoMemory> for ScriptFault {
+    ghost from_gives = { λ _ fault. fault ≡ script_fault.NoMemory };
+
+    fn from(_: NoMemory) -> ScriptFault {
+        ScriptFault::NoMemory
+    }
+}
+
+impl From<AllocError> for ScriptFault {
+    ghost from_gives = { λ _ fault. fault ≡ script_fault.NoMemory };
+
+    fn from(_: AllocError) -> ScriptFault {
+        ScriptFault::NoMemory
+    }
+}
+
+impl<T: Drop> From<AllocFailed<T>> for ScriptFault {
+    ghost from_gives = { λ _ fault. fault ≡ script_fault.NoMemory };
+
+    fn from(_: AllocFailed<T>) -> ScriptFault {
+        ScriptFault::NoMemory
     }
 }

@@ -9,15 +9,22 @@
 //! for the command line, and `thiserror` for what a fault shows.
 #![tactic(auto)]
 
+mod arguments;
+mod call;
 mod cell;
+mod client;
 mod fault;
 mod header;
 mod order;
 mod reading;
 mod row;
+mod script;
 mod table;
+mod verb;
 mod words;
 
-pub use fault::TableFault;
+pub use call::{Call, ClientCall, Script};
+pub use fault::{ScriptFault, TableFault};
+pub use script::read_script;
 pub use table::read_table;
 pub use words::{Settings, read_words};
