@@ -1,0 +1,7 @@
+mod ReadLemmas
+mod CellLemmas
+mod HeaderLemmas
+mod RowLemmas
+mod OrderLemmas
+mod TableLemmas
+mod ScriptLemmas

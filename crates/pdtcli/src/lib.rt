@@ -1,0 +1,32 @@
+//! The inputs of the program: the words of its command line, a table and a script, each read from text and refused by
+//! a fault that names its place.
+//!
+//! *What a contract sees.* The records of a text are those that the crate `csv` reads of it. A table is a function of
+//! its records, the first fault from the start or the schema and the rows; so is a script, whose answer is the clients'
+//! names and the calls. An `Ok` says that there are such records, and a fault that all such records have it.
+//!
+//! *What it stands on.* `values` for schemas, rows and limits, `model` for tables and writes, `csv` for records, `clap`
+//! for the command line, and `thiserror` for what a fault shows.
+#![tactic(auto)]
+
+mod arguments;
+mod call;
+mod cell;
+mod client;
+mod fault;
+mod header;
+mod order;
+mod reading;
+mod row;
+mod script;
+mod table;
+#[cfg(test)]
+mod tests;
+mod verb;
+mod words;
+
+pub use call::{Call, ClientCall, Script};
+pub use fault::{ScriptFault, TableFault};
+pub use script::read_script;
+pub use table::read_table;
+pub use words::{Settings, read_words};
