@@ -20,8 +20,6 @@ mod reading;
 mod row;
 mod script;
 mod table;
-#[cfg(test)]
-mod tests;
 mod verb;
 mod words;
 
