@@ -1,7 +1,11 @@
 pub mod Cells
 pub mod Header
 pub mod Input
+pub mod Managed
 pub mod Order
+pub mod Outcome
 pub mod Reading
 pub mod Script
+pub mod Stable
+pub mod Transaction
 pub mod Words

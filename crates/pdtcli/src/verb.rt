@@ -5,8 +5,8 @@ ghost use Rattle.pdtcli.specs.Script.{arguments_of, verb_of};
 use values::Schema;
 
 /// A verb that there is.
-#[derive(Clone, Copy)]
-pub(crate) enum Verb {
+#[derive(Clone, Copy, Debug, PartialEq, Eq)]
+pub enum Verb {
     Begin,
     Insert,
     Delete,

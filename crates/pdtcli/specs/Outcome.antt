@@ -1,0 +1,13 @@
+-- What a run leaves.
+use Rattle.std.specs.Prelude.{ℕ, List}
+use Rattle.pdtcli.specs.declared.reply.ReplyLine.{ReplyLine}
+use Rattle.pdtcli.specs.Managed.{Managed}
+
+pub record Left : Type 0 where
+  -- the clients' names
+  pub clients : List (List ℕ)
+  -- a line for each call
+  pub lines : List ReplyLine
+  pub manager : Managed
+  -- for each client, how many of its commits were decided
+  pub counts : List ℕ

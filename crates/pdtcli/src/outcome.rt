@@ -1,0 +1,73 @@
+//! What a run leaves: a reply line for each call, the manager, and how many commits each client was answered.
+ghost use Rattle.std.specs.Prelude.{◌≡◌};
+
+use crate::plain::Manager;
+use crate::reply::ReplyLine;
+use std::marker::Model;
+use values::Text;
+
+/// The reply lines of a run in order, with what it leaves.
+#[derive(Drop)]
+pub struct Outcome {
+    /// The clients' names, in order of first appearance.
+    clients: Vec<Text>,
+    lines: Vec<ReplyLine>,
+    manager: Manager,
+    /// For each client, how many of its commits were decided.
+    counts: Vec<u64>,
+}
+
+impl Model for Outcome {
+    ghost use Rattle.pdtcli.specs.Outcome.{Left};
+
+    ghost Value = { Left };
+
+    ghost view = { λ o. record { clients = o.clients.items; lines = o.lines.items; manager = o.manager; counts = o.counts.items } };
+}
+
+impl Outcome {
+    /// The outcome of these parts. Takes no memory.
+    pub(crate) fn new(
+        clients: Vec<Text>,
+        lines: Vec<ReplyLine>,
+        manager: Manager,
+        counts: Vec<u64>,
+    ) -> Outcome
+        ensures { result ≡ record { clients = clients.items; lines = lines.items; manager = manager; counts = counts.items } }
+    {
+        Outcome {
+            clients,
+            lines,
+            manager,
+            counts,
+        }
+    }
+
+    /// The clients' names, in order of first appearance.
+    pub fn clients(&self) -> &[Text]
+        ensures { result.now ≡ self.now.clients }
+    {
+        self.clients.as_slice()
+    }
+
+    /// The reply lines, in the order of the calls.
+    pub fn lines(&self) -> &[ReplyLine]
+        ensures { result.now ≡ self.now.lines }
+    {
+        self.lines.as_slice()
+    }
+
+    /// The manager as the run left it.
+    pub fn manager(&self) -> &Manager
+        ensures { result.now ≡ self.now.manager }
+    {
+        &self.manager
+    }
+
+    /// For each client, how many of its commits were decided: Committed, Conflict, TooOld or Full.
+    pub fn counts(&self) -> &[u64]
+        ensures { result.now ≡ self.now.counts }
+    {
+        self.counts.as_slice()
+    }
+}
