@@ -31,12 +31,14 @@ abbrev pub ascends : ℕ → Option Row → Row → Bool
 ascends key_cols None row = true
 ascends key_cols (Some before) row = is_lt (key_cmp (key_of key_cols before) (key_of key_cols row))
 
+-- the fault of row i by its shape and by whether it ascends
+abbrev pub shape_or_order : ℕ → Bool → Option ShapeFault → Option BuildFault
+shape_or_order i above (Some fault) = Some (Shape i fault)
+shape_or_order i true None = None
+shape_or_order i false None = Some (NotAscending i)
+
 abbrev pub row_fault_at : Columns → ℕ → Option Row → Row → Option BuildFault
-row_fault_at schema i before row = by_shape (row_fault schema row)
-  where
-    by_shape : Option ShapeFault → Option BuildFault
-    by_shape (Some fault) = Some (Shape i fault)
-    by_shape None = cond (ascends schema.key_cols before row) None (Some (NotAscending i))
+row_fault_at schema i before row = shape_or_order i (ascends schema.key_cols before row) (row_fault schema row)
 
 abbrev pub or_fault : Option BuildFault → Option BuildFault → Option BuildFault
 or_fault (Some fault) other = Some fault
