@@ -1,8 +1,11 @@
 mod ReadLemmas
 mod CellLemmas
+mod CountsLemmas
 mod HeaderLemmas
+mod LocateLemmas
 mod RowLemmas
 mod OrderLemmas
 mod TableLemmas
 mod ScriptLemmas
 mod StableLemmas
+mod TransactionLemmas

@@ -1,4 +1,5 @@
 pub mod Cells
+pub mod Edit
 pub mod Header
 pub mod Input
 pub mod Managed

@@ -29,7 +29,7 @@ mod words;
 pub use call::{Call, ClientCall, Script};
 pub use fault::{ScriptFault, TableFault};
 pub use outcome::Outcome;
-pub use plain::{BuildFault, Manager, OpenFault, StableTable};
+pub use plain::{BuildFault, Manager, OpenFault, StableTable, Txn, WriteFault};
 pub use reply::{Reply, ReplyLine};
 pub use script::read_script;
 pub use table::read_table;
