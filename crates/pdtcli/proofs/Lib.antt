@@ -3,6 +3,7 @@ mod CellLemmas
 mod CountsLemmas
 mod HeaderLemmas
 mod LocateLemmas
+mod ManagedLemmas
 mod RowLemmas
 mod OrderLemmas
 mod TableLemmas

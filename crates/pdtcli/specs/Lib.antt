@@ -5,6 +5,7 @@ pub mod Input
 pub mod Managed
 pub mod Order
 pub mod Outcome
+pub mod Prepared
 pub mod Reading
 pub mod Script
 pub mod Stable

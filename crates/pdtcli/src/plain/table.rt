@@ -63,6 +63,14 @@ impl StableTable {
         }
     }
 
+    /// The table of rows that are known to be one. Takes no memory.
+    pub(crate) fn from_rows(schema: Schema, rows: Vec<Row>) -> StableTable
+        requires { IsStable (record { schema = schema; rows = rows.items }) }
+        ensures { result ≡ record { schema = schema; rows = rows.items } }
+    {
+        StableTable { schema, rows }
+    }
+
     /// The columns.
     pub fn schema(&self) -> &Schema
         ensures columns { result.now ≡ self.now.schema }

@@ -10,9 +10,9 @@ ghost use Rattle.pdtcli.specs.Edit.{edited, MayBeEdited};
 use crate::plain::table::{StableTable, key_of};
 use crate::plain::version::Version;
 use delta::DeltaTree;
-use model::{Write, WriteReply};
-use oracle::Record;
-use std::alloc::{AllocError, Global};
+use model::{CommitReply, Write, WriteReply};
+use oracle::{Effects, Record, effects_of_writes};
+use std::alloc::Global;
 use std::marker::Model;
 use thiserror::Error;
 use values::{Key, NoMemory, Row, Schema, ShapeFault, Value};
@@ -79,7 +79,8 @@ struct Found {
 }
 
 impl Txn {
-    ghost use Rattle.pdtcli.specs.Transaction.{transaction_at, tree_of, image_of, IsAnswered, IsFound};
+    ghost use Rattle.pdtcli.specs.Transaction.{transaction_at, tree_of, image_of, effects_of, IsTransaction, IsAnswered, IsFound};
+    ghost use Rattle.pdtcli.specs.Managed.{record_of};
 
     /// A transaction with no writes. Takes no memory.
     pub(crate) fn open(alloc: Global, version: Version, client: u32, row_limit: u64) -> Txn
@@ -109,6 +110,35 @@ impl Txn {
         ensures { result.now ≡ tree_of self.now }
     {
         &self.tree
+    }
+
+    /// How many commits its snapshot has.
+    pub(crate) fn begin(&self) -> u64
+        ensures number { result ≡ self.now.begin }
+        ensures lawful { IsTransaction self.now }
+    {
+        self.version.number
+    }
+
+    /// What its writes do, by key. Takes a search and a copy for each.
+    pub(crate) fn effects(&self, alloc: Global) -> Result<Effects, NoMemory>
+        ensures { IfOk result (λ effects. effects ≡ effects_of self.now) }
+    {
+        effects_of_writes(alloc, self.schema().key_cols(), self.writes.as_slice())
+    }
+
+    /// Its record, with the reply to its commit. Takes no memory.
+    pub(crate) fn into_record(self, reply: CommitReply) -> Record
+        ensures { result ≡ record_of self reply }
+    {
+        let Txn {
+            client,
+            version,
+            row_limit: _,
+            tree: _tree,
+            writes,
+        } = self;
+        Record::new(client, version.number, writes, reply)
     }
 
     /// Inserts a row.
