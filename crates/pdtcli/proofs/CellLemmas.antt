@@ -57,7 +57,7 @@ numeral-digits : (ds : List ℕ) → is_numeral ds ≡ true → (all_ascii_digit
 numeral-digits [] e = cc e
 numeral-digits (c ∷ ds) e = (e, omega arith)
 
-and-parts : (a b : Bool) → (a && b) ≡ true → (a ≡ true) × (b ≡ true)
+pub and-parts : (a b : Bool) → (a && b) ≡ true → (a ≡ true) × (b ≡ true)
 and-parts true b e = (refl, e)
 and-parts false b e = cc e
 

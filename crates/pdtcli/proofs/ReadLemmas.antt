@@ -1,5 +1,5 @@
 -- The records of a text, one after the other, and lists that are read element by element.
-use Rattle.std.proofs.Common.{◌≡◌, ◌∙◌, ℕ, zero, suc, Bool, true, false, List, [], ◌∷◌, ◌++◌, drop, Option, Some, None, Result, Ok, Err, Bor, refl, sym, ap, append_assoc, inl, subst}
+use Rattle.std.proofs.Common.{◌≡◌, ◌∙◌, ◌<◌, ℕ, zero, suc, Bool, true, false, List, [], ◌∷◌, ◌++◌, length, drop, Option, Some, None, Result, Ok, Err, Bor, refl, sym, ap, append_assoc, inl, subst, arith}
 use Rattle.std.specs.Result.{IsErrAnd, IfErr, IfOk}
 use Rattle.csv.specs.Machine.{Read, next_record}
 use Rattle.csv.specs.Reading.{AreRecords, Reached, ReadRecord, default_config, source_of, strip_bom, took_first}
@@ -43,6 +43,13 @@ unfolding field_at
 field-drop [] i field e = cc e
 field-drop (g ∷ fields) zero field e = ap (λ (x : List ℕ). x ∷ fields) (cc e)
 field-drop (g ∷ fields) (suc i) field e = field-drop fields i field e
+
+-- below a record's length there is a field
+pub field-there : (fields : Fields) (i : ℕ) → None ≡ field_at fields i → i < length fields → ⊥
+unfolding field_at
+field-there [] i e l = absurd (omega (arith, l))
+field-there (f ∷ fields) zero e l = cc e
+field-there (f ∷ fields) (suc i) e l = field-there fields i e (omega (arith, l))
 
 -- ---- records
 

@@ -37,7 +37,7 @@ pub fn read_script(alloc: Global, schema: &Schema, text: &[u8]) -> Result<Script
         add_client(alloc, &mut clients, &fields)?;
         calls.push(call)?;
     }
-    Err(ScriptFault::NoMemory)
+    unreachable!()
 }
 
 /// The call of the record of this number.
@@ -66,7 +66,7 @@ fn is_all_text(fields: &ByteRecord) -> bool
     for i in 0..fields.len() {
         let bytes = match fields.get(i) {
             Some(bytes) => bytes,
-            None => return true,
+            None => unreachable!(),
         };
         if !is_text(bytes) {
             return false;

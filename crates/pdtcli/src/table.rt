@@ -38,5 +38,5 @@ pub fn read_table(alloc: Global, text: &[u8]) -> Result<(Schema, Vec<Row>), Tabl
         let row = read_row(alloc, schema.types(), number, &fields)?;
         rows.push(row)?;
     }
-    Err(TableFault::TooManyRows)
+    unreachable!()
 }
