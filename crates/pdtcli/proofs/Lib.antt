@@ -4,4 +4,7 @@ mod HeaderLemmas
 mod RowLemmas
 mod OrderLemmas
 mod TableLemmas
+mod FittingLemmas
 mod ScriptLemmas
+mod ClientsLemmas
+mod CallsLemmas

@@ -9,7 +9,7 @@ use Rattle.csv.specs.declared.parser.State.{State}
 use Rattle.csv.specs.declared.parser.State.TheVariants as st
 use Rattle.csv.specs.declared.reader.Reader.{Reader}
 use Rattle.csv.proofs.ReadFacts.{rows-more, rows-end}
-use Rattle.pdtcli.specs.Cells.{then_cons, prepend}
+use Rattle.pdtcli.specs.Cells.{or_else, then_cons, prepend}
 use Rattle.pdtcli.specs.Reading.{Fields, AreRecordsOf, IsReading, ReadsOne}
 
 -- ---- lists
@@ -19,6 +19,17 @@ module _ {A F : Type 0} where
   pub prepend-then_cons : (xs : List A) (a : A) (r : Result (List A) F) → prepend xs (then_cons (Ok a) r) ≡ prepend (xs ++ a ∷ []) r
   prepend-then_cons xs a (Ok ys) = ap Ok (sym (append_assoc xs (a ∷ []) ys))
   prepend-then_cons xs a (Err e) = refl
+
+  -- what was read first, and the rest
+  pub then_cons-parts : (a : Result A F) (r : Result (List A) F) (xs : List A) → then_cons a r ≡ Ok xs → (x : A) × (rest : List A) × (a ≡ Ok x) × (r ≡ Ok rest) × (xs ≡ x ∷ rest)
+  then_cons-parts (Err f) r xs e = cc e
+  then_cons-parts (Ok a) (Err f) xs e = cc e
+  then_cons-parts (Ok a) (Ok rest) xs e = (a, rest, refl, refl, cc e)
+
+  -- what is there
+  pub or_else-parts : (fault : F) (o : Option A) (a : A) → or_else fault o ≡ Ok a → o ≡ Some a
+  or_else-parts fault None a e = cc e
+  or_else-parts fault (Some x) a e = cc e
 
   pub prepend-nil : (r : Result (List A) F) → prepend [] r ≡ r
   prepend-nil (Ok ys) = refl

@@ -11,9 +11,11 @@ use Rattle.csv.specs.declared.reader.Reader.{Reader}
 use Rattle.values.specs.Shape.{Columns}
 use Rattle.values.specs.declared.value.ColumnType.{ColumnType}
 use Rattle.values.specs.declared.value.Value.{Value}
-use Rattle.pdtcli.specs.Cells.{value_of, prepend}
+use Rattle.pdtcli.specs.Cells.{value_of, prepend, place_from}
 use Rattle.pdtcli.specs.Reading.{Fields, AreRecordsOf, IsReading}
-use Rattle.pdtcli.specs.Script.{place_from, number_of, is_client, client_of, clients_after, clients_of, verb_of, arguments_of, values_of, set_cell, set_column, typed_call, asked, call_of, calls_of, script_of}
+use Rattle.pdtcli.specs.Calls.{verb_of, arguments_of, values_of, set_cell, set_column, typed_call, asked}
+use Rattle.pdtcli.specs.Clients.{number_of, is_client, client_of, clients_after, clients_of}
+use Rattle.pdtcli.specs.Script.{call_of, calls_of, script_of}
 use Rattle.pdtcli.specs.declared.call.ClientCall.{ClientCall}
 use Rattle.pdtcli.specs.declared.fault.ScriptFault.{ScriptFault}
 use Rattle.pdtcli.specs.declared.fault.ScriptFault.TheVariants.{BadClient, TooManyClients, BadCount, BadVerb, BadArgument}

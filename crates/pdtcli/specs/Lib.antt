@@ -1,4 +1,6 @@
+pub mod Calls
 pub mod Cells
+pub mod Clients
 pub mod Header
 pub mod Input
 pub mod Order

@@ -1,7 +1,8 @@
 //! The call that a record's fields say after the client's name.
 ghost use Rattle.std.specs.Prelude.{◌≡◌, ◌≢◌, ◌<◌, ◌≤◌, ◌+◌, length, drop, IfOk, IfErr, IfSome, Ok, Err};
 ghost use Rattle.csv.specs.Records.{fields_of};
-ghost use Rattle.pdtcli.specs.Script.{arguments_of, asked, key_types, place_from, set_cell, typed_call, values_of};
+ghost use Rattle.pdtcli.specs.Calls.{arguments_of, asked, key_types, set_cell, typed_call, values_of};
+ghost use Rattle.pdtcli.specs.Cells.{place_from};
 
 use crate::call::Call;
 use crate::cell::read_value;

@@ -3,7 +3,7 @@ ghost use Rattle.std.specs.Prelude.{◌≡◌, ◌<◌, true, IfOk, IfErr, Ok, E
 ghost use Rattle.std.specs.List.{list_all};
 ghost use Rattle.std.specs.Str.{is_utf8};
 ghost use Rattle.csv.specs.Records.{fields_of};
-ghost use Rattle.pdtcli.specs.Script.{client_of, clients_after, is_client, is_client_byte, number_of};
+ghost use Rattle.pdtcli.specs.Clients.{client_of, clients_after, is_client, is_client_byte, number_of};
 
 use crate::fault::ScriptFault;
 use csv::ByteRecord;
@@ -14,7 +14,7 @@ use values::Text;
 const MAX_CLIENT_BYTES: usize = 32;
 
 /// How many clients a script may have, as long as one transaction is run at a time.
-const MAX_SCRIPT_CLIENTS: usize = 1;
+pub(crate) const MAX_SCRIPT_CLIENTS: usize = 1;
 
 /// The number of the client that the record names, one above those there are where it is new.
 pub(crate) fn read_client(

@@ -5,6 +5,8 @@ use Rattle.csv.specs.Records.{fields_of}
 use Rattle.pdtcli.specs.declared.fault.ScriptFault.TheVariants.{NoMemory}
 use Rattle.pdtcli.proofs.ReadLemmas.{passed-up, prepend-nil}
 use Rattle.pdtcli.proofs.ScriptLemmas.{call_of-text, calls_of-step, clients_of-step, script_of-fault, script_of-ok}
+use Rattle.pdtcli.proofs.ClientsLemmas.{script_of-below, script_of-few}
+use Rattle.pdtcli.proofs.CallsLemmas.{script_of-typed}
 use Rattle.pdtcli.proofs.script.read_script.Goals as goal
 
 pub loop-number-init : goal.loop-number-init
@@ -64,3 +66,18 @@ unreachable-requires c =
     let small = c.loop-number.calls.small in
     let last = c.loop-number-test.false in
     omega (arith, count, full.0, full.1, small, last)
+
+pub returns-then-not-more-clause-clients : goal.returns-then-not-more-clause-clients
+returns-then-not-more-clause-clients c =
+    let inv = c.loop-number.invariant.reading in
+    script_of-below c.args.schema.now inv.0 _ _ (script_of-ok c.args.schema.now inv.0 c.loop-number.number _ _ inv.2 inv.3)
+
+pub returns-then-not-more-clause-few : goal.returns-then-not-more-clause-few
+returns-then-not-more-clause-few c =
+    let inv = c.loop-number.invariant.reading in
+    script_of-few c.args.schema.now inv.0 _ _ (script_of-ok c.args.schema.now inv.0 c.loop-number.number _ _ inv.2 inv.3)
+
+pub returns-then-not-more-clause-typed : goal.returns-then-not-more-clause-typed
+returns-then-not-more-clause-typed c =
+    let inv = c.loop-number.invariant.reading in
+    script_of-typed c.args.schema.now inv.0 _ _ (script_of-ok c.args.schema.now inv.0 c.loop-number.number _ _ inv.2 inv.3)

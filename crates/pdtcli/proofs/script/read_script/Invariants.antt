@@ -1,7 +1,8 @@
 use Rattle.std.proofs.Common.{◌≡◌, ◌+◌, ◌++◌, [], List, length}
 use Rattle.pdtcli.specs.Cells.{prepend}
 use Rattle.pdtcli.specs.Reading.{Fields, IsReading}
-use Rattle.pdtcli.specs.Script.{calls_of, clients_of}
+use Rattle.pdtcli.specs.Clients.{clients_of}
+use Rattle.pdtcli.specs.Script.{calls_of}
 use Rattle.pdtcli.proofs.script.read_script.Given as goal
 
 -- the records so far lead to where the reader stands, and their clients and calls are those so far
