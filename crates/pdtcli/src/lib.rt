@@ -20,6 +20,8 @@ mod reading;
 mod row;
 mod script;
 mod table;
+#[cfg(test)]
+mod tests;
 mod verb;
 mod words;
 
