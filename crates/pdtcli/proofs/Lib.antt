@@ -8,3 +8,4 @@ mod FittingLemmas
 mod ScriptLemmas
 mod ClientsLemmas
 mod CallsLemmas
+mod WordsLemmas
