@@ -1,19 +1,19 @@
 -- What every call that was read keeps: its values are of their columns' types.
-use Rattle.std.proofs.Common.{◌≡◌, ◌∙◌, ◌<◌, ◌≤◌, ◌+◌, ◌-◌, ◌==◌, ◌&&◌, ℕ, suc, Bool, true, false, cond, List, [], ◌∷◌, length, take, drop, slice_get, Option, Some, None, Result, Ok, Err, refl, sym, ap, arith, inl, inr, eq-eqb}
+use Rattle.std.proofs.Common.{◌≡◌, ◌≤◌, ◌+◌, ℕ, suc, true, List, [], ◌∷◌, length, drop, slice_get, Option, Some, None, Result, Ok, Err, refl, arith, inl, inr, eq-eqb}
 use Rattle.std.specs.List.{All}
 use Rattle.std.specs.Option.{option_map}
 use Rattle.std.specs.Str.{is_utf8}
 use Rattle.std.proofs.lemmas.Bool.{cases_Bool, cases_eq, ne_eqb}
 use Rattle.std.proofs.lemmas.List.{length-drop, length-take}
 use Rattle.std.proofs.lemmas.List.Elements.{All-cons}
-use Rattle.values.specs.Shape.{Columns, IsSchema, has_type}
+use Rattle.values.specs.Shape.{Columns, has_type}
 use Rattle.values.specs.declared.value.ColumnType.{ColumnType}
 use Rattle.values.specs.declared.value.ColumnType.TheVariants as column
 use Rattle.values.specs.declared.value.Value.{Value}
 use Rattle.values.specs.declared.value.Value.TheVariants.{Int, Text, Bool as Truth}
 use Rattle.model.specs.declared.write.Write.TheVariants.{Insert, Delete, Set}
-use Rattle.pdtcli.specs.Cells.{int_of, truth_of, value_of, or_else, then_cons, place_from}
-use Rattle.pdtcli.specs.Calls.{verb_of, arguments_of, key_types, values_of, value_at, set_value, set_column, set_cell, inserted, deleted, set_of, typed_call, verb_call, word_call, asked, are_of_types, is_of_column, is_typed_call}
+use Rattle.pdtcli.specs.Cells.{int_of, truth_of, value_of, place_from}
+use Rattle.pdtcli.specs.Calls.{verb_of, arguments_of, key_types, values_of, value_at, set_value, set_column, set_cell, inserted, deleted, set_of, typed_call, verb_call, word_call, are_of_types, is_of_column, is_typed_call}
 use Rattle.pdtcli.specs.Clients.{clients_after}
 use Rattle.pdtcli.specs.Reading.{Fields}
 use Rattle.pdtcli.specs.Script.{call_of, calls_of, script_of}

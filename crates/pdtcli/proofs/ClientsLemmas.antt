@@ -1,5 +1,5 @@
 -- Each call of a script is of one of its clients, and these are few.
-use Rattle.std.proofs.Common.{◌≡◌, ◌∙◌, ◌<◌, ◌≤◌, ◌+◌, ◌==◌, ℕ, suc, Bool, true, false, cond, List, [], ◌∷◌, ◌++◌, length, Option, Some, None, Result, Ok, Err, refl, sym, ap, arith, inl, inr, nat_lt, nat_le}
+use Rattle.std.proofs.Common.{◌≡◌, ◌<◌, ◌≤◌, ◌+◌, ℕ, suc, List, [], ◌∷◌, length, Option, Some, None, Result, Ok, Err, refl, ap, arith, inl, inr}
 use Rattle.std.specs.Prelude.{unwrap_or}
 use Rattle.std.specs.List.{All, list_all}
 use Rattle.std.specs.Str.{is_utf8, bytes_eq}
@@ -7,7 +7,7 @@ use Rattle.std.proofs.lemmas.Bool.{cases_Bool, cases_lt}
 use Rattle.std.proofs.lemmas.List.{length-append}
 use Rattle.std.proofs.lemmas.List.Elements.{All-cons}
 use Rattle.values.specs.Shape.{Columns}
-use Rattle.pdtcli.specs.Cells.{then_cons, place_from}
+use Rattle.pdtcli.specs.Cells.{place_from}
 use Rattle.pdtcli.specs.Calls.{asked}
 use Rattle.pdtcli.specs.Clients.{is_client, number_of, clients_with, clients_after, clients_of, client_of}
 use Rattle.pdtcli.specs.Reading.{Fields}

@@ -1,5 +1,5 @@
 -- The rows of a table's records fit its schema, and in ascending key they are a table.
-use Rattle.std.proofs.Common.{◌≡◌, ◌∙◌, ◌<◌, ◌+◌, ◌==◌, ℕ, zero, suc, T, Bool, true, false, List, [], ◌∷◌, length, map, Option, Some, None, Result, Ok, Err, Less, is_lt, refl, sym, ap, subst, arith, inl, inr, nat_lt, eq-eqb}
+use Rattle.std.proofs.Common.{◌≡◌, ◌+◌, ℕ, suc, T, Bool, true, false, List, [], ◌∷◌, length, map, Option, Some, None, Result, Ok, Err, is_lt, refl, sym, ap, subst, arith, inl, inr, nat_lt, eq-eqb}
 use Rattle.std.specs.List.{All, list_all}
 use Rattle.std.specs.List.Sorted.{IsPermutation}
 use Rattle.std.specs.Option.{option_map}
@@ -20,12 +20,11 @@ use Rattle.model.specs.Maps.{is_sorted}
 use Rattle.model.specs.Table as model
 use Rattle.model.proofs.MapsLemmas.{both, first, below_less}
 use Rattle.model.proofs.TableLemmas.{is_keyed_table-table_of}
-use Rattle.pdtcli.specs.Cells.{int_of, truth_of, then_cons}
+use Rattle.pdtcli.specs.Cells.{int_of, truth_of}
 use Rattle.pdtcli.specs.Header.{schema_of}
 use Rattle.pdtcli.specs.Input.{cell_of, cells_of, numbered, row_of, rows_of, first_repeat, unless_repeated, keyed, under, table_of, IsAscending}
 use Rattle.pdtcli.specs.Reading.{Fields}
 use Rattle.pdtcli.specs.declared.fault.TableFault.{TableFault}
-use Rattle.pdtcli.specs.declared.fault.TableFault.TheVariants.{BadCell}
 use Rattle.pdtcli.specs.declared.order.Numbered.{Numbered}
 use Rattle.pdtcli.proofs.ReadLemmas.{then_cons-parts, or_else-parts}
 

@@ -1,8 +1,8 @@
 -- The records of a text, one after the other, and lists that are read element by element.
 use Rattle.std.proofs.Common.{◌≡◌, ◌∙◌, ◌<◌, ℕ, zero, suc, Bool, true, false, List, [], ◌∷◌, ◌++◌, length, drop, Option, Some, None, Result, Ok, Err, Bor, refl, sym, ap, append_assoc, inl, subst, arith}
 use Rattle.std.specs.Result.{IsErrAnd, IfErr, IfOk}
-use Rattle.csv.specs.Machine.{Read, next_record}
-use Rattle.csv.specs.Reading.{AreRecords, Reached, ReadRecord, default_config, source_of, strip_bom, took_first}
+use Rattle.csv.specs.Machine.{Read}
+use Rattle.csv.specs.Reading.{AreRecords, Reached, ReadRecord, default_config, strip_bom, took_first}
 use Rattle.csv.specs.Records.{field_at}
 use Rattle.csv.specs.declared.parser.Config.{Config}
 use Rattle.csv.specs.declared.parser.State.{State}

@@ -1,5 +1,5 @@
 -- Names, arguments and calls of a script, one after the other.
-use Rattle.std.proofs.Common.{◌≡◌, ◌≢◌, ◌∙◌, ◌<◌, ◌≤◌, ◌+◌, ◌-◌, ◌==◌, ℕ, zero, suc, Bool, true, false, List, [], ◌∷◌, ◌++◌, length, drop, slice_get, Option, Some, None, Result, Ok, Err, Bor, refl, sym, ap, arith, append_assoc, add-one, inl, inr, eq-eqb, nat_lt, nat_le}
+use Rattle.std.proofs.Common.{◌≡◌, ◌∙◌, ◌<◌, ◌≤◌, ◌+◌, ℕ, zero, suc, true, false, List, [], ◌∷◌, ◌++◌, length, drop, slice_get, Some, None, Ok, Err, Bor, refl, ap, arith, append_assoc, add-one, inl, inr, eq-eqb}
 use Rattle.std.proofs.lemmas.Bool.{cases_Bool, ne_eqb}
 use Rattle.std.proofs.lemmas.List.{append-nil}
 use Rattle.std.proofs.lemmas.Str.{IsUtf8-from_is_utf8}
@@ -20,9 +20,8 @@ use Rattle.pdtcli.specs.declared.call.ClientCall.{ClientCall}
 use Rattle.pdtcli.specs.declared.fault.ScriptFault.{ScriptFault}
 use Rattle.pdtcli.specs.declared.fault.ScriptFault.TheVariants.{BadClient, TooManyClients, BadCount, BadVerb, BadArgument}
 use Rattle.pdtcli.specs.declared.verb.Verb.{Verb}
-use Rattle.pdtcli.specs.declared.client.TheConstants.{MAX_SCRIPT_CLIENTS}
 use Rattle.pdtcli.proofs.CellLemmas.{and-parts, lt_true, lt_false, le_true, le_false}
-use Rattle.pdtcli.proofs.ReadLemmas.{records-start, records-same, prepend-then_cons}
+use Rattle.pdtcli.proofs.ReadLemmas.{records-start, prepend-then_cons}
 
 -- ---- places
 

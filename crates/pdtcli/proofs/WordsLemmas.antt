@@ -1,12 +1,12 @@
 -- The words of a command line.
-use Rattle.std.proofs.Common.{◌≡◌, ℕ, ℤ, pos, true, List, Option, Some, None, refl, sym, subst}
+use Rattle.std.proofs.Common.{◌≡◌, ℤ, pos, true, Option, Some, None, refl, subst}
 use Rattle.std.specs.Option.{IfSome}
 use Rattle.clap.specs.Words.{NarrowsTo, Text, is_simple}
 use Rattle.clap.specs.declared.builder.value_parser.ValueParser.{ValueParser}
 use Rattle.clap.specs.declared.builder.value_parser.ValueParser.TheVariants.{Unsigned}
 use Rattle.clap.proofs.OnLiterals.{clap_on_literals}
 use Rattle.values.specs.declared.limits.TheConstants.{MAX_ROWS}
-use Rattle.pdtcli.specs.Words.{usage, IsLimitOf, AreOf}
+use Rattle.pdtcli.specs.Words.{usage, AreOf}
 use Rattle.pdtcli.specs.declared.words.Settings.{Settings}
 use Rattle.pdtcli.specs.declared.words.Settings.TheVariants.{Run}
 

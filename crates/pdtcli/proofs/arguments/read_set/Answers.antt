@@ -1,4 +1,4 @@
-use Rattle.std.proofs.Common.{◌≡◌, ◌∙◌, ◌+◌, arith, add-one, refl, sym}
+use Rattle.std.proofs.Common.{◌∙◌, ◌+◌, arith, add-one, refl, sym}
 use Rattle.csv.specs.Records.{fields_of}
 use Rattle.pdtcli.proofs.ReadLemmas.{field-drop, field-there}
 use Rattle.pdtcli.proofs.ScriptLemmas.{set_cell-parts}

@@ -1,4 +1,4 @@
-use Rattle.std.proofs.Common.{◌≡◌, ◌∙◌, ◌≤◌, ◌<◌, true, false, sym, rules}
+use Rattle.std.proofs.Common.{◌≡◌, true, false, rules}
 use Rattle.csv.specs.Records.{fields_of}
 use Rattle.pdtcli.specs.Clients.{is_client}
 use Rattle.pdtcli.proofs.ReadLemmas.{field-drop}

@@ -1,4 +1,4 @@
-use Rattle.std.proofs.Common.{◌≡◌, ◌∙◌, arith, true, rules, sym}
+use Rattle.std.proofs.Common.{◌≡◌, ◌∙◌, arith, true, rules}
 use Rattle.std.specs.Result.{is_ok}
 use Rattle.csv.specs.Records.{fields_of}
 use Rattle.pdtcli.proofs.ReadLemmas.{field-drop, field-there, passed-up}

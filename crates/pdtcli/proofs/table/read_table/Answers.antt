@@ -1,8 +1,7 @@
-use Rattle.std.proofs.Common.{◌≡◌, ◌≤◌, ◌∙◌, ◌+◌, ◌∷◌, ◌++◌, [], ℕ, true, false, refl, sym, arith, rules, length}
+use Rattle.std.proofs.Common.{◌≡◌, ◌∙◌, ◌+◌, ◌∷◌, ◌++◌, [], true, false, refl, sym, arith, rules, length}
 use Rattle.std.specs.Result.{is_ok}
 use Rattle.std.proofs.lemmas.List.{length-append}
 use Rattle.csv.specs.Records.{fields_of}
-use Rattle.values.specs.declared.limits.TheConstants.{MAX_ROWS}
 use Rattle.pdtcli.specs.declared.fault.TableFault.TheVariants.{NoMemory}
 use Rattle.pdtcli.proofs.ReadLemmas.{passed-up, prepend-nil}
 use Rattle.pdtcli.proofs.RowLemmas.{rows_of-step}

@@ -3,10 +3,9 @@ use Rattle.clap.specs.Simple.{app_of_fields, on_top}
 use Rattle.clap.specs.Words.{App, Rule, app_of, new_app, new_rule, rule_of, with_rule, with_subcommand}
 use Rattle.clap.specs.declared.builder.arg.Arg.{Arg}
 use Rattle.clap.specs.declared.builder.ArgAction.TheVariants.{Set}
-use Rattle.clap.specs.declared.builder.value_parser.ValueParser.{ValueParser}
 use Rattle.clap.specs.declared.builder.value_parser.ValueParser.TheVariants.{Unsigned}
 use Rattle.values.specs.declared.limits.TheConstants.{MAX_ROWS}
-use Rattle.pdtcli.specs.Words.{placed_rule, limit_rule, run_usage, usage}
+use Rattle.pdtcli.specs.Words.{placed_rule, limit_rule, run_usage}
 use Rattle.pdtcli.proofs.WordsLemmas.{narrowed}
 use Rattle.pdtcli.proofs.words.program.Goals as goal
 
