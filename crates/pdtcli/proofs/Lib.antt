@@ -7,6 +7,10 @@ mod ManagedLemmas
 mod RowLemmas
 mod OrderLemmas
 mod TableLemmas
+mod FittingLemmas
 mod ScriptLemmas
 mod StableLemmas
 mod TransactionLemmas
+mod ClientsLemmas
+mod CallsLemmas
+mod WordsLemmas

@@ -1,4 +1,6 @@
+pub mod Calls
 pub mod Cells
+pub mod Clients
 pub mod Edit
 pub mod Header
 pub mod Input
@@ -7,6 +9,7 @@ pub mod Order
 pub mod Outcome
 pub mod Prepared
 pub mod Reading
+pub mod Run
 pub mod Script
 pub mod Stable
 pub mod Transaction

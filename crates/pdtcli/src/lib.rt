@@ -23,6 +23,8 @@ mod reply;
 mod row;
 mod script;
 mod table;
+#[cfg(test)]
+mod tests;
 mod verb;
 mod words;
 
