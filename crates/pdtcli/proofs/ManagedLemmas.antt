@@ -1,7 +1,7 @@
 -- What a manager's type keeps, record by record.
-use Rattle.std.proofs.Common.{◌≡◌, ℕ, zero, suc, ◌+◌, ◌≤◌, Bool, true, false, cond, List, [], ◌∷◌, ◌++◌, map, length, take, drop, refl, sym, ap, ◌∙◌, subst, arith}
+use Rattle.std.proofs.Common.{◌≡◌, ℕ, zero, suc, ◌+◌, ◌-◌, ◌≤◌, Bool, true, false, cond, List, [], ◌∷◌, ◌++◌, map, length, take, drop, refl, sym, ap, ◌∙◌, subst, arith}
 use Rattle.std.specs.Prelude.{nat_lt, IsTrue}
-use Rattle.std.specs.List.{list_any}
+use Rattle.std.specs.List.{list_all, list_any}
 use Rattle.std.proofs.lemmas.List.{length-map}
 use Rattle.values.specs.Shape.{Columns}
 use Rattle.values.specs.declared.row.Row.{Row}
@@ -10,6 +10,7 @@ use Rattle.model.specs.declared.write.CommitReply.TheVariants.{Committed, Confli
 use Rattle.model.specs.Table.{Table, rows_of, table_of, is_keyed_table, IsTable}
 use Rattle.model.specs.Effects.{Effects, table_with, AreOver}
 use Rattle.model.specs.Clashes.{conflicts}
+use Rattle.model.specs.Writes.{write_fits_schema, replies_to, effects_after_all}
 use Rattle.model.specs.Laws.{AreCommits}
 use Rattle.model.specs.History.{Record, writes_of, table_with_all, table_after, due_reply, commits_with, commits_after, commits_from, commits_of, effects_of_record, IsLegalRecord, IsLegalFrom, IsLegal}
 use Rattle.std.proofs.lemmas.Float.{T_from_true}
@@ -20,6 +21,7 @@ use Rattle.model.proofs.HistoryLemmas.{length-table_after}
 use Rattle.pdtcli.specs.Stable.{Stable, IsStable, table_in}
 use Rattle.pdtcli.specs.Transaction.{Transaction, effects_of, asked_of, IsTransaction}
 use Rattle.pdtcli.specs.Managed.{Managed, commits_in, newest_table, IsManaged, HasNewest, IsOwn, reply_due, record_of, with_record}
+use Rattle.pdtcli.specs.Prepared.{LeavesTable}
 use Rattle.pdtcli.proofs.TransactionLemmas.{over}
 
 pub take_length : {A : Type 0} (xs : List A) → take (length xs) xs ≡ xs
@@ -91,3 +93,81 @@ next_stable m h txn k own clear schema schema_is rows rows_are few =
   where
     limited : (n : ℕ) → n ≤ m.limit → n ≤ MAX_ROWS
     limited n le = let most = h.limited in omega (arith, le, most)
+
+-- ---- one record more
+
+module _ (schema : Columns) (limit recent : ℕ) (opening : Table) where
+  IsLegalFrom-append : (commits : List Effects) (history : List Record) (r : Record) → IsLegalFrom schema limit recent opening commits history → IsLegalRecord schema limit recent opening (commits_from schema limit recent opening commits history) r → IsLegalFrom schema limit recent opening commits (history ++ r ∷ [])
+  IsLegalFrom-append commits [] r h k = (k, tt)
+  IsLegalFrom-append commits (s ∷ history) r h k = (h.0, IsLegalFrom-append (commits_after schema limit recent opening commits s) history r h.1 k)
+
+  commits_from-append : (commits : List Effects) (history : List Record) (r : Record) → commits_from schema limit recent opening commits (history ++ r ∷ []) ≡ commits_after schema limit recent opening (commits_from schema limit recent opening commits history) r
+  commits_from-append commits [] r = refl
+  commits_from-append commits (s ∷ history) r = commits_from-append (commits_after schema limit recent opening commits s) history r
+
+-- a reply that leaves the table leaves the commits
+commits_with-refused : (commits : List Effects) (x : Effects) (reply : CommitReply) → LeavesTable reply → commits_with commits x reply ≡ commits
+commits_with-refused commits x (Committed n) h = absurd h
+commits_with-refused commits x (Conflict n) h = refl
+commits_with-refused commits x (TooOld n) h = refl
+commits_with-refused commits x (Full n) h = refl
+
+-- a commit that is granted clashes with none
+clear_when : (old clash full : Bool) (n k : ℕ) → Committed k ≡ cond old (TooOld n) (cond clash (Conflict n) (cond full (Full n) (Committed (suc n)))) → clash ≡ false
+clear_when true clash full n k h = cc h
+clear_when false true full n k h = cc h
+clear_when false false full n k h = refl
+
+module _ (m : Managed) (h : IsManaged m) (txn : Transaction) (k : IsTransaction txn) (own : IsOwn m txn) (reply : CommitReply) (due : reply ≡ reply_due m txn) where
+  recorded_is : effects_of_record m.schema m.limit m.recent m.opening (commits_in m) (record_of txn reply) ≡ effects_of txn
+  recorded_is = sym (λ i. effects_after_all (own.schema i).key_cols (own.limit i) (own.snapshot i) [] (asked_of txn))
+
+  legal_record : IsLegalRecord m.schema m.limit m.recent m.opening (commits_in m) (record_of txn reply)
+  legal_record = record {
+    begun = own.begun;
+    fitting = ap (λ (s : Columns). list_all (write_fits_schema s) (asked_of txn)) (sym own.schema) ∙ k.fitting;
+    answered = k.answered ∙ (λ i. replies_to (own.schema i).key_cols (own.limit i) (own.snapshot i) [] (asked_of txn));
+    replied = due ∙ ap (due_reply m.limit m.recent m.opening (commits_in m) txn.begin) (sym recorded_is);
+  }
+
+  next_managed : IsManaged (with_record m (record_of txn reply))
+  next_managed = record {
+    table = h.table;
+    within = h.within;
+    limited = h.limited;
+    legal = IsLegalFrom-append m.schema m.limit m.recent m.opening [] m.history (record_of txn reply) h.legal legal_record;
+  }
+
+  next_commits : commits_in (with_record m (record_of txn reply)) ≡ commits_with (commits_in m) (effects_of txn) reply
+  next_commits =
+      commits_from-append m.schema m.limit m.recent m.opening [] m.history (record_of txn reply)
+      ∙ ap (λ x. commits_with (commits_in m) x reply) recorded_is
+
+-- what a manager holds after a commit that leaves the table
+pub refused_newest : (m : Managed) (commits : List Effects) (newest : Stable) → HasNewest m commits newest → (txn : Transaction) → IsTransaction txn → IsOwn m txn → (reply : CommitReply) → reply ≡ reply_due m txn → LeavesTable reply
+    → HasNewest (with_record m (record_of txn reply)) commits newest
+refused_newest m commits newest h txn k own reply due leaves_it =
+    let same = next_commits m h.lawful txn k own reply due ∙ commits_with-refused (commits_in m) (effects_of txn) reply leaves_it in
+    record {
+      lawful = next_managed m h.lawful txn k own reply due;
+      commits_are = h.commits_are ∙ sym same;
+      schema_is = h.schema_is;
+      table_is = h.table_is ∙ ap (table_with_all m.opening) (sym same);
+    }
+
+-- and after one that is granted
+pub granted_newest : (m : Managed) (commits : List Effects) (newest : Stable) → HasNewest m commits newest → (txn : Transaction) → IsTransaction txn → IsOwn m txn → (number : ℕ) → Committed number ≡ reply_due m txn
+    → (effects : Effects) → effects ≡ effects_of txn → (table : Stable) → table.schema ≡ m.schema → table.rows ≡ rows_of (table_with (newest_table m) (effects_of txn))
+    → HasNewest (with_record m (record_of txn (Committed number))) (commits ++ effects ∷ []) table
+granted_newest m commits newest h txn k own number due effects effects_are table schema_is rows_are =
+    let clear = clear_when (nat_lt m.recent (length (commits_in m) - txn.begin)) (list_any (conflicts (effects_of txn)) (drop txn.begin (commits_in m))) (nat_lt m.limit (length (table_with (newest_table m) (effects_of txn)))) (length (commits_in m)) number due in
+    let t = table_with (newest_table m) (effects_of txn) in
+    let lawful = leaves m.schema (newest_table m) (effects_of txn) (over_newest m h.lawful txn k own clear) in
+    let same = next_commits m h.lawful txn k own (Committed number) due in
+    let rows : table_in table ≡ t = (λ i. table_of (schema_is i).key_cols (rows_are i)) ∙ table_of-rows_of m.schema.key_cols t (T_from_true (is_keyed_table m.schema.key_cols t) lawful.keyed) in
+    record {
+      lawful = next_managed m h.lawful txn k own (Committed number) due;
+      commits_are = (λ i. h.commits_are i ++ effects_are i ∷ []) ∙ sym same;
+      schema_is = schema_is;
+      table_is = rows ∙ sym (table_with_all-append m.opening (commits_in m) (effects_of txn)) ∙ ap (table_with_all m.opening) (sym same);
+    }

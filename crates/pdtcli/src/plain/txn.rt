@@ -129,7 +129,8 @@ impl Txn {
 
     /// Its record, with the reply to its commit. Takes no memory.
     pub(crate) fn into_record(self, reply: CommitReply) -> Record
-        ensures { result ≡ record_of self reply }
+        ensures entry { result ≡ record_of self reply }
+        ensures lawful { IsTransaction self }
     {
         let Txn {
             client,
