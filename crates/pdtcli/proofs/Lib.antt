@@ -4,12 +4,14 @@ mod CountsLemmas
 mod HeaderLemmas
 mod LocateLemmas
 mod ManagedLemmas
+mod RunLemmas
 mod RowLemmas
 mod OrderLemmas
 mod TableLemmas
 mod FittingLemmas
 mod ScriptLemmas
 mod StableLemmas
+mod ToldLemmas
 mod TransactionLemmas
 mod ClientsLemmas
 mod CallsLemmas

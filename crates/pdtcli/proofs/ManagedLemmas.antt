@@ -101,7 +101,7 @@ module _ (schema : Columns) (limit recent : ℕ) (opening : Table) where
   IsLegalFrom-append commits [] r h k = (k, tt)
   IsLegalFrom-append commits (s ∷ history) r h k = (h.0, IsLegalFrom-append (commits_after schema limit recent opening commits s) history r h.1 k)
 
-  commits_from-append : (commits : List Effects) (history : List Record) (r : Record) → commits_from schema limit recent opening commits (history ++ r ∷ []) ≡ commits_after schema limit recent opening (commits_from schema limit recent opening commits history) r
+  pub commits_from-append : (commits : List Effects) (history : List Record) (r : Record) → commits_from schema limit recent opening commits (history ++ r ∷ []) ≡ commits_after schema limit recent opening (commits_from schema limit recent opening commits history) r
   commits_from-append commits [] r = refl
   commits_from-append commits (s ∷ history) r = commits_from-append (commits_after schema limit recent opening commits s) history r
 

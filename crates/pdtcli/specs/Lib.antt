@@ -9,8 +9,10 @@ pub mod Order
 pub mod Outcome
 pub mod Prepared
 pub mod Reading
+pub mod Ready
 pub mod Run
 pub mod Script
 pub mod Stable
+pub mod Told
 pub mod Transaction
 pub mod Words

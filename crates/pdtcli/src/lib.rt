@@ -11,6 +11,7 @@
 
 mod arguments;
 mod call;
+mod caller;
 mod cell;
 mod client;
 mod fault;
@@ -22,6 +23,7 @@ mod reading;
 mod reply;
 mod row;
 mod script;
+mod serial;
 mod table;
 #[cfg(test)]
 mod tests;
@@ -34,6 +36,7 @@ pub use outcome::Outcome;
 pub use plain::{BuildFault, Manager, OpenFault, StableTable, Txn, WriteFault};
 pub use reply::{Reply, ReplyLine};
 pub use script::read_script;
+pub use serial::run_serial;
 pub use table::read_table;
 pub use verb::Verb;
 pub use words::{Settings, read_words};

@@ -1,0 +1,137 @@
+-- A run goes on by one call, and each open transaction stays one of the manager.
+use Rattle.std.proofs.Common.{◌≡◌, ℕ, suc, ◌+◌, ◌≤◌, ◌<◌, Option, Some, None, List, [], ◌∷◌, ◌++◌, length, take, get_or, set, refl, sym, ap, ◌∙◌, subst, arith}
+use Rattle.std.specs.Prelude.{IfSome, slice_get, slice_set}
+use Rattle.std.specs.List.{All}
+use Rattle.std.proofs.lemmas.List.{take-append-le, length-append, length-set}
+use Rattle.std.proofs.lemmas.List.Elements.{All-set}
+use Rattle.std.proofs.lemmas.Option.{slice_get-get_or}
+use Rattle.values.specs.Shape.{Columns}
+use Rattle.model.specs.declared.write.CommitReply.{CommitReply}
+use Rattle.model.specs.declared.write.CommitReply.TheVariants.{Committed, Conflict, TooOld, Full}
+use Rattle.model.specs.declared.write.Write.{Write}
+use Rattle.model.specs.Table.{Table}
+use Rattle.model.specs.Effects.{Effects}
+use Rattle.model.specs.History.{Record, table_with_all, table_after, commits_with, effects_of_record}
+use Rattle.pdtcli.specs.declared.call.Call.{Call}
+use Rattle.pdtcli.specs.declared.call.Call.TheVariants as call
+use Rattle.pdtcli.specs.declared.call.ClientCall.{ClientCall}
+use Rattle.pdtcli.specs.declared.reply.Reply.{Reply}
+use Rattle.pdtcli.specs.declared.reply.Reply.TheVariants.{Begun, AlreadyOpen, NotOpen, Wrote, KeyColumn, TextTooLong, Decided, Aborted, NoMemory}
+use Rattle.pdtcli.specs.declared.reply.ReplyLine.{ReplyLine}
+use Rattle.pdtcli.specs.Transaction.{Transaction}
+use Rattle.pdtcli.specs.Managed.{Managed, commits_in, IsOwn, begun_at, with_record}
+use Rattle.pdtcli.specs.Run.{Side, SideStep, BeginStep, OpenWriteStep, WriteStep, OpenCommitStep, CommitStep, AbortStep, State, Step, IsRun}
+use Rattle.pdtcli.specs.Ready.{IsReady}
+use Rattle.pdtcli.proofs.ManagedLemmas.{take_length, commits_from-append}
+
+-- ---- a step keeps the transactions of the manager
+
+record Keeps (old new : Managed) : Type 0 where
+  schema : new.schema ≡ old.schema
+  own : (txn : Transaction) → IsOwn old txn → IsOwn new txn
+
+keeps_same : (old new : Managed) → new ≡ old → Keeps old new
+keeps_same old new is = subst (Keeps old) (sym is) (record { schema = refl; own = λ txn h. h })
+
+-- a commit leaves the tables before it
+own_later : (m : Managed) (r : Record) (txn : Transaction) (commits : List Effects) → commits_in (with_record m r) ≡ commits → (reply : CommitReply) → (x : Effects) → commits ≡ commits_with (commits_in m) x reply → IsOwn m txn → IsOwn (with_record m r) txn
+own_later m r txn commits are (Committed n) x is h =
+    let longer = are ∙ is in
+    let grown = length-append (commits_in m) (x ∷ []) in
+    let more = subst (λ (cs : List Effects). length (commits_in m) ≤ length cs) (sym longer) (omega (arith, grown)) in
+    let before = take-append-le txn.begin (commits_in m) (x ∷ []) h.begun in
+    record {
+      schema = h.schema;
+      limit = h.limit;
+      begun = omega (arith, h.begun, more);
+      snapshot = h.snapshot ∙ ap (table_with_all m.opening) (sym before) ∙ ap (λ (cs : List Effects). table_after m.opening cs txn.begin) (sym longer);
+    }
+own_later m r txn commits are (Conflict n) x is h = subst (λ (cs : List Effects). (txn.begin ≤ length cs) × (txn.table ≡ table_after m.opening cs txn.begin) → IsOwn (with_record m r) txn) (are ∙ is) (λ k. record { schema = h.schema; limit = h.limit; begun = k.0; snapshot = k.1 }) (h.begun, h.snapshot)
+own_later m r txn commits are (TooOld n) x is h = subst (λ (cs : List Effects). (txn.begin ≤ length cs) × (txn.table ≡ table_after m.opening cs txn.begin) → IsOwn (with_record m r) txn) (are ∙ is) (λ k. record { schema = h.schema; limit = h.limit; begun = k.0; snapshot = k.1 }) (h.begun, h.snapshot)
+own_later m r txn commits are (Full n) x is h = subst (λ (cs : List Effects). (txn.begin ≤ length cs) × (txn.table ≡ table_after m.opening cs txn.begin) → IsOwn (with_record m r) txn) (are ∙ is) (λ k. record { schema = h.schema; limit = h.limit; begun = k.0; snapshot = k.1 }) (h.begun, h.snapshot)
+
+keeps_record : (m : Managed) (r : Record) → Keeps m (with_record m r)
+keeps_record m r = record {
+  schema = refl;
+  own = λ txn h. own_later m r txn (commits_in (with_record m r)) refl r.reply (effects_of_record m.schema m.limit m.recent m.opening (commits_in m) r) (commits_from-append m.schema m.limit m.recent m.opening [] m.history r) h;
+}
+
+-- what a side keeps by a step
+record SideKeeps (old new : Side) : Type 0 where
+  keeps : Keeps old.manager new.manager
+  own : IfSome new.own (IsOwn new.manager)
+
+side_same : (old new : Side) → IfSome old.own (IsOwn old.manager) → new ≡ old → SideKeeps old new
+side_same old new own is = subst (SideKeeps old) (sym is) (record { keeps = keeps_same old.manager old.manager refl; own = own })
+
+side_with : (old : Side) (own : Option Transaction) → IfSome own (IsOwn old.manager) → (new : Side) → new ≡ record old { own = own } → SideKeeps old new
+side_with old own h new is = subst (SideKeeps old) (sym is) (record { keeps = keeps_same old.manager old.manager refl; own = h })
+
+begun_own : (m : Managed) (client : ℕ) → IsOwn m (begun_at m client)
+begun_own m client = record { schema = refl; limit = refl; begun = omega arith; snapshot = ap (table_with_all m.opening) (sym (take_length (commits_in m))) }
+
+begin_keeps : (client : ℕ) (old new : Side) (reply : Reply) → IfSome old.own (IsOwn old.manager) → BeginStep client old reply new → SideKeeps old new
+begin_keeps client old new Begun own h = side_with old (Some (begun_at old.manager client)) (begun_own old.manager client) new h.1
+begin_keeps client old new AlreadyOpen own h = side_same old new own h.1
+begin_keeps client old new NoMemory own h = side_same old new own h.1
+begin_keeps client old new NotOpen own h = absurd h
+begin_keeps client old new (Wrote r) own h = absurd h
+begin_keeps client old new KeyColumn own h = absurd h
+begin_keeps client old new (TextTooLong n) own h = absurd h
+begin_keeps client old new (Decided r) own h = absurd h
+begin_keeps client old new Aborted own h = absurd h
+
+write_keeps : (txn : Transaction) (write : Write) (old new : Side) (reply : Reply) → IsOwn old.manager txn → IfSome old.own (IsOwn old.manager) → OpenWriteStep txn write old reply new → SideKeeps old new
+write_keeps txn write old new (Wrote r) mine own h = side_with old (Some _) (record { schema = mine.schema; limit = mine.limit; begun = mine.begun; snapshot = mine.snapshot }) new h.2
+write_keeps txn write old new KeyColumn mine own h = side_same old new own h.1
+write_keeps txn write old new (TextTooLong n) mine own h = side_same old new own h.1
+write_keeps txn write old new NoMemory mine own h = side_same old new own h
+write_keeps txn write old new Begun mine own h = absurd h
+write_keeps txn write old new AlreadyOpen mine own h = absurd h
+write_keeps txn write old new NotOpen mine own h = absurd h
+write_keeps txn write old new (Decided r) mine own h = absurd h
+write_keeps txn write old new Aborted mine own h = absurd h
+
+commit_keeps : (txn : Transaction) (old new : Side) (reply : Reply) → IfSome old.own (IsOwn old.manager) → OpenCommitStep txn old reply new → SideKeeps old new
+commit_keeps txn old new (Decided r) own h = subst (SideKeeps old) (sym h.1) (record { keeps = keeps_record old.manager _; own = tt })
+commit_keeps txn old new NoMemory own h = side_same old new own h
+commit_keeps txn old new Begun own h = absurd h
+commit_keeps txn old new AlreadyOpen own h = absurd h
+commit_keeps txn old new NotOpen own h = absurd h
+commit_keeps txn old new (Wrote r) own h = absurd h
+commit_keeps txn old new KeyColumn own h = absurd h
+commit_keeps txn old new (TextTooLong n) own h = absurd h
+commit_keeps txn old new Aborted own h = absurd h
+
+-- by the transaction that is open
+step_keeps : (client : ℕ) (asked : Call) (m : Managed) (mine : Option Transaction) (new : Side) (reply : Reply) → IfSome mine (IsOwn m) → SideStep client asked (record { manager = m; own = mine }) reply new → SideKeeps (record { manager = m; own = mine }) new
+step_keeps client call.Begin m mine new reply own h = begin_keeps client _ new reply own h
+step_keeps client (call.Write write) m None new reply own h = side_same _ new own h.1
+step_keeps client (call.Write write) m (Some txn) new reply own h = write_keeps txn write _ new reply own own h
+step_keeps client call.Commit m None new reply own h = side_same _ new own h.1
+step_keeps client call.Commit m (Some txn) new reply own h = commit_keeps txn _ new reply own h
+step_keeps client call.Abort m None new reply own h = side_same _ new own h.1
+step_keeps client call.Abort m (Some txn) new reply own h = side_with _ None tt new h.1
+
+if_some : (old new : Managed) → Keeps old new → (own : Option Transaction) → IfSome own (IsOwn old) → IfSome own (IsOwn new)
+if_some old new keeps None h = tt
+if_some old new keeps (Some txn) h = keeps.own txn h
+
+-- the clients are ready again
+pub ready_again : (schema : Columns) (count : ℕ) (m : Managed) (transactions : List (Option Transaction)) → IsReady schema count m transactions → (client : ℕ) (asked : Call) (mine : Option Transaction) (new : Side) (reply : Reply) → IfSome mine (IsOwn m)
+    → SideStep client asked (record { manager = m; own = mine }) reply new → IsReady schema count new.manager (set transactions client new.own)
+ready_again schema count m transactions h client asked mine new reply own step =
+    let kept = step_keeps client asked m mine new reply own step in
+    record {
+      schema_is = kept.keeps.schema ∙ h.schema_is;
+      many = length-set transactions client new.own ∙ h.many;
+      own = All-set (λ mine. IfSome mine (IsOwn new.manager)) transactions client new.own kept.own (λ k d lt. if_some m new.manager kept.keeps (get_or transactions k d) (h.own k d lt));
+    }
+
+-- ---- a run goes on
+
+pub IsRun-more : (old mid new : State) (calls : List ClientCall) (lines : List ReplyLine) (asked : ClientCall) (line : ReplyLine) → IsRun old calls lines mid → Step mid asked line new → IsRun old (calls ++ asked ∷ []) (lines ++ line ∷ []) new
+IsRun-more old mid new [] [] asked line r s = (new, subst (λ (st : State). Step st asked line new) r s, refl)
+IsRun-more old mid new [] (l ∷ lines) asked line r s = absurd r
+IsRun-more old mid new (c ∷ calls) [] asked line r s = absurd r
+IsRun-more old mid new (c ∷ calls) (l ∷ lines) asked line r s = (r.0, r.1, IsRun-more r.0 mid new calls lines asked line r.2 s)

@@ -1,0 +1,120 @@
+//! A run of a script's calls, one after the other.
+ghost use Rattle.std.specs.Prelude.{◌≡◌, ◌<◌, ◌≤◌, replicate, None, Option, List, [], IfOk, IsTrue, length, map, vec_capacity};
+ghost use Rattle.std.specs.List.{All, range_with_len};
+ghost use Rattle.pdtcli.specs.Calls.{is_typed_call};
+ghost use Rattle.pdtcli.specs.Transaction.{Transaction};
+ghost use Rattle.pdtcli.specs.Run.{IsRun, line_of, verb_of_call, verb_of_write, decided_count, is_decided};
+
+use crate::call::{Call, ClientCall, Script};
+use crate::caller::Caller;
+use crate::outcome::Outcome;
+use crate::plain::Manager;
+use crate::reply::{Reply, ReplyLine};
+use crate::verb::Verb;
+use model::Write;
+use std::alloc::Global;
+use values::{NoMemory, Text};
+
+/// Makes a script's calls in order, from a manager with no transaction open. Transactions that are open at the end are
+/// ended without a line.
+///
+/// # Errors
+///
+/// `NoMemory` where a place for the run is refused; a call that finds no memory is answered so, and the run goes on.
+pub fn run_serial(alloc: Global, manager: Manager, script: &Script) -> Result<Outcome, NoMemory>
+    // The calls were read under the manager's schema.
+    requires typed { All (λ asked. IsTrue (is_typed_call manager.schema asked.call)) script.now.calls.items }
+    requires clients { All (λ asked. asked.client < length script.now.clients.items) script.now.calls.items }
+    ensures run { IfOk result (λ outcome. (transactions : List (Option Transaction))
+        × IsRun (record { manager = manager; transactions = replicate (length script.now.clients.items) None }) script.now.calls.items outcome.lines (record { manager = outcome.manager; transactions = transactions })) }
+    ensures clients { IfOk result (λ outcome. outcome.clients ≡ script.now.clients.items) }
+    ensures counts { IfOk result (λ outcome. outcome.counts ≡ map (decided_count outcome.lines) (range_with_len 0 (length script.now.clients.items))) }
+{
+    let mut manager = manager;
+    let count = script.clients.len();
+    let names = copy_names(alloc, script.clients.as_slice())?;
+    let mut callers = new_callers(alloc, count)?;
+    let counts = Vec::with_capacity(alloc, count)?;
+    let mut lines = Vec::with_capacity(alloc, script.calls.len())?;
+    for asked in script.calls.as_slice() {
+        let reply = callers[asked.client as usize].serve(asked.client, &mut manager, &asked.call);
+        lines.push_reserved(line_of(asked, reply));
+    }
+    let counts = count_decided(counts, lines.as_slice(), count);
+    Ok(Outcome::new(names, lines, manager, counts))
+}
+
+/// The clients, none of which has a transaction open.
+fn new_callers(alloc: Global, count: usize) -> Result<Vec<Caller>, NoMemory>
+    ensures { IfOk result (λ callers. callers.items ≡ replicate count None) }
+{
+    let mut callers = Vec::with_capacity(alloc, count)?;
+    for _ in 0..count {
+        callers.push(Caller::new())?;
+    }
+    Ok(callers)
+}
+
+/// The clients' names, copied.
+fn copy_names(alloc: Global, names: &[Text]) -> Result<Vec<Text>, NoMemory>
+    ensures { IfOk result (λ copied. copied.items ≡ names.now) }
+{
+    let mut copied = Vec::with_capacity(alloc, names.len())?;
+    for name in names {
+        copied.push(name.copy()?)?;
+    }
+    Ok(copied)
+}
+
+/// For each client, how many of its commits were decided. The room for it is there.
+fn count_decided(room: Vec<u64>, lines: &[ReplyLine], count: usize) -> Vec<u64>
+    requires none { room.items ≡ [] }
+    requires within { count ≤ vec_capacity room }
+    ensures { result.items ≡ map (decided_count lines.now) (range_with_len 0 count) }
+{
+    let mut counts = room;
+    for client in 0..count {
+        counts.push_reserved(decided_count(lines, client));
+    }
+    counts
+}
+
+/// How many of the client's commits were decided.
+fn decided_count(lines: &[ReplyLine], client: usize) -> u64
+    ensures { result ≡ decided_count lines.now client }
+{
+    lines
+        .iter()
+        .filter(|line| line.client as usize == client && is_decided(line.reply))
+        .count() as u64
+}
+
+fn is_decided(reply: Reply) -> bool
+    ensures { result ≡ is_decided reply }
+{
+    matches!(reply, Reply::Decided(_))
+}
+
+/// The line of a call's reply.
+fn line_of(asked: &ClientCall, reply: Reply) -> ReplyLine
+    ensures { result ≡ line_of asked.now reply }
+{
+    ReplyLine {
+        client: asked.client,
+        verb: verb_of_call(&asked.call),
+        reply,
+    }
+}
+
+fn verb_of_call(call: &Call) -> Verb
+    ensures { result ≡ verb_of_call call.now }
+{
+    match call {
+        Call::Begin => Verb::Begin,
+        Call::Write(Write::Insert(_)) => Verb::Insert,
+        Call::Write(Write::Delete(_)) => Verb::Delete,
+        Call::Write(Write::Set(_, _, _)) => Verb::Set,
+        Call::Commit => Verb::Commit,
+        Call::Abort => Verb::Abort,
+    }
+}
