@@ -5,3 +5,4 @@ mod RowLemmas
 mod OrderLemmas
 mod TableLemmas
 mod ScriptLemmas
+mod OutputLemmas

@@ -4,7 +4,9 @@ pub mod Input
 pub mod Managed
 pub mod Order
 pub mod Outcome
+pub mod Output
 pub mod Reading
+pub mod Replies
 pub mod Script
 pub mod Stable
 pub mod Transaction
