@@ -6,6 +6,7 @@ pub mod Order
 pub mod Outcome
 pub mod Output
 pub mod Reading
+pub mod Refusals
 pub mod Replies
 pub mod Script
 pub mod Stable

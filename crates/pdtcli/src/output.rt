@@ -2,10 +2,11 @@
 //!
 //! Text is made of a few hundred records and handed on before more is made, so that the memory that it takes does not
 //! grow with the table.
-ghost use Rattle.std.specs.Prelude.{◌≡◌, ◌++◌, ◌∷◌, [], ℕ, List, OnOk, IfOk};
+ghost use Rattle.std.specs.Prelude.{◌≡◌, ◌++◌, ◌∷◌, [], ℕ, List, Some, OnOk, IfOk};
 ghost use Rattle.std.specs.Io.KnownBytes.{Appends};
 ghost use Rattle.csv.specs.Records.{fields_of};
 ghost use Rattle.pdtcli.specs.Output.{IsWritten, exit_status, image_text, is_no_memory, lines_text, record_text, rows_text, shown};
+ghost use Rattle.pdtcli.specs.Refusals.{show_fault_text};
 ghost use Rattle.pdtcli.specs.declared.output.ShowFault.TheVariants as show_fault;
 
 use crate::image::{push_header, push_row};
@@ -13,23 +14,36 @@ use crate::outcome::Outcome;
 use crate::reply::{Reply, ReplyLine, push_line};
 use csv::{ByteRecord, Writer, WriterBuilder};
 use std::alloc::Global;
+use std::error::Error;
+use std::fmt;
 use std::io::Write;
-use thiserror::Error;
 use values::{NoMemory, Row, Schema, Text};
 
 /// How many records are made text before it is handed on.
 const RECORDS_AT_ONCE: usize = 256;
 
 /// Why an output isn't whole. What went out before it is not said.
-#[derive(Clone, Copy, Debug, PartialEq, Eq, Error)]
+#[derive(Clone, Copy, Debug, PartialEq, Eq)]
 pub enum ShowFault {
     /// The writer refused some bytes.
-    #[error("Write")]
     Write,
     /// A growth was refused.
-    #[error("NoMemory")]
     NoMemory,
 }
+
+// By hand, since the line of a refused output is promised.
+impl fmt::Display for ShowFault {
+    ghost output = { λ fault. Some (show_fault_text fault) };
+
+    fn fmt<W: fmt::Write>(&self, f: &mut fmt::Formatter<W>) -> fmt::Result {
+        match self {
+            ShowFault::Write => f.write_str("Write"),
+            ShowFault::NoMemory => f.write_str("NoMemory"),
+        }
+    }
+}
+
+impl Error for ShowFault {}
 
 impl From<NoMemory> for ShowFault {
     ghost from_gives = { λ _ fault. fault ≡ show_fault.NoMemory };
