@@ -210,3 +210,6 @@ fn send<W: Write>(text: &mut Vec<u8>, out: &mut W) -> Result<(), ShowFault>
         Err(_) => Err(ShowFault::Write),
     }
 }
+
+#[cfg(test)]
+mod tests;
