@@ -1,5 +1,5 @@
 -- The lines that the program writes of a refusal.
-use Rattle.std.specs.Prelude.{ℕ, List, ◌++◌, Option, Some, None, codes}
+use Rattle.std.specs.Prelude.{ℕ, List, Bool, true, false, ◌++◌, Option, Some, None, codes}
 use Rattle.pdtcli.specs.declared.output.ShowFault.{ShowFault}
 use Rattle.pdtcli.specs.declared.output.ShowFault.TheVariants as show_fault
 use Rattle.pdtcli.specs.declared.refusal.Refusal.{Refusal}
@@ -36,3 +36,8 @@ line_of part (Some fault) = Some (codes "pdt: " ++ (part ++ (codes ": " ++ fault
 -- `pdt: `, the part, `: ` and the fault
 abbrev pub refusal_text : Refusal → Option (List ℕ)
 refusal_text refusal = line_of (part_text refusal) (fault_text refusal)
+
+-- whether the output was refused, before which some of it may have gone out
+abbrev pub is_output : Refusal → Bool
+is_output (refusal.Output fault) = true
+is_output other = false

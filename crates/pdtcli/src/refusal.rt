@@ -2,6 +2,7 @@
 //! that the program writes of it.
 ghost use Rattle.std.specs.Prelude.{◌≡◌, ◌++◌, Some, codes};
 ghost use Rattle.pdtcli.specs.Refusals.{part_text, refusal_text};
+ghost use Rattle.pdtcli.specs.declared.refusal.Refusal.TheVariants as parts;
 
 use crate::fault::{ScriptFault, TableFault};
 use crate::output::ShowFault;
@@ -63,6 +64,38 @@ impl fmt::Display for Refusal {
 }
 
 impl Error for Refusal {}
+
+impl From<TableFault> for Refusal {
+    ghost from_gives = { λ fault refusal. refusal ≡ parts.Table fault };
+
+    fn from(fault: TableFault) -> Refusal {
+        Refusal::Table(fault)
+    }
+}
+
+impl From<ScriptFault> for Refusal {
+    ghost from_gives = { λ fault refusal. refusal ≡ parts.Script fault };
+
+    fn from(fault: ScriptFault) -> Refusal {
+        Refusal::Script(fault)
+    }
+}
+
+impl From<OpenFault> for Refusal {
+    ghost from_gives = { λ fault refusal. refusal ≡ parts.Open fault };
+
+    fn from(fault: OpenFault) -> Refusal {
+        Refusal::Open(fault)
+    }
+}
+
+impl From<ShowFault> for Refusal {
+    ghost from_gives = { λ fault refusal. refusal ≡ parts.Output fault };
+
+    fn from(fault: ShowFault) -> Refusal {
+        Refusal::Output(fault)
+    }
+}
 
 #[cfg(test)]
 mod tests;
