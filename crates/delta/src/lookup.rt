@@ -7,14 +7,14 @@ ghost use Rattle.delta.specs.Changes.{row_at, is_delete_at};
 use crate::sorted::compare_insert;
 use crate::tree::DeltaTree;
 use model::{Change, Entry};
-use values::{Key, Row};
+use values::{Row, Value};
 
 impl DeltaTree {
-    /// The row that is inserted with this key at the SID, if there is one. It takes no memory.
-    pub fn find_insert(&self, sid: u64, key: &Key) -> Option<&Row>
+    /// The row that is inserted at the SID with the key of these cells, if there is one. It takes no memory.
+    pub fn find_insert(&self, sid: u64, key: &[Value]) -> Option<&Row>
         ensures { option_copied result ≡ inserted_row self.now.key_cols sid key.now self.now.entries }
     {
-        let entry = self.entries.get(self.place_of_insert(sid, key.cells()))?;
+        let entry = self.entries.get(self.place_of_insert(sid, key))?;
         inserted_at(self.key_cols, entry, sid, key)
     }
 
@@ -30,12 +30,12 @@ impl DeltaTree {
 }
 
 /// The row of the entry, where that is the insert of this key at the SID.
-fn inserted_at<'a>(key_cols: usize, entry: &'a Entry, sid: u64, key: &Key) -> Option<&'a Row>
+fn inserted_at<'a>(key_cols: usize, entry: &'a Entry, sid: u64, key: &[Value]) -> Option<&'a Row>
     ensures { option_copied result ≡ row_at key_cols sid key.now entry.now }
 {
     match &entry.change {
         Change::Ins(row)
-            if entry.sid == sid && compare_insert(key_cols, key.cells(), &entry.change).is_eq() =>
+            if entry.sid == sid && compare_insert(key_cols, key, &entry.change).is_eq() =>
             Some(row),
         _ => None,
     }

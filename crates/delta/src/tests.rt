@@ -99,7 +99,7 @@ fn put_ins(
     let key = Key::new(cells);
     assert!(rt; sid < 100);
     assert!(rt; tree.len() < 100);
-    assert!(rt; tree.find_insert(sid, &key).is_none());
+    assert!(rt; tree.find_insert(sid, key.cells()).is_none());
     Ok(tree.put_ins(sid, row))
 }
 
@@ -127,7 +127,7 @@ fn put_mod(
 
 /// Takes the insert of the key away, where it is there.
 fn take_ins(rt: &impl Abort, tree: &mut DeltaTree, sid: u64, key: &Key) -> Result<(), NoMemory> {
-    assert!(rt; tree.find_insert(sid, key).is_some());
+    assert!(rt; tree.find_insert(sid, key.cells()).is_some());
     tree.take_ins(sid, key)
 }
 
@@ -135,7 +135,7 @@ fn take_ins(rt: &impl Abort, tree: &mut DeltaTree, sid: u64, key: &Key) -> Resul
 fn has_cell(tree: &DeltaTree, sid: u64, key: &Key, col: usize) -> bool
     ensures { IsTrue result → IsSomeAnd (inserted_row tree.now.key_cols sid key.now tree.now.entries) (λ row. col < length row) }
 {
-    match tree.find_insert(sid, key) {
+    match tree.find_insert(sid, key.cells()) {
         Some(row) => col < row.cells().len(),
         None => false,
     }
@@ -322,7 +322,7 @@ fn a_tree_says_what_is_in_it(rt: HostRuntime) -> Result<(), Fail> {
         (2, 20, false),
         (0, 10, false),
     ] {
-        let found = tree.find_insert(sid, &key(alloc, id)?);
+        let found = tree.find_insert(sid, key(alloc, id)?.cells());
         assert_eq!(rt; found.is_some(), there, "of {id} at {sid}");
     }
     Ok(())

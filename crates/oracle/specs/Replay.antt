@@ -1,12 +1,15 @@
 -- A history decided record by record, whatever the schema's columns: only the number of key columns matters to a reply.
-use Rattle.std.specs.Prelude.{◌≡◌, ℕ, ◌≤◌, IsTrue, MatchOption, Option, List, [], ◌∷◌, map, length}
+use Rattle.std.specs.Prelude.{◌≡◌, ℕ, ◌≤◌, IsTrue, MatchOption, cond, Option, List, [], ◌∷◌, map, length}
 use Rattle.std.specs.List.{list_all}
 use Rattle.values.specs.Shape.{Columns}
 use Rattle.model.specs.declared.write.Write.{Write}
 use Rattle.model.specs.declared.write.WriteReply.{WriteReply}
 use Rattle.model.specs.Table.{Table}
 use Rattle.model.specs.Effects.{Effects}
-use Rattle.model.specs.Writes.{write_fits_schema, replies_to, effects_after_all}
+use Rattle.values.specs.Orders.{key_cmp}
+use Rattle.model.specs.Maps.{alter}
+use Rattle.model.specs.Composition.{composed_effect}
+use Rattle.model.specs.Writes.{write_fits_schema, key_of_write, effect_of_write, is_done, replies_to, effects_after_all}
 use Rattle.model.specs.History.{table_after, Record, writes_of, due_reply, effects_of_record, commits_after}
 
 module _ (key_cols limit : ℕ) (t : Table) where
@@ -18,6 +21,20 @@ module _ (key_cols limit : ℕ) (t : Table) where
   abbrev pub AreAnswered : List (Write × WriteReply) → Option Effects → Type 0
   AreAnswered writes found =
       MatchOption found (¬ (GotDueReplies [] writes)) (λ effects. GotDueReplies [] writes × (effects ≡ effects_after_all key_cols limit t [] (map (λ w. w.0) writes)))
+
+-- ---- writes with their replies
+
+-- the effects after a write that got this reply
+abbrev pub effects_when : ℕ → Effects → Write × WriteReply → Effects
+effects_when key_cols effects w =
+    cond (is_done w.1) (alter key_cmp (key_of_write key_cols w.0) (composed_effect (effect_of_write w.0)) effects) effects
+
+-- the effects after writes that got these replies
+abbrev pub effects_when_all : ℕ → Effects → List (Write × WriteReply) → Effects
+effects_when_all key_cols effects [] = effects
+effects_when_all key_cols effects (w ∷ writes) = effects_when_all key_cols (effects_when key_cols effects w) writes
+
+-- ---- records
 
 -- a schema of this many key columns
 abbrev pub keyed_by : ℕ → Columns

@@ -72,7 +72,7 @@ impl Effects {
     }
 
     /// Adds a later effect on the key. On want of memory nothing changes.
-    pub(crate) fn compose(&mut self, key: &Key, later: &Effect) -> Result<(), NoMemory>
+    pub fn compose(&mut self, key: &Key, later: &Effect) -> Result<(), NoMemory>
         ensures ok { OnOk result (self.new ≡ alter key_cmp key.now (composed_effect later.now) self.old) }
         ensures err { OnErr result (self.new ≡ self.old) }
     {

@@ -14,7 +14,7 @@ pub use effects::Effects;
 pub use entries::{canonical_entries, merged_rows};
 pub use record::Record;
 pub use replay::{due_reply, is_legal, table_after};
-pub use table::OrderedTable;
+pub use table::{OrderedTable, effects_of_writes};
 
 #[cfg(test)]
 mod tests;

@@ -11,6 +11,8 @@ ghost use Rattle.model.specs.History.{table_with_all};
 
 mod writes;
 
+pub use writes::effects_of_writes;
+
 use crate::effect::{copy_values, fits, row_after};
 use crate::effects::Effects;
 use crate::map::{put, store};

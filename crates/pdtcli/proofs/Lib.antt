@@ -1,8 +1,17 @@
 mod ReadLemmas
 mod CellLemmas
+mod CountsLemmas
 mod HeaderLemmas
+mod LocateLemmas
+mod ManagedLemmas
 mod RowLemmas
 mod OrderLemmas
 mod TableLemmas
+mod FittingLemmas
 mod ScriptLemmas
+mod StableLemmas
+mod TransactionLemmas
+mod ClientsLemmas
+mod CallsLemmas
+mod WordsLemmas
 mod OutputLemmas

@@ -1,21 +1,20 @@
 -- Rows in order of key and record, and which of them repeats a key.
-use Rattle.std.proofs.Common.{◌≡◌, ◌≢◌, ◌∙◌, ◌<◌, ◌≤◌, ◌+◌, ◌-◌, ◌⊎◌, ◌&&◌, ◌==◌, ℕ, zero, suc, Bool, true, false, cond, List, [], ◌∷◌, length, get_or, map, Option, Some, None, refl, sym, ap, subst, arith, inl, inr, nat_lt, nat_le, Ordering, Less, Equal, Greater, is_lt}
+use Rattle.std.proofs.Common.{◌≡◌, ◌∙◌, ◌<◌, ◌≤◌, ◌+◌, ◌-◌, ◌⊎◌, ◌&&◌, ◌==◌, ℕ, zero, suc, Bool, true, false, cond, List, [], ◌∷◌, length, get_or, map, Option, Some, None, refl, sym, ap, arith, inl, inr, nat_lt, nat_le, Ordering, Less, Equal, Greater, is_lt}
 use Rattle.std.specs.Prelude.{find}
 use Rattle.std.specs.Cmp.{IsTotalOrder, IsStrictWeakOrder}
-use Rattle.std.specs.List.{Any, Contains, list_any, swap}
+use Rattle.std.specs.List.{Contains, swap}
 use Rattle.std.specs.List.Sorted.{IsPermutation}
-use Rattle.std.specs.Ordering.{nat_cmp, ordering_then, ordering_reverse, eq_by_cmp, is_eq}
+use Rattle.std.specs.Ordering.{nat_cmp, ordering_then, ordering_reverse, is_eq}
 use Rattle.std.proofs.lemmas.Bool.{cases_Bool, cases_lt, cases_eq, eq-eqb, ne_eqb}
 use Rattle.std.proofs.lemmas.Bool.Decides.{nat_tests}
-use Rattle.std.proofs.lemmas.Cmp.{nat_cmp_total, on_total, then_total, tied_back, ranked}
+use Rattle.std.proofs.lemmas.Cmp.{nat_cmp_total, on_total, then_total, tied_back}
 use Rattle.std.proofs.lemmas.List.{get_or-map, length-map}
 use Rattle.std.proofs.lemmas.List.Edits.{Swapped, swapped_from_swap, length-swap}
 use Rattle.std.proofs.lemmas.List.Elements.{Contains-get_or}
 use Rattle.std.proofs.lemmas.List.Folds.{Any-from_list_any, list_any_at}
-use Rattle.std.proofs.lemmas.List.Sorted.{ranks_by, sorted_far, IsPermutation-sym, IsPermutation-keeps, Contains-permutation, list_any-IsPermutation, length_permutation}
+use Rattle.std.proofs.lemmas.List.Sorted.{ranks_by, sorted_far, IsPermutation-sym, IsPermutation-keeps, Contains-permutation, list_any-IsPermutation}
 use Rattle.values.specs.Orders.{key_cmp, key_cmp_total}
 use Rattle.values.specs.Shape.{key_of}
-use Rattle.values.specs.declared.row.Row.{Row}
 use Rattle.pdtcli.specs.Input.{same_key, is_repeat, first_repeat, IsAscending}
 use Rattle.pdtcli.specs.Order.{AreNumbered, numbered_cmp, IsInOrder, IsLeastRepeat, lower_repeat}
 use Rattle.pdtcli.specs.declared.order.Numbered.{Numbered}

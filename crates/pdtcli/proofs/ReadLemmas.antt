@@ -1,15 +1,15 @@
 -- The records of a text, one after the other, and lists that are read element by element.
-use Rattle.std.proofs.Common.{◌≡◌, ◌∙◌, ℕ, zero, suc, Bool, true, false, List, [], ◌∷◌, ◌++◌, drop, Option, Some, None, Result, Ok, Err, Bor, refl, sym, ap, append_assoc, inl, subst}
+use Rattle.std.proofs.Common.{◌≡◌, ◌∙◌, ◌<◌, ℕ, zero, suc, Bool, true, false, List, [], ◌∷◌, ◌++◌, length, drop, Option, Some, None, Result, Ok, Err, Bor, refl, sym, ap, append_assoc, inl, subst, arith}
 use Rattle.std.specs.Result.{IsErrAnd, IfErr, IfOk}
-use Rattle.csv.specs.Machine.{Read, next_record}
-use Rattle.csv.specs.Reading.{AreRecords, Reached, ReadRecord, default_config, source_of, strip_bom, took_first}
+use Rattle.csv.specs.Machine.{Read}
+use Rattle.csv.specs.Reading.{AreRecords, Reached, ReadRecord, default_config, strip_bom, took_first}
 use Rattle.csv.specs.Records.{field_at}
 use Rattle.csv.specs.declared.parser.Config.{Config}
 use Rattle.csv.specs.declared.parser.State.{State}
 use Rattle.csv.specs.declared.parser.State.TheVariants as st
 use Rattle.csv.specs.declared.reader.Reader.{Reader}
 use Rattle.csv.proofs.ReadFacts.{rows-more, rows-end}
-use Rattle.pdtcli.specs.Cells.{then_cons, prepend}
+use Rattle.pdtcli.specs.Cells.{or_else, then_cons, prepend}
 use Rattle.pdtcli.specs.Reading.{Fields, AreRecordsOf, IsReading, ReadsOne}
 
 -- ---- lists
@@ -19,6 +19,17 @@ module _ {A F : Type 0} where
   pub prepend-then_cons : (xs : List A) (a : A) (r : Result (List A) F) → prepend xs (then_cons (Ok a) r) ≡ prepend (xs ++ a ∷ []) r
   prepend-then_cons xs a (Ok ys) = ap Ok (sym (append_assoc xs (a ∷ []) ys))
   prepend-then_cons xs a (Err e) = refl
+
+  -- what was read first, and the rest
+  pub then_cons-parts : (a : Result A F) (r : Result (List A) F) (xs : List A) → then_cons a r ≡ Ok xs → (x : A) × (rest : List A) × (a ≡ Ok x) × (r ≡ Ok rest) × (xs ≡ x ∷ rest)
+  then_cons-parts (Err f) r xs e = cc e
+  then_cons-parts (Ok a) (Err f) xs e = cc e
+  then_cons-parts (Ok a) (Ok rest) xs e = (a, rest, refl, refl, cc e)
+
+  -- what is there
+  pub or_else-parts : (fault : F) (o : Option A) (a : A) → or_else fault o ≡ Ok a → o ≡ Some a
+  or_else-parts fault None a e = cc e
+  or_else-parts fault (Some x) a e = cc e
 
   pub prepend-nil : (r : Result (List A) F) → prepend [] r ≡ r
   prepend-nil (Ok ys) = refl
@@ -43,6 +54,13 @@ unfolding field_at
 field-drop [] i field e = cc e
 field-drop (g ∷ fields) zero field e = ap (λ (x : List ℕ). x ∷ fields) (cc e)
 field-drop (g ∷ fields) (suc i) field e = field-drop fields i field e
+
+-- below a record's length there is a field
+pub field-there : (fields : Fields) (i : ℕ) → None ≡ field_at fields i → i < length fields → ⊥
+unfolding field_at
+field-there [] i e l = absurd (omega (arith, l))
+field-there (f ∷ fields) zero e l = cc e
+field-there (f ∷ fields) (suc i) e l = field-there fields i e (omega (arith, l))
 
 -- ---- records
 

@@ -1,25 +1,27 @@
 -- Names, arguments and calls of a script, one after the other.
-use Rattle.std.proofs.Common.{◌≡◌, ◌≢◌, ◌∙◌, ◌<◌, ◌≤◌, ◌+◌, ◌-◌, ◌==◌, ℕ, zero, suc, Bool, true, false, List, [], ◌∷◌, ◌++◌, length, drop, slice_get, Option, Some, None, Result, Ok, Err, Bor, refl, sym, ap, arith, append_assoc, add-one, eq-eqb, nat_lt, nat_le}
-use Rattle.std.proofs.lemmas.Bool.{ne_eqb}
+use Rattle.std.proofs.Common.{◌≡◌, ◌∙◌, ◌<◌, ◌≤◌, ◌+◌, ℕ, zero, suc, true, false, List, [], ◌∷◌, ◌++◌, length, drop, slice_get, Some, None, Ok, Err, Bor, refl, ap, arith, append_assoc, add-one, inl, inr, eq-eqb}
+use Rattle.std.proofs.lemmas.Bool.{cases_Bool, ne_eqb}
 use Rattle.std.proofs.lemmas.List.{append-nil}
+use Rattle.std.proofs.lemmas.Str.{IsUtf8-from_is_utf8}
 use Rattle.std.proofs.Math.Seq.{drop-nil}
 use Rattle.std.specs.List.{list_all}
-use Rattle.std.specs.Str.{is_utf8, bytes_eq}
+use Rattle.std.specs.Str.{IsUtf8, is_utf8, bytes_eq}
 use Rattle.csv.specs.Records.{field_at}
 use Rattle.csv.specs.declared.reader.Reader.{Reader}
 use Rattle.values.specs.Shape.{Columns}
 use Rattle.values.specs.declared.value.ColumnType.{ColumnType}
 use Rattle.values.specs.declared.value.Value.{Value}
-use Rattle.pdtcli.specs.Cells.{value_of, prepend}
+use Rattle.pdtcli.specs.Cells.{value_of, prepend, place_from}
 use Rattle.pdtcli.specs.Reading.{Fields, AreRecordsOf, IsReading}
-use Rattle.pdtcli.specs.Script.{place_from, number_of, is_client, client_of, clients_after, clients_of, verb_of, arguments_of, values_of, set_cell, set_column, typed_call, asked, call_of, calls_of, script_of}
+use Rattle.pdtcli.specs.Calls.{verb_of, arguments_of, values_of, set_cell, set_column, typed_call, asked}
+use Rattle.pdtcli.specs.Clients.{number_of, is_client, client_of, clients_after, clients_of}
+use Rattle.pdtcli.specs.Script.{call_of, calls_of, script_of}
 use Rattle.pdtcli.specs.declared.call.ClientCall.{ClientCall}
 use Rattle.pdtcli.specs.declared.fault.ScriptFault.{ScriptFault}
 use Rattle.pdtcli.specs.declared.fault.ScriptFault.TheVariants.{BadClient, TooManyClients, BadCount, BadVerb, BadArgument}
 use Rattle.pdtcli.specs.declared.verb.Verb.{Verb}
-use Rattle.pdtcli.specs.declared.client.TheConstants.{MAX_SCRIPT_CLIENTS}
-use Rattle.pdtcli.proofs.CellLemmas.{lt_true, lt_false, le_true, le_false}
-use Rattle.pdtcli.proofs.ReadLemmas.{records-start, records-same, prepend-then_cons}
+use Rattle.pdtcli.proofs.CellLemmas.{and-parts, lt_true, lt_false, le_true, le_false}
+use Rattle.pdtcli.proofs.ReadLemmas.{records-start, prepend-then_cons}
 
 -- ---- places
 
@@ -66,6 +68,10 @@ module _ (clients : List (List ℕ)) (number : ℕ) (fields rest : Fields) (name
 pub clients_after-none : (clients : List (List ℕ)) (fields : Fields) → fields ≡ [] → clients_after clients fields ≡ clients
 clients_after-none clients fields e = rw e refl
 
+-- the first of fields that are text is text
+pub first-text : (fields rest : Fields) (name : List ℕ) → fields ≡ name ∷ rest → list_all is_utf8 fields ≡ true → ¬ (IsUtf8 name) → ⊥
+first-text fields rest name e all other = other (IsUtf8-from_is_utf8 name (and-parts (is_utf8 name) (list_all is_utf8 rest) (rw e at all)).0)
+
 -- ---- arguments
 
 module _ (number i : ℕ) (types : List ColumnType) (fields : Fields) (type : ColumnType) (field : List ℕ) (values : List Value)
@@ -101,6 +107,13 @@ module _ (schema : Columns) (number : ℕ) (fields : Fields) (word : List ℕ) (
   asked-typed verb h n = rw (e, h, eq-eqb (length fields) (2 + arguments_of schema verb) n) refl
 
 -- ---- records
+
+-- a record that asks for a call is text
+pub call_of-text : (schema : Columns) (clients : List (List ℕ)) (number : ℕ) (fields : Fields) (call : ClientCall) → call_of schema clients number fields ≡ Ok call → list_all is_utf8 fields ≡ true
+call_of-text schema clients number fields call e = elim (cases_Bool (list_all is_utf8 fields)) [
+  | inl t ↦ t
+  | inr f ↦ cc (rw f at e)
+]
 
 module _ (schema : Columns) (read : List Fields) (number : ℕ) (clients : List (List ℕ)) (fields : Fields) (calls : List ClientCall)
     (so : (more : List Fields) → calls_of schema [] 1 (read ++ more) ≡ prepend calls (calls_of schema clients number more)) where

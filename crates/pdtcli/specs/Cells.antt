@@ -1,5 +1,5 @@
--- What the bytes of a cell say, and lists that are read element by element.
-use Rattle.std.specs.Prelude.{ℕ, ℤ, pos, neg_ℤ, ◌^◌, nat_lt, nat_le, Bool, true, false, cond, ◌&&◌, Option, Some, None, Result, Ok, Err, List, [], ◌∷◌, ◌++◌}
+-- What the bytes of a cell say, lists that are read element by element, and where a name stands.
+use Rattle.std.specs.Prelude.{ℕ, suc, ℤ, pos, neg_ℤ, ◌^◌, nat_lt, nat_le, Bool, true, false, cond, ◌&&◌, Option, Some, None, Result, Ok, Err, List, [], ◌∷◌, ◌++◌}
 use Rattle.std.specs.Option.{option_map}
 use Rattle.std.specs.Str.{is_utf8, bytes_eq, all_ascii_digits}
 use Rattle.std.specs.Str.Parse.{true_text, false_text, digits_value, starts_with_minus, without_leading_sign}
@@ -54,3 +54,10 @@ module _ {A F : Type 0} where
   abbrev pub prepend : List A → Result (List A) F → Result (List A) F
   prepend xs (Err fault) = Err fault
   prepend xs (Ok ys) = Ok (xs ++ ys)
+
+-- ---- names
+
+-- where the name first stands, the names being counted from `at`
+abbrev pub place_from : ℕ → List ℕ → List (List ℕ) → Option ℕ
+place_from at name [] = None
+place_from at name (other ∷ names) = cond (bytes_eq other name) (Some at) (place_from (suc at) name names)

@@ -1,5 +1,5 @@
 -- What a manager stands for: the table that it was opened with, its limits and its history.
-use Rattle.std.specs.Prelude.{◌≡◌, ℕ, ◌≤◌, List, [], ◌∷◌, ◌++◌, length}
+use Rattle.std.specs.Prelude.{◌≡◌, ℕ, ◌≤◌, ◌==◌, nat_lt, Bool, ◌||◌, cond, Option, Some, None, List, [], ◌∷◌, ◌++◌, length}
 use Rattle.values.specs.Shape.{Columns}
 use Rattle.values.specs.declared.limits.TheConstants.{MAX_ROWS, MAX_RECENT_COMMITS}
 use Rattle.model.specs.declared.write.CommitReply.{CommitReply}
@@ -8,6 +8,8 @@ use Rattle.model.specs.Effects.{Effects}
 use Rattle.model.specs.History.{Record, IsLegal, commits_of, table_after, table_with_all, due_reply}
 use Rattle.pdtcli.specs.Stable.{Stable, table_in}
 use Rattle.pdtcli.specs.Transaction.{Transaction, effects_of}
+use Rattle.pdtcli.specs.declared.plain.manager.OpenFault.{OpenFault}
+use Rattle.pdtcli.specs.declared.plain.manager.OpenFault.TheVariants.{BadLimit, TooManyRows}
 
 pub record Managed : Type 0 where
   pub schema : Columns
@@ -17,6 +19,11 @@ pub record Managed : Type 0 where
   pub recent : ℕ
   pub opening : Table
   pub history : List Record
+
+-- the manager of a stable table with this history
+abbrev pub managed_at : Stable → ℕ → ℕ → List Record → Managed
+managed_at s limit recent history =
+    record { schema = s.schema; limit = limit; recent = recent; opening = table_in s; history = history }
 
 -- the effects that were committed, in order
 abbrev pub commits_in : Managed → List Effects
@@ -55,6 +62,15 @@ reply_due m txn = due_reply m.limit m.recent m.opening (commits_in m) txn.begin 
 abbrev pub record_of : Transaction → CommitReply → Record
 record_of txn reply = record { client = txn.client; begin = txn.begin; writes = txn.writes; reply = reply }
 
+-- whether a limit is outside its range
+abbrev pub is_bad_limit : ℕ → ℕ → Bool
+is_bad_limit recent limit = (recent == 0) || nat_lt MAX_RECENT_COMMITS recent || (limit == 0) || nat_lt MAX_ROWS limit
+
+-- why a table isn't opened
+abbrev pub fault_of_opening : Stable → ℕ → ℕ → Option OpenFault
+fault_of_opening s recent limit =
+    cond (is_bad_limit recent limit) (Some BadLimit) (cond (nat_lt limit (length s.rows)) (Some TooManyRows) None)
+
 -- the manager with one record more
 abbrev pub with_record : Managed → Record → Managed
 with_record m r = record m { history = m.history ++ r ∷ [] }
@@ -69,3 +85,8 @@ begun_at m client = record {
   table = newest_table m;
   writes = [];
 }
+
+-- a commit is decided: it gets the reply that is due, and its record joins the history
+pub record IsDecided (old : Managed) (txn : Transaction) (reply : CommitReply) (new : Managed) : Type 0 where
+  pub due : reply ≡ reply_due old txn
+  pub kept : new ≡ with_record old (record_of txn reply)

@@ -5,7 +5,6 @@ use Rattle.std.specs.Ordering.{nat_cmp, ordering_then}
 use Rattle.std.specs.declared.cmp.Ordering.{Ordering}
 use Rattle.values.specs.Orders.{key_cmp}
 use Rattle.values.specs.Shape.{key_of}
-use Rattle.values.specs.declared.row.Row.{Row}
 use Rattle.pdtcli.specs.Input.{first_repeat, same_key}
 use Rattle.pdtcli.specs.declared.fault.TableFault.{TableFault}
 use Rattle.pdtcli.specs.declared.fault.TableFault.TheVariants.{RepeatedKey}

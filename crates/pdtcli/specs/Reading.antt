@@ -1,5 +1,5 @@
 -- The records of a text, and how far a reader has come.
-use Rattle.std.specs.Prelude.{◌≡◌, ℕ, Bool, true, false, Option, Some, List, ◌++◌, ◌∷◌, []}
+use Rattle.std.specs.Prelude.{◌≡◌, ℕ, Bool, true, false, Some, List, ◌++◌, ◌∷◌, []}
 use Rattle.std.proofs.Common.{Bor}
 use Rattle.csv.specs.Reading.{AreRecords, Reached, Ready, default_config, source_of, strip_bom, reader_trim, reader_config, reader_state}
 use Rattle.csv.specs.declared.parser.State.TheVariants as st

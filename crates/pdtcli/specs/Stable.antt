@@ -1,11 +1,12 @@
 -- A table in key order, as its schema and its rows.
 use Rattle.std.specs.Prelude.{ℕ, suc, ◌≤◌, nat_lt, Bool, true, false, cond, not, Option, Some, None, is_none, List, [], ◌∷◌, length}
-use Rattle.std.specs.Ordering.{is_lt}
+use Rattle.std.specs.Ordering.{is_lt, eq_by_cmp}
 use Rattle.values.specs.Orders.{key_cmp}
 use Rattle.values.specs.Shape.{Columns, key_of, row_fault}
 use Rattle.values.specs.declared.limits.TheConstants.{MAX_ROWS}
 use Rattle.values.specs.declared.fault.ShapeFault.{ShapeFault}
 use Rattle.values.specs.declared.row.Row.{Row}
+use Rattle.values.specs.declared.value.Value.{Value}
 use Rattle.model.specs.Table.{Table, table_of, IsTable}
 use Rattle.pdtcli.specs.declared.plain.table.BuildFault.{BuildFault}
 use Rattle.pdtcli.specs.declared.plain.table.BuildFault.TheVariants.{TooManyRows, Shape, NotAscending}
@@ -24,6 +25,11 @@ pub record IsStable (s : Stable) : Type 0 where
   pub table : IsTable s.schema (table_in s)
   pub few : length s.rows ≤ MAX_ROWS
 
+-- whether this is a row of the key
+abbrev pub holds_key : ℕ → List Value → Option Row → Bool
+holds_key key_cols key None = false
+holds_key key_cols key (Some row) = eq_by_cmp key_cmp (key_of key_cols row) key
+
 -- ---- the first fault of rows as a table
 
 -- whether the row is above the one before it, where there is one
@@ -31,12 +37,14 @@ abbrev pub ascends : ℕ → Option Row → Row → Bool
 ascends key_cols None row = true
 ascends key_cols (Some before) row = is_lt (key_cmp (key_of key_cols before) (key_of key_cols row))
 
+-- the fault of row i by its shape and by whether it ascends
+abbrev pub shape_or_order : ℕ → Bool → Option ShapeFault → Option BuildFault
+shape_or_order i above (Some fault) = Some (Shape i fault)
+shape_or_order i true None = None
+shape_or_order i false None = Some (NotAscending i)
+
 abbrev pub row_fault_at : Columns → ℕ → Option Row → Row → Option BuildFault
-row_fault_at schema i before row = by_shape (row_fault schema row)
-  where
-    by_shape : Option ShapeFault → Option BuildFault
-    by_shape (Some fault) = Some (Shape i fault)
-    by_shape None = cond (ascends schema.key_cols before row) None (Some (NotAscending i))
+row_fault_at schema i before row = shape_or_order i (ascends schema.key_cols before row) (row_fault schema row)
 
 abbrev pub or_fault : Option BuildFault → Option BuildFault → Option BuildFault
 or_fault (Some fault) other = Some fault

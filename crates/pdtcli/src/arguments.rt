@@ -1,7 +1,8 @@
 //! The call that a record's fields say after the client's name.
-ghost use Rattle.std.specs.Prelude.{◌≡◌, ◌≢◌, ◌<◌, ◌+◌, length, drop, IfOk, IfErr, IfSome, Ok, Err};
+ghost use Rattle.std.specs.Prelude.{◌≡◌, ◌≢◌, ◌<◌, ◌≤◌, ◌+◌, length, drop, IfOk, IfErr, IfSome, Ok, Err};
 ghost use Rattle.csv.specs.Records.{fields_of};
-ghost use Rattle.pdtcli.specs.Script.{asked, key_types, place_from, set_cell, typed_call, values_of};
+ghost use Rattle.pdtcli.specs.Calls.{arguments_of, asked, key_types, set_cell, typed_call, values_of};
+ghost use Rattle.pdtcli.specs.Cells.{place_from};
 
 use crate::call::Call;
 use crate::cell::read_value;
@@ -44,6 +45,7 @@ fn read_typed(
     verb: Verb,
     fields: &ByteRecord,
 ) -> Result<Call, ScriptFault>
+    requires { length (fields_of fields.now) ≡ 2 + arguments_of schema.now verb }
     ensures ok { IfOk result (λ call. typed_call schema.now number verb (fields_of fields.now) ≡ Ok call) }
     ensures err { IfErr result (λ fault. fault ≢ ScriptFault.NoMemory → typed_call schema.now number verb (fields_of fields.now) ≡ Err fault) }
 {
@@ -73,6 +75,7 @@ fn read_key(
     number: u64,
     fields: &ByteRecord,
 ) -> Result<Key, ScriptFault>
+    requires { 2 + schema.now.key_cols ≤ length (fields_of fields.now) }
     ensures ok { IfOk result (λ key. values_of number 2 (key_types schema.now) (drop 2 (fields_of fields.now)) ≡ Ok key) }
     ensures err { IfErr result (λ fault. fault ≢ ScriptFault.NoMemory → values_of number 2 (key_types schema.now) (drop 2 (fields_of fields.now)) ≡ Err fault) }
 {
@@ -88,6 +91,7 @@ fn read_values(
     number: u64,
     fields: &ByteRecord,
 ) -> Result<Vec<Value>, ScriptFault>
+    requires { 2 + length types.now ≤ length (fields_of fields.now) }
     ensures ok { IfOk result (λ values. values_of number 2 types.now (drop 2 (fields_of fields.now)) ≡ Ok values.items) }
     ensures err { IfErr result (λ fault. fault ≢ ScriptFault.NoMemory → values_of number 2 types.now (drop 2 (fields_of fields.now)) ≡ Err fault) }
 {
@@ -95,7 +99,7 @@ fn read_values(
     for i in 0..types.len() {
         let bytes = match fields.get(2 + i) {
             Some(bytes) => bytes,
-            None => return Err(ScriptFault::NoMemory),
+            None => unreachable!(),
         };
         let value = match read_value(alloc, types[i], bytes)? {
             Some(value) => value,
@@ -114,17 +118,18 @@ fn read_set(
     key: Key,
     fields: &ByteRecord,
 ) -> Result<Call, ScriptFault>
+    requires { length (fields_of fields.now) ≡ 4 + schema.now.key_cols }
     ensures ok { IfOk result (λ call. set_cell schema.now number (2 + schema.now.key_cols) key (drop (2 + schema.now.key_cols) (fields_of fields.now)) ≡ Ok call) }
     ensures err { IfErr result (λ fault. fault ≢ ScriptFault.NoMemory → set_cell schema.now number (2 + schema.now.key_cols) key (drop (2 + schema.now.key_cols) (fields_of fields.now)) ≡ Err fault) }
 {
     let at = 2 + schema.key_cols();
     let name = match fields.get(at) {
         Some(name) => name,
-        None => return Err(ScriptFault::NoMemory),
+        None => unreachable!(),
     };
     let bytes = match fields.get(at + 1) {
         Some(bytes) => bytes,
-        None => return Err(ScriptFault::NoMemory),
+        None => unreachable!(),
     };
     let col = match find_column(schema, name) {
         Some(col) => col,

@@ -1,8 +1,9 @@
 //! The clients of a script, in order of first appearance.
-ghost use Rattle.std.specs.Prelude.{◌≡◌, ◌<◌, IfOk, IfErr, Ok, Err, OnOk};
+ghost use Rattle.std.specs.Prelude.{◌≡◌, ◌<◌, true, IfOk, IfErr, Ok, Err, OnOk};
 ghost use Rattle.std.specs.List.{list_all};
+ghost use Rattle.std.specs.Str.{is_utf8};
 ghost use Rattle.csv.specs.Records.{fields_of};
-ghost use Rattle.pdtcli.specs.Script.{client_of, clients_after, is_client, is_client_byte, number_of};
+ghost use Rattle.pdtcli.specs.Clients.{client_of, clients_after, is_client, is_client_byte, number_of};
 
 use crate::fault::ScriptFault;
 use csv::ByteRecord;
@@ -13,7 +14,7 @@ use values::Text;
 const MAX_CLIENT_BYTES: usize = 32;
 
 /// How many clients a script may have, as long as one transaction is run at a time.
-const MAX_SCRIPT_CLIENTS: usize = 1;
+pub(crate) const MAX_SCRIPT_CLIENTS: usize = 1;
 
 /// The number of the client that the record names, one above those there are where it is new.
 pub(crate) fn read_client(
@@ -44,6 +45,7 @@ pub(crate) fn add_client(
     clients: &mut Vec<Text>,
     fields: &ByteRecord,
 ) -> Result<(), ScriptFault>
+    requires { list_all is_utf8 (fields_of fields.now) ≡ true }
     ensures ok { OnOk result (clients.new.items ≡ clients_after clients.old.items (fields_of fields.now)) }
     ensures err { IfErr result (λ fault. fault ≡ ScriptFault.NoMemory) }
 {
@@ -58,7 +60,7 @@ pub(crate) fn add_client(
     }
     let text = match str::from_utf8(name) {
         Ok(text) => text,
-        Err(_) => return Err(ScriptFault::NoMemory),
+        Err(_) => unreachable!(),
     };
     clients.push(Text::new(String::from_str(alloc, text)?))?;
     Ok(())

@@ -38,7 +38,7 @@ fn read_headings(alloc: Global, fields: &ByteRecord) -> Result<Vec<Heading>, Tab
     for i in 0..fields.len() {
         let bytes = match fields.get(i) {
             Some(bytes) => bytes,
-            None => return Err(TableFault::NoMemory),
+            None => unreachable!(),
         };
         let heading = place_heading(alloc, i, in_key, bytes)?;
         in_key = heading.is_key;

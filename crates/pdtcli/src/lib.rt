@@ -26,6 +26,8 @@ mod reply;
 mod row;
 mod script;
 mod table;
+#[cfg(test)]
+mod tests;
 mod verb;
 mod words;
 
@@ -33,7 +35,7 @@ pub use call::{Call, ClientCall, Script};
 pub use fault::{ScriptFault, TableFault};
 pub use outcome::Outcome;
 pub use output::{ShowFault, show};
-pub use plain::{BuildFault, Manager, OpenFault, StableTable};
+pub use plain::{BuildFault, Manager, OpenFault, StableTable, Txn, WriteFault};
 pub use refusal::Refusal;
 pub use reply::{Reply, ReplyLine};
 pub use script::read_script;

@@ -2,6 +2,9 @@
 //! anew.
 mod manager;
 mod table;
+mod txn;
+mod version;
 
 pub use manager::{Manager, OpenFault};
 pub use table::{BuildFault, StableTable};
+pub use txn::{Txn, WriteFault};

@@ -51,7 +51,7 @@ fn read_cells(
     for i in 0..types.len() {
         let bytes = match fields.get(i) {
             Some(bytes) => bytes,
-            None => return Err(TableFault::NoMemory),
+            None => unreachable!(),
         };
         cells.push(read_cell(alloc, types[i], number, i, bytes)?)?;
     }

@@ -1,13 +1,14 @@
 //! A whole script, read from text.
-ghost use Rattle.std.specs.Prelude.{◌≡◌, ◌≢◌, IfOk, IfErr, Ok, Err};
-ghost use Rattle.std.specs.List.{list_all};
+ghost use Rattle.std.specs.Prelude.{◌≡◌, ◌≢◌, ◌<◌, ◌≤◌, length, IsTrue, IfOk, IfErr, Ok, Err};
+ghost use Rattle.std.specs.List.{All, list_all};
 ghost use Rattle.std.specs.Str.{is_utf8};
 ghost use Rattle.csv.specs.Records.{fields_of};
+ghost use Rattle.pdtcli.specs.Calls.{is_typed_call};
 ghost use Rattle.pdtcli.specs.Script.{call_of, IsScriptOf, IsScriptFaultOf};
 
 use crate::arguments::read_asked;
 use crate::call::{ClientCall, Script};
-use crate::client::{add_client, read_client};
+use crate::client::{MAX_SCRIPT_CLIENTS, add_client, read_client};
 use crate::fault::ScriptFault;
 use crate::reading::{next_record, records_of};
 use csv::ByteRecord;
@@ -22,6 +23,9 @@ use values::{Schema, Text};
 /// verb, `BadVerb`, `BadCount`, and `BadArgument` from the left, for `set` the column's name before its cell.
 pub fn read_script(alloc: Global, schema: &Schema, text: &[u8]) -> Result<Script, ScriptFault>
     ensures ok { IfOk result (λ script. IsScriptOf schema.now text.now script.clients.items script.calls.items) }
+    ensures clients { IfOk result (λ script. All (λ call. call.client < length script.clients.items) script.calls.items) }
+    ensures few { IfOk result (λ script. length script.clients.items ≤ MAX_SCRIPT_CLIENTS) }
+    ensures typed { IfOk result (λ script. All (λ call. IsTrue (is_typed_call schema.now call.call)) script.calls.items) }
     ensures err { IfErr result (λ fault. fault ≢ ScriptFault.NoMemory → IsScriptFaultOf schema.now text.now fault) }
 {
     let mut reader = records_of(alloc, text);
@@ -37,7 +41,7 @@ pub fn read_script(alloc: Global, schema: &Schema, text: &[u8]) -> Result<Script
         add_client(alloc, &mut clients, &fields)?;
         calls.push(call)?;
     }
-    Err(ScriptFault::NoMemory)
+    unreachable!()
 }
 
 /// The call of the record of this number.
@@ -66,7 +70,7 @@ fn is_all_text(fields: &ByteRecord) -> bool
     for i in 0..fields.len() {
         let bytes = match fields.get(i) {
             Some(bytes) => bytes,
-            None => return true,
+            None => unreachable!(),
         };
         if !is_text(bytes) {
             return false;

@@ -1,5 +1,7 @@
 //! A whole table, read from text.
 ghost use Rattle.std.specs.Prelude.{◌≡◌, ◌≢◌, IfOk, IfErr};
+ghost use Rattle.model.specs.Table as model;
+ghost use Rattle.model.specs.Table.{IsTable};
 ghost use Rattle.pdtcli.specs.Input.{IsTableOf, IsFaultOf};
 
 use crate::fault::TableFault;
@@ -19,6 +21,7 @@ use values::{Row, Schema};
 /// and the cells from the left; and where all records were read, the least one whose key stands in an earlier one.
 pub fn read_table(alloc: Global, text: &[u8]) -> Result<(Schema, Vec<Row>), TableFault>
     ensures ok { IfOk result (λ table. IsTableOf text.now table.0 table.1.items) }
+    ensures table { IfOk result (λ table. IsTable table.0 (model.table_of table.0.key_cols table.1.items)) }
     ensures err { IfErr result (λ fault. fault ≢ TableFault.NoMemory → IsFaultOf text.now fault) }
 {
     let mut reader = records_of(alloc, text);
@@ -38,5 +41,5 @@ pub fn read_table(alloc: Global, text: &[u8]) -> Result<(Schema, Vec<Row>), Tabl
         let row = read_row(alloc, schema.types(), number, &fields)?;
         rows.push(row)?;
     }
-    Err(TableFault::TooManyRows)
+    unreachable!()
 }

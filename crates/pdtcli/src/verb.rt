@@ -1,6 +1,6 @@
 //! The verbs of a script, and how many arguments each wants.
 ghost use Rattle.std.specs.Prelude.{◌≡◌, ◌≤◌};
-ghost use Rattle.pdtcli.specs.Script.{arguments_of, verb_of};
+ghost use Rattle.pdtcli.specs.Calls.{arguments_of, verb_of};
 
 use values::Schema;
 

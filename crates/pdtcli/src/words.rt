@@ -1,6 +1,7 @@
 //! The words of the command line.
-ghost use Rattle.std.specs.Prelude.{◌≡◌, ◌≤◌, IfOk, IfSome};
-ghost use Rattle.pdtcli.specs.Words.{IsWithinLimits};
+ghost use Rattle.std.specs.Prelude.{◌≡◌, ◌≤◌, IfOk, IfSome, map, option_map};
+ghost use Rattle.clap.specs.Words.{app_of, first_value, found_of, subcommand_rows_of};
+ghost use Rattle.pdtcli.specs.Words.{usage, word_for, word_in, AreOf, IsWithinLimits};
 
 use clap::error::ErrorKind;
 use clap::{Arg, ArgAction, ArgMatches, Command, Error};
@@ -25,31 +26,41 @@ pub enum Settings<'a> {
 ///
 /// # Errors
 ///
-/// `clap`'s error, with its text and exit status, where the words are not of the usage
-/// `pdt run TABLE SCRIPT [--limit N]`, where N is out of its range, where help is asked for, and where a growth is
-/// refused.
+/// `clap`'s error, with its text, where the words are not of the usage `pdt run TABLE SCRIPT [--limit N]`, where N is
+/// out of its range, where help is asked for, and where a growth is refused.
 pub fn read_words<'a>(alloc: Global, words: &'a [&'a str]) -> Result<Settings<'a>, Error>
-    ensures { IfOk result (λ settings. IsWithinLimits settings) }
+    ensures said { IfOk result (λ settings. AreOf (word_for (map (λ word. word.now) words.now)) settings) }
+    ensures within { IfOk result (λ settings. IsWithinLimits settings) }
 {
     let mut command = program(alloc)?;
     let matches = command.try_get_matches_from_mut(words)?;
-    let given = match matches.subcommand() {
-        Some((_, run)) => run_settings(run),
-        None => None,
-    };
+    let given = command_settings(&matches);
     match given {
         Some(settings) => Ok(settings),
         None => Err(command.error(ErrorKind::ValueValidation, "the words name no run")?),
     }
 }
 
+/// The settings of the command that was read.
+fn command_settings<'a>(matches: &ArgMatches<'a>) -> Option<Settings<'a>>
+    ensures said { IfSome result (λ settings. AreOf (word_in (option_map (λ p. p.1) (subcommand_rows_of matches.now))) settings) }
+    ensures within { IfSome result (λ settings. IsWithinLimits settings) }
+{
+    let (_, run) = matches.subcommand()?;
+    run_settings(run)
+}
+
 /// The settings that the words of `run` give.
 fn run_settings<'a>(run: &ArgMatches<'a>) -> Option<Settings<'a>>
-    ensures { IfSome result (λ settings. IsWithinLimits settings) }
+    ensures said { IfSome result (λ settings. AreOf (first_value (found_of run.now)) settings) }
+    ensures within { IfSome result (λ settings. IsWithinLimits settings) }
 {
     let table = run.get_str("table")?;
     let script = run.get_str("script")?;
-    let limit = run.get_one::<u64>("limit").unwrap_or(MAX_ROWS);
+    let limit = match run.get_str("limit") {
+        Some(word) => word.parse::<u64>().ok()?,
+        None => MAX_ROWS,
+    };
     if limit < 1 || limit > MAX_ROWS {
         return None;
     }
@@ -61,7 +72,9 @@ fn run_settings<'a>(run: &ArgMatches<'a>) -> Option<Settings<'a>>
 }
 
 /// The command line that the program has.
-fn program<'a>(alloc: Global) -> Result<Command<'a>, Error> {
+fn program<'a>(alloc: Global) -> Result<Command<'a>, Error>
+    ensures { IfOk result (λ command. app_of command ≡ usage) }
+{
     let table = Arg::new(alloc, "table")
         .value_name("TABLE")
         .required(true)

@@ -1,8 +1,9 @@
 //! The writes of a transaction over its snapshot.
-ghost use Rattle.std.specs.Prelude.{◌≡◌, ◌∷◌, [], IfOk, OnOk, OnErr};
+ghost use Rattle.std.specs.Prelude.{◌≡◌, ℕ, ◌∷◌, [], map, IfOk, OnOk, OnErr};
 ghost use Rattle.model.specs.Writes.{key_of_write, effect_of_write, reply_where, is_done};
 ghost use Rattle.model.specs.Writes.{reply_to, effects_after, replies_to, effects_after_all};
-ghost use Rattle.oracle.specs.Replay.{AreAnswered};
+ghost use Rattle.model.specs.Table.{Table};
+ghost use Rattle.oracle.specs.Replay.{AreAnswered, GotDueReplies, effects_when_all};
 
 use crate::effects::Effects;
 use crate::table::{OrderedTable, key_of};
@@ -92,6 +93,27 @@ impl OrderedTable {
         }
         Ok(Some(effects))
     }
+}
+
+/// What the writes that were done do, in order, where each got this reply. Takes a search and a copy for each.
+pub fn effects_of_writes(
+    alloc: Global,
+    key_cols: usize,
+    writes: &[(Write, WriteReply)],
+) -> Result<Effects, NoMemory>
+    ensures told { IfOk result (λ effects. effects ≡ effects_when_all key_cols [] writes.now) }
+    ensures due { IfOk result (λ effects. (limit : ℕ) (t : Table)
+        → GotDueReplies key_cols limit t [] writes.now
+        → effects ≡ effects_after_all key_cols limit t [] (map (λ w. w.0) writes.now)) }
+{
+    let mut effects = Effects::new(alloc);
+    for (write, reply) in writes {
+        if is_done(*reply) {
+            let key = key_of_write(alloc, key_cols, write)?;
+            effects.compose(&key, &effect_of_write(alloc, write)?)?;
+        }
+    }
+    Ok(effects)
 }
 
 /// The key that a write is about.

@@ -1,8 +1,10 @@
 //! The table in key order, as a list of rows.
-ghost use Rattle.std.specs.Prelude.{◌≡◌, IfOk, IsOk, MatchOption, Err, length, option_map};
+ghost use Rattle.std.specs.Prelude.{◌≡◌, IfOk, IsOk, MatchOption, Err, length, option_map, is_some, slice_get, ◌≤◌};
 ghost use Rattle.values.specs.Shape.{key_of};
+ghost use Rattle.values.specs.declared.limits.TheConstants.{MAX_ROWS};
+ghost use Rattle.model.specs.Table.{rank, row_at};
 
-ghost use Rattle.pdtcli.specs.Stable.{build_fault, row_fault_at, ascends};
+ghost use Rattle.pdtcli.specs.Stable.{build_fault, row_fault_at, ascends, holds_key};
 
 use std::marker::Model;
 use thiserror::Error;
@@ -61,9 +63,18 @@ impl StableTable {
         }
     }
 
+    /// The table of rows that are known to be one. Takes no memory.
+    pub(crate) fn from_rows(schema: Schema, rows: Vec<Row>) -> StableTable
+        requires { IsStable (record { schema = schema; rows = rows.items }) }
+        ensures { result ≡ record { schema = schema; rows = rows.items } }
+    {
+        StableTable { schema, rows }
+    }
+
     /// The columns.
     pub fn schema(&self) -> &Schema
-        ensures { result.now ≡ self.now.schema }
+        ensures columns { result.now ≡ self.now.schema }
+        ensures lawful { IsStable self.now }
     {
         &self.schema
     }
@@ -76,12 +87,33 @@ impl StableTable {
         self.rows.as_slice()
     }
 
+    /// How many rows have a key below that of these cells, and whether the table has that key.
+    pub(crate) fn locate(&self, key: &[Value]) -> (u64, bool)
+        ensures rank { result.0 ≡ rank key.now (table_in self.now) }
+        ensures there { result.1 ≡ is_some (row_at (table_in self.now) key.now) }
+        ensures few { result.0 ≤ MAX_ROWS }
+    {
+        let key_cols = self.schema.key_cols();
+        let place = self.rows.as_slice().partition_point(|row| key_of(key_cols, row).cmp(key).is_lt());
+        (place as u64, has_key_at(key_cols, self.rows(), place, key))
+    }
+
     /// The number of rows.
     pub fn len(&self) -> u64
         ensures count { result ≡ length self.now.rows }
         ensures lawful { IsStable self.now }
     {
         self.rows.len() as u64
+    }
+}
+
+/// Whether the row at this place has the key.
+fn has_key_at(key_cols: usize, rows: &[Row], place: usize, key: &[Value]) -> bool
+    ensures { result ≡ holds_key key_cols key.now (slice_get rows.now place) }
+{
+    match rows.get(place) {
+        Some(row) => key_of(key_cols, row).cmp(key).is_eq(),
+        None => false,
     }
 }
 

@@ -1,4 +1,4 @@
-use Rattle.std.proofs.Common.{◌≡◌, ◌∙◌, ◌+◌, ap, sym}
+use Rattle.std.proofs.Common.{◌∙◌, ◌+◌, ap, sym}
 use Rattle.csv.specs.Records.{fields_of}
 use Rattle.pdtcli.proofs.ReadLemmas.{field-drop}
 use Rattle.pdtcli.proofs.ScriptLemmas.{drop-no_field, asked-no_verb, asked-bad_verb, asked-bad_count, asked-typed}

@@ -1,6 +1,6 @@
-use Rattle.std.proofs.Common.{◌≡◌, ◌∙◌, ◌+◌, add-one, refl, sym}
+use Rattle.std.proofs.Common.{◌∙◌, ◌+◌, arith, add-one, refl, sym}
 use Rattle.csv.specs.Records.{fields_of}
-use Rattle.pdtcli.proofs.ReadLemmas.{field-drop}
+use Rattle.pdtcli.proofs.ReadLemmas.{field-drop, field-there}
 use Rattle.pdtcli.proofs.ScriptLemmas.{set_cell-parts}
 use Rattle.pdtcli.proofs.arguments.read_set.Goals as goal
 
@@ -27,3 +27,15 @@ returns-clause-ok c =
     let g = rw count at (field-drop (fields_of c.args.fields.now) (2 + c.key_cols-at.result + 1) c.in-Some-get.bytes.now (rw c.in-Some-get.is at c.get-2.ensures.value)) in
     let parts = set_cell-parts c.args.schema.now c.args.number (2 + c.args.schema.now.key_cols) c.args.key (fields_of c.args.fields.now) c.in-Some.name.now c.in-Some-get.bytes.now f g in
     parts ∙ rw (sym c.find_column.ensures.first ∙ c.in-Some-find_column.is, c.column_type.ensures, sym c.in_ok-value.ensures ∙ c.in-Some-2.is) refl
+
+pub unreachable-requires : goal.unreachable-requires
+unreachable-requires c =
+    let count = c.requires in
+    let key = c.key_cols-at.ensures.count in
+    field-there (fields_of c.args.fields.now) (2 + c.key_cols-at.result) (rw c.in-None.is at c.get.ensures.value) (omega (arith, count, key))
+
+pub unreachable-requires-in-None-get : goal.unreachable-requires-in-None-get
+unreachable-requires-in-None-get c =
+    let count = c.requires in
+    let key = c.key_cols-at.ensures.count in
+    field-there (fields_of c.args.fields.now) (2 + c.key_cols-at.result + 1) (rw c.in-None-get.is at c.get-2.ensures.value) (omega (arith, count, key))

@@ -1,8 +1,8 @@
-use Rattle.std.proofs.Common.{◌≡◌, ◌∙◌, ◌+◌, true, rules, sym}
+use Rattle.std.proofs.Common.{◌≡◌, ◌∙◌, ◌+◌, arith, true, rules, sym}
 use Rattle.std.specs.Result.{is_ok}
 use Rattle.std.proofs.slice.Lists.{drop-cons}
 use Rattle.csv.specs.Records.{fields_of}
-use Rattle.pdtcli.proofs.ReadLemmas.{field-drop}
+use Rattle.pdtcli.proofs.ReadLemmas.{field-drop, field-there}
 use Rattle.pdtcli.proofs.ScriptLemmas.{values_of-step, values_of-fault}
 use Rattle.pdtcli.proofs.arguments.read_values.Goals as goal
 
@@ -19,3 +19,9 @@ loop-i-preserved c =
     let good : is_ok c.push.result ≡ true = search rules in
     let items = rw good at c.push.ensures.items in
     rw items (c.loop-i.invariant ∙ values_of-step c.args.number c.loop-i.i c.args.types.now (fields_of c.args.fields.now) _ c.in-Some.bytes.now c.loop-i.values.items k f c.in-Some-2.value (sym c.in_ok-value.ensures ∙ c.in-Some-2.is))
+
+pub unreachable-requires : goal.unreachable-requires
+unreachable-requires c =
+    let count = c.requires in
+    let here = c.loop-i-test.true in
+    field-there (fields_of c.args.fields.now) (2 + c.loop-i.i) (rw c.in-None.is at c.get.ensures.value) (omega (arith, count, here))

@@ -1,7 +1,7 @@
 use Rattle.std.proofs.Common.{◌≡◌, ◌+◌, drop}
 use Rattle.csv.specs.Records.{fields_of}
 use Rattle.pdtcli.specs.Cells.{prepend}
-use Rattle.pdtcli.specs.Script.{values_of}
+use Rattle.pdtcli.specs.Calls.{values_of}
 use Rattle.pdtcli.proofs.arguments.read_values.Given as goal
 
 -- the values so far, and then those of what is left, are those of all

@@ -1,8 +1,8 @@
-use Rattle.std.proofs.Common.{◌≡◌, ◌∙◌, ap, sym, true, rules, ◌++◌, ◌∷◌, []}
+use Rattle.std.proofs.Common.{◌≡◌, ◌∙◌, sym, true, rules}
 use Rattle.std.specs.Result.{is_ok}
 use Rattle.csv.specs.Records.{fields_of}
 use Rattle.pdtcli.proofs.ReadLemmas.{field-drop}
-use Rattle.pdtcli.proofs.ScriptLemmas.{drop-no_field, clients_after-none, clients_after-known, clients_after-new}
+use Rattle.pdtcli.proofs.ScriptLemmas.{drop-no_field, first-text, clients_after-none, clients_after-known, clients_after-new}
 use Rattle.pdtcli.proofs.client.add_client.Goals as goal
 
 pub returns-in-None-clause-ok : goal.returns-in-None-clause-ok
@@ -20,3 +20,9 @@ returns-clause-ok c =
     let good : is_ok c.push.result ≡ true = search rules in
     let items = rw (good, c.new.ensures, c.in_ok-from_str.ensures.ok, cases.0) at c.push.ensures.items in
     items ∙ sym (clients_after-new c.args.clients.now.items 0 (fields_of c.args.fields.now) _ c.in-Some.name.now here (rw (c.find_client-client.ensures, c.as_slice-known.ensures.value) at c.if-client-known.false))
+
+pub unreachable-requires : goal.unreachable-requires
+unreachable-requires c =
+    let here = field-drop (fields_of c.args.fields.now) 0 c.in-Some.name.now (rw c.in-Some.is at c.get.ensures.value) in
+    let cases = rw c.in-Err.is at c.from_utf8.ensures.cases in
+    first-text (fields_of c.args.fields.now) _ c.in-Some.name.now here c.requires cases.0

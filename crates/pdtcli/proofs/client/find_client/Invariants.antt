@@ -1,5 +1,5 @@
 use Rattle.std.proofs.Common.{◌≡◌, drop}
-use Rattle.pdtcli.specs.Script.{place_from}
+use Rattle.pdtcli.specs.Cells.{place_from}
 use Rattle.pdtcli.proofs.client.find_client.Given as goal
 
 -- no client so far has the name

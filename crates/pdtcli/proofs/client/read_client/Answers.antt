@@ -1,6 +1,6 @@
-use Rattle.std.proofs.Common.{◌≡◌, ◌∙◌, ◌≤◌, ◌<◌, true, false, sym, rules}
+use Rattle.std.proofs.Common.{◌≡◌, true, false, rules}
 use Rattle.csv.specs.Records.{fields_of}
-use Rattle.pdtcli.specs.Script.{is_client}
+use Rattle.pdtcli.specs.Clients.{is_client}
 use Rattle.pdtcli.proofs.ReadLemmas.{field-drop}
 use Rattle.pdtcli.proofs.ScriptLemmas.{drop-no_field, client_of-none, client_of-bad, client_of-too_many, client_of-ok}
 use Rattle.pdtcli.proofs.client.read_client.Goals as goal

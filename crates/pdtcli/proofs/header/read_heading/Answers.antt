@@ -1,4 +1,4 @@
-use Rattle.std.proofs.Common.{◌≡◌, ◌∙◌, ◌+◌, sym, refl}
+use Rattle.std.proofs.Common.{◌∙◌, sym, refl}
 use Rattle.pdtcli.proofs.HeaderLemmas.{take-rest}
 use Rattle.pdtcli.proofs.header.read_heading.Goals as goal
 

@@ -1,7 +1,7 @@
-use Rattle.std.proofs.Common.{◌≡◌, ◌∙◌, true, rules, sym}
+use Rattle.std.proofs.Common.{◌≡◌, ◌∙◌, arith, true, rules}
 use Rattle.std.specs.Result.{is_ok}
 use Rattle.csv.specs.Records.{fields_of}
-use Rattle.pdtcli.proofs.ReadLemmas.{field-drop, passed-up}
+use Rattle.pdtcli.proofs.ReadLemmas.{field-drop, field-there, passed-up}
 use Rattle.pdtcli.proofs.HeaderLemmas.{headings_of-step, headings_of-fault}
 use Rattle.pdtcli.proofs.header.read_headings.Goals as goal
 
@@ -17,3 +17,9 @@ loop-i-preserved c =
     let good : is_ok c.push.result ≡ true = search rules in
     let items = rw good at c.push.ensures.items in
     rw items (c.loop-i.invariant ∙ headings_of-step _ _ _ _ _ c.loop-i.headings.items here c.in_ok-heading.ensures.ok)
+
+pub unreachable-requires : goal.unreachable-requires
+unreachable-requires c =
+    let count = c.len-i-end.ensures in
+    let here = c.loop-i-test.true in
+    field-there (fields_of c.args.fields.now) c.loop-i.i (rw c.in-None.is at c.get.ensures.value) (omega (arith, count, here))

@@ -1,4 +1,4 @@
-use Rattle.std.proofs.Common.{◌≡◌, ◌≤◌, length}
+use Rattle.std.proofs.Common.{◌≡◌}
 use Rattle.std.specs.Prelude.{map, count_by}
 use Rattle.values.specs.Shape.{names_of, types_of}
 use Rattle.pdtcli.proofs.header.schema_named.Given as goal

@@ -1,4 +1,4 @@
-use Rattle.std.proofs.Common.{◌≡◌, sym, ap, map}
+use Rattle.std.proofs.Common.{sym, ap}
 use Rattle.std.proofs.lemmas.List.Sorted.{IsPermutation-map}
 use Rattle.pdtcli.specs.declared.fault.TableFault.TheVariants.{RepeatedKey}
 use Rattle.pdtcli.specs.declared.order.Numbered.{Numbered}

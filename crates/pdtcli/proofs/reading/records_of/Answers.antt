@@ -1,5 +1,5 @@
-use Rattle.std.proofs.Common.{◌≡◌, ◌∙◌, sym, inr}
-use Rattle.csv.specs.Reading.{Ready, default_config, strip_bom}
+use Rattle.std.proofs.Common.{◌∙◌, sym, inr}
+use Rattle.csv.specs.Reading.{default_config, strip_bom}
 use Rattle.csv.specs.declared.parser.State.TheVariants as st
 use Rattle.pdtcli.proofs.ReadLemmas.{reached-start}
 use Rattle.pdtcli.proofs.reading.records_of.Goals as goal

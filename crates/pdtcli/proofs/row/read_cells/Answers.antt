@@ -1,8 +1,8 @@
-use Rattle.std.proofs.Common.{◌≡◌, ◌∙◌, true, rules, sym}
+use Rattle.std.proofs.Common.{◌≡◌, ◌∙◌, arith, true, rules}
 use Rattle.std.specs.Result.{is_ok}
 use Rattle.std.proofs.slice.Lists.{drop-cons}
 use Rattle.csv.specs.Records.{fields_of}
-use Rattle.pdtcli.proofs.ReadLemmas.{field-drop, passed-up}
+use Rattle.pdtcli.proofs.ReadLemmas.{field-drop, field-there, passed-up}
 use Rattle.pdtcli.proofs.RowLemmas.{cells_of-step, cells_of-fault}
 use Rattle.pdtcli.proofs.row.read_cells.Goals as goal
 
@@ -20,3 +20,9 @@ loop-i-preserved c =
     let good : is_ok c.push.result ≡ true = search rules in
     let items = rw good at c.push.ensures.items in
     rw items (c.loop-i.invariant ∙ cells_of-step _ _ _ _ _ _ _ c.loop-i.cells.items k f c.in_ok-read_cell.ensures.ok)
+
+pub unreachable-requires : goal.unreachable-requires
+unreachable-requires c =
+    let count = c.requires in
+    let here = c.loop-i-test.true in
+    field-there (fields_of c.args.fields.now) c.loop-i.i (rw c.in-None.is at c.get.ensures.value) (omega (arith, count, here))

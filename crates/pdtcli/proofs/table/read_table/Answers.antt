@@ -1,12 +1,12 @@
-use Rattle.std.proofs.Common.{◌≡◌, ◌≤◌, ◌∙◌, ◌+◌, ◌∷◌, ◌++◌, [], ℕ, true, false, refl, sym, arith, rules, length}
+use Rattle.std.proofs.Common.{◌≡◌, ◌∙◌, ◌+◌, ◌∷◌, ◌++◌, [], true, false, refl, sym, arith, rules, length}
 use Rattle.std.specs.Result.{is_ok}
 use Rattle.std.proofs.lemmas.List.{length-append}
 use Rattle.csv.specs.Records.{fields_of}
-use Rattle.values.specs.declared.limits.TheConstants.{MAX_ROWS}
 use Rattle.pdtcli.specs.declared.fault.TableFault.TheVariants.{NoMemory}
 use Rattle.pdtcli.proofs.ReadLemmas.{passed-up, prepend-nil}
 use Rattle.pdtcli.proofs.RowLemmas.{rows_of-step}
 use Rattle.pdtcli.proofs.TableLemmas.{table_of-none, table_of-bad_header, table_of-bad_row, table_of-repeat, table_of-ok, AreNumbered-from, numbered-push}
+use Rattle.pdtcli.proofs.FittingLemmas.{table_of-table}
 use Rattle.pdtcli.proofs.table.read_table.Goals as goal
 
 pub returns-then-not-found-clause-err : goal.returns-then-not-found-clause-err
@@ -92,3 +92,10 @@ returns-in_err-more-clause-err c =
 pub returns-in_err-push-clause-err : goal.returns-in_err-push-clause-err
 returns-in_err-push-clause-err c =
     passed-up c.from_residual-in_err-push.result NoMemory _ c.from_residual-in_err-push.ensures.1 (λ ne. absurd (ne refl))
+
+pub returns-then-not-more-clause-table : goal.returns-then-not-more-clause-table
+returns-then-not-more-clause-table c =
+    let inv = c.loop-number.invariant.reading in
+    let distinct = rw c.key_cols.ensures.count at c.in_ok-sorted.ensures.distinct in
+    let said = table_of-ok inv.0 inv.1 c.loop-number.schema c.loop-number.rows.items c.loop-number.number inv.3 inv.4 distinct in
+    table_of-table (inv.0 ∷ inv.1) c.loop-number.schema _ _ said c.in_ok-sorted.ensures.each_once (rw c.key_cols.ensures.count at c.in_ok-sorted.ensures.ascending)

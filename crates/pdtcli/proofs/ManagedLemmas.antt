@@ -1,0 +1,93 @@
+-- What a manager's type keeps, record by record.
+use Rattle.std.proofs.Common.{◌≡◌, ℕ, zero, suc, ◌+◌, ◌≤◌, Bool, true, false, cond, List, [], ◌∷◌, ◌++◌, map, length, take, drop, refl, sym, ap, ◌∙◌, subst, arith}
+use Rattle.std.specs.Prelude.{nat_lt, IsTrue}
+use Rattle.std.specs.List.{list_any}
+use Rattle.std.proofs.lemmas.List.{length-map}
+use Rattle.values.specs.Shape.{Columns}
+use Rattle.values.specs.declared.row.Row.{Row}
+use Rattle.model.specs.declared.write.CommitReply.{CommitReply}
+use Rattle.model.specs.declared.write.CommitReply.TheVariants.{Committed, Conflict, TooOld, Full}
+use Rattle.model.specs.Table.{Table, rows_of, table_of, is_keyed_table, IsTable}
+use Rattle.model.specs.Effects.{Effects, table_with, AreOver}
+use Rattle.model.specs.Clashes.{conflicts}
+use Rattle.model.specs.Laws.{AreCommits}
+use Rattle.model.specs.History.{Record, writes_of, table_with_all, table_after, due_reply, commits_with, commits_after, commits_from, commits_of, effects_of_record, IsLegalRecord, IsLegalFrom, IsLegal}
+use Rattle.std.proofs.lemmas.Float.{T_from_true}
+use Rattle.values.specs.declared.limits.TheConstants.{MAX_ROWS}
+use Rattle.model.proofs.TableLemmas.{table_of-rows_of}
+use Rattle.model.proofs.AllLaws.{leaves, fits_newest, commits_fit}
+use Rattle.model.proofs.HistoryLemmas.{length-table_after}
+use Rattle.pdtcli.specs.Stable.{Stable, IsStable, table_in}
+use Rattle.pdtcli.specs.Transaction.{Transaction, effects_of, asked_of, IsTransaction}
+use Rattle.pdtcli.specs.Managed.{Managed, commits_in, newest_table, IsManaged, HasNewest, IsOwn, reply_due, record_of, with_record}
+use Rattle.pdtcli.proofs.TransactionLemmas.{over}
+
+pub take_length : {A : Type 0} (xs : List A) → take (length xs) xs ≡ xs
+take_length [] = refl
+take_length (x ∷ xs) = ap (λ ys. x ∷ ys) (take_length xs)
+
+-- ---- tables after commits
+
+table_with_all-drop : (t : Table) (commits : List Effects) (k : ℕ) → table_with_all (table_after t commits k) (drop k commits) ≡ table_with_all t commits
+table_with_all-drop t commits zero = refl
+table_with_all-drop t [] (suc k) = refl
+table_with_all-drop t (x ∷ commits) (suc k) = table_with_all-drop (table_with t x) commits k
+
+pub table_with_all-append : (t : Table) (commits : List Effects) (x : Effects) → table_with_all t (commits ++ x ∷ []) ≡ table_with (table_with_all t commits) x
+table_with_all-append t [] x = refl
+table_with_all-append t (y ∷ commits) x = table_with_all-append (table_with t y) commits x
+
+module _ (schema : Columns) where
+  AreCommits-drop : (t : Table) (commits : List Effects) (k : ℕ) → AreCommits schema t commits → AreCommits schema (table_after t commits k) (drop k commits)
+  AreCommits-drop t commits zero h = h
+  AreCommits-drop t [] (suc k) h = tt
+  AreCommits-drop t (x ∷ commits) (suc k) h = AreCommits-drop (table_with t x) commits k h.1
+
+  IsTable-table_with_all : (t : Table) (commits : List Effects) → IsTable schema t → AreCommits schema t commits → IsTable schema (table_with_all t commits)
+  IsTable-table_with_all t [] h k = h
+  IsTable-table_with_all t (x ∷ commits) h k = IsTable-table_with_all (table_with t x) commits (leaves schema t x k.0) k.1
+
+module _ (m : Managed) (h : IsManaged m) where
+  commits_fit_it : AreCommits m.schema m.opening (commits_in m)
+  commits_fit_it = commits_fit m.schema m.limit m.recent m.opening m.history h.table h.legal
+
+  pub newest-IsTable : IsTable m.schema (newest_table m)
+  newest-IsTable = IsTable-table_with_all m.schema m.opening (commits_in m) h.table commits_fit_it
+
+  pub newest_whole : table_after m.opening (commits_in m) (length (commits_in m)) ≡ newest_table m
+  newest_whole = ap (table_with_all m.opening) (take_length (commits_in m))
+
+  pub newest_within : length (newest_table m) ≤ m.limit
+  newest_within = subst (λ (t : Table). length t ≤ m.limit) newest_whole (length-table_after m.schema m.limit m.recent m.opening m.history (length (commits_in m)) h.within h.legal)
+
+  -- effects that clash with no commit since the begin fit the newest table
+  pub over_newest : (txn : Transaction) → IsTransaction txn → IsOwn m txn → list_any (conflicts (effects_of txn)) (drop txn.begin (commits_in m)) ≡ false → AreOver m.schema (newest_table m) (effects_of txn)
+  over_newest txn k own clear =
+      let begun = subst (λ (e : Columns × Table). AreOver e.0 e.1 (effects_of txn)) (λ i. (own.schema i, own.snapshot i)) (over txn k) in
+      subst (λ (t : Table). AreOver m.schema t (effects_of txn)) (table_with_all-drop m.opening (commits_in m) txn.begin)
+      (fits_newest m.schema (table_after m.opening (commits_in m) txn.begin) (effects_of txn) (drop txn.begin (commits_in m)) begun (AreCommits-drop m.schema m.opening (commits_in m) txn.begin commits_fit_it) clear)
+
+-- the newest table's rows are within the limit
+pub rows_within : (m : Managed) (commits : List Effects) (newest : Stable) → HasNewest m commits newest → length newest.rows ≤ m.limit
+rows_within m commits newest h =
+    let rows : length (table_in newest) ≡ length newest.rows = length-map _ _ in
+    let same : length (table_in newest) ≡ length (newest_table m) = ap (λ (t : Table). length t) h.table_is in
+    let within = newest_within m h.lawful in
+    omega (arith, rows, same, within)
+
+-- the rows that a commit leaves are a table, where it clashes with none since its begin and there are no more of them than
+-- the limit
+pub next_stable : (m : Managed) → IsManaged m → (txn : Transaction) → IsTransaction txn → IsOwn m txn → list_any (conflicts (effects_of txn)) (drop txn.begin (commits_in m)) ≡ false
+    → (schema : Columns) → schema ≡ m.schema → (rows : List Row) → rows ≡ rows_of (table_with (newest_table m) (effects_of txn)) → length rows ≤ m.limit → IsStable (record { schema = schema; rows = rows })
+next_stable m h txn k own clear schema schema_is rows rows_are few =
+    let t = table_with (newest_table m) (effects_of txn) in
+    let table = leaves m.schema (newest_table m) (effects_of txn) (over_newest m h txn k own clear) in
+    let same : table_of schema.key_cols rows ≡ t =
+    (λ i. table_of (schema_is i).key_cols (rows_are i)) ∙ table_of-rows_of m.schema.key_cols t (T_from_true (is_keyed_table m.schema.key_cols t) table.keyed) in
+    record {
+      table = subst (λ (e : Columns × Table). IsTable e.0 e.1) (sym (λ i. (schema_is i, same i))) table;
+      few = limited (length rows) few;
+    }
+  where
+    limited : (n : ℕ) → n ≤ m.limit → n ≤ MAX_ROWS
+    limited n le = let most = h.limited in omega (arith, le, most)

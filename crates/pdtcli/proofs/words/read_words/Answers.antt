@@ -1,0 +1,14 @@
+use Rattle.std.proofs.Common.{◌≡◌, ◌∙◌, ap, map}
+use Rattle.std.specs.Option.{option_map}
+use Rattle.clap.specs.Words.{App, app_of, is_simple, subcommand_of}
+use Rattle.pdtcli.specs.Words.{usage, word_in}
+use Rattle.pdtcli.proofs.WordsLemmas.{usage-simple, AreOf-same}
+use Rattle.pdtcli.proofs.words.read_words.Goals as goal
+
+pub returns-in-Some-clause-said : goal.returns-in-Some-clause-said
+returns-in-Some-clause-said c =
+    let is : app_of c.in_ok-command.command ≡ usage = c.in_ok-command.ensures in
+    let words = map (λ word. word.now) c.args.words.now in
+    let read = (c.in_ok-matches.ensures.ok.2 (ap is_simple is ∙ usage-simple)).1 ∙ ap (λ (a : App). subcommand_of a words) is in
+    let said = rw c.in-Some.is at c.command_settings-given.ensures.said in
+    AreOf-same _ _ (λ id. ap (λ o. word_in (option_map (λ p. p.1) o) id) read) c.in-Some.settings said

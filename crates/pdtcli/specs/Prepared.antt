@@ -1,0 +1,24 @@
+-- What a commit has made before anything changes.
+use Rattle.std.specs.Prelude.{◌≡◌, suc, length}
+use Rattle.model.specs.declared.write.CommitReply.TheVariants.{Committed, Conflict, TooOld, Full}
+use Rattle.model.specs.declared.write.CommitReply.{CommitReply}
+use Rattle.model.specs.Table.{rows_of}
+use Rattle.model.specs.Effects.{table_with}
+use Rattle.pdtcli.specs.Stable.{Stable}
+use Rattle.pdtcli.specs.Transaction.{Transaction, effects_of}
+use Rattle.pdtcli.specs.Managed.{Managed, commits_in, newest_table, reply_due}
+use Rattle.pdtcli.specs.declared.plain.manager.Prepared.{Prepared}
+use Rattle.pdtcli.specs.declared.plain.manager.Prepared.TheVariants.{Refused, Granted}
+
+-- whether a reply leaves the table
+abbrev pub LeavesTable : CommitReply → Type 0
+LeavesTable (Committed n) = ⊥
+LeavesTable (Conflict n) = Unit {0}
+LeavesTable (TooOld n) = Unit {0}
+LeavesTable (Full n) = Unit {0}
+
+-- it is what the commit of the transaction does
+abbrev pub IsPrepared : Managed → Transaction → Prepared → Type 0
+IsPrepared m txn (Refused reply) = (reply ≡ reply_due m txn) × LeavesTable reply
+IsPrepared m txn (Granted number effects table) =
+    (Committed number ≡ reply_due m txn) × (effects ≡ effects_of txn) × (table.value.schema ≡ m.schema) × (table.value.rows ≡ rows_of (table_with (newest_table m) (effects_of txn)))

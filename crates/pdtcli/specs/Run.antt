@@ -1,0 +1,132 @@
+-- A serial run: what each call may be answered, and what it leaves.
+use Rattle.std.specs.Prelude.{◌≡◌, ℕ, ◌==◌, Bool, true, false, ◌&&◌, Option, Some, None, IsNone, IsSome, List, [], ◌∷◌, map, filter, length, slice_get, slice_set}
+use Rattle.values.specs.Shape.{Columns, row_fault, key_fault, cell_fault, or_fault}
+use Rattle.values.specs.declared.fault.ShapeFault.{ShapeFault}
+use Rattle.values.specs.declared.fault.ShapeFault.TheVariants as shape
+use Rattle.model.specs.declared.write.Write.{Write}
+use Rattle.model.specs.declared.write.Write.TheVariants as asked
+use Rattle.pdtcli.specs.declared.call.Call.{Call}
+use Rattle.pdtcli.specs.declared.call.Call.TheVariants as call
+use Rattle.pdtcli.specs.declared.call.ClientCall.{ClientCall}
+use Rattle.pdtcli.specs.declared.reply.Reply.{Reply}
+use Rattle.pdtcli.specs.declared.reply.Reply.TheVariants.{Begun, AlreadyOpen, NotOpen, Wrote, KeyColumn, TextTooLong, Decided, Aborted, NoMemory}
+use Rattle.pdtcli.specs.declared.reply.ReplyLine.{ReplyLine}
+use Rattle.pdtcli.specs.declared.verb.Verb.{Verb}
+use Rattle.pdtcli.specs.declared.verb.Verb.TheVariants as verb
+use Rattle.pdtcli.specs.Transaction.{Transaction, with_write, answer_to}
+use Rattle.pdtcli.specs.Managed.{Managed, begun_at, reply_due, record_of, with_record}
+
+-- ---- one client's side
+
+-- the manager, and the client's transaction, where it has one open
+pub record Side : Type 0 where
+  pub manager : Managed
+  pub own : Option Transaction
+
+-- the first fault of a write by its shape
+abbrev pub write_fault : Columns → Write → Option ShapeFault
+write_fault schema (asked.Insert row) = row_fault schema row
+write_fault schema (asked.Delete key) = key_fault schema key
+write_fault schema (asked.Set key col value) = or_fault (key_fault schema key) (cell_fault schema col value)
+
+-- a begin
+abbrev pub BeginStep : ℕ → Side → Reply → Side → Type 0
+BeginStep client old Begun new = IsNone old.own × (new ≡ record old { own = Some (begun_at old.manager client) })
+BeginStep client old AlreadyOpen new = IsSome old.own × (new ≡ old)
+BeginStep client old NoMemory new = IsNone old.own × (new ≡ old)
+BeginStep client old reply new = ⊥
+
+-- a write in an open transaction
+abbrev pub OpenWriteStep : Transaction → Write → Side → Reply → Side → Type 0
+OpenWriteStep txn write old (Wrote reply) new =
+    IsNone (write_fault txn.schema write) × (reply ≡ answer_to txn write) × (new ≡ record old { own = Some (with_write txn write reply) })
+OpenWriteStep txn write old KeyColumn new = (write_fault txn.schema write ≡ Some shape.KeyColumn) × (new ≡ old)
+OpenWriteStep txn write old (TextTooLong cell) new = (write_fault txn.schema write ≡ Some (shape.TextTooLong cell)) × (new ≡ old)
+OpenWriteStep txn write old NoMemory new = new ≡ old
+OpenWriteStep txn write old reply new = ⊥
+
+abbrev pub WriteStep : Option Transaction → Write → Side → Reply → Side → Type 0
+WriteStep None write old reply new = (reply ≡ NotOpen) × (new ≡ old)
+WriteStep (Some txn) write old reply new = OpenWriteStep txn write old reply new
+
+-- a commit of an open transaction
+abbrev pub OpenCommitStep : Transaction → Side → Reply → Side → Type 0
+OpenCommitStep txn old (Decided reply) new =
+    (reply ≡ reply_due old.manager txn) × (new ≡ record { manager = with_record old.manager (record_of txn reply); own = None })
+OpenCommitStep txn old NoMemory new = new ≡ old
+OpenCommitStep txn old reply new = ⊥
+
+abbrev pub CommitStep : Option Transaction → Side → Reply → Side → Type 0
+CommitStep None old reply new = (reply ≡ NotOpen) × (new ≡ old)
+CommitStep (Some txn) old reply new = OpenCommitStep txn old reply new
+
+abbrev pub AbortStep : Option Transaction → Side → Reply → Side → Type 0
+AbortStep None old reply new = (reply ≡ NotOpen) × (new ≡ old)
+AbortStep (Some txn) old reply new = (reply ≡ Aborted) × (new ≡ record old { own = None })
+
+-- the client's call may be answered so, and leave this
+abbrev pub SideStep : ℕ → Call → Side → Reply → Side → Type 0
+SideStep client call.Begin old reply new = BeginStep client old reply new
+SideStep client (call.Write write) old reply new = WriteStep old.own write old reply new
+SideStep client call.Commit old reply new = CommitStep old.own old reply new
+SideStep client call.Abort old reply new = AbortStep old.own old reply new
+
+-- ---- all clients
+
+-- the manager, and each client's transaction
+pub record State : Type 0 where
+  pub manager : Managed
+  pub transactions : List (Option Transaction)
+
+abbrev pub joined : Option (Option Transaction) → Option Transaction
+joined None = None
+joined (Some own) = own
+
+-- a client's side of the state
+abbrev pub side_of : State → ℕ → Side
+side_of state client = record { manager = state.manager; own = joined (slice_get state.transactions client) }
+
+-- the state with another side of the client
+abbrev pub with_side : State → ℕ → Side → State
+with_side state client side = record { manager = side.manager; transactions = slice_set state.transactions client side.own }
+
+-- the verb of a call
+abbrev pub verb_of_write : Write → Verb
+verb_of_write (asked.Insert row) = verb.Insert
+verb_of_write (asked.Delete key) = verb.Delete
+verb_of_write (asked.Set key col value) = verb.Set
+
+abbrev pub verb_of_call : Call → Verb
+verb_of_call call.Begin = verb.Begin
+verb_of_call (call.Write write) = verb_of_write write
+verb_of_call call.Commit = verb.Commit
+verb_of_call call.Abort = verb.Abort
+
+-- the line of a call's reply
+abbrev pub line_of : ClientCall → Reply → ReplyLine
+line_of asked reply = record { client = asked.client; verb = verb_of_call asked.call; reply = reply }
+
+-- the call's client takes a step, which leaves the others, and the line tells its reply
+pub record Step (old : State) (asked : ClientCall) (line : ReplyLine) (new : State) : Type 0 where
+  pub reply : Reply
+  pub side : Side
+  pub steps : SideStep asked.client asked.call (side_of old asked.client) reply side
+  pub told : line ≡ line_of asked reply
+  pub left : new ≡ with_side old asked.client side
+
+-- a line for each call, in order
+abbrev pub IsRun : State → List ClientCall → List ReplyLine → State → Type 0
+IsRun old [] [] new = new ≡ old
+IsRun old [] (line ∷ lines) new = ⊥
+IsRun old (asked ∷ calls) [] new = ⊥
+IsRun old (asked ∷ calls) (line ∷ lines) new = (mid : State) × Step old asked line mid × IsRun mid calls lines new
+
+-- ---- counts
+
+abbrev pub is_decided : Reply → Bool
+is_decided (Decided reply) = true
+is_decided reply = false
+
+-- how many of the client's commits were decided
+abbrev pub decided_count : List ReplyLine → ℕ → ℕ
+decided_count lines client = length (filter (λ line. (line.client == client) && is_decided line.reply) lines)
