@@ -15,3 +15,4 @@ mod ClientsLemmas
 mod CallsLemmas
 mod WordsLemmas
 mod OutputLemmas
+mod ProgramLemmas
