@@ -1,13 +1,17 @@
 # Each target is one line; the work is done by the toolchain's command rt.
-.PHONY: run test fmt check
+.PHONY: run test examples fmt check
 
-# proves and builds the program, and runs it
+# proves and builds the program, and runs its example
 run:
-	cd crates/pdt && rt run
+	cd crates/pdt && rt run -- run data/table.csv data/script.csv
 
-# the gate: every proof from nothing, the must-fail edits, the tests and the program
+# the gate: every proof from nothing, the must-fail edits, the tests and the program; and then the examples
 test:
-	rt ci
+	rt ci && examples/check
+
+# each example through the program, against its replies
+examples:
+	examples/check
 
 fmt:
 	for crate in crates/*/; do (cd $$crate && rt fmt); done

@@ -1,93 +1,70 @@
-//! The program: one transaction over a small table, answered by the slow program that the definitions stand behind.
+//! The program: takes the words, reads the files, prints what the run leaves, and ends with its status.
 #![tactic(auto)]
 
-use model::{Write, WriteReply};
-use oracle::{Effects, OrderedTable};
-use std::alloc::Global;
-use std::io;
-use values::{Key, NoMemory, Row, Text, Value};
+use pdtcli::{Settings, read_words, run_texts};
+use std::process::ExitCode;
+use std::rt::{Env, Files};
+use std::{env, fs, io};
 
-/// The sort key is the first column.
-const KEY_COLUMNS: usize = 1;
+/// The status of a command line that asks for no run.
+const MISUSED: u8 = 2;
 
-fn main(rt: HostRuntime) -> io::Result<()> {
-    match answered(rt.alloc()) {
-        Ok((replies, rows)) => show(&rt, &replies, &rows),
-        Err(NoMemory) => println!(rt; "NoMemory"),
+/// The status where an input is refused, or the output.
+const REFUSED: u8 = 1;
+
+fn main(rt: HostRuntime) -> ExitCode {
+    match answered(&rt) {
+        Ok(status) => ExitCode::from(status),
+        // The words can't be had, or what is wrong with them can't be told.
+        Err(_) => ExitCode::from(MISUSED),
     }
 }
 
-/// The replies to the transaction's writes, and the rows of the table after it.
-fn answered(alloc: Global) -> Result<(Vec<WriteReply>, Vec<Row>), NoMemory> {
-    let table = base_table(alloc)?;
-    let mut effects = Effects::new(alloc);
-    let writes = transaction(alloc)?;
-    let replies = table.write_all(
-        KEY_COLUMNS,
-        values::limits::MAX_ROWS,
-        &mut effects,
-        writes.as_slice(),
-    )?;
-    let rows = table.with(&effects)?.rows()?;
-    Ok((replies, rows))
-}
-
-/// Three items with their quantities.
-fn base_table(alloc: Global) -> Result<OrderedTable, NoMemory> {
-    let mut rows = Vec::new(alloc);
-    for (id, name, quantity) in [(10, "Ann", 1), (20, "Bob", 2), (30, "Cid", 3)] {
-        rows.push(item(alloc, id, name, quantity)?)?;
+/// Does what the words ask for, and gives the status to end with.
+fn answered<R: Env + Files + AllocGlobal + Print + Eprint>(rt: &R) -> io::Result<u8> {
+    let mut given = Vec::new(rt.alloc());
+    for word in env::args(rt)? {
+        given.push(word)?;
     }
-    OrderedTable::from_rows(alloc, KEY_COLUMNS, rows)
-}
-
-/// An insert, a delete and a set.
-fn transaction(alloc: Global) -> Result<Vec<Write>, NoMemory> {
-    let mut writes = Vec::new(alloc);
-    writes.push(Write::Insert(item(alloc, 25, "Dee", 4)?))?;
-    writes.push(Write::Delete(key(alloc, 20)?))?;
-    writes.push(Write::Set(key(alloc, 10)?, 2, Value::Int(7)))?;
-    Ok(writes)
-}
-
-fn key(alloc: Global, id: i64) -> Result<Key, NoMemory> {
-    let mut cells = Vec::new(alloc);
-    cells.push(Value::Int(id))?;
-    Ok(Key::new(cells))
-}
-
-fn item(alloc: Global, id: i64, name: &str, quantity: i64) -> Result<Row, NoMemory> {
-    let mut cells = Vec::new(alloc);
-    cells.push(Value::Int(id))?;
-    cells.push(Value::Text(Text::new(String::from_str(alloc, name)?)))?;
-    cells.push(Value::Int(quantity))?;
-    Ok(Row::new(cells))
-}
-
-/// The replies, an empty line and the rows.
-fn show(rt: &impl Print, replies: &[WriteReply], rows: &[Row]) -> io::Result<()> {
-    for reply in replies {
-        println!(rt; "{reply:?}")?;
+    let mut words = Vec::new(rt.alloc());
+    for word in &given {
+        words.push(word.as_str())?;
     }
-    println!(rt; "")?;
-    println!(rt; "id,name,qty")?;
-    for row in rows {
-        show_row(rt, row)?;
-    }
-    Ok(())
-}
-
-/// A row on a line, its cells parted by commas.
-fn show_row(rt: &impl Print, row: &Row) -> io::Result<()> {
-    for (col, cell) in row.cells().iter().enumerate() {
-        if col > 0 {
-            print!(rt; ",")?;
-        }
-        match cell {
-            Value::Int(number) => print!(rt; "{number}")?,
-            Value::Text(text) => print!(rt; "{}", text.as_str())?,
-            Value::Bool(truth) => print!(rt; "{truth}")?,
+    match read_words(rt.alloc(), words.as_slice()) {
+        Ok(Settings::Run {
+            table,
+            script,
+            limit,
+        }) => Ok(run(rt, table, script, limit)),
+        Err(fault) => {
+            rt.eprint(&fault)?;
+            Ok(MISUSED)
         }
     }
-    println!(rt; "")
+}
+
+/// Runs the script's file over the table's, and gives the status. What is refused is told on standard error.
+fn run<R: Files + AllocGlobal + Print + Eprint>(
+    rt: &R,
+    table: &str,
+    script: &str,
+    limit: u64,
+) -> u8 {
+    let table = fs::read(rt, table).ok();
+    let script = fs::read(rt, script).ok();
+    let mut out = io::writer(rt);
+    match run_texts(
+        rt.alloc(),
+        table.as_ref().map(|bytes| bytes.as_slice()),
+        script.as_ref().map(|bytes| bytes.as_slice()),
+        limit,
+        &mut out,
+    ) {
+        Ok(status) => status,
+        Err(refusal) => {
+            // Where even this can't be written, the status alone tells.
+            let _ = eprintln!(rt; "{refusal}");
+            REFUSED
+        }
+    }
 }

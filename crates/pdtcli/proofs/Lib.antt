@@ -16,3 +16,5 @@ mod TransactionLemmas
 mod ClientsLemmas
 mod CallsLemmas
 mod WordsLemmas
+mod OutputLemmas
+mod ProgramLemmas

@@ -7,9 +7,12 @@ pub mod Input
 pub mod Managed
 pub mod Order
 pub mod Outcome
+pub mod Output
 pub mod Prepared
 pub mod Reading
 pub mod Ready
+pub mod Refusals
+pub mod Replies
 pub mod Run
 pub mod Script
 pub mod Stable

@@ -1,12 +1,13 @@
-//! The inputs of the program: the words of its command line, a table and a script, each read from text and refused by
-//! a fault that names its place.
+//! The program over texts: its inputs, the words of its command line, a table and a script, each refused by a fault that
+//! names its place; and its output, the reply lines of a run and its newest image.
 //!
 //! *What a contract sees.* The records of a text are those that the crate `csv` reads of it. A table is a function of
 //! its records, the first fault from the start or the schema and the rows; so is a script, whose answer is the clients'
-//! names and the calls. An `Ok` says that there are such records, and a fault that all such records have it.
+//! names and the calls. An `Ok` says that there are such records, and a fault that all such records have it. What a run
+//! shows is the text that `csv` writes of its reply lines and its image, byte for byte.
 //!
-//! *What it stands on.* `values` for schemas, rows and limits, `model` for tables and writes, `csv` for records, `clap`
-//! for the command line, and `thiserror` for what a fault shows.
+//! *What it stands on.* `values` for schemas, rows and limits, `model` for tables and writes, `csv` for records, `itoa`
+//! for numbers, `clap` for the command line, and `thiserror` for what a fault shows.
 #![tactic(auto)]
 
 mod arguments;
@@ -16,10 +17,14 @@ mod cell;
 mod client;
 mod fault;
 mod header;
+mod image;
 mod order;
 mod outcome;
+mod output;
 mod plain;
+mod program;
 mod reading;
+mod refusal;
 mod reply;
 mod row;
 mod script;
@@ -33,7 +38,10 @@ mod words;
 pub use call::{Call, ClientCall, Script};
 pub use fault::{ScriptFault, TableFault};
 pub use outcome::Outcome;
+pub use output::{ShowFault, show};
 pub use plain::{BuildFault, Manager, OpenFault, StableTable, Txn, WriteFault};
+pub use program::run_texts;
+pub use refusal::Refusal;
 pub use reply::{Reply, ReplyLine};
 pub use script::read_script;
 pub use serial::run_serial;

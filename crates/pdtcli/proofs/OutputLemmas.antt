@@ -1,0 +1,61 @@
+-- What is written, record by record and some records at a time.
+use Rattle.std.proofs.Common.{◌≡◌, ◌∙◌, ℕ, zero, suc, List, [], ◌∷◌, ◌++◌, map, drop, Option, Some, None, refl, sym, ap, append_assoc, nat_lt}
+use Rattle.std.proofs.lemmas.List.{append-nil, map-append}
+use Rattle.std.specs.Io.KnownBytes.{Appends}
+use Rattle.std.specs.List.{slice_get}
+use Rattle.values.specs.declared.row.Row.{Row}
+use Rattle.values.specs.declared.value.ColumnType.{ColumnType}
+use Rattle.pdtcli.specs.Output.{header_cells, kind_text, record_text, records_text, lines_text, rows_text, row_fields}
+use Rattle.pdtcli.specs.Reading.{Fields}
+use Rattle.pdtcli.specs.Replies.{line_fields}
+use Rattle.pdtcli.specs.declared.reply.ReplyLine.{ReplyLine}
+
+-- ---- texts
+
+pub records_text-append : (rs qs : List Fields) → records_text (rs ++ qs) ≡ records_text rs ++ records_text qs
+records_text-append [] qs = refl
+records_text-append (r ∷ rs) qs =
+    ap (λ (z : List ℕ). record_text r ++ z) (records_text-append rs qs) ∙ sym (append_assoc (record_text r) (records_text rs) (records_text qs))
+
+pub lines_text-append : (clients : List (List ℕ)) (a b : List ReplyLine) → lines_text clients (a ++ b) ≡ lines_text clients a ++ lines_text clients b
+lines_text-append clients a b = ap records_text (map-append (line_fields clients) a b) ∙ records_text-append (map (line_fields clients) a) (map (line_fields clients) b)
+
+pub rows_text-append : (a b : List Row) → rows_text (a ++ b) ≡ rows_text a ++ rows_text b
+rows_text-append a b = ap records_text (map-append row_fields a b) ∙ records_text-append (map row_fields a) (map row_fields b)
+
+-- one reply line more
+pub lines_text-more : (start : List ℕ) (clients : List (List ℕ)) (lines : List ReplyLine) (line : ReplyLine)
+    → (start ++ lines_text clients lines) ++ record_text (line_fields clients line) ≡ start ++ lines_text clients (lines ++ line ∷ [])
+lines_text-more start clients lines line =
+    append_assoc start (lines_text clients lines) (record_text (line_fields clients line))
+    ∙ ap (λ (z : List ℕ). start ++ z)
+    (ap (λ (z : List ℕ). lines_text clients lines ++ z) (sym (append-nil (record_text (line_fields clients line)))) ∙ sym (lines_text-append clients lines (line ∷ [])))
+
+-- one row more
+pub rows_text-more : (start : List ℕ) (rows : List Row) (row : Row) → (start ++ rows_text rows) ++ record_text (row_fields row) ≡ start ++ rows_text (rows ++ row ∷ [])
+rows_text-more start rows row =
+    append_assoc start (rows_text rows) (record_text (row_fields row))
+    ∙ ap (λ (z : List ℕ). start ++ z)
+    (ap (λ (z : List ℕ). rows_text rows ++ z) (sym (append-nil (record_text (row_fields row)))) ∙ sym (rows_text-append rows (row ∷ [])))
+
+-- what a writer with these known bytes holds after more
+pub appended : (a b : Option (List ℕ)) (xs ys : List ℕ) → a ≡ Some xs → Appends a b ys → b ≡ Some (xs ++ ys)
+appended None b xs ys e h = cc e
+appended (Some x) None xs ys e h = absurd h
+appended (Some x) (Some y) xs ys e h = ap Some (h ∙ ap (λ (z : List ℕ). z ++ ys) (cc e))
+
+-- ---- the header
+
+pub slice_get-drop : {X : Type 0} (xs : List X) (i : ℕ) (x : X) → slice_get xs i ≡ Some x → drop i xs ≡ x ∷ drop (suc i) xs
+slice_get-drop [] i x e = cc e
+slice_get-drop (y ∷ xs) zero x e = ap (λ z. z ∷ xs) (cc e)
+slice_get-drop (y ∷ xs) (suc i) x e = slice_get-drop xs i x e
+
+-- one header cell more
+pub header_cells-more : (before : Fields) (key_cols at : ℕ) (names : List (List ℕ)) (types : List ColumnType) (name : List ℕ) (type : ColumnType)
+    → slice_get names at ≡ Some name → slice_get types at ≡ Some type
+    → before ++ header_cells key_cols at (drop at names) (drop at types)
+    ≡ (before ++ (name ++ kind_text type (nat_lt at key_cols)) ∷ []) ++ header_cells key_cols (suc at) (drop (suc at) names) (drop (suc at) types)
+header_cells-more before key_cols at names types name type n t =
+    rw (slice_get-drop names at name n, slice_get-drop types at type t)
+    (sym (append_assoc before ((name ++ kind_text type (nat_lt at key_cols)) ∷ []) (header_cells key_cols (suc at) (drop (suc at) names) (drop (suc at) types))))

@@ -1,0 +1,4 @@
+use Rattle.pdtcli.proofs.reply.push_reply.Goals as goal
+
+pub returns-in-TextTooLong-clause-fields : goal.returns-in-TextTooLong-clause-fields
+returns-in-TextTooLong-clause-fields c = rw c.in-TextTooLong.is c.push_counted.ensures.fields

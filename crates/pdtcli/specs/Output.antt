@@ -1,0 +1,100 @@
+-- What is shown of a run: its reply lines, an empty line, and the image with its header.
+use Rattle.std.specs.Prelude.{◌≡◌, ℕ, suc, Bool, true, false, cond, nat_lt, Some, List, [], ◌∷◌, ◌++◌, map, codes, Vec}
+use Rattle.std.specs.declared.alloc.Global.{Global}
+use Rattle.std.specs.Fmt.{signed_decimal}
+use Rattle.std.specs.List.{list_any}
+use Rattle.csv.specs.Writing.{default_writer, with_flexible, row_text, writer_setup, fields_written, has_written, text_written}
+use Rattle.csv.specs.declared.writer.Writer.{Writer}
+use Rattle.values.specs.Shape.{Columns}
+use Rattle.values.specs.declared.row.Row.{Row}
+use Rattle.values.specs.declared.value.ColumnType.{ColumnType}
+use Rattle.values.specs.declared.value.ColumnType.TheVariants as column
+use Rattle.values.specs.declared.value.Value.{Value}
+use Rattle.values.specs.declared.value.Value.TheVariants.{Int, Text, Bool as Truth}
+use Rattle.model.specs.Table.{rows_of}
+use Rattle.pdtcli.specs.Managed.{newest_table}
+use Rattle.pdtcli.specs.Outcome.{Left}
+use Rattle.pdtcli.specs.Reading.{Fields}
+use Rattle.pdtcli.specs.Replies.{line_fields}
+use Rattle.pdtcli.specs.declared.reply.Reply.{Reply}
+use Rattle.pdtcli.specs.declared.reply.Reply.TheVariants as reply
+use Rattle.pdtcli.specs.declared.reply.ReplyLine.{ReplyLine}
+
+-- ---- the records of an image
+
+-- a cell's field
+abbrev pub cell_text : Value → List ℕ
+cell_text (Int number) = signed_decimal number
+cell_text (Text bytes) = bytes
+cell_text (Truth true) = codes "true"
+cell_text (Truth false) = codes "false"
+
+-- a row's record
+abbrev pub row_fields : Row → Fields
+row_fields row = map cell_text row
+
+-- what stands after a column's name: its type, and whether it is one of the key
+abbrev pub kind_text : ColumnType → Bool → List ℕ
+kind_text column.Int false = codes ":int"
+kind_text column.Text false = codes ":text"
+kind_text column.Bool false = codes ":bool"
+kind_text column.Int true = codes ":int:key"
+kind_text column.Text true = codes ":text:key"
+kind_text column.Bool true = codes ":bool:key"
+
+-- the header cells of the columns from column `at` on, the first `key_cols` of all being the key
+abbrev pub header_cells : ℕ → ℕ → List (List ℕ) → List ColumnType → Fields
+header_cells key_cols at [] types = []
+header_cells key_cols at (name ∷ names) [] = []
+header_cells key_cols at (name ∷ names) (type ∷ types) =
+    (name ++ kind_text type (nat_lt at key_cols)) ∷ header_cells key_cols (suc at) names types
+
+-- a schema's record
+abbrev pub header_fields : Columns → Fields
+header_fields schema = header_cells schema.key_cols 0 schema.names schema.types
+
+-- ---- the text
+
+-- the text that the crate `csv` writes of a record, ended by a line feed
+abbrev pub record_text : Fields → List ℕ
+record_text fields = row_text (with_flexible default_writer true) fields
+
+abbrev pub records_text : List Fields → List ℕ
+records_text [] = []
+records_text (fields ∷ records) = record_text fields ++ records_text records
+
+-- what the writer was given and has written is this text, and it stands at a record's start
+pub record IsWritten (writer : Writer (Vec ℕ Global)) (text : List ℕ) : Type 0 where
+  pub setup : writer_setup writer ≡ with_flexible default_writer true
+  pub fresh : fields_written writer ≡ 0
+  pub clean : has_written writer ≡ false
+  pub written : text_written (λ v. Some v.items) writer ≡ Some text
+
+-- a run's reply lines
+abbrev pub lines_text : List (List ℕ) → List ReplyLine → List ℕ
+lines_text clients lines = records_text (map (line_fields clients) lines)
+
+abbrev pub rows_text : List Row → List ℕ
+rows_text rows = records_text (map row_fields rows)
+
+-- the header and the rows
+abbrev pub image_text : Columns → List Row → List ℕ
+image_text schema rows = records_text (header_fields schema ∷ map row_fields rows)
+
+-- the reply lines, a line feed, and the newest image
+abbrev pub shown : Left → List ℕ
+shown left =
+    lines_text left.clients left.lines ++ (10 ∷ [] ++ image_text left.manager.schema (rows_of (newest_table left.manager)))
+
+-- ---- the exit status
+
+abbrev pub is_no_memory : ReplyLine → Bool
+is_no_memory line = found line.reply
+  where
+    found : Reply → Bool
+    found reply.NoMemory = true
+    found other = false
+
+-- 1 where some reply is NoMemory
+abbrev pub exit_status : List ReplyLine → ℕ
+exit_status lines = cond (list_any is_no_memory lines) 1 0

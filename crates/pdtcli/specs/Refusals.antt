@@ -1,0 +1,43 @@
+-- The lines that the program writes of a refusal.
+use Rattle.std.specs.Prelude.{ℕ, List, Bool, true, false, ◌++◌, Option, Some, None, codes}
+use Rattle.pdtcli.specs.declared.output.ShowFault.{ShowFault}
+use Rattle.pdtcli.specs.declared.output.ShowFault.TheVariants as show_fault
+use Rattle.pdtcli.specs.declared.refusal.Refusal.{Refusal}
+use Rattle.pdtcli.specs.declared.refusal.Refusal.TheVariants as refusal
+
+abbrev pub show_fault_text : ShowFault → List ℕ
+show_fault_text show_fault.Write = codes "Write"
+show_fault_text show_fault.NoMemory = codes "NoMemory"
+
+-- the part that was refused
+abbrev pub part_text : Refusal → List ℕ
+part_text refusal.UnreadableTable = codes "table"
+part_text (refusal.Table fault) = codes "table"
+part_text refusal.UnreadableScript = codes "script"
+part_text (refusal.Script fault) = codes "script"
+part_text (refusal.Open fault) = codes "open"
+part_text (refusal.Run fault) = codes "run"
+part_text (refusal.Output fault) = codes "output"
+
+-- the fault's text, where it is known: a text that is derived from the fault's type is not
+abbrev pub fault_text : Refusal → Option (List ℕ)
+fault_text refusal.UnreadableTable = Some (codes "Unreadable")
+fault_text (refusal.Table fault) = None
+fault_text refusal.UnreadableScript = Some (codes "Unreadable")
+fault_text (refusal.Script fault) = None
+fault_text (refusal.Open fault) = None
+fault_text (refusal.Run fault) = Some (codes "NoMemory")
+fault_text (refusal.Output fault) = Some (show_fault_text fault)
+
+abbrev pub line_of : List ℕ → Option (List ℕ) → Option (List ℕ)
+line_of part None = None
+line_of part (Some fault) = Some (codes "pdt: " ++ (part ++ (codes ": " ++ fault)))
+
+-- `pdt: `, the part, `: ` and the fault
+abbrev pub refusal_text : Refusal → Option (List ℕ)
+refusal_text refusal = line_of (part_text refusal) (fault_text refusal)
+
+-- whether the output was refused, before which some of it may have gone out
+abbrev pub is_output : Refusal → Bool
+is_output (refusal.Output fault) = true
+is_output other = false

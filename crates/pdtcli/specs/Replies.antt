@@ -1,0 +1,54 @@
+-- The fields of reply lines: the client, the verb, the reply's word and its number where it has one.
+use Rattle.std.specs.Prelude.{ℕ, List, [], ◌∷◌, slice_get, unwrap_or, codes, decimal}
+use Rattle.model.specs.declared.write.WriteReply.{WriteReply}
+use Rattle.model.specs.declared.write.WriteReply.TheVariants as write_reply
+use Rattle.model.specs.declared.write.CommitReply.{CommitReply}
+use Rattle.model.specs.declared.write.CommitReply.TheVariants as commit_reply
+use Rattle.pdtcli.specs.Reading.{Fields}
+use Rattle.pdtcli.specs.declared.reply.Reply.{Reply}
+use Rattle.pdtcli.specs.declared.reply.Reply.TheVariants as reply
+use Rattle.pdtcli.specs.declared.reply.ReplyLine.{ReplyLine}
+use Rattle.pdtcli.specs.declared.verb.Verb.{Verb}
+use Rattle.pdtcli.specs.declared.verb.Verb.TheVariants as verb
+
+-- the name of the client of this number
+abbrev pub client_name : List (List ℕ) → ℕ → List ℕ
+client_name clients client = unwrap_or (slice_get clients client) []
+
+-- the word by which a script asks for a verb
+abbrev pub verb_word : Verb → List ℕ
+verb_word verb.Begin = codes "begin"
+verb_word verb.Insert = codes "insert"
+verb_word verb.Delete = codes "delete"
+verb_word verb.Set = codes "set"
+verb_word verb.Commit = codes "commit"
+verb_word verb.Abort = codes "abort"
+
+abbrev pub write_fields : WriteReply → Fields
+write_fields write_reply.Done = codes "Done" ∷ []
+write_fields write_reply.Duplicate = codes "Duplicate" ∷ []
+write_fields write_reply.Full = codes "Full" ∷ []
+write_fields write_reply.Missing = codes "Missing" ∷ []
+
+-- with the number of commits held afterwards
+abbrev pub commit_fields : CommitReply → Fields
+commit_fields (commit_reply.Committed held) = codes "Committed" ∷ decimal held ∷ []
+commit_fields (commit_reply.Conflict held) = codes "Conflict" ∷ decimal held ∷ []
+commit_fields (commit_reply.TooOld held) = codes "TooOld" ∷ decimal held ∷ []
+commit_fields (commit_reply.Full held) = codes "Full" ∷ decimal held ∷ []
+
+-- a reply's word, and its number where it has one
+abbrev pub reply_fields : Reply → Fields
+reply_fields reply.Begun = codes "Begun" ∷ []
+reply_fields reply.AlreadyOpen = codes "AlreadyOpen" ∷ []
+reply_fields reply.NotOpen = codes "NotOpen" ∷ []
+reply_fields (reply.Wrote answer) = write_fields answer
+reply_fields reply.KeyColumn = codes "KeyColumn" ∷ []
+reply_fields (reply.TextTooLong at) = codes "TextTooLong" ∷ decimal at ∷ []
+reply_fields (reply.Decided answer) = commit_fields answer
+reply_fields reply.Aborted = codes "Aborted" ∷ []
+reply_fields reply.NoMemory = codes "NoMemory" ∷ []
+
+-- the fields of a reply line, where the clients have these names
+abbrev pub line_fields : List (List ℕ) → ReplyLine → Fields
+line_fields clients line = client_name clients line.client ∷ verb_word line.verb ∷ reply_fields line.reply

@@ -1,0 +1,79 @@
+//! The records of an image: the header, whose cells name the columns as a table's header does, and the rows.
+ghost use Rattle.std.specs.Prelude.{◌≡◌, ◌<◌, ◌++◌, ◌∷◌, [], OnOk, IfOk, length};
+ghost use Rattle.csv.specs.Records.{fields_of, partial_of};
+ghost use Rattle.pdtcli.specs.Output.{cell_text, header_fields, kind_text, row_fields};
+
+use csv::ByteRecord;
+use itoa::Buffer;
+use std::alloc::Global;
+use values::{ColumnType, NoMemory, Row, Schema, Value};
+
+/// Adds a header cell for each column.
+pub(crate) fn push_header(
+    alloc: Global,
+    fields: &mut ByteRecord,
+    schema: &Schema,
+) -> Result<(), NoMemory>
+    requires whole { partial_of fields.old ≡ [] }
+    ensures fields { OnOk result (fields_of fields.new ≡ fields_of fields.old ++ header_fields schema.now) }
+    ensures whole { OnOk result (partial_of fields.new ≡ []) }
+{
+    for col in 0..schema.width() {
+        let kind = kind_of(schema.column_type(col), col < schema.key_cols());
+        let cell = header_cell(alloc, schema.name(col), kind)?;
+        fields.push_field(cell.as_slice())?;
+    }
+    Ok(())
+}
+
+/// A column's name and what stands after it.
+fn header_cell(alloc: Global, name: &str, kind: &str) -> Result<Vec<u8>, NoMemory>
+    ensures { IfOk result (λ cell. cell.items ≡ name.now ++ kind.now) }
+{
+    let mut cell = Vec::from_slice(alloc, name.as_bytes())?;
+    cell.extend_from_slice(kind.as_bytes())?;
+    Ok(cell)
+}
+
+/// What stands after a column's name: its type, and whether it is one of the key.
+fn kind_of(column: ColumnType, is_key: bool) -> &'static str
+    ensures { result.now ≡ kind_text column is_key }
+{
+    match (column, is_key) {
+        (ColumnType::Int, false) => ":int",
+        (ColumnType::Text, false) => ":text",
+        (ColumnType::Bool, false) => ":bool",
+        (ColumnType::Int, true) => ":int:key",
+        (ColumnType::Text, true) => ":text:key",
+        (ColumnType::Bool, true) => ":bool:key",
+    }
+}
+
+/// Adds a field for each cell of a row.
+pub(crate) fn push_row(fields: &mut ByteRecord, row: &Row) -> Result<(), NoMemory>
+    requires whole { partial_of fields.old ≡ [] }
+    ensures fields { OnOk result (fields_of fields.new ≡ fields_of fields.old ++ row_fields row.now) }
+    ensures whole { OnOk result (partial_of fields.new ≡ []) }
+{
+    for cell in row.cells() {
+        push_cell(fields, cell)?;
+    }
+    Ok(())
+}
+
+/// Adds a cell: a number in decimal, a text as it is, a truth by its name.
+fn push_cell(fields: &mut ByteRecord, cell: &Value) -> Result<(), NoMemory>
+    requires whole { partial_of fields.old ≡ [] }
+    ensures fields { OnOk result (fields_of fields.new ≡ fields_of fields.old ++ cell_text cell.now ∷ []) }
+    ensures whole { OnOk result (partial_of fields.new ≡ []) }
+{
+    let mut digits = Buffer::new();
+    let text = match cell {
+        Value::Int(number) => digits.format(*number),
+        Value::Text(text) => text.as_str(),
+        Value::Bool(true) => "true",
+        Value::Bool(false) => "false",
+    };
+    fields.push_field(text.as_bytes())?;
+    Ok(())
+}

@@ -1,0 +1,215 @@
+//! The output of a run: its reply lines, an empty line, and the newest image with its header.
+//!
+//! Text is made of a few hundred records and handed on before more is made, so that the memory that it takes does not
+//! grow with the table.
+ghost use Rattle.std.specs.Prelude.{◌≡◌, ◌++◌, ◌∷◌, [], ℕ, List, Some, OnOk, IfOk};
+ghost use Rattle.std.specs.Io.KnownBytes.{Appends};
+ghost use Rattle.csv.specs.Records.{fields_of};
+ghost use Rattle.pdtcli.specs.Output.{IsWritten, exit_status, image_text, is_no_memory, lines_text, record_text, rows_text, shown};
+ghost use Rattle.pdtcli.specs.Refusals.{show_fault_text};
+ghost use Rattle.pdtcli.specs.declared.output.ShowFault.TheVariants as show_fault;
+
+use crate::image::{push_header, push_row};
+use crate::outcome::Outcome;
+use crate::reply::{Reply, ReplyLine, push_line};
+use csv::{ByteRecord, Writer, WriterBuilder};
+use std::alloc::Global;
+use std::error::Error;
+use std::fmt;
+use std::io::Write;
+use values::{NoMemory, Row, Schema, Text};
+
+/// How many records are made text before it is handed on.
+const RECORDS_AT_ONCE: usize = 256;
+
+/// Why an output isn't whole. What went out before it is not said.
+#[derive(Clone, Copy, Debug, PartialEq, Eq)]
+pub enum ShowFault {
+    /// The writer refused some bytes.
+    Write,
+    /// A growth was refused.
+    NoMemory,
+}
+
+// By hand, since the line of a refused output is promised.
+impl fmt::Display for ShowFault {
+    ghost output = { λ fault. Some (show_fault_text fault) };
+
+    fn fmt<W: fmt::Write>(&self, f: &mut fmt::Formatter<W>) -> fmt::Result {
+        match self {
+            ShowFault::Write => f.write_str("Write"),
+            ShowFault::NoMemory => f.write_str("NoMemory"),
+        }
+    }
+}
+
+impl Error for ShowFault {}
+
+impl From<NoMemory> for ShowFault {
+    ghost from_gives = { λ _ fault. fault ≡ show_fault.NoMemory };
+
+    fn from(_: NoMemory) -> ShowFault {
+        ShowFault::NoMemory
+    }
+}
+
+/// Writes the reply lines in order, an empty line, and the newest image with its header, all as the crate `csv` writes
+/// records, with quotes where a field needs them. Answers the program's exit status: 1 where some reply is NoMemory,
+/// and 0 otherwise.
+///
+/// # Errors
+///
+/// `Write` where the writer refuses, `NoMemory` where a growth is refused; some of the output may have gone out.
+pub fn show<W: Write>(alloc: Global, outcome: &Outcome, out: &mut W) -> Result<u8, ShowFault>
+    ensures bytes { OnOk result (Appends (W.contents out.old) (W.contents out.new) (shown outcome.now)) }
+    ensures status { IfOk result (λ status. status ≡ exit_status outcome.now.lines) }
+{
+    let newest = outcome.manager().newest();
+    show_lines(alloc, outcome.clients(), outcome.lines(), out)?;
+    show_header(alloc, newest.schema(), out)?;
+    show_rows(alloc, newest.rows(), out)?;
+    Ok(status_of(outcome.lines()))
+}
+
+/// The exit status of a run that was answered so.
+fn status_of(lines: &[ReplyLine]) -> u8
+    ensures { result ≡ exit_status lines.now }
+{
+    for line in lines {
+        if is_refused(line) {
+            return 1;
+        }
+    }
+    0
+}
+
+/// Whether a call was refused for want of memory.
+fn is_refused(line: &ReplyLine) -> bool
+    ensures { result ≡ is_no_memory line.now }
+{
+    matches!(line.reply, Reply::NoMemory)
+}
+
+/// Writes the reply lines.
+fn show_lines<W: Write>(
+    alloc: Global,
+    clients: &[Text],
+    lines: &[ReplyLine],
+    out: &mut W,
+) -> Result<(), ShowFault>
+    ensures { OnOk result (Appends (W.contents out.old) (W.contents out.new) (lines_text clients.now lines.now)) }
+{
+    let mut fields = ByteRecord::new(alloc);
+    let mut text = Vec::new(alloc);
+    for chunk in lines.chunks(RECORDS_AT_ONCE) {
+        text = lines_after(&mut fields, clients, chunk, text)?;
+        send(&mut text, out)?;
+    }
+    Ok(())
+}
+
+/// Writes the empty line and the header.
+fn show_header<W: Write>(alloc: Global, schema: &Schema, out: &mut W) -> Result<(), ShowFault>
+    ensures { OnOk result (Appends (W.contents out.old) (W.contents out.new) (10 ∷ [] ++ image_text schema.now [])) }
+{
+    let mut text = header_text(alloc, schema)?;
+    send(&mut text, out)
+}
+
+/// Writes the rows.
+fn show_rows<W: Write>(alloc: Global, rows: &[Row], out: &mut W) -> Result<(), ShowFault>
+    ensures { OnOk result (Appends (W.contents out.old) (W.contents out.new) (rows_text rows.now)) }
+{
+    let mut fields = ByteRecord::new(alloc);
+    let mut text = Vec::new(alloc);
+    for chunk in rows.chunks(RECORDS_AT_ONCE) {
+        text = rows_after(&mut fields, chunk, text)?;
+        send(&mut text, out)?;
+    }
+    Ok(())
+}
+
+/// The text, and after it the reply lines. The record is used again for each line.
+fn lines_after(
+    fields: &mut ByteRecord,
+    clients: &[Text],
+    lines: &[ReplyLine],
+    text: Vec<u8>,
+) -> Result<Vec<u8>, NoMemory>
+    ensures { IfOk result (λ longer. longer.items ≡ text.items ++ lines_text clients.now lines.now) }
+{
+    let mut writer = records_after(text);
+    for line in lines {
+        fields.clear();
+        push_line(fields, clients, line)?;
+        put(&mut writer, fields)?;
+    }
+    text_of(writer)
+}
+
+/// The empty line and the header.
+fn header_text(alloc: Global, schema: &Schema) -> Result<Vec<u8>, NoMemory>
+    ensures { IfOk result (λ text. text.items ≡ 10 ∷ [] ++ image_text schema.now []) }
+{
+    let mut fields = ByteRecord::new(alloc);
+    push_header(alloc, &mut fields, schema)?;
+    let mut writer = records_after(Vec::from_slice(alloc, b"\n")?);
+    put(&mut writer, &fields)?;
+    text_of(writer)
+}
+
+/// The text, and after it the rows. The record is used again for each row.
+fn rows_after(fields: &mut ByteRecord, rows: &[Row], text: Vec<u8>) -> Result<Vec<u8>, NoMemory>
+    ensures { IfOk result (λ longer. longer.items ≡ text.items ++ rows_text rows.now) }
+{
+    let mut writer = records_after(text);
+    for row in rows {
+        fields.clear();
+        push_row(fields, row)?;
+        put(&mut writer, fields)?;
+    }
+    text_of(writer)
+}
+
+/// A writer of records of any length after the text.
+fn records_after(text: Vec<u8>) -> Writer<Vec<u8>>
+    ensures { IsWritten result text.items }
+{
+    WriterBuilder::new().flexible(true).from_writer(text)
+}
+
+/// Writes a record.
+fn put(writer: &mut Writer<Vec<u8>>, fields: &ByteRecord) -> Result<(), NoMemory>
+    ensures { OnOk result ((text : List ℕ) → IsWritten writer.old text → IsWritten writer.new (text ++ record_text (fields_of fields.now))) }
+{
+    match writer.write_byte_record(fields) {
+        Ok(()) => Ok(()),
+        Err(_) => Err(NoMemory),
+    }
+}
+
+/// What was written.
+fn text_of(writer: Writer<Vec<u8>>) -> Result<Vec<u8>, NoMemory>
+    ensures { IfOk result (λ text. (written : List ℕ) → IsWritten writer written → text.items ≡ written) }
+{
+    match writer.into_inner() {
+        Ok(text) => Ok(text),
+        Err(_) => Err(NoMemory),
+    }
+}
+
+/// Hands the text on, and leaves the vector empty.
+fn send<W: Write>(text: &mut Vec<u8>, out: &mut W) -> Result<(), ShowFault>
+    ensures bytes { OnOk result (Appends (W.contents out.old) (W.contents out.new) text.old.items) }
+    ensures empty { text.new.items ≡ [] }
+{
+    let sent = out.write_all(text.as_slice());
+    text.clear();
+    match sent {
+        Ok(()) => Ok(()),
+        Err(_) => Err(ShowFault::Write),
+    }
+}
+
+#[cfg(test)]
+mod tests;
