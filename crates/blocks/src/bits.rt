@@ -14,7 +14,7 @@ pub struct Bits {
     /// As many as the truths need.
     pub(crate) bytes: Vec<u8>,
     /// How many truths there are.
-    pub(crate) len: usize,
+    pub(crate) count: usize,
 }
 
 impl Model for Bits {
@@ -23,9 +23,9 @@ impl Model for Bits {
 
     ghost Value = { List Bool };
 
-    ghost view = { λ b. take b.len (all_bits b.bytes.items) };
+    ghost view = { λ b. take b.count (all_bits b.bytes.items) };
 
-    ghost invariant = { λ b. IsPacked b.len b.bytes.items };
+    ghost invariant = { λ b. IsPacked b.count b.bytes.items };
 }
 
 impl Bits {
@@ -33,7 +33,7 @@ impl Bits {
     pub fn len(&self) -> usize
         ensures { result ≡ length self.now }
     {
-        self.len
+        self.count
     }
 
     /// The truth number `i`.
@@ -56,7 +56,7 @@ impl Bits {
         let bytes = pack(alloc, values)?;
         Ok(Bits {
             bytes,
-            len: values.len(),
+            count: values.len(),
         })
     }
 
@@ -65,12 +65,12 @@ impl Bits {
     /// # Errors
     ///
     /// `NoMemory` where the growth is refused.
-    pub(crate) fn of_payload(alloc: Global, len: usize, bytes: &[u8]) -> Result<Bits, NoMemory>
-        requires { IsPacked len bytes.now }
-        ensures { IfOk result (λ bits. bits ≡ take len (all_bits bytes.now)) }
+    pub(crate) fn of_payload(alloc: Global, count: usize, bytes: &[u8]) -> Result<Bits, NoMemory>
+        requires { IsPacked count bytes.now }
+        ensures { IfOk result (λ bits. bits ≡ take count (all_bits bytes.now)) }
     {
         let bytes = Vec::from_slice(alloc, bytes)?;
-        Ok(Bits { bytes, len })
+        Ok(Bits { bytes, count })
     }
 
     /// Their payload, lent.
@@ -88,10 +88,11 @@ impl Bits {
     pub(crate) fn copy(&self) -> Result<Bits, NoMemory>
         ensures { IfOk result (λ copied. copied ≡ self.now) }
     {
-        let bytes = self.bytes.clone()?;
+        let Bits { bytes, count } = self;
+        let bytes = bytes.clone()?;
         Ok(Bits {
             bytes,
-            len: self.len,
+            count: *count,
         })
     }
 }

@@ -2,7 +2,7 @@
 //!
 //! That a refused growth is answered, and leaves the bytes that were written before, shows under
 //! `rt try --test --fail-alloc N`, for N from 1 on: each test ends well, or with the error of the growth.
-ghost use Rattle.std.specs.Prelude.{◌≡◌, ◌×◌, ◌≤◌, IfOk, IsTrue, IsFalse, length};
+ghost use Rattle.std.specs.Prelude.{◌≡◌, ◌≤◌, true, false, IfOk, IsTrue, IsFalse, length};
 ghost use Rattle.std.specs.List.{list_all, list_any};
 ghost use Rattle.values.specs.Shape.{has_type, is_too_long};
 ghost use Rattle.values.specs.declared.limits.TheConstants.{MAX_BLOCK_VALUES};
@@ -10,7 +10,7 @@ ghost use Rattle.values.specs.declared.limits.TheConstants.{MAX_BLOCK_VALUES};
 use super::*;
 use std::alloc::Global;
 use std::test::Fail;
-use values::limits::{MAX_BLOCK_VALUES, MAX_TEXT_BYTES};
+use values::limits::MAX_BLOCK_VALUES;
 use values::{ColumnType, NoMemory, Text, Value, ValueRef};
 
 /// Writes the value.
@@ -180,7 +180,8 @@ fn letters(alloc: Global, high: u8, low: u8, count: usize) -> Result<Vec<u8>, No
 fn the_longest_text_is_read_and_a_longer_one_refused(rt: HostRuntime) -> Result<(), Fail> {
     let longest = letters(rt.alloc(), 0x10, 0x00, 4_096)?;
     let text = shown(rt.alloc(), ColumnType::Text, 1, &longest)?;
-    assert_eq!(rt; text.as_bytes(), &longest[2..], "longest text");
+    assert_eq!(rt; text.len(), 4_096, "longest text");
+    assert!(rt; text.as_bytes().iter().all(|byte| *byte == 0x61));
     let longer = letters(rt.alloc(), 0x10, 0x01, 4_097)?;
     let fault = shown(rt.alloc(), ColumnType::Text, 1, &longer)?;
     assert_eq!(rt; fault.as_str(), "TextTooLong 0", "text too long");
@@ -210,7 +211,8 @@ fn samples(alloc: Global, ty: ColumnType, count: usize) -> Result<Vec<Value>, No
 {
     let mut values = Vec::new(alloc);
     for i in 0..count {
-        values.push(sample(alloc, ty, i)?)?;
+        let value = sample(alloc, ty, i)?;
+        values.push(value)?;
     }
     Ok(values)
 }
@@ -233,6 +235,67 @@ fn blocks_are_written_and_read_again(rt: HostRuntime) -> Result<(), Fail> {
                 assert!(rt; i < read.len());
                 assert!(rt; read.get(i) == value.as_ref());
             }
+        }
+    }
+    Ok(())
+}
+
+/// What the run lends: the values with a comma between two.
+fn run_shown(alloc: Global, run: Run<'_>) -> Result<String, Fail> {
+    let mut text = String::new(alloc);
+    match run {
+        Run::Ints(ints) => {
+            for number in ints {
+                write!(text, "{number},")?;
+            }
+        }
+        Run::Texts(texts) => {
+            for i in 0..texts.len() {
+                write!(text, "{},", texts.get(i))?;
+            }
+        }
+        Run::Truths(truths) => {
+            for i in 0..truths.len() {
+                write!(text, "{},", truths.get(i))?;
+            }
+        }
+    }
+    Ok(text)
+}
+
+#[test]
+fn a_block_and_its_copy_lend_their_values(rt: HostRuntime) -> Result<(), Fail> {
+    let numbers = "-9223372036854775808,9223372036854775807,-9223372036854775808,";
+    for (ty, lent) in [
+        (ColumnType::Int, numbers),
+        (ColumnType::Text, "Ann,é€𝄞,Ann,"),
+        (ColumnType::Bool, "true,false,false,"),
+    ] {
+        let values = samples(rt.alloc(), ty, 3)?;
+        let block = Block::from_values(rt.alloc(), ty, &values)?;
+        let copied = block.copy()?;
+        assert_eq!(rt; run_shown(rt.alloc(), block.run())?.as_str(), lent);
+        assert_eq!(rt; run_shown(rt.alloc(), copied.run())?.as_str(), lent);
+    }
+    Ok(())
+}
+
+#[test]
+fn a_refused_growth_leaves_the_bytes(rt: HostRuntime) -> Result<(), Fail> {
+    for (ty, written) in [
+        (
+            ColumnType::Int,
+            [1, 2, 0x80, 0, 0, 0, 0, 0, 0, 0].as_slice(),
+        ),
+        (ColumnType::Text, [1, 2, 0, 3, 0x41, 0x6e, 0x6e].as_slice()),
+        (ColumnType::Bool, [1, 2, 0x80].as_slice()),
+    ] {
+        let values = samples(rt.alloc(), ty, 1)?;
+        let block = Block::from_values(rt.alloc(), ty, &values)?;
+        let mut bytes = Vec::from_slice(rt.alloc(), &[1, 2])?;
+        match write_block(&block, &mut bytes) {
+            Ok(()) => assert_eq!(rt; bytes.as_slice(), written),
+            Err(NoMemory) => assert_eq!(rt; bytes.as_slice(), [1, 2].as_slice()),
         }
     }
     Ok(())
