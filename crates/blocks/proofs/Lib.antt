@@ -1,0 +1,7 @@
+mod BitsLemmas
+mod CutsLemmas
+mod FitLemmas
+mod IntsLemmas
+mod LawsLemmas
+mod ReadLemmas
+mod TextsLemmas

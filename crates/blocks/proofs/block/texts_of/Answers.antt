@@ -1,0 +1,11 @@
+use Rattle.std.proofs.Common.{subst, ◌∙◌}
+use Rattle.values.specs.declared.value.ColumnType.TheVariants as column
+use Rattle.std.proofs.lemmas.List.{take_all}
+use Rattle.blocks.specs.Column.{AllFit}
+use Rattle.blocks.proofs.FitLemmas.{texts_fit}
+use Rattle.blocks.proofs.block.texts_of.Goals as goal
+
+pub returns-clause-fit : goal.returns-clause-fit
+returns-clause-fit c =
+    let whole = take_all c.loop-value.value-index c.args.values.now c.loop-value-test.false in
+    subst (AllFit column.Text) (c.loop-value.invariant.same ∙ whole) (texts_fit c.loop-value.texts c.loop-value.invariant.fit)

@@ -1,0 +1,152 @@
+//! Truth values, eight a byte.
+ghost use Rattle.std.specs.Prelude.{◌≡◌, ◌<◌, ◌≤◌, ◌*◌, length, map, take, Some, slice_get, IfOk, IsTrue};
+ghost use Rattle.values.specs.declared.limits.TheConstants.{MAX_BLOCK_VALUES};
+ghost use Rattle.blocks.specs.Payload.{all_bits, is_true, IsPacked, bit_of, byte_of, byte_count, packed, has_set_padding};
+
+use std::alloc::Global;
+use std::marker::Model;
+use values::{NoMemory, Value};
+
+/// Up to 1,024 truth values, which contracts see as their list. They lie as their payload has them: the first is the
+/// highest bit of the first byte, and the bits after the last are 0.
+#[derive(Drop)]
+pub struct Bits {
+    /// As many as the truths need.
+    pub(crate) bytes: Vec<u8>,
+    /// How many truths there are.
+    pub(crate) count: usize,
+}
+
+impl Model for Bits {
+    ghost use Rattle.std.specs.Prelude.{List, Bool, take};
+    ghost use Rattle.blocks.specs.Payload.{all_bits, IsPacked};
+
+    ghost Value = { List Bool };
+
+    ghost view = { λ b. take b.count (all_bits b.bytes.items) };
+
+    ghost invariant = { λ b. IsPacked b.count b.bytes.items };
+}
+
+impl Bits {
+    /// How many truths there are.
+    pub fn len(&self) -> usize
+        ensures { result ≡ length self.now }
+    {
+        self.count
+    }
+
+    /// The truth number `i`.
+    pub fn get(&self, i: usize) -> bool
+        requires { i < length self.now }
+        ensures { slice_get self.now i ≡ Some result }
+    {
+        (self.bytes[i / 8] >> (7 - i % 8)) & 1 == 1
+    }
+
+    /// The truths among the values; what is none counts as false.
+    ///
+    /// # Errors
+    ///
+    /// `NoMemory` where the growth is refused.
+    pub(crate) fn from_values(alloc: Global, values: &[Value]) -> Result<Bits, NoMemory>
+        requires { length values.now ≤ MAX_BLOCK_VALUES }
+        ensures { IfOk result (λ bits. bits ≡ map is_true values.now) }
+    {
+        let bytes = pack(alloc, values)?;
+        Ok(Bits {
+            bytes,
+            count: values.len(),
+        })
+    }
+
+    /// The truths whose payload the bytes are.
+    ///
+    /// # Errors
+    ///
+    /// `NoMemory` where the growth is refused.
+    pub(crate) fn of_payload(alloc: Global, count: usize, bytes: &[u8]) -> Result<Bits, NoMemory>
+        requires { IsPacked count bytes.now }
+        ensures { IfOk result (λ bits. bits ≡ take count (all_bits bytes.now)) }
+    {
+        let bytes = Vec::from_slice(alloc, bytes)?;
+        Ok(Bits { bytes, count })
+    }
+
+    /// Their payload, lent.
+    pub(crate) fn as_bytes(&self) -> &[u8]
+        ensures { result.now ≡ packed (byte_count (length self.now)) self.now }
+    {
+        self.bytes.as_slice()
+    }
+
+    /// The same truths, in memory of their own.
+    ///
+    /// # Errors
+    ///
+    /// `NoMemory` where the growth is refused.
+    pub(crate) fn copy(&self) -> Result<Bits, NoMemory>
+        ensures { IfOk result (λ copied. copied ≡ self.now) }
+    {
+        let Bits { bytes, count } = self;
+        let bytes = bytes.clone()?;
+        Ok(Bits {
+            bytes,
+            count: *count,
+        })
+    }
+}
+
+/// How many bytes so many truths take.
+pub(crate) fn byte_count(count: usize) -> usize
+    requires { count ≤ MAX_BLOCK_VALUES }
+    ensures { result ≡ byte_count count }
+{
+    count.div_ceil(8)
+}
+
+/// The values' truths as bytes.
+fn pack(alloc: Global, values: &[Value]) -> Result<Vec<u8>, NoMemory>
+    requires { length values.now ≤ MAX_BLOCK_VALUES }
+    ensures { IfOk result (λ bytes. bytes.items ≡ packed (byte_count (length values.now)) (map is_true values.now)) }
+{
+    let count = byte_count(values.len());
+    let mut bytes = Vec::with_capacity(alloc, count)?;
+    for place in 0..count {
+        bytes.push(byte_of(&values[8 * place..]))?;
+    }
+    Ok(bytes)
+}
+
+/// The first eight truths as a byte, the first as its highest bit.
+fn byte_of(values: &[Value]) -> u8
+    ensures { result ≡ byte_of (map is_true values.now) }
+{
+    bit_of(values, 0, 128)
+        + bit_of(values, 1, 64)
+        + bit_of(values, 2, 32)
+        + bit_of(values, 3, 16)
+        + bit_of(values, 4, 8)
+        + bit_of(values, 5, 4)
+        + bit_of(values, 6, 2)
+        + bit_of(values, 7, 1)
+}
+
+/// The weight of a bit where the truth number `i` is true, else 0.
+fn bit_of(values: &[Value], i: usize, weight: u8) -> u8
+    ensures { result ≡ weight * bit_of (map is_true values.now) i }
+{
+    match values.get(i) {
+        Some(Value::Bool(true)) => weight,
+        _ => 0,
+    }
+}
+
+/// Whether a bit after so many truths is 1.
+pub(crate) fn has_set_padding(count: usize, bytes: &[u8]) -> bool
+    requires { length bytes.now ≡ byte_count count }
+    ensures { result ≡ has_set_padding count bytes.now }
+{
+    let used = count % 8;
+    used > 0 && bytes[count / 8] % (1 << (8 - used)) != 0
+}

@@ -1,0 +1,192 @@
+//! One column's values, up to 1,024 of them, kept by type.
+ghost use Rattle.std.specs.Prelude.{◌≡◌, ◌<◌, ◌≤◌, length, map, Some, slice_get, IfOk, OnOk, IsTrue, IsFalse};
+ghost use Rattle.std.specs.List.{list_all, list_any};
+ghost use Rattle.values.specs.Lent.{value_of};
+ghost use Rattle.values.specs.Shape.{has_type, is_too_long};
+ghost use Rattle.values.specs.declared.value.ColumnType.TheVariants as column;
+ghost use Rattle.values.specs.declared.value.Value.TheVariants.{Int, Text};
+ghost use Rattle.values.specs.declared.limits.TheConstants.{MAX_BLOCK_VALUES};
+ghost use Rattle.blocks.specs.Cells.{column_of, column_of_run};
+ghost use Rattle.blocks.specs.Column.{AllFit};
+
+use crate::bits::Bits;
+use crate::texts::Texts;
+use std::alloc::Global;
+use std::marker::Model;
+use values::{ColumnType, NoMemory, Value, ValueRef};
+
+/// The values of a block, each type in the form that suits it.
+#[derive(Drop)]
+pub(crate) enum Cells {
+    Ints(Vec<i64>),
+    Texts(Texts),
+    Truths(Bits),
+}
+
+/// A block's values, lent by type: a scan asks for the type once a block, and for no value's.
+#[derive(Clone, Copy)]
+pub enum Run<'a> {
+    Ints(&'a [i64]),
+    Texts(&'a Texts),
+    Truths(&'a Bits),
+}
+
+/// Up to 1,024 values of one type, no text of them above 4,096 bytes. No value has memory of its own.
+#[derive(Drop)]
+pub struct Block {
+    pub(crate) cells: Cells,
+}
+
+impl Model for Block {
+    ghost use Rattle.blocks.specs.Column.{Column, IsBlock};
+    ghost use Rattle.blocks.specs.Cells.{column_of};
+
+    ghost Value = { Column };
+
+    ghost view = { λ b. column_of b.cells };
+
+    ghost invariant = { λ b. IsBlock (column_of b.cells) };
+}
+
+impl Block {
+    /// The values as a block. They are at most 1,024, all of the type, no text of them above 4,096 bytes.
+    ///
+    /// # Errors
+    ///
+    /// `NoMemory` where a growth is refused.
+    pub fn from_values(alloc: Global, ty: ColumnType, values: &[Value]) -> Result<Block, NoMemory>
+        requires few { length values.now ≤ MAX_BLOCK_VALUES }
+        requires typed { IsTrue (list_all (has_type ty) values.now) }
+        requires short { IsFalse (list_any is_too_long values.now) }
+        ensures { IfOk result (λ block. block ≡ record { ty = ty; values = values.now }) }
+    {
+        let cells = cells_of(alloc, ty, values)?;
+        Ok(Block { cells })
+    }
+
+    /// The type of the values.
+    pub fn column_type(&self) -> ColumnType
+        ensures { result ≡ self.now.ty }
+    {
+        match &self.cells {
+            Cells::Ints(_) => ColumnType::Int,
+            Cells::Texts(_) => ColumnType::Text,
+            Cells::Truths(_) => ColumnType::Bool,
+        }
+    }
+
+    /// How many values there are, at most 1,024.
+    pub fn len(&self) -> usize
+        ensures len { result ≡ length self.now.values }
+        ensures few { result ≤ MAX_BLOCK_VALUES }
+        ensures fit { AllFit self.now.ty self.now.values }
+    {
+        match &self.cells {
+            Cells::Ints(ints) => ints.len(),
+            Cells::Texts(texts) => texts.len(),
+            Cells::Truths(truths) => truths.len(),
+        }
+    }
+
+    /// The value number `i`, lent.
+    pub fn get(&self, i: usize) -> ValueRef<'_>
+        requires { i < length self.now.values }
+        ensures { slice_get self.now.values i ≡ Some (value_of result) }
+    {
+        match &self.cells {
+            Cells::Ints(ints) => ValueRef::Int(ints[i]),
+            Cells::Texts(texts) => ValueRef::Text(texts.get(i)),
+            Cells::Truths(truths) => ValueRef::Bool(truths.get(i)),
+        }
+    }
+
+    /// The values, lent by type. It takes no memory.
+    pub fn run(&self) -> Run<'_>
+        ensures { column_of_run result ≡ self.now }
+    {
+        match &self.cells {
+            Cells::Ints(ints) => Run::Ints(ints.as_slice()),
+            Cells::Texts(texts) => Run::Texts(texts),
+            Cells::Truths(truths) => Run::Truths(truths),
+        }
+    }
+
+    /// The same block, in memory of its own.
+    ///
+    /// # Errors
+    ///
+    /// `NoMemory` where a growth is refused.
+    pub fn copy(&self) -> Result<Block, NoMemory>
+        ensures { IfOk result (λ copied. copied ≡ self.now) }
+    {
+        let cells = match &self.cells {
+            Cells::Ints(ints) => Cells::Ints(ints.clone()?),
+            Cells::Texts(texts) => Cells::Texts(texts.copy()?),
+            Cells::Truths(truths) => Cells::Truths(truths.copy()?),
+        };
+        Ok(Block { cells })
+    }
+}
+
+/// The values, in the form that suits their type.
+fn cells_of(alloc: Global, ty: ColumnType, values: &[Value]) -> Result<Cells, NoMemory>
+    requires few { length values.now ≤ MAX_BLOCK_VALUES }
+    requires typed { IsTrue (list_all (has_type ty) values.now) }
+    requires short { IsFalse (list_any is_too_long values.now) }
+    ensures same { IfOk result (λ cells. column_of cells ≡ record { ty = ty; values = values.now }) }
+    ensures fit { OnOk result (AllFit ty values.now) }
+{
+    match ty {
+        ColumnType::Int => Ok(Cells::Ints(ints_of(alloc, values)?)),
+        ColumnType::Text => Ok(Cells::Texts(texts_of(alloc, values)?)),
+        ColumnType::Bool => Ok(Cells::Truths(Bits::from_values(alloc, values)?)),
+    }
+}
+
+/// The numbers that the values are.
+fn ints_of(alloc: Global, values: &[Value]) -> Result<Vec<i64>, NoMemory>
+    requires { IsTrue (list_all (has_type column.Int) values.now) }
+    ensures same { IfOk result (λ ints. map Int ints.items ≡ values.now) }
+    ensures fit { OnOk result (AllFit column.Int values.now) }
+{
+    let mut ints = Vec::with_capacity(alloc, values.len())?;
+    for value in values {
+        match value {
+            Value::Int(number) => ints.push(*number)?,
+            _ => unreachable!(),
+        }
+    }
+    Ok(ints)
+}
+
+/// The texts that the values are, in one buffer.
+fn texts_of(alloc: Global, values: &[Value]) -> Result<Texts, NoMemory>
+    requires few { length values.now ≤ MAX_BLOCK_VALUES }
+    requires typed { IsTrue (list_all (has_type column.Text) values.now) }
+    requires short { IsFalse (list_any is_too_long values.now) }
+    ensures same { IfOk result (λ texts. map Text texts ≡ values.now) }
+    ensures fit { OnOk result (AllFit column.Text values.now) }
+{
+    let mut texts = Texts::with_room(alloc, values.len(), text_bytes(values))?;
+    for value in values {
+        match value {
+            Value::Text(text) => texts.push(text.as_str())?,
+            _ => unreachable!(),
+        }
+    }
+    Ok(texts)
+}
+
+/// How many bytes the texts among the values have.
+fn text_bytes(values: &[Value]) -> usize
+    requires few { length values.now ≤ MAX_BLOCK_VALUES }
+    requires short { IsFalse (list_any is_too_long values.now) }
+{
+    let mut bytes = 0;
+    for value in values {
+        if let Value::Text(text) = value {
+            bytes += text.as_str().len();
+        }
+    }
+    bytes
+}

@@ -1,0 +1,17 @@
+//! The laws of payloads, each the contract of a function that does nothing. A caller who needs one calls it.
+ghost use Rattle.blocks.specs.Laws.{APayloadIsOfOneList, APayloadReadsBack, WhatReadsIsAPayload};
+
+/// The payload of a column's values reads as just these values.
+pub fn a_payload_reads_back()
+    ensures { APayloadReadsBack }
+{}
+
+/// Bytes that read as values are the payload of these values.
+pub fn what_reads_is_a_payload()
+    ensures { WhatReadsIsAPayload }
+{}
+
+/// Bytes are the payload of one list of so many values at most.
+pub fn a_payload_is_of_one_list()
+    ensures { APayloadIsOfOneList }
+{}

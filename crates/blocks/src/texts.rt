@@ -1,0 +1,109 @@
+//! Texts in one buffer, with the offset at which each ends.
+ghost use Rattle.std.specs.Prelude.{◌≡◌, ◌<◌, ◌≤◌, ◌*◌, ◌++◌, ◌∷◌, [], List, ℕ, length, Some, slice_get, slice_index_or, IfOk, OnOk, OnErr, string_bytes};
+ghost use Rattle.std.specs.List.{AllByRecursion};
+ghost use Rattle.blocks.specs.Cuts.{IsText};
+ghost use Rattle.values.specs.declared.limits.TheConstants.{MAX_TEXT_BYTES, MAX_BLOCK_VALUES};
+
+use std::alloc::Global;
+use std::marker::Model;
+use values::NoMemory;
+
+/// Up to 1,024 texts of at most 4,096 bytes each, which contracts see as the list of their bytes. No text has memory of
+/// its own.
+#[derive(Drop)]
+pub struct Texts {
+    /// The texts, one after the other.
+    pub(crate) text: String,
+    /// Where each text ends in it. A full block has at most 4 MiB, so 32 bits hold each.
+    pub(crate) ends: Vec<u32>,
+}
+
+impl Model for Texts {
+    ghost use Rattle.std.specs.Prelude.{List, ℕ, string_bytes};
+    ghost use Rattle.blocks.specs.Cuts.{cut, IsCut};
+
+    ghost Value = { List (List ℕ) };
+
+    ghost view = { λ t. cut 0 t.ends.items (string_bytes t.text) };
+
+    ghost invariant = { λ t. IsCut t.ends.items (string_bytes t.text) };
+}
+
+impl Texts {
+    /// No texts, with room for `count` of them and `bytes` bytes in all.
+    ///
+    /// # Errors
+    ///
+    /// `NoMemory` where the growth is refused.
+    pub(crate) fn with_room(alloc: Global, count: usize, bytes: usize) -> Result<Texts, NoMemory>
+        ensures { IfOk result (λ texts. texts ≡ []) }
+    {
+        let text = String::with_capacity(alloc, bytes)?;
+        let ends = Vec::with_capacity(alloc, count)?;
+        Ok(Texts { text, ends })
+    }
+
+    /// How many texts there are, at most 1,024.
+    pub fn len(&self) -> usize
+        ensures len { result ≡ length self.now }
+        ensures few { result ≤ MAX_BLOCK_VALUES }
+    {
+        self.ends.len()
+    }
+
+    /// How many bytes the texts have together.
+    pub(crate) fn byte_len(&self) -> usize
+        ensures { result ≤ MAX_TEXT_BYTES * MAX_BLOCK_VALUES }
+    {
+        self.text.len()
+    }
+
+    /// The text number `i`, lent.
+    pub fn get(&self, i: usize) -> &str
+        requires { i < length self.now }
+        ensures text { slice_get self.now i ≡ Some result.now }
+        ensures short { length result.now ≤ MAX_TEXT_BYTES }
+    {
+        let ends = self.ends.as_slice();
+        &self.text.as_str()[begin_of(ends, i)..begin_of(ends, i + 1)]
+    }
+
+    /// Puts a text after the others. With `NoMemory` the texts are as they were.
+    ///
+    /// # Errors
+    ///
+    /// `NoMemory` where a growth is refused.
+    pub(crate) fn push(&mut self, text: &str) -> Result<(), NoMemory>
+        requires few { length self.old < MAX_BLOCK_VALUES }
+        requires short { length text.now ≤ MAX_TEXT_BYTES }
+        ensures ok { OnOk result (self.new ≡ self.old ++ text.now ∷ []) }
+        ensures err { OnErr result (self.new ≡ self.old) }
+        ensures fit { AllByRecursion IsText self.new }
+    {
+        self.ends.reserve(1)?;
+        self.text.push_str(text)?;
+        self.ends.push_reserved(self.text.len() as u32);
+        Ok(())
+    }
+
+    /// The same texts, in memory of their own.
+    ///
+    /// # Errors
+    ///
+    /// `NoMemory` where a growth is refused.
+    pub(crate) fn copy(&self) -> Result<Texts, NoMemory>
+        ensures { IfOk result (λ copied. copied ≡ self.now) }
+    {
+        let text = self.text.clone()?;
+        let ends = self.ends.clone()?;
+        Ok(Texts { text, ends })
+    }
+}
+
+/// Where the text number `i` begins: where the one before it ends. One past the last begins where the last ends.
+fn begin_of(ends: &[u32], i: usize) -> usize
+    requires { i ≤ length ends.now }
+    ensures { result ≡ slice_index_or (0 ∷ ends.now) i 0 }
+{
+    if i == 0 { 0 } else { ends[i - 1] as usize }
+}
