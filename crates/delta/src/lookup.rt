@@ -35,8 +35,9 @@ fn inserted_at<'a>(key_cols: usize, entry: &'a Entry, sid: u64, key: &[Value]) -
 {
     match &entry.change {
         Change::Ins(row)
-            if entry.sid == sid && compare_insert(key_cols, key, &entry.change).is_eq() =>
-            Some(row),
+            if entry.sid == sid && compare_insert(key_cols, key, &entry.change).is_eq() => Some(
+            row,
+        ),
         _ => None,
     }
 }

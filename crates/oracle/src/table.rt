@@ -11,8 +11,6 @@ ghost use Rattle.model.specs.History.{table_with_all};
 
 mod writes;
 
-pub use writes::effects_of_writes;
-
 use crate::effect::{copy_values, fits, row_after};
 use crate::effects::Effects;
 use crate::map::{put, store};
@@ -21,6 +19,7 @@ use std::alloc::Global;
 use std::collections::BTreeMap;
 use std::marker::Model;
 use values::{Key, NoMemory, Row};
+pub use writes::effects_of_writes;
 
 /// A table, seen by contracts as the list of each key with its row, in ascending key.
 #[derive(Drop)]

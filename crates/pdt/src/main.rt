@@ -31,11 +31,13 @@ fn answered<R: Env + Files + AllocGlobal + Print + Eprint>(rt: &R) -> io::Result
         words.push(word.as_str())?;
     }
     match read_words(rt.alloc(), words.as_slice()) {
-        Ok(Settings::Run {
-            table,
-            script,
-            limit,
-        }) => Ok(run(rt, table, script, limit)),
+        Ok(
+            Settings::Run {
+                table,
+                script,
+                limit,
+            },
+        ) => Ok(run(rt, table, script, limit)),
         Err(fault) => {
             rt.eprint(&fault)?;
             Ok(MISUSED)

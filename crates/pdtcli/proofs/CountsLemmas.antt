@@ -41,6 +41,7 @@ length-without key (e ∷ t) h =
   where
     one_more : (b n m : ℕ) → b + n ≡ m → b + suc n ≡ suc m
     one_more b n m p = omega arith
+
     last : (n : ℕ) → 1 + n ≡ suc n
     last n = omega arith
 
@@ -144,6 +145,7 @@ rows_changed t (e ∷ x) ht h fit =
     fewer r is rest =
         let one : 1 + length (without key_cmp e.0 t) ≡ length t = ap (λ (o : Option Row). cond (is_some o) 1 0 + length (without key_cmp e.0 t)) (sym is) ∙ length-without e.0 t ht in
         omega (arith, rest, one)
+
     by : (f : Effect) (old : Option Row) → row_at t e.0 ≡ old → T (fits old f) → sum_of on_row x ≤ length t → sum_of on_row x ≤ length (without key_cmp e.0 t) → on_row f + sum_of on_row x ≤ length t
     by (Ins row) old is fit_here all rest = omega (arith, all)
     by Del None is fit_here all rest = absurd fit_here

@@ -180,9 +180,7 @@ impl Manager {
             return Ok(Prepared::Refused(CommitReply::Full(count)));
         }
         let table = StableTable::from_rows(self.newest.schema().copy()?, rows);
-        Ok(
-            Prepared::Granted(count + 1, effects, Arc::new(self.alloc, table)?),
-        )
+        Ok(Prepared::Granted(count + 1, effects, Arc::new(self.alloc, table)?))
     }
 
     /// The history: each transaction that asked to commit, in the order of the commits.
@@ -224,16 +222,14 @@ fn conflicts_with_any(effects: &Effects, commits: &[Effects]) -> bool
 }
 
 /// The rows of a table after effects, by key.
-fn rows_after(
-    alloc: Global,
-    table: &StableTable,
-    effects: &Effects,
-) -> Result<Vec<Row>, NoMemory>
+fn rows_after(alloc: Global, table: &StableTable, effects: &Effects) -> Result<Vec<Row>, NoMemory>
     ensures { IfOk result (λ rows. rows.items ≡ rows_of (table_with (table_in table.now) effects.now)) }
 {
     let key_cols = table.schema().key_cols();
     let rows = copy_rows(alloc, table.rows())?;
-    OrderedTable::from_rows(alloc, key_cols, rows)?.with(effects)?.rows()
+    OrderedTable::from_rows(alloc, key_cols, rows)?
+        .with(effects)?
+        .rows()
 }
 
 /// The rows, copied.

@@ -3,7 +3,6 @@ ghost use Rattle.std.specs.Prelude.{◌≡◌, IfOk, IsOk, MatchOption, Err, len
 ghost use Rattle.values.specs.Shape.{key_of};
 ghost use Rattle.values.specs.declared.limits.TheConstants.{MAX_ROWS};
 ghost use Rattle.model.specs.Table.{rank, row_at};
-
 ghost use Rattle.pdtcli.specs.Stable.{build_fault, row_fault_at, ascends, holds_key};
 
 use std::marker::Model;
@@ -94,7 +93,10 @@ impl StableTable {
         ensures few { result.0 ≤ MAX_ROWS }
     {
         let key_cols = self.schema.key_cols();
-        let place = self.rows.as_slice().partition_point(|row| key_of(key_cols, row).cmp(key).is_lt());
+        let place = self
+            .rows
+            .as_slice()
+            .partition_point(|row| key_of(key_cols, row).cmp(key).is_lt());
         (place as u64, has_key_at(key_cols, self.rows(), place, key))
     }
 
