@@ -1,32 +1,29 @@
 -- How many rows effects leave, and how many entries they have at most.
-use Rattle.std.proofs.Common.{◌≡◌, ℕ, suc, ◌+◌, ◌-◌, ◌*◌, ◌≤◌, ◌<◌, Bool, true, false, cond, not, ◌&&◌, T, Option, Some, None, is_some, is_none, option_map, List, [], ◌∷◌, ◌++◌, map, length, nat_cmp, Less, Equal, Greater, is_lt, is_eq, refl, sym, ap, ◌∙◌, subst, arith}
+use Rattle.std.proofs.Common.{◌≡◌, ℕ, suc, ◌+◌, ◌-◌, ◌*◌, ◌≤◌, ◌<◌, cond, not, T, Option, Some, None, is_some, is_none, option_map, [], ◌∷◌, map, length, nat_cmp, Less, Equal, Greater, is_lt, is_eq, refl, sym, ap, ◌∙◌, subst, arith}
 use Rattle.std.specs.Prelude.{slice_get}
 use Rattle.std.specs.List.{list_all}
-use Rattle.std.specs.Cmp.{ranked, tied_itself}
-use Rattle.std.specs.Ordering.{eq_by_cmp}
+use Rattle.std.specs.Cmp.{ranked}
 use Rattle.std.specs.FinMap.Entries.{below_all, length-put}
 use Rattle.std.proofs.lemmas.Float.{T_from_true}
 use Rattle.std.proofs.lemmas.Option.{slice_get_within}
 use Rattle.std.proofs.lemmas.List.{length-map, length-append}
 use Rattle.values.specs.Orders.{key_cmp, key_cmp_total}
 use Rattle.values.specs.Shape.{Columns, cell_fits_schema, cell_fault_at, IsSchema}
-use Rattle.values.specs.declared.limits.TheConstants.{MAX_COLUMNS}
 use Rattle.values.specs.declared.value.ColumnType.{ColumnType}
 use Rattle.values.specs.declared.value.Value.{Value}
 use Rattle.values.specs.declared.row.Row.{Row}
 use Rattle.values.specs.declared.row.Key.{Key}
 use Rattle.model.specs.declared.effect.Effect.{Effect}
 use Rattle.model.specs.declared.effect.Effect.TheVariants.{Ins, Del, Mod, Rep}
-use Rattle.model.specs.declared.entry.Entry.{Entry}
 use Rattle.model.specs.declared.entry.Change.TheVariants as change
 use Rattle.model.specs.Maps.{is_sorted, without, store, alter}
 use Rattle.model.specs.Table.{Table, row_at, rank, is_keyed_table}
 use Rattle.model.specs.Effects.{Cells, Effects, set_cells, fits, has_cells, row_after, all_fit, table_with, is_keyed_effect, are_keyed_effects, effect_fits_schema, AreOver}
 use Rattle.model.specs.Entries.{entry_at, entries_of, canonical_entries}
 use Rattle.model.specs.Places.{insert_count, delete_count}
-use Rattle.model.proofs.MapsLemmas.{both, first, second, less, find_below, without_below, below_tied, sorted-alter}
+use Rattle.model.proofs.MapsLemmas.{first, second, less, without_below, below_tied, sorted-alter}
 use Rattle.model.proofs.RankLemmas.{inserts_of, deletes_of, fits_other}
-use Rattle.delta.proofs.CountLemmas.{insert_count-append, delete_count-append, insert_count-cons, delete_count-cons}
+use Rattle.delta.proofs.CountLemmas.{insert_count-append, delete_count-append}
 
 -- ---- what one effect does to the number of rows
 

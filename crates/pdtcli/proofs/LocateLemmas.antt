@@ -1,8 +1,6 @@
 -- A key's place in a table, found by halving.
-use Rattle.std.proofs.Common.{◌≡◌, ℕ, zero, suc, ◌+◌, ◌<◌, ◌≤◌, Bool, true, false, cond, not, T, Option, Some, None, is_some, List, [], ◌∷◌, length, get_or, Ordering, Less, Equal, Greater, is_lt, is_eq, refl, sym, ap, ◌∙◌, subst, arith}
+use Rattle.std.proofs.Common.{◌≡◌, ℕ, zero, suc, ◌<◌, ◌≤◌, Bool, true, false, cond, T, Some, is_some, List, [], ◌∷◌, length, get_or, Ordering, Less, Equal, Greater, is_lt, is_eq, refl, sym, ap, ◌∙◌, subst, arith}
 use Rattle.std.specs.Prelude.{slice_get, filter}
-use Rattle.std.specs.Ordering.{eq_by_cmp}
-use Rattle.std.specs.List.{list_all}
 use Rattle.std.specs.List.Sorted.{IsPartitionedBy, IsPartitionPoint}
 use Rattle.std.specs.FinMap.Entries.{below_all}
 use Rattle.std.proofs.lemmas.Float.{T_from_true}
@@ -10,8 +8,8 @@ use Rattle.values.specs.Orders.{key_cmp, key_cmp_total, key_cmp-IsAntisymmetric}
 use Rattle.values.specs.Shape.{key_of}
 use Rattle.values.specs.declared.row.Row.{Row}
 use Rattle.values.specs.declared.row.Key.{Key}
-use Rattle.model.specs.Maps.{find, is_sorted}
-use Rattle.model.specs.Table.{Table, table_of, row_at, rank}
+use Rattle.model.specs.Maps.{is_sorted}
+use Rattle.model.specs.Table.{table_of, row_at, rank}
 use Rattle.model.proofs.MapsLemmas.{both, first, second, less, find_first, turn_less, turn_greater, find_below, find_past, below_less}
 use Rattle.model.proofs.MergingLemmas.{rank_below}
 use Rattle.pdtcli.specs.Stable.{holds_key}

@@ -1,6 +1,6 @@
 -- What a manager's type keeps, record by record.
-use Rattle.std.proofs.Common.{◌≡◌, ℕ, zero, suc, ◌+◌, ◌-◌, ◌≤◌, Bool, true, false, cond, List, [], ◌∷◌, ◌++◌, map, length, take, drop, refl, sym, ap, ◌∙◌, subst, arith}
-use Rattle.std.specs.Prelude.{nat_lt, IsTrue}
+use Rattle.std.proofs.Common.{◌≡◌, ℕ, zero, suc, ◌-◌, ◌≤◌, Bool, true, false, cond, List, [], ◌∷◌, ◌++◌, length, take, drop, refl, sym, ap, ◌∙◌, subst, arith}
+use Rattle.std.specs.Prelude.{nat_lt}
 use Rattle.std.specs.List.{list_all, list_any}
 use Rattle.std.proofs.lemmas.List.{length-map}
 use Rattle.values.specs.Shape.{Columns}
@@ -12,7 +12,7 @@ use Rattle.model.specs.Effects.{Effects, table_with, AreOver}
 use Rattle.model.specs.Clashes.{conflicts}
 use Rattle.model.specs.Writes.{write_fits_schema, replies_to, effects_after_all}
 use Rattle.model.specs.Laws.{AreCommits}
-use Rattle.model.specs.History.{Record, writes_of, table_with_all, table_after, due_reply, commits_with, commits_after, commits_from, commits_of, effects_of_record, IsLegalRecord, IsLegalFrom, IsLegal}
+use Rattle.model.specs.History.{Record, table_with_all, table_after, due_reply, commits_with, commits_after, commits_from, effects_of_record, IsLegalRecord, IsLegalFrom}
 use Rattle.std.proofs.lemmas.Float.{T_from_true}
 use Rattle.values.specs.declared.limits.TheConstants.{MAX_ROWS}
 use Rattle.model.proofs.TableLemmas.{table_of-rows_of}

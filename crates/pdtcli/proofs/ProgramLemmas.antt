@@ -1,8 +1,7 @@
 -- A table that was read is one that can be built.
-use Rattle.std.proofs.Common.{◌≡◌, ◌∙◌, ◌≤◌, ◌<◌, ◌+◌, ◌==◌, ℕ, zero, suc, T, Bool, true, false, ◌&&◌, List, [], ◌∷◌, length, map, Option, Some, None, Result, Ok, Err, refl, sym, ap, subst, arith, inl, inr, nat_lt, is_lt, is_none, rules}
+use Rattle.std.proofs.Common.{◌≡◌, ◌≤◌, ◌+◌, ℕ, suc, T, Bool, true, false, List, [], ◌∷◌, length, map, Option, Some, None, Result, Ok, Err, refl, sym, subst, arith, inl, inr, nat_lt, is_lt, is_none}
 use Rattle.std.specs.Bool.{⊤}
 use Rattle.std.specs.List.{list_all}
-use Rattle.std.specs.List.Sorted.{IsPermutation}
 use Rattle.std.specs.FinMap.Entries.{below_all}
 use Rattle.std.proofs.lemmas.Bool.{cases_Bool}
 use Rattle.std.proofs.lemmas.Bool.Decides.{nat_tests}
@@ -20,7 +19,7 @@ use Rattle.model.proofs.MapsLemmas.{first, second}
 use Rattle.pdtcli.specs.Header.{schema_of}
 use Rattle.pdtcli.specs.Input.{row_of, rows_of, first_repeat, unless_repeated, keyed, under, table_of, IsTableOf}
 use Rattle.pdtcli.specs.Reading.{Fields}
-use Rattle.pdtcli.specs.Stable.{ascends, row_fault_at, rows_fault, build_fault}
+use Rattle.pdtcli.specs.Stable.{ascends, rows_fault, build_fault}
 use Rattle.pdtcli.specs.declared.fault.TableFault.{TableFault}
 use Rattle.pdtcli.specs.declared.order.Numbered.{Numbered}
 use Rattle.pdtcli.proofs.CellLemmas.{lt_false}

@@ -1,15 +1,12 @@
 -- A run goes on by one call, and each open transaction stays one of the manager.
-use Rattle.std.proofs.Common.{◌≡◌, ℕ, suc, ◌+◌, ◌≤◌, ◌<◌, Option, Some, None, List, [], ◌∷◌, ◌++◌, length, take, get_or, set, refl, sym, ap, ◌∙◌, subst, arith}
-use Rattle.std.specs.Prelude.{IfSome, slice_get, slice_set}
-use Rattle.std.specs.List.{All}
+use Rattle.std.proofs.Common.{◌≡◌, ℕ, ◌≤◌, Option, Some, None, List, [], ◌∷◌, ◌++◌, length, get_or, set, refl, sym, ap, ◌∙◌, subst, arith}
+use Rattle.std.specs.Prelude.{IfSome}
 use Rattle.std.proofs.lemmas.List.{take-append-le, length-append, length-set}
 use Rattle.std.proofs.lemmas.List.Elements.{All-set}
-use Rattle.std.proofs.lemmas.Option.{slice_get-get_or}
 use Rattle.values.specs.Shape.{Columns}
 use Rattle.model.specs.declared.write.CommitReply.{CommitReply}
 use Rattle.model.specs.declared.write.CommitReply.TheVariants.{Committed, Conflict, TooOld, Full}
 use Rattle.model.specs.declared.write.Write.{Write}
-use Rattle.model.specs.Table.{Table}
 use Rattle.model.specs.Effects.{Effects}
 use Rattle.model.specs.History.{Record, table_with_all, table_after, commits_with, effects_of_record}
 use Rattle.pdtcli.specs.declared.call.Call.{Call}
@@ -20,7 +17,7 @@ use Rattle.pdtcli.specs.declared.reply.Reply.TheVariants.{Begun, AlreadyOpen, No
 use Rattle.pdtcli.specs.declared.reply.ReplyLine.{ReplyLine}
 use Rattle.pdtcli.specs.Transaction.{Transaction}
 use Rattle.pdtcli.specs.Managed.{Managed, commits_in, IsOwn, begun_at, with_record}
-use Rattle.pdtcli.specs.Run.{Side, SideStep, BeginStep, OpenWriteStep, WriteStep, OpenCommitStep, CommitStep, AbortStep, State, Step, IsRun}
+use Rattle.pdtcli.specs.Run.{Side, SideStep, BeginStep, OpenWriteStep, OpenCommitStep, State, Step, IsRun}
 use Rattle.pdtcli.specs.Ready.{IsReady}
 use Rattle.pdtcli.proofs.ManagedLemmas.{take_length, commits_from-append}
 

@@ -1,8 +1,7 @@
 -- Rows without a fault are a table.
-use Rattle.std.proofs.Common.{◌≡◌, ℕ, suc, ◌≤◌, Bool, true, false, cond, T, Option, Some, None, List, [], ◌∷◌, length, is_lt, refl, sym, ap, subst, arith}
+use Rattle.std.proofs.Common.{◌≡◌, ℕ, suc, ◌≤◌, Bool, true, false, cond, T, Option, Some, None, List, [], ◌∷◌, length, is_lt, refl, sym, subst, arith}
 use Rattle.std.specs.Prelude.{nat_lt, is_none, IsTrue}
 use Rattle.std.specs.List.{list_all}
-use Rattle.std.specs.Bool.{passes}
 use Rattle.std.proofs.lemmas.Bool.Decides.{nat_tests}
 use Rattle.std.specs.FinMap.Entries.{below_all}
 use Rattle.values.specs.Orders.{key_cmp, key_cmp_total}
@@ -11,10 +10,10 @@ use Rattle.values.specs.declared.fault.ShapeFault.{ShapeFault}
 use Rattle.values.specs.declared.limits.TheConstants.{MAX_ROWS}
 use Rattle.values.specs.declared.row.Row.{Row}
 use Rattle.model.specs.Maps.{is_sorted}
-use Rattle.model.specs.Table.{table_of, IsTable}
+use Rattle.model.specs.Table.{table_of}
 use Rattle.model.proofs.MapsLemmas.{both, less, below_less}
 use Rattle.model.proofs.TableLemmas.{is_keyed_table-table_of}
-use Rattle.pdtcli.specs.Stable.{Stable, IsStable, ascends, shape_or_order, row_fault_at, or_fault, rows_fault, build_fault}
+use Rattle.pdtcli.specs.Stable.{IsStable, ascends, shape_or_order, row_fault_at, or_fault, rows_fault, build_fault}
 use Rattle.pdtcli.specs.declared.plain.table.BuildFault.{BuildFault}
 use Rattle.pdtcli.specs.declared.plain.table.BuildFault.TheVariants.{TooManyRows}
 

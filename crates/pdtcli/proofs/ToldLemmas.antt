@@ -1,9 +1,9 @@
 -- A write whose counts and types are the schema's is refused only as a reply can tell.
-use Rattle.std.proofs.Common.{◌≡◌, ℕ, suc, Bool, true, false, cond, ◌&&◌, T, Option, Some, None, List, [], ◌∷◌, length, take, refl, sym, ap, ◌∙◌, subst, arith}
+use Rattle.std.proofs.Common.{◌≡◌, ℕ, suc, Bool, true, false, cond, T, Option, Some, None, List, [], ◌∷◌, length, refl, ap, subst, arith}
 use Rattle.std.proofs.lemmas.Bool.Decides.{nat_tests}
 use Rattle.std.specs.Prelude.{IsTrue, ◌==◌, nat_lt, slice_get}
 use Rattle.std.proofs.lemmas.Float.{T_from_true}
-use Rattle.values.specs.Shape.{Columns, has_type, is_too_long, value_fault, or_fault, values_fault, list_fault, row_fault, key_fault, cell_fault_at, cell_fault}
+use Rattle.values.specs.Shape.{Columns, has_type, is_too_long, value_fault, or_fault, values_fault, list_fault, key_fault, cell_fault_at, cell_fault}
 use Rattle.values.specs.declared.fault.ShapeFault.{ShapeFault}
 use Rattle.values.specs.declared.fault.ShapeFault.TheVariants.{WrongCount, WrongType, TextTooLong, KeyColumn}
 use Rattle.values.specs.declared.value.ColumnType.{ColumnType}

@@ -1,5 +1,5 @@
 -- The change of a tree that a write makes, by whether the transaction inserted the row that it is about.
-use Rattle.std.specs.Prelude.{ℕ, ◌<◌, ◌≤◌, ◌^◌, Bool, true, false, cond, IsFalse, IsNone, IsSome, IsSomeAnd, List, length}
+use Rattle.std.specs.Prelude.{ℕ, ◌<◌, ◌≤◌, Bool, true, false, cond, IsFalse, IsNone, IsSome, IsSomeAnd, List, length}
 use Rattle.values.specs.Shape.{key_of}
 use Rattle.model.specs.declared.entry.Entry.{Entry}
 use Rattle.model.specs.declared.write.Write.{Write}

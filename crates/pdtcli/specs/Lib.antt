@@ -9,6 +9,7 @@ pub mod Order
 pub mod Outcome
 pub mod Output
 pub mod Prepared
+pub mod Program
 pub mod Reading
 pub mod Ready
 pub mod Refusals

@@ -3,7 +3,7 @@ use Rattle.std.specs.Prelude.{◌≡◌, ℕ, ◌≤◌, ◌==◌, nat_lt, Bool,
 use Rattle.values.specs.Shape.{Columns}
 use Rattle.values.specs.declared.limits.TheConstants.{MAX_ROWS, MAX_RECENT_COMMITS}
 use Rattle.model.specs.declared.write.CommitReply.{CommitReply}
-use Rattle.model.specs.Table.{Table, rows_of, IsTable}
+use Rattle.model.specs.Table.{Table, IsTable}
 use Rattle.model.specs.Effects.{Effects}
 use Rattle.model.specs.History.{Record, IsLegal, commits_of, table_after, table_with_all, due_reply}
 use Rattle.pdtcli.specs.Stable.{Stable, table_in}

@@ -1,12 +1,11 @@
 -- What a commit has made before anything changes.
-use Rattle.std.specs.Prelude.{◌≡◌, suc, length}
+use Rattle.std.specs.Prelude.{◌≡◌}
 use Rattle.model.specs.declared.write.CommitReply.TheVariants.{Committed, Conflict, TooOld, Full}
 use Rattle.model.specs.declared.write.CommitReply.{CommitReply}
 use Rattle.model.specs.Table.{rows_of}
 use Rattle.model.specs.Effects.{table_with}
-use Rattle.pdtcli.specs.Stable.{Stable}
 use Rattle.pdtcli.specs.Transaction.{Transaction, effects_of}
-use Rattle.pdtcli.specs.Managed.{Managed, commits_in, newest_table, reply_due}
+use Rattle.pdtcli.specs.Managed.{Managed, newest_table, reply_due}
 use Rattle.pdtcli.specs.declared.plain.manager.Prepared.{Prepared}
 use Rattle.pdtcli.specs.declared.plain.manager.Prepared.TheVariants.{Refused, Granted}
 

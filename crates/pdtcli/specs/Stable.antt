@@ -1,5 +1,5 @@
 -- A table in key order, as its schema and its rows.
-use Rattle.std.specs.Prelude.{ℕ, suc, ◌≤◌, nat_lt, Bool, true, false, cond, not, Option, Some, None, is_none, List, [], ◌∷◌, length}
+use Rattle.std.specs.Prelude.{ℕ, suc, ◌≤◌, nat_lt, Bool, true, false, cond, Option, Some, None, List, [], ◌∷◌, length}
 use Rattle.std.specs.Ordering.{is_lt, eq_by_cmp}
 use Rattle.values.specs.Orders.{key_cmp}
 use Rattle.values.specs.Shape.{Columns, key_of, row_fault}

@@ -1,10 +1,13 @@
 //! What the program does with the bytes of its files: it reads them, runs the script over the table, and shows what the
 //! run leaves.
-ghost use Rattle.std.specs.Prelude.{◌≡◌, false, IfErr, IfOk, IfSome, None, Err};
+ghost use Rattle.std.specs.Prelude.{◌≡◌, ◌<◌, false, IfErr, IfOk, IfSome, IsTrue, None, Err, length};
+ghost use Rattle.std.specs.List.{All};
+ghost use Rattle.pdtcli.specs.Calls.{is_typed_call};
 ghost use Rattle.std.specs.Io.KnownBytes.{Appends};
 ghost use Rattle.pdtcli.specs.Input.{IsTableOf};
 ghost use Rattle.pdtcli.specs.Outcome.{Left};
 ghost use Rattle.pdtcli.specs.Output.{exit_status, shown};
+ghost use Rattle.pdtcli.specs.Program.{IsRunOf};
 ghost use Rattle.pdtcli.specs.Refusals.{is_output};
 ghost use Rattle.pdtcli.specs.Script.{IsScriptOf};
 
@@ -37,7 +40,10 @@ pub fn run_texts<W: Write>(
     limit: u64,
     out: &mut W,
 ) -> Result<u8, Refusal>
-    ensures shown { IfOk result (λ status. (left : Left) × Appends (W.contents out.old) (W.contents out.new) (shown left) × (status ≡ exit_status left.lines)) }
+    ensures shown { IfOk result (λ status. (left : Left)
+        × IfSome table.entry (λ rows. IfSome script.entry (λ calls. IsRunOf rows.now calls.now limit left))
+        × Appends (W.contents out.old) (W.contents out.new) (shown left)
+        × (status ≡ exit_status left.lines)) }
     ensures silent { IfErr result (λ refusal. is_output refusal ≡ false → out.new ≡ out.old) }
     ensures unreadable { table.entry ≡ None → result ≡ Err Refusal.UnreadableTable }
 {
@@ -71,6 +77,8 @@ fn table_of(alloc: Global, bytes: Option<&[u8]>) -> Result<StableTable, Refusal>
 /// The script of these bytes, over a table of the schema.
 fn script_of(alloc: Global, schema: &Schema, bytes: Option<&[u8]>) -> Result<Script, Refusal>
     ensures ok { IfOk result (λ script. IfSome bytes.entry (λ text. IsScriptOf schema.now text.now script.clients.items script.calls.items)) }
+    ensures typed { IfOk result (λ script. All (λ asked. IsTrue (is_typed_call schema.now asked.call)) script.calls.items) }
+    ensures clients { IfOk result (λ script. All (λ asked. asked.client < length script.clients.items) script.calls.items) }
     ensures input { IfErr result (λ refusal. is_output refusal ≡ false) }
 {
     let Some(text) = bytes else {

@@ -1,4 +1,3 @@
-use Rattle.std.proofs.Common.{◌≡◌}
 use Rattle.std.specs.Prelude.{IsOk}
 use Rattle.pdtcli.proofs.ProgramLemmas.{IsTableOf-built}
 use Rattle.pdtcli.proofs.program.table_of.Goals as goal

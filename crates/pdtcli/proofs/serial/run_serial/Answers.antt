@@ -1,13 +1,12 @@
-use Rattle.std.proofs.Common.{◌≡◌, ◌+◌, ◌++◌, ◌∷◌, ◌<◌, ◌≤◌, None, Some, Option, List, [], length, take, get_or, set, replicate, refl, ap, sym, ◌∙◌, subst, arith}
+use Rattle.std.proofs.Common.{◌≡◌, ◌+◌, ◌++◌, ◌∷◌, ◌<◌, None, Option, List, [], length, take, get_or, set, replicate, refl, ap, sym, ◌∙◌, subst, arith}
 use Rattle.std.specs.Prelude.{IfSome, slice_get}
 use Rattle.std.proofs.lemmas.List.{take_more}
 use Rattle.std.proofs.lemmas.Option.{slice_get-get_or}
 use Rattle.pdtcli.specs.declared.call.ClientCall.{ClientCall}
 use Rattle.pdtcli.specs.declared.reply.ReplyLine.{ReplyLine}
 use Rattle.pdtcli.specs.Transaction.{Transaction}
-use Rattle.pdtcli.specs.Managed.{Managed, IsOwn}
-use Rattle.pdtcli.specs.Run.{IsRun, Side, SideStep, State, Step, joined, line_of}
-use Rattle.pdtcli.specs.Ready.{IsReady}
+use Rattle.pdtcli.specs.Managed.{IsOwn}
+use Rattle.pdtcli.specs.Run.{IsRun, Side, SideStep, State, Step, joined}
 use Rattle.pdtcli.proofs.RunLemmas.{ready_again, IsRun-more}
 use Rattle.pdtcli.proofs.serial.run_serial.Goals as goal
 

@@ -1,4 +1,4 @@
-use Rattle.std.proofs.Common.{◌≡◌, ◌∙◌, ◌≤◌, sym, ap, arith, [], length}
+use Rattle.std.proofs.Common.{◌∙◌, ◌≤◌, sym, ap, arith, [], length}
 use Rattle.std.proofs.lemmas.List.{drop_all}
 use Rattle.oracle.specs.Replay.{effects_when_all}
 use Rattle.oracle.proofs.ReplayLemmas.{effects_when_all-due}

@@ -1,4 +1,4 @@
-use Rattle.std.proofs.Common.{◌≡◌, ◌≤◌, ap, sym, subst, length}
+use Rattle.std.proofs.Common.{◌≤◌, sym, subst, length}
 use Rattle.pdtcli.specs.Stable.{Stable}
 use Rattle.pdtcli.specs.Managed.{managed_at}
 use Rattle.pdtcli.proofs.ManagedLemmas.{rows_within}

@@ -1,5 +1,5 @@
-use Rattle.std.proofs.Common.{◌≡◌, ◌∙◌, sym, ap, List}
-use Rattle.model.specs.Table.{Table, rows_of}
+use Rattle.std.proofs.Common.{◌∙◌, sym, ap}
+use Rattle.model.specs.Table.{rows_of}
 use Rattle.model.proofs.TableLemmas.{rows_of-table_of}
 use Rattle.pdtcli.specs.Managed.{Managed, newest_table}
 use Rattle.pdtcli.proofs.plain.manager.Manager.newest.Goals as goal

@@ -1,10 +1,9 @@
-use Rattle.std.proofs.Common.{◌≡◌, ◌-◌, ◌≤◌, false, take, drop, List, ap, sym, ◌∙◌, subst, length, arith}
+use Rattle.std.proofs.Common.{◌≡◌, ◌-◌, ◌≤◌, false, take, drop, ap, sym, ◌∙◌, subst, length, arith}
 use Rattle.std.specs.List.{list_any}
 use Rattle.std.proofs.lemmas.List.{length-drop}
-use Rattle.model.specs.Table.{Table, rows_of}
-use Rattle.model.specs.Effects.{Effects, table_with}
+use Rattle.model.specs.Table.{rows_of}
+use Rattle.model.specs.Effects.{table_with}
 use Rattle.model.specs.Clashes.{conflicts}
-use Rattle.values.specs.Shape.{Columns}
 use Rattle.pdtcli.specs.Stable.{Stable, table_in}
 use Rattle.pdtcli.specs.Transaction.{effects_of}
 use Rattle.pdtcli.specs.Managed.{Managed, managed_at, commits_in, newest_table, IsOwn}

@@ -1,4 +1,4 @@
-use Rattle.std.proofs.Common.{◌≡◌, ◌∙◌, sym, ap, List}
+use Rattle.std.proofs.Common.{◌∙◌, sym, ap, List}
 use Rattle.values.specs.declared.row.Row.{Row}
 use Rattle.pdtcli.specs.Stable.{build_fault}
 use Rattle.pdtcli.proofs.StableLemmas.{is_stable}

@@ -1,10 +1,9 @@
-use Rattle.std.proofs.Common.{◌≡◌, T, ap, sym, ◌∙◌, subst, rules, List}
+use Rattle.std.proofs.Common.{◌≡◌, T, ap, sym, ◌∙◌, subst, rules}
 use Rattle.std.specs.Prelude.{slice_get}
 use Rattle.std.specs.Option.{is_some}
 use Rattle.std.proofs.lemmas.Float.{T_from_true}
 use Rattle.std.proofs.lemmas.List.Sorted.{IsPartitionPoint-from_clause}
 use Rattle.values.specs.Orders.{key_cmp}
-use Rattle.values.specs.declared.row.Row.{Row}
 use Rattle.model.specs.Maps.{is_sorted}
 use Rattle.model.specs.Table.{Table, table_of, row_at, rank, is_keyed_table}
 use Rattle.model.proofs.MapsLemmas.{first}

@@ -2,7 +2,7 @@ use Rattle.std.proofs.Common.{◌≡◌, ℕ, true, false, not, ◌&&◌, ◌||�
 use Rattle.std.specs.Option.{is_some, option_copied}
 use Rattle.values.specs.declared.row.Key.{Key}
 use Rattle.values.specs.declared.row.Row.{Row}
-use Rattle.model.specs.Table.{Table, row_at, rank}
+use Rattle.model.specs.Table.{row_at, rank}
 use Rattle.delta.specs.Tree.{Tree}
 use Rattle.delta.specs.Lookups.{has_delete, inserted_row}
 use Rattle.pdtcli.specs.Stable.{Stable, table_in}

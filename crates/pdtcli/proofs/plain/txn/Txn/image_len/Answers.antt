@@ -1,15 +1,12 @@
-use Rattle.std.proofs.Common.{◌≡◌, ◌+◌, ◌≤◌, ◌^◌, ap, ◌∙◌, sym, length, arith}
+use Rattle.std.proofs.Common.{◌≡◌, ap, ◌∙◌, length, arith}
 use Rattle.std.proofs.lemmas.Int.{ints}
 use Rattle.std.proofs.lemmas.List.{length-map}
-use Rattle.values.specs.Shape.{key_of}
-use Rattle.values.specs.declared.row.Row.{Row}
 use Rattle.model.specs.Places.{insert_count, delete_count}
 use Rattle.delta.specs.Tree.{Tree}
-use Rattle.delta.specs.Lookups.{total_of}
 use Rattle.delta.proofs.CountLemmas.{counts-le}
 use Rattle.pdtcli.specs.Stable.{Stable}
 use Rattle.pdtcli.specs.Transaction.{Transaction, transaction_at, image_of, entries_of}
-use Rattle.pdtcli.proofs.TransactionLemmas.{image_counted, image_within, entries_few}
+use Rattle.pdtcli.proofs.TransactionLemmas.{image_counted}
 use Rattle.pdtcli.proofs.plain.txn.Txn.image_len.Goals as goal
 
 pub overflow_add-result : goal.overflow_add-result

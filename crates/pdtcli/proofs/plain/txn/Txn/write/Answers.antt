@@ -1,11 +1,8 @@
-use Rattle.std.proofs.Common.{◌≡◌, ℕ, ◌≤◌, List, ◌∷◌, ◌++◌, [], length, refl, sym, ap, ◌∙◌, subst}
-use Rattle.std.specs.Prelude.{IsTrue}
-use Rattle.values.specs.Shape.{Columns}
+use Rattle.std.proofs.Common.{◌≡◌, List, ◌∷◌, ◌++◌, [], sym, ap, ◌∙◌, subst}
 use Rattle.model.specs.declared.write.Write.{Write}
 use Rattle.model.specs.declared.write.WriteReply.{WriteReply}
-use Rattle.model.specs.Writes.{write_fits_schema, reply_where}
 use Rattle.delta.specs.Tree.{Tree}
-use Rattle.pdtcli.specs.Transaction.{Transaction, transaction_at, image_of, IsTransaction, tree_of, with_write}
+use Rattle.pdtcli.specs.Transaction.{Transaction, transaction_at, IsTransaction, tree_of}
 use Rattle.pdtcli.proofs.TransactionLemmas.{IsSeen, seen, seen_place, seen_may, seen_room, seen_next, seen_tree}
 use Rattle.pdtcli.proofs.plain.txn.Txn.write.Goals as goal
 
