@@ -67,8 +67,8 @@ impl Caller {
             return Reply::AlreadyOpen;
         }
         match manager.begin(client) {
-            Ok(txn) => {
-                self.put(txn);
+            Ok(opened) => {
+                self.put(opened);
                 Reply::Begun
             }
             Err(NoMemory) => Reply::NoMemory,

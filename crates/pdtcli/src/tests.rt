@@ -9,5 +9,8 @@ mod faults;
 mod good_scripts;
 mod good_tables;
 mod limits;
+mod long_run;
+mod runs;
 mod shown;
+mod transactions;
 mod words;

@@ -191,13 +191,6 @@ impl Manager {
         self.history.as_slice()
     }
 
-    /// The row limit that it was opened with.
-    pub fn row_limit(&self) -> u64
-        ensures { result ≡ self.now.limit }
-    {
-        self.row_limit
-    }
-
     /// The newest table. Takes no memory.
     pub fn newest(&self) -> &StableTable
         ensures schema { result.now.schema ≡ self.now.schema }

@@ -1,0 +1,80 @@
+//! Whole runs over the base table, from the bytes that come in to those that go out.
+use crate::run_texts;
+use std::alloc::Global;
+use std::process::Abort;
+use std::test::Fail;
+use values::limits::MAX_ROWS;
+
+const BASE: &[u8] = b"id:int:key,name:text,qty:int\n10,Ann,1\n20,Bob,2\n30,Cid,3\n";
+
+/// Fails where a run of the script over the table doesn't write this, with status 0.
+fn assert_run(
+    rt: &impl Abort,
+    alloc: Global,
+    table: &[u8],
+    script: &[u8],
+    want: &str,
+) -> Result<(), Fail> {
+    let mut out = Vec::new(alloc);
+    let status = run_texts(alloc, Some(table), Some(script), MAX_ROWS, &mut out)?;
+    assert_eq!(rt; str::from_utf8(out.as_slice())?, want);
+    assert_eq!(rt; status, 0);
+    Ok(())
+}
+
+#[test]
+fn the_first_row_of_an_empty_table(rt: HostRuntime) -> Result<(), Fail> {
+    assert_run(
+        &rt,
+        rt.alloc(),
+        b"id:int:key,name:text,qty:int\n",
+        b"a,begin\na,insert,5,Eve,0\na,commit\n",
+        "a,begin,Begun\na,insert,Done\na,commit,Committed,1\n\nid:int:key,name:text,qty:int\n5,Eve,0\n",
+    )
+}
+
+#[test]
+fn refused_writes_leave_the_image(rt: HostRuntime) -> Result<(), Fail> {
+    assert_run(
+        &rt,
+        rt.alloc(),
+        BASE,
+        b"a,begin\na,insert,20,Bob,2\na,delete,25\na,set,20,id,21\na,commit\n",
+        "a,begin,Begun\na,insert,Duplicate\na,delete,Missing\na,set,KeyColumn\na,commit,Committed,1\n\nid:int:key,name:text,qty:int\n10,Ann,1\n20,Bob,2\n30,Cid,3\n",
+    )
+}
+
+#[test]
+fn an_insert_changed_and_deleted_leaves_the_image(rt: HostRuntime) -> Result<(), Fail> {
+    assert_run(
+        &rt,
+        rt.alloc(),
+        BASE,
+        b"a,begin\na,insert,25,Dee,4\na,set,25,qty,5\na,delete,25\na,commit\n",
+        "a,begin,Begun\na,insert,Done\na,set,Done\na,delete,Done\na,commit,Committed,1\n\nid:int:key,name:text,qty:int\n10,Ann,1\n20,Bob,2\n30,Cid,3\n",
+    )
+}
+
+#[test]
+fn a_transaction_that_is_aborted_or_left_open_leaves_the_image(
+    rt: HostRuntime,
+) -> Result<(), Fail> {
+    assert_run(
+        &rt,
+        rt.alloc(),
+        BASE,
+        b"a,commit\na,begin\na,begin\na,delete,10\na,abort\na,abort\na,begin\na,delete,20\na,insert,20,Bea,9\n",
+        "a,commit,NotOpen\na,begin,Begun\na,begin,AlreadyOpen\na,delete,Done\na,abort,Aborted\na,abort,NotOpen\na,begin,Begun\na,delete,Done\na,insert,Done\n\nid:int:key,name:text,qty:int\n10,Ann,1\n20,Bob,2\n30,Cid,3\n",
+    )
+}
+
+#[test]
+fn a_second_transaction_sees_the_first(rt: HostRuntime) -> Result<(), Fail> {
+    assert_run(
+        &rt,
+        rt.alloc(),
+        BASE,
+        b"a,begin\na,delete,20\na,insert,20,Bea,9\na,set,20,qty,8\na,commit\na,begin\na,insert,20,Bob,2\na,set,20,name,Bet\na,set,30,qty,4\na,set,30,qty,5\na,delete,10\na,commit\n",
+        "a,begin,Begun\na,delete,Done\na,insert,Done\na,set,Done\na,commit,Committed,1\na,begin,Begun\na,insert,Duplicate\na,set,Done\na,set,Done\na,set,Done\na,delete,Done\na,commit,Committed,2\n\nid:int:key,name:text,qty:int\n20,Bet,8\n30,Cid,5\n",
+    )
+}
