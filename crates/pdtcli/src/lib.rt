@@ -1,13 +1,15 @@
 //! The program over texts: its inputs, the words of its command line, a table and a script, each refused by a fault that
-//! names its place; and its output, the reply lines of a run and its newest image.
+//! names its place; a run of the script over the table; and its output, the reply lines and the newest image.
 //!
 //! *What a contract sees.* The records of a text are those that the crate `csv` reads of it. A table is a function of
 //! its records, the first fault from the start or the schema and the rows; so is a script, whose answer is the clients'
-//! names and the calls. An `Ok` says that there are such records, and a fault that all such records have it. What a run
-//! shows is the text that `csv` writes of its reply lines and its image, byte for byte.
+//! names and the calls. A transaction is its snapshot and its answered writes, a manager the table that it was opened with
+//! and its history. A run is a relation of states, calls and replies. What a run shows is the text that `csv` writes of
+//! its reply lines and its image, byte for byte.
 //!
-//! *What it stands on.* `values` for schemas, rows and limits, `model` for tables and writes, `csv` for records, `itoa`
-//! for numbers, `clap` for the command line, and `thiserror` for what a fault shows.
+//! *What it stands on.* `values` for schemas, rows and limits, `model` for tables, writes and histories, `delta` for a
+//! transaction's tree, `oracle` for effects by key, `csv` for records, `itoa` for numbers, `clap` for the command line,
+//! and `thiserror` for what a fault shows.
 #![tactic(auto)]
 
 mod arguments;
