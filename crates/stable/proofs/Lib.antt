@@ -1,0 +1,2 @@
+mod RankLemmas
+mod StableLemmas
