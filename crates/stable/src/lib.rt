@@ -7,7 +7,9 @@
 //! table is, and `thiserror` for what a fault shows.
 #![tactic(auto)]
 
+mod column;
 mod fault;
 mod order;
 
+pub use column::Column;
 pub use fault::BuildFault;
