@@ -1,3 +1,5 @@
+mod BelowLemmas
 mod ColumnLemmas
 mod RankLemmas
+mod RowsLemmas
 mod StableLemmas

@@ -1,5 +1,5 @@
 -- Rows without a fault are a table.
-use Rattle.std.proofs.Common.{◌≡◌, ℕ, suc, ◌≤◌, Bool, true, false, cond, T, Option, Some, None, List, [], ◌∷◌, length, is_lt, refl, sym, subst, arith}
+use Rattle.std.proofs.Common.{◌≡◌, ℕ, zero, suc, ◌<◌, get_or, ◌≤◌, Bool, true, false, cond, T, Option, Some, None, List, [], ◌∷◌, length, is_lt, refl, sym, subst, arith}
 use Rattle.std.specs.Prelude.{nat_lt, is_none, IsTrue}
 use Rattle.std.specs.List.{list_all}
 use Rattle.std.proofs.lemmas.Bool.Decides.{nat_tests}
@@ -48,6 +48,11 @@ module _ (schema : Columns) where
   all_fit i before (row ∷ rows) h =
       both (fits_schema schema row) _ (subst (λ f. T (is_none f)) (sym (here i before row rows h).fits) tt) (all_fit (suc i) (Some row) rows (rest i before row rows h))
 
+  fits_at : (i : ℕ) (before : Option Row) (rows : List Row) → rows_fault schema i before rows ≡ None → (k : ℕ) (d : Row) → k < length rows → row_fault schema (get_or rows k d) ≡ None
+  fits_at i before [] h k d lt = absurd (omega arith)
+  fits_at i before (row ∷ rows) h zero d lt = (here i before row rows h).fits
+  fits_at i before (row ∷ rows) h (suc k) d lt = fits_at (suc i) (Some row) rows (rest i before row rows h) k d (omega arith)
+
   -- the rows after one that have no fault ascend from it
   above : (i : ℕ) (before : Row) (rows : List Row) → rows_fault schema i (Some before) rows ≡ None → T (below_all key_cmp (key_of schema.key_cols before) (table_of schema.key_cols rows)) × T (is_sorted key_cmp (table_of schema.key_cols rows))
   above i before [] h = (tt, tt)
@@ -80,3 +85,7 @@ module _ (schema : Columns) where
     where
       few : nat_lt MAX_ROWS (length rows) ≡ false → length rows ≤ MAX_ROWS
       few is = grind (arith, nat_tests)
+
+  -- each row of rows without a fault fits the schema
+  pub all_shaped : (rows : List Row) → build_fault schema rows ≡ None → (k : ℕ) (d : Row) → k < length rows → row_fault schema (get_or rows k d) ≡ None
+  all_shaped rows h = fits_at 0 None rows (parts (nat_lt MAX_ROWS (length rows)) (rows_fault schema 0 None rows) h).1

@@ -10,6 +10,8 @@
 mod column;
 mod fault;
 mod order;
+mod table;
 
 pub use column::Column;
 pub use fault::BuildFault;
+pub use table::StableTable;
