@@ -9,8 +9,14 @@
 
 mod column;
 mod fault;
+#[cfg(test)]
+mod fault_tests;
+#[cfg(test)]
+mod key_tests;
 mod order;
 mod table;
+#[cfg(test)]
+mod tests;
 
 pub use column::Column;
 pub use fault::BuildFault;
