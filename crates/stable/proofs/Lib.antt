@@ -1,0 +1,5 @@
+mod BelowLemmas
+mod ColumnLemmas
+mod RankLemmas
+mod RowsLemmas
+mod StableLemmas

@@ -1,0 +1,56 @@
+-- A key's place in a table, found by halving.
+use Rattle.std.proofs.Common.{◌≡◌, ℕ, zero, suc, ◌<◌, ◌≤◌, Bool, true, false, cond, T, List, [], ◌∷◌, length, get_or, Ordering, Less, is_lt, refl, sym, ap, ◌∙◌, arith}
+use Rattle.std.specs.Prelude.{filter}
+use Rattle.std.specs.List.Sorted.{IsPartitionedBy, IsPartitionPoint}
+use Rattle.std.specs.FinMap.Entries.{below_all}
+use Rattle.std.proofs.lemmas.Float.{T_from_true}
+use Rattle.values.specs.Orders.{key_cmp, key_cmp_total}
+use Rattle.values.specs.Shape.{key_of}
+use Rattle.values.specs.declared.row.Row.{Row}
+use Rattle.values.specs.declared.row.Key.{Key}
+use Rattle.model.specs.Maps.{is_sorted}
+use Rattle.model.specs.Table.{table_of, rank}
+use Rattle.model.proofs.MapsLemmas.{first, second, less}
+
+is_true : (b : Bool) → T b → b ≡ true
+is_true true h = refl
+is_true false h = absurd h
+
+module _ (key_cols : ℕ) (key : Key) where
+  -- whether a row is below the key
+  abbrev pub is_below_key : Row → Bool
+  is_below_key row = is_lt (key_cmp (key_of key_cols row) key)
+
+  rank-below : (row : Row) (rows : List Row) → key_cmp (key_of key_cols row) key ≡ Less → rank key (table_of key_cols (row ∷ rows)) ≡ suc (rank key (table_of key_cols rows))
+  rank-below row rows h = ap (λ r. length (cond (is_lt r) ((key_of key_cols row, row) ∷ filter (λ e. is_lt (key_cmp e.0 key)) (table_of key_cols rows)) (filter (λ e. is_lt (key_cmp e.0 key)) (table_of key_cols rows)))) h
+
+  rank-none : (row : Row) (rows : List Row) (r : Ordering) → key_cmp (key_of key_cols row) key ≡ r → is_lt r ≡ false → rank key (table_of key_cols (row ∷ rows)) ≡ rank key (table_of key_cols rows)
+  rank-none row rows r h above = ap (λ b. length (cond b ((key_of key_cols row, row) ∷ filter (λ e. is_lt (key_cmp e.0 key)) (table_of key_cols rows)) (filter (λ e. is_lt (key_cmp e.0 key)) (table_of key_cols rows)))) (ap is_lt h ∙ above)
+
+  -- the place of the first that isn't below is the key's
+  pub rank-point : (rows : List Row) (n : ℕ) → n ≤ length rows → IsPartitionPoint (λ row. is_below_key row ≡ true) (λ row. is_below_key row ≡ false) rows n → n ≡ rank key (table_of key_cols rows)
+  rank-point [] zero le point = refl
+  rank-point [] (suc n) le point = absurd (omega arith)
+  rank-point (row ∷ rows) zero le point =
+      let here : is_below_key row ≡ false = point.1 0 row (omega arith) (omega arith) in
+      let rest = rank-point rows zero (omega arith) ((λ k d low lt. absurd (omega arith)), (λ k d low lt. point.1 (suc k) d (omega arith) (omega arith))) in
+      rest ∙ sym (ap (λ b. length (cond b ((key_of key_cols row, row) ∷ filter (λ e. is_lt (key_cmp e.0 key)) (table_of key_cols rows)) (filter (λ e. is_lt (key_cmp e.0 key)) (table_of key_cols rows)))) here)
+  rank-point (row ∷ rows) (suc n) le point =
+      let here : is_below_key row ≡ true = point.0 0 row (omega arith) (omega arith) in
+      let rest = rank-point rows n (omega arith) ((λ k d low lt. point.0 (suc k) d (omega arith) (omega arith)), (λ k d low lt. point.1 (suc k) d (omega arith) (omega arith))) in
+      ap suc rest ∙ sym (rank-below row rows (less _ (T_from_true _ here)))
+
+  -- rows in ascending key are parted by the key
+  below_earlier : (row : Row) (rows : List Row) → T (below_all key_cmp (key_of key_cols row) (table_of key_cols rows)) → (j : ℕ) (d : Row) → j < length rows → is_below_key (get_or rows j d) ≡ true → is_below_key row ≡ true
+  below_earlier row [] h j d lt passes = absurd (omega arith)
+  below_earlier row (other ∷ rows) h zero d lt passes =
+      let ascent = less (key_cmp (key_of key_cols row) (key_of key_cols other)) (first (is_lt (key_cmp (key_of key_cols row) (key_of key_cols other))) _ h) in
+      ap is_lt (key_cmp_total.trans (key_of key_cols row) (key_of key_cols other) key ascent (less _ (T_from_true _ passes)))
+  below_earlier row (other ∷ rows) h (suc j) d lt passes = below_earlier row rows (second (is_lt (key_cmp (key_of key_cols row) (key_of key_cols other))) _ h) j d (omega arith) passes
+
+  pub parted : (rows : List Row) → T (is_sorted key_cmp (table_of key_cols rows)) → IsPartitionedBy is_below_key rows
+  parted [] h i j d le lt passes = absurd (omega arith)
+  parted (row ∷ rows) h zero zero d le lt passes = passes
+  parted (row ∷ rows) h zero (suc j) d le lt passes = below_earlier row rows (first (below_all key_cmp (key_of key_cols row) (table_of key_cols rows)) _ h) j d (omega arith) passes
+  parted (row ∷ rows) h (suc i) zero d le lt passes = absurd (omega arith)
+  parted (row ∷ rows) h (suc i) (suc j) d le lt passes = parted rows (second (below_all key_cmp (key_of key_cols row) (table_of key_cols rows)) _ h) i j d (omega arith) (omega arith) passes

@@ -1,0 +1,3 @@
+pub mod Column
+pub mod Rows
+pub mod Stable

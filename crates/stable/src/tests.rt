@@ -1,0 +1,103 @@
+//! Tables of one block and of two, at the edges of a block; the rank of a key; each fault of building.
+//!
+//! That a refused growth is answered shows under `rt try --test --fail-alloc N`, for N from 1 on: each test ends well,
+//! or with the error of the growth.
+
+use super::*;
+use std::alloc::Global;
+use std::test::Fail;
+use values::{ColumnType, Key, Row, Schema, Value, ValueRef};
+
+/// A number, the key, and a truth.
+fn numbered(alloc: Global) -> Result<Schema, Fail> {
+    let mut cols = Vec::new(alloc);
+    cols.push((String::from_str(alloc, "id")?, ColumnType::Int))?;
+    cols.push((String::from_str(alloc, "even")?, ColumnType::Bool))?;
+    Ok(Schema::new(alloc, cols, 1)?)
+}
+
+/// The row of a number and a truth.
+fn numbered_row(alloc: Global, id: i64, even: bool) -> Result<Row, Fail> {
+    let mut cells = Vec::new(alloc);
+    cells.push(Value::Int(id))?;
+    cells.push(Value::Bool(even))?;
+    Ok(Row::new(cells))
+}
+
+/// A key of one number.
+fn number_key(alloc: Global, id: i64) -> Result<Key, Fail> {
+    let mut cells = Vec::new(alloc);
+    cells.push(Value::Int(id))?;
+    Ok(Key::new(cells))
+}
+
+/// So many rows of the even numbers from 0 on.
+fn even_rows(alloc: Global, count: u16) -> Result<Vec<Row>, Fail> {
+    let mut rows = Vec::new(alloc);
+    for place in 0..count {
+        rows.push(numbered_row(alloc, i64::from(place) * 2, true)?)?;
+    }
+    Ok(rows)
+}
+
+/// The number of a lent value, or -1 where it is none.
+fn number(value: ValueRef<'_>) -> i64 {
+    match value {
+        ValueRef::Int(number) => number,
+        _ => -1,
+    }
+}
+
+#[test]
+fn tables_at_the_edges_of_a_block(rt: HostRuntime) -> Result<(), Fail> {
+    let cases: [(&str, u16); 5] = [
+        ("no row", 0),
+        ("one row", 1),
+        ("a full block", 1_024),
+        ("a second block of one", 1_025),
+        ("two full blocks", 2_048),
+    ];
+    for (label, count) in cases {
+        let alloc = rt.alloc();
+        let table = StableTable::build(alloc, numbered(alloc)?, even_rows(alloc, count)?)?;
+        assert_eq!(rt; table.len(), u64::from(count), "at {label}");
+        assert_eq!(rt;
+            table.rank(&number_key(alloc, 5_000)?),
+            u64::from(count),
+            "past the last at {label}"
+        );
+    }
+    Ok(())
+}
+
+#[test]
+fn the_second_block_begins_at_1024(rt: HostRuntime) -> Result<(), Fail> {
+    let alloc = rt.alloc();
+    let table = StableTable::build(alloc, numbered(alloc)?, even_rows(alloc, 1_025)?)?;
+    if table.len() == 1_025 && table.schema().width() == 2 {
+        assert_eq!(rt; number(table.value(1_023, 0)), 2_046);
+        assert_eq!(rt; number(table.value(1_024, 0)), 2_048);
+    }
+    assert_eq!(rt; table.len(), 1_025);
+    assert_eq!(rt; table.schema().width(), 2);
+    Ok(())
+}
+
+#[test]
+fn ranks_of_numbers(rt: HostRuntime) -> Result<(), Fail> {
+    let alloc = rt.alloc();
+    let table = StableTable::build(alloc, numbered(alloc)?, even_rows(alloc, 1_025)?)?;
+    let cases: [(&str, i64, u64); 7] = [
+        ("below all", -1, 0),
+        ("at the first", 0, 0),
+        ("between the first two", 1, 1),
+        ("at the second", 2, 1),
+        ("at the last of the first block", 2_046, 1_023),
+        ("at the last", 2_048, 1_024),
+        ("above all", 2_049, 1_025),
+    ];
+    for (label, id, rank) in cases {
+        assert_eq!(rt; table.rank(&number_key(alloc, id)?), rank, "{label}");
+    }
+    Ok(())
+}
