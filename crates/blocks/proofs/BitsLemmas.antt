@@ -118,7 +118,8 @@ packed-place (suc n) bs (suc (suc (suc (suc (suc (suc (suc (suc j)))))))) le =
     let e : 8 + j ≡ (suc (suc (suc (suc (suc (suc (suc (suc j)))))))) = omega arith in
     packed-place n (drop 8 bs) j (omega (arith, length-drop 8 bs)) ∙ get_or-drop 8 bs j false ∙ ap (λ k. get_or bs k false) e
 
-byte_of-lt : (bs : List Bool) → byte_of bs < 256
+-- truths make a byte
+pub byte_of-lt : (bs : List Bool) → byte_of bs < 256
 byte_of-lt bs = omega (arith, bit_of-lt bs 0, bit_of-lt bs 1, bit_of-lt bs 2, bit_of-lt bs 3, bit_of-lt bs 4, bit_of-lt bs 5, bit_of-lt bs 6, bit_of-lt bs 7)
 
 packed-AreBytes : (n : ℕ) (bs : List Bool) → AreBytes (packed n bs)

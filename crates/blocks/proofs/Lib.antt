@@ -5,3 +5,4 @@ mod IntsLemmas
 mod LawsLemmas
 mod ReadLemmas
 mod TextsLemmas
+mod PushLemmas

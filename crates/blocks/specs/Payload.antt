@@ -55,6 +55,10 @@ pub record IsPacked (count : ℕ) (bytes : List ℕ) : Type 0 where
   pub few : count ≤ MAX_BLOCK_VALUES
   pub small : AreBytes bytes
 
+-- whether bytes are so many truths
+abbrev pub ArePacked : ℕ → List ℕ → Type 0
+ArePacked count bytes = (bs : List Bool) × (length bs ≡ count) × (bytes ≡ packed (byte_count count) bs)
+
 -- ---- values
 
 -- a number in eight bytes of two's complement, or a text after its length in two bytes; the highest byte first

@@ -1,7 +1,7 @@
 //! Truth values, eight a byte.
-ghost use Rattle.std.specs.Prelude.{◌≡◌, ◌<◌, ◌≤◌, ◌*◌, length, map, take, Some, slice_get, IfOk, IsTrue};
+ghost use Rattle.std.specs.Prelude.{◌≡◌, ◌<◌, ◌≤◌, ◌+◌, ◌-◌, ◌*◌, ◌^◌, ◌++◌, ◌∷◌, [], Bool, List, cond, length, map, take, Some, slice_get, IfOk, OnOk, OnErr, IsTrue};
 ghost use Rattle.values.specs.declared.limits.TheConstants.{MAX_BLOCK_VALUES};
-ghost use Rattle.blocks.specs.Payload.{all_bits, is_true, IsPacked, bit_of, byte_of, byte_count, packed, has_set_padding};
+ghost use Rattle.blocks.specs.Payload.{ArePacked, all_bits, is_true, IsPacked, bit_of, byte_of, byte_count, packed, has_set_padding};
 
 use std::alloc::Global;
 use std::marker::Model;
@@ -42,6 +42,32 @@ impl Bits {
         ensures { slice_get self.now i ≡ Some result }
     {
         (self.bytes[i / 8] >> (7 - i % 8)) & 1 == 1
+    }
+
+    /// No truths. It takes no memory.
+    pub(crate) fn new(alloc: Global) -> Bits
+        ensures { result ≡ [] }
+    {
+        Bits {
+            bytes: Vec::new(alloc),
+            count: 0,
+        }
+    }
+
+    /// Puts a truth after the others. With `NoMemory` the truths are as they were.
+    ///
+    /// # Errors
+    ///
+    /// `NoMemory` where the growth is refused.
+    pub(crate) fn push(&mut self, truth: bool) -> Result<(), NoMemory>
+        requires few { length self.old < MAX_BLOCK_VALUES }
+        ensures ok { OnOk result (self.new ≡ self.old ++ truth ∷ []) }
+        ensures err { OnErr result (self.new ≡ self.old) }
+    {
+        let Bits { bytes, count } = self;
+        add_bit(bytes, *count, truth)?;
+        *count += 1;
+        Ok(())
     }
 
     /// The truths among the values; what is none counts as false.
@@ -103,6 +129,30 @@ pub(crate) fn byte_count(count: usize) -> usize
     ensures { result ≡ byte_count count }
 {
     count.div_ceil(8)
+}
+
+/// Puts a truth's bit after those of so many truths, in a byte of its own where the last is full.
+fn add_bit(bytes: &mut Vec<u8>, count: usize, truth: bool) -> Result<(), NoMemory>
+    requires few { count < MAX_BLOCK_VALUES }
+    requires packed { ArePacked count bytes.old.items }
+    ensures ok { OnOk result ((bs : List Bool) → length bs ≡ count → bytes.old.items ≡ packed (byte_count count) bs → bytes.new.items ≡ packed (byte_count (count + 1)) (bs ++ truth ∷ [])) }
+    ensures err { OnErr result (bytes.new.items ≡ bytes.old.items) }
+{
+    let bit = bit_in(truth, count % 8);
+    if count % 8 == 0 {
+        bytes.push(bit)?;
+    } else {
+        bytes[count / 8] += bit;
+    }
+    Ok(())
+}
+
+/// A truth's bit at a place of its byte, of which the first is the highest.
+fn bit_in(truth: bool, place: usize) -> u8
+    requires { place < 8 }
+    ensures { result ≡ cond truth (2 ^ (7 - place)) 0 }
+{
+    if truth { 1 << (7 - place) } else { 0 }
 }
 
 /// The values' truths as bytes.

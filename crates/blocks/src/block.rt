@@ -1,5 +1,5 @@
 //! One column's values, up to 1,024 of them, kept by type.
-ghost use Rattle.std.specs.Prelude.{◌≡◌, ◌<◌, ◌≤◌, length, map, Some, slice_get, IfOk, OnOk, IsTrue, IsFalse};
+ghost use Rattle.std.specs.Prelude.{◌≡◌, ◌<◌, ◌≤◌, ◌++◌, ◌∷◌, [], length, map, Some, slice_get, IfOk, OnOk, OnErr, IsTrue, IsFalse};
 ghost use Rattle.std.specs.List.{list_all, list_any};
 ghost use Rattle.values.specs.Lent.{value_of};
 ghost use Rattle.values.specs.Shape.{has_type, is_too_long};
@@ -49,6 +49,40 @@ impl Model for Block {
 }
 
 impl Block {
+    /// A block of the type with no values, which takes them by `push`. It takes no memory.
+    pub fn new(alloc: Global, ty: ColumnType) -> Block
+        ensures { result ≡ record { ty = ty; values = [] } }
+    {
+        let cells = match ty {
+            ColumnType::Int => Cells::Ints(Vec::new(alloc)),
+            ColumnType::Text => Cells::Texts(Texts::new(alloc)),
+            ColumnType::Bool => Cells::Truths(Bits::new(alloc)),
+        };
+        Block { cells }
+    }
+
+    /// Puts a value after the others, which are fewer than 1,024. It is of the block's type, and no text above 4,096
+    /// bytes.
+    ///
+    /// # Errors
+    ///
+    /// `NoMemory` where a growth is refused: the block is as it was.
+    pub fn push(&mut self, value: ValueRef<'_>) -> Result<(), NoMemory>
+        requires few { length self.old.values < MAX_BLOCK_VALUES }
+        requires typed { IsTrue (has_type self.old.ty (value_of value)) }
+        requires short { IsFalse (is_too_long (value_of value)) }
+        ensures ok { OnOk result (self.new ≡ record self.old { values = self.old.values ++ value_of value.entry ∷ [] }) }
+        ensures err { OnErr result (self.new ≡ self.old) }
+    {
+        match (&mut self.cells, value) {
+            (Cells::Ints(ints), ValueRef::Int(number)) => ints.push(number)?,
+            (Cells::Texts(texts), ValueRef::Text(text)) => texts.push(text)?,
+            (Cells::Truths(truths), ValueRef::Bool(truth)) => truths.push(truth)?,
+            _ => unreachable!(),
+        }
+        Ok(())
+    }
+
     /// The values as a block. They are at most 1,024, all of the type, no text of them above 4,096 bytes.
     ///
     /// # Errors

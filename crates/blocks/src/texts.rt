@@ -30,6 +30,16 @@ impl Model for Texts {
 }
 
 impl Texts {
+    /// No texts. It takes no memory.
+    pub(crate) fn new(alloc: Global) -> Texts
+        ensures { result ≡ [] }
+    {
+        Texts {
+            text: String::new(alloc),
+            ends: Vec::new(alloc),
+        }
+    }
+
     /// No texts, with room for `count` of them and `bytes` bytes in all.
     ///
     /// # Errors

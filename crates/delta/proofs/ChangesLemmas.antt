@@ -55,7 +55,7 @@ none_any p (x ∷ xs) h =
       | false ↦ λ g. none_any p xs g
     ] h
 
-filter_all : {A : Type 0} (p : A → Bool) (xs : List A) → T (list_all p xs) → filter p xs ≡ xs
+pub filter_all : {A : Type 0} (p : A → Bool) (xs : List A) → T (list_all p xs) → filter p xs ≡ xs
 filter_all p [] h = refl
 filter_all p (x ∷ xs) h =
     elim (p x) as (λ b. T (b && list_all p xs) → cond b (x ∷ filter p xs) (filter p xs) ≡ x ∷ xs) [
@@ -63,7 +63,7 @@ filter_all p (x ∷ xs) h =
       | false ↦ λ g. absurd (first false (list_all p xs) g)
     ] h
 
-filter_none : {A : Type 0} (p : A → Bool) (xs : List A) → T (list_all (λ x. not (p x)) xs) → filter p xs ≡ []
+pub filter_none : {A : Type 0} (p : A → Bool) (xs : List A) → T (list_all (λ x. not (p x)) xs) → filter p xs ≡ []
 filter_none p [] h = refl
 filter_none p (x ∷ xs) h =
     elim (p x) as (λ b. T (not b && list_all (λ y. not (p y)) xs) → cond b (x ∷ filter p xs) (filter p xs) ≡ []) [
@@ -71,7 +71,7 @@ filter_none p (x ∷ xs) h =
       | false ↦ λ g. filter_none p xs (second true (list_all (λ y. not (p y)) xs) g)
     ] h
 
-filter-append : {A : Type 0} (p : A → Bool) (xs ys : List A) → filter p (xs ++ ys) ≡ filter p xs ++ filter p ys
+pub filter-append : {A : Type 0} (p : A → Bool) (xs ys : List A) → filter p (xs ++ ys) ≡ filter p xs ++ filter p ys
 filter-append p [] ys = refl
 filter-append p (x ∷ xs) ys =
     elim (p x) as (λ b. cond b (x ∷ filter p (xs ++ ys)) (filter p (xs ++ ys)) ≡ cond b (x ∷ filter p xs) (filter p xs) ++ filter p ys) [

@@ -5,5 +5,7 @@ pub mod ChangeCountLemmas
 pub mod OrderLemmas
 pub mod LawfulLemmas
 pub mod LookupLemmas
+pub mod RangesLemmas
+pub mod PositionsLemmas
 pub mod CallerLemmas
 pub mod LawsLemmas

@@ -13,7 +13,7 @@ use Rattle.model.specs.declared.entry.Change.{Change}
 use Rattle.model.specs.declared.entry.Change.TheVariants.{Ins, Del, Mod}
 use Rattle.model.specs.Entries.{change_cmp, entry_cmp, are_ordered}
 use Rattle.model.proofs.MapsLemmas.{both, first, second, less, turn_less, turn_greater}
-use Rattle.delta.specs.Search.{insert_cmp, base_cmp, modify_cmp, past_cmp, stands_before, IsSplit}
+use Rattle.delta.specs.Search.{insert_cmp, first_cmp, base_cmp, modify_cmp, past_cmp, stands_before, IsSplit}
 
 pub is_true : (b : Bool) → T b → b ≡ true
 is_true true h = refl
@@ -107,9 +107,12 @@ module _ (test : Entry → Bool) where
   pub split_at : (xs : List Entry) (n : ℕ) → n ≤ length xs → IsPartitionPoint (λ y. test y ≡ true) (λ y. test y ≡ false) xs n → IsSplit test xs n
   split_at xs n le point = record { within = le; before = all_before n xs point.0; after = all_after n xs point.1 }
 
--- ---- the three orders are closed
+-- ---- the orders are closed
 
 module _ (key_cols : ℕ) where
+  pub first_cmp-closed : (x y : Change) → change_cmp key_cols x y ≡ Less → first_cmp y ≡ Greater → first_cmp x ≡ Greater
+  first_cmp-closed x y b a = cc
+
   pub insert_cmp-closed : (key : Key) (x y : Change) → change_cmp key_cols x y ≡ Less → insert_cmp key_cols key y ≡ Greater → insert_cmp key_cols key x ≡ Greater
   insert_cmp-closed key (Ins row) (Ins other) b a =
       let smaller = key_cmp_total.trans (key_of key_cols row) (key_of key_cols other) key b (turn_greater key_cmp_total key (key_of key_cols other) a) in

@@ -1,5 +1,6 @@
 pub mod Tree
 pub mod Lookups
 pub mod Search
+pub mod Positions
 pub mod Changes
 pub mod Laws

@@ -10,6 +10,10 @@ use Rattle.model.specs.declared.entry.Entry.{Entry}
 use Rattle.model.specs.declared.entry.Change.{Change}
 use Rattle.model.specs.declared.entry.Change.TheVariants.{Ins, Del, Mod}
 
+-- how what stands before all at a SID stands to a change there
+abbrev pub first_cmp : Change → Ordering
+first_cmp change = Less
+
 -- how an insert of the key stands to a change at its SID
 abbrev pub insert_cmp : ℕ → Key → Change → Ordering
 insert_cmp key_cols key (Ins row) = key_cmp key (key_of key_cols row)

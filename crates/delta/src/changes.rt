@@ -43,7 +43,7 @@ impl DeltaTree {
         ensures ok { OnOk result (self.new ≡ record self.old { entries = put_del self.old.key_cols sid key self.old.entries }) }
         ensures err { OnErr result (self.new ≡ self.old) }
     {
-        let place = self.place_of_base(sid);
+        let place = self.base_place(sid);
         let end = self.place_past(sid);
         let change = Change::Del(key);
         replace_run(&mut self.entries, place, end, Entry { sid, change })?;

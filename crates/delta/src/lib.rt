@@ -6,15 +6,18 @@
 #![tactic(auto)]
 
 mod changes;
+mod counts;
 mod entries;
 mod laws;
 mod lookup;
+mod places;
 mod sorted;
 #[cfg(test)]
 mod tests;
 mod tree;
 
-pub use entries::Iter;
+pub use entries::{EntriesAt, Iter};
 pub use laws::{a_write_is_one_call, canonical_look_ups, inserts_ascend_at_a_sid};
 pub use model::{Change, Entry};
+pub use places::{KeyPlace, Place};
 pub use tree::DeltaTree;

@@ -3,6 +3,7 @@ ghost use Rattle.std.specs.Prelude.{◌≡◌};
 ghost use Rattle.std.specs.Option.{option_copied};
 ghost use Rattle.delta.specs.Lookups.{has_delete, inserted_row};
 ghost use Rattle.delta.specs.Changes.{row_at, is_delete_at};
+ghost use Rattle.delta.specs.Search.{insert_cmp, stands_before, IsSplit};
 
 use crate::sorted::compare_insert;
 use crate::tree::DeltaTree;
@@ -14,7 +15,15 @@ impl DeltaTree {
     pub fn find_insert(&self, sid: u64, key: &[Value]) -> Option<&Row>
         ensures { option_copied result ≡ inserted_row self.now.key_cols sid key.now self.now.entries }
     {
-        let entry = self.entries.get(self.place_of_insert(sid, key))?;
+        self.insert_at_place(self.place_of_insert(sid, key), sid, key)
+    }
+
+    /// The same, where the search for the key has given its place.
+    pub(crate) fn insert_at_place(&self, place: usize, sid: u64, key: &[Value]) -> Option<&Row>
+        requires { IsSplit (stands_before (insert_cmp self.now.key_cols key.now) sid) self.now.entries place }
+        ensures { option_copied result ≡ inserted_row self.now.key_cols sid key.now self.now.entries }
+    {
+        let entry = self.entries.get(place)?;
         inserted_at(self.key_cols, entry, sid, key)
     }
 
@@ -22,7 +31,7 @@ impl DeltaTree {
     pub fn has_delete(&self, sid: u64) -> bool
         ensures { result ≡ has_delete sid self.now.entries }
     {
-        match self.entries.get(self.place_of_base(sid)) {
+        match self.entries.get(self.base_place(sid)) {
             Some(entry) => is_delete_at(entry, sid),
             None => false,
         }

@@ -1,7 +1,7 @@
 //! Binary search in the entries of a tree: by SID, and among those of one SID by what the change is.
 ghost use Rattle.std.specs.Prelude.{◌≡◌};
 ghost use Rattle.values.specs.Shape.{key_of};
-ghost use Rattle.delta.specs.Search.{insert_cmp, base_cmp, modify_cmp, past_cmp, stands_before, IsSplit};
+ghost use Rattle.delta.specs.Search.{first_cmp, insert_cmp, base_cmp, modify_cmp, past_cmp, stands_before, IsSplit};
 
 use crate::tree::DeltaTree;
 use model::Change;
@@ -9,6 +9,15 @@ use std::cmp::Ordering;
 use values::{Row, Value};
 
 impl DeltaTree {
+    /// How many entries stand at SIDs below this one.
+    pub(crate) fn place_of_sid(&self, sid: u64) -> usize
+        ensures { IsSplit (stands_before first_cmp sid) self.now.entries result }
+    {
+        self.entries
+            .as_slice()
+            .partition_point(|entry| sid.cmp(&entry.sid).then(Ordering::Less).is_gt())
+    }
+
     /// How many entries stand before the inserts of this key, or a greater one, at the SID.
     pub(crate) fn place_of_insert(&self, sid: u64, key: &[Value]) -> usize
         ensures { IsSplit (stands_before (insert_cmp self.now.key_cols key.now) sid) self.now.entries result }
@@ -21,8 +30,9 @@ impl DeltaTree {
         })
     }
 
-    /// How many entries stand before the delete, or the modifies, at the SID.
-    pub(crate) fn place_of_base(&self, sid: u64) -> usize
+    /// How many entries stand before what becomes of the base row at the SID: before its delete or its modifies, and past
+    /// the inserts there. Found by binary search; it takes no memory.
+    pub fn base_place(&self, sid: u64) -> usize
         ensures { IsSplit (stands_before base_cmp sid) self.now.entries result }
     {
         self.entries.as_slice().partition_point(|entry| {

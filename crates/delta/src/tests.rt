@@ -8,7 +8,10 @@
 ghost use Rattle.std.specs.Prelude.{◌≡◌, ◌<◌, ◌≤◌, IsTrue, IsSome, IsSomeAnd, length};
 ghost use Rattle.delta.specs.Lookups.{inserted_row};
 
+mod places;
+
 use super::*;
+use crate::tree::copy_entries;
 use std::alloc::Global;
 use std::process::Abort;
 use std::test::Fail;
@@ -61,28 +64,34 @@ fn write_cell(text: &mut String, cell: &Value) -> Result<(), Fail> {
     Ok(())
 }
 
+/// Writes the entry as a person reads it, with a space before it where it isn't the first.
+fn write_entry(text: &mut String, entry: &Entry) -> Result<(), Fail> {
+    if !text.is_empty() {
+        text.push_str(" ")?;
+    }
+    let sid = entry.sid;
+    match &entry.change {
+        Change::Ins(row) => {
+            write!(text, "{sid}+")?;
+            write_cells(text, row.cells())?;
+        }
+        Change::Del(key) => {
+            write!(text, "{sid}-")?;
+            write_cells(text, key.cells())?;
+        }
+        Change::Mod(col, value) => {
+            write!(text, "{sid}:{col}=")?;
+            write_cell(text, value)?;
+        }
+    }
+    Ok(())
+}
+
 /// The entries as a person reads them.
 fn shown(alloc: Global, tree: &DeltaTree) -> Result<String, Fail> {
     let mut text = String::new(alloc);
     for entry in tree.iter() {
-        if !text.is_empty() {
-            text.push_str(" ")?;
-        }
-        let sid = entry.sid;
-        match &entry.change {
-            Change::Ins(row) => {
-                write!(text, "{sid}+")?;
-                write_cells(&mut text, row.cells())?;
-            }
-            Change::Del(key) => {
-                write!(text, "{sid}-")?;
-                write_cells(&mut text, key.cells())?;
-            }
-            Change::Mod(col, value) => {
-                write!(text, "{sid}:{col}=")?;
-                write_cell(&mut text, value)?;
-            }
-        }
+        write_entry(&mut text, entry)?;
     }
     Ok(text)
 }

@@ -1,10 +1,12 @@
 //! The tree: a sorted vector of entries.
-ghost use Rattle.std.specs.Prelude.{◌≡◌, ◌↔◌, IsTrue, length, []};
+ghost use Rattle.std.specs.Prelude.{◌≡◌, ◌↔◌, IfOk, IsTrue, length, []};
 ghost use Rattle.delta.specs.Lookups.{total_of};
 
-use model::Entry;
+use crate::counts::count_changes;
+use model::{Change, Entry};
 use std::alloc::Global;
 use std::marker::Model;
+use values::NoMemory;
 
 /// The entries over the rows of an image, in order.
 #[derive(Drop)]
@@ -47,6 +49,45 @@ impl DeltaTree {
         }
     }
 
+    /// A tree of these entries, over rows whose key is their first `key_cols` cells. The vector becomes the tree's own, and
+    /// its inserts and deletes are counted in one pass.
+    ///
+    /// # Errors
+    ///
+    /// None today; a tree that has nodes makes them from the allocator, and a growth may be refused.
+    pub fn from_sorted(
+        alloc: Global,
+        key_cols: usize,
+        entries: Vec<Entry>,
+    ) -> Result<DeltaTree, NoMemory>
+        requires { IsLawful key_cols entries.items }
+        ensures { IfOk result (λ tree. tree ≡ record { key_cols = key_cols; entries = entries.items }) }
+    {
+        let counts = count_changes(entries.as_slice());
+        Ok(DeltaTree {
+            entries,
+            inserts: counts.inserts,
+            deletes: counts.deletes,
+            ..DeltaTree::new(alloc, key_cols)
+        })
+    }
+
+    /// Another tree of the same entries, with copies of their rows, keys and values.
+    ///
+    /// # Errors
+    ///
+    /// `NoMemory` where a growth is refused.
+    pub fn copy(&self) -> Result<DeltaTree, NoMemory>
+        ensures { IfOk result (λ tree. tree ≡ self.now) }
+    {
+        Ok(DeltaTree {
+            key_cols: self.key_cols,
+            entries: copy_entries(&self.entries)?,
+            inserts: self.inserts,
+            deletes: self.deletes,
+        })
+    }
+
     /// How many entries the tree has.
     pub fn len(&self) -> usize
         ensures { result ≡ length self.now.entries }
@@ -68,4 +109,30 @@ impl DeltaTree {
     {
         self.inserts as i64 - self.deletes as i64
     }
+}
+
+/// The entries, copied. Their places are made before the first is.
+pub(crate) fn copy_entries(entries: &Vec<Entry>) -> Result<Vec<Entry>, NoMemory>
+    ensures { IfOk result (λ copies. copies.items ≡ entries.now.items) }
+{
+    let mut copies = Vec::with_capacity(*entries.allocator(), entries.len())?;
+    for entry in entries.iter() {
+        copies.push(copy_entry(entry)?)?;
+    }
+    Ok(copies)
+}
+
+/// The entry, copied.
+fn copy_entry(entry: &Entry) -> Result<Entry, NoMemory>
+    ensures { IfOk result (λ copied. copied ≡ entry.now) }
+{
+    let change = match &entry.change {
+        Change::Ins(row) => Change::Ins(row.copy()?),
+        Change::Del(key) => Change::Del(key.copy()?),
+        Change::Mod(col, value) => Change::Mod(*col, value.copy()?),
+    };
+    Ok(Entry {
+        sid: entry.sid,
+        change,
+    })
 }

@@ -18,11 +18,11 @@ use Rattle.values.specs.declared.limits.TheConstants.{MAX_ROWS}
 use Rattle.model.proofs.TableLemmas.{table_of-rows_of}
 use Rattle.model.proofs.AllLaws.{leaves, fits_newest, commits_fit}
 use Rattle.model.proofs.HistoryLemmas.{length-table_after}
-use Rattle.pdtcli.specs.Stable.{Stable, IsStable, table_in}
-use Rattle.pdtcli.specs.Transaction.{Transaction, effects_of, asked_of, IsTransaction}
+use Rattle.stable.specs.Stable.{Stable, IsStable, table_in}
+use Rattle.txn.specs.Txn.{Transaction, effects_of, asked_of, IsTransaction}
 use Rattle.pdtcli.specs.Managed.{Managed, commits_in, newest_table, IsManaged, HasNewest, IsOwn, reply_due, record_of, with_record}
 use Rattle.pdtcli.specs.Prepared.{LeavesTable}
-use Rattle.pdtcli.proofs.TransactionLemmas.{over}
+use Rattle.txn.proofs.TxnLemmas.{over}
 
 pub take_length : {A : Type 0} (xs : List A) → take (length xs) xs ≡ xs
 take_length [] = refl

@@ -5,8 +5,9 @@ use Rattle.std.specs.Io.KnownBytes.{Appends}
 use Rattle.std.specs.List.{slice_get}
 use Rattle.values.specs.declared.row.Row.{Row}
 use Rattle.values.specs.declared.value.ColumnType.{ColumnType}
-use Rattle.pdtcli.specs.Output.{header_cells, kind_text, record_text, records_text, lines_text, rows_text, row_fields}
-use Rattle.pdtcli.specs.Reading.{Fields}
+use Rattle.pdtcli.specs.Output.{header_cells, kind_text, record_text, records_text, lines_text, rows_text}
+use Rattle.pdtcli.specs.Shown.{row_fields}
+use Rattle.inputs.specs.Reading.{Fields}
 use Rattle.pdtcli.specs.Replies.{line_fields}
 use Rattle.pdtcli.specs.declared.reply.ReplyLine.{ReplyLine}
 

@@ -1,21 +1,22 @@
 -- A run goes on by one call, and each open transaction stays one of the manager.
-use Rattle.std.proofs.Common.{◌≡◌, ℕ, ◌≤◌, Option, Some, None, List, [], ◌∷◌, ◌++◌, length, get_or, set, refl, sym, ap, ◌∙◌, subst, arith}
+use Rattle.std.proofs.Common.{◌≡◌, ℕ, ◌≤◌, Option, Some, None, List, [], ◌∷◌, ◌++◌, length, get_or, set, refl, sym, ap, ◌∙◌, subst, append_assoc, arith}
 use Rattle.std.specs.Prelude.{IfSome}
-use Rattle.std.proofs.lemmas.List.{take-append-le, length-append, length-set}
+use Rattle.std.proofs.lemmas.List.{take-append-le, append-nil, length-append, length-set}
 use Rattle.std.proofs.lemmas.List.Elements.{All-set}
 use Rattle.values.specs.Shape.{Columns}
+use Rattle.values.specs.declared.row.Row.{Row}
 use Rattle.model.specs.declared.write.CommitReply.{CommitReply}
 use Rattle.model.specs.declared.write.CommitReply.TheVariants.{Committed, Conflict, TooOld, Full}
 use Rattle.model.specs.declared.write.Write.{Write}
 use Rattle.model.specs.Effects.{Effects}
 use Rattle.model.specs.History.{Record, table_with_all, table_after, commits_with, effects_of_record}
-use Rattle.pdtcli.specs.declared.call.Call.{Call}
-use Rattle.pdtcli.specs.declared.call.Call.TheVariants as call
-use Rattle.pdtcli.specs.declared.call.ClientCall.{ClientCall}
+use Rattle.inputs.specs.declared.call.Call.{Call}
+use Rattle.inputs.specs.declared.call.Call.TheVariants as call
+use Rattle.inputs.specs.declared.call.ClientCall.{ClientCall}
 use Rattle.pdtcli.specs.declared.reply.Reply.{Reply}
-use Rattle.pdtcli.specs.declared.reply.Reply.TheVariants.{Begun, AlreadyOpen, NotOpen, Wrote, KeyColumn, TextTooLong, Decided, Aborted, NoMemory}
+use Rattle.pdtcli.specs.declared.reply.Reply.TheVariants.{Begun, AlreadyOpen, NotOpen, Wrote, KeyColumn, TextTooLong, Row as Shown, Missing, NoRow, Place, Rows, End, Decided, Aborted, NoMemory}
 use Rattle.pdtcli.specs.declared.reply.ReplyLine.{ReplyLine}
-use Rattle.pdtcli.specs.Transaction.{Transaction}
+use Rattle.txn.specs.Txn.{Transaction}
 use Rattle.pdtcli.specs.Managed.{Managed, commits_in, IsOwn, begun_at, with_record}
 use Rattle.pdtcli.specs.Run.{Side, SideStep, BeginStep, OpenWriteStep, OpenCommitStep, State, Step, IsRun}
 use Rattle.pdtcli.specs.Ready.{IsReady}
@@ -77,6 +78,12 @@ begin_keeps client old new KeyColumn own h = absurd h
 begin_keeps client old new (TextTooLong n) own h = absurd h
 begin_keeps client old new (Decided r) own h = absurd h
 begin_keeps client old new Aborted own h = absurd h
+begin_keeps client old new (Shown row) own h = absurd h
+begin_keeps client old new Missing own h = absurd h
+begin_keeps client old new NoRow own h = absurd h
+begin_keeps client old new (Place below there) own h = absurd h
+begin_keeps client old new (Rows count) own h = absurd h
+begin_keeps client old new (End count) own h = absurd h
 
 write_keeps : (txn : Transaction) (write : Write) (old new : Side) (reply : Reply) → IsOwn old.manager txn → IfSome old.own (IsOwn old.manager) → OpenWriteStep txn write old reply new → SideKeeps old new
 write_keeps txn write old new (Wrote r) mine own h = side_with old (Some _) (record { schema = mine.schema; limit = mine.limit; begun = mine.begun; snapshot = mine.snapshot }) new h.2
@@ -88,6 +95,12 @@ write_keeps txn write old new AlreadyOpen mine own h = absurd h
 write_keeps txn write old new NotOpen mine own h = absurd h
 write_keeps txn write old new (Decided r) mine own h = absurd h
 write_keeps txn write old new Aborted mine own h = absurd h
+write_keeps txn write old new (Shown row) mine own h = absurd h
+write_keeps txn write old new Missing mine own h = absurd h
+write_keeps txn write old new NoRow mine own h = absurd h
+write_keeps txn write old new (Place below there) mine own h = absurd h
+write_keeps txn write old new (Rows count) mine own h = absurd h
+write_keeps txn write old new (End count) mine own h = absurd h
 
 commit_keeps : (txn : Transaction) (old new : Side) (reply : Reply) → IfSome old.own (IsOwn old.manager) → OpenCommitStep txn old reply new → SideKeeps old new
 commit_keeps txn old new (Decided r) own h = subst (SideKeeps old) (sym h.1) (record { keeps = keeps_record old.manager _; own = tt })
@@ -99,26 +112,33 @@ commit_keeps txn old new (Wrote r) own h = absurd h
 commit_keeps txn old new KeyColumn own h = absurd h
 commit_keeps txn old new (TextTooLong n) own h = absurd h
 commit_keeps txn old new Aborted own h = absurd h
+commit_keeps txn old new (Shown row) own h = absurd h
+commit_keeps txn old new Missing own h = absurd h
+commit_keeps txn old new NoRow own h = absurd h
+commit_keeps txn old new (Place below there) own h = absurd h
+commit_keeps txn old new (Rows count) own h = absurd h
+commit_keeps txn old new (End count) own h = absurd h
 
 -- by the transaction that is open
-step_keeps : (client : ℕ) (asked : Call) (m : Managed) (mine : Option Transaction) (new : Side) (reply : Reply) → IfSome mine (IsOwn m) → SideStep client asked (record { manager = m; own = mine }) reply new → SideKeeps (record { manager = m; own = mine }) new
-step_keeps client call.Begin m mine new reply own h = begin_keeps client _ new reply own h
-step_keeps client (call.Write write) m None new reply own h = side_same _ new own h.1
-step_keeps client (call.Write write) m (Some txn) new reply own h = write_keeps txn write _ new reply own own h
-step_keeps client call.Commit m None new reply own h = side_same _ new own h.1
-step_keeps client call.Commit m (Some txn) new reply own h = commit_keeps txn _ new reply own h
-step_keeps client call.Abort m None new reply own h = side_same _ new own h.1
-step_keeps client call.Abort m (Some txn) new reply own h = side_with _ None tt new h.1
+step_keeps : (client : ℕ) (asked : Call) (m : Managed) (mine : Option Transaction) (new : Side) (rows : List Row) (reply : Reply) → IfSome mine (IsOwn m) → SideStep client asked (record { manager = m; own = mine }) rows reply new → SideKeeps (record { manager = m; own = mine }) new
+step_keeps client call.Begin m mine new rows reply own h = begin_keeps client _ new reply own h.1
+step_keeps client (call.Write write) m None new rows reply own h = side_same _ new own h.1.1
+step_keeps client (call.Write write) m (Some txn) new rows reply own h = write_keeps txn write _ new reply own own h.1
+step_keeps client (call.Read read) m mine new rows reply own h = side_same _ new own h.1
+step_keeps client call.Commit m None new rows reply own h = side_same _ new own h.1.1
+step_keeps client call.Commit m (Some txn) new rows reply own h = commit_keeps txn _ new reply own h.1
+step_keeps client call.Abort m None new rows reply own h = side_same _ new own h.1.1
+step_keeps client call.Abort m (Some txn) new rows reply own h = side_with _ None tt new h.1.1
 
 if_some : (old new : Managed) → Keeps old new → (own : Option Transaction) → IfSome own (IsOwn old) → IfSome own (IsOwn new)
 if_some old new keeps None h = tt
 if_some old new keeps (Some txn) h = keeps.own txn h
 
 -- the clients are ready again
-pub ready_again : (schema : Columns) (count : ℕ) (m : Managed) (transactions : List (Option Transaction)) → IsReady schema count m transactions → (client : ℕ) (asked : Call) (mine : Option Transaction) (new : Side) (reply : Reply) → IfSome mine (IsOwn m)
-    → SideStep client asked (record { manager = m; own = mine }) reply new → IsReady schema count new.manager (set transactions client new.own)
-ready_again schema count m transactions h client asked mine new reply own step =
-    let kept = step_keeps client asked m mine new reply own step in
+pub ready_again : (schema : Columns) (count : ℕ) (m : Managed) (transactions : List (Option Transaction)) → IsReady schema count m transactions → (client : ℕ) (asked : Call) (mine : Option Transaction) (new : Side) (rows : List Row) (reply : Reply) → IfSome mine (IsOwn m)
+    → SideStep client asked (record { manager = m; own = mine }) rows reply new → IsReady schema count new.manager (set transactions client new.own)
+ready_again schema count m transactions h client asked mine new rows reply own step =
+    let kept = step_keeps client asked m mine new rows reply own step in
     record {
       schema_is = kept.keeps.schema ∙ h.schema_is;
       many = length-set transactions client new.own ∙ h.many;
@@ -127,8 +147,17 @@ ready_again schema count m transactions h client asked mine new reply own step =
 
 -- ---- a run goes on
 
-pub IsRun-more : (old mid new : State) (calls : List ClientCall) (lines : List ReplyLine) (asked : ClientCall) (line : ReplyLine) → IsRun old calls lines mid → Step mid asked line new → IsRun old (calls ++ asked ∷ []) (lines ++ line ∷ []) new
-IsRun-more old mid new [] [] asked line r s = (new, subst (λ (st : State). Step st asked line new) r s, refl)
-IsRun-more old mid new [] (l ∷ lines) asked line r s = absurd r
-IsRun-more old mid new (c ∷ calls) [] asked line r s = absurd r
-IsRun-more old mid new (c ∷ calls) (l ∷ lines) asked line r s = (r.0, r.1, IsRun-more r.0 mid new calls lines asked line r.2 s)
+pub IsRun-more : (old mid new : State) (calls : List ClientCall) (lines : List ReplyLine) (asked : ClientCall) (these : List ReplyLine) → IsRun old calls lines mid → Step mid asked these new → IsRun old (calls ++ asked ∷ []) (lines ++ these) new
+IsRun-more old mid new [] lines asked these r s =
+    (new, these, [], ap (λ (ls : List ReplyLine). ls ++ these) r.0 ∙ sym (append-nil these), subst (λ (st : State). Step st asked these new) r.1 s, (refl, refl))
+IsRun-more old mid new (c ∷ calls) lines asked these r s =
+    let next = r.0 in
+    let first = r.1 in
+    let rest = r.2 in (
+      next,
+      first,
+      rest ++ these,
+      ap (λ (ls : List ReplyLine). ls ++ these) r.3 ∙ append_assoc first rest these,
+      r.4,
+      IsRun-more next mid new calls rest asked these r.5 s,
+    )

@@ -6,8 +6,8 @@ use Rattle.model.specs.declared.write.CommitReply.{CommitReply}
 use Rattle.model.specs.Table.{Table, IsTable}
 use Rattle.model.specs.Effects.{Effects}
 use Rattle.model.specs.History.{Record, IsLegal, commits_of, table_after, table_with_all, due_reply}
-use Rattle.pdtcli.specs.Stable.{Stable, table_in}
-use Rattle.pdtcli.specs.Transaction.{Transaction, effects_of}
+use Rattle.stable.specs.Stable.{Stable, table_in}
+use Rattle.txn.specs.Txn.{Transaction, effects_of}
 use Rattle.pdtcli.specs.declared.plain.manager.OpenFault.{OpenFault}
 use Rattle.pdtcli.specs.declared.plain.manager.OpenFault.TheVariants.{BadLimit, TooManyRows}
 

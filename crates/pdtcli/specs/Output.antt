@@ -1,7 +1,6 @@
 -- What is shown of a run: its reply lines, an empty line, and the image with its header.
 use Rattle.std.specs.Prelude.{◌≡◌, ℕ, suc, Bool, true, false, cond, nat_lt, Some, List, [], ◌∷◌, ◌++◌, map, codes, Vec}
 use Rattle.std.specs.declared.alloc.Global.{Global}
-use Rattle.std.specs.Fmt.{signed_decimal}
 use Rattle.std.specs.List.{list_any}
 use Rattle.csv.specs.Writing.{default_writer, with_flexible, row_text, writer_setup, fields_written, has_written, text_written}
 use Rattle.csv.specs.declared.writer.Writer.{Writer}
@@ -9,29 +8,17 @@ use Rattle.values.specs.Shape.{Columns}
 use Rattle.values.specs.declared.row.Row.{Row}
 use Rattle.values.specs.declared.value.ColumnType.{ColumnType}
 use Rattle.values.specs.declared.value.ColumnType.TheVariants as column
-use Rattle.values.specs.declared.value.Value.{Value}
-use Rattle.values.specs.declared.value.Value.TheVariants.{Int, Text, Bool as Truth}
 use Rattle.model.specs.Table.{rows_of}
 use Rattle.pdtcli.specs.Managed.{newest_table}
 use Rattle.pdtcli.specs.Outcome.{Left}
-use Rattle.pdtcli.specs.Reading.{Fields}
+use Rattle.inputs.specs.Reading.{Fields}
 use Rattle.pdtcli.specs.Replies.{line_fields}
+use Rattle.pdtcli.specs.Shown.{row_fields}
 use Rattle.pdtcli.specs.declared.reply.Reply.{Reply}
 use Rattle.pdtcli.specs.declared.reply.Reply.TheVariants as reply
 use Rattle.pdtcli.specs.declared.reply.ReplyLine.{ReplyLine}
 
 -- ---- the records of an image
-
--- a cell's field
-abbrev pub cell_text : Value → List ℕ
-cell_text (Int number) = signed_decimal number
-cell_text (Text bytes) = bytes
-cell_text (Truth true) = codes "true"
-cell_text (Truth false) = codes "false"
-
--- a row's record
-abbrev pub row_fields : Row → Fields
-row_fields row = map cell_text row
 
 -- what stands after a column's name: its type, and whether it is one of the key
 abbrev pub kind_text : ColumnType → Bool → List ℕ

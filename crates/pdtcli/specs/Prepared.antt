@@ -4,7 +4,7 @@ use Rattle.model.specs.declared.write.CommitReply.TheVariants.{Committed, Confli
 use Rattle.model.specs.declared.write.CommitReply.{CommitReply}
 use Rattle.model.specs.Table.{rows_of}
 use Rattle.model.specs.Effects.{table_with}
-use Rattle.pdtcli.specs.Transaction.{Transaction, effects_of}
+use Rattle.txn.specs.Txn.{Transaction, effects_of}
 use Rattle.pdtcli.specs.Managed.{Managed, newest_table, reply_due}
 use Rattle.pdtcli.specs.declared.plain.manager.Prepared.{Prepared}
 use Rattle.pdtcli.specs.declared.plain.manager.Prepared.TheVariants.{Refused, Granted}

@@ -4,12 +4,13 @@ use Rattle.model.specs.declared.write.WriteReply.{WriteReply}
 use Rattle.model.specs.declared.write.WriteReply.TheVariants as write_reply
 use Rattle.model.specs.declared.write.CommitReply.{CommitReply}
 use Rattle.model.specs.declared.write.CommitReply.TheVariants as commit_reply
-use Rattle.pdtcli.specs.Reading.{Fields}
+use Rattle.inputs.specs.Reading.{Fields}
+use Rattle.pdtcli.specs.Shown.{row_fields, truth_text}
 use Rattle.pdtcli.specs.declared.reply.Reply.{Reply}
 use Rattle.pdtcli.specs.declared.reply.Reply.TheVariants as reply
 use Rattle.pdtcli.specs.declared.reply.ReplyLine.{ReplyLine}
-use Rattle.pdtcli.specs.declared.verb.Verb.{Verb}
-use Rattle.pdtcli.specs.declared.verb.Verb.TheVariants as verb
+use Rattle.inputs.specs.declared.verb.Verb.{Verb}
+use Rattle.inputs.specs.declared.verb.Verb.TheVariants as verb
 
 -- the name of the client of this number
 abbrev pub client_name : List (List ℕ) → ℕ → List ℕ
@@ -21,6 +22,11 @@ verb_word verb.Begin = codes "begin"
 verb_word verb.Insert = codes "insert"
 verb_word verb.Delete = codes "delete"
 verb_word verb.Set = codes "set"
+verb_word verb.Get = codes "get"
+verb_word verb.At = codes "at"
+verb_word verb.Rank = codes "rank"
+verb_word verb.Len = codes "len"
+verb_word verb.Scan = codes "scan"
 verb_word verb.Commit = codes "commit"
 verb_word verb.Abort = codes "abort"
 
@@ -37,7 +43,7 @@ commit_fields (commit_reply.Conflict held) = codes "Conflict" ∷ decimal held �
 commit_fields (commit_reply.TooOld held) = codes "TooOld" ∷ decimal held ∷ []
 commit_fields (commit_reply.Full held) = codes "Full" ∷ decimal held ∷ []
 
--- a reply's word, and its number where it has one
+-- a reply's word, and its values where it has some
 abbrev pub reply_fields : Reply → Fields
 reply_fields reply.Begun = codes "Begun" ∷ []
 reply_fields reply.AlreadyOpen = codes "AlreadyOpen" ∷ []
@@ -45,6 +51,12 @@ reply_fields reply.NotOpen = codes "NotOpen" ∷ []
 reply_fields (reply.Wrote answer) = write_fields answer
 reply_fields reply.KeyColumn = codes "KeyColumn" ∷ []
 reply_fields (reply.TextTooLong at) = codes "TextTooLong" ∷ decimal at ∷ []
+reply_fields (reply.Row row) = codes "Row" ∷ row_fields row
+reply_fields reply.Missing = codes "Missing" ∷ []
+reply_fields reply.NoRow = codes "None" ∷ []
+reply_fields (reply.Place below there) = codes "Place" ∷ decimal below ∷ truth_text there ∷ []
+reply_fields (reply.Rows count) = codes "Rows" ∷ decimal count ∷ []
+reply_fields (reply.End count) = codes "End" ∷ decimal count ∷ []
 reply_fields (reply.Decided answer) = commit_fields answer
 reply_fields reply.Aborted = codes "Aborted" ∷ []
 reply_fields reply.NoMemory = codes "NoMemory" ∷ []

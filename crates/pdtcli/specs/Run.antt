@@ -1,19 +1,23 @@
 -- A serial run: what each call may be answered, and what it leaves.
-use Rattle.std.specs.Prelude.{◌≡◌, ℕ, ◌==◌, Bool, true, false, ◌&&◌, Option, Some, None, IsNone, IsSome, List, [], ◌∷◌, filter, length, slice_get, slice_set}
+use Rattle.std.specs.Prelude.{◌≡◌, ℕ, ◌==◌, Bool, true, false, ◌&&◌, Option, Some, None, IsNone, IsSome, List, [], ◌∷◌, ◌++◌, map, filter, length, slice_get, slice_set}
 use Rattle.values.specs.Shape.{Columns, row_fault, key_fault, cell_fault, or_fault}
 use Rattle.values.specs.declared.fault.ShapeFault.{ShapeFault}
 use Rattle.values.specs.declared.fault.ShapeFault.TheVariants as shape
+use Rattle.values.specs.declared.row.Row.{Row}
 use Rattle.model.specs.declared.write.Write.{Write}
 use Rattle.model.specs.declared.write.Write.TheVariants as asked
-use Rattle.pdtcli.specs.declared.call.Call.{Call}
-use Rattle.pdtcli.specs.declared.call.Call.TheVariants as call
-use Rattle.pdtcli.specs.declared.call.ClientCall.{ClientCall}
+use Rattle.inputs.specs.declared.call.Call.{Call}
+use Rattle.inputs.specs.declared.call.Call.TheVariants as call
+use Rattle.inputs.specs.declared.call.Read.{Read}
+use Rattle.inputs.specs.declared.call.Read.TheVariants.{Get, At, Rank, Len, Scan}
+use Rattle.inputs.specs.declared.call.ClientCall.{ClientCall}
 use Rattle.pdtcli.specs.declared.reply.Reply.{Reply}
-use Rattle.pdtcli.specs.declared.reply.Reply.TheVariants.{Begun, AlreadyOpen, NotOpen, Wrote, KeyColumn, TextTooLong, Decided, Aborted, NoMemory}
+use Rattle.pdtcli.specs.declared.reply.Reply.TheVariants.{Begun, AlreadyOpen, NotOpen, Wrote, KeyColumn, TextTooLong, Row as Shown, Decided, Aborted, NoMemory}
 use Rattle.pdtcli.specs.declared.reply.ReplyLine.{ReplyLine}
-use Rattle.pdtcli.specs.declared.verb.Verb.{Verb}
-use Rattle.pdtcli.specs.declared.verb.Verb.TheVariants as verb
-use Rattle.pdtcli.specs.Transaction.{Transaction, with_write, answer_to}
+use Rattle.inputs.specs.declared.verb.Verb.{Verb}
+use Rattle.inputs.specs.declared.verb.Verb.TheVariants as verb
+use Rattle.txn.specs.Txn.{Transaction, with_write, answer_to}
+use Rattle.pdtcli.specs.Reads.{ReadStep}
 use Rattle.pdtcli.specs.Managed.{Managed, begun_at, reply_due, record_of, with_record}
 
 -- ---- one client's side
@@ -64,12 +68,13 @@ abbrev pub AbortStep : Option Transaction → Side → Reply → Side → Type 0
 AbortStep None old reply new = (reply ≡ NotOpen) × (new ≡ old)
 AbortStep (Some txn) old reply new = (reply ≡ Aborted) × (new ≡ record old { own = None })
 
--- the client's call may be answered so, and leave this
-abbrev pub SideStep : ℕ → Call → Side → Reply → Side → Type 0
-SideStep client call.Begin old reply new = BeginStep client old reply new
-SideStep client (call.Write write) old reply new = WriteStep old.own write old reply new
-SideStep client call.Commit old reply new = CommitStep old.own old reply new
-SideStep client call.Abort old reply new = AbortStep old.own old reply new
+-- the client's call may show these rows, be answered so, and leave this
+abbrev pub SideStep : ℕ → Call → Side → List Row → Reply → Side → Type 0
+SideStep client call.Begin old rows reply new = (rows ≡ []) × BeginStep client old reply new
+SideStep client (call.Write write) old rows reply new = (rows ≡ []) × WriteStep old.own write old reply new
+SideStep client (call.Read read) old rows reply new = ReadStep old.own read rows reply × (new ≡ old)
+SideStep client call.Commit old rows reply new = (rows ≡ []) × CommitStep old.own old reply new
+SideStep client call.Abort old rows reply new = (rows ≡ []) × AbortStep old.own old reply new
 
 -- ---- all clients
 
@@ -96,9 +101,17 @@ verb_of_write (asked.Insert row) = verb.Insert
 verb_of_write (asked.Delete key) = verb.Delete
 verb_of_write (asked.Set key col value) = verb.Set
 
+abbrev pub verb_of_read : Read → Verb
+verb_of_read (Get key) = verb.Get
+verb_of_read (At rid) = verb.At
+verb_of_read (Rank key) = verb.Rank
+verb_of_read Len = verb.Len
+verb_of_read (Scan from to) = verb.Scan
+
 abbrev pub verb_of_call : Call → Verb
 verb_of_call call.Begin = verb.Begin
 verb_of_call (call.Write write) = verb_of_write write
+verb_of_call (call.Read read) = verb_of_read read
 verb_of_call call.Commit = verb.Commit
 verb_of_call call.Abort = verb.Abort
 
@@ -106,20 +119,31 @@ verb_of_call call.Abort = verb.Abort
 abbrev pub line_of : ClientCall → Reply → ReplyLine
 line_of asked reply = record { client = asked.client; verb = verb_of_call asked.call; reply = reply }
 
--- the call's client takes a step, which leaves the others, and the line tells its reply
-pub record Step (old : State) (asked : ClientCall) (line : ReplyLine) (new : State) : Type 0 where
+-- the lines of the rows that a call shows
+abbrev pub shown_lines : ClientCall → List Row → List ReplyLine
+shown_lines asked rows = map (λ row. line_of asked (Shown row)) rows
+
+-- the lines of a call: those rows, and its reply
+abbrev pub lines_of : ClientCall → List Row → Reply → List ReplyLine
+lines_of asked rows reply = shown_lines asked rows ++ line_of asked reply ∷ []
+
+-- a client's side is served: the lines before the reply are those of rows, and the side takes the step
+abbrev pub IsServed : ClientCall → Side → List ReplyLine → Reply → List ReplyLine → Side → Type 0
+IsServed asked old before reply after new = (rows : List Row) × SideStep asked.client asked.call old rows reply new × (after ≡ before ++ shown_lines asked rows)
+
+-- the call's client takes a step, which leaves the others, and the lines tell it
+pub record Step (old : State) (asked : ClientCall) (lines : List ReplyLine) (new : State) : Type 0 where
+  pub rows : List Row
   pub reply : Reply
   pub side : Side
-  pub steps : SideStep asked.client asked.call (side_of old asked.client) reply side
-  pub told : line ≡ line_of asked reply
+  pub steps : SideStep asked.client asked.call (side_of old asked.client) rows reply side
+  pub told : lines ≡ lines_of asked rows reply
   pub left : new ≡ with_side old asked.client side
 
--- a line for each call, in order
+-- the lines of each call, in order
 abbrev pub IsRun : State → List ClientCall → List ReplyLine → State → Type 0
-IsRun old [] [] new = new ≡ old
-IsRun old [] (line ∷ lines) new = ⊥
-IsRun old (asked ∷ calls) [] new = ⊥
-IsRun old (asked ∷ calls) (line ∷ lines) new = (mid : State) × Step old asked line mid × IsRun mid calls lines new
+IsRun old [] lines new = (lines ≡ []) × (new ≡ old)
+IsRun old (asked ∷ calls) lines new = (mid : State) × (these : List ReplyLine) × (rest : List ReplyLine) × (lines ≡ these ++ rest) × Step old asked these mid × IsRun mid calls rest new
 
 -- ---- counts
 

@@ -5,8 +5,8 @@ use Rattle.values.specs.declared.fault.ShapeFault.{ShapeFault}
 use Rattle.values.specs.declared.fault.ShapeFault.TheVariants as shape
 use Rattle.model.specs.declared.write.Write.{Write}
 use Rattle.pdtcli.specs.Run.{write_fault}
-use Rattle.pdtcli.specs.declared.plain.txn.WriteFault.{WriteFault}
-use Rattle.pdtcli.specs.declared.plain.txn.WriteFault.TheVariants.{Shape, NoMemory}
+use Rattle.txn.specs.declared.fault.WriteFault.{WriteFault}
+use Rattle.txn.specs.declared.fault.WriteFault.TheVariants.{Shape, NoMemory}
 use Rattle.pdtcli.specs.declared.reply.Reply.{Reply}
 use Rattle.pdtcli.specs.declared.reply.Reply.TheVariants as reply
 

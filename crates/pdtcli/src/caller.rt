@@ -1,17 +1,21 @@
 //! One client's side of a run: the transaction that it has open, and the reply to each of its calls.
-ghost use Rattle.std.specs.Prelude.{◌≡◌, Some, None, IfOk, IfErr, OnErr, IsTrue, IfSome};
+ghost use Rattle.std.specs.Prelude.{◌≡◌, ◌≤◌, ◌+◌, ◌++◌, List, Some, None, IfOk, IfErr, OnErr, IsTrue, IfSome, vec_len, vec_capacity};
+ghost use Rattle.values.specs.declared.row.Row.{Row};
+ghost use Rattle.pdtcli.specs.Reads.{ReadStep};
 ghost use Rattle.pdtcli.specs.declared.reply.Reply.TheVariants as reply;
-ghost use Rattle.pdtcli.specs.Calls.{is_typed_call, is_typed_write};
-ghost use Rattle.pdtcli.specs.Transaction.{IsAnswered};
+ghost use Rattle.inputs.specs.Typed.{is_typed_call, is_typed_read, is_typed_write};
+ghost use Rattle.txn.specs.Txn.{IsAnswered};
 ghost use Rattle.pdtcli.specs.Managed.{Managed, IsOwn};
-ghost use Rattle.pdtcli.specs.Run.{SideStep, BeginStep, WriteStep, OpenWriteStep, CommitStep, AbortStep};
+ghost use Rattle.pdtcli.specs.Run.{IsServed, shown_lines, BeginStep, WriteStep, OpenWriteStep, CommitStep, AbortStep};
 ghost use Rattle.pdtcli.specs.Told.{IsCause, IsTold, told};
 
-use crate::call::Call;
-use crate::plain::{Manager, Txn, WriteFault};
-use crate::reply::Reply;
+use crate::plain::Manager;
+use crate::reads::read_in;
+use crate::reply::{Reply, ReplyLine};
+use inputs::{Call, ClientCall, Read};
 use model::{Write, WriteReply};
 use std::marker::Model;
+use txn::{Txn, WriteFault};
 use values::{NoMemory, ShapeFault};
 
 /// A client, with the transaction that it has open. A transaction that is open where the client is let go ends there.
@@ -21,7 +25,7 @@ pub(crate) struct Caller {
 
 impl Model for Caller {
     ghost use Rattle.std.specs.Prelude.{Option};
-    ghost use Rattle.pdtcli.specs.Transaction.{Transaction};
+    ghost use Rattle.txn.specs.Txn.{Transaction};
 
     ghost Value = { Option Transaction };
 
@@ -45,15 +49,25 @@ impl Caller {
         Caller { own: None }
     }
 
-    /// Makes the client's call.
-    pub(crate) fn serve(&mut self, client: u32, manager: &mut Manager, call: &Call) -> Reply
+    /// Makes a call of the client: adds the line of each row that it shows, and answers what ends them. There is room for
+    /// so many lines after those.
+    pub(crate) fn serve(
+        &mut self,
+        asked: &ClientCall,
+        manager: &mut Manager,
+        lines: &mut Vec<ReplyLine>,
+        left: usize,
+    ) -> Reply
         requires own { IfSome self.old (IsOwn manager.old) }
-        requires typed { IfSome self.old (λ txn. IsTrue (is_typed_call txn.schema call.now)) }
-        ensures { SideStep client call.now (record { manager = manager.old; own = self.old }) result (record { manager = manager.new; own = self.new }) }
+        requires typed { IfSome self.old (λ txn. IsTrue (is_typed_call txn.schema asked.now.call)) }
+        requires room { vec_len lines.old + left ≤ vec_capacity lines.old }
+        ensures step { IsServed asked.now (record { manager = manager.old; own = self.old }) lines.old.items result lines.new.items (record { manager = manager.new; own = self.new }) }
+        ensures room { vec_len lines.new + left ≤ vec_capacity lines.new }
     {
-        match call {
-            Call::Begin => self.begin(client, manager),
+        match &asked.call {
+            Call::Begin => self.begin(asked.client, manager),
             Call::Write(write) => self.write(write),
+            Call::Read(read) => self.read(asked, read, lines, left),
             Call::Commit => self.commit(manager),
             Call::Abort => self.abort(),
         }
@@ -93,6 +107,25 @@ impl Caller {
         match &mut self.own {
             None => Reply::NotOpen,
             Some(txn) => write_in(txn, write),
+        }
+    }
+
+    /// Reads in the open transaction.
+    fn read(
+        &self,
+        asked: &ClientCall,
+        read: &Read,
+        lines: &mut Vec<ReplyLine>,
+        left: usize,
+    ) -> Reply
+        requires typed { IfSome self.now (λ txn. IsTrue (is_typed_read txn.schema read.now)) }
+        requires room { vec_len lines.old + left ≤ vec_capacity lines.old }
+        ensures step { (rows : List Row) × ReadStep self.now read.now rows result × (lines.new.items ≡ lines.old.items ++ shown_lines asked.now rows) }
+        ensures room { vec_len lines.new + left ≤ vec_capacity lines.new }
+    {
+        match &self.own {
+            None => Reply::NotOpen,
+            Some(txn) => read_in(txn, asked, read, lines, left),
         }
     }
 

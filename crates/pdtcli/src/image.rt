@@ -1,12 +1,15 @@
 //! The records of an image: the header, whose cells name the columns as a table's header does, and the rows.
-ghost use Rattle.std.specs.Prelude.{◌≡◌, ◌<◌, ◌++◌, ◌∷◌, [], OnOk, IfOk, length};
+ghost use Rattle.std.specs.Prelude.{◌≡◌, ◌<◌, ◌++◌, ◌∷◌, [], OnOk, IfOk, get_or, length};
+ghost use Rattle.values.specs.Lent.{value_of};
 ghost use Rattle.csv.specs.Records.{fields_of, partial_of};
-ghost use Rattle.pdtcli.specs.Output.{cell_text, header_fields, kind_text, row_fields};
+ghost use Rattle.pdtcli.specs.Output.{header_fields, kind_text};
+ghost use Rattle.pdtcli.specs.Shown.{cell_text, row_fields};
 
 use csv::ByteRecord;
 use itoa::Buffer;
+use stable::StableTable;
 use std::alloc::Global;
-use values::{ColumnType, NoMemory, Row, Schema, Value};
+use values::{ColumnType, NoMemory, Schema, ValueRef};
 
 /// Adds a header cell for each column.
 pub(crate) fn push_header(
@@ -49,30 +52,35 @@ fn kind_of(column: ColumnType, is_key: bool) -> &'static str
     }
 }
 
-/// Adds a field for each cell of a row.
-pub(crate) fn push_row(fields: &mut ByteRecord, row: &Row) -> Result<(), NoMemory>
+/// Adds a field for each cell of a row of the table.
+pub(crate) fn push_row(
+    fields: &mut ByteRecord,
+    table: &StableTable,
+    sid: u64,
+) -> Result<(), NoMemory>
+    requires row { sid < length table.now.rows }
     requires whole { partial_of fields.old ≡ [] }
-    ensures fields { OnOk result (fields_of fields.new ≡ fields_of fields.old ++ row_fields row.now) }
+    ensures fields { OnOk result (fields_of fields.new ≡ fields_of fields.old ++ row_fields (get_or table.now.rows sid [])) }
     ensures whole { OnOk result (partial_of fields.new ≡ []) }
 {
-    for cell in row.cells() {
-        push_cell(fields, cell)?;
+    for col in 0..table.schema().width() {
+        push_cell(fields, table.value(sid, col))?;
     }
     Ok(())
 }
 
 /// Adds a cell: a number in decimal, a text as it is, a truth by its name.
-fn push_cell(fields: &mut ByteRecord, cell: &Value) -> Result<(), NoMemory>
+pub(crate) fn push_cell(fields: &mut ByteRecord, cell: ValueRef<'_>) -> Result<(), NoMemory>
     requires whole { partial_of fields.old ≡ [] }
-    ensures fields { OnOk result (fields_of fields.new ≡ fields_of fields.old ++ cell_text cell.now ∷ []) }
+    ensures fields { OnOk result (fields_of fields.new ≡ fields_of fields.old ++ cell_text (value_of cell.entry) ∷ []) }
     ensures whole { OnOk result (partial_of fields.new ≡ []) }
 {
     let mut digits = Buffer::new();
     let text = match cell {
-        Value::Int(number) => digits.format(*number),
-        Value::Text(text) => text.as_str(),
-        Value::Bool(true) => "true",
-        Value::Bool(false) => "false",
+        ValueRef::Int(number) => digits.format(number),
+        ValueRef::Text(text) => text,
+        ValueRef::Bool(true) => "true",
+        ValueRef::Bool(false) => "false",
     };
     fields.push_field(text.as_bytes())?;
     Ok(())

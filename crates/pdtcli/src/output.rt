@@ -2,7 +2,7 @@
 //!
 //! Text is made of a few hundred records and handed on before more is made, so that the memory that it takes does not
 //! grow with the table.
-ghost use Rattle.std.specs.Prelude.{◌≡◌, ◌++◌, ◌∷◌, [], ℕ, List, Some, OnOk, IfOk};
+ghost use Rattle.std.specs.Prelude.{◌≡◌, ◌≤◌, ◌-◌, ◌++◌, ◌∷◌, [], ℕ, List, Some, OnOk, IfOk, length, take, drop};
 ghost use Rattle.std.specs.Io.KnownBytes.{Appends};
 ghost use Rattle.csv.specs.Records.{fields_of};
 ghost use Rattle.pdtcli.specs.Output.{IsWritten, exit_status, image_text, is_no_memory, lines_text, record_text, rows_text, shown};
@@ -13,11 +13,12 @@ use crate::image::{push_header, push_row};
 use crate::outcome::Outcome;
 use crate::reply::{Reply, ReplyLine, push_line};
 use csv::{ByteRecord, Writer, WriterBuilder};
+use stable::StableTable;
 use std::alloc::Global;
 use std::error::Error;
 use std::fmt;
 use std::io::Write;
-use values::{NoMemory, Row, Schema, Text};
+use values::{NoMemory, Schema, Text};
 
 /// How many records are made text before it is handed on.
 const RECORDS_AT_ONCE: usize = 256;
@@ -67,7 +68,7 @@ pub fn show<W: Write>(alloc: Global, outcome: &Outcome, out: &mut W) -> Result<u
     let newest = outcome.manager().newest();
     show_lines(alloc, outcome.clients(), outcome.lines(), out)?;
     show_header(alloc, newest.schema(), out)?;
-    show_rows(alloc, newest.rows(), out)?;
+    show_rows(alloc, newest, out)?;
     Ok(status_of(outcome.lines()))
 }
 
@@ -117,14 +118,18 @@ fn show_header<W: Write>(alloc: Global, schema: &Schema, out: &mut W) -> Result<
 }
 
 /// Writes the rows.
-fn show_rows<W: Write>(alloc: Global, rows: &[Row], out: &mut W) -> Result<(), ShowFault>
-    ensures { OnOk result (Appends (W.contents out.old) (W.contents out.new) (rows_text rows.now)) }
+fn show_rows<W: Write>(alloc: Global, table: &StableTable, out: &mut W) -> Result<(), ShowFault>
+    ensures { OnOk result (Appends (W.contents out.old) (W.contents out.new) (rows_text table.now.rows)) }
 {
+    let count = table.len();
     let mut fields = ByteRecord::new(alloc);
     let mut text = Vec::new(alloc);
-    for chunk in rows.chunks(RECORDS_AT_ONCE) {
-        text = rows_after(&mut fields, chunk, text)?;
+    let mut shown = 0;
+    while shown < count {
+        let next = count.min(shown + RECORDS_AT_ONCE as u64);
+        text = rows_after(&mut fields, table, shown, next, text)?;
         send(&mut text, out)?;
+        shown = next;
     }
     Ok(())
 }
@@ -158,14 +163,22 @@ fn header_text(alloc: Global, schema: &Schema) -> Result<Vec<u8>, NoMemory>
     text_of(writer)
 }
 
-/// The text, and after it the rows. The record is used again for each row.
-fn rows_after(fields: &mut ByteRecord, rows: &[Row], text: Vec<u8>) -> Result<Vec<u8>, NoMemory>
-    ensures { IfOk result (λ longer. longer.items ≡ text.items ++ rows_text rows.now) }
+/// The text, and after it the rows from one place up to another. The record is used again for each row.
+fn rows_after(
+    fields: &mut ByteRecord,
+    table: &StableTable,
+    from: u64,
+    to: u64,
+    text: Vec<u8>,
+) -> Result<Vec<u8>, NoMemory>
+    requires ordered { from ≤ to }
+    requires within { to ≤ length table.now.rows }
+    ensures { IfOk result (λ longer. longer.items ≡ text.items ++ rows_text (take (to - from) (drop from table.now.rows))) }
 {
     let mut writer = records_after(text);
-    for row in rows {
+    for sid in from..to {
         fields.clear();
-        push_row(fields, row)?;
+        push_row(fields, table, sid)?;
         put(&mut writer, fields)?;
     }
     text_of(writer)

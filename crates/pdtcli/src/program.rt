@@ -2,22 +2,21 @@
 //! run leaves.
 ghost use Rattle.std.specs.Prelude.{◌≡◌, ◌<◌, false, IfErr, IfOk, IfSome, IsTrue, None, Err, length};
 ghost use Rattle.std.specs.List.{All};
-ghost use Rattle.pdtcli.specs.Calls.{is_typed_call};
+ghost use Rattle.inputs.specs.Typed.{is_typed_call};
 ghost use Rattle.std.specs.Io.KnownBytes.{Appends};
-ghost use Rattle.pdtcli.specs.Input.{IsTableOf};
+ghost use Rattle.inputs.specs.Input.{IsTableOf};
 ghost use Rattle.pdtcli.specs.Outcome.{Left};
 ghost use Rattle.pdtcli.specs.Output.{exit_status, shown};
 ghost use Rattle.pdtcli.specs.Program.{IsRunOf};
 ghost use Rattle.pdtcli.specs.Refusals.{is_output};
-ghost use Rattle.pdtcli.specs.Script.{IsScriptOf};
+ghost use Rattle.inputs.specs.Script.{IsScriptOf};
 
-use crate::call::Script;
 use crate::output::show;
-use crate::plain::{Manager, StableTable};
+use crate::plain::Manager;
 use crate::refusal::Refusal;
-use crate::script::read_script;
 use crate::serial::run_serial;
-use crate::table::read_table;
+use inputs::{Script, TableFault, read_script, read_table};
+use stable::{BuildFault, StableTable};
 use std::alloc::Global;
 use std::io::Write;
 use values::Schema;
@@ -67,10 +66,13 @@ fn table_of(alloc: Global, bytes: Option<&[u8]>) -> Result<StableTable, Refusal>
         return Err(Refusal::UnreadableTable);
     };
     let (schema, rows) = read_table(alloc, text)?;
-    match StableTable::build(schema, rows) {
+    match StableTable::build(alloc, schema, rows) {
         Ok(table) => Ok(table),
-        // What was read fits and ascends.
-        Err(_) => unreachable!(),
+        Err(fault) => match fault {
+            BuildFault::NoMemory => Err(Refusal::Table(TableFault::NoMemory)),
+            // What was read fits and ascends.
+            _ => unreachable!(),
+        },
     }
 }
 

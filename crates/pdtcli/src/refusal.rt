@@ -4,9 +4,9 @@ ghost use Rattle.std.specs.Prelude.{◌≡◌, ◌++◌, Some, codes};
 ghost use Rattle.pdtcli.specs.Refusals.{part_text, refusal_text};
 ghost use Rattle.pdtcli.specs.declared.refusal.Refusal.TheVariants as parts;
 
-use crate::fault::{ScriptFault, TableFault};
 use crate::output::ShowFault;
 use crate::plain::OpenFault;
+use inputs::{ScriptFault, TableFault};
 use std::error::Error;
 use std::fmt;
 use values::NoMemory;

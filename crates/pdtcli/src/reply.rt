@@ -1,16 +1,18 @@
 //! What a script's calls are answered, and the fields of the reply lines: the one place where a reply becomes text.
 ghost use Rattle.std.specs.Prelude.{◌≡◌, ◌++◌, ◌∷◌, [], OnOk, codes, decimal};
 ghost use Rattle.csv.specs.Records.{fields_of, partial_of};
-ghost use Rattle.pdtcli.specs.Replies.{client_name, line_fields, reply_fields, verb_word};
+ghost use Rattle.pdtcli.specs.Replies.{client_name, commit_fields, line_fields, reply_fields, verb_word, write_fields};
+ghost use Rattle.pdtcli.specs.Shown.{row_fields, truth_text};
 
-use crate::verb::Verb;
+use crate::image::push_cell;
 use csv::ByteRecord;
+use inputs::Verb;
 use itoa::Buffer;
 use model::{CommitReply, WriteReply};
-use values::{NoMemory, Text};
+use values::{NoMemory, Row, Text, ValueRef};
 
-/// The answer to a call.
-#[derive(Clone, Copy, Debug, PartialEq, Eq)]
+/// The answer to a call. A scan is answered by a line for each of its rows, and then by their number.
+#[derive(Debug, Drop)]
 pub enum Reply {
     /// A transaction is open now.
     Begun,
@@ -24,6 +26,18 @@ pub enum Reply {
     KeyColumn,
     /// The text of this cell, of the row or the key, or of this column, has more than 4,096 bytes.
     TextTooLong(usize),
+    /// A row of the image.
+    Row(Row),
+    /// The image has no row of the key.
+    Missing,
+    /// The image has no row at the position.
+    NoRow,
+    /// How many rows have a key below this one, and whether one has it.
+    Place(u64, bool),
+    /// How many rows the image has.
+    Rows(u64),
+    /// How many rows a scan has shown.
+    End(u64),
     /// What a commit was answered.
     Decided(CommitReply),
     /// The transaction has ended and leaves no record.
@@ -33,7 +47,7 @@ pub enum Reply {
 }
 
 /// A call's answer, with the client that made the call and the call's verb.
-#[derive(Clone, Copy, Debug, PartialEq, Eq)]
+#[derive(Debug, Drop)]
 pub struct ReplyLine {
     /// The client's number, from 0 in order of first appearance.
     pub client: u32,
@@ -55,7 +69,7 @@ pub(crate) fn push_line(
 {
     push_word(fields, name_of(clients, line.client))?;
     push_word(fields, word_of(line.verb))?;
-    push_reply(fields, line.reply)
+    push_reply(fields, &line.reply)
 }
 
 /// The name of the client of this number; the empty one where there is no such client.
@@ -77,34 +91,88 @@ fn word_of(verb: Verb) -> &'static str
         Verb::Insert => "insert",
         Verb::Delete => "delete",
         Verb::Set => "set",
+        Verb::Get => "get",
+        Verb::At => "at",
+        Verb::Rank => "rank",
+        Verb::Len => "len",
+        Verb::Scan => "scan",
         Verb::Commit => "commit",
         Verb::Abort => "abort",
     }
 }
 
-/// Adds the reply's word, and its number where it has one.
-fn push_reply(fields: &mut ByteRecord, reply: Reply) -> Result<(), NoMemory>
+/// Adds the reply's word, and its values where it has some.
+fn push_reply(fields: &mut ByteRecord, reply: &Reply) -> Result<(), NoMemory>
     requires whole { partial_of fields.old ≡ [] }
-    ensures fields { OnOk result (fields_of fields.new ≡ fields_of fields.old ++ reply_fields reply) }
+    ensures fields { OnOk result (fields_of fields.new ≡ fields_of fields.old ++ reply_fields reply.now) }
     ensures whole { OnOk result (partial_of fields.new ≡ []) }
 {
     match reply {
         Reply::Begun => push_word(fields, "Begun"),
         Reply::AlreadyOpen => push_word(fields, "AlreadyOpen"),
         Reply::NotOpen => push_word(fields, "NotOpen"),
-        Reply::Wrote(WriteReply::Done) => push_word(fields, "Done"),
-        Reply::Wrote(WriteReply::Duplicate) => push_word(fields, "Duplicate"),
-        Reply::Wrote(WriteReply::Full) => push_word(fields, "Full"),
-        Reply::Wrote(WriteReply::Missing) => push_word(fields, "Missing"),
+        Reply::Wrote(answer) => push_word(fields, word_of_write(*answer)),
         Reply::KeyColumn => push_word(fields, "KeyColumn"),
-        Reply::TextTooLong(at) => push_counted(fields, "TextTooLong", at as u64),
-        Reply::Decided(CommitReply::Committed(held)) => push_counted(fields, "Committed", held),
-        Reply::Decided(CommitReply::Conflict(held)) => push_counted(fields, "Conflict", held),
-        Reply::Decided(CommitReply::TooOld(held)) => push_counted(fields, "TooOld", held),
-        Reply::Decided(CommitReply::Full(held)) => push_counted(fields, "Full", held),
+        Reply::TextTooLong(at) => push_counted(fields, "TextTooLong", *at as u64),
+        Reply::Row(row) => push_row(fields, row),
+        Reply::Missing => push_word(fields, "Missing"),
+        Reply::NoRow => push_word(fields, "None"),
+        Reply::Place(below, there) => push_place(fields, *below, *there),
+        Reply::Rows(count) => push_counted(fields, "Rows", *count),
+        Reply::End(count) => push_counted(fields, "End", *count),
+        Reply::Decided(answer) => push_decided(fields, *answer),
         Reply::Aborted => push_word(fields, "Aborted"),
         Reply::NoMemory => push_word(fields, "NoMemory"),
     }
+}
+
+/// The word of a write's answer.
+fn word_of_write(answer: WriteReply) -> &'static str
+    ensures { write_fields answer ≡ result.now ∷ [] }
+{
+    match answer {
+        WriteReply::Done => "Done",
+        WriteReply::Duplicate => "Duplicate",
+        WriteReply::Full => "Full",
+        WriteReply::Missing => "Missing",
+    }
+}
+
+/// Adds the word of a commit's answer, and the number of commits held.
+fn push_decided(fields: &mut ByteRecord, answer: CommitReply) -> Result<(), NoMemory>
+    requires whole { partial_of fields.old ≡ [] }
+    ensures fields { OnOk result (fields_of fields.new ≡ fields_of fields.old ++ commit_fields answer) }
+    ensures whole { OnOk result (partial_of fields.new ≡ []) }
+{
+    match answer {
+        CommitReply::Committed(held) => push_counted(fields, "Committed", held),
+        CommitReply::Conflict(held) => push_counted(fields, "Conflict", held),
+        CommitReply::TooOld(held) => push_counted(fields, "TooOld", held),
+        CommitReply::Full(held) => push_counted(fields, "Full", held),
+    }
+}
+
+/// Adds the word of a row, and its cells.
+fn push_row(fields: &mut ByteRecord, row: &Row) -> Result<(), NoMemory>
+    requires whole { partial_of fields.old ≡ [] }
+    ensures fields { OnOk result (fields_of fields.new ≡ fields_of fields.old ++ codes "Row" ∷ row_fields row.now) }
+    ensures whole { OnOk result (partial_of fields.new ≡ []) }
+{
+    push_word(fields, "Row")?;
+    for cell in row.cells() {
+        push_cell(fields, cell.as_ref())?;
+    }
+    Ok(())
+}
+
+/// Adds the word of a key's place, its number, and whether the key is there.
+fn push_place(fields: &mut ByteRecord, below: u64, there: bool) -> Result<(), NoMemory>
+    requires whole { partial_of fields.old ≡ [] }
+    ensures fields { OnOk result (fields_of fields.new ≡ fields_of fields.old ++ codes "Place" ∷ decimal below ∷ truth_text there ∷ []) }
+    ensures whole { OnOk result (partial_of fields.new ≡ []) }
+{
+    push_counted(fields, "Place", below)?;
+    push_cell(fields, ValueRef::Bool(there))
 }
 
 /// Adds a word.

@@ -1,16 +1,15 @@
 //! A run of a script's calls, one after the other.
 ghost use Rattle.std.specs.Prelude.{◌≡◌, ◌<◌, ◌≤◌, replicate, None, Option, List, [], IfOk, IsTrue, length, map, vec_capacity};
 ghost use Rattle.std.specs.List.{All, range_with_len};
-ghost use Rattle.pdtcli.specs.Calls.{is_typed_call};
-ghost use Rattle.pdtcli.specs.Transaction.{Transaction};
-ghost use Rattle.pdtcli.specs.Run.{IsRun, line_of, verb_of_call, verb_of_write, decided_count, is_decided};
+ghost use Rattle.inputs.specs.Typed.{is_typed_call};
+ghost use Rattle.txn.specs.Txn.{Transaction};
+ghost use Rattle.pdtcli.specs.Run.{IsRun, line_of, verb_of_call, verb_of_read, verb_of_write, decided_count, is_decided};
 
-use crate::call::{Call, ClientCall, Script};
 use crate::caller::Caller;
 use crate::outcome::Outcome;
 use crate::plain::Manager;
 use crate::reply::{Reply, ReplyLine};
-use crate::verb::Verb;
+use inputs::{Call, ClientCall, Read, Script, Verb};
 use model::Write;
 use std::alloc::Global;
 use values::{NoMemory, Text};
@@ -36,9 +35,11 @@ pub fn run_serial(alloc: Global, manager: Manager, script: &Script) -> Result<Ou
     let mut callers = new_callers(alloc, count)?;
     let counts = Vec::with_capacity(alloc, count)?;
     let mut lines = Vec::with_capacity(alloc, script.calls.len())?;
+    let mut left = script.calls.len();
     for asked in script.calls.as_slice() {
-        let reply = callers[asked.client as usize].serve(asked.client, &mut manager, &asked.call);
+        let reply = callers[asked.client as usize].serve(asked, &mut manager, &mut lines, left);
         lines.push_reserved(line_of(asked, reply));
+        left -= 1;
     }
     let counts = count_decided(counts, lines.as_slice(), count);
     Ok(Outcome::new(names, lines, manager, counts))
@@ -85,18 +86,18 @@ fn decided_count(lines: &[ReplyLine], client: usize) -> u64
 {
     lines
         .iter()
-        .filter(|line| line.client as usize == client && is_decided(line.reply))
+        .filter(|line| line.client as usize == client && is_decided(&line.reply))
         .count() as u64
 }
 
-fn is_decided(reply: Reply) -> bool
-    ensures { result ≡ is_decided reply }
+fn is_decided(reply: &Reply) -> bool
+    ensures { result ≡ is_decided reply.now }
 {
     matches!(reply, Reply::Decided(_))
 }
 
 /// The line of a call's reply.
-fn line_of(asked: &ClientCall, reply: Reply) -> ReplyLine
+pub(crate) fn line_of(asked: &ClientCall, reply: Reply) -> ReplyLine
     ensures { result ≡ line_of asked.now reply }
 {
     ReplyLine {
@@ -114,6 +115,11 @@ fn verb_of_call(call: &Call) -> Verb
         Call::Write(Write::Insert(_)) => Verb::Insert,
         Call::Write(Write::Delete(_)) => Verb::Delete,
         Call::Write(Write::Set(_, _, _)) => Verb::Set,
+        Call::Read(Read::Get(_)) => Verb::Get,
+        Call::Read(Read::At(_)) => Verb::At,
+        Call::Read(Read::Rank(_)) => Verb::Rank,
+        Call::Read(Read::Len) => Verb::Len,
+        Call::Read(Read::Scan(_, _)) => Verb::Scan,
         Call::Commit => Verb::Commit,
         Call::Abort => Verb::Abort,
     }

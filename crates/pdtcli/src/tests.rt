@@ -1,16 +1,8 @@
-//! What no clause says: worked inputs and their answers, from the formats' own rules, and the text of faults.
+//! What no clause says: worked runs and their answers, from the formats' own rules.
 //!
 //! That a refused growth is answered shows under `rt try --test --fail-alloc N`, for N from 1 on: a case then ends with
 //! NoMemory in the place of its answer.
-mod bad_headers;
-mod bad_rows;
-mod bad_scripts;
-mod faults;
-mod good_scripts;
-mod good_tables;
-mod limits;
 mod long_run;
+mod openings;
+mod random_writes;
 mod runs;
-mod shown;
-mod transactions;
-mod words;

@@ -1,9 +1,8 @@
 -- A row's key compared with a key cell by cell, and a key's place by halving.
-use Rattle.std.proofs.Common.{◌≡◌, ℕ, zero, suc, ◌+◌, ◌<◌, ◌≤◌, min, true, false, T, Some, List, [], ◌∷◌, length, take, drop, get_or, slice_get, Ordering, is_lt, refl, sym, ap, ◌∙◌, arith}
-use Rattle.std.specs.Prelude.{nat_lt}
-use Rattle.std.specs.Ordering.{ordering_then}
+use Rattle.std.proofs.Common.{◌≡◌, ℕ, zero, suc, ◌+◌, ◌<◌, ◌≤◌, min, true, false, T, Some, List, [], ◌∷◌, length, take, drop, get_or, slice_get, Ordering, Less, Equal, Greater, refl, sym, ap, ◌∙◌, arith}
+use Rattle.std.specs.Ordering.{MatchOrdering, nat_cmp, ordering_then}
+use Rattle.std.specs.Cmp.{ranked, nat_cmp_is}
 use Rattle.std.proofs.lemmas.Bool.{false_from_ne_true}
-use Rattle.std.proofs.lemmas.Bool.Decides.{nat_tests}
 use Rattle.std.proofs.lemmas.List.{drop_more, get_or-take, length-take, get_or_default}
 use Rattle.std.proofs.lemmas.Option.{slice_get-get_or, get_or_from_slice_get, slice_get_within, slice_get_read}
 use Rattle.values.specs.Orders.{value_cmp, key_cmp}
@@ -36,24 +35,40 @@ compared n row key cells i x y cell o lent lt within here read is e so_far =
     let there : slice_get key i ≡ Some y = ap (λ (ys : List Value). slice_get ys i) (sym lent) ∙ slice_get_read cells (length cells) i cell refl within read ∙ ap Some (sym is) in
     so_far ∙ step (take n row) key i x y o (key_cell n row i x lt here) there e
 
-less_suc : (a b : ℕ) → nat_lt a b ≡ nat_lt (suc a) (suc b)
-less_suc a b = grind (arith, nat_tests)
+-- a comparison that doesn't tie is the answer
+pub decided : (o rest : Ordering) → (o ≡ Equal → ⊥) → ordering_then o rest ≡ o
+decided Less rest h = refl
+decided Equal rest h = absurd (h refl)
+decided Greater rest h = refl
 
-less_zero : (a : ℕ) → nat_lt a 0 ≡ false
-less_zero a = grind (arith, nat_tests)
+-- one more on either side leaves the comparison
+cmp_more : (a b : ℕ) → nat_cmp (suc a) (suc b) ≡ nat_cmp a b
+cmp_more a b = sym (nat_cmp_is (suc a) (suc b) (nat_cmp a b) (more (nat_cmp a b) refl))
+  where
+    more : (r : Ordering) → r ≡ nat_cmp a b → MatchOrdering r (suc a < suc b) (suc a ≡ suc b) (suc b < suc a)
+    more Less e =
+        let lt : a < b = ranked a b Less e in
+        omega (arith, lt)
+    more Equal e = ap suc (ranked a b Equal e)
+    more Greater e =
+        let gt : b < a = ranked a b Greater e in
+        omega (arith, gt)
 
-zero_less : (a : ℕ) → nat_lt 0 (suc a) ≡ true
-zero_less a = grind (arith, nat_tests)
+none_below_some : (b : ℕ) → nat_cmp 0 (suc b) ≡ Less
+none_below_some b = sym (nat_cmp_is 0 (suc b) Less (omega arith))
 
--- where all cells of the shorter tie, the shorter is below
-pub ended : (own key : List Value) (i : ℕ) → i ≡ min (length own) (length key) → nat_lt (length own) (length key) ≡ is_lt (key_cmp (drop i own) (drop i key))
-ended [] [] zero e = less_zero 0
-ended [] (y ∷ key) zero e = zero_less (length key)
-ended (x ∷ own) [] zero e = less_zero (length (x ∷ own))
+some_above_none : (a : ℕ) → nat_cmp (suc a) 0 ≡ Greater
+some_above_none a = sym (nat_cmp_is (suc a) 0 Greater (omega arith))
+
+-- where all cells of the shorter tie, the lengths decide
+pub ended : (own key : List Value) (i : ℕ) → i ≡ min (length own) (length key) → nat_cmp (length own) (length key) ≡ key_cmp (drop i own) (drop i key)
+ended [] [] zero e = sym (nat_cmp_is 0 0 Equal refl)
+ended [] (y ∷ key) zero e = none_below_some (length key)
+ended (x ∷ own) [] zero e = some_above_none (length own)
 ended (x ∷ own) (y ∷ key) zero e = absurd (omega (arith, e))
 ended [] key (suc i) e = absurd (omega (arith, e))
 ended (x ∷ own) [] (suc i) e = absurd (omega (arith, e))
-ended (x ∷ own) (y ∷ key) (suc i) e = sym (less_suc (length own) (length key)) ∙ ended own key i (omega (arith, e))
+ended (x ∷ own) (y ∷ key) (suc i) e = cmp_more (length own) (length key) ∙ ended own key i (omega (arith, e))
 
 -- ---- halving
 

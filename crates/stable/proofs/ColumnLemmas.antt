@@ -1,8 +1,7 @@
 -- Values cut into blocks, and found again by their number.
-use Rattle.std.proofs.Common.{◌≡◌, ℕ, zero, suc, ◌+◌, ◌-◌, ◌*◌, ◌/◌, ◌%◌, ◌<◌, min, Bool, true, false, ◌&&◌, ◌||◌, List, [], ◌∷◌, ◌++◌, length, take, drop, map, get_or, slice_get, Some, IsTrue, IsFalse, refl, sym, ap, ◌∙◌, arith}
-use Rattle.std.specs.List.{list_all, list_any, range_with_len}
-use Rattle.std.proofs.lemmas.List.{take-append-drop, take_all, take_rest, take_min, drop-drop, length-take, length-drop, get_or-take, get_or-drop}
-use Rattle.std.proofs.lemmas.List.Folds.{list_all-append, list_any-append}
+use Rattle.std.proofs.Common.{◌≡◌, ℕ, zero, suc, ◌+◌, ◌*◌, ◌/◌, ◌%◌, ◌<◌, List, [], ◌∷◌, ◌++◌, length, take, drop, map, get_or, slice_get, Some, refl, sym, ap, ◌∙◌, arith}
+use Rattle.std.specs.List.{range_with_len}
+use Rattle.std.proofs.lemmas.List.{take_all, drop-drop, length-take, length-drop, get_or-take, get_or-drop}
 use Rattle.std.proofs.lemmas.List.FromFn.{length-map-range_with_len, get_or-map-range_with_len}
 use Rattle.std.proofs.lemmas.Option.{slice_get-get_or, get_or_from_slice_get}
 use Rattle.values.specs.declared.value.ColumnType.{ColumnType}
@@ -10,46 +9,7 @@ use Rattle.values.specs.declared.value.Value.{Value}
 use Rattle.blocks.specs.Column.{Column}
 use Rattle.stable.specs.Column.{joined, block_at, block_count, first_blocks, IsInBlocks}
 
--- ---- tests of all values hold of a run of them
-
-and_first : (a b : Bool) → (a && b) ≡ true → a ≡ true
-and_first true b h = refl
-and_first false b h = h
-
-and_second : (a b : Bool) → (a && b) ≡ true → b ≡ true
-and_second true b h = h
-and_second false true h = refl
-and_second false false h = h
-
-or_first : (a b : Bool) → (a || b) ≡ false → a ≡ false
-or_first false b h = refl
-or_first true b h = h
-
-or_second : (a b : Bool) → (a || b) ≡ false → b ≡ false
-or_second false b h = h
-or_second true false h = refl
-or_second true true h = h
-
-module _ (p : Value → Bool) (n : ℕ) (xs : List Value) where
-  pub all_take : IsTrue (list_all p xs) → IsTrue (list_all p (take n xs))
-  all_take h = and_first (list_all p (take n xs)) (list_all p (drop n xs)) (sym (list_all-append p (take n xs) (drop n xs)) ∙ ap (list_all p) (take-append-drop n xs) ∙ h)
-
-  pub all_drop : IsTrue (list_all p xs) → IsTrue (list_all p (drop n xs))
-  all_drop h = and_second (list_all p (take n xs)) (list_all p (drop n xs)) (sym (list_all-append p (take n xs) (drop n xs)) ∙ ap (list_all p) (take-append-drop n xs) ∙ h)
-
-  pub none_take : IsFalse (list_any p xs) → IsFalse (list_any p (take n xs))
-  none_take h = or_first (list_any p (take n xs)) (list_any p (drop n xs)) (sym (list_any-append p (take n xs) (drop n xs)) ∙ ap (list_any p) (take-append-drop n xs) ∙ h)
-
-  pub none_drop : IsFalse (list_any p xs) → IsFalse (list_any p (drop n xs))
-  none_drop h = or_second (list_any p (take n xs)) (list_any p (drop n xs)) (sym (list_any-append p (take n xs) (drop n xs)) ∙ ap (list_any p) (take-append-drop n xs) ∙ h)
-
 -- ---- cutting
-
--- the piece that is cut out by two slices
-pub piece : (values : List Value) (from m : ℕ) → m ≡ min 1024 (length (take (length values - from) (drop from values))) → take m (take (length values - from) (drop from values)) ≡ take 1024 (drop from values)
-piece values from m e =
-    let rest = take (length values - from) (drop from values) in
-    ap (λ n. take n rest) e ∙ take_min 1024 rest ∙ ap (take 1024) (take_rest values from)
 
 abbrev empty : List Value
 empty = []

@@ -1,5 +1,9 @@
-mod BelowLemmas
-mod ColumnLemmas
-mod RankLemmas
-mod RowsLemmas
-mod StableLemmas
+pub mod BelowLemmas
+pub mod ColumnLemmas
+pub mod RankLemmas
+pub mod RowsLemmas
+pub mod StableLemmas
+pub mod CallerLemmas
+pub mod PushLemmas
+pub mod StandLemmas
+pub mod ColumnsLemmas

@@ -1,16 +1,18 @@
 -- A key's place in a table, found by halving.
-use Rattle.std.proofs.Common.{◌≡◌, ℕ, zero, suc, ◌<◌, ◌≤◌, Bool, true, false, cond, T, List, [], ◌∷◌, length, get_or, Ordering, Less, is_lt, refl, sym, ap, ◌∙◌, arith}
-use Rattle.std.specs.Prelude.{filter}
+use Rattle.std.proofs.Common.{◌≡◌, ℕ, zero, suc, ◌<◌, ◌≤◌, Bool, true, false, cond, T, Some, is_some, List, [], ◌∷◌, length, get_or, Ordering, Less, Equal, Greater, is_lt, is_eq, refl, sym, ap, ◌∙◌, subst, arith}
+use Rattle.std.specs.Prelude.{slice_get, filter}
 use Rattle.std.specs.List.Sorted.{IsPartitionedBy, IsPartitionPoint}
 use Rattle.std.specs.FinMap.Entries.{below_all}
 use Rattle.std.proofs.lemmas.Float.{T_from_true}
-use Rattle.values.specs.Orders.{key_cmp, key_cmp_total}
+use Rattle.values.specs.Orders.{key_cmp, key_cmp_total, key_cmp-IsAntisymmetric}
 use Rattle.values.specs.Shape.{key_of}
 use Rattle.values.specs.declared.row.Row.{Row}
 use Rattle.values.specs.declared.row.Key.{Key}
 use Rattle.model.specs.Maps.{is_sorted}
-use Rattle.model.specs.Table.{table_of, rank}
-use Rattle.model.proofs.MapsLemmas.{first, second, less}
+use Rattle.model.specs.Table.{table_of, row_at, rank}
+use Rattle.model.proofs.MapsLemmas.{both, first, second, less, find_first, turn_less, turn_greater, find_below, find_past, below_less}
+use Rattle.model.proofs.MergingLemmas.{rank_below}
+use Rattle.stable.specs.Stable.{holds_key}
 
 is_true : (b : Bool) → T b → b ≡ true
 is_true true h = refl
@@ -54,3 +56,31 @@ module _ (key_cols : ℕ) (key : Key) where
   parted (row ∷ rows) h zero (suc j) d le lt passes = below_earlier row rows (first (below_all key_cmp (key_of key_cols row) (table_of key_cols rows)) _ h) j d (omega arith) passes
   parted (row ∷ rows) h (suc i) zero d le lt passes = absurd (omega arith)
   parted (row ∷ rows) h (suc i) (suc j) d le lt passes = parted rows (second (below_all key_cmp (key_of key_cols row) (table_of key_cols rows)) _ h) i j d (omega arith) (omega arith) passes
+
+  -- the key is there where the row at its place has it
+  pub there-at_rank : (rows : List Row) → T (is_sorted key_cmp (table_of key_cols rows)) → holds_key key_cols key (slice_get rows (rank key (table_of key_cols rows))) ≡ is_some (row_at (table_of key_cols rows) key)
+  there-at_rank [] h = refl
+  there-at_rank (row ∷ rows) h =
+      let table = table_of key_cols rows in
+      let own = key_of key_cols row in
+      let after : T (below_all key_cmp own table) = first (below_all key_cmp own table) _ h in
+      elim (key_cmp own key) as (λ r. key_cmp own key ≡ r → holds_key key_cols key (slice_get (row ∷ rows) (rank key (table_of key_cols (row ∷ rows)))) ≡ is_some (row_at (table_of key_cols (row ∷ rows)) key)) [
+        | Less ↦ λ p.
+            let past = find_past key_cmp key (own, row) table (turn_less key_cmp_total own key p) in
+            ap (λ n. holds_key key_cols key (slice_get (row ∷ rows) n)) (rank-below row rows p)
+            ∙ there-at_rank rows (second (below_all key_cmp own table) _ h)
+            ∙ ap is_some (sym past)
+        | Equal ↦ λ p.
+            let same : own ≡ key = key_cmp-IsAntisymmetric own key p in
+            let above = subst (λ (k : Key). T (below_all key_cmp k table)) same after in
+            let here = find_first key_cmp key_cmp_total (own, row) table in
+            ap (λ n. holds_key key_cols key (slice_get (row ∷ rows) n)) (rank-none row rows Equal p refl ∙ rank_below key table above)
+            ∙ ap is_eq p
+            ∙ sym (ap is_some (subst (λ (k : Key). row_at ((own, row) ∷ table) k ≡ Some row) same here))
+        | Greater ↦ λ p.
+            let above = below_less key_cmp_total key own table (turn_greater key_cmp_total own key p) after in
+            let first_above : T (is_lt (key_cmp key own)) = subst (λ r. T (is_lt r)) (sym (turn_greater key_cmp_total own key p)) tt in
+            ap (λ n. holds_key key_cols key (slice_get (row ∷ rows) n)) (rank-none row rows Greater p refl ∙ rank_below key table above)
+            ∙ ap is_eq p
+            ∙ sym (ap is_some (find_below key_cmp_total key ((own, row) ∷ table) (both (is_lt (key_cmp key own)) _ first_above above)))
+      ] refl

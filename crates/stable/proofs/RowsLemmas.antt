@@ -23,9 +23,9 @@ use Rattle.stable.proofs.StableLemmas.{is_stable, all_shaped}
 
 -- ---- values that fit
 
-record IsFit (ty : ColumnType) (v : Value) : Type 0 where
-  typed : has_type ty v ≡ true
-  short : is_too_long v ≡ false
+pub record IsFit (ty : ColumnType) (v : Value) : Type 0 where
+  pub typed : has_type ty v ≡ true
+  pub short : is_too_long v ≡ false
 
 fit_from : (ty : ColumnType) (v : Value) (a b : Bool) (x y : ShapeFault) → has_type ty v ≡ a → is_too_long v ≡ b → cond a (cond b (Some x) None) (Some y) ≡ None → IsFit ty v
 fit_from ty v true true x y p q h = cc h
@@ -49,7 +49,8 @@ counted false f h = cc h
 same_count : (a b : ℕ) → (a == b) ≡ true → a ≡ b
 same_count a b is = grind (arith, nat_tests)
 
-fit_at : (types : List ColumnType) (row : Row) (col : ℕ) → col < length types → list_fault types row ≡ None → IsFit (get_or types col column.Int) (get_or row col (Truth false))
+-- a cell of a row that fits
+pub fit_at : (types : List ColumnType) (row : Row) (col : ℕ) → col < length types → list_fault types row ≡ None → IsFit (get_or types col column.Int) (get_or row col (Truth false))
 fit_at types row col lt h =
     let is = counted (length row == length types) (values_fault 0 types row) h in
     cells_fit 0 types row col (same_count (length row) (length types) is.0) lt is.1

@@ -3,6 +3,7 @@ use Rattle.std.proofs.Common.{◌≡◌, ℕ, zero, suc, ◌<◌, get_or, ◌≤
 use Rattle.std.specs.Prelude.{nat_lt, is_none, IsTrue}
 use Rattle.std.specs.List.{list_all}
 use Rattle.std.proofs.lemmas.Bool.Decides.{nat_tests}
+use Rattle.std.proofs.lemmas.Float.{T_from_true}
 use Rattle.std.specs.FinMap.Entries.{below_all}
 use Rattle.values.specs.Orders.{key_cmp, key_cmp_total}
 use Rattle.values.specs.Shape.{Columns, key_of, row_fault, fits_schema}
@@ -10,10 +11,10 @@ use Rattle.values.specs.declared.fault.ShapeFault.{ShapeFault}
 use Rattle.values.specs.declared.limits.TheConstants.{MAX_ROWS}
 use Rattle.values.specs.declared.row.Row.{Row}
 use Rattle.model.specs.Maps.{is_sorted}
-use Rattle.model.specs.Table.{table_of}
-use Rattle.model.proofs.MapsLemmas.{both, less, below_less}
+use Rattle.model.specs.Table.{table_of, is_keyed_table}
+use Rattle.model.proofs.MapsLemmas.{both, first, less, below_less}
 use Rattle.model.proofs.TableLemmas.{is_keyed_table-table_of}
-use Rattle.stable.specs.Stable.{IsStable, ascends, shape_or_order, row_fault_at, or_fault, rows_fault, build_fault}
+use Rattle.stable.specs.Stable.{Stable, IsStable, table_in, ascends, shape_or_order, row_fault_at, or_fault, rows_fault, build_fault}
 use Rattle.stable.specs.declared.fault.BuildFault.{BuildFault}
 use Rattle.stable.specs.declared.fault.BuildFault.TheVariants.{TooManyRows}
 
@@ -89,3 +90,9 @@ module _ (schema : Columns) where
   -- each row of rows without a fault fits the schema
   pub all_shaped : (rows : List Row) → build_fault schema rows ≡ None → (k : ℕ) (d : Row) → k < length rows → row_fault schema (get_or rows k d) ≡ None
   all_shaped rows h = fits_at 0 None rows (parts (nat_lt MAX_ROWS (length rows)) (rows_fault schema 0 None rows) h).1
+
+-- ---- a table
+
+-- the rows of a table ascend
+pub stable_sorted : (s : Stable) → IsStable s → T (is_sorted key_cmp (table_in s))
+stable_sorted s h = first (is_sorted key_cmp (table_in s)) _ (T_from_true (is_keyed_table s.schema.key_cols (table_in s)) h.table.keyed)

@@ -1,6 +1,7 @@
 -- A column's values in blocks.
-use Rattle.std.specs.Prelude.{◌≡◌, ℕ, ◌+◌, ◌-◌, ◌*◌, ◌/◌, List, length, take, drop, map}
-use Rattle.std.specs.List.{flat_map, range_with_len}
+use Rattle.std.specs.Prelude.{◌≡◌, ℕ, ◌+◌, ◌-◌, ◌*◌, ◌/◌, List, length, take, drop, map, Bool, not, ◌&&◌, IsTrue}
+use Rattle.std.specs.List.{flat_map, list_all, range_with_len}
+use Rattle.values.specs.Shape.{has_type, is_too_long}
 use Rattle.values.specs.declared.value.ColumnType.{ColumnType}
 use Rattle.values.specs.declared.value.Value.{Value}
 use Rattle.values.specs.declared.limits.TheConstants.{MAX_BLOCK_VALUES}
@@ -22,7 +23,25 @@ block_count count = (count + (MAX_BLOCK_VALUES - 1)) / MAX_BLOCK_VALUES
 abbrev pub first_blocks : ColumnType → List Value → ℕ → List Column
 first_blocks ty values k = map (block_at ty values) (range_with_len 0 k)
 
+-- all of the values, in blocks
+abbrev pub all_blocks : ColumnType → List Value → List Column
+all_blocks ty values = first_blocks ty values (block_count (length values))
+
 -- whether the blocks are full but for the last, of the type, and hold so many values
 pub record IsInBlocks (ty : ColumnType) (count : ℕ) (blocks : List Column) : Type 0 where
   pub counted : length (joined blocks) ≡ count
   pub cut : blocks ≡ first_blocks ty (joined blocks) (block_count count)
+
+-- ---- what may stand in a column
+
+-- whether a value is of the type, and no text of more than 4,096 bytes
+abbrev pub may_stand : ColumnType → Value → Bool
+may_stand ty v = has_type ty v && not (is_too_long v)
+
+abbrev pub all_may_stand : ColumnType → List Value → Type 0
+all_may_stand ty values = IsTrue (list_all (may_stand ty) values)
+
+-- what each column keeps
+pub record IsColumn (ty : ColumnType) (count : ℕ) (blocks : List Column) : Type 0 where
+  pub blocked : IsInBlocks ty count blocks
+  pub fit : all_may_stand ty (joined blocks)

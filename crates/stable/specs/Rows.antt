@@ -1,6 +1,6 @@
 -- The rows that columns show, and the columns that rows fill.
-use Rattle.std.specs.Prelude.{◌≡◌, ℕ, ◌<◌, false, Option, List, [], length, map, get_or, slice_get}
-use Rattle.std.specs.List.{range_with_len}
+use Rattle.std.specs.Prelude.{◌≡◌, ℕ, ◌<◌, false, Option, List, [], ◌∷◌, length, map, get_or, slice_get}
+use Rattle.std.specs.List.{All, range_with_len}
 use Rattle.values.specs.Shape.{Columns}
 use Rattle.values.specs.declared.row.Row.{Row}
 use Rattle.values.specs.declared.value.ColumnType.{ColumnType}
@@ -8,6 +8,7 @@ use Rattle.values.specs.declared.value.ColumnType.TheVariants as column
 use Rattle.values.specs.declared.value.Value.{Value}
 use Rattle.values.specs.declared.value.Value.TheVariants.{Bool as Truth}
 use Rattle.blocks.specs.Column.{Column}
+use Rattle.stable.specs.Column.{all_may_stand}
 use Rattle.stable.specs.Stable.{Stable, IsStable}
 
 -- ---- rows
@@ -41,6 +42,27 @@ column_at types rows col = record { ty = get_or types col column.Int; values = c
 -- the first columns of rows
 abbrev pub first_columns : List ColumnType → List Row → ℕ → List Column
 first_columns types rows n = map (column_at types rows) (range_with_len 0 n)
+
+-- ---- columns that may become a table
+
+-- how many values the first of them has
+abbrev pub row_count : List Column → ℕ
+row_count [] = 0
+row_count (c ∷ columns) = length c.values
+
+-- whether each has as many as the first
+abbrev pub AreEven : List Column → Type 0
+AreEven columns = (col : ℕ) (d : Column) → col < length columns → length (get_or columns col d).values ≡ row_count columns
+
+-- whether each has a value of this number
+abbrev pub AreFilled : ℕ → List Column → Type 0
+AreFilled i columns = (col : ℕ) (d : Column) → col < length columns → i < length (get_or columns col d).values
+
+-- columns of a schema, each with so many values that may stand there
+pub record AreColumns (schema : Columns) (count : ℕ) (columns : List Column) : Type 0 where
+  pub typed : map (λ c. c.ty) columns ≡ schema.types
+  pub filled : (col : ℕ) (d : Column) → col < length columns → length (get_or columns col d).values ≡ count
+  pub fit : All (λ c. all_may_stand c.ty c.values) columns
 
 -- what each table keeps: the schema's columns, so many values in each, and that the rows they show are a table
 pub record IsKept (schema : Columns) (count : ℕ) (columns : List Column) : Type 0 where

@@ -1,11 +1,12 @@
 -- A table in key order, as its schema and its rows.
 use Rattle.std.specs.Prelude.{ℕ, suc, ◌≤◌, nat_lt, Bool, true, false, cond, Option, Some, None, List, [], ◌∷◌, length}
-use Rattle.std.specs.Ordering.{is_lt}
+use Rattle.std.specs.Ordering.{is_lt, eq_by_cmp}
 use Rattle.values.specs.Orders.{key_cmp}
 use Rattle.values.specs.Shape.{Columns, key_of, row_fault}
 use Rattle.values.specs.declared.limits.TheConstants.{MAX_ROWS}
 use Rattle.values.specs.declared.fault.ShapeFault.{ShapeFault}
 use Rattle.values.specs.declared.row.Row.{Row}
+use Rattle.values.specs.declared.row.Key.{Key}
 use Rattle.model.specs.Table.{Table, table_of, IsTable}
 use Rattle.stable.specs.declared.fault.BuildFault.{BuildFault}
 use Rattle.stable.specs.declared.fault.BuildFault.TheVariants.{TooManyRows, Shape, NotAscending}
@@ -23,6 +24,11 @@ table_in s = table_of s.schema.key_cols s.rows
 pub record IsStable (s : Stable) : Type 0 where
   pub table : IsTable s.schema (table_in s)
   pub few : length s.rows ≤ MAX_ROWS
+
+-- whether this is a row of the key
+abbrev pub holds_key : ℕ → Key → Option Row → Bool
+holds_key key_cols key None = false
+holds_key key_cols key (Some row) = eq_by_cmp key_cmp (key_of key_cols row) key
 
 -- ---- the first fault of rows as a table
 

@@ -1,15 +1,15 @@
 //! One column of a table, in blocks of 1,024 values.
-ghost use Rattle.std.specs.Prelude.{◌≡◌, ◌<◌, length, Some, slice_get, IfOk, IsTrue, IsFalse};
-ghost use Rattle.std.specs.List.{list_all, list_any};
+ghost use Rattle.std.specs.Prelude.{◌≡◌, ◌<◌, ◌%◌, ◌^◌, ◌++◌, ◌∷◌, [], length, Some, slice_get, IfOk, OnOk, OnErr, IsTrue, IsFalse};
+ghost use Rattle.values.specs.declared.limits.TheConstants.{MAX_BLOCK_VALUES};
 ghost use Rattle.values.specs.Lent.{value_of};
 ghost use Rattle.values.specs.Shape.{has_type, is_too_long};
-ghost use Rattle.stable.specs.Column.{block_count, first_blocks, block_at};
+ghost use Rattle.stable.specs.Column.{IsInBlocks, all_blocks, all_may_stand, joined};
 
 use blocks::Block;
 use std::alloc::Global;
 use std::marker::Model;
 use values::limits::MAX_BLOCK_VALUES;
-use values::{ColumnType, NoMemory, Value, ValueRef};
+use values::{ColumnType, NoMemory, ValueRef};
 
 /// The values of one column, all of one type, no text of them above 4,096 bytes.
 #[derive(Drop)]
@@ -19,36 +19,75 @@ pub struct Column {
     blocks: Vec<Block>,
     /// How many values there are.
     count: usize,
+    alloc: Global,
 }
 
 impl Model for Column {
     ghost use Rattle.blocks.specs.Column.{Column as Values};
-    ghost use Rattle.stable.specs.Column.{joined, IsInBlocks};
+    ghost use Rattle.stable.specs.Column.{joined, IsColumn};
 
     ghost Value = { Values };
 
     ghost view = { λ c. record { ty = c.ty; values = joined c.blocks.items } };
 
-    ghost invariant = { λ c. IsInBlocks c.ty c.count c.blocks.items };
+    ghost invariant = { λ c. IsColumn c.ty c.count c.blocks.items };
 }
 
 impl Column {
-    /// The values as a column. They are all of the type, no text of them above 4,096 bytes.
+    /// A column of the type with no values. It takes no memory.
+    pub fn new(alloc: Global, ty: ColumnType) -> Column
+        ensures { result ≡ record { ty = ty; values = [] } }
+    {
+        Column {
+            ty,
+            blocks: Vec::new(alloc),
+            count: 0,
+            alloc,
+        }
+    }
+
+    /// Puts a value after the others, which are fewer than 2^63. It is of the column's type, and no text above 4,096
+    /// bytes.
     ///
     /// # Errors
     ///
-    /// `NoMemory` where a growth is refused.
-    pub fn from_values(alloc: Global, ty: ColumnType, values: &[Value]) -> Result<Column, NoMemory>
-        requires typed { IsTrue (list_all (has_type ty) values.now) }
-        requires short { IsFalse (list_any is_too_long values.now) }
-        ensures { IfOk result (λ column. column ≡ record { ty = ty; values = values.now }) }
+    /// `NoMemory` where a growth is refused: the column is as it was.
+    pub fn push(&mut self, value: ValueRef<'_>) -> Result<(), NoMemory>
+        requires room { length self.old.values < 2 ^ 63 }
+        requires typed { IsTrue (has_type self.old.ty (value_of value)) }
+        requires short { IsFalse (is_too_long (value_of value)) }
+        ensures ok { OnOk result (self.new ≡ record self.old { values = self.old.values ++ value_of value.entry ∷ [] }) }
+        ensures err { OnErr result (self.new ≡ self.old) }
     {
-        let blocks = cut(alloc, ty, values)?;
-        Ok(Column {
+        let Column {
             ty,
             blocks,
-            count: values.len(),
-        })
+            count,
+            alloc,
+        } = self;
+        add_value(*alloc, *ty, blocks, *count, value)?;
+        *count += 1;
+        Ok(())
+    }
+
+    /// Puts the values of a block after the others, which are fewer than 2^63 and fill their blocks. The block is of the
+    /// column's type and has a value at least; no value is copied.
+    ///
+    /// # Errors
+    ///
+    /// `NoMemory` where a growth is refused: the column is as it was.
+    pub fn push_block(&mut self, block: Block) -> Result<(), NoMemory>
+        requires room { length self.old.values < 2 ^ 63 }
+        requires typed { block.ty ≡ self.old.ty }
+        requires filled { length self.old.values % MAX_BLOCK_VALUES ≡ 0 }
+        requires some { 0 < length block.values }
+        ensures ok { OnOk result (self.new ≡ record self.old { values = self.old.values ++ block.values }) }
+        ensures err { OnErr result (self.new ≡ self.old) }
+    {
+        let more = block.len();
+        self.blocks.push(block)?;
+        self.count += more;
+        Ok(())
     }
 
     /// The type of the values.
@@ -60,7 +99,8 @@ impl Column {
 
     /// How many values there are.
     pub fn len(&self) -> usize
-        ensures { result ≡ length self.now.values }
+        ensures count { result ≡ length self.now.values }
+        ensures fit { all_may_stand self.now.ty self.now.values }
     {
         self.count
     }
@@ -74,28 +114,35 @@ impl Column {
     }
 }
 
-/// The values cut into blocks of 1,024, the last of which holds what is left.
-fn cut(alloc: Global, ty: ColumnType, values: &[Value]) -> Result<Vec<Block>, NoMemory>
-    requires typed { IsTrue (list_all (has_type ty) values.now) }
-    requires short { IsFalse (list_any is_too_long values.now) }
-    ensures { IfOk result (λ blocks. blocks.items ≡ first_blocks ty values.now (block_count (length values.now))) }
+/// Puts a value into the last of the blocks of so many values, or into a new one where that is full.
+fn add_value(
+    alloc: Global,
+    ty: ColumnType,
+    blocks: &mut Vec<Block>,
+    count: usize,
+    value: ValueRef<'_>,
+) -> Result<(), NoMemory>
+    requires kept { IsInBlocks ty count blocks.old.items }
+    requires typed { IsTrue (has_type ty (value_of value)) }
+    requires short { IsFalse (is_too_long (value_of value)) }
+    ensures ok { OnOk result (blocks.new.items ≡ all_blocks ty (joined blocks.old.items ++ value_of value.entry ∷ [])) }
+    ensures err { OnErr result (blocks.new.items ≡ blocks.old.items) }
 {
-    let count = values.len().div_ceil(MAX_BLOCK_VALUES);
-    let mut blocks = Vec::with_capacity(alloc, count)?;
-    for k in 0..count {
-        let block = block_at(alloc, ty, values, k)?;
-        blocks.push(block)?;
+    if count % MAX_BLOCK_VALUES == 0 {
+        blocks.push(block_of(alloc, ty, value)?)?;
+    } else {
+        blocks[count / MAX_BLOCK_VALUES].push(value)?;
     }
-    Ok(blocks)
+    Ok(())
 }
 
-/// The block number `k` of the values.
-fn block_at(alloc: Global, ty: ColumnType, values: &[Value], k: usize) -> Result<Block, NoMemory>
-    requires within { k < block_count (length values.now) }
-    requires typed { IsTrue (list_all (has_type ty) values.now) }
-    requires short { IsFalse (list_any is_too_long values.now) }
-    ensures { IfOk result (λ block. block ≡ block_at ty values.now k) }
+/// A block of one value.
+fn block_of(alloc: Global, ty: ColumnType, value: ValueRef<'_>) -> Result<Block, NoMemory>
+    requires typed { IsTrue (has_type ty (value_of value)) }
+    requires short { IsFalse (is_too_long (value_of value)) }
+    ensures { IfOk result (λ block. block ≡ record { ty = ty; values = value_of value.entry ∷ [] }) }
 {
-    let rest = &values[MAX_BLOCK_VALUES * k..];
-    Block::from_values(alloc, ty, &rest[..MAX_BLOCK_VALUES.min(rest.len())])
+    let mut block = Block::new(alloc, ty);
+    block.push(value)?;
+    Ok(block)
 }

@@ -8,6 +8,9 @@
 #![tactic(auto)]
 
 mod column;
+#[cfg(test)]
+mod column_tests;
+mod columns;
 mod fault;
 #[cfg(test)]
 mod fault_tests;
@@ -17,6 +20,8 @@ mod order;
 mod table;
 #[cfg(test)]
 mod tests;
+#[cfg(test)]
+mod wide_key_tests;
 
 pub use column::Column;
 pub use fault::BuildFault;

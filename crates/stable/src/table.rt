@@ -1,15 +1,16 @@
 //! The table in key order.
-ghost use Rattle.std.specs.Prelude.{◌≡◌, ◌<◌, IfOk, IsOkUnless, MatchOption, Some, Err, None, length, get_or, []};
+ghost use Rattle.std.specs.Prelude.{◌≡◌, ◌<◌, ◌≤◌, IfOk, IsOk, IsOkUnless, MatchOption, map, Some, Err, None, is_some, length, get_or, slice_get, []};
 ghost use Rattle.std.specs.List.{All};
-ghost use Rattle.std.specs.Ordering.{is_lt};
 ghost use Rattle.values.specs.Lent.{value_of};
 ghost use Rattle.values.specs.Orders.{key_cmp};
 ghost use Rattle.values.specs.Shape.{key_of, list_fault};
-ghost use Rattle.model.specs.Table.{rank};
-ghost use Rattle.stable.specs.Rows.{cell_of, column_at, column_values, first_columns};
-ghost use Rattle.stable.specs.Stable.{IsStable, build_fault, table_in};
+ghost use Rattle.values.specs.declared.limits.TheConstants.{MAX_ROWS};
+ghost use Rattle.model.specs.Table.{rank, row_at};
+ghost use Rattle.stable.specs.Rows.{AreEven, cell_of, column_at, first_columns, row_count, rows_of};
+ghost use Rattle.stable.specs.Stable.{IsStable, build_fault, holds_key, table_in};
 
 use crate::column::Column;
+use crate::columns::{first_fault_of, row_count};
 use crate::fault::BuildFault;
 use crate::order::first_fault;
 use std::alloc::Global;
@@ -59,6 +60,29 @@ impl StableTable {
         }
     }
 
+    /// The table of columns under a schema, of its types and each with as many values. Takes no memory; the key of each
+    /// row is compared with that of the row before, and no other cell is read.
+    ///
+    /// # Errors
+    ///
+    /// `TooManyRows` before all else, then `NotAscending` with the first row whose key isn't above that of the row before.
+    pub fn from_columns(schema: Schema, columns: Vec<Column>) -> Result<StableTable, BuildFault>
+        requires typed { map (λ c. c.ty) columns.items ≡ schema.types }
+        requires even { AreEven columns.items }
+        ensures ok { IfOk result (λ table. table ≡ record { schema = schema; rows = rows_of (row_count columns.items) columns.items }) }
+        ensures fault { MatchOption (build_fault schema (rows_of (row_count columns.items) columns.items)) (IsOk result) (λ fault. result ≡ Err fault) }
+    {
+        let count = row_count(columns.as_slice());
+        match first_fault_of(&schema, columns.as_slice(), count) {
+            Some(fault) => Err(fault),
+            None => Ok(StableTable {
+                schema,
+                columns,
+                count,
+            }),
+        }
+    }
+
     /// The table of rows without a fault.
     fn from_rows(alloc: Global, schema: Schema, rows: &[Row]) -> Result<StableTable, NoMemory>
         requires { build_fault schema rows.now ≡ None }
@@ -97,15 +121,58 @@ impl StableTable {
         self.columns[col].get(sid as usize)
     }
 
+    /// A row, copied.
+    ///
+    /// # Errors
+    ///
+    /// `NoMemory` where a growth is refused.
+    pub fn row(&self, alloc: Global, sid: u64) -> Result<Row, NoMemory>
+        requires { sid < length self.now.rows }
+        ensures { IfOk result (λ row. slice_get self.now.rows sid ≡ Some row) }
+    {
+        let width = self.schema.width();
+        let mut cells = Vec::with_capacity(alloc, width)?;
+        for col in 0..width {
+            cells.push(self.value(sid, col).copy(alloc)?)?;
+        }
+        Ok(Row::new(cells))
+    }
+
     /// How many rows have a key below this one, found by halving.
     pub fn rank(&self, key: &Key) -> u64
         ensures { result ≡ rank key.now (table_in self.now) }
+    {
+        self.rank_of(key.cells())
+    }
+
+    /// How many rows have a key below that of these cells, and whether the table has that key, found by halving.
+    pub fn locate(&self, key: &[Value]) -> (u64, bool)
+        ensures rank { result.0 ≡ rank key.now (table_in self.now) }
+        ensures there { result.1 ≡ is_some (row_at (table_in self.now) key.now) }
+        ensures few { result.0 ≤ MAX_ROWS }
+    {
+        let place = self.rank_of(key);
+        (place, self.has_key_at(place, key))
+    }
+
+    /// Whether there is a row at the place, of the key of these cells.
+    fn has_key_at(&self, place: u64, key: &[Value]) -> bool
+        ensures { result ≡ holds_key self.now.schema.key_cols key.now (slice_get self.now.rows place) }
+    {
+        place < self.len() && self.compare_key(place, key).is_eq()
+    }
+
+    /// How many rows have a key below that of these cells.
+    fn rank_of(&self, key: &[Value]) -> u64
+        ensures rank { result ≡ rank key.now (table_in self.now) }
+        ensures few { result ≤ MAX_ROWS }
+        ensures lawful { IsStable self.now }
     {
         let mut low = 0;
         let mut high = self.len();
         while low < high {
             let middle = low + (high - low) / 2;
-            if self.is_below(middle, key) {
+            if self.compare_key(middle, key).is_lt() {
                 low = middle + 1;
             } else {
                 high = middle;
@@ -114,22 +181,20 @@ impl StableTable {
         low
     }
 
-    /// Whether the row's key is below this one.
-    fn is_below(&self, sid: u64, key: &Key) -> bool
+    /// How the key of a row stands to that of these cells.
+    fn compare_key(&self, sid: u64, key: &[Value]) -> Ordering
         requires { sid < length self.now.rows }
-        ensures { result ≡ is_lt (key_cmp (key_of self.now.schema.key_cols (get_or self.now.rows sid [])) key.now) }
+        ensures { result ≡ key_cmp (key_of self.now.schema.key_cols (get_or self.now.rows sid [])) key.now }
     {
-        let cells = key.cells();
         let key_cols = self.schema.key_cols();
-        for col in 0..key_cols.min(cells.len()) {
-            let cell = cells[col].as_ref();
+        for col in 0..key_cols.min(key.len()) {
+            let cell = key[col].as_ref();
             match self.value(sid, col).cmp(&cell) {
-                Ordering::Less => return true,
-                Ordering::Greater => return false,
                 Ordering::Equal => {}
+                unequal => return unequal,
             }
         }
-        key_cols < cells.len()
+        key_cols.cmp(&key.len())
     }
 }
 
@@ -157,18 +222,9 @@ fn column_of(
     requires fitting { All (λ row. list_fault types.now row ≡ None) rows.now }
     ensures { IfOk result (λ column. column ≡ column_at types.now rows.now col) }
 {
-    let values = values_of(alloc, rows, col)?;
-    Column::from_values(alloc, types[col], values.as_slice())
-}
-
-/// The values of rows in one column, copied.
-fn values_of(alloc: Global, rows: &[Row], col: usize) -> Result<Vec<Value>, NoMemory>
-    requires { All (λ row. col < length row) rows.now }
-    ensures { IfOk result (λ values. values.items ≡ column_values col rows.now) }
-{
-    let mut values = Vec::with_capacity(alloc, rows.len())?;
+    let mut column = Column::new(alloc, types[col]);
     for row in rows {
-        values.push(row.cells()[col].copy()?)?;
+        column.push(row.cells()[col].as_ref())?;
     }
-    Ok(values)
+    Ok(column)
 }

@@ -5,21 +5,21 @@ ghost use Rattle.model.specs.Table.{rows_of};
 ghost use Rattle.model.specs.Effects.{table_with};
 ghost use Rattle.model.specs.Clashes.{conflicts};
 ghost use Rattle.pdtcli.specs.declared.plain.manager.OpenFault.TheVariants as open_fault;
-ghost use Rattle.pdtcli.specs.Stable.{table_in};
-ghost use Rattle.pdtcli.specs.Managed.{is_bad_limit};
+ghost use Rattle.stable.specs.Stable.{IsStable, table_in};
+ghost use Rattle.txn.specs.Txn.{IsTransaction, effects_of};
+ghost use Rattle.pdtcli.specs.Managed.{is_bad_limit, record_of};
 
-use crate::plain::table::StableTable;
-use crate::plain::txn::Txn;
-use crate::plain::version::Version;
 use model::CommitReply;
-use oracle::{Effects, OrderedTable, Record};
+use oracle::{Effects, OrderedTable, Record, effects_of_writes};
+use stable::{BuildFault, StableTable};
 use std::alloc::{AllocFailed, Global};
 use std::marker::Model;
 use std::snapshot::Snapshot;
 use std::sync::Arc;
 use thiserror::Error;
+use txn::{Txn, Version};
 use values::limits::{MAX_RECENT_COMMITS, MAX_ROWS};
-use values::{NoMemory, Row};
+use values::{NoMemory, Row, Schema};
 
 /// Why a table isn't opened.
 #[derive(Clone, Copy, Debug, PartialEq, Eq, Error)]
@@ -121,11 +121,9 @@ impl Manager {
     pub fn begin(&self, client: u32) -> Result<Txn, NoMemory>
         ensures { IfOk result (λ txn. txn ≡ begun_at self.now client) }
     {
-        let version = Version {
-            table: self.newest.clone()?,
-            number: self.commits.len() as u64,
-        };
-        Ok(Txn::open(self.alloc, version, client, self.row_limit))
+        let number = self.commits.len() as u64;
+        let version = Version::new(self.alloc, self.newest.clone()?, number)?;
+        Txn::open(self.alloc, version, client, self.row_limit)
     }
 
     /// Decides a transaction against the commits since it began, and adds its record: too old, in conflict with one of
@@ -148,12 +146,12 @@ impl Manager {
         }
         match prepared {
             Prepared::Refused(reply) => {
-                self.history.push_reserved(txn.into_record(reply));
+                self.history.push_reserved(record_with(txn, reply));
                 Ok(reply)
             }
             Prepared::Granted(number, effects, table) => {
                 let reply = CommitReply::Committed(number);
-                self.history.push_reserved(txn.into_record(reply));
+                self.history.push_reserved(record_with(txn, reply));
                 self.commits.push_reserved(effects);
                 self.newest = table;
                 Ok(reply)
@@ -171,7 +169,7 @@ impl Manager {
         if (self.recent as u64) < count - begin {
             return Ok(Prepared::Refused(CommitReply::TooOld(count)));
         }
-        let effects = txn.effects(self.alloc)?;
+        let effects = effects_of(self.alloc, txn)?;
         if conflicts_with_any(&effects, &self.commits[begin as usize..]) {
             return Ok(Prepared::Refused(CommitReply::Conflict(count)));
         }
@@ -179,7 +177,7 @@ impl Manager {
         if rows.len() as u64 > self.row_limit {
             return Ok(Prepared::Refused(CommitReply::Full(count)));
         }
-        let table = StableTable::from_rows(self.newest.schema().copy()?, rows);
+        let table = built(self.alloc, self.newest.schema().copy()?, rows)?;
         Ok(Prepared::Granted(count + 1, effects, Arc::new(self.alloc, table)?))
     }
 
@@ -214,24 +212,55 @@ fn conflicts_with_any(effects: &Effects, commits: &[Effects]) -> bool
     commits.iter().any(|commit| effects.conflicts(commit))
 }
 
+/// What a transaction's writes do, by key. Takes a search and a copy for each.
+fn effects_of(alloc: Global, txn: &Txn) -> Result<Effects, NoMemory>
+    ensures { IfOk result (λ effects. effects ≡ effects_of txn.now) }
+{
+    effects_of_writes(alloc, txn.schema().key_cols(), txn.writes())
+}
+
+/// The record of a transaction, with the reply to its commit. Takes no memory.
+fn record_with(txn: Txn, reply: CommitReply) -> Record
+    ensures entry { result ≡ record_of txn reply }
+    ensures lawful { IsTransaction txn }
+{
+    let parts = txn.into_parts();
+    Record::new(parts.client, parts.begin, parts.writes, reply)
+}
+
 /// The rows of a table after effects, by key.
 fn rows_after(alloc: Global, table: &StableTable, effects: &Effects) -> Result<Vec<Row>, NoMemory>
     ensures { IfOk result (λ rows. rows.items ≡ rows_of (table_with (table_in table.now) effects.now)) }
 {
     let key_cols = table.schema().key_cols();
-    let rows = copy_rows(alloc, table.rows())?;
+    let rows = copy_rows(alloc, table)?;
     OrderedTable::from_rows(alloc, key_cols, rows)?
         .with(effects)?
         .rows()
 }
 
-/// The rows, copied.
-fn copy_rows(alloc: Global, rows: &[Row]) -> Result<Vec<Row>, NoMemory>
-    ensures { IfOk result (λ copied. copied.items ≡ rows.now) }
+/// The rows of a table, copied.
+fn copy_rows(alloc: Global, table: &StableTable) -> Result<Vec<Row>, NoMemory>
+    ensures { IfOk result (λ copied. copied.items ≡ table.now.rows) }
 {
-    let mut copied = Vec::with_capacity(alloc, rows.len())?;
-    for row in rows {
-        copied.push(row.copy()?)?;
+    let count = table.len();
+    let mut copied = Vec::with_capacity(alloc, count as usize)?;
+    for sid in 0..count {
+        copied.push(table.row(alloc, sid)?)?;
     }
     Ok(copied)
+}
+
+/// The table of rows that are known to be one.
+fn built(alloc: Global, schema: Schema, rows: Vec<Row>) -> Result<StableTable, NoMemory>
+    requires { IsStable (record { schema = schema; rows = rows.items }) }
+    ensures { IfOk result (λ table. table ≡ record { schema = schema; rows = rows.items }) }
+{
+    match StableTable::build(alloc, schema, rows) {
+        Ok(table) => Ok(table),
+        Err(fault) => match fault {
+            BuildFault::NoMemory => Err(NoMemory),
+            _ => unreachable!(),
+        },
+    }
 }

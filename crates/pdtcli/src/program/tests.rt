@@ -1,9 +1,9 @@
 //! Runs over the bytes of two files: what is written, and the first part that is refused.
-use crate::fault::{ScriptFault, TableFault};
 use crate::output::ShowFault;
 use crate::plain::OpenFault;
 use crate::program::run_texts;
 use crate::refusal::Refusal;
+use inputs::{ScriptFault, TableFault};
 use std::io;
 use std::io::Write;
 use std::test::Fail;

@@ -34,6 +34,28 @@ fn the_first_row_of_an_empty_table(rt: HostRuntime) -> Result<(), Fail> {
 }
 
 #[test]
+fn reads_and_refusals_of_one_session(rt: HostRuntime) -> Result<(), Fail> {
+    assert_run(
+        &rt,
+        rt.alloc(),
+        BASE,
+        b"a,get,20\na,begin\na,begin\na,rank,25\na,at,3\na,scan,1,9\na,scan,5,2\na,at,18446744073709551615\na,len\na,abort\n",
+        "a,get,NotOpen\na,begin,Begun\na,begin,AlreadyOpen\na,rank,Place,2,false\na,at,None\na,scan,Row,20,Bob,2\na,scan,Row,30,Cid,3\na,scan,End,2\na,scan,End,0\na,at,None\na,len,Rows,3\na,abort,Aborted\n\nid:int:key,name:text,qty:int\n10,Ann,1\n20,Bob,2\n30,Cid,3\n",
+    )
+}
+
+#[test]
+fn a_transaction_reads_its_own_writes(rt: HostRuntime) -> Result<(), Fail> {
+    assert_run(
+        &rt,
+        rt.alloc(),
+        BASE,
+        b"a,begin\na,delete,10\na,insert,25,\"Dee, Jr\",4\na,set,20,qty,9\na,get,10\na,get,20\na,at,0\na,scan,0,3\na,rank,25\na,abort\n",
+        "a,begin,Begun\na,delete,Done\na,insert,Done\na,set,Done\na,get,Missing\na,get,Row,20,Bob,9\na,at,Row,20,Bob,9\na,scan,Row,20,Bob,9\na,scan,Row,25,\"Dee, Jr\",4\na,scan,Row,30,Cid,3\na,scan,End,3\na,rank,Place,1,true\na,abort,Aborted\n\nid:int:key,name:text,qty:int\n10,Ann,1\n20,Bob,2\n30,Cid,3\n",
+    )
+}
+
+#[test]
 fn refused_writes_leave_the_image(rt: HostRuntime) -> Result<(), Fail> {
     assert_run(
         &rt,

@@ -1,27 +1,26 @@
-use Rattle.std.proofs.Common.{◌∙◌, ◌++◌, ℕ, List, ap, sym, append_assoc, rules}
+use Rattle.std.proofs.Common.{◌≡◌, ◌≤◌, ◌+◌, ◌-◌, ◌++◌, List, take, drop, subst, sym, ap, ◌∙◌, arith}
 use Rattle.std.proofs.KnownBytes.{Appends-trans}
-use Rattle.std.specs.Slice.Iter.{chunks_rest}
+use Rattle.std.proofs.Math.Seq.{take-add}
+use Rattle.std.specs.Io.KnownBytes.{Appends}
+use Rattle.values.specs.declared.row.Row.{Row}
 use Rattle.pdtcli.specs.Output.{rows_text}
 use Rattle.pdtcli.proofs.OutputLemmas.{rows_text-append}
 use Rattle.pdtcli.proofs.output.show_rows.Goals as goal
 
-pub loop-chunk-preserved : goal.loop-chunk-preserved
-loop-chunk-preserved g c =
-    let inv = c.loop-chunk.invariant in
-    let steps = c.in-Some.ensures.steps in
-    let chunk = c.in-Some.chunk.now in
+pub loop-shown-preserved : goal.loop-shown-preserved
+loop-shown-preserved g c =
+    let inv = c.loop-shown.invariant in
+    let rows : List Row = c.args.table.now.rows in
+    let shown = c.loop-shown.shown in
+    let next = c.min-next.result in
+    let within : next ≤ c.len-count.result = omega (arith, c.min-next.ensures) in
+    let further : shown + (next - shown) ≡ next = omega (arith, c.min-next.ensures, c.loop-shown-test.true) in
+    let parts : take next rows ≡ take shown rows ++ take (next - shown) (drop shown rows) = ap (λ n. take n rows) (sym further) ∙ take-add shown (next - shown) rows in
     let text = rw inv.empty at c.in_ok-text.ensures in
     let sent = rw text at c.in_ok-send.ensures.bytes in
     record {
-      size = steps.0 ∙ inv.size;
-      can_next = search rules;
-      finite = tt;
+      within = within;
       empty = c.in_ok-send.ensures.empty;
-      sent = (
-        inv.sent.0 ++ rows_text chunk,
-        Appends-trans _ _ _ _ _ inv.sent.1 sent,
-        append_assoc inv.sent.0 _ _
-            ∙ ap (λ (z : List ℕ). inv.sent.0 ++ z) (sym (rows_text-append chunk (chunks_rest c.next.new.self)) ∙ ap (rows_text) (sym steps.1.0))
-            ∙ inv.sent.2,
-      );
+      sent = subst (Appends (g.W.Write.contents c.args.out.now) (g.W.Write.contents c.send.new.out)) (sym (ap rows_text parts ∙ rows_text-append (take shown rows) (take (next - shown) (drop shown rows))))
+          (Appends-trans _ _ _ _ _ inv.sent sent);
     }

@@ -1,16 +1,15 @@
-use Rattle.std.proofs.Common.{◌≡◌, ◌++◌, ℕ, List, []}
+use Rattle.std.proofs.Common.{◌≡◌, ◌≤◌, ◌-◌, [], take}
 use Rattle.std.specs.Io.KnownBytes.{Appends}
-use Rattle.std.specs.Slice.Iter.{chunks_rest, chunks_size}
 use Rattle.pdtcli.specs.Output.{rows_text}
-use Rattle.pdtcli.specs.declared.output.TheConstants.{RECORDS_AT_ONCE}
 use Rattle.pdtcli.proofs.output.show_rows.Given as goal
 
--- what was sent, and the text of the rows that are left, is the text of all
-abbrev pub invariant-loop-chunk : goal.invariant-loop-chunk
-invariant-loop-chunk g l = record {
-  size : chunks_size l.chunk-iterator ≡ RECORDS_AT_ONCE;
-  can_next : (goal.iterator-loop-chunk g).can_next l.chunk-iterator;
-  finite : (goal.iterator-loop-chunk g).is_finite l.chunk-iterator;
+-- what was sent is the text of the rows so far
+abbrev pub invariant-loop-shown : goal.invariant-loop-shown
+invariant-loop-shown g l = record {
+  within : l.shown ≤ l.count;
   empty : l.text.items ≡ [];
-  sent : (done : List ℕ) × Appends (g.W.Write.contents l.initial.out) (g.W.Write.contents l.out) done × (done ++ rows_text (chunks_rest l.chunk-iterator) ≡ rows_text l.fn.rows);
+  sent : Appends (g.W.Write.contents l.initial.out) (g.W.Write.contents l.out) (rows_text (take l.shown l.fn.table.rows));
 }
+
+abbrev pub decreases-loop-shown : goal.decreases-loop-shown
+decreases-loop-shown g l = l.count - l.shown

@@ -1,7 +1,7 @@
 use Rattle.std.proofs.Common.{◌≡◌, ap, sym, ◌∙◌, subst}
 use Rattle.std.specs.Prelude.{IsTrue, slice_index_or}
 use Rattle.values.specs.Shape.{Columns}
-use Rattle.pdtcli.specs.Calls.{is_typed_call}
+use Rattle.inputs.specs.Typed.{is_typed_call}
 use Rattle.pdtcli.specs.Managed.{Managed}
 use Rattle.pdtcli.proofs.program.run_texts.Goals as goal
 

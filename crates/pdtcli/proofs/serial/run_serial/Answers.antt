@@ -1,12 +1,13 @@
-use Rattle.std.proofs.Common.{◌≡◌, ◌+◌, ◌++◌, ◌∷◌, ◌<◌, None, Option, List, [], length, take, get_or, set, replicate, refl, ap, sym, ◌∙◌, subst, arith}
+use Rattle.std.proofs.Common.{◌≡◌, ◌+◌, ◌++◌, ◌∷◌, ◌<◌, None, Option, List, [], length, take, get_or, set, replicate, refl, ap, sym, ◌∙◌, subst, append_assoc, arith}
 use Rattle.std.specs.Prelude.{IfSome, slice_get}
 use Rattle.std.proofs.lemmas.List.{take_more}
 use Rattle.std.proofs.lemmas.Option.{slice_get-get_or}
-use Rattle.pdtcli.specs.declared.call.ClientCall.{ClientCall}
+use Rattle.values.specs.declared.row.Row.{Row}
+use Rattle.inputs.specs.declared.call.ClientCall.{ClientCall}
 use Rattle.pdtcli.specs.declared.reply.ReplyLine.{ReplyLine}
-use Rattle.pdtcli.specs.Transaction.{Transaction}
+use Rattle.txn.specs.Txn.{Transaction}
 use Rattle.pdtcli.specs.Managed.{IsOwn}
-use Rattle.pdtcli.specs.Run.{IsRun, Side, SideStep, State, Step, joined}
+use Rattle.pdtcli.specs.Run.{IsRun, Side, SideStep, State, Step, joined, line_of, lines_of, shown_lines}
 use Rattle.pdtcli.proofs.RunLemmas.{ready_again, IsRun-more}
 use Rattle.pdtcli.proofs.serial.run_serial.Goals as goal
 
@@ -28,22 +29,31 @@ loop-asked-preserved c =
     let found : mine ≡ get_or callers asked.client mine = c.index_mut.ensures.value in
     let own : IfSome mine (IsOwn m) = subst (λ (o : Option Transaction). IfSome o (IsOwn m)) (sym found) (c.loop-asked.invariant.ready.own asked.client mine client) in
     let looked_up : joined (slice_get callers asked.client) ≡ mine = ap joined (slice_get-get_or callers asked.client mine client) ∙ sym found in
-    let step : SideStep asked.client asked.call (record { manager = m; own = mine }) reply after = c.serve-reply.ensures in
-    let taken : Step (record { manager = m; transactions = callers }) asked c.line_of.result (record { manager = after.manager; transactions = set callers asked.client after.own }) = record {
+    let served = c.serve-reply.ensures.step in
+    let rows : List Row = served.0 in
+    let step : SideStep asked.client asked.call (record { manager = m; own = mine }) rows reply after = served.1 in
+    let these : List ReplyLine = lines_of asked rows reply in
+    let taken : Step (record { manager = m; transactions = callers }) asked these (record { manager = after.manager; transactions = set callers asked.client after.own }) = record {
+      rows = rows;
       reply = reply;
       side = after;
-      steps = subst (λ (o : Option Transaction). SideStep asked.client asked.call (record { manager = m; own = o }) reply after) (sym looked_up) step;
-      told = c.line_of.ensures;
+      steps = subst (λ (o : Option Transaction). SideStep asked.client asked.call (record { manager = m; own = o }) rows reply after) (sym looked_up) step;
+      told = refl;
       left = refl;
     } in
+    let before : List ReplyLine = c.loop-asked.lines.items in
+    let told : c.push_reserved.new.self.items ≡ before ++ these =
+    c.push_reserved.ensures.items
+    ∙ (λ j. served.2 j ++ c.line_of.ensures j ∷ [])
+    ∙ append_assoc before (shown_lines asked rows) (line_of asked reply ∷ []) in
     let start : State = record { manager = c.args.manager; transactions = replicate (length c.args.script.now.clients.items) None } in
     let next : State = record { manager = after.manager; transactions = set callers asked.client after.own } in
-    let more = IsRun-more start (record { manager = m; transactions = callers }) next (take i calls) c.loop-asked.lines.items asked c.line_of.result c.loop-asked.invariant.run taken in
+    let more = IsRun-more start (record { manager = m; transactions = callers }) next (take i calls) before asked these c.loop-asked.invariant.run taken in
     let longer : take i calls ++ asked ∷ [] ≡ take (i + 1) calls = ap (λ (a : ClientCall). take i calls ++ a ∷ []) here ∙ sym (take_more calls i asked inside) in
     record {
-      run = subst (λ (e : List ClientCall × List ReplyLine). IsRun start e.0 e.1 next) (λ j. (longer j, (sym c.push_reserved.ensures.items) j)) more;
-      ready = ready_again c.args.manager.schema (length c.args.script.now.clients.items) m callers c.loop-asked.invariant.ready asked.client asked.call mine after reply own step;
-      placed = c.push_reserved.ensures.len ∙ ap (λ n. n + 1) c.loop-asked.invariant.placed;
-      room = omega (arith, c.push_reserved.ensures.capacity, c.loop-asked.invariant.room);
+      run = subst (λ (e : List ClientCall × List ReplyLine). IsRun start e.0 e.1 next) (λ j. (longer j, (sym told) j)) more;
+      ready = ready_again c.args.manager.schema (length c.args.script.now.clients.items) m callers c.loop-asked.invariant.ready asked.client asked.call mine after rows reply own step;
+      left = omega (arith, c.loop-asked.invariant.left, inside);
+      room = omega (arith, c.push_reserved.ensures.len, c.push_reserved.ensures.capacity, c.serve-reply.ensures.room, c.loop-asked.invariant.left, inside);
       counts = c.loop-asked.invariant.counts;
     }

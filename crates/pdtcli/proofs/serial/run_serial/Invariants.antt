@@ -1,4 +1,4 @@
-use Rattle.std.proofs.Common.{◌≡◌, ◌≤◌, None, [], length, take, replicate}
+use Rattle.std.proofs.Common.{◌≡◌, ◌≤◌, ◌+◌, None, [], length, take, replicate}
 use Rattle.std.specs.Prelude.{vec_capacity, vec_len}
 use Rattle.pdtcli.specs.Run.{IsRun}
 use Rattle.pdtcli.specs.Ready.{IsReady}
@@ -9,7 +9,7 @@ abbrev pub invariant-loop-asked : goal.invariant-loop-asked
 invariant-loop-asked l = record {
   run : IsRun (record { manager = l.fn.manager; transactions = replicate (length l.script.clients.items) None }) (take l.asked-index l.script.calls.items) l.lines.items (record { manager = l.manager; transactions = l.callers.items });
   ready : IsReady l.fn.manager.schema (length l.script.clients.items) l.manager l.callers.items;
-  placed : vec_len l.lines ≡ l.asked-index;
-  room : length l.script.calls.items ≤ vec_capacity l.lines;
+  left : l.asked-index + l.left ≡ length l.script.calls.items;
+  room : vec_len l.lines + l.left ≤ vec_capacity l.lines;
   counts : (l.counts.items ≡ []) × (l.count ≤ vec_capacity l.counts);
 }

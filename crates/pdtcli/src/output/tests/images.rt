@@ -1,9 +1,11 @@
 //! Images: the header, quotes where a field needs them, and many rows.
+use crate::output::tests::{numbers, one_row, schema};
 use crate::output::{show_header, show_rows};
+use stable::StableTable;
 use std::alloc::Global;
 use std::process::Abort;
 use std::test::Fail;
-use values::{ColumnType, Row, Schema, Text, Value};
+use values::{ColumnType, Text, Value};
 
 /// A text cell.
 fn text(alloc: Global, characters: &str) -> Result<Value, Fail> {
@@ -16,8 +18,14 @@ fn assert_shown(rt: &impl Abort, alloc: Global, characters: &str, want: &str) ->
     cells.push(Value::Int(-7))?;
     cells.push(text(alloc, characters)?)?;
     cells.push(Value::Bool(true))?;
+    let mixed = [
+        ("n", ColumnType::Int),
+        ("name", ColumnType::Text),
+        ("paid", ColumnType::Bool),
+    ];
+    let table = one_row(alloc, schema(alloc, &mixed, 1)?, cells)?;
     let mut out = Vec::new(alloc);
-    show_rows(alloc, &[Row::new(cells)], &mut out)?;
+    show_rows(alloc, &table, &mut out)?;
     let found = str::from_utf8(out.as_slice())?;
     assert_eq!(rt; found, want);
     Ok(())
@@ -45,19 +53,12 @@ fn a_text_has_quotes_where_it_needs_them(rt: HostRuntime) -> Result<(), Fail> {
 fn an_empty_text_alone_has_quotes(rt: HostRuntime) -> Result<(), Fail> {
     let mut cells = Vec::new(rt.alloc());
     cells.push(text(rt.alloc(), "")?)?;
+    let texts = schema(rt.alloc(), &[("name", ColumnType::Text)], 1)?;
+    let table = one_row(rt.alloc(), texts, cells)?;
     let mut out = Vec::new(rt.alloc());
-    show_rows(rt.alloc(), &[Row::new(cells)], &mut out)?;
+    show_rows(rt.alloc(), &table, &mut out)?;
     assert_eq!(&rt; str::from_utf8(out.as_slice())?, "\"\"\n");
     Ok(())
-}
-
-/// The schema of these columns, the first `key_cols` of which are the key.
-fn schema(alloc: Global, cols: &[(&str, ColumnType)], key_cols: usize) -> Result<Schema, Fail> {
-    let mut named = Vec::new(alloc);
-    for (name, column) in cols {
-        named.push((String::from_str(alloc, name)?, *column))?;
-    }
-    Ok(Schema::new(alloc, named, key_cols)?)
 }
 
 /// Fails where the columns are shown under another header.
@@ -71,7 +72,11 @@ fn assert_header(
     let schema = schema(alloc, cols, key_cols)?;
     let mut out = Vec::new(alloc);
     show_header(alloc, &schema, &mut out)?;
-    show_rows(alloc, &[], &mut out)?;
+    show_rows(
+        alloc,
+        &StableTable::build(alloc, schema, Vec::new(alloc))?,
+        &mut out,
+    )?;
     let found = str::from_utf8(out.as_slice())?;
     assert_eq!(rt; found, want);
     Ok(())
@@ -92,16 +97,12 @@ fn an_image_of_no_rows_is_its_header(rt: HostRuntime) -> Result<(), Fail> {
 
 #[test]
 fn many_rows_are_shown_in_order(rt: HostRuntime) -> Result<(), Fail> {
-    let mut rows = Vec::new(rt.alloc());
     let mut want = String::new(rt.alloc());
     for number in 0..600 {
-        let mut cells = Vec::new(rt.alloc());
-        cells.push(Value::Int(number))?;
-        rows.push(Row::new(cells))?;
         write!(want, "{number}\n")?;
     }
     let mut out = Vec::new(rt.alloc());
-    show_rows(rt.alloc(), rows.as_slice(), &mut out)?;
+    show_rows(rt.alloc(), &numbers(rt.alloc(), 0, 600)?, &mut out)?;
     assert!(&rt; out.as_slice() == want.as_bytes());
     Ok(())
 }

@@ -1,7 +1,7 @@
 //! Each reply as the line that it becomes.
 use crate::output::{show_lines, status_of};
 use crate::reply::{Reply, ReplyLine};
-use crate::verb::Verb;
+use inputs::Verb;
 use model::{CommitReply, WriteReply};
 use std::alloc::Global;
 use std::process::Abort;

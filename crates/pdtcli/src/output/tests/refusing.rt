@@ -1,12 +1,12 @@
 //! A writer that takes some bytes and then refuses.
+use crate::output::tests::numbers;
 use crate::output::{ShowFault, show_header, show_lines, show_rows};
 use crate::reply::{Reply, ReplyLine};
-use crate::verb::Verb;
-use std::alloc::Global;
+use inputs::Verb;
 use std::io;
 use std::io::Write;
 use std::test::Fail;
-use values::{ColumnType, Row, Schema, Value};
+use values::{ColumnType, Schema};
 
 /// Takes so many bytes, a few at a time, and refuses the next one.
 #[derive(Drop)]
@@ -29,29 +29,19 @@ impl Write for Brimming {
     }
 }
 
-/// As many rows, each shown as `7` and a line feed.
-fn sevens(alloc: Global, count: usize) -> Result<Vec<Row>, Fail> {
-    let mut rows = Vec::new(alloc);
-    for _ in 0..count {
-        let mut cells = Vec::new(alloc);
-        cells.push(Value::Int(7))?;
-        rows.push(Row::new(cells))?;
-    }
-    Ok(rows)
-}
-
 #[test]
 fn rows_are_refused_in_mid_stream(rt: HostRuntime) -> Result<(), Fail> {
-    let rows = sevens(rt.alloc(), 600)?;
+    // Each of the 600 rows is shown as three digits and a line feed.
+    let table = numbers(rt.alloc(), 100, 700)?;
     for (room, want) in [
         (0, Err(ShowFault::Write)),
         (1, Err(ShowFault::Write)),
-        (700, Err(ShowFault::Write)),
-        (1199, Err(ShowFault::Write)),
-        (1200, Ok(())),
+        (1400, Err(ShowFault::Write)),
+        (2399, Err(ShowFault::Write)),
+        (2400, Ok(())),
     ] {
         let mut out = Brimming { room };
-        let found = show_rows(rt.alloc(), rows.as_slice(), &mut out);
+        let found = show_rows(rt.alloc(), &table, &mut out);
         assert!(&rt; found == want, "at room for {room}");
     }
     Ok(())

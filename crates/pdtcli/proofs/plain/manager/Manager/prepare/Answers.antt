@@ -4,14 +4,14 @@ use Rattle.std.proofs.lemmas.List.{length-drop}
 use Rattle.model.specs.Table.{rows_of}
 use Rattle.model.specs.Effects.{table_with}
 use Rattle.model.specs.Clashes.{conflicts}
-use Rattle.pdtcli.specs.Stable.{Stable, table_in}
-use Rattle.pdtcli.specs.Transaction.{effects_of}
+use Rattle.stable.specs.Stable.{Stable, table_in}
+use Rattle.txn.specs.Txn.{effects_of}
 use Rattle.pdtcli.specs.Managed.{Managed, managed_at, commits_in, newest_table, IsOwn}
 use Rattle.pdtcli.proofs.ManagedLemmas.{take_length, next_stable}
 use Rattle.pdtcli.proofs.plain.manager.Manager.prepare.Goals as goal
 
-pub from_rows-table-requires : goal.from_rows-table-requires
-from_rows-table-requires c =
+pub built-requires : goal.built-requires
+built-requires c =
     let inside = c.self.inside in
     let m : Managed = managed_at inside.opening.value inside.row_limit inside.recent inside.history.items in
     let txn = c.args.txn.now in

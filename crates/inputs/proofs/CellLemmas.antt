@@ -1,0 +1,148 @@
+-- What the bytes of a cell say.
+use Rattle.std.proofs.Common.{◌≡◌, ◌<◌, ◌≤◌, ◌^◌, ℕ, ℤ, pos, neg_ℤ, Bool, true, false, ◌&&◌, List, [], ◌∷◌, length, drop, get_or, Option, Some, None, Result, Ok, Err, refl, sym, ap, arith, inl, inr, nat_lt, nat_le, w64, zero, suc, lit<}
+use Rattle.std.proofs.lemmas.Bool.{cases_Bool, cases_eq, eq-eqb, ne_eqb}
+use Rattle.std.proofs.lemmas.Bool.Decides.{nat_tests}
+use Rattle.std.proofs.lemmas.Str.{IsUtf8-from_is_utf8, is_utf8-from_IsUtf8, IsUtf8-from_ascii}
+use Rattle.std.proofs.lemmas.Str.Parse.{IsNumeralModel, numerals_by_value, tells_all_ascii_digits, parse_signed_minus, parse_signed_plain, parse_signed_plus}
+use Rattle.std.specs.Result.{OkIff, MatchResult, result_ok}
+use Rattle.std.specs.Str.{IsUtf8, is_utf8, all_ascii_digits}
+use Rattle.std.specs.Str.Parse.{ParsesSigned, digits_value, starts_with_minus, without_leading_sign}
+use Rattle.std.specs.Char.{is_ascii_digit}
+use Rattle.values.specs.declared.value.ColumnType.TheVariants as column
+use Rattle.values.specs.declared.value.Value.TheVariants.{Text}
+use Rattle.inputs.specs.Cells.{is_numeral, signed_number, int_of, value_of}
+use Rattle.inputs.specs.Input.{cell_of}
+use Rattle.inputs.specs.declared.fault.TableFault.TheVariants.{TextTooLong, BadText}
+
+-- ---- texts
+
+pub not_utf8 : (bs : List ℕ) → ¬ (IsUtf8 bs) → is_utf8 bs ≡ false
+not_utf8 bs h = elim (cases_Bool (is_utf8 bs)) [
+  | inl e ↦ absurd (h (IsUtf8-from_is_utf8 bs e))
+  | inr e ↦ e
+]
+
+pub lt_false : (a b : ℕ) → b ≤ a → nat_lt a b ≡ false
+lt_false a b h = grind (arith, nat_tests)
+
+pub lt_true : (a b : ℕ) → a < b → nat_lt a b ≡ true
+lt_true a b h = grind (arith, nat_tests)
+
+pub text-ok : (bs : List ℕ) (n at : ℕ) → IsUtf8 bs → length bs ≤ 4096 → cell_of column.Text n at bs ≡ Ok (Text bs)
+text-ok bs n at u h = rw (is_utf8-from_IsUtf8 bs u, lt_false 4096 (length bs) h) refl
+
+pub text-long : (bs : List ℕ) (n at : ℕ) → IsUtf8 bs → 4096 < length bs → cell_of column.Text n at bs ≡ Err (TextTooLong n at)
+text-long bs n at u h = rw (is_utf8-from_IsUtf8 bs u, lt_true 4096 (length bs) h) refl
+
+pub text-bad : (bs : List ℕ) (n at : ℕ) → ¬ (IsUtf8 bs) → cell_of column.Text n at bs ≡ Err (BadText n at)
+text-bad bs n at u = rw (not_utf8 bs u) refl
+
+pub value_of-no_text : (bs : List ℕ) → ¬ (IsUtf8 bs) → value_of column.Text bs ≡ None
+value_of-no_text bs u = rw (not_utf8 bs u) refl
+
+pub value_of-text : (bs : List ℕ) → IsUtf8 bs → value_of column.Text bs ≡ Some (Text bs)
+value_of-text bs u = rw (is_utf8-from_IsUtf8 bs u) refl
+
+-- ---- numbers
+
+pub numerals : IsNumeralModel (λ ds. all_ascii_digits ds ≡ true) (digits_value 10)
+numerals = numerals_by_value _ tells_all_ascii_digits
+
+-- one digit or more
+pub is_numeral-true : (ds : List ℕ) → all_ascii_digits ds ≡ true → 0 < length ds → is_numeral ds ≡ true
+is_numeral-true [] e h = absurd (omega arith)
+is_numeral-true (c ∷ ds) e h = e
+
+pub numeral-digits : (ds : List ℕ) → is_numeral ds ≡ true → (all_ascii_digits ds ≡ true) × (0 < length ds)
+numeral-digits [] e = cc e
+numeral-digits (c ∷ ds) e = (e, omega arith)
+
+pub and-parts : (a b : Bool) → (a && b) ≡ true → (a ≡ true) × (b ≡ true)
+and-parts true b e = (refl, e)
+and-parts false b e = cc e
+
+pub and-false : (a b : Bool) → (a ≡ true → b ≡ true → ⊥) → (a && b) ≡ false
+and-false true true h = absurd (h refl refl)
+and-false true false h = refl
+and-false false b h = refl
+
+pub le_true : (a b : ℕ) → a ≤ b → nat_le a b ≡ true
+le_true a b h = grind (arith, nat_tests)
+
+pub le_false : (a b : ℕ) → b < a → nat_le a b ≡ false
+le_false a b h = grind (arith, nat_tests)
+
+le_from : (a b : ℕ) → nat_le a b ≡ true → a ≤ b
+le_from a b h = grind (arith, nat_tests)
+
+pub lt_from : (a b : ℕ) → nat_lt a b ≡ true → a < b
+lt_from a b h = grind (arith, nat_tests)
+
+module _ {E : Type 0} where
+  minus-says : (ds : List ℕ) (r : Result ℤ E)
+      → OkIff r ((all_ascii_digits ds ≡ true) × (0 < length ds) × (digits_value 10 ds ≤ 2 ^ 63)) (neg_ℤ (pos (digits_value 10 ds)))
+      → MatchResult r (λ n. signed_number true ds ≡ Some n) (λ _. signed_number true ds ≡ None)
+  minus-says ds (Ok n) h = rw (is_numeral-true ds h.0.0 h.0.1, le_true _ _ h.0.2) (ap Some (sym h.1))
+  minus-says ds (Err e) h =
+      let no : (is_numeral ds && nat_le (digits_value 10 ds) (2 ^ 63)) ≡ false =
+      and-false _ _ (λ a b. let d = numeral-digits ds a in h (d.0, d.1, le_from _ _ b)) in
+      rw no refl
+
+  plain-says : (ds : List ℕ) (r : Result ℤ E)
+      → OkIff r ((all_ascii_digits ds ≡ true) × (0 < length ds) × (digits_value 10 ds < 2 ^ 63)) (pos (digits_value 10 ds))
+      → MatchResult r (λ n. signed_number false ds ≡ Some n) (λ _. signed_number false ds ≡ None)
+  plain-says ds (Ok n) h = rw (is_numeral-true ds h.0.0 h.0.1, lt_true _ _ h.0.2) (ap Some (sym h.1))
+  plain-says ds (Err e) h =
+      let no : (is_numeral ds && nat_lt (digits_value 10 ds) (2 ^ 63)) ≡ false =
+      and-false _ _ (λ a b. let d = numeral-digits ds a in h (d.0, d.1, lt_from _ _ b)) in
+      rw no refl
+
+  carried : (o p : Option ℤ) (r : Result ℤ E) → o ≡ p → MatchResult r (λ n. p ≡ Some n) (λ _. p ≡ None) → MatchResult r (λ n. o ≡ Some n) (λ _. o ≡ None)
+  carried o p r e h = rw e h
+
+  -- what a parse of 64 bits answers
+  pub int_of-parse : (bs : List ℕ) (r : Result ℤ E) → ParsesSigned w64 10 bs r → MatchResult r (λ n. int_of bs ≡ Some n) (λ _. int_of bs ≡ None)
+  int_of-parse bs r h = elim (cases_eq (get_or bs 0 0) 45) [
+    | inl e ↦ carried (int_of bs) (signed_number true (drop 1 bs)) r (rw (eq-eqb _ _ e) refl) (minus-says (drop 1 bs) r (parse_signed_minus numerals w64 bs r h e))
+    | inr n ↦ elim (cases_eq (get_or bs 0 0) 43) [
+      | inl e ↦ carried (int_of bs) (signed_number false (drop 1 bs)) r (rw (ne_eqb _ _ n, eq-eqb _ _ e) refl) (plain-says (drop 1 bs) r (parse_signed_plus numerals w64 bs r h e))
+      | inr m ↦ carried (int_of bs) (signed_number false bs) r (rw (ne_eqb _ _ n, ne_eqb _ _ m) refl) (plain-says bs r (parse_signed_plain numerals w64 bs r h m n))
+    ]
+  ]
+
+  -- the number of a parse that succeeded
+  pub int_of-result_ok : (bs : List ℕ) (r : Result ℤ E) → ParsesSigned w64 10 bs r → int_of bs ≡ result_ok r
+  int_of-result_ok bs (Ok n) h = int_of-parse bs (Ok n) h
+  int_of-result_ok bs (Err e) h = int_of-parse bs (Err e) h
+
+-- ---- what is a number is a text
+
+digit-ascii : (c : ℕ) → is_ascii_digit c ≡ true → c < 128
+digit-ascii c h = grind (arith, nat_tests)
+
+pub digits-ascii : (ds : List ℕ) → all_ascii_digits ds ≡ true → (i : ℕ) → get_or ds i 0 < 128
+digits-ascii [] h i = lit< tt
+digits-ascii (c ∷ ds) h zero = digit-ascii c (and-parts (is_ascii_digit c) (all_ascii_digits ds) h).0
+digits-ascii (c ∷ ds) h (suc i) = digits-ascii ds (and-parts (is_ascii_digit c) (all_ascii_digits ds) h).1 i
+
+cons-ascii : (c : ℕ) (rest : List ℕ) → c < 128 → ((i : ℕ) → get_or rest i 0 < 128) → (i : ℕ) → get_or (c ∷ rest) i 0 < 128
+cons-ascii c rest h more zero = h
+cons-ascii c rest h more (suc i) = more i
+
+sign-ascii : (bs : List ℕ) → all_ascii_digits (without_leading_sign bs) ≡ true → (i : ℕ) → get_or bs i 0 < 128
+sign-ascii [] h = λ i. lit< tt
+sign-ascii (c ∷ rest) h = elim (cases_eq c 45) [
+  | inl e ↦ cons-ascii c rest (omega (arith, e)) (digits-ascii rest (rw (eq-eqb c 45 e) at h))
+  | inr n ↦ elim (cases_eq c 43) [
+    | inl e ↦ cons-ascii c rest (omega (arith, e)) (digits-ascii rest (rw (ne_eqb c 45 n, eq-eqb c 43 e) at h))
+    | inr m ↦ digits-ascii (c ∷ rest) (rw (ne_eqb c 45 n, ne_eqb c 43 m) at h)
+  ]
+]
+
+signed-none : (minus : Bool) (ds : List ℕ) → (is_numeral ds ≡ true → ⊥) → signed_number minus ds ≡ None
+signed-none true ds h = let no : (is_numeral ds && nat_le (digits_value 10 ds) (2 ^ 63)) ≡ false = and-false _ _ (λ a b. h a) in rw no refl
+signed-none false ds h = let no : (is_numeral ds && nat_lt (digits_value 10 ds) (2 ^ 63)) ≡ false = and-false _ _ (λ a b. h a) in rw no refl
+
+pub int_of-no_text : (bs : List ℕ) → ¬ (IsUtf8 bs) → int_of bs ≡ None
+int_of-no_text bs h =
+    signed-none (starts_with_minus bs) (without_leading_sign bs) (λ e. h (IsUtf8-from_ascii bs (sign-ascii bs (numeral-digits (without_leading_sign bs) e).0)))

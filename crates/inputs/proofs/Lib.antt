@@ -1,0 +1,13 @@
+mod ReadLemmas
+mod CellLemmas
+mod HeaderLemmas
+mod RowLemmas
+mod OrderLemmas
+mod TableLemmas
+mod FittingLemmas
+mod ScriptLemmas
+mod ClientsLemmas
+mod CallsLemmas
+mod WordsLemmas
+mod PositionLemmas
+mod WorkedWords

@@ -1,0 +1,69 @@
+-- The table of a text, record by record.
+use Rattle.std.proofs.Common.{◌≡◌, ◌<◌, ◌+◌, ℕ, List, [], ◌∷◌, ◌++◌, length, get_or, map, Some, None, Ok, Err, Bor, refl, sym, arith, inl, inr}
+use Rattle.std.proofs.lemmas.Bool.{cases_lt}
+use Rattle.std.proofs.lemmas.List.{append-nil, length-append, get_or_append_left, get_or_push}
+use Rattle.csv.specs.declared.reader.Reader.{Reader}
+use Rattle.values.specs.Shape.{Columns}
+use Rattle.inputs.specs.Cells.{prepend}
+use Rattle.inputs.specs.Header.{schema_of}
+use Rattle.inputs.specs.Input.{table_of, rows_of, row_of, first_repeat}
+use Rattle.inputs.specs.Order.{AreNumbered}
+use Rattle.inputs.specs.Reading.{Fields, AreRecordsOf, IsReading}
+use Rattle.inputs.specs.declared.fault.TableFault.{TableFault}
+use Rattle.inputs.specs.declared.fault.TableFault.TheVariants.{NoHeader, RepeatedKey}
+use Rattle.inputs.specs.declared.order.Numbered.{Numbered}
+use Rattle.inputs.proofs.ReadLemmas.{records-start, records-same}
+use Rattle.inputs.proofs.RowLemmas.{rows_of-fault}
+
+pub table_of-none : (text : List ℕ) (all : List Fields) → AreRecordsOf text [] → AreRecordsOf text all → table_of all ≡ Err NoHeader
+table_of-none text all h g = rw (records-same text [] all h g) refl
+
+pub table_of-bad_header : (text : List ℕ) (header : Fields) (all : List Fields) (fault : TableFault) (reader : Reader (Bor (List ℕ)))
+    → IsReading text (header ∷ []) reader → schema_of header ≡ Err fault → AreRecordsOf text all → table_of all ≡ Err fault
+table_of-bad_header text header all fault reader h e g =
+    let rest = records-start text (header ∷ []) all reader h g in
+    rw rest.1 (rw e refl)
+
+pub table_of-bad_row : (text : List ℕ) (header fields : Fields) (read all : List Fields) (schema : Columns) (rows : List Numbered) (number : ℕ) (fault : TableFault) (reader : Reader (Bor (List ℕ)))
+    → IsReading text (header ∷ (read ++ fields ∷ [])) reader → schema_of header ≡ Ok schema
+    → ((more : List Fields) → rows_of schema.types 2 (read ++ more) ≡ prepend rows (rows_of schema.types number more))
+    → row_of schema.types number fields ≡ Err fault
+    → AreRecordsOf text all → table_of all ≡ Err fault
+table_of-bad_row text header fields read all schema rows number fault reader h e so bad g =
+    let rest = records-start text (header ∷ (read ++ fields ∷ [])) all reader h g in
+    rw rest.1 (rw (e, rows_of-fault schema.types read rest.0 number fields fault rows so bad) refl)
+
+all_rows : (schema : Columns) (read : List Fields) (rows : List Numbered) (number : ℕ)
+    → ((more : List Fields) → rows_of schema.types 2 (read ++ more) ≡ prepend rows (rows_of schema.types number more))
+    → rows_of schema.types 2 read ≡ Ok rows
+all_rows schema read rows number so = rw (append-nil read, append-nil rows) at (so [])
+
+pub table_of-repeat : (text : List ℕ) (header : Fields) (read all : List Fields) (schema : Columns) (rows : List Numbered) (number : ℕ) (row : Numbered)
+    → AreRecordsOf text (header ∷ read) → schema_of header ≡ Ok schema
+    → ((more : List Fields) → rows_of schema.types 2 (read ++ more) ≡ prepend rows (rows_of schema.types number more))
+    → first_repeat schema.key_cols rows ≡ Some row
+    → AreRecordsOf text all → table_of all ≡ Err (RepeatedKey row.number)
+table_of-repeat text header read all schema rows number row h e so repeat g =
+    rw (records-same text (header ∷ read) all h g) (rw (e, all_rows schema read rows number so, repeat) refl)
+
+pub table_of-ok : (header : Fields) (read : List Fields) (schema : Columns) (rows : List Numbered) (number : ℕ)
+    → schema_of header ≡ Ok schema
+    → ((more : List Fields) → rows_of schema.types 2 (read ++ more) ≡ prepend rows (rows_of schema.types number more))
+    → first_repeat schema.key_cols rows ≡ None
+    → table_of (header ∷ read) ≡ Ok (schema, map (λ row. row.row) rows)
+table_of-ok header read schema rows number e so none = rw (e, all_rows schema read rows number so, none) refl
+
+-- rows that are numbered from 2 on are numbered
+pub AreNumbered-from : (rows : List Numbered) → ((i : ℕ) (d : Numbered) → i < length rows → (get_or rows i d).number ≡ i + 2) → AreNumbered rows
+AreNumbered-from rows h i j d l m =
+    let a = h i d (omega (arith, l, m)) in
+    let b = h j d m in
+    omega (arith, a, b, l)
+
+-- one more of them
+pub numbered-push : (rows : List Numbered) (row : Numbered) → ((i : ℕ) (d : Numbered) → i < length rows → (get_or rows i d).number ≡ i + 2)
+    → row.number ≡ length rows + 2 → (i : ℕ) (d : Numbered) → i < length (rows ++ row ∷ []) → (get_or (rows ++ row ∷ []) i d).number ≡ i + 2
+numbered-push rows row h e i d l = elim (cases_lt i (length rows)) [
+  | inl m ↦ rw (get_or_append_left rows (row ∷ []) d i m) (h i d m)
+  | inr m ↦ let at : i ≡ length rows = omega (arith, l, m, length-append rows (row ∷ [])) in rw (get_or_push rows row d i (sym at)) (rw at e)
+]

@@ -1,0 +1,26 @@
+use Rattle.std.proofs.Common.{◌≡◌, ◌∙◌, ap, map}
+use Rattle.std.specs.Option.{option_map}
+use Rattle.clap.specs.Words.{App, app_of, is_simple, subcommand_of, takes}
+use Rattle.inputs.specs.Words.{usage, word_in}
+use Rattle.inputs.proofs.ReadLemmas.{passed-up}
+use Rattle.inputs.proofs.WordsLemmas.{usage-simple, AreOf-same, if-told}
+use Rattle.inputs.proofs.words.read_words.Goals as goal
+
+pub returns-in-Some-clause-said : goal.returns-in-Some-clause-said
+returns-in-Some-clause-said c =
+    let is : app_of c.in_ok-command.command ≡ usage = c.in_ok-command.ensures.ok in
+    let words = map (λ word. word.now) c.args.words.now in
+    let read = (c.in_ok-matches.ensures.ok.2 (ap is_simple is ∙ usage-simple)).1 ∙ ap (λ (a : App). subcommand_of a words) is in
+    let said = rw c.in-Some.is at c.command_settings-given.ensures.said in
+    AreOf-same _ _ (λ id. ap (λ o. word_in (option_map (λ p. p.1) o) id) read) c.in-Some.settings said
+
+pub returns-in_err-matches-clause-taken : goal.returns-in_err-matches-clause-taken
+returns-in_err-matches-clause-taken c =
+    let is : app_of c.in_ok-command.command ≡ usage = c.in_ok-command.ensures.ok in
+    let words = map (λ word. word.now) c.args.words.now in
+    passed-up c.from_residual-in_err-matches.result _ _ c.from_residual-in_err-matches.ensures.1
+    (λ settings asked. c.in_err-matches.ensures.passes (ap (λ (a : App). takes a words) is ∙ asked.taken))
+
+pub returns-in_err-error-in-None-clause-taken : goal.returns-in_err-error-in-None-clause-taken
+returns-in_err-error-in-None-clause-taken c =
+    if-told c.from_residual-in_err-error-in-None.result _ _ (λ error kind settings asked. kind) c.from_residual-in_err-error-in-None.ensures.1

@@ -1,0 +1,10 @@
+pub mod Calls
+pub mod Cells
+pub mod Clients
+pub mod Header
+pub mod Input
+pub mod Order
+pub mod Reading
+pub mod Script
+pub mod Words
+pub mod Typed

@@ -1,0 +1,128 @@
+//! The value that a cell's bytes say.
+ghost use Rattle.std.specs.Prelude.{◌≡◌, ◌≢◌, ◌==◌, get_or, IfOk, IfErr, Ok, Err, Some, None};
+ghost use Rattle.inputs.specs.Cells.{int_of, position_of, truth_of, value_of};
+ghost use Rattle.inputs.specs.Input.{cell_of};
+
+use crate::fault::TableFault;
+use std::alloc::Global;
+use values::limits::MAX_TEXT_BYTES;
+use values::{ColumnType, NoMemory, Text, Value};
+
+/// The cell `at` of the record of this number, as a value of its column's type.
+pub(crate) fn read_cell(
+    alloc: Global,
+    column: ColumnType,
+    number: u64,
+    at: usize,
+    bytes: &[u8],
+) -> Result<Value, TableFault>
+    ensures ok { IfOk result (λ value. cell_of column number at bytes.now ≡ Ok value) }
+    ensures err { IfErr result (λ fault. fault ≢ TableFault.NoMemory → cell_of column number at bytes.now ≡ Err fault) }
+{
+    match column {
+        ColumnType::Int => match read_int(bytes) {
+            Some(number) => Ok(Value::Int(number)),
+            None => Err(TableFault::BadCell(number, at)),
+        },
+        ColumnType::Bool => match read_truth(bytes) {
+            Some(truth) => Ok(Value::Bool(truth)),
+            None => Err(TableFault::BadCell(number, at)),
+        },
+        ColumnType::Text => read_text(alloc, number, at, bytes),
+    }
+}
+
+/// The same of a text column.
+fn read_text(alloc: Global, number: u64, at: usize, bytes: &[u8]) -> Result<Value, TableFault>
+    ensures ok { IfOk result (λ value. cell_of ColumnType.Text number at bytes.now ≡ Ok value) }
+    ensures err { IfErr result (λ fault. fault ≢ TableFault.NoMemory → cell_of ColumnType.Text number at bytes.now ≡ Err fault) }
+{
+    let text = match str::from_utf8(bytes) {
+        Ok(text) => text,
+        Err(_) => return Err(TableFault::BadText(number, at)),
+    };
+    if text.len() > MAX_TEXT_BYTES {
+        return Err(TableFault::TextTooLong(number, at));
+    }
+    Ok(Value::Text(Text::new(String::from_str(alloc, text)?)))
+}
+
+/// The value of this type that the bytes say, if they say one. A text may have any length.
+pub(crate) fn read_value(
+    alloc: Global,
+    column: ColumnType,
+    bytes: &[u8],
+) -> Result<Option<Value>, NoMemory>
+    ensures { IfOk result (λ value. value ≡ value_of column bytes.now) }
+{
+    match column {
+        ColumnType::Int => match read_int(bytes) {
+            Some(number) => Ok(Some(Value::Int(number))),
+            None => Ok(None),
+        },
+        ColumnType::Bool => match read_truth(bytes) {
+            Some(truth) => Ok(Some(Value::Bool(truth))),
+            None => Ok(None),
+        },
+        ColumnType::Text => read_any_text(alloc, bytes),
+    }
+}
+
+/// The same of a text column.
+fn read_any_text(alloc: Global, bytes: &[u8]) -> Result<Option<Value>, NoMemory>
+    ensures { IfOk result (λ value. value ≡ value_of ColumnType.Text bytes.now) }
+{
+    let text = match str::from_utf8(bytes) {
+        Ok(text) => text,
+        Err(_) => return Ok(None),
+    };
+    Ok(Some(Value::Text(Text::new(String::from_str(alloc, text)?))))
+}
+
+/// The number that the bytes write, of 64 bits with a sign.
+pub(crate) fn read_int(bytes: &[u8]) -> Option<i64>
+    ensures { result ≡ int_of bytes.now }
+{
+    let text = match str::from_utf8(bytes) {
+        Ok(text) => text,
+        Err(_) => return None,
+    };
+    text.parse::<i64>().ok()
+}
+
+/// The position that the bytes write: digits alone, of 64 bits.
+pub(crate) fn read_position(bytes: &[u8]) -> Option<u64>
+    ensures { result ≡ position_of bytes.now }
+{
+    if begins_with_plus(bytes) {
+        return None;
+    }
+    let text = match str::from_utf8(bytes) {
+        Ok(text) => text,
+        Err(_) => return None,
+    };
+    text.parse::<u64>().ok()
+}
+
+/// Whether a plus stands first, which a number may have and a position may not.
+fn begins_with_plus(bytes: &[u8]) -> bool
+    ensures { result ≡ (get_or bytes.now 0 0 == 43) }
+{
+    match bytes.first() {
+        Some(first) => *first == b'+',
+        None => false,
+    }
+}
+
+/// The truth that the bytes name.
+pub(crate) fn read_truth(bytes: &[u8]) -> Option<bool>
+    ensures { result ≡ truth_of bytes.now }
+{
+    if bytes == b"true".as_slice() {
+        Some(true)
+    } else if bytes == b"false".as_slice() {
+        Some(false)
+    } else {
+        None
+    }
+}

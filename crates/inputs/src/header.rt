@@ -1,0 +1,160 @@
+//! The header: the columns that the first record names, as a schema.
+ghost use Rattle.std.specs.Prelude.{◌≡◌, ◌≢◌, ◌<◌, IfOk, IfErr, IfSome, Ok, Err, Some, true, length, position};
+ghost use Rattle.csv.specs.Records.{fields_of};
+ghost use Rattle.inputs.specs.Header.{as_schema, headings_of, heading_of, is_colon, kind_of, named, placed, schema_of};
+
+use crate::fault::TableFault;
+use csv::ByteRecord;
+use std::alloc::Global;
+use values::{ColumnType, NoMemory, Schema, SchemaFault, Text};
+
+/// Bytes of a column's name.
+const MAX_NAME_BYTES: usize = 64;
+
+/// A column, as its header cell names it.
+#[derive(Drop)]
+pub(crate) struct Heading {
+    name: Text,
+    column: ColumnType,
+    is_key: bool,
+}
+
+/// The schema that the header names.
+pub(crate) fn read_header(alloc: Global, fields: &ByteRecord) -> Result<Schema, TableFault>
+    ensures ok { IfOk result (λ schema. schema_of (fields_of fields.now) ≡ Ok schema) }
+    ensures err { IfErr result (λ fault. fault ≢ TableFault.NoMemory → schema_of (fields_of fields.now) ≡ Err fault) }
+{
+    let headings = read_headings(alloc, fields)?;
+    schema_named(alloc, headings)
+}
+
+/// The columns that the header's cells name, in their order.
+fn read_headings(alloc: Global, fields: &ByteRecord) -> Result<Vec<Heading>, TableFault>
+    ensures ok { IfOk result (λ headings. headings_of 0 true (fields_of fields.now) ≡ Ok headings.items) }
+    ensures err { IfErr result (λ fault. fault ≢ TableFault.NoMemory → headings_of 0 true (fields_of fields.now) ≡ Err fault) }
+{
+    let mut headings = Vec::new(alloc);
+    let mut in_key = true;
+    for i in 0..fields.len() {
+        let bytes = match fields.get(i) {
+            Some(bytes) => bytes,
+            None => unreachable!(),
+        };
+        let heading = place_heading(alloc, i, in_key, bytes)?;
+        in_key = heading.is_key;
+        headings.push(heading)?;
+    }
+    Ok(headings)
+}
+
+/// The column that cell `at` names, a key column only where `in_key` says that one may stand there.
+fn place_heading(
+    alloc: Global,
+    at: usize,
+    in_key: bool,
+    bytes: &[u8],
+) -> Result<Heading, TableFault>
+    ensures ok { IfOk result (λ heading. placed at in_key (heading_of bytes.now) ≡ Ok heading) }
+    ensures err { IfErr result (λ fault. fault ≢ TableFault.NoMemory → placed at in_key (heading_of bytes.now) ≡ Err fault) }
+{
+    match read_heading(alloc, bytes)? {
+        Some(heading) => {
+            if heading.is_key && !in_key {
+                Err(TableFault::BadHeader(at))
+            } else {
+                Ok(heading)
+            }
+        }
+        None => Err(TableFault::BadHeader(at)),
+    }
+}
+
+/// The column that a header cell names.
+fn read_heading(alloc: Global, bytes: &[u8]) -> Result<Option<Heading>, NoMemory>
+    ensures { IfOk result (λ heading. heading ≡ heading_of bytes.now) }
+{
+    let colon = match first_colon(bytes) {
+        Some(colon) => colon,
+        None => return Ok(None),
+    };
+    let (column, is_key) = match read_kind(&bytes[colon + 1..]) {
+        Some(kind) => kind,
+        None => return Ok(None),
+    };
+    name_heading(alloc, &bytes[..colon], column, is_key)
+}
+
+/// Where the first colon stands.
+fn first_colon(bytes: &[u8]) -> Option<usize>
+    ensures first { result ≡ position is_colon bytes.now }
+    ensures within { IfSome result (λ colon. colon < length bytes.now) }
+{
+    bytes.iter().position(|c| *c == b':')
+}
+
+/// A column of this name, where it may have it.
+fn name_heading(
+    alloc: Global,
+    name: &[u8],
+    column: ColumnType,
+    is_key: bool,
+) -> Result<Option<Heading>, NoMemory>
+    ensures { IfOk result (λ heading. heading ≡ named name.now (Some (column, is_key))) }
+{
+    if name.is_empty() {
+        return Ok(None);
+    }
+    if name.len() > MAX_NAME_BYTES {
+        return Ok(None);
+    }
+    let text = match str::from_utf8(name) {
+        Ok(text) => text,
+        Err(_) => return Ok(None),
+    };
+    Ok(Some(Heading {
+        name: Text::new(String::from_str(alloc, text)?),
+        column,
+        is_key,
+    }))
+}
+
+/// The type after a column's name, and whether the column is one of the key.
+fn read_kind(bytes: &[u8]) -> Option<(ColumnType, bool)>
+    ensures { result ≡ kind_of bytes.now }
+{
+    if bytes == b"int".as_slice() {
+        Some((ColumnType::Int, false))
+    } else if bytes == b"text".as_slice() {
+        Some((ColumnType::Text, false))
+    } else if bytes == b"bool".as_slice() {
+        Some((ColumnType::Bool, false))
+    } else if bytes == b"int:key".as_slice() {
+        Some((ColumnType::Int, true))
+    } else if bytes == b"text:key".as_slice() {
+        Some((ColumnType::Text, true))
+    } else if bytes == b"bool:key".as_slice() {
+        Some((ColumnType::Bool, true))
+    } else {
+        None
+    }
+}
+
+/// The schema of columns, those of the key first.
+fn schema_named(alloc: Global, headings: Vec<Heading>) -> Result<Schema, TableFault>
+    ensures ok { IfOk result (λ schema. as_schema (Ok headings.items) ≡ Ok schema) }
+    ensures err { IfErr result (λ fault. fault ≢ TableFault.NoMemory → as_schema (Ok headings.items) ≡ Err fault) }
+{
+    let mut cols = Vec::with_capacity(alloc, headings.len())?;
+    let mut key_cols = 0;
+    for heading in headings {
+        if heading.is_key {
+            key_cols += 1;
+        }
+        cols.push((heading.name.into_string(), heading.column))?;
+    }
+    match Schema::new(alloc, cols, key_cols) {
+        Ok(schema) => Ok(schema),
+        Err(SchemaFault::NoMemory) => Err(TableFault::NoMemory),
+        Err(fault) => Err(TableFault::Schema(fault)),
+    }
+}

@@ -1,0 +1,33 @@
+//! What the program is given: the words of its command line, a table and a script, each read from text and refused by a
+//! fault that names its place.
+//!
+//! *What a contract sees.* The records of a text are those that the crate `csv` reads of it. A table is a function of
+//! its records, the first fault from the start or the schema and the rows; so is a script, whose answer is the clients'
+//! names and the calls. A command line's settings are those that its words say.
+//!
+//! *What it stands on.* `values` for schemas, rows and limits, `model` for writes and for what a table is, `csv` for
+//! records, `clap` for the command line, and `thiserror` for what a fault shows.
+#![tactic(auto)]
+
+mod arguments;
+mod call;
+mod cell;
+mod client;
+mod fault;
+mod header;
+mod order;
+mod reading;
+mod row;
+mod script;
+mod table;
+#[cfg(test)]
+mod tests;
+mod verb;
+mod words;
+
+pub use call::{Call, ClientCall, Read, Script};
+pub use fault::{ScriptFault, TableFault};
+pub use script::read_script;
+pub use table::read_table;
+pub use verb::Verb;
+pub use words::{Settings, read_words};

@@ -1,0 +1,90 @@
+//! A whole script, read from text.
+ghost use Rattle.std.specs.Prelude.{◌≡◌, ◌≢◌, ◌<◌, ◌≤◌, length, IsTrue, IfOk, IfErr, Ok, Err};
+ghost use Rattle.std.specs.List.{All, list_all};
+ghost use Rattle.std.specs.Str.{is_utf8};
+ghost use Rattle.csv.specs.Records.{fields_of};
+ghost use Rattle.inputs.specs.Typed.{is_typed_call};
+ghost use Rattle.inputs.specs.Script.{call_of, IsScriptOf, IsScriptFaultOf};
+
+use crate::arguments::read_asked;
+use crate::call::{ClientCall, Script};
+use crate::client::{MAX_SCRIPT_CLIENTS, add_client, read_client};
+use crate::fault::ScriptFault;
+use crate::reading::{next_record, records_of};
+use csv::ByteRecord;
+use std::alloc::Global;
+use values::{Schema, Text};
+
+/// The clients and the calls of a script's text over a table of this schema, in the text's order.
+///
+/// # Errors
+///
+/// The fault of the first record that has one: `BadText`, `BadClient`, `TooManyClients`, `BadCount` where there is no
+/// verb, `BadVerb`, `BadCount`, and `BadArgument` from the left, for `set` the column's name before its cell.
+pub fn read_script(alloc: Global, schema: &Schema, text: &[u8]) -> Result<Script, ScriptFault>
+    ensures ok { IfOk result (λ script. IsScriptOf schema.now text.now script.clients.items script.calls.items) }
+    ensures clients { IfOk result (λ script. All (λ call. call.client < length script.clients.items) script.calls.items) }
+    ensures few { IfOk result (λ script. length script.clients.items ≤ MAX_SCRIPT_CLIENTS) }
+    ensures typed { IfOk result (λ script. All (λ call. IsTrue (is_typed_call schema.now call.call)) script.calls.items) }
+    ensures err { IfErr result (λ fault. fault ≢ ScriptFault.NoMemory → IsScriptFaultOf schema.now text.now fault) }
+{
+    let mut reader = records_of(alloc, text);
+    let mut fields = ByteRecord::new(alloc);
+    let mut clients = Vec::new(alloc);
+    let mut calls = Vec::new(alloc);
+    for number in 1..u64::MAX {
+        let more = next_record(&mut reader, &mut fields)?;
+        if !more {
+            return Ok(Script { clients, calls });
+        }
+        let call = read_call(alloc, schema, clients.as_slice(), number, &fields)?;
+        add_client(alloc, &mut clients, &fields)?;
+        calls.push(call)?;
+    }
+    unreachable!()
+}
+
+/// The call of the record of this number.
+fn read_call(
+    alloc: Global,
+    schema: &Schema,
+    clients: &[Text],
+    number: u64,
+    fields: &ByteRecord,
+) -> Result<ClientCall, ScriptFault>
+    ensures ok { IfOk result (λ call. call_of schema.now clients.now number (fields_of fields.now) ≡ Ok call) }
+    ensures err { IfErr result (λ fault. fault ≢ ScriptFault.NoMemory → call_of schema.now clients.now number (fields_of fields.now) ≡ Err fault) }
+{
+    if !is_all_text(fields) {
+        return Err(ScriptFault::BadText(number));
+    }
+    let client = read_client(clients, number, fields)?;
+    let call = read_asked(alloc, schema, number, fields)?;
+    Ok(ClientCall { client, call })
+}
+
+/// Whether each field is UTF-8.
+fn is_all_text(fields: &ByteRecord) -> bool
+    ensures { result ≡ list_all is_utf8 (fields_of fields.now) }
+{
+    for i in 0..fields.len() {
+        let bytes = match fields.get(i) {
+            Some(bytes) => bytes,
+            None => unreachable!(),
+        };
+        if !is_text(bytes) {
+            return false;
+        }
+    }
+    true
+}
+
+fn is_text(bytes: &[u8]) -> bool
+    ensures { result ≡ is_utf8 bytes.now }
+{
+    let _text = match str::from_utf8(bytes) {
+        Ok(text) => text,
+        Err(_) => return false,
+    };
+    true
+}

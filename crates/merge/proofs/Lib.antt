@@ -1,0 +1,12 @@
+pub mod LevelLemmas
+pub mod ReachLemmas
+pub mod StackLemmas
+pub mod ViewLemmas
+pub mod CursorLemmas
+pub mod StepLemmas
+pub mod PlaceLemmas
+pub mod LeftLemmas
+pub mod RangeLemmas
+pub mod RunLemmas
+pub mod KeyLemmas
+pub mod FixtureLemmas

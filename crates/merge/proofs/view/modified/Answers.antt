@@ -1,0 +1,57 @@
+use Rattle.std.proofs.Common.{◌∙◌, T, not, None, List, take, drop, ap, sym, subst, take-append-drop}
+use Rattle.std.specs.Bool.{passes}
+use Rattle.std.specs.List.{list_all}
+use Rattle.std.specs.Option.{option_map}
+use Rattle.values.specs.Lent.{value_of}
+use Rattle.model.specs.declared.entry.Entry.{Entry}
+use Rattle.model.specs.Entries.{are_ordered}
+use Rattle.delta.specs.Search.{base_cmp, stands_before}
+use Rattle.delta.proofs.OrderLemmas.{ordered_right}
+use Rattle.model.proofs.MapsLemmas.{first}
+use Rattle.merge.specs.View.{cells_at, last_cell}
+use Rattle.merge.proofs.ViewLemmas.{cells_at-split, cells_at-end}
+use Rattle.merge.proofs.view.modified.Goals as goal
+
+pub loop-entry-init : goal.loop-entry-init
+loop-entry-init c =
+    let t = c.args.tree.now in
+    let n = c.base_place.result in
+    let test = stands_before base_cmp c.args.sid in
+    let is = ap (λ i. i.rest.now) c.into_iter-entry-iterator.ensures.into_iter_gives ∙ c.iter_from-entry-items.ensures.rest in
+    let ordered : T (are_ordered t.key_cols (drop n t.entries)) =
+    ordered_right t.key_cols (take n t.entries) (drop n t.entries) (subst (λ (es : List Entry). T (are_ordered t.key_cols es)) (sym (take-append-drop n t.entries)) (passes (are_ordered t.key_cols t.entries) c.iter_from-entry-items.ensures.lawful.ordered)) in (
+      subst (λ (es : List Entry). T (are_ordered t.key_cols es)) (sym is) ordered,
+      subst (λ (es : List Entry). T (list_all (λ e. not (test e)) es)) (sym is) c.base_place.ensures.after,
+      ap (λ (es : List Entry). last_cell c.args.col None (cells_at c.args.sid es)) is ∙ ap (last_cell c.args.col None) (cells_at-split c.args.sid t.entries n c.base_place.ensures),
+    )
+
+-- nothing is left to find past an entry that is no modify at the SID
+pub returns-then-entry-sid : goal.returns-then-entry-sid
+returns-then-entry-sid c =
+    let t = c.args.tree.now in
+    let x = c.in-Some.entry.now in
+    let rest = c.next.new.self.rest.now in
+    let is = c.in-Some.ensures.steps in
+    let inv = c.loop-entry.invariant in
+    let end = cells_at-end t.key_cols c.args.sid x rest (subst (λ (es : List Entry). T (are_ordered t.key_cols es)) is inv.0) (first (not (stands_before base_cmp c.args.sid x)) _ (subst (λ (es : List Entry). T (list_all (λ e. not (stands_before base_cmp c.args.sid e)) es)) is inv.1)) (λ col value k e. c.if-entry-sid.true e) in
+    sym (ap (last_cell c.args.col (option_map value_of c.loop-entry.found)) (ap (cells_at c.args.sid) is ∙ end)) ∙ inv.2
+
+pub returns-in-Ins : goal.returns-in-Ins
+returns-in-Ins c =
+    let t = c.args.tree.now in
+    let x = c.in-Some.entry.now in
+    let rest = c.next.new.self.rest.now in
+    let is = c.in-Some.ensures.steps in
+    let inv = c.loop-entry.invariant in
+    let end = cells_at-end t.key_cols c.args.sid x rest (subst (λ (es : List Entry). T (are_ordered t.key_cols es)) is inv.0) (first (not (stands_before base_cmp c.args.sid x)) _ (subst (λ (es : List Entry). T (list_all (λ e. not (stands_before base_cmp c.args.sid e)) es)) is inv.1)) (λ col value k e. let kind = c.in-Ins.is in cc) in
+    sym (ap (last_cell c.args.col (option_map value_of c.loop-entry.found)) (ap (cells_at c.args.sid) is ∙ end)) ∙ inv.2
+
+pub returns-in-Ins-2 : goal.returns-in-Ins-2
+returns-in-Ins-2 c =
+    let t = c.args.tree.now in
+    let x = c.in-Some.entry.now in
+    let rest = c.next.new.self.rest.now in
+    let is = c.in-Some.ensures.steps in
+    let inv = c.loop-entry.invariant in
+    let end = cells_at-end t.key_cols c.args.sid x rest (subst (λ (es : List Entry). T (are_ordered t.key_cols es)) is inv.0) (first (not (stands_before base_cmp c.args.sid x)) _ (subst (λ (es : List Entry). T (list_all (λ e. not (stands_before base_cmp c.args.sid e)) es)) is inv.1)) (λ col value k e. let kind = c.in-Ins.is in cc) in
+    sym (ap (last_cell c.args.col (option_map value_of c.loop-entry.found)) (ap (cells_at c.args.sid) is ∙ end)) ∙ inv.2

@@ -1,0 +1,61 @@
+-- The row that a view shows.
+use Rattle.std.specs.Prelude.{◌≡◌, ℕ, ◌<◌, ◌==◌, Bool, false, cond, Option, Some, List, [], ◌∷◌, get_or}
+use Rattle.values.specs.declared.row.Row.{Row}
+use Rattle.values.specs.declared.value.Value.{Value}
+use Rattle.model.specs.declared.entry.Entry.{Entry}
+use Rattle.model.specs.declared.entry.Change.{Change}
+use Rattle.model.specs.declared.entry.Change.TheVariants.{Ins, Del, Mod}
+use Rattle.model.specs.Effects.{Cells, set_cells}
+use Rattle.model.specs.Merging.{changes_at}
+use Rattle.merge.specs.declared.view.Source.{Source}
+use Rattle.merge.specs.declared.view.Source.TheVariants.{Stable, Inserted}
+use Rattle.merge.specs.declared.view.Layer.{Layer}
+use Rattle.merge.specs.declared.view.Layer.TheVariants.{Read, Write, Trans}
+use Rattle.merge.specs.declared.view.RowView.{RowView}
+
+-- the cells that modifies change
+abbrev pub modified_cells : List Change → Cells
+modified_cells [] = []
+modified_cells (Ins row ∷ changes) = modified_cells changes
+modified_cells (Del key ∷ changes) = modified_cells changes
+modified_cells (Mod col value ∷ changes) = (col, value) ∷ modified_cells changes
+
+-- the cells that the entries at a SID change
+abbrev pub cells_at : ℕ → List Entry → Cells
+cells_at sid entries = modified_cells (changes_at sid entries)
+
+-- the last value of a column among cells, or else the one so far
+abbrev pub last_cell : ℕ → Option Value → Cells → Option Value
+last_cell col so_far [] = so_far
+last_cell col so_far (c ∷ cells) = last_cell col (cond (c.0 == col) (Some c.1) so_far) cells
+
+-- the cells that a layer changes of a row, where it modifies it
+abbrev pub cells_if : Bool → ℕ → List Entry → Cells
+cells_if is_modified sid entries = cond is_modified (cells_at sid entries) []
+
+-- the row before its modifies
+abbrev pub source_row : ℕ → Source → Row
+source_row sid (Stable table) = get_or table.now.rows sid []
+source_row sid (Inserted row) = row.now
+
+-- the row under the Read-PDT, under the Write-PDT too, and under all three
+abbrev pub read_row : RowView → Row
+read_row v = set_cells (cells_if v.modified_by.read v.sids.read v.trees.read.now.entries) (source_row v.sids.stable v.source)
+
+abbrev pub write_row : RowView → Row
+write_row v = set_cells (cells_if v.modified_by.write v.sids.write v.trees.write.now.entries) (read_row v)
+
+abbrev pub row_of : RowView → Row
+row_of v = set_cells (cells_if v.modified_by.trans v.sids.trans v.trees.trans.now.entries) (write_row v)
+
+-- no layer from that number on modifies the row: the Read-PDT has the number 0
+pub record IsBare (depth : ℕ) (v : RowView) : Type 0 where
+  pub read : depth < 1 → v.modified_by.read ≡ false
+  pub write : depth < 2 → v.modified_by.write ≡ false
+  pub trans : depth < 3 → v.modified_by.trans ≡ false
+
+-- the number of a layer
+abbrev pub layer_number : Layer → ℕ
+layer_number Read = 0
+layer_number Write = 1
+layer_number Trans = 2

@@ -1,7 +1,0 @@
-use Rattle.std.proofs.Common.{◌≡◌, drop}
-use Rattle.pdtcli.specs.Cells.{place_from}
-use Rattle.pdtcli.proofs.arguments.find_column.Given as goal
-
--- no column so far has the name
-abbrev pub invariant-loop-col : goal.invariant-loop-col
-invariant-loop-col l = place_from 0 l.name l.schema.names ≡ place_from l.col l.name (drop l.col l.schema.names)

@@ -1,0 +1,4 @@
+mod CountsLemmas
+mod ReadsLemmas
+pub mod TxnLemmas
+mod VersionLemmas

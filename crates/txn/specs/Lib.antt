@@ -1,0 +1,3 @@
+pub mod Edit
+pub mod Txn
+pub mod Version

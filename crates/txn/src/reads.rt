@@ -1,0 +1,44 @@
+//! What a transaction reads: its version's table with its own writes. No read takes memory or copies a row.
+ghost use Rattle.std.specs.Prelude.{◌≡◌, drop, is_some, slice_get, take};
+ghost use Rattle.std.specs.Option.{option_map};
+ghost use Rattle.model.specs.Table.{rank, row_at, rows_of};
+ghost use Rattle.merge.specs.View.{row_of};
+
+use crate::transaction::Txn;
+use merge::{MergeScan, RowView};
+use values::Key;
+
+impl Txn {
+    ghost use Rattle.txn.specs.Txn.{image_of};
+
+    /// The row of a key, lent, where there is one.
+    pub fn get(&self, key: &Key) -> Option<RowView<'_>>
+        ensures { option_map row_of result ≡ row_at (image_of self.now) key.now }
+    {
+        let layers = self.layers();
+        let (rid, there) = layers.rank(key);
+        if there { layers.row_at(rid) } else { None }
+    }
+
+    /// The row at a position, lent, or none past the end.
+    pub fn row_at(&self, rid: u64) -> Option<RowView<'_>>
+        ensures { option_map row_of result ≡ slice_get (rows_of (image_of self.now)) rid }
+    {
+        self.layers().row_at(rid)
+    }
+
+    /// How many rows have a key below this one, and whether there is a row of the key.
+    pub fn rank(&self, key: &Key) -> (u64, bool)
+        ensures rank { result.0 ≡ rank key.now (image_of self.now) }
+        ensures there { result.1 ≡ is_some (row_at (image_of self.now) key.now) }
+    {
+        self.layers().rank(key)
+    }
+
+    /// The rows from one position up to another, and without that, lent one by one; both are cut to the number of rows.
+    pub fn scan(&self, from: u64, to: u64) -> MergeScan<'_>
+        ensures { result ≡ drop from (take to (rows_of (image_of self.now))) }
+    {
+        self.layers().scan(from, to)
+    }
+}

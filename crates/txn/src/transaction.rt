@@ -1,0 +1,231 @@
+//! A client's writes over a version of the table, kept as a delta tree (Héman et al. 2010, "Trans-PDT").
+ghost use Rattle.std.specs.Prelude.{◌≡◌, ◌≤◌, [], IsTrue, IfOk, OnErr, IsOkUnless, MatchOption, Err, length};
+ghost use Rattle.values.specs.Shape.{row_fault, key_fault, cell_fault, or_fault};
+ghost use Rattle.values.specs.declared.limits.TheConstants.{MAX_ROWS};
+ghost use Rattle.model.specs.declared.write.Write.TheVariants as asked;
+ghost use Rattle.model.specs.Writes.{write_fits_schema};
+ghost use Rattle.model.specs.Table.{rows_of};
+ghost use Rattle.merge.specs.Image.{image_rows, image_table};
+ghost use Rattle.txn.specs.declared.fault.WriteFault.TheVariants as write_fault;
+
+use crate::fault::WriteFault;
+use crate::parts::Parts;
+use crate::version::Version;
+use crate::writes::{Found, edit, key_of_write, reply_where};
+use delta::DeltaTree;
+use merge::Layers;
+use model::{Write, WriteReply};
+use std::alloc::Global;
+use std::marker::Model;
+use values::{Key, NoMemory, Row, Schema, Value};
+
+/// A client's writes over a snapshot of the table. It ends by a commit or by `abort`: it has no drop.
+pub struct Txn {
+    client: u32,
+    version: Version,
+    row_limit: u64,
+    /// The canonical entries of the writes' effects over the snapshot.
+    tree: DeltaTree,
+    /// Each with the reply that was due.
+    writes: Vec<(Write, WriteReply)>,
+}
+
+impl Model for Txn {
+    ghost use Rattle.std.specs.Prelude.{◌≡◌};
+    ghost use Rattle.txn.specs.Txn.{Transaction, transaction_at, IsTransaction, tree_of};
+
+    ghost Value = { Transaction };
+
+    ghost view = { λ t. transaction_at t.version t.row_limit t.client t.writes.items };
+
+    ghost invariant = { λ t. IsTransaction (transaction_at t.version t.row_limit t.client t.writes.items)
+        × (t.tree ≡ tree_of (transaction_at t.version t.row_limit t.client t.writes.items)) };
+}
+
+impl Txn {
+    ghost use Rattle.txn.specs.Txn.{transaction_at, tree_of, image_of, IsTransaction, IsAnswered, IsFound};
+
+    /// A transaction over the version, with no writes.
+    ///
+    /// # Errors
+    ///
+    /// `NoMemory` where a growth is refused.
+    pub fn open(
+        alloc: Global,
+        version: Version,
+        client: u32,
+        row_limit: u64,
+    ) -> Result<Txn, NoMemory>
+        requires within { length version.table ≤ row_limit }
+        requires limited { row_limit ≤ MAX_ROWS }
+        ensures { IfOk result (λ txn. txn ≡ transaction_at version row_limit client []) }
+    {
+        let key_cols = version.schema().key_cols();
+        Ok(Txn {
+            client,
+            version,
+            row_limit,
+            tree: DeltaTree::new(alloc, key_cols),
+            writes: Vec::new(alloc),
+        })
+    }
+
+    /// The columns of the table.
+    pub fn schema(&self) -> &Schema
+        ensures { result.now ≡ self.now.schema }
+    {
+        self.version.schema()
+    }
+
+    /// The client's number.
+    pub fn client(&self) -> u32
+        ensures { result ≡ self.now.client }
+    {
+        self.client
+    }
+
+    /// How many commits its version has.
+    pub fn begin(&self) -> u64
+        ensures number { result ≡ self.now.begin }
+        ensures lawful { IsTransaction self.now }
+    {
+        self.version.number()
+    }
+
+    /// The entries of the writes' effects over the version's table.
+    pub fn tree(&self) -> &DeltaTree
+        ensures { result.now ≡ tree_of self.now }
+    {
+        &self.tree
+    }
+
+    /// The writes so far, each with the reply that was due.
+    pub fn writes(&self) -> &[(Write, WriteReply)]
+        ensures writes { result.now ≡ self.now.writes }
+        ensures lawful { IsTransaction self.now }
+    {
+        self.writes.as_slice()
+    }
+
+    /// What it comes to, for a commit. Takes no memory.
+    pub fn into_parts(self) -> Parts
+        ensures client { result.client ≡ self.client }
+        ensures begin { result.begin ≡ self.begin }
+        ensures tree { result.tree ≡ tree_of self }
+        ensures writes { result.writes.items ≡ self.writes }
+        ensures lawful { IsTransaction self }
+    {
+        let Txn {
+            client,
+            version,
+            row_limit: _,
+            tree,
+            writes,
+        } = self;
+        Parts {
+            client,
+            begin: version.number(),
+            tree,
+            writes,
+        }
+    }
+
+    /// Inserts a row.
+    ///
+    /// # Errors
+    ///
+    /// `Shape` with the row's first fault, and `NoMemory` where a growth is refused: nothing changes.
+    pub fn insert(&mut self, row: Row) -> Result<WriteReply, WriteFault>
+        ensures ok { IfOk result (λ reply. IsAnswered self.old (asked.Insert row) reply self.new) }
+        ensures fault { MatchOption (row_fault self.old.schema row) (IsOkUnless result WriteFault.NoMemory) (λ fault. result ≡ Err (write_fault.Shape fault)) }
+        ensures err { OnErr result (self.new ≡ self.old) }
+    {
+        self.schema().check_row(&row)?;
+        Ok(self.write(Write::Insert(row))?)
+    }
+
+    /// Deletes the row of a key.
+    ///
+    /// # Errors
+    ///
+    /// `Shape` with the key's first fault, and `NoMemory` where a growth is refused: nothing changes.
+    pub fn delete(&mut self, key: &Key) -> Result<WriteReply, WriteFault>
+        ensures ok { IfOk result (λ reply. IsAnswered self.old (asked.Delete key.now) reply self.new) }
+        ensures fault { MatchOption (key_fault self.old.schema key.now) (IsOkUnless result WriteFault.NoMemory) (λ fault. result ≡ Err (write_fault.Shape fault)) }
+        ensures err { OnErr result (self.new ≡ self.old) }
+    {
+        self.schema().check_key(key)?;
+        Ok(self.write(Write::Delete(key.copy()?))?)
+    }
+
+    /// Sets a cell of the row of a key.
+    ///
+    /// # Errors
+    ///
+    /// `Shape` with the first fault of the key, or else of the cell, and `NoMemory` where a growth is refused: nothing
+    /// changes.
+    pub fn set(&mut self, key: &Key, col: usize, value: Value) -> Result<WriteReply, WriteFault>
+        ensures ok { IfOk result (λ reply. IsAnswered self.old (asked.Set key.now col value) reply self.new) }
+        ensures fault { MatchOption (or_fault (key_fault self.old.schema key.now) (cell_fault self.old.schema col value)) (IsOkUnless result WriteFault.NoMemory) (λ fault. result ≡ Err (write_fault.Shape fault)) }
+        ensures err { OnErr result (self.new ≡ self.old) }
+    {
+        self.schema().check_key(key)?;
+        self.schema().check_cell(col, &value)?;
+        Ok(self.write(Write::Set(key.copy()?, col, value))?)
+    }
+
+    /// Answers a write that fits the schema, and records it. On want of memory nothing changes.
+    fn write(&mut self, write: Write) -> Result<WriteReply, NoMemory>
+        requires { IsTrue (write_fits_schema self.old.schema write) }
+        ensures ok { IfOk result (λ reply. IsAnswered self.old write reply self.new) }
+        ensures err { OnErr result (self.new ≡ self.old) }
+    {
+        let key_cols = self.schema().key_cols();
+        let found = self.find(key_of_write(key_cols, &write));
+        let reply = reply_where(self.row_limit, found.there, self.len(), &write);
+        self.writes.try_reserve(1)?;
+        edit(&mut self.tree, found, &write, reply)?;
+        self.writes.push_reserved((write, reply));
+        Ok(reply)
+    }
+
+    /// What stands at a key.
+    fn find(&self, key: &[Value]) -> Found
+        ensures { IsFound self.now key.now result.sid result.there result.inserted }
+    {
+        let (sid, in_base) = self.version.locate(key);
+        let inserted = self.tree.find_insert(sid, key).is_some();
+        Found {
+            sid,
+            there: inserted || (in_base && !self.tree.has_delete(sid)),
+            inserted,
+        }
+    }
+
+    /// How many rows the version's table has with its own writes. Takes no memory.
+    pub fn len(&self) -> u64
+        ensures { result ≡ length (image_of self.now) }
+    {
+        self.layers().len()
+    }
+
+    /// The layers of its version with its own tree on top.
+    pub(crate) fn layers(&self) -> Layers<'_>
+        ensures rows { image_rows result ≡ rows_of (image_of self.now) }
+        ensures table { image_table result ≡ image_of self.now }
+        ensures lawful { IsTransaction self.now }
+    {
+        self.version.layers(&self.tree)
+    }
+
+    /// Ends the transaction, and leaves no record of it. Takes no memory.
+    pub fn abort(self) {
+        let Txn {
+            client: _,
+            version: _version,
+            row_limit: _,
+            tree: _tree,
+            writes: _writes,
+        } = self;
+    }
+}

@@ -1,0 +1,184 @@
+//! A version of the table, which its readers share.
+ghost use Rattle.std.specs.Prelude.{◌≡◌, IfOk, is_some, length};
+ghost use Rattle.model.specs.Table.{IsTable, rank, row_at, rows_of};
+ghost use Rattle.model.specs.Merging.{merged_rows};
+ghost use Rattle.merge.specs.Image.{IsLayer, image_rows, stack_of};
+
+use delta::DeltaTree;
+use merge::Layers;
+use stable::StableTable;
+use std::alloc::Global;
+use std::marker::Model;
+use std::sync::Arc;
+use values::{NoMemory, Schema, Value};
+
+/// A stable table under its Read- and its Write-PDT.
+#[derive(Drop)]
+struct Base {
+    stable: Arc<StableTable>,
+    read: Arc<DeltaTree>,
+    write: Arc<DeltaTree>,
+    /// A tree with no entries, for look-ups with no transaction on top.
+    none: DeltaTree,
+}
+
+impl Model for Base {
+    ghost use Rattle.std.specs.Prelude.{◌≡◌};
+    ghost use Rattle.txn.specs.Version.{Lower, AreLower, empty_tree};
+
+    ghost Value = { Lower };
+
+    ghost view = { λ b. record { stable = b.stable.value; read = b.read.value; write = b.write.value } };
+
+    ghost invariant = { λ b. AreLower (record { stable = b.stable.value; read = b.read.value; write = b.write.value })
+        × (b.none ≡ empty_tree b.stable.value.schema.key_cols) };
+}
+
+impl Base {
+    ghost use Rattle.txn.specs.Version.{lower_table};
+
+    /// The columns of the table.
+    fn schema(&self) -> &Schema
+        ensures columns { result.now ≡ self.now.stable.schema }
+        ensures lawful { IsTable self.now.stable.schema (lower_table self.now) }
+    {
+        self.stable.schema()
+    }
+
+    /// The layers with a transaction's tree on top.
+    fn layers<'a>(&'a self, trans: &'a DeltaTree) -> Layers<'a>
+        requires { IsLayer self.now.stable.schema (lower_table self.now) trans.now }
+        ensures { result ≡ stack_of self.now.stable self.now.read self.now.write trans.now }
+    {
+        Layers::new(&self.stable, &self.read, &self.write, trans)
+    }
+
+    /// How many rows have a key below that of these cells, and whether there is a row of that key.
+    fn locate(&self, key: &[Value]) -> (u64, bool)
+        ensures rank { result.0 ≡ rank key.now (lower_table self.now) }
+        ensures there { result.1 ≡ is_some (row_at (lower_table self.now) key.now) }
+    {
+        self.layers(&self.none).locate(key)
+    }
+
+    /// How many rows there are.
+    fn len(&self) -> u64
+        ensures { result ≡ length (lower_table self.now) }
+    {
+        self.layers(&self.none).len()
+    }
+}
+
+/// A table, and how many commits made it. Its layers are behind one `Arc`, so that a copy takes one owner more.
+#[derive(Drop)]
+pub struct Version {
+    base: Arc<Base>,
+    number: u64,
+}
+
+impl Model for Version {
+    ghost use Rattle.txn.specs.Version.{TableVersion, version_of};
+
+    ghost Value = { TableVersion };
+
+    ghost view = { λ v. version_of v.base.value v.number };
+}
+
+impl Version {
+    ghost use Rattle.txn.specs.Version.{AreLower, version_at, version_of};
+
+    /// The version of a stable table that so many commits made, with no entries above it.
+    ///
+    /// # Errors
+    ///
+    /// `NoMemory` where a growth is refused.
+    pub fn new(alloc: Global, stable: Arc<StableTable>, number: u64) -> Result<Version, NoMemory>
+        ensures { IfOk result (λ version. version ≡ version_at stable.value number) }
+    {
+        let key_cols = stable.schema().key_cols();
+        let read = Arc::new(alloc, DeltaTree::new(alloc, key_cols))?;
+        let write = read.clone()?;
+        Version::stacked(alloc, stable, read, write, number)
+    }
+
+    /// The version of a stable table under its Read- and its Write-PDT, which so many commits made.
+    ///
+    /// # Errors
+    ///
+    /// `NoMemory` where a growth is refused.
+    pub fn stacked(
+        alloc: Global,
+        stable: Arc<StableTable>,
+        read: Arc<DeltaTree>,
+        write: Arc<DeltaTree>,
+        number: u64,
+    ) -> Result<Version, NoMemory>
+        requires { AreLower (record { stable = stable.value; read = read.value; write = write.value }) }
+        ensures { IfOk result (λ version. version ≡ version_of (record { stable = stable.value; read = read.value; write = write.value }) number) }
+    {
+        let none = DeltaTree::new(alloc, stable.schema().key_cols());
+        let base = Base {
+            stable,
+            read,
+            write,
+            none,
+        };
+        Ok(Version {
+            base: Arc::new(alloc, base)?,
+            number,
+        })
+    }
+
+    /// The same version, shared.
+    ///
+    /// # Errors
+    ///
+    /// `NoMemory` where one owner more is refused.
+    pub fn copy(&self) -> Result<Version, NoMemory>
+        ensures { IfOk result (λ copied. copied ≡ self.now) }
+    {
+        Ok(Version {
+            base: self.base.clone()?,
+            number: self.number,
+        })
+    }
+
+    /// How many commits made it.
+    pub fn number(&self) -> u64
+        ensures { result ≡ self.now.number }
+    {
+        self.number
+    }
+
+    /// The columns of the table.
+    pub fn schema(&self) -> &Schema
+        ensures columns { result.now ≡ self.now.schema }
+        ensures lawful { IsTable self.now.schema self.now.table }
+    {
+        self.base.schema()
+    }
+
+    /// How many rows the table has.
+    pub fn len(&self) -> u64
+        ensures { result ≡ length self.now.table }
+    {
+        self.base.len()
+    }
+
+    /// The table's layers with a transaction's tree on top.
+    pub(crate) fn layers<'a>(&'a self, trans: &'a DeltaTree) -> Layers<'a>
+        requires { IsLayer self.now.schema self.now.table trans.now }
+        ensures schema { result.schema ≡ self.now.schema }
+        ensures rows { image_rows result ≡ merged_rows (rows_of self.now.table) trans.now.entries }
+    {
+        self.base.layers(trans)
+    }
+
+    /// How many rows have a key below that of these cells, and whether the table has that key: one search in each layer.
+    pub(crate) fn locate(&self, key: &[Value]) -> (u64, bool)
+        ensures rank { result.0 ≡ rank key.now self.now.table }
+        ensures there { result.1 ≡ is_some (row_at self.now.table key.now) }
+    {
+        self.base.locate(key)
+    }
+}
