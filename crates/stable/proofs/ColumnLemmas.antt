@@ -52,15 +52,17 @@ module _ (ty : ColumnType) (count : ℕ) (blocks : List Column) (h : IsInBlocks 
   pub length_blocks : length blocks ≡ block_count count
   length_blocks = ap length h.cut ∙ length-map-range_with_len (block_at ty (joined blocks)) 0 (block_count count)
 
+  -- a block, by its number
+  pub block_here : (k : ℕ) (b : Column) → b ≡ get_or blocks k b → k < block_count count → b ≡ block_at ty (joined blocks) k
+  block_here k b is lt = is ∙ ap (λ bs. get_or bs k b) h.cut ∙ get_or-map-range_with_len (block_at ty (joined blocks)) 0 (block_count count) k k b lt (omega arith)
+
   module _ (i : ℕ) (within : i < count) where
     pub has_block : i / 1024 < length blocks
     has_block = omega (arith, length_blocks, within)
 
     module _ (b : Column) (is : b ≡ get_or blocks (i / 1024) b) where
       block_is : b ≡ block_at ty (joined blocks) (i / 1024)
-      block_is =
-          let counted : i / 1024 < block_count count = omega (arith, within) in
-          is ∙ ap (λ bs. get_or bs (i / 1024) b) h.cut ∙ get_or-map-range_with_len (block_at ty (joined blocks)) 0 (block_count count) (i / 1024) (i / 1024) b counted (omega arith)
+      block_is = block_here (i / 1024) b is (omega (arith, within))
 
       pub has_place : i % 1024 < length b.values
       has_place =

@@ -84,8 +84,20 @@ pub length_rows : (count : ℕ) (columns : List Column) → length (rows_of coun
 length_rows count columns = length-map-range_with_len (row_at columns) 0 count
 
 module _ (schema : Columns) (count : ℕ) (columns : List Column) (h : IsKept schema count columns) where
-  width : length columns ≡ length schema.types
+  pub width : length columns ≡ length schema.types
   width = sym (length-map columns (λ c. c.ty)) ∙ ap length h.typed
+
+  -- a column holds the rows' cells of its number
+  pub finds_column : (col : ℕ) (x : Column) → x ≡ get_or columns col x → col < length schema.types → x ≡ column_at schema.types (rows_of count columns) col
+  finds_column col x is lt =
+      let here : col < length columns = omega (arith, width, lt) in
+      let typed : x.ty ≡ get_or schema.types col column.Int =
+      ap (λ (c : Column). c.ty) is ∙ sym (get_or-map (λ (c : Column). c.ty) columns col x column.Int here) ∙ ap (λ types. get_or types col column.Int) h.typed in
+      let filled : length x.values ≡ count = ap (λ (c : Column). length c.values) is ∙ h.filled col x here in
+      let cells : x.values ≡ column_values col (rows_of count columns) =
+      fill_by_all (λ sid. get_or (row_at columns sid) col (Truth false)) x.values count (Truth false) filled (λ k _. sym (get_or-map (cell_at k) columns col x (Truth false) here ∙ ap (cell_at k) (sym is)))
+      ∙ sym (map-map (λ (row : Row). get_or row col (Truth false)) (row_at columns) (range_with_len 0 count)) in
+      ap (λ ty. record { ty = ty; values = x.values }) typed ∙ ap (λ values. record { ty = get_or schema.types col column.Int; values = values }) cells
 
   -- each row has a value for each column
   pub row_width : (sid : ℕ) → sid < count → length (get_or (rows_of count columns) sid []) ≡ length schema.types

@@ -1,9 +1,9 @@
 //! One column of a table, in blocks of 1,024 values.
-ghost use Rattle.std.specs.Prelude.{◌≡◌, ◌<◌, ◌%◌, ◌^◌, ◌++◌, ◌∷◌, [], length, Some, slice_get, IfOk, OnOk, OnErr, IsTrue, IsFalse};
+ghost use Rattle.std.specs.Prelude.{◌≡◌, ◌<◌, ◌*◌, ◌%◌, ◌^◌, ◌++◌, ◌∷◌, [], length, Some, slice_get, IfOk, OnOk, OnErr, IsTrue, IsFalse};
 ghost use Rattle.values.specs.declared.limits.TheConstants.{MAX_BLOCK_VALUES};
 ghost use Rattle.values.specs.Lent.{value_of};
 ghost use Rattle.values.specs.Shape.{has_type, is_too_long};
-ghost use Rattle.stable.specs.Column.{IsInBlocks, all_blocks, all_may_stand, joined};
+ghost use Rattle.stable.specs.Column.{IsInBlocks, all_blocks, all_may_stand, block_at, joined};
 
 use blocks::Block;
 use std::alloc::Global;
@@ -111,6 +111,14 @@ impl Column {
         ensures { slice_get self.now.values i ≡ Some (value_of result) }
     {
         self.blocks[i / MAX_BLOCK_VALUES].get(i % MAX_BLOCK_VALUES)
+    }
+
+    /// The block number `i`, lent, in constant time: its values are those from `1024 * i` on, up to 1,024 of them.
+    pub fn block(&self, i: usize) -> &Block
+        requires { MAX_BLOCK_VALUES * i < length self.now.values }
+        ensures { result.now ≡ block_at self.now.ty self.now.values i }
+    {
+        &self.blocks[i]
     }
 }
 

@@ -121,6 +121,14 @@ impl StableTable {
         self.columns[col].get(sid as usize)
     }
 
+    /// A column, lent, in constant time: the values of all rows, in order.
+    pub fn column(&self, col: usize) -> &Column
+        requires { col < length self.now.schema.types }
+        ensures { result.now ≡ column_at self.now.schema.types self.now.rows col }
+    {
+        &self.columns[col]
+    }
+
     /// A row, copied.
     ///
     /// # Errors

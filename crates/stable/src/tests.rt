@@ -4,6 +4,7 @@
 //! or with the error of the growth.
 
 use super::*;
+use blocks::Block;
 use std::alloc::Global;
 use std::test::Fail;
 use values::{ColumnType, Key, Row, Schema, Value, ValueRef};
@@ -80,6 +81,32 @@ fn the_second_block_begins_at_1024(rt: HostRuntime) -> Result<(), Fail> {
     }
     assert_eq!(rt; table.len(), 1_025);
     assert_eq!(rt; table.schema().width(), 2);
+    Ok(())
+}
+
+/// The first value of a block, a number, and how many there are.
+fn first_and_length(block: &Block) -> (i64, usize) {
+    let count = block.len();
+    if count == 0 {
+        return (-1, 0);
+    }
+    (number(block.get(0)), count)
+}
+
+#[test]
+fn a_column_is_lent_block_by_block(rt: HostRuntime) -> Result<(), Fail> {
+    let alloc = rt.alloc();
+    let table = StableTable::build(alloc, numbered(alloc)?, even_rows(alloc, 1_025)?)?;
+    assert_eq!(rt; table.schema().width(), 2);
+    if table.schema().width() == 2 {
+        let ids = table.column(0);
+        assert_eq!(rt; ids.len(), 1_025);
+        if ids.len() == 1_025 {
+            assert_eq!(rt; first_and_length(ids.block(0)), (0, 1_024));
+            assert_eq!(rt; first_and_length(ids.block(1)), (2_048, 1));
+        }
+        assert_eq!(rt; table.column(1).column_type() == ColumnType::Bool, true);
+    }
     Ok(())
 }
 
