@@ -1,5 +1,5 @@
 //! Walks over a range of the image: run by run, and row by row (Héman et al. 2010, "MergeScan").
-ghost use Rattle.std.specs.Prelude.{◌≡◌, ◌++◌, ◌≤◌, ◌<◌, ◌^◌, length, drop, take};
+ghost use Rattle.std.specs.Prelude.{◌≡◌, ◌++◌, ◌≤◌, ◌<◌, ◌^◌, min, length, drop, take, Some};
 ghost use Rattle.std.specs.Iterator.{YieldsFirstBy, at_most};
 ghost use Rattle.merge.specs.View.{row_of};
 ghost use Rattle.merge.specs.Runs.{YieldsRun};
@@ -9,6 +9,7 @@ use crate::run::{Run, StableRun};
 use crate::view::RowView;
 use delta::DeltaTree;
 use stable::StableTable;
+use std::iter::FusedIterator;
 use std::marker::Model;
 
 /// The runs that are left of a range of the image, in order. A contract sees them as their rows.
@@ -69,7 +70,18 @@ impl<'a> Iterator for Runs<'a> {
         self.left -= run.count();
         Some(run)
     }
+
+    /// At least one run where a row is left, and no more than there are rows.
+    fn size_hint(&self) -> (usize, Option<usize>)
+        ensures least { result.0 ≡ min 1 (length self.now) }
+        ensures most { result.1 ≡ Some (length self.now) }
+    {
+        let left = self.left as usize;
+        (left.min(1), Some(left))
+    }
 }
+
+impl<'a> FusedIterator for Runs<'a> {}
 
 /// The rows that are left of a range of the image, in order, lent one by one. A row between two entries costs an
 /// increment; no key of a stable row is read. A contract sees them as their rows.
@@ -106,13 +118,6 @@ impl<'a> MergeScan<'a> {
         };
         MergeScan { runs, run, tree }
     }
-
-    /// How many rows are left.
-    pub fn rows_left(&self) -> u64
-        ensures { result ≡ length self.now }
-    {
-        self.run.len + self.runs.rows_left()
-    }
 }
 
 impl<'a> Iterator for MergeScan<'a> {
@@ -136,4 +141,22 @@ impl<'a> Iterator for MergeScan<'a> {
             }
         }
     }
+
+    /// How many rows are left, twice.
+    fn size_hint(&self) -> (usize, Option<usize>)
+        ensures least { result.0 ≡ length self.now }
+        ensures most { result.1 ≡ Some (length self.now) }
+    {
+        let len = self.len();
+        (len, Some(len))
+    }
 }
+
+impl<'a> ExactSizeIterator for MergeScan<'a> {
+    /// How many rows are left.
+    fn len(&self) -> usize {
+        (self.run.len + self.runs.rows_left()) as usize
+    }
+}
+
+impl<'a> FusedIterator for MergeScan<'a> {}

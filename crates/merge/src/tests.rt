@@ -293,7 +293,9 @@ fn three_layers_make_one_image(rt: HostRuntime) -> Result<(), Fail> {
         let text = shown(alloc, &layers, from, to)?;
         assert_eq!(rt; text.as_str(), there, "from {from} to {to}");
     }
-    assert_eq!(rt; layers.scan(1, 9).rows_left(), 3);
+    assert_eq!(rt; layers.scan(1, 9).len(), 3);
+    assert_eq!(rt; layers.scan(1, 9).size_hint(), (3, Some(3)));
+    assert_eq!(rt; layers.runs(1, 9).size_hint(), (1, Some(3)));
     assert_eq!(rt; layers.runs(1, 9).rows_left(), 3);
     assert_eq!(rt; rows_in_runs(&layers, 1, 9), 3);
     Ok(())
