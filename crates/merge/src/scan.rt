@@ -63,11 +63,12 @@ impl<'a> Iterator for Runs<'a> {
     ghost remaining = { λ s. at_most (length s) };
 
     fn next(&mut self) -> Option<Run<'a>> {
-        if self.left == 0 {
+        let Runs { rows, left } = self;
+        if *left == 0 {
             return None;
         }
-        let run = self.rows.next_run(self.left);
-        self.left -= run.count();
+        let run = rows.next_run(*left);
+        *left -= run.count();
         Some(run)
     }
 
@@ -76,7 +77,7 @@ impl<'a> Iterator for Runs<'a> {
         ensures least { result.0 ≡ min 1 (length self.now) }
         ensures most { result.1 ≡ Some (length self.now) }
     {
-        let left = self.left as usize;
+        let left = self.rows_left() as usize;
         (left.min(1), Some(left))
     }
 }
