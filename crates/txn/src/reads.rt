@@ -5,7 +5,7 @@ ghost use Rattle.model.specs.Table.{rank, row_at, rows_of};
 ghost use Rattle.merge.specs.View.{row_of};
 
 use crate::transaction::Txn;
-use merge::{MergeScan, RowView};
+use merge::{MergeScan, RowView, Runs};
 use values::Key;
 
 impl Txn {
@@ -40,5 +40,13 @@ impl Txn {
         ensures { result ≡ drop from (take to (rows_of (image_of self.now))) }
     {
         self.layers().scan(from, to)
+    }
+
+    /// The runs of those rows, in order: stable rows that stand together as they are, to be read column by column, and
+    /// rows that a layer inserts or modifies.
+    pub fn runs(&self, from: u64, to: u64) -> Runs<'_>
+        ensures { result ≡ drop from (take to (rows_of (image_of self.now))) }
+    {
+        self.layers().runs(from, to)
     }
 }
