@@ -1,12 +1,15 @@
-//! What a transaction reads: its version's table with its own writes. No read takes memory or copies a row.
-ghost use Rattle.std.specs.Prelude.{◌≡◌, drop, is_some, slice_get, take};
+//! What a transaction reads: its version's table with its own writes. No read but that of the whole table takes
+//! memory or copies a row.
+ghost use Rattle.std.specs.Prelude.{◌≡◌, IfOk, drop, is_some, slice_get, take};
 ghost use Rattle.std.specs.Option.{option_map};
 ghost use Rattle.model.specs.Table.{rank, row_at, rows_of};
 ghost use Rattle.merge.specs.View.{row_of};
 
 use crate::transaction::Txn;
 use merge::{MergeScan, RowView, Runs};
-use values::Key;
+use stable::StableTable;
+use std::alloc::Global;
+use values::{Key, NoMemory};
 
 impl Txn {
     ghost use Rattle.txn.specs.Txn.{image_of};
@@ -48,5 +51,16 @@ impl Txn {
         ensures { result ≡ drop from (take to (rows_of (image_of self.now))) }
     {
         self.layers().runs(from, to)
+    }
+
+    /// Those rows as a stable table, column by column.
+    ///
+    /// # Errors
+    ///
+    /// `NoMemory` where a growth is refused.
+    pub fn to_table(&self, alloc: Global) -> Result<StableTable, NoMemory>
+        ensures { IfOk result (λ table. table ≡ record { schema = self.now.schema; rows = rows_of (image_of self.now) }) }
+    {
+        self.layers().to_table(alloc)
     }
 }
