@@ -1,16 +1,12 @@
-use Rattle.std.proofs.Common.{◌≡◌, ◌<◌, ◌∷◌, [], ◌++◌, false, get_or, length, take, drop, sym, ap, subst, ◌∙◌, arith}
+use Rattle.std.proofs.Common.{◌≡◌, ◌∷◌, [], ◌++◌, length, take, drop, sym, ap, subst, ◌∙◌, arith}
 use Rattle.std.specs.List.{All}
-use Rattle.std.proofs.lemmas.List.Elements.{All-head}
-use Rattle.std.proofs.lemmas.Option.{get_or_from_slice_get}
 use Rattle.std.proofs.lemmas.Result.{on_ok_weaker}
 use Rattle.values.specs.Lent.{value_of}
-use Rattle.values.specs.Shape.{Columns, has_type, is_too_long}
-use Rattle.values.specs.declared.value.Value.TheVariants.{Bool as Truth}
+use Rattle.values.specs.Shape.{Columns}
 use Rattle.blocks.specs.Column.{Column}
 use Rattle.stable.specs.Rows.{column_values}
 use Rattle.merge.specs.Fitting.{StandsAt}
 use Rattle.merge.specs.Runs.{IsRun, run_rows}
-use Rattle.merge.specs.View.{row_of}
 use Rattle.merge.specs.declared.run.Run.{Run}
 use Rattle.merge.proofs.TableLemmas.{has_column, column_type, run_values, view_typed, view_short, view_values}
 use Rattle.merge.proofs.table.add_run.Goals as goal

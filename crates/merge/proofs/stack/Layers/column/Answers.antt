@@ -1,11 +1,10 @@
-use Rattle.std.proofs.Common.{◌≡◌, ◌≤◌, ◌++◌, ◌∷◌, [], List, get_or, length, take, sym, ap, subst, ◌∙◌, arith}
+use Rattle.std.proofs.Common.{◌≡◌, ◌++◌, List, get_or, sym, ap, subst, ◌∙◌, arith}
 use Rattle.std.specs.List.{All}
-use Rattle.std.proofs.lemmas.List.{append-nil, take_all, length-append}
+use Rattle.std.proofs.lemmas.List.{append-nil, take_all}
 use Rattle.values.specs.Shape.{Columns}
 use Rattle.values.specs.declared.row.Row.{Row}
 use Rattle.values.specs.declared.value.ColumnType.{ColumnType}
 use Rattle.values.specs.declared.value.ColumnType.TheVariants as column
-use Rattle.values.specs.declared.value.Value.{Value}
 use Rattle.blocks.specs.Column.{Column}
 use Rattle.stable.specs.Rows.{column_values}
 use Rattle.merge.specs.Fitting.{StandsAt}
@@ -45,10 +44,11 @@ loop-run-preserved c =
     let rest = c.next.new.self in
     let ty = c.loop-run.column.ty in
     let done = column_values col (image_rows c.args.self.now) in
-    let typed = ap (λ (x : Column). x.ty) c.in_ok-add_run.ensures in
-    (typed ∙ c.loop-run.invariant.0,
-     ap (λ (x : Column). x.values ++ column_values col rest) c.in_ok-add_run.ensures ∙ values_move ty col rows rest c.loop-run.run-iterator c.in-Some.ensures.steps.0 c.loop-run.invariant.2 c.loop-run.column.values done c.loop-run.invariant.1,
-     subst (λ t. All (StandsAt t col) rest) (sym typed) (right_stand ty col rows rest c.loop-run.run-iterator c.in-Some.ensures.steps.0 c.loop-run.invariant.2))
+    let typed = ap (λ (x : Column). x.ty) c.in_ok-add_run.ensures in (
+      typed ∙ c.loop-run.invariant.0,
+      ap (λ (x : Column). x.values ++ column_values col rest) c.in_ok-add_run.ensures ∙ values_move ty col rows rest c.loop-run.run-iterator c.in-Some.ensures.steps.0 c.loop-run.invariant.2 c.loop-run.column.values done c.loop-run.invariant.1,
+      subst (λ t. All (StandsAt t col) rest) (sym typed) (right_stand ty col rows rest c.loop-run.run-iterator c.in-Some.ensures.steps.0 c.loop-run.invariant.2),
+    )
 
 pub returns : goal.returns
 returns c =

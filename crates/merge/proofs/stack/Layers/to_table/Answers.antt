@@ -1,11 +1,9 @@
-use Rattle.std.proofs.Common.{◌≡◌, ◌<◌, ◌∷◌, [], ◌++◌, List, None, length, sym, ap, subst, ◌∙◌, arith}
-use Rattle.std.specs.Prelude.{IsOk, MatchOption, Err}
+use Rattle.std.proofs.Common.{◌∷◌, [], ◌++◌, List, sym, ap, ◌∙◌, arith}
 use Rattle.std.proofs.lemmas.List.FromFn.{map-range_with_len_more}
-use Rattle.values.specs.Shape.{Columns, IsSchema}
-use Rattle.values.specs.declared.row.Row.{Row}
+use Rattle.values.specs.Shape.{Columns}
 use Rattle.blocks.specs.Column.{Column}
 use Rattle.stable.specs.Rows.{column_at, first_columns, row_count, rows_of}
-use Rattle.stable.specs.Stable.{IsStable, build_fault}
+use Rattle.stable.specs.Stable.{build_fault}
 use Rattle.merge.specs.Image.{image_rows}
 use Rattle.merge.proofs.TableLemmas.{whole, all_typed, all_even, all_rows, no_fault, never_refused}
 use Rattle.merge.proofs.stack.Layers.to_table.Goals as goal

@@ -1,9 +1,8 @@
-use Rattle.std.proofs.Common.{◌≡◌, ◌≤◌, ◌<◌, ◌+◌, ◌-◌, ◌++◌, ◌∷◌, [], length, take, drop, sym, ap, subst, ◌∙◌, arith}
-use Rattle.std.proofs.lemmas.List.{append-nil, length-append, length-take, length-drop}
+use Rattle.std.proofs.Common.{◌≡◌, ◌-◌, ◌++◌, ◌∷◌, [], length, take, drop, sym, ap, ◌∙◌, arith}
+use Rattle.std.proofs.lemmas.List.{append-nil, length-append, length-take}
 use Rattle.values.specs.Lent.{value_of}
-use Rattle.values.specs.Shape.{has_type, is_too_long}
+use Rattle.values.specs.Shape.{has_type}
 use Rattle.blocks.specs.Column.{Column}
-use Rattle.stable.specs.Column.{all_may_stand}
 use Rattle.stable.proofs.ExtendLemmas.{stands_at, one_more, on_err}
 use Rattle.stable.proofs.column.Column.extend_from.Goals as goal
 
