@@ -10,3 +10,4 @@ pub mod RangeLemmas
 pub mod RunLemmas
 pub mod KeyLemmas
 pub mod FixtureLemmas
+pub mod TableLemmas

@@ -4,3 +4,4 @@ pub mod View
 pub mod Cursor
 pub mod Runs
 pub mod Left
+pub mod Fitting

@@ -14,6 +14,7 @@ mod rows;
 mod run;
 mod scan;
 mod stack;
+mod table;
 #[cfg(test)]
 mod tests;
 mod view;

@@ -13,7 +13,7 @@ use crate::view::{Layer, RowView};
 use delta::DeltaTree;
 use stable::StableTable;
 use std::marker::Model;
-use values::{Key, Value};
+use values::{Key, Schema, Value};
 
 /// A stable table under its Read-, Write- and Trans-PDT, all lent (Héman et al. 2010, "Transaction management").
 #[derive(Drop)]
@@ -61,6 +61,13 @@ impl<'a> Layers<'a> {
             trans,
             len: grown(under_write, trans),
         }
+    }
+
+    /// The columns of the rows.
+    pub fn schema(&self) -> &'a Schema
+        ensures { result.now ≡ self.now.schema }
+    {
+        self.stable.schema()
     }
 
     /// How many rows the image has.

@@ -19,10 +19,10 @@ use Rattle.model.proofs.TableLemmas.{table_of-rows_of}
 use Rattle.model.proofs.AllLaws.{leaves, fits_newest, commits_fit}
 use Rattle.model.proofs.HistoryLemmas.{length-table_after}
 use Rattle.stable.specs.Stable.{Stable, IsStable, table_in}
-use Rattle.txn.specs.Txn.{Transaction, effects_of, asked_of, IsTransaction}
+use Rattle.txn.specs.Txn.{Transaction, effects_of, image_of, asked_of, IsTransaction}
 use Rattle.pdtcli.specs.Managed.{Managed, commits_in, newest_table, IsManaged, HasNewest, IsOwn, reply_due, record_of, with_record}
 use Rattle.pdtcli.specs.Prepared.{LeavesTable}
-use Rattle.txn.proofs.TxnLemmas.{over}
+use Rattle.txn.proofs.TxnLemmas.{over, image_within}
 
 pub take_length : {A : Type 0} (xs : List A) → take (length xs) xs ≡ xs
 take_length [] = refl
@@ -68,6 +68,17 @@ module _ (m : Managed) (h : IsManaged m) where
       let begun = subst (λ (e : Columns × Table). AreOver e.0 e.1 (effects_of txn)) (λ i. (own.schema i, own.snapshot i)) (over txn k) in
       subst (λ (t : Table). AreOver m.schema t (effects_of txn)) (table_with_all-drop m.opening (commits_in m) txn.begin)
       (fits_newest m.schema (table_after m.opening (commits_in m) txn.begin) (effects_of txn) (drop txn.begin (commits_in m)) begun (AreCommits-drop m.schema m.opening (commits_in m) txn.begin commits_fit_it) clear)
+
+  -- the image of a transaction that began at the newest table is the next one
+  module _ (txn : Transaction) (k : IsTransaction txn) (own : IsOwn m txn) (last : txn.begin ≡ length (commits_in m)) where
+    pub next_image : image_of txn ≡ table_with (newest_table m) (effects_of txn)
+    next_image = ap (λ (t : Table). table_with t (effects_of txn)) (own.snapshot ∙ ap (table_after m.opening (commits_in m)) last ∙ newest_whole)
+
+    pub next_within : length (table_with (newest_table m) (effects_of txn)) ≤ m.limit
+    next_within =
+        let within = image_within txn k in
+        let same : length (image_of txn) ≡ length (table_with (newest_table m) (effects_of txn)) = ap (λ (t : Table). length t) next_image in
+        omega (arith, within, same, own.limit)
 
 -- the newest table's rows are within the limit
 pub rows_within : (m : Managed) (commits : List Effects) (newest : Stable) → HasNewest m commits newest → length newest.rows ≤ m.limit

@@ -1,5 +1,5 @@
 //! One column of a table, in blocks of 1,024 values.
-ghost use Rattle.std.specs.Prelude.{◌≡◌, ◌<◌, ◌*◌, ◌%◌, ◌^◌, ◌++◌, ◌∷◌, [], length, Some, slice_get, IfOk, OnOk, OnErr, IsTrue, IsFalse};
+ghost use Rattle.std.specs.Prelude.{◌≡◌, ℕ, ◌<◌, ◌≤◌, ◌+◌, ◌*◌, ◌%◌, ◌^◌, ◌++◌, ◌∷◌, [], length, take, drop, Some, slice_get, IfOk, OnOk, OnErr, IsTrue, IsFalse};
 ghost use Rattle.values.specs.declared.limits.TheConstants.{MAX_BLOCK_VALUES};
 ghost use Rattle.values.specs.Lent.{value_of};
 ghost use Rattle.values.specs.Shape.{has_type, is_too_long};
@@ -87,6 +87,27 @@ impl Column {
         let more = block.len();
         self.blocks.push(block)?;
         self.count += more;
+        Ok(())
+    }
+
+    /// Puts so many values of another column of the same type, from one place of it on, after the others; there are fewer
+    /// than 2^63 then. Texts go from one block's buffer into another's.
+    ///
+    /// # Errors
+    ///
+    /// `NoMemory` where a growth is refused: the first of those values may stand after the others then.
+    pub fn extend_from(&mut self, other: &Column, from: usize, count: usize) -> Result<(), NoMemory>
+        requires room { length self.old.values + count < 2 ^ 63 }
+        requires typed { other.now.ty ≡ self.old.ty }
+        requires within { from + count ≤ length other.now.values }
+        ensures ok { OnOk result (self.new ≡ record self.old { values = self.old.values ++ take count (drop from other.now.values) }) }
+        ensures err { OnErr result ((some : ℕ) × (self.new ≡ record self.old { values = self.old.values ++ take some (drop from other.now.values) })) }
+    {
+        let length = other.len();
+        prove!(from + count <= length);
+        for i in from..from + count {
+            self.push(other.get(i))?;
+        }
         Ok(())
     }
 

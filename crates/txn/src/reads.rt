@@ -1,12 +1,15 @@
-//! What a transaction reads: its version's table with its own writes. No read takes memory or copies a row.
-ghost use Rattle.std.specs.Prelude.{◌≡◌, drop, is_some, slice_get, take};
+//! What a transaction reads: its version's table with its own writes. No read but that of the whole table takes
+//! memory or copies a row.
+ghost use Rattle.std.specs.Prelude.{◌≡◌, IfOk, drop, is_some, slice_get, take};
 ghost use Rattle.std.specs.Option.{option_map};
 ghost use Rattle.model.specs.Table.{rank, row_at, rows_of};
 ghost use Rattle.merge.specs.View.{row_of};
 
 use crate::transaction::Txn;
-use merge::{MergeScan, RowView};
-use values::Key;
+use merge::{MergeScan, RowView, Runs};
+use stable::StableTable;
+use std::alloc::Global;
+use values::{Key, NoMemory};
 
 impl Txn {
     ghost use Rattle.txn.specs.Txn.{image_of};
@@ -40,5 +43,24 @@ impl Txn {
         ensures { result ≡ drop from (take to (rows_of (image_of self.now))) }
     {
         self.layers().scan(from, to)
+    }
+
+    /// The runs of those rows, in order: stable rows that stand together as they are, to be read column by column, and
+    /// rows that a layer inserts or modifies.
+    pub fn runs(&self, from: u64, to: u64) -> Runs<'_>
+        ensures { result ≡ drop from (take to (rows_of (image_of self.now))) }
+    {
+        self.layers().runs(from, to)
+    }
+
+    /// Those rows as a stable table, column by column.
+    ///
+    /// # Errors
+    ///
+    /// `NoMemory` where a growth is refused.
+    pub fn to_table(&self, alloc: Global) -> Result<StableTable, NoMemory>
+        ensures { IfOk result (λ table. table ≡ record { schema = self.now.schema; rows = rows_of (image_of self.now) }) }
+    {
+        self.layers().to_table(alloc)
     }
 }

@@ -211,6 +211,7 @@ impl Txn {
 
     /// The layers of its version with its own tree on top.
     pub(crate) fn layers(&self) -> Layers<'_>
+        ensures schema { result.schema ≡ self.now.schema }
         ensures rows { image_rows result ≡ rows_of (image_of self.now) }
         ensures table { image_table result ≡ image_of self.now }
         ensures lawful { IsTransaction self.now }

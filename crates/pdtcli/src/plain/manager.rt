@@ -1,5 +1,5 @@
 //! The manager: the newest table, and the history of the transactions that asked to commit.
-ghost use Rattle.std.specs.Prelude.{◌≡◌, [], IfOk, IfErr, IsOkUnless, MatchOption, Err};
+ghost use Rattle.std.specs.Prelude.{◌≡◌, [], drop, IsFalse, IfOk, IfErr, IsOkUnless, MatchOption, Err};
 ghost use Rattle.std.specs.List.{list_any};
 ghost use Rattle.model.specs.Table.{rows_of};
 ghost use Rattle.model.specs.Effects.{table_with};
@@ -77,8 +77,8 @@ enum Prepared {
 }
 
 impl Manager {
-    ghost use Rattle.pdtcli.specs.Managed.{Managed, managed_at, newest_table, fault_of_opening, begun_at, IsOwn, IsDecided, IsManaged};
-    ghost use Rattle.pdtcli.specs.Prepared.{IsPrepared};
+    ghost use Rattle.pdtcli.specs.Managed.{Managed, managed_at, commits_in, newest_table, fault_of_opening, begun_at, IsOwn, IsDecided, IsManaged};
+    ghost use Rattle.pdtcli.specs.Prepared.{IsPrepared, IsTableAfter};
 
     /// A manager of this table, under a limit of its rows and of the commits that may come between a transaction's begin
     /// and its commit.
@@ -173,12 +173,32 @@ impl Manager {
         if conflicts_with_any(&effects, &self.commits[begin as usize..]) {
             return Ok(Prepared::Refused(CommitReply::Conflict(count)));
         }
-        let rows = rows_after(self.alloc, &self.newest, &effects)?;
-        if rows.len() as u64 > self.row_limit {
-            return Ok(Prepared::Refused(CommitReply::Full(count)));
+        match self.table_after(txn, &effects)? {
+            None => Ok(Prepared::Refused(CommitReply::Full(count))),
+            Some(table) => {
+                let table = Arc::new(self.alloc, table)?;
+                Ok(Prepared::Granted(count + 1, effects, table))
+            }
         }
-        let table = built(self.alloc, self.newest.schema().copy()?, rows)?;
-        Ok(Prepared::Granted(count + 1, effects, Arc::new(self.alloc, table)?))
+    }
+
+    /// The newest table after the effects of a transaction that clash with no commit since it began, where there are no
+    /// more rows than the limit. Where nothing was committed since, it's the table that the transaction sees.
+    fn table_after(&self, txn: &Txn, effects: &Effects) -> Result<Option<StableTable>, NoMemory>
+        requires own { IsOwn self.now txn.now }
+        requires effects { effects.now ≡ effects_of txn.now }
+        requires clear { IsFalse (list_any (conflicts effects.now) (drop txn.now.begin (commits_in self.now))) }
+        ensures { IfOk result (λ table. IsTableAfter self.now effects.now table) }
+    {
+        if txn.begin() == self.commits.len() as u64 {
+            return Ok(Some(txn.to_table(self.alloc)?));
+        }
+        let rows = rows_after(self.alloc, &self.newest, effects)?;
+        if rows.len() as u64 > self.row_limit {
+            return Ok(None);
+        }
+        let schema = self.newest.schema().copy()?;
+        Ok(Some(built(self.alloc, schema, rows)?))
     }
 
     /// The history: each transaction that asked to commit, in the order of the commits.

@@ -1,0 +1,170 @@
+-- Rows of an image put into columns.
+use Rattle.std.proofs.Common.{◌≡◌, ℕ, ◌+◌, ◌-◌, ◌<◌, ◌≤◌, true, false, None, Option, Result, Ok, Err, List, [], ◌∷◌, ◌++◌, length, take, drop, map, get_or, slice_get, append_assoc, Some, refl, sym, ap, subst, ◌∙◌, arith}
+use Rattle.std.specs.List.{All}
+use Rattle.std.proofs.lemmas.List.{take-map, drop-map, length-map, length-append, map-append, get_or_append_left, get_or-append_right}
+use Rattle.std.proofs.lemmas.List.Elements.{All-head}
+use Rattle.std.proofs.lemmas.Option.{get_or_from_slice_get}
+use Rattle.values.specs.Shape.{Columns, IsSchema, has_type, is_too_long, list_fault}
+use Rattle.values.specs.declared.row.Row.{Row}
+use Rattle.values.specs.declared.value.ColumnType.{ColumnType}
+use Rattle.values.specs.declared.value.ColumnType.TheVariants as column
+use Rattle.values.specs.declared.value.Value.{Value}
+use Rattle.values.specs.declared.value.Value.TheVariants.{Int, Text, Bool as Truth}
+use Rattle.std.specs.Prelude.{IsOk, MatchOption}
+use Rattle.stable.specs.declared.fault.BuildFault.{BuildFault}
+use Rattle.stable.specs.Stable.{IsStable, build_fault}
+use Rattle.blocks.specs.Column.{Column}
+use Rattle.stable.specs.Rows.{AreEven, IsKept, column_values, first_columns, row_count, rows_of}
+use Rattle.stable.proofs.CallerLemmas.{no_build_fault}
+use Rattle.stable.proofs.RowsLemmas.{fit_at, kept, shown, width, width_of}
+use Rattle.stable.proofs.StableLemmas.{all_shaped}
+use Rattle.merge.specs.Fitting.{StandsAt}
+use Rattle.merge.specs.Runs.{run_rows, IsStableRun}
+use Rattle.merge.specs.declared.run.Run.TheVariants.{Stable, Row as One}
+use Rattle.merge.specs.declared.run.StableRun.{StableRun}
+use Rattle.merge.specs.View.{row_of}
+use Rattle.merge.specs.declared.view.RowView.{RowView}
+use Rattle.merge.proofs.RunLemmas.{run_next}
+
+-- a value is of one type
+same_type : (a b : ColumnType) (v : Value) → has_type a v ≡ true → has_type b v ≡ true → a ≡ b
+same_type column.Int column.Int v p q = refl
+same_type column.Text column.Text v p q = refl
+same_type column.Bool column.Bool v p q = refl
+same_type column.Int column.Text (Int x) p q = cc q
+same_type column.Int column.Text (Text x) p q = cc p
+same_type column.Int column.Text (Truth x) p q = cc p
+same_type column.Int column.Bool (Int x) p q = cc q
+same_type column.Int column.Bool (Text x) p q = cc p
+same_type column.Int column.Bool (Truth x) p q = cc p
+same_type column.Text column.Int (Int x) p q = cc p
+same_type column.Text column.Int (Text x) p q = cc q
+same_type column.Text column.Int (Truth x) p q = cc p
+same_type column.Text column.Bool (Int x) p q = cc p
+same_type column.Text column.Bool (Text x) p q = cc q
+same_type column.Text column.Bool (Truth x) p q = cc p
+same_type column.Bool column.Int (Int x) p q = cc p
+same_type column.Bool column.Int (Text x) p q = cc p
+same_type column.Bool column.Int (Truth x) p q = cc q
+same_type column.Bool column.Text (Int x) p q = cc p
+same_type column.Bool column.Text (Text x) p q = cc p
+same_type column.Bool column.Text (Truth x) p q = cc q
+
+-- a run of stable rows has the column, and it is of the type
+module _ (ty : ColumnType) (col : ℕ) (run : StableRun) (is : IsStableRun run) (kept : IsStable run.table.now) (stand : All (StandsAt ty col) (run_rows (Stable run))) where
+  abbrev types : List ColumnType
+  types = run.table.now.schema.types
+
+  abbrev first : Row
+  first = get_or run.table.now.rows run.sid []
+
+  first_stands : StandsAt ty col first
+  first_stands = All-head (StandsAt ty col) first (take (run.len - 1) (drop (run.sid + 1) run.table.now.rows)) (subst (All (StandsAt ty col)) (run_next run is) stand)
+
+  shaped : list_fault types first ≡ None
+  shaped = all_shaped run.table.now.schema run.table.now.rows (no_build_fault run.table.now.schema run.table.now.rows kept) run.sid [] (omega (arith, is.some, is.within))
+
+  pub has_column : col < length types
+  has_column = omega (arith, first_stands.wide, width_of types first shaped)
+
+  pub column_type : get_or types col column.Int ≡ ty
+  column_type = same_type (get_or types col column.Int) ty (get_or first col (Truth false)) (fit_at types first col has_column shaped).typed first_stands.typed
+
+  pub run_values : take run.len (drop run.sid (column_values col run.table.now.rows)) ≡ column_values col (run_rows (Stable run))
+  run_values =
+      let cell = λ (row : Row). get_or row col (Truth false) in
+      ap (take run.len) (drop-map cell run.sid run.table.now.rows) ∙ take-map cell run.len (drop run.sid run.table.now.rows)
+
+-- the value of a single row is of the type, and no long text
+module _ (ty : ColumnType) (col : ℕ) (view : RowView) (v : Value) (stand : All (StandsAt ty col) (run_rows (One view))) (e : slice_get (row_of view) col ≡ Some v) where
+  cell_is : get_or (row_of view) col (Truth false) ≡ v
+  cell_is = get_or_from_slice_get (row_of view) col v (Truth false) e
+
+  pub view_typed : has_type ty v ≡ true
+  view_typed = ap (has_type ty) (sym cell_is) ∙ (All-head (StandsAt ty col) (row_of view) [] stand).typed
+
+  pub view_short : is_too_long v ≡ false
+  view_short = ap is_too_long (sym cell_is) ∙ (All-head (StandsAt ty col) (row_of view) [] stand).short
+
+  pub view_values : v ∷ [] ≡ column_values col (run_rows (One view))
+  view_values = ap (λ x. x ∷ []) (sym cell_is)
+
+-- ---- all rows
+
+-- each row of a table may stand in each column
+pub rows_stand : (schema : Columns) (rows : List Row) (col : ℕ) → IsStable (record { schema = schema; rows = rows }) → col < length schema.types → All (StandsAt (get_or schema.types col column.Int) col) rows
+rows_stand schema rows col h lt =
+    λ k d within.
+    let shaped = all_shaped schema rows (no_build_fault schema rows h) k d within in
+    let fit = fit_at schema.types (get_or rows k d) col lt shaped in
+    record { wide = omega (arith, lt, width_of schema.types (get_or rows k d) shaped); typed = fit.typed; short = fit.short }
+
+module _ (ty : ColumnType) (col : ℕ) (rows rest all : List Row) (is : all ≡ rows ++ rest) (stand : All (StandsAt ty col) all) where
+  pub left_stand : All (StandsAt ty col) rows
+  left_stand = λ k d lt. subst (λ (row : Row). StandsAt ty col row) (ap (λ rs. get_or rs k d) is ∙ get_or_append_left rows rest d k lt) (stand k d (omega (arith, lt, ap (λ (rs : List Row). length rs) is, length-append rows rest)))
+
+  pub right_stand : All (StandsAt ty col) rest
+  right_stand = λ k d lt. subst (λ (row : Row). StandsAt ty col row) (ap (λ rs. get_or rs (length rows + k) d) is ∙ get_or-append_right rows rest (length rows) (length rows + k) d refl (omega arith) ∙ ap (λ n. get_or rest n d) (omega arith)) (stand (length rows + k) d (omega (arith, lt, ap (λ (rs : List Row). length rs) is, length-append rows rest)))
+
+  -- the values of a run go from those that are left to those so far
+  pub values_move : (old : List Value) (done : List Value) → old ++ column_values col all ≡ done → (old ++ column_values col rows) ++ column_values col rest ≡ done
+  values_move old done e =
+      append_assoc old (column_values col rows) (column_values col rest)
+      ∙ ap (λ more. old ++ more) (sym (ap (column_values col) is ∙ map-append (λ (row : Row). get_or row col (Truth false)) rows rest))
+      ∙ e
+
+  pub values_fit : (old : List Value) (done : List Row) → old ++ column_values col all ≡ column_values col done → length old + length rows ≤ length done
+  values_fit old done e =
+      let cell = λ (row : Row). get_or row col (Truth false) in
+      omega (arith, ap (λ (vs : List Value). length vs) e, length-append old (column_values col all), length-map all cell, length-map done cell, ap (λ (rs : List Row). length rs) is, length-append rows rest)
+
+-- ---- all columns
+
+row_count_is : (columns : List Column) (n : ℕ) → 0 < length columns → ((col : ℕ) (d : Column) → col < length columns → length (get_or columns col d).values ≡ n) → row_count columns ≡ n
+row_count_is [] n some f = absurd (omega (arith, some))
+row_count_is (c ∷ columns) n some f = f 0 c (omega arith)
+
+-- each column of a table's rows
+pub record AreWhole (schema : Columns) (rows : List Row) (columns : List Column) : Type 0 where
+  pub stable : IsStable (record { schema = schema; rows = rows })
+  pub some : 0 < length schema.types
+  pub filled : columns ≡ first_columns schema.types rows (length schema.types)
+
+-- the columns are whole when there are as many as the schema has
+module _ (schema lent : Columns) (rows : List Row) (columns : List Column) (width col : ℕ) where
+  pub whole : lent ≡ schema → width ≡ length lent.types → IsSchema lent → width ≤ col → col ≤ width → IsStable (record { schema = schema; rows = rows }) → columns ≡ first_columns schema.types rows col → AreWhole schema rows columns
+  whole is wide lawful least most h e =
+      let same : length lent.types ≡ length schema.types = ap (λ (x : Columns). length x.types) is in
+      let all : col ≡ length schema.types = omega (arith, least, most, wide, same) in
+      record {
+        stable = h;
+        some = omega (arith, lawful.keyed, lawful.key_within, same);
+        filled = e ∙ ap (first_columns schema.types rows) all;
+      }
+
+-- they show just those rows
+module _ (schema : Columns) (rows : List Row) (columns : List Column) (h : AreWhole schema rows columns) where
+  keeps : IsKept schema (length rows) columns
+  keeps = kept schema rows (no_build_fault schema rows h.stable) (length rows) refl columns h.filled
+
+  counts : row_count columns ≡ length rows
+  counts = row_count_is columns (length rows) (omega (arith, h.some, width schema (length rows) columns keeps)) keeps.filled
+
+  pub all_typed : map (λ c. c.ty) columns ≡ schema.types
+  all_typed = keeps.typed
+
+  pub all_even : AreEven columns
+  all_even = λ col d lt. keeps.filled col d lt ∙ sym counts
+
+  pub all_rows : rows_of (row_count columns) columns ≡ rows
+  all_rows = ap (λ n. rows_of n columns) counts ∙ shown schema rows (no_build_fault schema rows h.stable) (length rows) refl columns h.filled
+
+  -- and so have no fault
+  pub no_fault : build_fault schema (rows_of (row_count columns) columns) ≡ None
+  no_fault = ap (build_fault schema) all_rows ∙ no_build_fault schema rows h.stable
+
+-- a call that answers a fault just where one stands answers none here
+pub never_refused : {T : Type 0} → (fault : Option BuildFault) (result : Result T BuildFault) (e : BuildFault) → fault ≡ None → result ≡ Err e → MatchOption fault (IsOk result) (λ f. result ≡ Err f) → ⊥
+never_refused None (Ok x) e none is h = cc is
+never_refused None (Err x) e none is h = cc h
+never_refused (Some f) result e none is h = cc none

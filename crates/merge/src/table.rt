@@ -1,0 +1,70 @@
+//! The image as a table of its own.
+ghost use Rattle.std.specs.Prelude.{◌≡◌, ◌≤◌, ◌<◌, ◌+◌, ◌^◌, ◌++◌, IfOk, OnOk, length};
+ghost use Rattle.std.specs.List.{All};
+ghost use Rattle.values.specs.declared.limits.TheConstants.{MAX_ROWS};
+ghost use Rattle.stable.specs.Rows.{column_at, column_values};
+ghost use Rattle.merge.specs.Fitting.{StandsAt};
+ghost use Rattle.merge.specs.Image.{image_rows};
+ghost use Rattle.merge.specs.Runs.{IsRun, run_rows};
+
+use crate::run::Run;
+use crate::stack::Layers;
+use stable::{Column, StableTable};
+use std::alloc::Global;
+use values::NoMemory;
+use values::limits::MAX_ROWS;
+
+impl<'a> Layers<'a> {
+    /// The image as a stable table, column by column: stable rows go from block to block, and no row is made on the way.
+    ///
+    /// # Errors
+    ///
+    /// `NoMemory` where a growth is refused.
+    pub fn to_table(&self, alloc: Global) -> Result<StableTable, NoMemory>
+        requires { length (image_rows self.now) ≤ MAX_ROWS }
+        ensures { IfOk result (λ table. table ≡ record { schema = self.now.schema; rows = image_rows self.now }) }
+    {
+        let rows = self.len();
+        prove!(rows <= MAX_ROWS);
+        let schema = self.schema();
+        let width = schema.width();
+        let mut columns = Vec::with_capacity(alloc, width)?;
+        for col in 0..width {
+            columns.push(self.column(alloc, col)?)?;
+        }
+        match StableTable::from_columns(schema.copy()?, columns) {
+            Ok(table) => Ok(table),
+            Err(_) => unreachable!(),
+        }
+    }
+
+    /// The values of the image's rows in one column.
+    fn column(&self, alloc: Global, col: usize) -> Result<Column, NoMemory>
+        requires within { col < length self.now.schema.types }
+        requires few { length (image_rows self.now) ≤ MAX_ROWS }
+        ensures { IfOk result (λ column. column ≡ column_at self.now.schema.types (image_rows self.now) col) }
+    {
+        let mut column = Column::new(alloc, self.schema().types()[col]);
+        for run in self.runs(0, self.len()) {
+            add_run(&mut column, run, col)?;
+        }
+        Ok(column)
+    }
+}
+
+/// Puts the values of a run's rows in one column after the others.
+fn add_run(column: &mut Column, run: Run<'_>, col: usize) -> Result<(), NoMemory>
+    requires is { IsRun 3 run }
+    requires stand { All (StandsAt column.old.ty col) (run_rows run) }
+    requires room { length column.old.values + length (run_rows run) < 2 ^ 63 }
+    ensures { OnOk result (column.new ≡ record column.old { values = column.old.values ++ column_values col (run_rows run.entry) }) }
+{
+    match run {
+        Run::Stable(run) => {
+            let width = run.table.schema().width();
+            prove!(col < width);
+            column.extend_from(run.table.column(col), run.sid as usize, run.len as usize)
+        }
+        Run::Row(view) => column.push(view.value(col)),
+    }
+}
