@@ -13,11 +13,11 @@ use std::test::Fail;
 use values::limits::MAX_BLOCK_VALUES;
 use values::{ColumnType, NoMemory, Text, Value, ValueRef};
 
-/// Writes the value.
+/// Writes the value, a text in quotes.
 fn show_value(text: &mut String, value: ValueRef<'_>) -> Result<(), Fail> {
     match value {
         ValueRef::Int(number) => write!(text, "{number}")?,
-        ValueRef::Text(characters) => text.push_str(characters)?,
+        ValueRef::Text(characters) => write!(text, "\"{characters}\"")?,
         ValueRef::Bool(truth) => write!(text, "{truth}")?,
     }
     Ok(())
@@ -72,7 +72,7 @@ fn payloads_are_read_or_refused(rt: HostRuntime) -> Result<(), Fail> {
             &least,
             "-9223372036854775808",
         ),
-        ("empty text", ColumnType::Text, 1, &[0, 0], ""),
+        ("empty text", ColumnType::Text, 1, &[0, 0], "\"\""),
         (
             "text cut short",
             ColumnType::Text,
@@ -180,11 +180,29 @@ fn letters(alloc: Global, high: u8, low: u8, count: usize) -> Result<Vec<u8>, No
 fn the_longest_text_is_read_and_a_longer_one_refused(rt: HostRuntime) -> Result<(), Fail> {
     let longest = letters(rt.alloc(), 0x10, 0x00, 4_096)?;
     let text = shown(rt.alloc(), ColumnType::Text, 1, &longest)?;
-    assert_eq!(rt; text.len(), 4_096, "longest text");
-    assert!(rt; text.as_bytes().iter().all(|byte| *byte == 0x61));
+    assert_eq!(rt; text.len(), 4_098, "longest text, in quotes");
+    let inside = text.as_bytes().iter().skip(1).take(4_096);
+    assert!(rt; inside.copied().all(|byte| byte == 0x61));
     let longer = letters(rt.alloc(), 0x10, 0x01, 4_097)?;
     let fault = shown(rt.alloc(), ColumnType::Text, 1, &longer)?;
     assert_eq!(rt; fault.as_str(), "TextTooLong 0", "text too long");
+    Ok(())
+}
+
+#[test]
+fn texts_of_any_length_are_read_and_written_again(rt: HostRuntime) -> Result<(), Fail> {
+    let mut bytes = Vec::from_slice(rt.alloc(), &[0, 0])?;
+    bytes.extend_from_slice(&letters(rt.alloc(), 0x10, 0x00, 4_096)?)?;
+    bytes.extend_from_slice(&[0, 2, 0xc3, 0xa9])?;
+    bytes.extend_from_slice(&[0, 3, 0xe2, 0x82, 0xac])?;
+    bytes.extend_from_slice(&[0, 4, 0xf0, 0x9d, 0x84, 0x9e])?;
+    let block = read_block(rt.alloc(), ColumnType::Text, 5, &bytes).map_err(|_| NoMemory)?;
+    let texts = ["", "é", "€", "𝄞"].map(ValueRef::Text);
+    assert!(rt; block.len() == 5);
+    assert!(rt; [block.get(0), block.get(2), block.get(3), block.get(4)] == texts);
+    let mut written = Vec::new(rt.alloc());
+    write_block(&block, &mut written)?;
+    assert!(rt; written.as_slice() == bytes.as_slice());
     Ok(())
 }
 
@@ -297,6 +315,34 @@ fn a_refused_growth_leaves_the_bytes(rt: HostRuntime) -> Result<(), Fail> {
             Ok(()) => assert_eq!(rt; bytes.as_slice(), written),
             Err(NoMemory) => assert_eq!(rt; bytes.as_slice(), [1, 2].as_slice()),
         }
+    }
+    Ok(())
+}
+
+#[test]
+fn a_refused_push_leaves_the_block(rt: HostRuntime) -> Result<(), Fail> {
+    for (ty, value, before, after) in [
+        (
+            ColumnType::Int,
+            ValueRef::Int(7),
+            "-9223372036854775808,",
+            "-9223372036854775808,7,",
+        ),
+        (ColumnType::Text, ValueRef::Text("Bob"), "Ann,", "Ann,Bob,"),
+        (
+            ColumnType::Bool,
+            ValueRef::Bool(false),
+            "true,",
+            "true,false,",
+        ),
+    ] {
+        let values = samples(rt.alloc(), ty, 1)?;
+        let mut block = Block::from_values(rt.alloc(), ty, &values)?;
+        let left = match block.push(value) {
+            Ok(()) => after,
+            Err(NoMemory) => before,
+        };
+        assert_eq!(rt; run_shown(rt.alloc(), block.run())?.as_str(), left);
     }
     Ok(())
 }
