@@ -2,6 +2,7 @@
 //!
 //! That a refused growth is answered shows under `rt try --test --fail-alloc N`, for N from 1 on: a case then ends with
 //! NoMemory in the place of its answer.
+mod refusals;
 mod stacks;
 
 use crate::{DeltaTree, RowView, Txn, Version, WriteFault};
