@@ -84,6 +84,20 @@ fn the_second_block_begins_at_1024(rt: HostRuntime) -> Result<(), Fail> {
     Ok(())
 }
 
+#[test]
+fn a_row_is_copied_cell_by_cell(rt: HostRuntime) -> Result<(), Fail> {
+    let alloc = rt.alloc();
+    let table = StableTable::build(alloc, numbered(alloc)?, even_rows(alloc, 1_025)?)?;
+    assert!(rt; table.len() == 1_025);
+    for (sid, id) in [(0, 0), (1_023, 2_046), (1_024, 2_048)] {
+        let row = table.row(alloc, sid)?;
+        assert!(rt; row.cells().len() == 2, "at {sid}");
+        assert!(rt; row.cells()[0] == Value::Int(id), "at {sid}");
+        assert!(rt; row.cells()[1] == Value::Bool(true), "at {sid}");
+    }
+    Ok(())
+}
+
 /// The first value of a block, a number, and how many there are.
 fn first_and_length(block: &Block) -> (i64, usize) {
     let count = block.len();

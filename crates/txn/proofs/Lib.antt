@@ -2,3 +2,4 @@ mod CountsLemmas
 mod ReadsLemmas
 pub mod TxnLemmas
 mod VersionLemmas
+mod FixtureLemmas

@@ -63,7 +63,7 @@ module _ (l : Lower) (h : AreLower l) where
   effects_IsTable : IsTable l.stable.schema effects_table
   effects_IsTable = leaves l.stable.schema (table_with (table_in l.stable) h.lower.effects) h.middle.effects h.middle.over
 
-  lower_table_is : lower_table l ≡ effects_table
+  pub lower_table_is : lower_table l ≡ effects_table
   lower_table_is =
       ap (table_of l.stable.schema.key_cols) lower_rows_is
       ∙ table_of-rows_of l.stable.schema.key_cols effects_table (passes (is_keyed_table l.stable.schema.key_cols effects_table) effects_IsTable.keyed)

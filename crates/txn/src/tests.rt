@@ -2,7 +2,10 @@
 //!
 //! That a refused growth is answered shows under `rt try --test --fail-alloc N`, for N from 1 on: a case then ends with
 //! NoMemory in the place of its answer.
-use crate::{RowView, Txn, Version, WriteFault};
+mod refusals;
+mod stacks;
+
+use crate::{DeltaTree, RowView, Txn, Version, WriteFault};
 use model::{Change, Write, WriteReply};
 use stable::StableTable;
 use std::alloc::Global;
@@ -10,6 +13,9 @@ use std::process::Abort;
 use std::sync::Arc;
 use std::test::Fail;
 use values::{ColumnType, Key, NoMemory, Row, Schema, ShapeFault, Text, Value, ValueRef};
+
+/// How many rows are the most in these tests.
+const ROOM: u64 = 4;
 
 /// A number, the key, a name and a quantity.
 fn items(alloc: Global) -> Result<Schema, Fail> {
@@ -50,8 +56,8 @@ fn empty_table(alloc: Global) -> Result<StableTable, Fail> {
 /// A transaction of client 3 over the table after seven commits, where four rows are the most.
 fn opened(rt: &impl Abort, alloc: Global, table: StableTable) -> Result<Txn, Fail> {
     let version = Version::new(alloc, Arc::new(alloc, table)?, 7)?;
-    assert!(rt; version.len() <= 4);
-    Ok(Txn::open(alloc, version, 3, 4)?)
+    assert!(rt; version.len() <= ROOM);
+    Ok(Txn::open(alloc, version, 3, ROOM)?)
 }
 
 /// The number of a row that is read, or less than none.
@@ -68,10 +74,10 @@ fn number_of(found: Option<RowView<'_>>) -> i64 {
     }
 }
 
-/// The changes of a transaction's tree, as a letter each with its SID.
-fn shape(alloc: Global, txn: &Txn) -> Result<String, NoMemory> {
+/// The changes of a tree, as three letters each with its SID.
+fn shape(alloc: Global, tree: &DeltaTree) -> Result<String, NoMemory> {
     let mut text = String::new(alloc);
-    for entry in txn.tree().iter() {
+    for entry in tree.iter() {
         let kind = match &entry.change {
             Change::Ins(_) => "Ins",
             Change::Del(_) => "Del",
@@ -87,7 +93,7 @@ fn the_first_row_of_an_empty_table_stands_at_place_0(rt: HostRuntime) -> Result<
     let row = item(rt.alloc(), 5, "Eve", 0)?;
     let mut txn = opened(&rt, rt.alloc(), empty_table(rt.alloc())?)?;
     let inserted = txn.insert(row);
-    let left = shape(rt.alloc(), &txn);
+    let left = shape(rt.alloc(), txn.tree());
     txn.abort();
     assert!(&rt; inserted == Ok(WriteReply::Done));
     assert_eq!(&rt; left?.as_str(), "Ins 0;");
@@ -103,7 +109,7 @@ fn refused_writes_leave_no_entry(rt: HostRuntime) -> Result<(), Fail> {
     let inserted = txn.insert(row);
     let deleted = txn.delete(&absent);
     let set = txn.set(&present, 0, Value::Int(21));
-    let left = shape(rt.alloc(), &txn);
+    let left = shape(rt.alloc(), txn.tree());
     let recorded = txn.writes().len();
     txn.abort();
     assert!(&rt; inserted == Ok(WriteReply::Duplicate));
@@ -121,7 +127,7 @@ fn a_replaced_row_is_an_insert_and_a_delete(rt: HostRuntime) -> Result<(), Fail>
     let mut txn = opened(&rt, rt.alloc(), base_table(rt.alloc())?)?;
     let deleted = txn.delete(&key);
     let inserted = txn.insert(row);
-    let left = shape(rt.alloc(), &txn);
+    let left = shape(rt.alloc(), txn.tree());
     txn.abort();
     assert!(&rt; deleted == Ok(WriteReply::Done));
     assert!(&rt; inserted == Ok(WriteReply::Done));
@@ -134,7 +140,7 @@ fn a_cell_set_to_what_it_is_leaves_a_modify(rt: HostRuntime) -> Result<(), Fail>
     let key = key(rt.alloc(), 20)?;
     let mut txn = opened(&rt, rt.alloc(), base_table(rt.alloc())?)?;
     let set = txn.set(&key, 2, Value::Int(2));
-    let left = shape(rt.alloc(), &txn);
+    let left = shape(rt.alloc(), txn.tree());
     txn.abort();
     assert!(&rt; set == Ok(WriteReply::Done));
     assert_eq!(&rt; left?.as_str(), "Mod 1;");
@@ -148,9 +154,9 @@ fn an_insert_changed_and_deleted_leaves_no_entry(rt: HostRuntime) -> Result<(), 
     let mut txn = opened(&rt, rt.alloc(), base_table(rt.alloc())?)?;
     let inserted = txn.insert(row);
     let changed = txn.set(&key, 2, Value::Int(5));
-    let between = shape(rt.alloc(), &txn);
+    let between = shape(rt.alloc(), txn.tree());
     let deleted = txn.delete(&key);
-    let left = shape(rt.alloc(), &txn);
+    let left = shape(rt.alloc(), txn.tree());
     txn.abort();
     assert!(&rt; inserted == Ok(WriteReply::Done));
     assert!(&rt; changed == Ok(WriteReply::Done));
@@ -167,7 +173,7 @@ fn a_shape_is_refused_before_the_table_is_looked_at(rt: HostRuntime) -> Result<(
     let set = txn.set(&key, 0, Value::Int(21));
     let deleted = txn.delete(&Key::new(Vec::new(rt.alloc())));
     let inserted = txn.insert(Row::new(Vec::new(rt.alloc())));
-    let left = shape(rt.alloc(), &txn);
+    let left = shape(rt.alloc(), txn.tree());
     let recorded = txn.writes().len();
     txn.abort();
     assert!(&rt; set == Err(WriteFault::Shape(ShapeFault::KeyColumn)));

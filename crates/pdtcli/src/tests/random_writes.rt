@@ -1,14 +1,20 @@
-//! A transaction of a thousand random writes beside the slow program: reply by reply and entry by entry.
+//! A transaction of a thousand random writes beside the slow program: reply by reply, entry by entry, and row by row.
 use model::{Change, Entry, Write, WriteReply};
 use oracle::{Effects, OrderedTable, canonical_entries};
 use stable::StableTable;
 use std::alloc::Global;
 use std::sync::Arc;
 use std::test::Fail;
-use txn::{Txn, Version, WriteFault};
+use txn::{RowView, Txn, Version, WriteFault};
 use values::{ColumnType, Key, Row, Schema, Value};
 
 const WRITES: usize = 1_000;
+
+/// After each so many writes all reads are compared.
+const READ_EVERY: usize = 100;
+
+/// The keys are the numbers from 0 up to this one, and without it.
+const KEYS: u32 = 60;
 
 /// So few rows that inserts are Full now and then.
 const ROW_LIMIT: u64 = 32;
@@ -62,9 +68,9 @@ fn base_rows(alloc: Global) -> Result<Vec<Row>, Fail> {
     Ok(rows)
 }
 
-/// A write of one of sixty keys.
+/// A write of one of the keys.
 fn random_write(alloc: Global, numbers: &mut Numbers) -> Result<Write, Fail> {
-    let id = numbers.below(60);
+    let id = numbers.below(KEYS);
     let quantity = numbers.below(100);
     match numbers.below(4) {
         0 => Ok(Write::Insert(row(alloc, id, quantity, 0)?)),
@@ -82,7 +88,70 @@ fn answer(txn: &mut Txn, write: &Write) -> Result<WriteReply, WriteFault> {
     }
 }
 
-/// The number of the first write whose two replies aren't the same, if there is one. The effects are those of all writes.
+/// Whether a row that is found is the one that is wanted.
+fn is_row(alloc: Global, found: Option<RowView<'_>>, want: Option<&Row>) -> Result<bool, Fail> {
+    match (found, want) {
+        (Some(view), Some(row)) => Ok(view.copy(alloc)?.cells() == row.cells()),
+        (None, None) => Ok(true),
+        _ => Ok(false),
+    }
+}
+
+/// Whether a scan of all gives these rows, and there are so many.
+fn scans(alloc: Global, txn: &Txn, rows: &[Row]) -> Result<bool, Fail> {
+    let mut place = 0_usize;
+    for view in txn.scan(0, txn.len()) {
+        if !is_row(alloc, Some(view), rows.get(place))? {
+            return Ok(false);
+        }
+        place = place.wrapping_add(1);
+    }
+    Ok(place == rows.len() && txn.len() == rows.len() as u64)
+}
+
+/// Whether each place has its row, and the place past the last has none.
+fn has_places(alloc: Global, txn: &Txn, rows: &[Row]) -> Result<bool, Fail> {
+    for place in 0..=rows.len() {
+        if !is_row(alloc, txn.row_at(place as u64), rows.get(place))? {
+            return Ok(false);
+        }
+    }
+    Ok(true)
+}
+
+/// Whether each key has the row of the table, or none, and stands where it does there.
+fn has_keys(alloc: Global, txn: &Txn, table: &OrderedTable) -> Result<bool, Fail> {
+    for id in 0..KEYS {
+        let key = key(alloc, i64::from(id))?;
+        let want = table.row_at(&key);
+        if txn.rank(&key) != (table.rank(&key) as u64, want.is_some()) {
+            return Ok(false);
+        }
+        if !is_row(alloc, txn.get(&key), want)? {
+            return Ok(false);
+        }
+    }
+    Ok(true)
+}
+
+/// Whether all reads are of the table with these effects.
+fn reads_as(
+    alloc: Global,
+    txn: &Txn,
+    table: &OrderedTable,
+    effects: &Effects,
+) -> Result<bool, Fail> {
+    let after = table.with(effects)?;
+    let rows = after.rows()?;
+    Ok(
+        scans(alloc, txn, rows.as_slice())?
+            && has_places(alloc, txn, rows.as_slice())?
+            && has_keys(alloc, txn, &after)?,
+    )
+}
+
+/// The number of the first write whose two replies aren't the same, or after which the reads aren't, if there is one. The
+/// reads are compared after each hundredth write. The effects are those of all writes.
 fn first_difference(
     alloc: Global,
     txn: &mut Txn,
@@ -94,6 +163,9 @@ fn first_difference(
         let write = random_write(alloc, &mut numbers)?;
         let due = table.write(1, ROW_LIMIT, effects, &write)?;
         if answer(txn, &write)? != due {
+            return Ok(Some(number));
+        }
+        if number % READ_EVERY == READ_EVERY - 1 && !reads_as(alloc, txn, table, effects)? {
             return Ok(Some(number));
         }
     }
