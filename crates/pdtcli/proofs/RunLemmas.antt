@@ -89,7 +89,7 @@ write_keeps : (txn : Transaction) (write : Write) (old new : Side) (reply : Repl
 write_keeps txn write old new (Wrote r) mine own h = side_with old (Some _) (record { schema = mine.schema; limit = mine.limit; begun = mine.begun; snapshot = mine.snapshot }) new h.2
 write_keeps txn write old new KeyColumn mine own h = side_same old new own h.1
 write_keeps txn write old new (TextTooLong n) mine own h = side_same old new own h.1
-write_keeps txn write old new NoMemory mine own h = side_same old new own h
+write_keeps txn write old new NoMemory mine own h = side_same old new own h.1
 write_keeps txn write old new Begun mine own h = absurd h
 write_keeps txn write old new AlreadyOpen mine own h = absurd h
 write_keeps txn write old new NotOpen mine own h = absurd h
