@@ -17,7 +17,7 @@ use Rattle.pdtcli.specs.declared.reply.Reply.{Reply}
 use Rattle.pdtcli.specs.declared.reply.Reply.TheVariants.{Begun, AlreadyOpen, NotOpen, Wrote, KeyColumn, TextTooLong, Row as Shown, Missing, NoRow, Place, Rows, End, Decided, Aborted, NoMemory}
 use Rattle.pdtcli.specs.declared.reply.ReplyLine.{ReplyLine}
 use Rattle.txn.specs.Txn.{Transaction}
-use Rattle.pdtcli.specs.Managed.{Managed, commits_in, IsOwn, begun_at, with_record}
+use Rattle.pdtcli.specs.Managed.{Managed, commits_in, IsDecided, IsOwn, begun_at, record_of, with_record}
 use Rattle.pdtcli.specs.Run.{Side, SideStep, BeginStep, OpenWriteStep, OpenCommitStep, State, Step, IsRun}
 use Rattle.pdtcli.specs.Ready.{IsReady}
 use Rattle.pdtcli.proofs.ManagedLemmas.{take_length, commits_from-append}
@@ -53,6 +53,10 @@ keeps_record m r = record {
   schema = refl;
   own = λ txn h. own_later m r txn (commits_in (with_record m r)) refl r.reply (effects_of_record m.schema m.limit m.recent m.opening (commits_in m) r) (commits_from-append m.schema m.limit m.recent m.opening [] m.history r) h;
 }
+
+-- a decided commit keeps the other transactions of the manager
+pub own_decided : (m : Managed) (txn : Transaction) (reply : CommitReply) (new : Managed) → IsDecided m txn reply new → (other : Transaction) → IsOwn m other → IsOwn new other
+own_decided m txn reply new h other own = subst (λ (n : Managed). IsOwn n other) (sym h.kept) ((keeps_record m (record_of txn reply)).own other own)
 
 -- what a side keeps by a step
 record SideKeeps (old new : Side) : Type 0 where
