@@ -2,4 +2,5 @@ mod ManagedLemmas
 mod RunLemmas
 mod ToldLemmas
 mod OutputLemmas
+mod ProgramLemmas
 mod ReadsLemmas

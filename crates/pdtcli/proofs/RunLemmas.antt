@@ -17,7 +17,7 @@ use Rattle.pdtcli.specs.declared.reply.Reply.{Reply}
 use Rattle.pdtcli.specs.declared.reply.Reply.TheVariants.{Begun, AlreadyOpen, NotOpen, Wrote, KeyColumn, TextTooLong, Row as Shown, Missing, NoRow, Place, Rows, End, Decided, Aborted, NoMemory}
 use Rattle.pdtcli.specs.declared.reply.ReplyLine.{ReplyLine}
 use Rattle.txn.specs.Txn.{Transaction}
-use Rattle.pdtcli.specs.Managed.{Managed, commits_in, IsOwn, begun_at, with_record}
+use Rattle.pdtcli.specs.Managed.{Managed, commits_in, IsDecided, IsOwn, begun_at, record_of, with_record}
 use Rattle.pdtcli.specs.Run.{Side, SideStep, BeginStep, OpenWriteStep, OpenCommitStep, State, Step, IsRun}
 use Rattle.pdtcli.specs.Ready.{IsReady}
 use Rattle.pdtcli.proofs.ManagedLemmas.{take_length, commits_from-append}
@@ -54,6 +54,10 @@ keeps_record m r = record {
   own = λ txn h. own_later m r txn (commits_in (with_record m r)) refl r.reply (effects_of_record m.schema m.limit m.recent m.opening (commits_in m) r) (commits_from-append m.schema m.limit m.recent m.opening [] m.history r) h;
 }
 
+-- a decided commit keeps the other transactions of the manager
+pub own_decided : (m : Managed) (txn : Transaction) (reply : CommitReply) (new : Managed) → IsDecided m txn reply new → (other : Transaction) → IsOwn m other → IsOwn new other
+own_decided m txn reply new h other own = subst (λ (n : Managed). IsOwn n other) (sym h.kept) ((keeps_record m (record_of txn reply)).own other own)
+
 -- what a side keeps by a step
 record SideKeeps (old new : Side) : Type 0 where
   keeps : Keeps old.manager new.manager
@@ -89,7 +93,7 @@ write_keeps : (txn : Transaction) (write : Write) (old new : Side) (reply : Repl
 write_keeps txn write old new (Wrote r) mine own h = side_with old (Some _) (record { schema = mine.schema; limit = mine.limit; begun = mine.begun; snapshot = mine.snapshot }) new h.2
 write_keeps txn write old new KeyColumn mine own h = side_same old new own h.1
 write_keeps txn write old new (TextTooLong n) mine own h = side_same old new own h.1
-write_keeps txn write old new NoMemory mine own h = side_same old new own h
+write_keeps txn write old new NoMemory mine own h = side_same old new own h.1
 write_keeps txn write old new Begun mine own h = absurd h
 write_keeps txn write old new AlreadyOpen mine own h = absurd h
 write_keeps txn write old new NotOpen mine own h = absurd h

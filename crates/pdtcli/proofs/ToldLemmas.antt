@@ -1,9 +1,9 @@
 -- A write whose counts and types are the schema's is refused only as a reply can tell.
-use Rattle.std.proofs.Common.{◌≡◌, ℕ, suc, Bool, true, false, cond, T, Option, Some, None, List, [], ◌∷◌, length, refl, ap, subst, arith}
+use Rattle.std.proofs.Common.{◌≡◌, ℕ, suc, Bool, true, false, cond, T, Option, Some, None, Ok, Err, List, [], ◌∷◌, length, refl, ap, sym, subst, arith}
 use Rattle.std.proofs.lemmas.Bool.Decides.{nat_tests}
 use Rattle.std.specs.Prelude.{IsTrue, ◌==◌, nat_lt, slice_get}
 use Rattle.std.proofs.lemmas.Float.{T_from_true}
-use Rattle.values.specs.Shape.{Columns, has_type, is_too_long, value_fault, or_fault, values_fault, list_fault, key_fault, cell_fault_at, cell_fault}
+use Rattle.values.specs.Shape.{Columns, answer_of, has_type, is_too_long, value_fault, or_fault, values_fault, list_fault, key_fault, cell_fault_at, cell_fault}
 use Rattle.values.specs.declared.fault.ShapeFault.{ShapeFault}
 use Rattle.values.specs.declared.fault.ShapeFault.TheVariants.{WrongCount, WrongType, TextTooLong, KeyColumn}
 use Rattle.values.specs.declared.row.Key.{Key}
@@ -84,6 +84,12 @@ write_told schema (Set key col value) fault h is =
 pub cause_told : (schema : Columns) (write : Write) (fault : WriteFault) → IsTrue (is_typed_write schema write) → IsCause schema write fault → IsTold fault
 cause_told schema write (Shape fault) h is = write_told schema write fault (T_from_true (is_typed_write schema write) h) is
 cause_told schema write NoMemory h is = tt
+
+-- where the first test finds no fault, the second's is the first of both
+pub second_fault : (a b : Option ShapeFault) (fault : ShapeFault) (ok : Unit {0}) → Ok ok ≡ answer_of a → Err fault ≡ answer_of b → or_fault a b ≡ Some fault
+second_fault None (Some f) fault ok h k = ap Some (cc (sym k))
+second_fault None None fault ok h k = cc k
+second_fault (Some f) b fault ok h k = cc h
 
 -- a key of its columns' types is refused for a text that is too long
 pub key_long : (schema : Columns) (key : Key) (fault : ShapeFault) → IsTrue (are_of_types (key_types schema) key) → key_fault schema key ≡ Some fault → (cell : ℕ) × (fault ≡ TextTooLong cell)

@@ -6,7 +6,7 @@ use Rattle.pdtcli.specs.Managed.{Managed}
 pub record Left : Type 0 where
   -- the clients' names
   pub clients : List (List ℕ)
-  -- a line for each call
+  -- the lines of the rows that each call shows, and of its reply
   pub lines : List ReplyLine
   pub manager : Managed
   -- for each client, how many of its commits were decided

@@ -1,4 +1,4 @@
--- The fields of reply lines: the client, the verb, the reply's word and its number where it has one.
+-- The fields of reply lines: the client, the verb, the reply's word and its values where it has some.
 use Rattle.std.specs.Prelude.{ℕ, List, [], ◌∷◌, slice_get, unwrap_or, codes, decimal}
 use Rattle.model.specs.declared.write.WriteReply.{WriteReply}
 use Rattle.model.specs.declared.write.WriteReply.TheVariants as write_reply

@@ -40,13 +40,13 @@ BeginStep client old AlreadyOpen new = IsSome old.own × (new ≡ old)
 BeginStep client old NoMemory new = IsNone old.own × (new ≡ old)
 BeginStep client old reply new = ⊥
 
--- a write in an open transaction
+-- a write in an open transaction: a fault of its shape is told before memory is wanted
 abbrev pub OpenWriteStep : Transaction → Write → Side → Reply → Side → Type 0
 OpenWriteStep txn write old (Wrote reply) new =
     IsNone (write_fault txn.schema write) × (reply ≡ answer_to txn write) × (new ≡ record old { own = Some (with_write txn write reply) })
 OpenWriteStep txn write old KeyColumn new = (write_fault txn.schema write ≡ Some shape.KeyColumn) × (new ≡ old)
 OpenWriteStep txn write old (TextTooLong cell) new = (write_fault txn.schema write ≡ Some (shape.TextTooLong cell)) × (new ≡ old)
-OpenWriteStep txn write old NoMemory new = new ≡ old
+OpenWriteStep txn write old NoMemory new = IsNone (write_fault txn.schema write) × (new ≡ old)
 OpenWriteStep txn write old reply new = ⊥
 
 abbrev pub WriteStep : Option Transaction → Write → Side → Reply → Side → Type 0

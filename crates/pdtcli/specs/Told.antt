@@ -1,5 +1,5 @@
 -- Why a write is refused, and how the reply tells it.
-use Rattle.std.specs.Prelude.{◌≡◌, Some}
+use Rattle.std.specs.Prelude.{◌≡◌, Some, IsNone}
 use Rattle.values.specs.Shape.{Columns}
 use Rattle.values.specs.declared.fault.ShapeFault.{ShapeFault}
 use Rattle.values.specs.declared.fault.ShapeFault.TheVariants as shape
@@ -8,12 +8,12 @@ use Rattle.pdtcli.specs.Run.{write_fault}
 use Rattle.txn.specs.declared.fault.WriteFault.{WriteFault}
 use Rattle.txn.specs.declared.fault.WriteFault.TheVariants.{Shape, NoMemory}
 use Rattle.pdtcli.specs.declared.reply.Reply.{Reply}
-use Rattle.pdtcli.specs.declared.reply.Reply.TheVariants as reply
+use Rattle.pdtcli.specs.declared.reply.Reply.TheVariants as answer
 
--- a shape is refused for its first fault
+-- a shape is refused for its first fault, and memory only where the shape has none
 abbrev pub IsCause : Columns → Write → WriteFault → Type 0
 IsCause schema write (Shape fault) = write_fault schema write ≡ Some fault
-IsCause schema write NoMemory = Unit {0}
+IsCause schema write NoMemory = IsNone (write_fault schema write)
 
 -- the faults that a write of a script can have: its counts and types are those of the schema
 abbrev pub IsToldShape : ShapeFault → Type 0
@@ -27,14 +27,11 @@ abbrev pub IsTold : WriteFault → Type 0
 IsTold (Shape fault) = IsToldShape fault
 IsTold NoMemory = Unit {0}
 
--- the reply that tells a shape's fault
-abbrev pub told_shape : ShapeFault → Reply
-told_shape shape.WrongCount = reply.NoMemory
-told_shape (shape.WrongType col) = reply.NoMemory
-told_shape (shape.TextTooLong cell) = reply.TextTooLong cell
-told_shape shape.NoSuchColumn = reply.NoMemory
-told_shape shape.KeyColumn = reply.KeyColumn
-
-abbrev pub told : WriteFault → Reply
-told (Shape fault) = told_shape fault
-told NoMemory = reply.NoMemory
+-- the reply that tells a fault of a write; no reply tells a wrong count, a wrong type or a missing column
+abbrev pub IsToldAs : WriteFault → Reply → Type 0
+IsToldAs (Shape shape.WrongCount) reply = ⊥
+IsToldAs (Shape (shape.WrongType col)) reply = ⊥
+IsToldAs (Shape (shape.TextTooLong cell)) reply = reply ≡ answer.TextTooLong cell
+IsToldAs (Shape shape.NoSuchColumn) reply = ⊥
+IsToldAs (Shape shape.KeyColumn) reply = reply ≡ answer.KeyColumn
+IsToldAs NoMemory reply = reply ≡ answer.NoMemory

@@ -7,7 +7,7 @@ ghost use Rattle.inputs.specs.Typed.{is_typed_call, is_typed_read, is_typed_writ
 ghost use Rattle.txn.specs.Txn.{IsAnswered};
 ghost use Rattle.pdtcli.specs.Managed.{Managed, IsOwn};
 ghost use Rattle.pdtcli.specs.Run.{IsServed, shown_lines, BeginStep, WriteStep, OpenWriteStep, CommitStep, AbortStep};
-ghost use Rattle.pdtcli.specs.Told.{IsCause, IsTold, told};
+ghost use Rattle.pdtcli.specs.Told.{IsCause, IsTold, IsToldAs};
 
 use crate::plain::Manager;
 use crate::reads::read_in;
@@ -169,23 +169,30 @@ fn write_in(txn: &mut Txn, write: &Write) -> Reply
     }
 }
 
-/// What the transaction answers to a write.
+/// What the transaction answers to a write. A row or a value that doesn't fit is refused before it is copied.
 fn answer(txn: &mut Txn, write: &Write) -> Result<WriteReply, WriteFault>
     ensures ok { IfOk result (λ reply. IsAnswered txn.old write.now reply txn.new) }
     ensures cause { IfErr result (λ fault. IsCause txn.old.schema write.now fault) }
     ensures err { OnErr result (txn.new ≡ txn.old) }
 {
     match write {
-        Write::Insert(row) => txn.insert(row.copy()?),
+        Write::Insert(row) => {
+            txn.schema().check_row(row)?;
+            txn.insert(row.copy()?)
+        }
         Write::Delete(key) => txn.delete(key),
-        Write::Set(key, col, value) => txn.set(key, *col, value.copy()?),
+        Write::Set(key, col, value) => {
+            txn.schema().check_key(key)?;
+            txn.schema().check_cell(*col, value)?;
+            txn.set(key, *col, value.copy()?)
+        }
     }
 }
 
 /// The reply that tells why a write is refused. Counts and types are those of the schema, as the script was read.
 fn refusal(fault: WriteFault) -> Reply
     requires { IsTold fault }
-    ensures { result ≡ told fault }
+    ensures { IsToldAs fault result }
 {
     match fault {
         WriteFault::Shape(ShapeFault::KeyColumn) => Reply::KeyColumn,

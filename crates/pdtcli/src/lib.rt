@@ -1,8 +1,9 @@
 //! The program over texts: a run of a script over a table, each as `inputs` reads it, and its output, the reply lines and
 //! the newest image.
 //!
-//! *What a contract sees.* A manager is the table that it was opened with and its history. A run is a relation of states, calls and replies. What a run shows is the text that `csv` writes
-//! of its reply lines and its image, byte for byte.
+//! *What a contract sees.* A manager is the table that it was opened with and its history. A run is a relation of states,
+//! calls and replies. What a run shows is the text that `csv` writes of its reply lines and its image, byte for byte. A
+//! refusal is of the first part that is refused, by its own first fault.
 //!
 //! *What it stands on.* `values` for schemas, rows and limits, `model` for tables, writes and histories, `stable` for the
 //! table, `txn` for transactions, `oracle` for effects by key, `inputs` for what the program is given, `csv` for

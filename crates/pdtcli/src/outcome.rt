@@ -1,4 +1,4 @@
-//! What a run leaves: a reply line for each call, the manager, and how many commits each client was answered.
+//! What a run leaves: the reply lines of its calls, the manager, and how many commits each client was answered.
 ghost use Rattle.std.specs.Prelude.{◌≡◌};
 
 use crate::plain::Manager;
@@ -50,7 +50,7 @@ impl Outcome {
         self.clients.as_slice()
     }
 
-    /// The reply lines, in the order of the calls.
+    /// The reply lines, in the order of the calls: of each call those of the rows that it shows, and then its reply.
     pub fn lines(&self) -> &[ReplyLine]
         ensures { result.now ≡ self.now.lines }
     {

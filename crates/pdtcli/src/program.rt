@@ -1,15 +1,14 @@
 //! What the program does with the bytes of its files: it reads them, runs the script over the table, and shows what the
 //! run leaves.
-ghost use Rattle.std.specs.Prelude.{◌≡◌, ◌<◌, false, IfErr, IfOk, IfSome, IsTrue, None, Err, length};
+ghost use Rattle.std.specs.Prelude.{◌≡◌, ◌<◌, false, IfErr, IfOk, IsTrue, length};
+ghost use Rattle.std.specs.Option.{option_copied};
 ghost use Rattle.std.specs.List.{All};
 ghost use Rattle.inputs.specs.Typed.{is_typed_call};
 ghost use Rattle.std.specs.Io.KnownBytes.{Appends};
-ghost use Rattle.inputs.specs.Input.{IsTableOf};
 ghost use Rattle.pdtcli.specs.Outcome.{Left};
 ghost use Rattle.pdtcli.specs.Output.{exit_status, shown};
-ghost use Rattle.pdtcli.specs.Program.{IsRunOf};
+ghost use Rattle.pdtcli.specs.Program.{HasScript, HasTable, IsRefusalOf, IsRunOf, IsScriptRefusal, IsTableRefusal};
 ghost use Rattle.pdtcli.specs.Refusals.{is_output};
-ghost use Rattle.inputs.specs.Script.{IsScriptOf};
 
 use crate::output::show;
 use crate::plain::Manager;
@@ -40,11 +39,11 @@ pub fn run_texts<W: Write>(
     out: &mut W,
 ) -> Result<u8, Refusal>
     ensures shown { IfOk result (λ status. (left : Left)
-        × IfSome table.entry (λ rows. IfSome script.entry (λ calls. IsRunOf rows.now calls.now limit left))
+        × IsRunOf (option_copied table.entry) (option_copied script.entry) limit left
         × Appends (W.contents out.old) (W.contents out.new) (shown left)
         × (status ≡ exit_status left.lines)) }
+    ensures refused { IfErr result (IsRefusalOf (option_copied table.entry) (option_copied script.entry) limit) }
     ensures silent { IfErr result (λ refusal. is_output refusal ≡ false → out.new ≡ out.old) }
-    ensures unreadable { table.entry ≡ None → result ≡ Err Refusal.UnreadableTable }
 {
     let stable = table_of(alloc, table)?;
     let calls = script_of(alloc, stable.schema(), script)?;
@@ -58,9 +57,9 @@ pub fn run_texts<W: Write>(
 
 /// The table of these bytes.
 fn table_of(alloc: Global, bytes: Option<&[u8]>) -> Result<StableTable, Refusal>
-    ensures ok { IfOk result (λ table. IfSome bytes.entry (λ text. IsTableOf text.now table.schema table.rows)) }
+    ensures ok { IfOk result (HasTable (option_copied bytes.entry)) }
+    ensures refused { IfErr result (IsTableRefusal (option_copied bytes.entry)) }
     ensures input { IfErr result (λ refusal. is_output refusal ≡ false) }
-    ensures unreadable { bytes.entry ≡ None → result ≡ Err Refusal.UnreadableTable }
 {
     let Some(text) = bytes else {
         return Err(Refusal::UnreadableTable);
@@ -78,9 +77,10 @@ fn table_of(alloc: Global, bytes: Option<&[u8]>) -> Result<StableTable, Refusal>
 
 /// The script of these bytes, over a table of the schema.
 fn script_of(alloc: Global, schema: &Schema, bytes: Option<&[u8]>) -> Result<Script, Refusal>
-    ensures ok { IfOk result (λ script. IfSome bytes.entry (λ text. IsScriptOf schema.now text.now script.clients.items script.calls.items)) }
+    ensures ok { IfOk result (λ script. HasScript schema.now (option_copied bytes.entry) script.clients.items script.calls.items) }
     ensures typed { IfOk result (λ script. All (λ asked. IsTrue (is_typed_call schema.now asked.call)) script.calls.items) }
     ensures clients { IfOk result (λ script. All (λ asked. asked.client < length script.clients.items) script.calls.items) }
+    ensures refused { IfErr result (IsScriptRefusal schema.now (option_copied bytes.entry)) }
     ensures input { IfErr result (λ refusal. is_output refusal ≡ false) }
 {
     let Some(text) = bytes else {

@@ -57,7 +57,7 @@ pub struct ReplyLine {
     pub reply: Reply,
 }
 
-/// Adds the fields of a line: the client's name, the verb, the reply's word and its number where it has one.
+/// Adds the fields of a line: the client's name, the verb, the reply's word and its values where it has some.
 pub(crate) fn push_line(
     fields: &mut ByteRecord,
     clients: &[Text],

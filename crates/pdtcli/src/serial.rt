@@ -25,7 +25,8 @@ pub fn run_serial(alloc: Global, manager: Manager, script: &Script) -> Result<Ou
     requires typed { All (λ asked. IsTrue (is_typed_call manager.schema asked.call)) script.now.calls.items }
     requires clients { All (λ asked. asked.client < length script.now.clients.items) script.now.calls.items }
     ensures run { IfOk result (λ outcome. (transactions : List (Option Transaction))
-        × IsRun (record { manager = manager; transactions = replicate (length script.now.clients.items) None }) script.now.calls.items outcome.lines (record { manager = outcome.manager; transactions = transactions })) }
+        × IsRun (record { manager = manager; transactions = replicate (length script.now.clients.items) None })
+        script.now.calls.items outcome.lines (record { manager = outcome.manager; transactions = transactions })) }
     ensures clients { IfOk result (λ outcome. outcome.clients ≡ script.now.clients.items) }
     ensures counts { IfOk result (λ outcome. outcome.counts ≡ map (decided_count outcome.lines) (range_with_len 0 (length script.now.clients.items))) }
 {

@@ -117,7 +117,7 @@ impl Manager {
     ///
     /// # Errors
     ///
-    /// `NoMemory` where a share of the table is refused.
+    /// `NoMemory` where a growth, or a share of the table, is refused.
     pub fn begin(&self, client: u32) -> Result<Txn, NoMemory>
         ensures { IfOk result (λ txn. txn ≡ begun_at self.now client) }
     {

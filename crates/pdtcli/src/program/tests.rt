@@ -81,6 +81,20 @@ fn the_first_part_that_is_refused_is_told(rt: HostRuntime) -> Result<(), Fail> {
             2,
             Refusal::Open(OpenFault::TooManyRows),
         ),
+        (
+            "a limit of no rows",
+            Some(TABLE),
+            Some(b"".as_slice()),
+            0,
+            Refusal::Open(OpenFault::BadLimit),
+        ),
+        (
+            "a limit past the largest",
+            Some(TABLE),
+            Some(b"".as_slice()),
+            MAX_ROWS + 1,
+            Refusal::Open(OpenFault::BadLimit),
+        ),
     ] {
         let mut out = Vec::new(rt.alloc());
         let found = run_texts(rt.alloc(), table, script, limit, &mut out);

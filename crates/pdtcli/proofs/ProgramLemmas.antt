@@ -1,0 +1,27 @@
+-- What an opening's answer says of its first fault, and what is so of a refusal that is passed up.
+use Rattle.std.proofs.Common.{◌≡◌, ℕ, Option, Some, None, Result, Ok, Err, List, sym, refl, subst}
+use Rattle.std.specs.Prelude.{IfErr, IsErrAnd, IsOkUnless, MatchOption, unwrap_or}
+use Rattle.pdtcli.specs.Managed.{Managed, fault_of_opening}
+use Rattle.pdtcli.specs.Program.{Inputs, AreInputs, AreOpened}
+use Rattle.pdtcli.specs.declared.plain.manager.OpenFault.{OpenFault}
+use Rattle.pdtcli.specs.declared.plain.manager.OpenFault.TheVariants.{NoMemory}
+use Rattle.pdtcli.specs.declared.program.TheConstants.{RECENT_COMMITS}
+
+-- a refusal is for the first fault, or for want of memory where there is none
+pub refused_for : (first : Option OpenFault) (fault : OpenFault) → MatchOption first (fault ≡ NoMemory) (λ f. ◌≡◌ {A = Result Managed OpenFault} (Err fault) (Err f)) → fault ≡ unwrap_or first NoMemory
+refused_for None fault h = h
+refused_for (Some f) fault h = cc h
+
+no_fault : (first : Option OpenFault) (m : Managed) → MatchOption first (IsOkUnless (Ok m) NoMemory) (λ f. Ok m ≡ Err f) → first ≡ None
+no_fault None m h = refl
+no_fault (Some f) m h = cc h
+
+-- what was opened has no fault
+pub opened : (table script : Option (List ℕ)) (limit : ℕ) (inputs : Inputs) (m : Managed) → AreInputs table script inputs
+    → MatchOption (fault_of_opening inputs.stable RECENT_COMMITS limit) (IsOkUnless (Ok m) NoMemory) (λ f. Ok m ≡ Err f) → AreOpened table script limit inputs
+opened table script limit inputs m read h = record { read = read; fits = no_fault (fault_of_opening inputs.stable RECENT_COMMITS limit) m h }
+
+-- what is so of the refusal is so of the answer that it passes up
+pub passed_up : {T E : Type 0} (answer : Result T E) (refusal : E) (Is : E → Type 0) → IsErrAnd answer (λ e. e ≡ refusal) → Is refusal → IfErr answer Is
+passed_up (Ok x) refusal Is is h = absurd is
+passed_up (Err e) refusal Is is h = subst Is (sym is) h

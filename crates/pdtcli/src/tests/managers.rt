@@ -1,0 +1,212 @@
+//! Two transactions of one manager: which of their commits are granted, and what the history keeps of them.
+ghost use Rattle.std.specs.Prelude.{IfOk};
+ghost use Rattle.txn.specs.Txn.{Transaction};
+ghost use Rattle.pdtcli.specs.Managed.{Managed, IsOwn};
+
+use crate::plain::Manager;
+use crate::read_table;
+use model::{CommitReply, Write, WriteReply};
+use stable::StableTable;
+use std::alloc::Global;
+use std::test::Fail;
+use txn::{RowView, Txn, WriteFault};
+use values::limits::MAX_ROWS;
+use values::{Key, NoMemory, Row, Text, Value, ValueRef};
+
+const BASE: &[u8] = b"id:int:key,name:text,qty:int\n10,Ann,1\n20,Bob,2\n30,Cid,3\n";
+
+/// A manager of the base table.
+fn opened(alloc: Global, recent: usize, limit: u64) -> Result<Manager, Fail> {
+    let (schema, rows) = read_table(alloc, BASE)?;
+    let table = StableTable::build(alloc, schema, rows)?;
+    Ok(Manager::open(alloc, table, recent, limit)?)
+}
+
+fn key(alloc: Global, id: i64) -> Result<Key, NoMemory> {
+    let mut cells = Vec::new(alloc);
+    cells.push(Value::Int(id))?;
+    Ok(Key::new(cells))
+}
+
+fn item(alloc: Global, id: i64, name: &str, quantity: i64) -> Result<Row, NoMemory> {
+    let mut cells = Vec::new(alloc);
+    cells.push(Value::Int(id))?;
+    cells.push(Value::Text(Text::new(String::from_str(alloc, name)?)))?;
+    cells.push(Value::Int(quantity))?;
+    Ok(Row::new(cells))
+}
+
+/// Two transactions over the newest table, of the clients 0 and 1.
+fn begin_both(manager: &Manager) -> Result<(Txn, Txn), NoMemory>
+    ensures first { IfOk result (λ both. IsOwn manager.now both.0) }
+    ensures second { IfOk result (λ both. IsOwn manager.now both.1) }
+{
+    let first = manager.begin(0)?;
+    match manager.begin(1) {
+        Ok(second) => Ok((first, second)),
+        Err(fault) => {
+            first.abort();
+            Err(fault)
+        }
+    }
+}
+
+/// The reply to a write, which is made of its parts where there is memory.
+fn answer(txn: &mut Txn, write: Result<Write, NoMemory>) -> Result<WriteReply, WriteFault>
+    ensures own { (m : Managed) → IsOwn m txn.old → IsOwn m txn.new }
+{
+    match write? {
+        Write::Insert(row) => txn.insert(row),
+        Write::Delete(key) => txn.delete(&key),
+        Write::Set(key, col, value) => txn.set(&key, col, value),
+    }
+}
+
+/// The reply to the commit of a transaction, or none where memory is refused.
+fn decided(manager: &mut Manager, txn: Txn) -> Option<CommitReply>
+    requires own { IsOwn manager.old txn }
+    ensures kept { (other : Transaction) → IsOwn manager.old other → IsOwn manager.new other }
+{
+    match manager.commit(txn) {
+        Ok(reply) => Some(reply),
+        Err((txn, NoMemory)) => {
+            txn.abort();
+            None
+        }
+    }
+}
+
+fn set_quantity(alloc: Global, id: i64, quantity: i64) -> Result<Write, NoMemory> {
+    Ok(Write::Set(key(alloc, id)?, 2, Value::Int(quantity)))
+}
+
+fn insert(alloc: Global, id: i64) -> Result<Write, NoMemory> {
+    Ok(Write::Insert(item(alloc, id, "Dee", 4)?))
+}
+
+fn delete(alloc: Global, id: i64) -> Result<Write, NoMemory> {
+    Ok(Write::Delete(key(alloc, id)?))
+}
+
+/// The quantity of a row that is read, or less than none.
+fn quantity_of(found: Option<RowView<'_>>) -> i64 {
+    match found {
+        Some(view) if view.width() > 2 => match view.value(2) {
+            ValueRef::Int(quantity) => quantity,
+            _ => -1,
+        },
+        _ => -1,
+    }
+}
+
+/// The numbers of the first and the last column of the newest table, row by row.
+fn numbers(alloc: Global, manager: &Manager) -> Result<String, Fail> {
+    let table = manager.newest();
+    let mut text = String::new(alloc);
+    for sid in 0..table.len() {
+        let row = table.row(alloc, sid)?;
+        if let [Value::Int(id), _, Value::Int(quantity)] = row.cells() {
+            text.push_str(format!(in alloc; "{id} {quantity};")?.as_str())?;
+        }
+    }
+    Ok(text)
+}
+
+#[test]
+fn write_skew_commits(rt: HostRuntime) -> Result<(), Fail> {
+    let alloc = rt.alloc();
+    let ten = key(alloc, 10)?;
+    let twenty = key(alloc, 20)?;
+    let mut manager = opened(alloc, 64, MAX_ROWS)?;
+    let (mut a, mut b) = begin_both(&manager)?;
+    let a_read = quantity_of(a.get(&ten));
+    let a_set = answer(&mut a, set_quantity(alloc, 20, 9));
+    let b_read = quantity_of(b.get(&twenty));
+    let b_set = answer(&mut b, set_quantity(alloc, 10, 9));
+    let first = decided(&mut manager, a);
+    let second = decided(&mut manager, b);
+    assert_eq!(&rt; a_read, 1);
+    assert!(&rt; a_set == Ok(WriteReply::Done));
+    assert_eq!(&rt; b_read, 2);
+    assert!(&rt; b_set == Ok(WriteReply::Done));
+    assert!(&rt; first == Some(CommitReply::Committed(1)));
+    assert!(&rt; second == Some(CommitReply::Committed(2)));
+    assert_eq!(&rt; numbers(alloc, &manager)?.as_str(), "10 9;20 9;30 3;");
+    Ok(())
+}
+
+#[test]
+fn a_row_that_both_delete_conflicts(rt: HostRuntime) -> Result<(), Fail> {
+    let alloc = rt.alloc();
+    let mut manager = opened(alloc, 64, MAX_ROWS)?;
+    let (mut a, mut b) = begin_both(&manager)?;
+    let a_deleted = answer(&mut a, delete(alloc, 20));
+    let b_deleted = answer(&mut b, delete(alloc, 20));
+    let first = decided(&mut manager, a);
+    let second = decided(&mut manager, b);
+    assert!(&rt; a_deleted == Ok(WriteReply::Done));
+    assert!(&rt; b_deleted == Ok(WriteReply::Done));
+    assert!(&rt; first == Some(CommitReply::Committed(1)));
+    assert!(&rt; second == Some(CommitReply::Conflict(1)));
+    assert_eq!(&rt; numbers(alloc, &manager)?.as_str(), "10 1;30 3;");
+    let history = manager.history();
+    assert_eq!(&rt; history.len(), 2);
+    for (client, (record, want)) in history
+        .iter()
+        .zip([CommitReply::Committed(1), CommitReply::Conflict(1)].iter())
+        .enumerate()
+    {
+        assert_eq!(&rt; record.client() as usize, client);
+        assert_eq!(&rt; record.begin(), 0);
+        assert_eq!(&rt; record.writes().len(), 1);
+        assert!(&rt;
+            record
+                .writes()
+                .iter()
+                .all(|write| write.1 == WriteReply::Done)
+        );
+        assert!(&rt; record.reply() == *want);
+    }
+    Ok(())
+}
+
+#[test]
+fn two_commits_since_the_begin_are_too_many_where_one_is_kept(rt: HostRuntime) -> Result<(), Fail> {
+    let alloc = rt.alloc();
+    let mut manager = opened(alloc, 1, MAX_ROWS)?;
+    let (mut a, b) = begin_both(&manager)?;
+    let a_set = answer(&mut a, set_quantity(alloc, 30, 9));
+    let first = decided(&mut manager, b);
+    let second = match manager.begin(1) {
+        Ok(c) => decided(&mut manager, c),
+        Err(NoMemory) => None,
+    };
+    let third = decided(&mut manager, a);
+    assert!(&rt; a_set == Ok(WriteReply::Done));
+    assert!(&rt; first == Some(CommitReply::Committed(1)));
+    assert!(&rt; second == Some(CommitReply::Committed(2)));
+    assert!(&rt; third == Some(CommitReply::TooOld(2)));
+    assert_eq!(&rt; numbers(alloc, &manager)?.as_str(), "10 1;20 2;30 3;");
+    let begins = manager.history().iter().map(|record| record.begin());
+    assert!(&rt; begins.eq([0_u64, 1, 0].iter().copied()));
+    Ok(())
+}
+
+#[test]
+fn a_commit_past_the_row_limit_is_full(rt: HostRuntime) -> Result<(), Fail> {
+    let alloc = rt.alloc();
+    let mut manager = opened(alloc, 64, 4)?;
+    let (mut a, mut b) = begin_both(&manager)?;
+    let a_inserted = answer(&mut a, insert(alloc, 40));
+    let a_more = answer(&mut a, insert(alloc, 41));
+    let b_inserted = answer(&mut b, insert(alloc, 50));
+    let first = decided(&mut manager, a);
+    let second = decided(&mut manager, b);
+    assert!(&rt; a_inserted == Ok(WriteReply::Done));
+    assert!(&rt; a_more == Ok(WriteReply::Full));
+    assert!(&rt; b_inserted == Ok(WriteReply::Done));
+    assert!(&rt; first == Some(CommitReply::Committed(1)));
+    assert!(&rt; second == Some(CommitReply::Full(1)));
+    assert_eq!(&rt; numbers(alloc, &manager)?.as_str(), "10 1;20 2;30 3;40 4;");
+    Ok(())
+}
