@@ -6,39 +6,29 @@ ghost use Rattle.std.specs.Iterator.{YieldsFirstRef, item_count};
 
 use crate::tree::DeltaTree;
 use model::Entry;
+use std::marker::Model;
 
-/// The entries that are left of a tree, in order.
+/// The entries that are left of a tree, or of a part of it, in order. A contract sees them as their list.
 #[derive(Drop)]
 pub struct Iter<'a> {
     rest: &'a [Entry],
 }
 
+impl<'a> Model for Iter<'a> {
+    ghost use Rattle.std.specs.Prelude.{List};
+    ghost use Rattle.model.specs.declared.entry.Entry.{Entry};
+
+    ghost Value = { List Entry };
+
+    ghost view = { λ i. i.rest.now };
+}
+
 impl<'a> Iterator for Iter<'a> {
     type Item = &'a Entry;
 
-    ghost next_gives = { YieldsFirstRef (λ s. s.rest.now) };
+    ghost next_gives = { YieldsFirstRef (λ s. s) };
 
-    ghost remaining = { item_count (λ s. s.rest.now) };
-
-    fn next(&mut self) -> Option<&'a Entry> {
-        let (first, others) = self.rest.split_first()?;
-        self.rest = others;
-        Some(first)
-    }
-}
-
-/// The entries that are left of those at one SID, in order.
-#[derive(Drop)]
-pub struct EntriesAt<'a> {
-    rest: &'a [Entry],
-}
-
-impl<'a> Iterator for EntriesAt<'a> {
-    type Item = &'a Entry;
-
-    ghost next_gives = { YieldsFirstRef (λ s. s.rest.now) };
-
-    ghost remaining = { item_count (λ s. s.rest.now) };
+    ghost remaining = { item_count (λ s. s) };
 
     fn next(&mut self) -> Option<&'a Entry> {
         let (first, others) = self.rest.split_first()?;
@@ -50,7 +40,7 @@ impl<'a> Iterator for EntriesAt<'a> {
 impl DeltaTree {
     /// The entries in order. It takes no memory.
     pub fn iter(&self) -> Iter<'_>
-        ensures { result.rest.now ≡ self.now.entries }
+        ensures { result ≡ self.now.entries }
     {
         Iter {
             rest: self.entries.as_slice(),
@@ -60,7 +50,7 @@ impl DeltaTree {
     /// The entries from a place on. It takes no memory, and goes over none that it leaves out.
     pub fn iter_from(&self, place: usize) -> Iter<'_>
         requires { place ≤ length self.now.entries }
-        ensures rest { result.rest.now ≡ drop place self.now.entries }
+        ensures rest { result ≡ drop place self.now.entries }
         ensures lawful { IsLawful self.now.key_cols self.now.entries }
     {
         Iter {
@@ -70,12 +60,12 @@ impl DeltaTree {
 
     /// The entries at the SID: the inserts by key, and then a delete, or modifies by column. Binary search finds the first
     /// and the last. It takes no memory.
-    pub fn entries_at(&self, sid: u64) -> EntriesAt<'_>
-        ensures { result.rest.now ≡ filter (λ e. e.sid == sid) self.now.entries }
+    pub fn entries_at(&self, sid: u64) -> Iter<'_>
+        ensures { result ≡ filter (λ e. e.sid == sid) self.now.entries }
     {
         let start = self.place_of_sid(sid);
         let end = self.place_past(sid);
-        EntriesAt {
+        Iter {
             rest: &self.entries[start..end],
         }
     }

@@ -17,7 +17,7 @@ loop-entry-init c =
     let t = c.args.tree.now in
     let n = c.base_place.result in
     let test = stands_before base_cmp c.args.sid in
-    let is = ap (λ i. i.rest.now) c.into_iter-entry-iterator.ensures.into_iter_gives ∙ c.iter_from-entry-items.ensures.rest in
+    let is = c.into_iter-entry-iterator.ensures.into_iter_gives ∙ c.iter_from-entry-items.ensures.rest in
     let ordered : T (are_ordered t.key_cols (drop n t.entries)) =
     ordered_right t.key_cols (take n t.entries) (drop n t.entries) (subst (λ (es : List Entry). T (are_ordered t.key_cols es)) (sym (take-append-drop n t.entries)) (passes (are_ordered t.key_cols t.entries) c.iter_from-entry-items.ensures.lawful.ordered)) in (
       subst (λ (es : List Entry). T (are_ordered t.key_cols es)) (sym is) ordered,
@@ -30,7 +30,7 @@ pub returns-then-entry-sid : goal.returns-then-entry-sid
 returns-then-entry-sid c =
     let t = c.args.tree.now in
     let x = c.in-Some.entry.now in
-    let rest = c.next.new.self.rest.now in
+    let rest = c.next.new.self in
     let is = c.in-Some.ensures.steps in
     let inv = c.loop-entry.invariant in
     let end = cells_at-end t.key_cols c.args.sid x rest (subst (λ (es : List Entry). T (are_ordered t.key_cols es)) is inv.0) (first (not (stands_before base_cmp c.args.sid x)) _ (subst (λ (es : List Entry). T (list_all (λ e. not (stands_before base_cmp c.args.sid e)) es)) is inv.1)) (λ col value k e. c.if-entry-sid.true e) in
@@ -40,7 +40,7 @@ pub returns-in-Ins : goal.returns-in-Ins
 returns-in-Ins c =
     let t = c.args.tree.now in
     let x = c.in-Some.entry.now in
-    let rest = c.next.new.self.rest.now in
+    let rest = c.next.new.self in
     let is = c.in-Some.ensures.steps in
     let inv = c.loop-entry.invariant in
     let end = cells_at-end t.key_cols c.args.sid x rest (subst (λ (es : List Entry). T (are_ordered t.key_cols es)) is inv.0) (first (not (stands_before base_cmp c.args.sid x)) _ (subst (λ (es : List Entry). T (list_all (λ e. not (stands_before base_cmp c.args.sid e)) es)) is inv.1)) (λ col value k e. let kind = c.in-Ins.is in cc) in
@@ -50,7 +50,7 @@ pub returns-in-Ins-2 : goal.returns-in-Ins-2
 returns-in-Ins-2 c =
     let t = c.args.tree.now in
     let x = c.in-Some.entry.now in
-    let rest = c.next.new.self.rest.now in
+    let rest = c.next.new.self in
     let is = c.in-Some.ensures.steps in
     let inv = c.loop-entry.invariant in
     let end = cells_at-end t.key_cols c.args.sid x rest (subst (λ (es : List Entry). T (are_ordered t.key_cols es)) is inv.0) (first (not (stands_before base_cmp c.args.sid x)) _ (subst (λ (es : List Entry). T (list_all (λ e. not (stands_before base_cmp c.args.sid e)) es)) is inv.1)) (λ col value k e. let kind = c.in-Ins.is in cc) in

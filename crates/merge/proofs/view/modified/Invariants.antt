@@ -11,6 +11,6 @@ use Rattle.merge.proofs.view.modified.Given as goal
 -- are those at the SID
 abbrev pub invariant-loop-entry : goal.invariant-loop-entry
 invariant-loop-entry l =
-    T (are_ordered l.tree.key_cols l.entry-iterator.rest.now)
-    × T (list_all (λ e. not (stands_before base_cmp l.sid e)) l.entry-iterator.rest.now)
-    × (last_cell l.col (option_map value_of l.found) (cells_at l.sid l.entry-iterator.rest.now) ≡ last_cell l.col None (cells_at l.sid l.tree.entries))
+    T (are_ordered l.tree.key_cols l.entry-iterator)
+    × T (list_all (λ e. not (stands_before base_cmp l.sid e)) l.entry-iterator)
+    × (last_cell l.col (option_map value_of l.found) (cells_at l.sid l.entry-iterator) ≡ last_cell l.col None (cells_at l.sid l.tree.entries))
