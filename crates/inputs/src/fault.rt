@@ -61,7 +61,7 @@ pub enum ScriptFault {
     /// This record's verb is none that there is.
     #[error("BadVerb {0}")]
     BadVerb(u64),
-    /// In this record, this field is not a cell of its column's type, or not a column's name.
+    /// In this record, this field is not a cell of its column's type, not a column's name, or not a position.
     #[error("BadArgument {0} {1}")]
     BadArgument(u64, usize),
     /// A growth was refused.

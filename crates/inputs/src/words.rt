@@ -93,7 +93,7 @@ fn program<'a>(alloc: Global) -> Result<Command<'a>, Error>
         .long("limit")
         .value_name("N")
         .action(ArgAction::Set)
-        .value_parser(clap::value_parser!(u64).range(1..=2147483647));
+        .value_parser(clap::value_parser!(u64).range(1..=MAX_ROWS as i64));
     let run = Command::new(alloc, "run")
         .arg(table)?
         .arg(script)?

@@ -14,13 +14,13 @@ pub const MAX_TEXT_BYTES: usize = 4_096;
 /// are still counted in 32 bits.
 pub const MAX_ROWS: u64 = 2_147_483_647;
 
-/// Recent commits that an opening may choose to keep. Each keeps its tree of changes in memory.
+/// Recent commits that an opening may choose to keep. Each keeps its changes in memory.
 pub const MAX_RECENT_COMMITS: usize = 65_536;
 
 /// Clients of one opening. Each has a reader's place of its own, and a thread where a run is threaded.
 pub const MAX_CLIENTS: u32 = 64;
 
-/// Values of a block: as many are read and written as one piece, and a block's fence is one key for so many rows.
+/// Values of a block: as many are read and written as one piece.
 pub const MAX_BLOCK_VALUES: usize = 1_024;
 
 /// The last generation of a store, since a frame spells it in four bytes.
