@@ -100,3 +100,42 @@ fn a_second_transaction_sees_the_first(rt: HostRuntime) -> Result<(), Fail> {
         "a,begin,Begun\na,delete,Done\na,insert,Done\na,set,Done\na,commit,Committed,1\na,begin,Begun\na,insert,Duplicate\na,set,Done\na,set,Done\na,set,Done\na,delete,Done\na,commit,Committed,2\n\nid:int:key,name:text,qty:int\n20,Bet,8\n30,Cid,5\n",
     )
 }
+
+/// A text of one byte more than a cell may have.
+fn long_text(alloc: Global) -> Result<String, Fail> {
+    let mut text = String::new(alloc);
+    for _ in 0..4_097_u16 {
+        text.push_str("x")?;
+    }
+    Ok(text)
+}
+
+#[test]
+fn a_text_that_is_too_long_is_told_by_its_column(rt: HostRuntime) -> Result<(), Fail> {
+    let text = long_text(rt.alloc())?;
+    let script = format!(in rt.alloc();
+        "a,begin\na,insert,40,{text},1\na,set,20,name,{text}\na,len\na,commit\n"
+    )?;
+    assert_run(
+        &rt,
+        rt.alloc(),
+        BASE,
+        script.as_str().as_bytes(),
+        "a,begin,Begun\na,insert,TextTooLong,1\na,set,TextTooLong,1\na,len,Rows,3\na,commit,Committed,1\n\nid:int:key,name:text,qty:int\n10,Ann,1\n20,Bob,2\n30,Cid,3\n",
+    )
+}
+
+#[test]
+fn a_key_that_is_too_long_is_told_by_its_cell(rt: HostRuntime) -> Result<(), Fail> {
+    let text = long_text(rt.alloc())?;
+    let script = format!(in rt.alloc();
+        "a,begin\na,get,{text}\na,rank,{text}\na,delete,{text}\na,set,{text},qty,2\na,set,Ann,name,Bea\na,abort\n"
+    )?;
+    assert_run(
+        &rt,
+        rt.alloc(),
+        b"name:text:key,qty:int\nAnn,1\n",
+        script.as_str().as_bytes(),
+        "a,begin,Begun\na,get,TextTooLong,0\na,rank,TextTooLong,0\na,delete,TextTooLong,0\na,set,TextTooLong,0\na,set,KeyColumn\na,abort,Aborted\n\nname:text:key,qty:int\nAnn,1\n",
+    )
+}
