@@ -5,7 +5,7 @@
 mod refusals;
 mod stacks;
 
-use crate::{DeltaTree, RowView, Txn, Version, WriteFault};
+use crate::{DeltaTree, RowView, Run, Txn, Version, WriteFault};
 use model::{Change, Write, WriteReply};
 use stable::StableTable;
 use std::alloc::Global;
@@ -282,5 +282,47 @@ fn reads_are_of_the_table_with_its_own_writes(rt: HostRuntime) -> Result<(), Fai
     assert!(&rt; ranks == ((0, false), (1, true)));
     assert!(&rt; scanned == (25, 30, -1));
     assert_eq!(&rt; none, -1);
+    Ok(())
+}
+
+/// The runs of all rows: a row by its number, stable rows by their first place and their count.
+fn run_shape(alloc: Global, txn: &Txn) -> Result<String, NoMemory> {
+    let mut text = String::new(alloc);
+    for run in txn.runs(0, u64::MAX) {
+        let part = match run {
+            Run::Stable(rows) => format!(in alloc; "Stable {}+{};", rows.sid, rows.len)?,
+            Run::Row(view) => format!(in alloc; "Row {};", number_of(Some(view)))?,
+        };
+        text.push_str(part.as_str())?;
+    }
+    Ok(text)
+}
+
+#[test]
+fn its_rows_stand_in_runs_and_make_a_table(rt: HostRuntime) -> Result<(), Fail> {
+    let alloc = rt.alloc();
+    let deleted = key(alloc, 10)?;
+    let changed = key(alloc, 20)?;
+    let row = item(alloc, 25, "Dee", 4)?;
+    let mut txn = opened(&rt, alloc, base_table(alloc)?)?;
+    let removed = txn.delete(&deleted);
+    let added = txn.insert(row);
+    let set = txn.set(&changed, 2, Value::Int(7));
+    let runs = run_shape(alloc, &txn);
+    let table = txn.to_table(alloc);
+    txn.abort();
+    assert!(&rt; removed == Ok(WriteReply::Done));
+    assert!(&rt; added == Ok(WriteReply::Done));
+    assert!(&rt; set == Ok(WriteReply::Done));
+    assert_eq!(&rt; runs?.as_str(), "Row 20;Row 25;Stable 2+1;");
+    let table = table?;
+    assert!(&rt; table.len() == 3);
+    for (sid, id, name, quantity) in [(0, 20, "Bob", 7), (1, 25, "Dee", 4), (2, 30, "Cid", 3)] {
+        let found = table.row(alloc, sid)?;
+        assert!(&rt;
+            found.cells() == item(alloc, id, name, quantity)?.cells(),
+            "at {sid}"
+        );
+    }
     Ok(())
 }
