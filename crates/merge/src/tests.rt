@@ -404,6 +404,20 @@ fn agrees(
     Ok(place as u64 == to.min(rows.len() as u64) || from >= to)
 }
 
+/// Whether the table has just these rows.
+fn is_table_of(alloc: Global, table: &StableTable, rows: &[Row]) -> Result<bool, Fail> {
+    if table.len() != rows.len() as u64 {
+        return Ok(false);
+    }
+    for (place, row) in rows.iter().enumerate() {
+        let sid = place as u64;
+        if sid >= table.len() || table.row(alloc, sid)?.cells() != row.cells() {
+            return Ok(false);
+        }
+    }
+    Ok(true)
+}
+
 #[test]
 fn a_thousand_rows_are_as_the_plain_program_merges_them(rt: HostRuntime) -> Result<(), Fail> {
     let alloc = rt.alloc();
@@ -435,5 +449,8 @@ fn a_thousand_rows_are_as_the_plain_program_merges_them(rt: HostRuntime) -> Resu
             "from {from} to {to}"
         );
     }
+    assert!(rt; layers.len() <= 2_000);
+    let table = layers.to_table(alloc)?;
+    assert!(rt; is_table_of(alloc, &table, stack.rows.as_slice())?);
     Ok(())
 }
