@@ -74,16 +74,49 @@ fn number_of(found: Option<RowView<'_>>) -> i64 {
     }
 }
 
-/// The changes of a tree, as three letters each with its SID.
-fn shape(alloc: Global, tree: &DeltaTree) -> Result<String, NoMemory> {
+/// Writes the cells, with a comma between two.
+fn write_cells(alloc: Global, text: &mut String, cells: &[Value]) -> Result<(), NoMemory> {
+    for (col, cell) in cells.iter().enumerate() {
+        if col > 0 {
+            text.push_str(",")?;
+        }
+        text.push_str(cell_text(alloc, cell)?.as_str())?;
+    }
+    Ok(())
+}
+
+/// The cell as a person reads it.
+fn cell_text(alloc: Global, cell: &Value) -> Result<String, NoMemory> {
+    Ok(match cell.as_ref() {
+        ValueRef::Int(number) => format!(in alloc; "{number}")?,
+        ValueRef::Text(characters) => String::from_str(alloc, characters)?,
+        ValueRef::Bool(truth) => format!(in alloc; "{truth}")?,
+    })
+}
+
+/// The entries of a tree as a person reads them: the SID, and then `+` and a row, `-` and a key, or `:`, a column and its
+/// value.
+fn entries(alloc: Global, tree: &DeltaTree) -> Result<String, NoMemory> {
     let mut text = String::new(alloc);
     for entry in tree.iter() {
-        let kind = match &entry.change {
-            Change::Ins(_) => "Ins",
-            Change::Del(_) => "Del",
-            Change::Mod(_, _) => "Mod",
-        };
-        text.push_str(format!(in alloc; "{kind} {};", entry.sid)?.as_str())?;
+        if !text.is_empty() {
+            text.push_str(" ")?;
+        }
+        let sid = entry.sid;
+        match &entry.change {
+            Change::Ins(row) => {
+                text.push_str(format!(in alloc; "{sid}+")?.as_str())?;
+                write_cells(alloc, &mut text, row.cells())?;
+            }
+            Change::Del(key) => {
+                text.push_str(format!(in alloc; "{sid}-")?.as_str())?;
+                write_cells(alloc, &mut text, key.cells())?;
+            }
+            Change::Mod(col, value) => {
+                let value = cell_text(alloc, value)?;
+                text.push_str(format!(in alloc; "{sid}:{col}={value}")?.as_str())?;
+            }
+        }
     }
     Ok(text)
 }
@@ -93,10 +126,10 @@ fn the_first_row_of_an_empty_table_stands_at_place_0(rt: HostRuntime) -> Result<
     let row = item(rt.alloc(), 5, "Eve", 0)?;
     let mut txn = opened(&rt, rt.alloc(), empty_table(rt.alloc())?)?;
     let inserted = txn.insert(row);
-    let left = shape(rt.alloc(), txn.tree());
+    let left = entries(rt.alloc(), txn.tree());
     txn.abort();
     assert!(&rt; inserted == Ok(WriteReply::Done));
-    assert_eq!(&rt; left?.as_str(), "Ins 0;");
+    assert_eq!(&rt; left?.as_str(), "0+5,Eve,0");
     Ok(())
 }
 
@@ -109,7 +142,7 @@ fn refused_writes_leave_no_entry(rt: HostRuntime) -> Result<(), Fail> {
     let inserted = txn.insert(row);
     let deleted = txn.delete(&absent);
     let set = txn.set(&present, 0, Value::Int(21));
-    let left = shape(rt.alloc(), txn.tree());
+    let left = entries(rt.alloc(), txn.tree());
     let recorded = txn.writes().len();
     txn.abort();
     assert!(&rt; inserted == Ok(WriteReply::Duplicate));
@@ -127,11 +160,11 @@ fn a_replaced_row_is_an_insert_and_a_delete(rt: HostRuntime) -> Result<(), Fail>
     let mut txn = opened(&rt, rt.alloc(), base_table(rt.alloc())?)?;
     let deleted = txn.delete(&key);
     let inserted = txn.insert(row);
-    let left = shape(rt.alloc(), txn.tree());
+    let left = entries(rt.alloc(), txn.tree());
     txn.abort();
     assert!(&rt; deleted == Ok(WriteReply::Done));
     assert!(&rt; inserted == Ok(WriteReply::Done));
-    assert_eq!(&rt; left?.as_str(), "Ins 1;Del 1;");
+    assert_eq!(&rt; left?.as_str(), "1+20,Bea,9 1-20");
     Ok(())
 }
 
@@ -140,10 +173,10 @@ fn a_cell_set_to_what_it_is_leaves_a_modify(rt: HostRuntime) -> Result<(), Fail>
     let key = key(rt.alloc(), 20)?;
     let mut txn = opened(&rt, rt.alloc(), base_table(rt.alloc())?)?;
     let set = txn.set(&key, 2, Value::Int(2));
-    let left = shape(rt.alloc(), txn.tree());
+    let left = entries(rt.alloc(), txn.tree());
     txn.abort();
     assert!(&rt; set == Ok(WriteReply::Done));
-    assert_eq!(&rt; left?.as_str(), "Mod 1;");
+    assert_eq!(&rt; left?.as_str(), "1:2=2");
     Ok(())
 }
 
@@ -154,13 +187,13 @@ fn an_insert_changed_and_deleted_leaves_no_entry(rt: HostRuntime) -> Result<(), 
     let mut txn = opened(&rt, rt.alloc(), base_table(rt.alloc())?)?;
     let inserted = txn.insert(row);
     let changed = txn.set(&key, 2, Value::Int(5));
-    let between = shape(rt.alloc(), txn.tree());
+    let between = entries(rt.alloc(), txn.tree());
     let deleted = txn.delete(&key);
-    let left = shape(rt.alloc(), txn.tree());
+    let left = entries(rt.alloc(), txn.tree());
     txn.abort();
     assert!(&rt; inserted == Ok(WriteReply::Done));
     assert!(&rt; changed == Ok(WriteReply::Done));
-    assert_eq!(&rt; between?.as_str(), "Ins 2;");
+    assert_eq!(&rt; between?.as_str(), "2+25,Dee,5");
     assert!(&rt; deleted == Ok(WriteReply::Done));
     assert_eq!(&rt; left?.as_str(), "");
     Ok(())
@@ -173,7 +206,7 @@ fn a_shape_is_refused_before_the_table_is_looked_at(rt: HostRuntime) -> Result<(
     let set = txn.set(&key, 0, Value::Int(21));
     let deleted = txn.delete(&Key::new(Vec::new(rt.alloc())));
     let inserted = txn.insert(Row::new(Vec::new(rt.alloc())));
-    let left = shape(rt.alloc(), txn.tree());
+    let left = entries(rt.alloc(), txn.tree());
     let recorded = txn.writes().len();
     txn.abort();
     assert!(&rt; set == Err(WriteFault::Shape(ShapeFault::KeyColumn)));

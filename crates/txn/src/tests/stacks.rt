@@ -4,7 +4,7 @@ ghost use Rattle.std.specs.Prelude.{◌≡◌, IfOk};
 ghost use Rattle.merge.specs.Image.{IsLayer};
 ghost use Rattle.txn.specs.Version.{AreLower};
 
-use super::{ROOM, item, items, key, shape};
+use super::{ROOM, entries, item, items, key};
 use crate::{DeltaTree, RowView, Txn, Version, WriteReply};
 use model::Write;
 use stable::StableTable;
@@ -228,9 +228,9 @@ fn reads_are_of_all_layers(rt: HostRuntime) -> Result<(), Fail> {
     let reads = assert_reads(&rt, alloc, &txn);
     let parts = txn.into_parts();
     reads?;
-    assert_eq!(&rt; shape(alloc, &lower.read)?.as_str(), "Ins 1;Del 2;");
-    assert_eq!(&rt; shape(alloc, &lower.write)?.as_str(), "Mod 1;Ins 3;");
-    assert_eq!(&rt; shape(alloc, &parts.tree)?.as_str(), "Del 0;Ins 4;");
+    assert_eq!(&rt; entries(alloc, &lower.read)?.as_str(), "1+15,Flo,5 2-30");
+    assert_eq!(&rt; entries(alloc, &lower.write)?.as_str(), "1:2=6 3+30,Zed,7");
+    assert_eq!(&rt; entries(alloc, &parts.tree)?.as_str(), "0-10 4+35,Gus,8");
     assert_eq!(&rt; parts.begin, 2);
     Ok(())
 }
@@ -258,7 +258,7 @@ fn images_at_the_edges(rt: HostRuntime) -> Result<(), Fail> {
                 [Step::Insert(1, "Al", 1)].as_slice(),
                 [Step::Insert(3, "Cy", 3)].as_slice(),
             ],
-            ["Ins 0;", "Ins 0;", "Ins 2;"],
+            ["0+2,Bo,2", "0+1,Al,1", "2+3,Cy,3"],
             3,
             "1,Al,1 2,Bo,2 3,Cy,3",
         ),
@@ -270,7 +270,7 @@ fn images_at_the_edges(rt: HostRuntime) -> Result<(), Fail> {
                 [Step::Delete(30)].as_slice(),
                 [Step::Delete(20)].as_slice(),
             ],
-            ["Del 0;", "Del 1;", "Del 0;"],
+            ["0-10", "1-30", "0-20"],
             0,
             "",
         ),
@@ -282,12 +282,12 @@ fn images_at_the_edges(rt: HostRuntime) -> Result<(), Fail> {
                 [Step::Insert(1, "Al", 1)].as_slice(),
                 [Step::Delete(2), Step::Delete(1)].as_slice(),
             ],
-            ["Ins 0;", "Ins 0;", "Del 0;Del 1;"],
+            ["0+2,Bo,2", "0+1,Al,1", "0-1 1-2"],
             0,
             "",
         ),
     ];
-    for (label, named, steps, entries, rows, image) in cases {
+    for (label, named, steps, changes, rows, image) in cases {
         let alloc = rt.alloc();
         let lower = make_lower(alloc, named, [steps[0], steps[1]])?;
         let txn = over(&rt, alloc, &lower, steps[2])?;
@@ -299,18 +299,18 @@ fn images_at_the_edges(rt: HostRuntime) -> Result<(), Fail> {
         assert!(&rt; past, "at {label}");
         assert_eq!(&rt; count, rows, "at {label}");
         assert_eq!(&rt;
-            shape(alloc, &lower.read)?.as_str(),
-            entries[0],
+            entries(alloc, &lower.read)?.as_str(),
+            changes[0],
             "at {label}"
         );
         assert_eq!(&rt;
-            shape(alloc, &lower.write)?.as_str(),
-            entries[1],
+            entries(alloc, &lower.write)?.as_str(),
+            changes[1],
             "at {label}"
         );
         assert_eq!(&rt;
-            shape(alloc, &parts.tree)?.as_str(),
-            entries[2],
+            entries(alloc, &parts.tree)?.as_str(),
+            changes[2],
             "at {label}"
         );
     }
