@@ -211,8 +211,8 @@ get_or-all_bits (byte ∷ bytes) (suc (suc (suc (suc (suc (suc (suc zero))))))) 
 get_or-all_bits (byte ∷ bytes) (suc (suc (suc (suc (suc (suc (suc (suc j)))))))) =
     get_or-all_bits bytes j ∙ sym (by ((suc (suc (suc (suc (suc (suc (suc (suc j)))))))) / 8) ((suc (suc (suc (suc (suc (suc (suc (suc j)))))))) % 8) (omega arith) (omega arith))
   where
-    by : (row place : ℕ) → row ≡ suc (j / 8) → place ≡ j % 8 → (bit_at (get_or (byte ∷ bytes) row 0) (7 - place) == 1) ≡ (bit_at (get_or bytes (j / 8) 0) (7 - j % 8) == 1)
-    by row place e f = rw (e, f) refl
+    by : (at place : ℕ) → at ≡ suc (j / 8) → place ≡ j % 8 → (bit_at (get_or (byte ∷ bytes) at 0) (7 - place) == 1) ≡ (bit_at (get_or bytes (j / 8) 0) (7 - j % 8) == 1)
+    by at place e f = rw (e, f) refl
 
 -- the truth at a place, from the byte that holds it
 pub truth_at : (count : ℕ) (bytes : List ℕ) (i byte : ℕ) → length bytes ≡ byte_count count → i < count → byte ≡ get_or bytes (i / 8) byte → slice_get (take count (all_bits bytes)) i ≡ Some (bit_and (byte / 2 ^ (7 - i % 8)) 1 == 1)

@@ -90,6 +90,16 @@ drop-drop zero k xs = let e : k ≡ zero + k = omega arith in ap (λ i. drop i x
 drop-drop (suc n) k [] = drop_nothing k ∙ sym (drop_nothing (suc n + k))
 drop-drop (suc n) k (x ∷ xs) = let e : suc (n + k) ≡ suc n + k = omega arith in drop-drop n k xs ∙ ap (λ i. drop i (x ∷ xs)) e
 
+-- a list is its first n, the k behind them, and the rest
+module _ (es : List Entry) (n m k : ℕ) (sum : n + k ≡ m) where
+  pub three_parts : take n es ++ (take k (drop n es) ++ drop m es) ≡ es
+  three_parts =
+      let behind : take k (drop n es) ++ drop m es ≡ drop n es = ap (λ ys. take k (drop n es) ++ ys) (ap (λ i. drop i es) (sym sum) ∙ sym (drop-drop n k es)) ∙ take-append-drop k (drop n es) in
+      ap (λ ys. take n es ++ ys) behind ∙ take-append-drop n es
+
+  pub middle_part : drop n (take m es) ≡ take k (drop n es)
+  middle_part = ap (λ i. drop n (take i es)) (sym sum) ∙ drop-take n k es
+
 module _ (key_cols sid : ℕ) (change : Change) (cmp : Change → Ordering) (same : (c : Change) → cmp c ≡ change_cmp key_cols change c) where
   abbrev put : Entry
   put = entry_at sid change
@@ -346,16 +356,13 @@ module _ (key_cols sid : ℕ) where
       let xs = take n es in
       let ms = take k (drop n es) in
       let zs = drop m es in
-      let rest : ms ++ zs ≡ drop n es = ap (λ ys. ms ++ ys) (ap (λ i. drop i es) (sym sum) ∙ sym (drop-drop n k es)) ∙ take-append-drop k (drop n es) in
-      let whole : xs ++ (ms ++ zs) ≡ es = ap (λ ys. xs ++ ys) rest ∙ take-append-drop n es in
-      let is_ms : drop n (take m es) ≡ ms = ap (λ i. drop n (take i es)) (sym sum) ∙ drop-take n k es in
-      let past : T (list_all (stands_before past_cmp sid) ms) = subst (λ ys. T (list_all (stands_before past_cmp sid) ys)) is_ms (all_drop (stands_before past_cmp sid) n (take m es) g.before) in
+      let past : T (list_all (stands_before past_cmp sid) ms) = subst (λ ys. T (list_all (stands_before past_cmp sid) ys)) (middle_part es n m k sum) (all_drop (stands_before past_cmp sid) n (take m es) g.before) in
       let not_before : T (list_all (λ e. not (stands_before base_cmp sid e)) ms) = all_take (λ e. not (stands_before base_cmp sid e)) k (drop n es) h.after in
       let no_delete : T (list_all (λ e. not ((e.sid == sid) && is_delete e.change)) ms) = all_take (λ e. not ((e.sid == sid) && is_delete e.change)) k (drop n es) (all_drop (λ e. not ((e.sid == sid) && is_delete e.change)) n es (not_deleted es free)) in
       let keeps_xs = filter_all kept xs (all_from (stands_before base_cmp sid) kept kept_before xs h.before) in
       let keeps_zs = filter_all kept zs (all_from (λ e. not (stands_before past_cmp sid e)) kept kept_past zs g.after) in
       let drops_ms = filter_none kept ms (none_kept ms past not_before no_delete) in
-      ap (filter kept) (sym whole) ∙ filter-append kept xs (ms ++ zs) ∙ (λ i. keeps_xs i ++ filter-append kept ms zs i) ∙ (λ i. xs ++ (drops_ms i ++ keeps_zs i))
+      ap (filter kept) (sym (three_parts es n m k sum)) ∙ filter-append kept xs (ms ++ zs) ∙ (λ i. keeps_xs i ++ filter-append kept ms zs i) ∙ (λ i. xs ++ (drops_ms i ++ keeps_zs i))
     where
       none_kept : (ys : List Entry) → T (list_all (stands_before past_cmp sid) ys) → T (list_all (λ e. not (stands_before base_cmp sid e)) ys) → T (list_all (λ e. not ((e.sid == sid) && is_delete e.change)) ys) → T (list_all (λ e. not (kept e)) ys)
       none_kept [] p b d = tt

@@ -4,12 +4,12 @@ use Rattle.std.specs.Prelude.{◌==◌, nat_lt}
 use Rattle.std.specs.Ordering.{ordering_then}
 use Rattle.std.specs.List.{list_all}
 use Rattle.std.proofs.lemmas.Bool.Decides.{nat_tests}
-use Rattle.std.proofs.lemmas.List.{get_or-take, drop-take}
+use Rattle.std.proofs.lemmas.List.{get_or-take}
 use Rattle.std.proofs.lemmas.Bool.{cases_lt}
 use Rattle.model.specs.declared.entry.Entry.{Entry}
 use Rattle.model.proofs.MapsLemmas.{first, second}
 use Rattle.delta.specs.Search.{first_cmp, past_cmp, stands_before, IsSplit}
-use Rattle.delta.proofs.ChangesLemmas.{nothing, all_from, all_take, all_drop, all_both, filter_all, filter_none, filter-append, drop-drop}
+use Rattle.delta.proofs.ChangesLemmas.{nothing, all_from, all_take, all_drop, all_both, filter_all, filter_none, filter-append, three_parts, middle_part}
 use Rattle.delta.proofs.SearchLemmas.{at_index}
 
 twice : (b : Bool) → T (not (not b)) → T b
@@ -76,17 +76,14 @@ module _ (sid : ℕ) where
       let xs = take n es in
       let ms = take k (drop n es) in
       let zs = drop m es in
-      let rest : ms ++ zs ≡ drop n es = ap (λ ys. ms ++ ys) (ap (λ i. drop i es) (sym sum) ∙ sym (drop-drop n k es)) ∙ take-append-drop k (drop n es) in
-      let whole : xs ++ (ms ++ zs) ≡ es = ap (λ ys. xs ++ ys) rest ∙ take-append-drop n es in
-      let is_ms : drop n (take m es) ≡ ms = ap (λ i. drop n (take i es)) (sym sum) ∙ drop-take n k es in
-      let not_past_all : T (list_all (stands_before past_cmp sid) ms) = subst (λ ys. T (list_all (stands_before past_cmp sid) ys)) is_ms (all_drop (stands_before past_cmp sid) n (take m es) g.before) in
+      let not_past_all : T (list_all (stands_before past_cmp sid) ms) = subst (λ ys. T (list_all (stands_before past_cmp sid) ys)) (middle_part es n m k sum) (all_drop (stands_before past_cmp sid) n (take m es) g.before) in
       let not_below_all : T (list_all (λ e. not (stands_before first_cmp sid e)) ms) = all_take (λ e. not (stands_before first_cmp sid e)) k (drop n es) h.after in
       let drops_xs = filter_none here xs (all_from (stands_before first_cmp sid) (λ e. not (here e)) (λ x t. not_here x.sid (subst T (before_is x.sid) t)) xs h.before) in
       let drops_zs = filter_none here zs (all_from (λ e. not (stands_before past_cmp sid e)) (λ e. not (here e)) (λ x t. not_past x.sid (twice _ (subst (λ b. T (not b)) (past_is x.sid) t))) zs g.after) in
       let both_tests = all_both (stands_before past_cmp sid) (λ e. not (stands_before first_cmp sid e)) ms not_past_all not_below_all in
       let keeps_ms = filter_all here ms (all_from (λ e. stands_before past_cmp sid e && not (stands_before first_cmp sid e)) here
       (λ x t. is_here x.sid (subst (λ b. T (not b)) (before_is x.sid) (second (stands_before past_cmp sid x) _ t)) (subst T (past_is x.sid) (first (stands_before past_cmp sid x) _ t))) ms both_tests) in
-      sym (ap (filter here) (sym whole)
+      sym (ap (filter here) (sym (three_parts es n m k sum))
       ∙ filter-append here xs (ms ++ zs)
       ∙ (λ i. drops_xs i ++ filter-append here ms zs i)
       ∙ (λ i. keeps_ms i ++ drops_zs i)

@@ -225,4 +225,4 @@ module _ (key_cols : ℕ) where
       let kept : length (deleted_keys (changes_at sid entries)) ≡ 0 = omega arith in
       merged_rows-base entries single base sid (slice_get_within base sid row row_is) kept
       ∙ ap (λ o. row_left o (changes_at sid entries)) row_is
-      ∙ ap (λ rows. slice_get rows 0) left
+      ∙ ap (λ found. slice_get found 0) left
