@@ -1,6 +1,7 @@
 -- How a change moves the numbers of inserts and deletes.
 use Rattle.std.proofs.Common.{◌≡◌, ℕ, suc, ◌+◌, ◌<◌, Bool, true, false, cond, not, ◌&&◌, T, List, [], ◌∷◌, ◌++◌, filter, length, take, drop, set, get_or, remove, refl, sym, ap, ◌∙◌, arith, take-append-drop, drop-cons}
 use Rattle.std.specs.Prelude.{◌==◌}
+use Rattle.std.proofs.lemmas.List.{drop-drop}
 use Rattle.values.specs.declared.row.Key.{Key}
 use Rattle.values.specs.declared.value.Value.{Value}
 use Rattle.model.specs.declared.entry.Entry.{Entry}
@@ -12,7 +13,7 @@ use Rattle.model.specs.Places.{insert_count, delete_count}
 use Rattle.delta.specs.Lookups.{is_insert_at}
 use Rattle.delta.specs.Changes.{modifies_column, modify_count, with_run}
 use Rattle.delta.proofs.CountLemmas.{insert_worth, delete_worth, insert_count-cons, delete_count-cons, insert_count-append, delete_count-append}
-use Rattle.delta.proofs.ChangesLemmas.{drop-drop, is_kept, nothing, set-split}
+use Rattle.delta.proofs.ChangesLemmas.{is_kept, nothing, set-split}
 
 -- a count of entries: of the inserts, or of the deletes
 pub record IsCount (count : List Entry → ℕ) (worth : Change → ℕ) : Type 0 where
@@ -92,7 +93,7 @@ module _ (count : List Entry → ℕ) (worth : Change → ℕ) (is : IsCount cou
 
   pub count-modify : (es : List Entry) (n sid col : ℕ) (value : Value) → count (with_run es n (n + modify_count sid col (drop n es)) (entry_at sid (Mod col value))) ≡ count es
   count-modify es n sid col value =
-      let rest = ap count (sym (drop-drop n (modify_count sid col (drop n es)) es)) ∙ modify_gone sid col (drop n es) in
+      let rest = ap count (sym (drop-drop (modify_count sid col (drop n es)) n es)) ∙ modify_gone sid col (drop n es) in
       let whole = at es n in
       omega (arith, is.modify col value, count-with_run es n (n + modify_count sid col (drop n es)) (entry_at sid (Mod col value)))
 

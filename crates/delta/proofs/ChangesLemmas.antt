@@ -7,7 +7,8 @@ use Rattle.std.specs.Cmp.{ranked, tied_itself, nat_cmp_total}
 use Rattle.std.specs.List.{list_all, list_any}
 use Rattle.std.proofs.lemmas.Bool.{cases_lt, eqb-true}
 use Rattle.std.proofs.lemmas.Bool.Decides.{nat_tests}
-use Rattle.std.proofs.lemmas.List.{get_or-take, drop-take, drop_all}
+use Rattle.std.proofs.lemmas.List.{get_or-take, drop-drop, drop-take, drop_all}
+use Rattle.std.proofs.lemmas.List.Elements.{filter-append}
 use Rattle.values.specs.Orders.{key_cmp, key_cmp_total, key_cmp-IsAntisymmetric}
 use Rattle.values.specs.Shape.{key_of}
 use Rattle.values.specs.declared.row.Row.{Row}
@@ -71,30 +72,13 @@ filter_none p (x ∷ xs) h =
       | false ↦ λ g. filter_none p xs (second true (list_all (λ y. not (p y)) xs) g)
     ] h
 
-pub filter-append : {A : Type 0} (p : A → Bool) (xs ys : List A) → filter p (xs ++ ys) ≡ filter p xs ++ filter p ys
-filter-append p [] ys = refl
-filter-append p (x ∷ xs) ys =
-    elim (p x) as (λ b. cond b (x ∷ filter p (xs ++ ys)) (filter p (xs ++ ys)) ≡ cond b (x ∷ filter p xs) (filter p xs) ++ filter p ys) [
-      | true ↦ ap (λ zs. x ∷ zs) (filter-append p xs ys)
-      | false ↦ filter-append p xs ys
-    ]
-
 -- ---- an entry put in at its place
-
-drop_nothing : (i : ℕ) → drop {A = Entry} i [] ≡ []
-drop_nothing zero = refl
-drop_nothing (suc i) = refl
-
-pub drop-drop : (n k : ℕ) (xs : List Entry) → drop k (drop n xs) ≡ drop (n + k) xs
-drop-drop zero k xs = let e : k ≡ zero + k = omega arith in ap (λ i. drop i xs) e
-drop-drop (suc n) k [] = drop_nothing k ∙ sym (drop_nothing (suc n + k))
-drop-drop (suc n) k (x ∷ xs) = let e : suc (n + k) ≡ suc n + k = omega arith in drop-drop n k xs ∙ ap (λ i. drop i (x ∷ xs)) e
 
 -- a list is its first n, the k behind them, and the rest
 module _ (es : List Entry) (n m k : ℕ) (sum : n + k ≡ m) where
   pub three_parts : take n es ++ (take k (drop n es) ++ drop m es) ≡ es
   three_parts =
-      let behind : take k (drop n es) ++ drop m es ≡ drop n es = ap (λ ys. take k (drop n es) ++ ys) (ap (λ i. drop i es) (sym sum) ∙ sym (drop-drop n k es)) ∙ take-append-drop k (drop n es) in
+      let behind : take k (drop n es) ++ drop m es ≡ drop n es = ap (λ ys. take k (drop n es) ++ ys) (ap (λ i. drop i es) (sym sum) ∙ sym (drop-drop k n es)) ∙ take-append-drop k (drop n es) in
       ap (λ ys. take n es ++ ys) behind ∙ take-append-drop n es
 
   pub middle_part : drop n (take m es) ≡ take k (drop n es)
@@ -132,7 +116,7 @@ module _ (key_cols sid : ℕ) (change : Change) (cmp : Change → Ordering) (sam
   put_entry-split es n h =
       ap (put_entry key_cols put) (sym (take-append-drop n es))
       ∙ put_entry-past (take n es) (drop n es) h.before
-      ∙ ap (λ zs. take n es ++ zs) (put_entry-before (drop n es) h.after ∙ ap (λ zs. put ∷ zs) (drop-drop n (tie_count (drop n es)) es))
+      ∙ ap (λ zs. take n es ++ zs) (put_entry-before (drop n es) h.after ∙ ap (λ zs. put ∷ zs) (drop-drop (tie_count (drop n es)) n es))
 
 abbrev pub nothing : Entry
 nothing = entry_at 0 (Del [])

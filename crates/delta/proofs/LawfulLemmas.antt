@@ -2,7 +2,7 @@
 use Rattle.std.proofs.Common.{is_lt, take-append-drop, ◌≡◌, ℕ, suc, ◌+◌, ◌<◌, ◌≤◌, ◌^◌, not, ◌&&◌, T, is_some, List, ◌∷◌, length, take, drop, set, get_or, remove, sym, subst, arith, length-append, length-take, length-drop}
 use Rattle.std.specs.Prelude.{◌==◌, false}
 use Rattle.std.proofs.lemmas.Float.{T_from_true}
-use Rattle.std.proofs.lemmas.List.{length-set}
+use Rattle.std.proofs.lemmas.List.{length-set, drop-drop}
 use Rattle.std.specs.List.{list_all, All}
 use Rattle.std.proofs.lemmas.List.Elements.{All-append, All-cons, All-take, All-drop, All-set}
 use Rattle.values.specs.Shape.{key_of}
@@ -17,7 +17,7 @@ use Rattle.delta.specs.Search.{insert_cmp, base_cmp, modify_cmp, past_cmp, stand
 use Rattle.delta.specs.Lookups.{has_delete, inserted_row, is_insert_at}
 use Rattle.delta.specs.Changes.{modify_count, with_run}
 use Rattle.delta.proofs.SearchLemmas.{is_true}
-use Rattle.delta.proofs.ChangesLemmas.{all_drop, not_inserted, not_deleted, insert_cmp-same, base_cmp-same, modify_cmp-same, base-le-past, put_ins-split, put_del-split, put_mod-split, HasInsert, nothing, drop-drop}
+use Rattle.delta.proofs.ChangesLemmas.{all_drop, not_inserted, not_deleted, insert_cmp-same, base_cmp-same, modify_cmp-same, base-le-past, put_ins-split, put_del-split, put_mod-split, HasInsert, nothing}
 use Rattle.delta.proofs.OrderLemmas.{ordered_right, ordered-with_run, ordered-remove, ordered-changed, all_stand_after, insert_before, delete_before, modify_before}
 
 module _ (key_cols : ℕ) where
@@ -71,7 +71,7 @@ module _ (key_cols : ℕ) where
       lawful_run es (put_mod key_cols sid col value es) n (n + k) e (put_mod-split key_cols sid col value es n split free) le h lt room
       (ordered-with_run key_cols es n (n + k) e le (T_from_true _ h.ordered)
       (all_stand_after key_cols sid (Mod col value) (modify_cmp col) (modify_cmp-same key_cols sid col value) (take n es) split.before)
-      (subst (λ ys. T (list_all (λ y. is_lt (entry_cmp key_cols e y)) ys)) (drop-drop n k es) after))
+      (subst (λ ys. T (list_all (λ y. is_lt (entry_cmp key_cols e y)) ys)) (drop-drop k n es) after))
 
   pub IsLawful-take_ins : (sid : ℕ) (key : Key) (es : List Entry) (n : ℕ) → IsLawful key_cols es → HasInsert key_cols sid key es n → IsLawful key_cols (take_ins key_cols sid key es)
   IsLawful-take_ins sid key es n h found =

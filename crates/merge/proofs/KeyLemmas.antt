@@ -27,7 +27,8 @@ use Rattle.delta.specs.Lookups.{has_delete, inserted_row}
 use Rattle.delta.specs.Laws.{row_inserted, deletes_row}
 use Rattle.delta.specs.Tree.{Tree}
 use Rattle.delta.proofs.CountLemmas.{insert_count-append, delete_count-append}
-use Rattle.delta.proofs.ChangesLemmas.{filter_all, filter_none, filter-append}
+use Rattle.std.proofs.lemmas.List.Elements.{filter-append}
+use Rattle.delta.proofs.ChangesLemmas.{filter_all, filter_none}
 use Rattle.delta.proofs.LawsLemmas.{finds_effect}
 use Rattle.merge.specs.Image.{IsLayer}
 
