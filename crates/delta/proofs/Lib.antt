@@ -9,3 +9,5 @@ pub mod RangesLemmas
 pub mod PositionsLemmas
 pub mod CallerLemmas
 pub mod LawsLemmas
+pub mod CountedLemmas
+pub mod SpotLemmas

@@ -1,13 +1,13 @@
 //! The changes of a tree: an insert, a delete or a modify that comes, changes or goes.
-ghost use Rattle.std.specs.Prelude.{◌≡◌, ◌<◌, ◌≤◌, ◌^◌, IsFalse, IsNone, IsSome, IsSomeAnd, OnOk, OnErr, drop, length, vec_len};
+ghost use Rattle.std.specs.Prelude.{◌≡◌, cond, ◌<◌, ◌≤◌, ◌^◌, IsFalse, IsNone, IsSome, IsSomeAnd, OnOk, OnErr, IfOk, drop, length};
 ghost use Rattle.values.specs.Shape.{key_of};
 ghost use Rattle.model.specs.Entries.{entry_at};
 ghost use Rattle.model.specs.Edits.{change_with_cell, put_ins, put_del, put_mod, take_ins, set_ins};
 ghost use Rattle.delta.specs.Lookups.{has_delete, inserted_row};
-ghost use Rattle.delta.specs.Changes.{is_modify_at, modify_count, has_cell, with_run};
+ghost use Rattle.delta.specs.Changes.{is_modify_at, modify_count, has_cell};
 
 use crate::sorted::key_of;
-use crate::tree::DeltaTree;
+use crate::tree::{DeltaTree, copy_entry};
 use model::{Change, Entry};
 use values::{Key, NoMemory, Row, Value};
 
@@ -26,8 +26,8 @@ impl DeltaTree {
     {
         let place = self.place_of_insert(sid, key_of(self.key_cols, &row));
         let change = Change::Ins(row);
-        replace_run(&mut self.entries, place, place, Entry { sid, change })?;
-        self.inserts += 1;
+        self.tree
+            .replace_run(self.alloc, place, place, Entry { sid, change })?;
         Ok(())
     }
 
@@ -46,8 +46,8 @@ impl DeltaTree {
         let place = self.base_place(sid);
         let end = self.place_past(sid);
         let change = Change::Del(key);
-        replace_run(&mut self.entries, place, end, Entry { sid, change })?;
-        self.deletes += 1;
+        self.tree
+            .replace_run(self.alloc, place, end, Entry { sid, change })?;
         Ok(())
     }
 
@@ -66,7 +66,8 @@ impl DeltaTree {
         let place = self.place_of_modify(sid, col);
         let end = place + self.modifies_at(place, sid, col);
         let change = Change::Mod(col, value);
-        replace_run(&mut self.entries, place, end, Entry { sid, change })?;
+        self.tree
+            .replace_run(self.alloc, place, end, Entry { sid, change })?;
         Ok(())
     }
 
@@ -81,8 +82,7 @@ impl DeltaTree {
         ensures err { OnErr result (self.new ≡ self.old) }
     {
         let place = self.place_of_insert(sid, key.cells());
-        drop(self.entries.remove(place));
-        self.inserts -= 1;
+        self.tree.remove(self.alloc, place)?;
         Ok(())
     }
 
@@ -98,7 +98,8 @@ impl DeltaTree {
         ensures err { OnErr result (self.new ≡ self.old) }
     {
         let place = self.place_of_insert(sid, key.cells());
-        set_cell(&mut self.entries[place], col, value);
+        let entry = with_cell(self.tree.get(place), col, value)?;
+        self.tree.replace_run(self.alloc, place, place + 1, entry)?;
         Ok(())
     }
 
@@ -106,21 +107,31 @@ impl DeltaTree {
     fn modifies_at(&self, place: usize, sid: u64, col: usize) -> usize
         ensures { result ≡ modify_count sid col (drop place self.now.entries) }
     {
-        match self.entries.get(place) {
-            Some(entry) if is_modify_at(entry, sid, col) => 1,
-            _ => 0,
+        match self.tree.entry(place) {
+            Some(entry) => modify_worth(entry, sid, col),
+            None => 0,
         }
     }
 }
 
-/// Whether the entry is a modify of the column at the SID.
-fn is_modify_at(entry: &Entry, sid: u64, col: usize) -> bool
-    ensures { result ≡ is_modify_at sid col entry.now }
+/// One for a modify of the column at the SID, and none for another entry.
+fn modify_worth(entry: &Entry, sid: u64, col: usize) -> usize
+    ensures { result ≡ cond (is_modify_at sid col entry.now) 1 0 }
 {
     match &entry.change {
-        Change::Mod(other, _) => entry.sid == sid && *other == col,
-        _ => false,
+        Change::Mod(other, _) if entry.sid == sid && *other == col => 1,
+        _ => 0,
     }
+}
+
+/// The entry with another value in a cell of the row that it inserts.
+fn with_cell(entry: &Entry, col: usize, value: Value) -> Result<Entry, NoMemory>
+    requires { has_cell col entry.now.change }
+    ensures { IfOk result (λ e. e ≡ entry_at entry.now.sid (change_with_cell col value entry.now.change)) }
+{
+    let mut changed = copy_entry(entry)?;
+    set_cell(&mut changed, col, value);
+    Ok(changed)
 }
 
 /// Puts another value into a cell of the row that the entry inserts.
@@ -131,26 +142,4 @@ fn set_cell(entry: &mut Entry, col: usize, value: Value)
     if let Change::Ins(row) = &mut entry.change {
         row.set(col, value);
     }
-}
-
-/// Puts the entry in the place of those from `start` up to `end`. Where there are some, their room serves, and nothing
-/// is refused.
-fn replace_run(
-    entries: &mut Vec<Entry>,
-    start: usize,
-    end: usize,
-    entry: Entry,
-) -> Result<(), NoMemory>
-    requires start_le_end { start ≤ end }
-    requires within { end ≤ vec_len entries.old }
-    ensures ok { OnOk result (entries.new.items ≡ with_run entries.old.items start end entry) }
-    ensures err { OnErr result (entries.new.items ≡ entries.old.items) }
-{
-    if start < end {
-        entries[start] = entry;
-        drop(entries.drain(start + 1..end));
-    } else {
-        entries.insert(start, entry)?;
-    }
-    Ok(())
 }

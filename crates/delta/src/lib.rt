@@ -6,7 +6,6 @@
 #![tactic(auto)]
 
 mod changes;
-mod counts;
 mod entries;
 mod laws;
 mod lookup;
@@ -16,7 +15,7 @@ mod sorted;
 mod tests;
 mod tree;
 
-pub use entries::Iter;
+pub use counted::Iter;
 pub use laws::{a_write_is_one_call, canonical_look_ups, inserts_ascend_at_a_sid};
 pub use model::{Change, Entry};
 pub use places::{KeyPlace, Place};

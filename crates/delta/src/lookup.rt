@@ -23,7 +23,7 @@ impl DeltaTree {
         requires { IsSplit (stands_before (insert_cmp self.now.key_cols key.now) sid) self.now.entries place }
         ensures { option_copied result ≡ inserted_row self.now.key_cols sid key.now self.now.entries }
     {
-        let entry = self.entries.get(place)?;
+        let entry = self.tree.entry(place)?;
         inserted_at(self.key_cols, entry, sid, key)
     }
 
@@ -31,7 +31,7 @@ impl DeltaTree {
     pub fn has_delete(&self, sid: u64) -> bool
         ensures { result ≡ has_delete sid self.now.entries }
     {
-        match self.entries.get(self.base_place(sid)) {
+        match self.tree.entry(self.base_place(sid)) {
             Some(entry) => is_delete_at(entry, sid),
             None => false,
         }

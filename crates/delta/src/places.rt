@@ -1,14 +1,11 @@
 //! Positions in the image above: how far the entries move what stands at a SID, and what stands at a position.
-ghost use Rattle.std.specs.Prelude.{◌≡◌, ◌<◌, ◌≤◌, ◌^◌, is_some, length, take};
-ghost use Rattle.std.specs.List.{All};
+ghost use Rattle.std.specs.Prelude.{◌≡◌, ◌<◌, ◌^◌, ◌+ℤ◌, ◌≤ℤ◌, pos, is_some, take};
 ghost use Rattle.model.specs.Places.{rid_of_insert};
 ghost use Rattle.delta.specs.Lookups.{inserted_row};
-ghost use Rattle.delta.specs.Positions.{shift_before, IsAtRid, place_from};
+ghost use Rattle.delta.specs.Positions.{shift_before, IsAtRid};
 ghost use Rattle.delta.specs.Search.{insert_cmp, stands_before, IsSplit};
 
-use crate::counts::count_changes;
 use crate::tree::DeltaTree;
-use model::{Change, Entry};
 use values::Value;
 
 /// Where the row at a position of the image comes from.
@@ -37,8 +34,7 @@ impl DeltaTree {
     pub fn shift_before(&self, sid: u64) -> i64
         ensures { result ≡ shift_before sid self.now.entries }
     {
-        let counts = count_changes(&self.entries[..self.place_of_sid(sid)]);
-        counts.inserts as i64 - counts.deletes as i64
+        self.tree.shift(sid)
     }
 
     /// Where the row at a position of the image comes from; the base is thought to go on without end. Goes over the
@@ -50,7 +46,12 @@ impl DeltaTree {
         // No other place has the position.
         ensures only { (place : Place) → IsAtRid self.now.entries rid place → place ≡ result }
     {
-        place_of_rid(self.entries.as_slice(), rid)
+        let spot = self.tree.spot(rid);
+        if spot.inserted {
+            Place::Inserted(spot.place)
+        } else {
+            Place::Base(moved(rid, -spot.shift))
+        }
     }
 
     /// Where the insert of a key stands at a SID, or would stand, and the position of its row. Finds the place by binary
@@ -62,36 +63,26 @@ impl DeltaTree {
         ensures found { result.found ≡ is_some (inserted_row self.now.key_cols sid key.now self.now.entries) }
     {
         let place = self.place_of_insert(sid, key);
-        let counts = count_changes(&self.entries[..place]);
+        let shift = self.tree.total_before(place);
         KeyPlace {
             place,
-            rid: sid + counts.inserts - counts.deletes,
+            rid: moved(sid, shift),
             found: self.insert_at_place(place, sid, key).is_some(),
         }
     }
 }
 
-/// The place at the position, by a walk over the entries.
-fn place_of_rid(entries: &[Entry], rid: u64) -> Place
-    requires rid { rid < 2 ^ 63 }
-    requires placed { All (λ e. e.sid < 2 ^ 32) entries.now }
-    requires counted { length entries.now ≤ 2 ^ 40 }
-    ensures { result ≡ place_from rid 0 0 0 entries.now }
+/// A position, moved up by so much, or down.
+fn moved(position: u64, by: i64) -> u64
+    requires small { position < 2 ^ 63 }
+    requires above { by ≤ℤ pos (2 ^ 61) }
+    requires below { pos 0 ≤ℤ (by +ℤ pos (2 ^ 61)) }
+    requires within { pos 0 ≤ℤ (pos position +ℤ by) }
+    ensures { pos result ≡ pos position +ℤ by }
 {
-    let mut inserts = 0;
-    let mut deletes = 0;
-    for (place, entry) in entries.iter().enumerate() {
-        let row = rid + deletes;
-        let next = entry.sid + inserts;
-        if row < next {
-            return Place::Base(row - inserts);
-        }
-        match &entry.change {
-            Change::Ins(_) if row == next => return Place::Inserted(place),
-            Change::Ins(_) => inserts += 1,
-            Change::Del(_) => deletes += 1,
-            Change::Mod(_, _) => {}
-        }
+    if by < 0 {
+        position - (-by) as u64
+    } else {
+        position + by as u64
     }
-    Place::Base(rid + deletes - inserts)
 }

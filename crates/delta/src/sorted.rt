@@ -4,30 +4,92 @@ ghost use Rattle.values.specs.Shape.{key_of};
 ghost use Rattle.delta.specs.Search.{first_cmp, insert_cmp, base_cmp, modify_cmp, past_cmp, stands_before, IsSplit};
 
 use crate::tree::DeltaTree;
+use counted::Probe;
 use model::Change;
 use std::cmp::Ordering;
 use values::{Row, Value};
+
+/// What stands before all at a SID.
+struct First;
+
+/// An insert of a key.
+#[derive(Drop)]
+struct InsertOf<'a> {
+    key_cols: usize,
+    key: &'a [Value],
+}
+
+/// What becomes of the base row.
+struct BaseRow;
+
+/// A modify of a column.
+#[derive(Drop)]
+struct ModifyOf {
+    col: usize,
+}
+
+/// What stands past all at a SID.
+struct Past;
+
+impl Probe for First {
+    ghost stand = { λ p. first_cmp };
+
+    fn compare(&self, _change: &Change) -> Ordering {
+        Ordering::Less
+    }
+}
+
+impl<'a> Probe for InsertOf<'a> {
+    ghost stand = { λ p. insert_cmp p.key_cols p.key.now };
+
+    fn compare(&self, change: &Change) -> Ordering {
+        compare_insert(self.key_cols, self.key, change)
+    }
+}
+
+impl Probe for BaseRow {
+    ghost stand = { λ p. base_cmp };
+
+    fn compare(&self, change: &Change) -> Ordering {
+        compare_base(change)
+    }
+}
+
+impl Probe for ModifyOf {
+    ghost stand = { λ p. modify_cmp p.col };
+
+    fn compare(&self, change: &Change) -> Ordering {
+        compare_modify(self.col, change)
+    }
+}
+
+impl Probe for Past {
+    ghost stand = { λ p. past_cmp };
+
+    fn compare(&self, _change: &Change) -> Ordering {
+        Ordering::Greater
+    }
+}
 
 impl DeltaTree {
     /// How many entries stand at SIDs below this one.
     pub(crate) fn place_of_sid(&self, sid: u64) -> usize
         ensures { IsSplit (stands_before first_cmp sid) self.now.entries result }
     {
-        self.entries
-            .as_slice()
-            .partition_point(|entry| sid.cmp(&entry.sid).then(Ordering::Less).is_gt())
+        self.tree.place_of(sid, &First)
     }
 
     /// How many entries stand before the inserts of this key, or a greater one, at the SID.
     pub(crate) fn place_of_insert(&self, sid: u64, key: &[Value]) -> usize
         ensures { IsSplit (stands_before (insert_cmp self.now.key_cols key.now) sid) self.now.entries result }
     {
-        let key_cols = self.key_cols;
-        self.entries.as_slice().partition_point(|entry| {
-            sid.cmp(&entry.sid)
-                .then(compare_insert(key_cols, key, &entry.change))
-                .is_gt()
-        })
+        self.tree.place_of(
+            sid,
+            &InsertOf {
+                key_cols: self.key_cols,
+                key,
+            },
+        )
     }
 
     /// How many entries stand before what becomes of the base row at the SID: before its delete or its modifies, and past
@@ -35,32 +97,21 @@ impl DeltaTree {
     pub fn base_place(&self, sid: u64) -> usize
         ensures { IsSplit (stands_before base_cmp sid) self.now.entries result }
     {
-        self.entries.as_slice().partition_point(|entry| {
-            sid.cmp(&entry.sid)
-                .then(compare_base(&entry.change))
-                .is_gt()
-        })
+        self.tree.place_of(sid, &BaseRow)
     }
 
     /// How many entries stand at SIDs up to this one.
     pub(crate) fn place_past(&self, sid: u64) -> usize
         ensures { IsSplit (stands_before past_cmp sid) self.now.entries result }
     {
-        self.entries.as_slice().partition_point(|entry| sid
-            .cmp(&entry.sid)
-            .then(Ordering::Greater)
-            .is_gt())
+        self.tree.place_of(sid, &Past)
     }
 
     /// How many entries stand before the modifies of this column, or a greater one, at the SID.
     pub(crate) fn place_of_modify(&self, sid: u64, col: usize) -> usize
         ensures { IsSplit (stands_before (modify_cmp col) sid) self.now.entries result }
     {
-        self.entries.as_slice().partition_point(|entry| {
-            sid.cmp(&entry.sid)
-                .then(compare_modify(col, &entry.change))
-                .is_gt()
-        })
+        self.tree.place_of(sid, &ModifyOf { col })
     }
 }
 

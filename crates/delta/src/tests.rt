@@ -11,7 +11,7 @@ ghost use Rattle.delta.specs.Lookups.{inserted_row};
 mod places;
 
 use super::*;
-use crate::tree::copy_entries;
+use crate::tree::copy_entry;
 use std::alloc::Global;
 use std::process::Abort;
 use std::test::Fail;

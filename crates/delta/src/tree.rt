@@ -1,8 +1,8 @@
-//! The tree: a sorted vector of entries.
+//! The tree: a counted tree of shared entries.
 ghost use Rattle.std.specs.Prelude.{◌≡◌, ◌↔◌, IfOk, IsTrue, length, []};
 ghost use Rattle.delta.specs.Lookups.{total_of};
 
-use crate::counts::count_changes;
+use counted::CountedTree;
 use model::{Change, Entry};
 use std::alloc::Global;
 use std::marker::Model;
@@ -14,24 +14,20 @@ pub struct DeltaTree {
     /// How many of a row's first cells are its key.
     pub(crate) key_cols: usize,
     /// Lawful: in order, at SIDs below 2^32, and at most 2^40 of them.
-    pub(crate) entries: Vec<Entry>,
-    /// How many of the entries are inserts.
-    pub(crate) inserts: u64,
-    /// How many of the entries are deletes.
-    pub(crate) deletes: u64,
+    pub(crate) tree: CountedTree,
+    /// Where its nodes are made.
+    pub(crate) alloc: Global,
 }
 
 impl Model for DeltaTree {
-    ghost use Rattle.std.specs.Prelude.{◌≡◌};
     ghost use Rattle.model.specs.Entries.{IsLawful};
-    ghost use Rattle.model.specs.Places.{insert_count, delete_count};
     ghost use Rattle.delta.specs.Tree.{Tree};
 
     ghost Value = { Tree };
 
-    ghost view = { λ t. record { key_cols = t.key_cols; entries = t.entries.items } };
+    ghost view = { λ t. record { key_cols = t.key_cols; entries = t.tree.entries } };
 
-    ghost invariant = { λ t. IsLawful t.key_cols t.entries.items × (t.inserts ≡ insert_count t.entries.items) × (t.deletes ≡ delete_count t.entries.items) };
+    ghost invariant = { λ t. IsLawful t.key_cols t.tree.entries };
 }
 
 impl DeltaTree {
@@ -43,18 +39,16 @@ impl DeltaTree {
     {
         DeltaTree {
             key_cols,
-            entries: Vec::new(alloc),
-            inserts: 0,
-            deletes: 0,
+            tree: CountedTree::new(),
+            alloc,
         }
     }
 
-    /// A tree of these entries, over rows whose key is their first `key_cols` cells. The vector becomes the tree's own, and
-    /// its inserts and deletes are counted in one pass.
+    /// A tree of these entries, over rows whose key is their first `key_cols` cells.
     ///
     /// # Errors
     ///
-    /// None today; a tree that has nodes makes them from the allocator, and a growth may be refused.
+    /// `NoMemory` where a growth is refused.
     pub fn from_sorted(
         alloc: Global,
         key_cols: usize,
@@ -63,16 +57,15 @@ impl DeltaTree {
         requires { IsLawful key_cols entries.items }
         ensures { IfOk result (λ tree. tree ≡ record { key_cols = key_cols; entries = entries.items }) }
     {
-        let counts = count_changes(entries.as_slice());
+        let tree = CountedTree::from_sorted(alloc, entries)?;
         Ok(DeltaTree {
-            entries,
-            inserts: counts.inserts,
-            deletes: counts.deletes,
-            ..DeltaTree::new(alloc, key_cols)
+            key_cols,
+            tree,
+            alloc,
         })
     }
 
-    /// Another tree of the same entries, with copies of their rows, keys and values.
+    /// Another tree of the same entries, which shares its nodes with this one.
     ///
     /// # Errors
     ///
@@ -82,9 +75,8 @@ impl DeltaTree {
     {
         Ok(DeltaTree {
             key_cols: self.key_cols,
-            entries: copy_entries(&self.entries)?,
-            inserts: self.inserts,
-            deletes: self.deletes,
+            tree: self.tree.copy()?,
+            alloc: self.alloc,
         })
     }
 
@@ -92,14 +84,14 @@ impl DeltaTree {
     pub fn len(&self) -> usize
         ensures { result ≡ length self.now.entries }
     {
-        self.entries.len()
+        self.tree.len()
     }
 
     /// Whether the tree has no entries.
     pub fn is_empty(&self) -> bool
         ensures { IsTrue result ↔ (self.now.entries ≡ []) }
     {
-        self.entries.is_empty()
+        self.tree.len() == 0
     }
 
     /// The inserts less the deletes: how many rows the image above has more than that below.
@@ -107,23 +99,12 @@ impl DeltaTree {
         ensures total { result ≡ total_of self.now.entries }
         ensures lawful { IsLawful self.now.key_cols self.now.entries }
     {
-        self.inserts as i64 - self.deletes as i64
+        self.tree.total()
     }
-}
-
-/// The entries, copied. Their places are made before the first is.
-pub(crate) fn copy_entries(entries: &Vec<Entry>) -> Result<Vec<Entry>, NoMemory>
-    ensures { IfOk result (λ copies. copies.items ≡ entries.now.items) }
-{
-    let mut copies = Vec::with_capacity(*entries.allocator(), entries.len())?;
-    for entry in entries.iter() {
-        copies.push(copy_entry(entry)?)?;
-    }
-    Ok(copies)
 }
 
 /// The entry, copied.
-fn copy_entry(entry: &Entry) -> Result<Entry, NoMemory>
+pub(crate) fn copy_entry(entry: &Entry) -> Result<Entry, NoMemory>
     ensures { IfOk result (λ copied. copied ≡ entry.now) }
 {
     let change = match &entry.change {

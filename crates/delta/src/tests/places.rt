@@ -68,7 +68,11 @@ fn shown_from(
 
 /// A tree of the same entries, made from copies of them.
 fn made_again(alloc: Global, tree: &DeltaTree) -> Result<DeltaTree, NoMemory> {
-    DeltaTree::from_sorted(alloc, tree.key_cols, copy_entries(&tree.entries)?)
+    let mut copies = Vec::with_capacity(alloc, tree.len())?;
+    for entry in tree.iter() {
+        copies.push(copy_entry(entry)?)?;
+    }
+    DeltaTree::from_sorted(alloc, tree.key_cols, copies)
 }
 
 #[test]

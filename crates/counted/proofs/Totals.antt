@@ -1,0 +1,136 @@
+-- Bounds and steps of what entries add up to.
+use Rattle.std.proofs.Common.{◌≡◌, ℕ, zero, suc, ◌+◌, ◌^◌, ◌<◌, ◌≤◌, true, false, cond, List, [], ◌∷◌, ◌++◌, length, take, drop, get_or, refl, ap, sym, ◌∙◌, arith, append_assoc, length-append, length-take}
+use Rattle.std.specs.Prelude.{ℤ, pos, negsuc, ◌+ℤ◌, ◌≤ℤ◌, ltb}
+use Rattle.std.proofs.lemmas.Int.{ints}
+use Rattle.std.proofs.lemmas.List.{take_more, take-append-drop}
+use Rattle.std.specs.List.{AllByRecursion}
+use Rattle.model.specs.declared.entry.Entry.{Entry}
+use Rattle.std.proofs.Common.{Global}
+use Rattle.std.specs.declared.sync.Arc.{Arc}
+use Rattle.std.proofs.lemmas.List.{map-append, length-map}
+use Rattle.model.specs.declared.entry.Change.{Change}
+use Rattle.model.specs.declared.entry.Change.TheVariants.{Ins, Del, Mod}
+use Rattle.counted.specs.Edits.{values_of}
+use Rattle.counted.specs.Sums.{weight_of, total, shift_before, first_sid, next_sid, IsOrdered}
+
+-- a sum lies between the number of entries and its negation
+pub record IsWithin (z : ℤ) (n : ℕ) : Type 0 where
+  pub above : pos 0 ≤ℤ (z +ℤ pos n)
+  pub below : z ≤ℤ pos n
+
+pub weight_within : (w : Change) → IsWithin (weight_of w) 1
+weight_within (Ins row) = record { above = omega (arith, ints); below = omega (arith, ints) }
+weight_within (Del key) = record { above = omega (arith, ints); below = omega (arith, ints) }
+weight_within (Mod col value) = record { above = omega (arith, ints); below = omega (arith, ints) }
+
+pub next_sid-le : (sid : ℕ) (w : Change) → sid ≤ next_sid sid w
+next_sid-le sid (Ins row) = omega arith
+next_sid-le sid (Del key) = omega arith
+next_sid-le sid (Mod col value) = omega arith
+
+pub total_within : (entries : List Entry) → IsWithin (total entries) (length entries)
+total_within [] = record { above = omega (arith, ints); below = omega (arith, ints) }
+total_within (e ∷ entries) =
+    let here = weight_within e.change in
+    let rest = total_within entries in
+    record { above = omega (arith, ints); below = omega (arith, ints) }
+
+pub total-append : (xs ys : List Entry) → total (xs ++ ys) ≡ total xs +ℤ total ys
+total-append [] ys = omega (arith, ints)
+total-append (e ∷ xs) ys = let rest = total-append xs ys in omega (arith, ints)
+
+pub shift_before-append : (sid : ℕ) (xs ys : List Entry) → shift_before sid (xs ++ ys) ≡ shift_before sid xs +ℤ shift_before sid ys
+shift_before-append sid [] ys = omega (arith, ints)
+shift_before-append sid (e ∷ xs) ys = let rest = shift_before-append sid xs ys in omega (arith, ints)
+
+pub shift_within : (sid : ℕ) (entries : List Entry) → IsWithin (shift_before sid entries) (length entries)
+shift_within sid [] = record { above = omega (arith, ints); below = omega (arith, ints) }
+shift_within sid (e ∷ entries) =
+    let here = weight_within e.change in
+    let rest = shift_within sid entries in
+    elim (ltb e.sid sid) as (λ b. IsWithin (cond b (weight_of e.change) (pos 0) +ℤ shift_before sid entries) (suc (length entries))) [
+      | true ↦ record { above = omega (arith, ints); below = omega (arith, ints) }
+      | false ↦ record { above = omega (arith, ints); below = omega (arith, ints) }
+    ]
+
+ltb-from_lt : (m n : ℕ) → m < n → ltb m n ≡ true
+ltb-from_lt m n h = grind arith
+
+ltb-from_le : (m n : ℕ) → n ≤ m → ltb m n ≡ false
+ltb-from_le m n h = grind arith
+
+-- one entry more
+pub values-more : (xs : List (Arc Entry Global)) (i : ℕ) (d : Arc Entry Global) → i < length xs → values_of (take (i + 1) xs) ≡ values_of (take i xs) ++ (get_or xs i d).value ∷ []
+values-more xs i d h = ap values_of (take_more xs i d h) ∙ map-append (λ (e : Arc Entry Global). e.value) (take i xs) (get_or xs i d ∷ [])
+
+pub length-values : (xs : List (Arc Entry Global)) → length (values_of xs) ≡ length xs
+length-values xs = length-map xs (λ (e : Arc Entry Global). e.value)
+
+pub total-more : (xs : List (Arc Entry Global)) (i : ℕ) (d : Arc Entry Global) (w : ℤ) → i < length xs → w ≡ weight_of (get_or xs i d).value.change → total (values_of (take (i + 1) xs)) ≡ total (values_of (take i xs)) +ℤ w
+total-more xs i d w h e = rw (values-more xs i d h) (omega (arith, ints, total-append (values_of (take i xs)) ((get_or xs i d).value ∷ [])))
+
+pub shift_before-more : (sid : ℕ) (xs : List (Arc Entry Global)) (i : ℕ) (d : Arc Entry Global) → i < length xs → shift_before sid (values_of (take (i + 1) xs)) ≡ shift_before sid (values_of (take i xs)) +ℤ cond (ltb (get_or xs i d).value.sid sid) (weight_of (get_or xs i d).value.change) (pos 0)
+shift_before-more sid xs i d h = rw (values-more xs i d h) (omega (arith, ints, shift_before-append sid (values_of (take i xs)) ((get_or xs i d).value ∷ [])))
+
+pub shift_before-more_below : (sid : ℕ) (xs : List (Arc Entry Global)) (i : ℕ) (d : Arc Entry Global) (w : ℤ) → i < length xs → (get_or xs i d).value.sid < sid → w ≡ weight_of (get_or xs i d).value.change → shift_before sid (values_of (take (i + 1) xs)) ≡ shift_before sid (values_of (take i xs)) +ℤ w
+shift_before-more_below sid xs i d w h lt e = let s = shift_before-more sid xs i d h ∙ ap (λ b. shift_before sid (values_of (take i xs)) +ℤ cond b (weight_of (get_or xs i d).value.change) (pos 0)) (ltb-from_lt _ _ lt) in omega (arith, ints)
+
+pub shift_before-more_above : (sid : ℕ) (xs : List (Arc Entry Global)) (i : ℕ) (d : Arc Entry Global) → i < length xs → sid ≤ (get_or xs i d).value.sid → shift_before sid (values_of (take (i + 1) xs)) ≡ shift_before sid (values_of (take i xs))
+shift_before-more_above sid xs i d h le = let s = shift_before-more sid xs i d h ∙ ap (λ b. shift_before sid (values_of (take i xs)) +ℤ cond b (weight_of (get_or xs i d).value.change) (pos 0)) (ltb-from_le _ _ le) in omega (arith, ints)
+
+-- a sum over the entries so far stays within their number
+pub total_take_within : (xs : List (Arc Entry Global)) (i : ℕ) → IsWithin (total (values_of (take i xs))) (length xs)
+total_take_within xs i =
+    let w = total_within (values_of (take i xs)) in
+    record { above = omega (arith, ints, length-values (take i xs), length-take i xs); below = omega (arith, ints, length-values (take i xs), length-take i xs) }
+
+pub shift_take_within : (sid : ℕ) (xs : List (Arc Entry Global)) (i : ℕ) → IsWithin (shift_before sid (values_of (take i xs))) (length xs)
+shift_take_within sid xs i =
+    let w = shift_within sid (values_of (take i xs)) in
+    record { above = omega (arith, ints, length-values (take i xs), length-take i xs); below = omega (arith, ints, length-values (take i xs), length-take i xs) }
+
+-- ---- the order
+
+all-left : (e : Entry) (xs ys : List Entry) → AllByRecursion (λ x. next_sid e.sid e.change ≤ x.sid) (xs ++ ys) → AllByRecursion (λ x. next_sid e.sid e.change ≤ x.sid) xs
+all-left e [] ys h = tt
+all-left e (x ∷ xs) ys h = (h.0, all-left e xs ys h.1)
+
+pub ordered-left : (xs ys : List Entry) → IsOrdered (xs ++ ys) → IsOrdered xs
+ordered-left [] ys h = tt
+ordered-left (e ∷ xs) ys h = (all-left e xs ys h.0, ordered-left xs ys h.1)
+
+pub ordered-right : (xs ys : List Entry) → IsOrdered (xs ++ ys) → IsOrdered ys
+ordered-right [] ys h = h
+ordered-right (e ∷ xs) ys h = ordered-right xs ys h.1
+
+-- all entries stand at or past the place
+pub past : (sid : ℕ) (entries : List Entry) → AllByRecursion (λ x. sid ≤ x.sid) entries → shift_before sid entries ≡ pos 0
+past sid [] h = refl
+past sid (e ∷ entries) h =
+    let rest = past sid entries h.1 in
+    let e' = ap (λ b. cond b (weight_of e.change) (pos 0) +ℤ shift_before sid entries) (ltb-from_le e.sid sid h.0) in
+    omega (arith, ints)
+
+all_weaker : (low high : ℕ) (entries : List Entry) → low ≤ high → AllByRecursion (λ x. high ≤ x.sid) entries → AllByRecursion (λ x. low ≤ x.sid) entries
+all_weaker low high [] le h = tt
+all_weaker low high (e ∷ entries) le h = (omega (arith, h.0), all_weaker low high entries le h.1)
+
+all-right : (low : ℕ) (xs ys : List Entry) → AllByRecursion (λ x. low ≤ x.sid) (xs ++ ys) → AllByRecursion (λ x. low ≤ x.sid) ys
+all-right low [] ys h = h
+all-right low (x ∷ xs) ys h = all-right low xs ys h.1
+
+-- where the first of a run of entries stands at or past the place, none of them counts
+pub past_first : (sid : ℕ) (entries : List Entry) → IsOrdered entries → sid ≤ first_sid entries → shift_before sid entries ≡ pos 0
+past_first sid [] o le = refl
+past_first sid (e ∷ entries) o le = past sid (e ∷ entries) (le, all_weaker sid (next_sid e.sid e.change) entries (let n = next_sid-le e.sid e.change in omega arith) o.0)
+
+-- where a later entry stands below the place, all before it count
+pub below_first : (sid : ℕ) (xs ys : List Entry) → IsOrdered (xs ++ ys) → 1 ≤ length ys → first_sid ys < sid → shift_before sid xs ≡ total xs
+below_first sid [] ys o some lt = refl
+below_first sid (e ∷ xs) [] o some lt = absurd (omega arith)
+below_first sid (e ∷ xs) (y ∷ ys) o some lt =
+    let rest = below_first sid xs (y ∷ ys) o.1 some lt in
+    let here = (all-right (next_sid e.sid e.change) xs (y ∷ ys) o.0).0 in
+    let n = next_sid-le e.sid e.change in
+    let e' = ap (λ b. cond b (weight_of e.change) (pos 0) +ℤ shift_before sid xs) (ltb-from_lt e.sid sid (omega arith)) in
+    omega (arith, ints)

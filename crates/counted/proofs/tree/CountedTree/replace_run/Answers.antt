@@ -1,0 +1,11 @@
+use Rattle.std.proofs.Common.{◌≡◌, ◌+◌, ◌<◌, ◌≤◌, [], ◌∷◌, ◌++◌, take, drop, ap, ◌∙◌, arith, length}
+use Rattle.counted.specs.Edits.{edited}
+use Rattle.counted.proofs.Runs.{run_step}
+use Rattle.counted.proofs.tree.CountedTree.replace_run.Goals as goal
+
+pub loop-preserved : goal.loop-preserved
+loop-preserved c = record {
+  low = omega arith;
+  high = omega arith;
+  items = c.in_ok-tree-2.ensures ∙ ap (edited (c.args.start + 1) 1 []) c.loop.invariant.items ∙ run_step c.args.self.now.entries c.args.start c.loop.counter c.args.entry (omega arith);
+}

@@ -1,0 +1,10 @@
+pub mod Edits
+pub mod Grown
+pub mod Falls
+pub mod Roots
+pub mod Search
+pub mod Shapes
+pub mod Spots
+pub mod Sums
+pub mod Trees
+pub mod Views

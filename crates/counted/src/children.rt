@@ -1,0 +1,99 @@
+//! The children of a node, read by what is kept of each.
+ghost use Rattle.std.specs.Prelude.{◌≡◌, ◌+◌, ◌^◌, ◌<◌, ◌≤◌, ◌+ℤ◌, length, slice_index_or, take};
+ghost use Rattle.counted.specs.declared.node.Child.{Child};
+ghost use Rattle.counted.specs.Shapes.{AreChildren, all_items, items_of};
+ghost use Rattle.counted.specs.Sums.{total, shift_before, IsOrdered};
+
+use crate::node::Child;
+
+/// How many entries the children have.
+pub(crate) fn count_of(children: &[Child]) -> usize
+    requires children { AreChildren children.now }
+    requires few { length (all_items children.now) < 2 ^ 62 }
+    ensures { result ≡ length (all_items children.now) }
+{
+    let mut count = 0;
+    for child in children {
+        count += child.count;
+    }
+    count
+}
+
+/// What the children's entries add.
+pub(crate) fn net_of(children: &[Child]) -> i64
+    requires children { AreChildren children.now }
+    requires few { length (all_items children.now) < 2 ^ 62 }
+    ensures { result ≡ total (all_items children.now) }
+{
+    let mut net = 0;
+    for child in children {
+        net += child.net;
+    }
+    net
+}
+
+/// What the entries of the children before an index add.
+pub(crate) fn net_before(children: &[Child], index: usize) -> i64
+    requires children { AreChildren children.now }
+    requires within { index < length children.now }
+    requires few { length (all_items children.now) < 2 ^ 62 }
+    ensures { result ≡ total (all_items (take index children.now)) }
+{
+    let mut net = 0;
+    for i in 0..index {
+        net += children[i].net;
+    }
+    net
+}
+
+/// The child at which so many entries end, and how many of them are its own: none only where there is none in all.
+pub(crate) fn child_at(children: &[Child], at: usize) -> (usize, usize)
+    requires children { AreChildren children.now }
+    requires within { at ≤ length (all_items children.now) }
+    ensures child { result.0 < length children.now }
+    ensures index { result.1 + length (all_items (take result.0 children.now)) ≡ at }
+    ensures room { (d : Child) → result.1 ≤ length (items_of (slice_index_or children.now result.0 d)) }
+    ensures some { 1 ≤ at → 1 ≤ result.1 }
+{
+    let mut index = 0;
+    let mut rest = at;
+    while index + 1 < children.len() && children[index].count < rest {
+        rest -= children[index].count;
+        index += 1;
+    }
+    (index, rest)
+}
+
+/// The child that holds the entry at an index, and the index within it.
+pub(crate) fn child_of(children: &[Child], at: usize) -> (usize, usize)
+    requires children { AreChildren children.now }
+    requires within { at < length (all_items children.now) }
+    ensures child { result.0 < length children.now }
+    ensures index { result.1 + length (all_items (take result.0 children.now)) ≡ at }
+    ensures holds { (d : Child) → result.1 < length (items_of (slice_index_or children.now result.0 d)) }
+{
+    let mut index = 0;
+    let mut rest = at;
+    while index + 1 < children.len() && children[index].count <= rest {
+        rest -= children[index].count;
+        index += 1;
+    }
+    (index, rest)
+}
+
+/// The child in which the entries below the place end, and what those before it add.
+pub(crate) fn child_below(children: &[Child], sid: u64) -> (usize, i64)
+    requires children { AreChildren children.now }
+    requires ordered { IsOrdered (all_items children.now) }
+    requires few { length (all_items children.now) < 2 ^ 62 }
+    ensures within { result.0 < length children.now }
+    ensures shift { (d : Child) → result.1 +ℤ shift_before sid (items_of (slice_index_or children.now result.0 d)) ≡ shift_before sid (all_items children.now) }
+{
+    let mut index = 0;
+    let mut shift = 0;
+    while index + 1 < children.len() && children[index + 1].first < sid {
+        shift += children[index].net;
+        index += 1;
+    }
+    (index, shift)
+}

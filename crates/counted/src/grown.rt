@@ -1,0 +1,185 @@
+//! What a node grows to, and what is kept of it.
+ghost use Rattle.std.specs.Prelude.{◌≡◌, ◌+◌, ◌-◌, ◌^◌, ◌<◌, ◌≤◌, ◌++◌, length, take, drop, ℕ, IfOk, OnOk};
+ghost use Rattle.std.specs.List.{All};
+ghost use Rattle.counted.specs.Edits.{values_of};
+ghost use Rattle.counted.specs.Grown.{IsGrown, grown_items, grown_width, AreGrown, IsSameChild, AreCounts};
+ghost use Rattle.counted.specs.Shapes.{IsChild, all_items, items_of, depth_of};
+
+use crate::children::{count_of, net_of};
+use crate::leaf::total_of;
+use crate::node::{Body, Child, Node};
+use model::Entry;
+use std::alloc::{AllocError, Global};
+use std::sync::Arc;
+
+/// A node, or two where one has no room.
+#[derive(Drop)]
+pub(crate) enum Grown {
+    One(Node),
+    Two(Node, Node),
+}
+
+/// What is kept of a node beside it.
+#[derive(Clone, Copy)]
+pub(crate) struct Counts {
+    pub(crate) count: usize,
+    pub(crate) net: i64,
+    pub(crate) first: u64,
+}
+
+impl Node {
+    /// What is kept of a node that is at least half full.
+    fn counts(&self) -> Counts
+        requires full { 8 ≤ self.now.width }
+        requires few { length self.now.items < 2 ^ 62 }
+        ensures { AreCounts self.now result }
+    {
+        match &self.body {
+            Body::Leaf(entries) => Counts {
+                count: entries.len(),
+                net: total_of(entries),
+                first: entries[0].sid,
+            },
+            Body::Inner(children) => Counts {
+                count: count_of(children),
+                net: net_of(children),
+                first: children[0].first,
+            },
+        }
+    }
+}
+
+impl Child {
+    /// A child with its counts.
+    pub(crate) fn new(alloc: Global, node: Node) -> Result<Child, AllocError>
+        requires full { 8 ≤ node.width }
+        requires few { length node.items < 2 ^ 62 }
+        ensures counts { IfOk result (IsChild node.depth) }
+        ensures items { IfOk result (λ c. items_of c ≡ node.items) }
+    {
+        let counts = node.counts();
+        Ok(Child {
+            count: counts.count,
+            net: counts.net,
+            first: counts.first,
+            node: Arc::new(alloc, node)?,
+        })
+    }
+
+    /// The same child.
+    fn copy(&self) -> Result<Child, AllocError>
+        ensures { IfOk result (IsSameChild self.now) }
+    {
+        Ok(Child {
+            count: self.count,
+            net: self.net,
+            first: self.first,
+            node: Arc::try_clone(&self.node)?,
+        })
+    }
+}
+
+/// The children with those of a range replaced by what they grew to.
+pub(crate) fn with_grown(
+    alloc: Global,
+    children: &[Child],
+    from: usize,
+    to: usize,
+    grown: Grown,
+) -> Result<Vec<Child>, AllocError>
+    requires range { from ≤ to }
+    requires within { to ≤ length children.now }
+    requires few { length (grown_items grown) < 2 ^ 62 }
+    requires full { 8 ≤ grown_width grown }
+    ensures items { IfOk result (λ v. all_items v.items ≡ all_items (take from children.now) ++ grown_items grown ++ all_items (drop to children.now)) }
+    ensures few_more { IfOk result (λ v. length v.items + (to - from) ≤ length children.now + 2) }
+    ensures not_fewer { IfOk result (λ v. length children.now + 1 ≤ length v.items + (to - from)) }
+    ensures each { IfOk result (λ v. (depth : ℕ) → All (IsChild depth) children.now → AreGrown depth grown → All (IsChild depth) v.items) }
+{
+    let mut out = Vec::with_capacity(alloc, children.len() + 2)?;
+    push_children(&mut out, &children[..from])?;
+    match grown {
+        Grown::One(node) => out.push(Child::new(alloc, node)?)?,
+        Grown::Two(left, right) => {
+            out.push(Child::new(alloc, left)?)?;
+            out.push(Child::new(alloc, right)?)?;
+        }
+    }
+    push_children(&mut out, &children[to..])?;
+    Ok(out)
+}
+
+/// The same children, at the end of a vector.
+pub(crate) fn push_children(out: &mut Vec<Child>, children: &[Child]) -> Result<(), AllocError>
+    ensures items { OnOk result (all_items out.new.items ≡ all_items out.old.items ++ all_items children.now) }
+    ensures count { OnOk result (length out.new.items ≡ length out.old.items + length children.now) }
+    ensures each { OnOk result ((depth : ℕ) → All (IsChild depth) out.old.items → All (IsChild depth) children.now → All (IsChild depth) out.new.items) }
+{
+    for child in children {
+        out.push(child.copy()?)?;
+    }
+    Ok(())
+}
+
+/// A leaf, or two.
+pub(crate) fn grown_leaf(entries: Vec<Arc<Entry, Global>>) -> Result<Grown, AllocError>
+    requires { length entries.items ≤ 32 }
+    ensures { IfOk result (IsGrown 1 (length entries.items) (values_of entries.items)) }
+{
+    let mut entries = entries;
+    if entries.len() <= 16 {
+        return Ok(Grown::One(Node {
+            body: Body::Leaf(entries),
+        }));
+    }
+    let right = entries.split_off(entries.len() / 2)?;
+    Ok(Grown::Two(
+        Node {
+            body: Body::Leaf(entries),
+        },
+        Node {
+            body: Body::Leaf(right),
+        },
+    ))
+}
+
+/// An inner node, or two.
+pub(crate) fn grown_inner(children: Vec<Child>) -> Result<Grown, AllocError>
+    requires some { 1 ≤ length children.items }
+    requires room { length children.items ≤ 32 }
+    requires each { All (IsChild (depth_of children.items)) children.items }
+    ensures { IfOk result (IsGrown (1 + depth_of children.items) (length children.items) (all_items children.items)) }
+{
+    let mut children = children;
+    if children.len() <= 16 {
+        return Ok(Grown::One(Node {
+            body: Body::Inner(children),
+        }));
+    }
+    let right = children.split_off(children.len() / 2)?;
+    Ok(Grown::Two(
+        Node {
+            body: Body::Inner(children),
+        },
+        Node {
+            body: Body::Inner(right),
+        },
+    ))
+}
+
+/// The inner node above two nodes.
+pub(crate) fn above(alloc: Global, left: Node, right: Node) -> Result<Node, AllocError>
+    requires depth { left.depth ≡ right.depth }
+    requires left_full { 8 ≤ left.width }
+    requires right_full { 8 ≤ right.width }
+    requires few { length left.items + length right.items < 2 ^ 62 }
+    ensures width { IfOk result (λ n. n.width ≡ 2) }
+    ensures items { IfOk result (λ n. n.items ≡ left.items ++ right.items) }
+{
+    let mut children = Vec::with_capacity(alloc, 2)?;
+    children.push(Child::new(alloc, left)?)?;
+    children.push(Child::new(alloc, right)?)?;
+    Ok(Node {
+        body: Body::Inner(children),
+    })
+}

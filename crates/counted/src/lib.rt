@@ -1,0 +1,23 @@
+//! A counted tree of entries: nodes are shared, and a writing call copies the path that it changes.
+#![tactic(auto)]
+
+mod children;
+mod edit;
+mod entry;
+mod grown;
+mod iter;
+mod leaf;
+mod node;
+mod search;
+mod spot;
+mod steps;
+#[cfg(test)]
+mod tests;
+mod tree;
+
+pub use entry::weight;
+pub use iter::Iter;
+pub use search::Probe;
+pub use spot::Spot;
+pub use steps::Steps;
+pub use tree::CountedTree;

@@ -1,0 +1,157 @@
+//! The nodes of a tree, and what is read of them.
+ghost use Rattle.std.specs.Prelude.{◌≡◌, ◌+◌, ◌-◌, ◌*◌, ◌^◌, ◌<◌, ◌≤◌, ◌++◌, [], length, take, drop};
+ghost use Rattle.counted.specs.Edits.{values_of};
+ghost use Rattle.counted.specs.Shapes.{view_of, IsBalanced};
+ghost use Rattle.counted.specs.Sums.{total, shift_before, IsOrdered};
+
+use crate::Steps;
+use crate::children::{child_at, child_below, child_of, count_of, net_before, net_of};
+use crate::leaf::{shift_in, total_of};
+use model::Entry;
+use std::alloc::Global;
+use std::marker::Model;
+use std::sync::Arc;
+use std::sync::ledger::Ledger;
+
+/// A node: entries, or shared children.
+#[cycle(node)]
+#[derive(Drop)]
+pub(crate) struct Node {
+    pub(crate) body: Body,
+}
+
+#[cycle(node)]
+#[derive(Drop)]
+pub(crate) enum Body {
+    Leaf(Vec<Arc<Entry, Global>>),
+    Inner(Vec<Child>),
+}
+
+/// A child, with its number of entries, its inserts minus deletes, and its first entry's place.
+#[cycle(node)]
+#[derive(Drop)]
+pub(crate) struct Child {
+    pub(crate) count: usize,
+    pub(crate) net: i64,
+    pub(crate) first: u64,
+    pub(crate) node: Arc<Node, Global>,
+}
+
+impl Model for Node {
+    ghost use Rattle.counted.specs.Views.{View};
+
+    ghost Value = { View };
+
+    ghost use Rattle.counted.specs.Shapes.{view_of, IsBalanced};
+
+    ghost view = { λ a. view_of a.body };
+
+    ghost invariant = { λ a. IsBalanced a.body };
+
+    ghost size = { λ d. d.depth };
+
+    ghost use Rattle.counted.specs.Falls.{children_are_less};
+
+    ghost size_decreases = { λ a h. children_are_less a.body h };
+}
+
+impl Node {
+    /// A leaf with no entries. It takes no memory.
+    pub(crate) fn empty(alloc: Global) -> Node
+        ensures { result ≡ record { depth = 1; width = 0; items = [] } }
+    {
+        Node {
+            body: Body::Leaf(Vec::new(alloc)),
+        }
+    }
+
+    /// How many entries lie below it.
+    pub(crate) fn len(&self) -> usize
+        requires { length self.now.items < 2 ^ 62 }
+        ensures { result ≡ length self.now.items }
+    {
+        match &self.body {
+            Body::Leaf(entries) => entries.len(),
+            Body::Inner(children) => count_of(children),
+        }
+    }
+
+    /// What the entries below it add.
+    pub(crate) fn total(&self) -> i64
+        requires { length self.now.items < 2 ^ 62 }
+        ensures { result ≡ total self.now.items }
+    {
+        match &self.body {
+            Body::Leaf(entries) => total_of(entries),
+            Body::Inner(children) => net_of(children),
+        }
+    }
+
+    /// The number of levels.
+    pub(crate) fn depth(&self) -> usize
+        requires { length self.now.items < 2 ^ 62 }
+        ensures depth { result ≡ self.now.depth }
+        ensures many { 2 ≤ self.now.depth → 2 ≤ self.now.width → 2 * 8 ^ (self.now.depth - 1) ≤ length self.now.items }
+    {
+        match &self.body {
+            Body::Leaf(_) => 1,
+            Body::Inner(children) => children[0].node.depth() + 1,
+        }
+    }
+
+    /// What the entries below the place add.
+    pub(crate) fn shift_before<L: Ledger>(&self, sid: u64, steps: &mut Steps<L>) -> i64
+        requires ordered { IsOrdered self.now.items }
+        requires few { length self.now.items < 2 ^ 62 }
+        ensures shift { result ≡ shift_before sid self.now.items }
+        ensures steps { steps.new ≡ steps.old + self.now.depth }
+    {
+        match self.read(steps) {
+            Body::Leaf(entries) => shift_in(entries, sid),
+            Body::Inner(children) => {
+                let (index, shift) = child_below(children, sid);
+                shift + children[index].node.shift_before(sid, steps)
+            }
+        }
+    }
+
+    /// What the entries before an index add.
+    pub(crate) fn total_before(&self, at: usize) -> i64
+        requires within { at ≤ length self.now.items }
+        requires few { length self.now.items < 2 ^ 62 }
+        ensures { result ≡ total (take at self.now.items) }
+    {
+        match &self.body {
+            Body::Leaf(entries) => total_of(&entries[..at]),
+            Body::Inner(children) => {
+                let (index, rest) = child_at(children, at);
+                net_before(children, index) + children[index].node.total_before(rest)
+            }
+        }
+    }
+
+    /// The entries from an index on that lie in one leaf.
+    pub(crate) fn leaf_from(&self, at: usize) -> &[Arc<Entry, Global>]
+        requires { at < length self.now.items }
+        ensures some { 1 ≤ length result.now }
+        ensures rest { drop at self.now.items ≡ values_of result.now ++ drop (at + length result.now) self.now.items }
+    {
+        match &self.body {
+            Body::Leaf(entries) => &entries[at..],
+            Body::Inner(children) => {
+                let (index, at) = child_of(children, at);
+                children[index].node.leaf_from(at)
+            }
+        }
+    }
+
+    /// What the node holds, for one step.
+    pub(crate) fn read<L: Ledger>(&self, steps: &mut Steps<L>) -> &Body
+        ensures view { view_of result.now ≡ self.now }
+        ensures balanced { IsBalanced result.now }
+        ensures steps { steps.new ≡ steps.old + 1 }
+    {
+        steps.tick();
+        &self.body
+    }
+}

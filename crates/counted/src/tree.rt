@@ -1,0 +1,325 @@
+//! The tree.
+ghost use Rattle.std.specs.Prelude.{◌≡◌, pos, Some, ◌+◌, ◌-◌, ◌*◌, ◌^◌, ◌<◌, ◌≤◌, [], ◌∷◌, ◌++◌, take, drop, slice_get, length, OnOk, OnErr, IfOk};
+ghost use Rattle.std.specs.Arc.{arc_value};
+ghost use Rattle.std.specs.List.{insert, remove};
+ghost use Rattle.counted.specs.Edits.{values_of, put_items, edited};
+ghost use Rattle.std.specs.Option.{option_copied};
+ghost use Rattle.counted.specs.Search.{stands_before, IsBoundary};
+ghost use Rattle.counted.specs.Spots.{IsSpot, ArePlaced};
+ghost use Rattle.counted.specs.Sums.{total, shift_before, IsOrdered};
+ghost use Rattle.counted.specs.Trees.{IsRoot};
+
+use crate::Steps;
+use crate::node::Node;
+use crate::search::Probe;
+use crate::spot::Spot;
+use model::Entry;
+use std::alloc::{AllocError, Global};
+use std::marker::{Brand, Model};
+use std::sync::Arc;
+use std::sync::ledger::{Blank, Ledger};
+
+/// The entries of a tree, in order.
+#[derive(Drop)]
+pub struct CountedTree {
+    pub(crate) root: Option<Arc<Node, Global>>,
+    pub(crate) len: usize,
+    pub(crate) net: i64,
+}
+
+impl Model for CountedTree {
+    ghost use Rattle.counted.specs.Trees.{Tree};
+
+    ghost Value = { Tree };
+
+    ghost use Rattle.counted.specs.Roots.{view_of_root, IsTree};
+
+    ghost view = { λ t. view_of_root t.root };
+
+    ghost invariant = { λ t. IsTree t.root t.len t.net };
+}
+
+impl CountedTree {
+    /// A tree with no entries. It takes no memory.
+    pub fn new() -> CountedTree
+        ensures { result ≡ record { entries = []; depth = 1 } }
+    {
+        CountedTree {
+            root: None,
+            len: 0,
+            net: 0,
+        }
+    }
+
+    /// How many entries it has.
+    pub fn len(&self) -> usize
+        ensures { result ≡ length self.now.entries }
+    {
+        self.len
+    }
+
+    /// Inserts minus deletes.
+    pub fn total(&self) -> i64
+        ensures { result ≡ total self.now.entries }
+    {
+        self.net
+    }
+
+    /// The number of levels.
+    pub fn depth(&self) -> usize
+        ensures depth { result ≡ self.now.depth }
+        ensures many { 2 ≤ result → 2 * 8 ^ (result - 1) ≤ length self.now.entries }
+    {
+        match &self.root {
+            None => 1,
+            Some(root) => root.depth(),
+        }
+    }
+
+    /// What the entries below the place add.
+    pub fn shift_before<L: Ledger>(&self, sid: u64, steps: &mut Steps<L>) -> i64
+        requires ordered { IsOrdered self.now.entries }
+        ensures shift { result ≡ shift_before sid self.now.entries }
+        ensures steps { steps.new ≡ steps.old + self.now.depth }
+    {
+        match &self.root {
+            None => {
+                steps.tick();
+                0
+            }
+            Some(root) => root.shift_before(sid, steps),
+        }
+    }
+
+    /// Where a position lies among the entries; the rows below are thought to go on without end.
+    pub fn find_rid<L: Ledger>(&self, rid: u64, steps: &mut Steps<L>) -> Spot
+        requires rid { rid < 2 ^ 63 }
+        requires ordered { IsOrdered self.now.entries }
+        requires placed { ArePlaced self.now.entries }
+        ensures spot { IsSpot (pos rid) (pos 0) self.now.entries result.place result.shift result.inserted }
+        ensures steps { steps.new ≡ steps.old + self.now.depth }
+    {
+        match &self.root {
+            None => {
+                steps.tick();
+                Spot {
+                    place: 0,
+                    shift: 0,
+                    inserted: false,
+                }
+            }
+            Some(root) => root.find_rid(rid as i64, 0, steps),
+        }
+    }
+
+    /// What the entries below the place add, where nobody counts nodes.
+    pub fn shift(&self, sid: u64) -> i64
+        requires ordered { IsOrdered self.now.entries }
+        ensures { result ≡ shift_before sid self.now.entries }
+    {
+        shift_uncounted::<Brand>(self, sid, Blank::new(1))
+    }
+
+    /// Where a position lies among the entries, where nobody counts nodes.
+    pub fn spot(&self, rid: u64) -> Spot
+        requires rid { rid < 2 ^ 63 }
+        requires ordered { IsOrdered self.now.entries }
+        requires placed { ArePlaced self.now.entries }
+        ensures { IsSpot (pos rid) (pos 0) self.now.entries result.place result.shift result.inserted }
+    {
+        spot_uncounted::<Brand>(self, rid, Blank::new(1))
+    }
+
+    /// What the entries before an index add.
+    pub fn total_before(&self, at: usize) -> i64
+        requires { at ≤ length self.now.entries }
+        ensures { result ≡ total (take at self.now.entries) }
+    {
+        match &self.root {
+            None => 0,
+            Some(root) => root.total_before(at),
+        }
+    }
+
+    /// The entry at an index that there is. It takes no memory.
+    pub fn get(&self, at: usize) -> &Entry
+        requires { at < length self.now.entries }
+        ensures { Some result.now ≡ slice_get self.now.entries at }
+    {
+        &self.leaf_from(at)[0]
+    }
+
+    /// How many entries stand before what is looked for at the SID.
+    pub fn place_of<P: Probe>(&self, sid: u64, probe: &P) -> usize
+        ensures { IsBoundary (stands_before (P.stand probe.now) sid) self.now.entries result }
+    {
+        match &self.root {
+            None => 0,
+            Some(root) => root.place_of(sid, probe),
+        }
+    }
+
+    /// A tree of these entries.
+    pub fn from_sorted(alloc: Global, entries: Vec<Entry>) -> Result<CountedTree, AllocError>
+        requires { length entries.items < 2 ^ 60 }
+        ensures { IfOk result (λ t. t.entries ≡ entries.items) }
+    {
+        let mut rest = entries;
+        let mut tree = CountedTree::new();
+        while let Some(entry) = rest.pop() {
+            tree.insert(alloc, 0, entry)?;
+        }
+        Ok(tree)
+    }
+
+    /// The entry at an index. It takes no memory.
+    pub fn entry(&self, at: usize) -> Option<&Entry>
+        ensures { option_copied result ≡ slice_get self.now.entries at }
+    {
+        if at < self.len {
+            Some(&self.leaf_from(at)[0])
+        } else {
+            None
+        }
+    }
+
+    /// The entries from an index on that lie in one leaf.
+    pub(crate) fn leaf_from(&self, at: usize) -> &[Arc<Entry, Global>]
+        requires { at < length self.now.entries }
+        ensures few { length self.now.entries < 2 ^ 61 }
+        ensures some { 1 ≤ length result.now }
+        ensures rest { drop at self.now.entries ≡ values_of result.now ++ drop (at + length result.now) self.now.entries }
+    {
+        match &self.root {
+            None => unreachable!(),
+            Some(root) => root.leaf_from(at),
+        }
+    }
+
+    /// The same tree, whose nodes are shared.
+    pub fn copy(&self) -> Result<CountedTree, AllocError>
+        ensures { IfOk result (λ t. t ≡ self.now) }
+    {
+        let root = match &self.root {
+            None => None,
+            Some(root) => Some(Arc::try_clone(root)?),
+        };
+        Ok(CountedTree {
+            root,
+            len: self.len,
+            net: self.net,
+        })
+    }
+
+    /// Puts an entry in at an index.
+    pub fn insert(&mut self, alloc: Global, at: usize, entry: Entry) -> Result<(), AllocError>
+        requires within { at ≤ length self.old.entries }
+        requires few { length self.old.entries < 2 ^ 60 }
+        ensures ok { OnOk result (self.new.entries ≡ insert self.old.entries at entry) }
+        ensures err { OnErr result (self.new ≡ self.old) }
+    {
+        let entry = Arc::new(alloc, entry)?;
+        *self = self.edited(alloc, at, 0, Some(entry))?;
+        Ok(())
+    }
+
+    /// Takes away the entry at an index.
+    pub fn remove(&mut self, alloc: Global, at: usize) -> Result<(), AllocError>
+        requires within { at < length self.old.entries }
+        requires few { length self.old.entries < 2 ^ 60 }
+        ensures ok { OnOk result (self.new.entries ≡ remove self.old.entries at) }
+        ensures err { OnErr result (self.new ≡ self.old) }
+    {
+        *self = self.edited(alloc, at, 1, None)?;
+        Ok(())
+    }
+
+    /// Puts an entry in the place of those from `start` up to `end`.
+    pub fn replace_run(
+        &mut self,
+        alloc: Global,
+        start: usize,
+        end: usize,
+        entry: Entry,
+    ) -> Result<(), AllocError>
+        requires start_le_end { start ≤ end }
+        requires within { end ≤ length self.old.entries }
+        requires few { length self.old.entries < 2 ^ 60 }
+        ensures ok { OnOk result (self.new.entries ≡ take start self.old.entries ++ entry ∷ drop end self.old.entries) }
+        ensures err { OnErr result (self.new ≡ self.old) }
+    {
+        let entry = Arc::new(alloc, entry)?;
+        if start == end {
+            *self = self.edited(alloc, start, 0, Some(entry))?;
+            return Ok(());
+        }
+        let mut tree = self.edited(alloc, start, 1, Some(entry))?;
+        for _ in start + 1..end {
+            tree = tree.edited(alloc, start + 1, 1, None)?;
+        }
+        *self = tree;
+        Ok(())
+    }
+
+    /// The tree with so many entries from an index on, one at most, replaced by another, if there is one. It shares all
+    /// other nodes with this one, which stays as it is.
+    fn edited(
+        &self,
+        alloc: Global,
+        at: usize,
+        gone: usize,
+        put: Option<Arc<Entry, Global>>,
+    ) -> Result<CountedTree, AllocError>
+        requires one { gone ≤ 1 }
+        requires within { at + gone ≤ length self.now.entries }
+        requires few { length self.now.entries < 2 ^ 60 }
+        ensures { IfOk result (λ t. t.entries ≡ edited at gone (put_items put) self.now.entries) }
+    {
+        let root = match &self.root {
+            None => Node::empty(alloc).edited_root(alloc, at, gone, put)?,
+            Some(root) => root.edited_root(alloc, at, gone, put)?,
+        };
+        Ok(CountedTree::of_root(root))
+    }
+
+    /// The tree of a root.
+    fn of_root(root: Arc<Node, Global>) -> CountedTree
+        requires root { IsRoot (arc_value root) }
+        requires few { length (arc_value root).items < 2 ^ 61 }
+        ensures { result.entries ≡ (arc_value root).items }
+    {
+        let len = root.len();
+        let net = root.total();
+        CountedTree {
+            root: Some(root),
+            len,
+            net,
+        }
+    }
+}
+
+/// What the entries below the place add, by a count that is let go.
+fn shift_uncounted<L: Ledger>(tree: &CountedTree, sid: u64, blank: Blank) -> i64
+    requires name { blank.name ≡ L.name }
+    requires parts { blank.parts ≡ L.parts }
+    requires some { 0 < L.parts }
+    requires ordered { IsOrdered tree.now.entries }
+    ensures { result ≡ shift_before sid tree.now.entries }
+{
+    let mut steps = Steps::<L>::new(blank);
+    tree.shift_before(sid, &mut steps)
+}
+
+/// Where a position lies among the entries, by a count that is let go.
+fn spot_uncounted<L: Ledger>(tree: &CountedTree, rid: u64, blank: Blank) -> Spot
+    requires name { blank.name ≡ L.name }
+    requires parts { blank.parts ≡ L.parts }
+    requires some { 0 < L.parts }
+    requires rid { rid < 2 ^ 63 }
+    requires ordered { IsOrdered tree.now.entries }
+    requires placed { ArePlaced tree.now.entries }
+    ensures { IsSpot (pos rid) (pos 0) tree.now.entries result.place result.shift result.inserted }
+{
+    let mut steps = Steps::<L>::new(blank);
+    tree.find_rid(rid, &mut steps)
+}

@@ -1,0 +1,123 @@
+-- What is known of a lawful list of entries, in the words of the counted tree.
+use Rattle.std.proofs.Common.{◌≡◌, ℕ, zero, suc, ◌+◌, ◌-◌, ◌<◌, ◌≤◌, ◌^◌, Bool, true, false, cond, T, List, [], ◌∷◌, ◌++◌, length, take, drop, filter, get_or, set, nat_cmp, Ordering, Less, Equal, Greater, is_lt, refl, sym, ap, ◌∙◌, subst, arith}
+use Rattle.std.specs.Prelude.{ℤ, pos, ◌+ℤ◌, ◌-ℤ◌, nat_lt, Some, None, slice_get}
+use Rattle.std.specs.Ordering.{ordering_then}
+use Rattle.std.specs.Cmp.{ranked}
+use Rattle.std.specs.List.{list_all, All, AllByRecursion}
+use Rattle.std.specs.List.Sorted.{IsPartitionedBy}
+use Rattle.std.proofs.lemmas.Int.{ints}
+use Rattle.std.proofs.lemmas.List.Elements.{recursion_from_All}
+use Rattle.model.specs.declared.entry.Entry.{Entry}
+use Rattle.model.specs.declared.entry.Change.{Change}
+use Rattle.model.specs.declared.entry.Change.TheVariants.{Ins, Del, Mod}
+use Rattle.model.specs.Entries.{change_cmp, entry_cmp, are_ordered, IsLawful}
+use Rattle.model.specs.Places.{insert_count, delete_count}
+use Rattle.model.proofs.MapsLemmas.{first, second, less}
+use Rattle.counted.specs.Search.{IsBoundary}
+use Rattle.counted.specs.Spots.{ArePlaced}
+use Rattle.counted.specs.Sums.{weight_of, total, next_sid, IsOrdered}
+use Rattle.counted.specs.Sums as sums
+use Rattle.delta.specs.Lookups.{total_of}
+use Rattle.delta.specs.Search.{IsSplit}
+use Rattle.delta.specs.Positions.{shift_before}
+use Rattle.delta.proofs.CountLemmas.{insert_worth, delete_worth, insert_count-cons, delete_count-cons}
+use Rattle.delta.proofs.SearchLemmas.{split_at}
+
+-- ---- sums
+
+pub weight_is : (c : Change) → weight_of c ≡ pos (insert_worth c) -ℤ pos (delete_worth c)
+weight_is (Ins row) = omega (arith, ints)
+weight_is (Del key) = omega (arith, ints)
+weight_is (Mod col value) = omega (arith, ints)
+
+pub total-is : (es : List Entry) → total es ≡ pos (insert_count es) -ℤ pos (delete_count es)
+total-is [] = omega (arith, ints)
+total-is (e ∷ es) = omega (arith, ints, weight_is e.change, total-is es, insert_count-cons e es, delete_count-cons e es)
+
+pub shift-is : (sid : ℕ) (es : List Entry) → sums.shift_before sid es ≡ total (filter (λ e. nat_lt e.sid sid) es)
+shift-is sid [] = refl
+shift-is sid (e ∷ es) =
+    let rest = shift-is sid es in
+    elim (nat_lt e.sid sid) as (λ b. cond b (weight_of e.change) (pos 0) +ℤ sums.shift_before sid es ≡ total (cond b (e ∷ filter (λ x. nat_lt x.sid sid) es) (filter (λ x. nat_lt x.sid sid) es))) [
+      | true ↦ omega (arith, ints)
+      | false ↦ omega (arith, ints)
+    ]
+
+-- ---- order
+
+by_change : (key_cols n : ℕ) (x y : Change) → change_cmp key_cols x y ≡ Less → next_sid n x ≤ n
+by_change key_cols n (Ins row) y h = omega arith
+by_change key_cols n (Del key) (Ins other) h = cc
+by_change key_cols n (Del key) (Del other) h = cc
+by_change key_cols n (Del key) (Mod col value) h = cc
+by_change key_cols n (Mod col value) y h = omega arith
+
+next_most : (n : ℕ) (x : Change) → next_sid n x ≤ n + 1
+next_most n (Ins row) = omega arith
+next_most n (Del key) = omega arith
+next_most n (Mod col value) = omega arith
+
+by_order : (key_cols n m : ℕ) (x y : Change) → ordering_then (nat_cmp n m) (change_cmp key_cols x y) ≡ Less → next_sid n x ≤ m
+by_order key_cols n m x y h =
+    elim (nat_cmp n m) as (λ r. nat_cmp n m ≡ r → ordering_then r (change_cmp key_cols x y) ≡ Less → next_sid n x ≤ m) [
+      | Less ↦ λ e b. let lt : n < m = ranked n m Less (sym e) in let most = next_most n x in omega arith
+      | Equal ↦ λ e b. let same : n ≡ m = ranked n m Equal (sym e) in let le = by_change key_cols n x y b in omega arith
+      | Greater ↦ λ e b. cc
+    ] refl h
+
+next_le : (key_cols : ℕ) (x y : Entry) → entry_cmp key_cols x y ≡ Less → next_sid x.sid x.change ≤ y.sid
+next_le key_cols x y h = by_order key_cols x.sid y.sid x.change y.change h
+
+all_next : (key_cols : ℕ) (x : Entry) (es : List Entry) → T (list_all (λ y. is_lt (entry_cmp key_cols x y)) es) → AllByRecursion (λ y. next_sid x.sid x.change ≤ y.sid) es
+all_next key_cols x [] h = tt
+all_next key_cols x (y ∷ es) h = (next_le key_cols x y (less _ (first (is_lt (entry_cmp key_cols x y)) _ h)), all_next key_cols x es (second (is_lt (entry_cmp key_cols x y)) _ h))
+
+pub ordered_from_lawful : (key_cols : ℕ) (es : List Entry) → T (are_ordered key_cols es) → IsOrdered es
+ordered_from_lawful key_cols [] h = tt
+ordered_from_lawful key_cols (x ∷ es) h =
+    (all_next key_cols x es (first (list_all (λ y. is_lt (entry_cmp key_cols x y)) es) _ h), ordered_from_lawful key_cols es (second (list_all (λ y. is_lt (entry_cmp key_cols x y)) es) _ h))
+
+pub placed_from_lawful : (es : List Entry) → All (λ e. e.sid < 2 ^ 32) es → ArePlaced es
+placed_from_lawful es h = recursion_from_All (λ (e : Entry). e.sid < 2 ^ 32) es h
+
+-- ---- search
+
+not_so : (b : Bool) → (b ≡ true → ⊥) → b ≡ false
+not_so true h = absurd (h refl)
+not_so false h = refl
+
+true_false : (b : Bool) → b ≡ true → b ≡ false → ⊥
+true_false b p q = cc
+
+before_boundary : (test : Entry → Bool) (xs : List Entry) (n : ℕ) → IsPartitionedBy test xs → IsBoundary test xs n → (k : ℕ) (d : Entry) → 0 ≤ k → k < n → test (get_or xs k d) ≡ true
+before_boundary test xs zero parted b k d low lt = absurd (omega arith)
+before_boundary test xs (suc n) parted b k d low lt = let within = b.within in parted k n d (omega arith) (omega arith) (b.low n d (omega arith))
+
+pub split_from_boundary : (test : Entry → Bool) (xs : List Entry) (n : ℕ) → IsPartitionedBy test xs → IsBoundary test xs n → IsSplit test xs n
+split_from_boundary test xs n parted b =
+    split_at test xs n b.within (before_boundary test xs n parted b, λ k d le lt. not_so (test (get_or xs k d)) (λ yes. true_false (test (get_or xs n d)) (parted n k d le lt yes) (b.high d (omega arith))))
+
+-- ---- single entries
+
+pub some_get : (es : List Entry) (n : ℕ) (x d : Entry) → Some x ≡ slice_get es n → x ≡ get_or es n d
+some_get [] zero x d h = cc
+some_get [] (suc n) x d h = cc
+some_get (e ∷ es) zero x d h = cc
+some_get (e ∷ es) (suc n) x d h = some_get es n x d h
+
+pub run_is_set : (es : List Entry) (n m : ℕ) (x : Entry) → m ≡ n + 1 → n < length es → take n es ++ x ∷ drop m es ≡ set es n x
+run_is_set [] n m x e lt = absurd (omega arith)
+run_is_set (y ∷ es) n zero x e lt = absurd (omega arith)
+run_is_set (y ∷ es) zero (suc m) x e lt = ap (λ k. x ∷ drop k es) (let f : m ≡ 0 = omega arith in f)
+run_is_set (y ∷ es) (suc n) (suc m) x e lt = ap (λ zs. y ∷ zs) (run_is_set es n m x (omega arith) (omega arith))
+
+pub some_within : (es : List Entry) (n : ℕ) (x : Entry) → Some x ≡ slice_get es n → n < length es
+some_within [] zero x h = cc
+some_within [] (suc n) x h = cc
+some_within (e ∷ es) zero x h = omega arith
+some_within (e ∷ es) (suc n) x h = let r = some_within es n x h in omega arith
+
+pub none_within : (es : List Entry) (n : ℕ) → slice_get es n ≡ None → length es ≤ n
+none_within [] n h = omega arith
+none_within (e ∷ es) zero h = cc
+none_within (e ∷ es) (suc n) h = let r = none_within es n h in omega arith
