@@ -1,8 +1,8 @@
-mod BitsLemmas
+pub mod BitsLemmas
 mod CutsLemmas
 mod FitLemmas
-mod IntsLemmas
-mod LawsLemmas
+pub mod IntsLemmas
+pub mod LawsLemmas
 mod ReadLemmas
 mod TextsLemmas
 mod PushLemmas

@@ -351,23 +351,23 @@ some_and o row P is h = subst (λ (p : Option Row). IsSomeAnd p P) (sym is) h
 
 module _ (schema : Columns) (t : Table) (x : Effects) (k : Key) where
   -- the key's place
-  abbrev sid : ℕ
+  abbrev pub sid : ℕ
   sid = rank k t
 
   -- the entries of all effects
-  abbrev entries : List Entry
+  abbrev pub entries : List Entry
   entries = canonical_entries t x
 
   module _ (old : Option Effect) where
     -- what is known of the key: its effect's look-ups, and that its effect fits
-    record Known : Type 0 where
-      insert : inserted_row schema.key_cols sid k entries ≡ row_inserted old
-      delete : is_some (row_at t k) ≡ true → has_delete sid entries ≡ deletes_row old
-      fit : T (holds_at (fits (row_at t k)) old)
-      shaped : T (holds_at (effect_fits_schema schema) old)
+    pub record Known : Type 0 where
+      pub insert : inserted_row schema.key_cols sid k entries ≡ row_inserted old
+      pub delete : is_some (row_at t k) ≡ true → has_delete sid entries ≡ deletes_row old
+      pub fit : T (holds_at (fits (row_at t k)) old)
+      pub shaped : T (holds_at (effect_fits_schema schema) old)
 
   -- the key's row may be deleted
-  may_delete : (old : Option Effect) → Known old → T (fits (changed_by row_after old (row_at t k)) effect.Del) → MayEdit schema.key_cols sid (Delete k) old entries
+  pub may_delete : (old : Option Effect) → Known old → T (fits (changed_by row_after old (row_at t k)) effect.Del) → MayEdit schema.key_cols sid (Delete k) old entries
   may_delete None h done = h.delete (is_true (is_some (row_at t k)) done)
   may_delete (Some (effect.Ins row)) h done = ap is_some h.insert
   may_delete (Some effect.Del) h done = absurd done
@@ -376,7 +376,7 @@ module _ (schema : Columns) (t : Table) (x : Effects) (k : Key) where
 
   module _ (col : ℕ) (value : Value) (fitting : T (cell_fits_schema schema col value)) (outside : schema.key_cols ≤ col) where
     -- and a cell of it may be set
-    may_set : (old : Option Effect) → Known old → T (fits (changed_by row_after old (row_at t k)) (effect.Mod ((col, value) ∷ []))) → MayEdit schema.key_cols sid (Set k col value) old entries
+    pub may_set : (old : Option Effect) → Known old → T (fits (changed_by row_after old (row_at t k)) (effect.Mod ((col, value) ∷ []))) → MayEdit schema.key_cols sid (Set k col value) old entries
     may_set None h done = h.delete (is_true (is_some (row_at t k)) done)
     may_set (Some (effect.Ins row)) h done = (some_and (inserted_row schema.key_cols sid k entries) row (λ inserted. col < length inserted) h.insert (in_row schema row col value h.shaped fitting), outside)
     may_set (Some effect.Del) h done = absurd done
@@ -384,7 +384,7 @@ module _ (schema : Columns) (t : Table) (x : Effects) (k : Key) where
     may_set (Some (effect.Rep row)) h done = (some_and (inserted_row schema.key_cols sid k entries) row (λ inserted. col < length inserted) h.insert (in_row schema row col value h.shaped fitting), outside)
 
 -- a key whose effect inserts a row can't be inserted again
-may_insert : (o : Option Row) (old : Option Effect) (there : Option Row) (row : Row) → o ≡ row_inserted old → T (fits (changed_by row_after old there) (effect.Ins row)) → is_some o ≡ false
+pub may_insert : (o : Option Row) (old : Option Effect) (there : Option Row) (row : Row) → o ≡ row_inserted old → T (fits (changed_by row_after old there) (effect.Ins row)) → is_some o ≡ false
 may_insert o None there row is done = ap is_some is
 may_insert o (Some (effect.Ins r)) there row is done = absurd done
 may_insert o (Some effect.Del) there row is done = ap is_some is
@@ -405,7 +405,7 @@ module _ (schema : Columns) (limit : ℕ) (t : Table) (x : Effects) (over : AreO
   fit_all = passes (all_fit t x) over.fit
 
   -- what is known of a key
-  known : (k : Key) → Known schema t x k (find key_cmp k x)
+  pub known : (k : Key) → Known schema t x k (find key_cmp k x)
   known k =
       let found = finds_effect schema t x k over in
       record {

@@ -7,6 +7,7 @@ pub mod LawfulLemmas
 pub mod LookupLemmas
 pub mod RangesLemmas
 pub mod PositionsLemmas
+pub mod GapLemmas
 pub mod CallerLemmas
 pub mod LawsLemmas
 pub mod CountedLemmas

@@ -445,7 +445,7 @@ before_insert key_cols sid key e h = by e.change h
     by (Mod col value) g = not_above e.sid Less g
     by (Del gone) g = below e.sid g
 
-deletes_to : (sid m n : ℕ) (es : List Entry) → Ascends m es → m ≤ sid → T (list_all (λ e. nat_le (e.sid + delete_worth e.change) sid) (take n es)) → delete_count (take n es) + m ≤ sid
+pub deletes_to : (sid m n : ℕ) (es : List Entry) → Ascends m es → m ≤ sid → T (list_all (λ e. nat_le (e.sid + delete_worth e.change) sid) (take n es)) → delete_count (take n es) + m ≤ sid
 deletes_to sid m zero es h le b = omega arith
 deletes_to sid m (suc n) [] h le b = omega arith
 deletes_to sid m (suc n) (e ∷ es) h le b =

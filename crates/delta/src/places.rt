@@ -1,12 +1,17 @@
 //! Positions in the image above: how far the entries move what stands at a SID, and what stands at a position.
-ghost use Rattle.std.specs.Prelude.{◌≡◌, ◌<◌, ◌^◌, ◌+ℤ◌, ◌≤ℤ◌, pos, is_some, take};
+ghost use Rattle.std.specs.Prelude.{◌≡◌, ◌<◌, ◌^◌, ◌+ℤ◌, ◌≤ℤ◌, IsTrue, pos, is_some, take};
+ghost use Rattle.values.specs.Shape.{key_of};
+ghost use Rattle.model.specs.Entries.{change_cmp};
+ghost use Rattle.model.specs.Folding.{added_by, gone_by};
 ghost use Rattle.model.specs.Places.{rid_of_insert};
 ghost use Rattle.delta.specs.Lookups.{inserted_row};
-ghost use Rattle.delta.specs.Positions.{shift_before, IsAtRid};
+ghost use Rattle.delta.specs.Positions.{shift_before, IsAtRid, deletes_below, deletes_ascend, is_passed, gap_from};
 ghost use Rattle.delta.specs.Search.{insert_cmp, stands_before, IsSplit};
 
+use crate::sorted::key_of;
 use crate::tree::DeltaTree;
-use values::Value;
+use model::Change;
+use values::{Row, Value};
 
 /// Where the row at a position of the image comes from.
 #[derive(Clone, Copy, Debug, PartialEq, Eq)]
@@ -26,6 +31,15 @@ pub struct KeyPlace {
     pub rid: u64,
     /// Whether it is there.
     pub found: bool,
+}
+
+/// Where a change stands at a SID, or would stand.
+#[derive(Clone, Copy, Debug, PartialEq, Eq)]
+pub struct ChangePlace {
+    /// How many entries stand before it.
+    pub place: usize,
+    /// The position of its row in the image; of a deleted row, that of the next one.
+    pub rid: u64,
 }
 
 impl DeltaTree {
@@ -69,6 +83,96 @@ impl DeltaTree {
             rid: moved(sid, shift),
             found: self.insert_at_place(place, sid, key).is_some(),
         }
+    }
+
+    /// Where a change stands at a SID, or would stand, and the position of its row: behind the inserts there, or of an
+    /// insert behind those of smaller keys. Finds the place by binary search, and counts the entries before it one by one.
+    /// It takes no memory.
+    pub fn find_change(&self, sid: u64, change: &Change) -> ChangePlace
+        requires { sid < 2 ^ 63 }
+        ensures split { IsSplit (stands_before (change_cmp self.now.key_cols change.now) sid) self.now.entries result.place }
+        ensures rid { result.rid ≡ rid_of_insert (take result.place self.now.entries) sid }
+    {
+        let place = self.place_of_change(sid, change);
+        let shift = self.tree.total_before(place);
+        ChangePlace {
+            place,
+            rid: moved(sid, shift),
+        }
+    }
+
+    /// How many entries stand before the change at the SID.
+    fn place_of_change(&self, sid: u64, change: &Change) -> usize
+        ensures { IsSplit (stands_before (change_cmp self.now.key_cols change.now) sid) self.now.entries result }
+    {
+        match change {
+            Change::Ins(row) => self.place_of_insert(sid, key_of(self.key_cols, row)),
+            Change::Del(_) => self.base_place(sid),
+            Change::Mod(col, _) => self.place_of_modify(sid, *col),
+        }
+    }
+
+    /// The SID at which an insert of the row stands whose row comes to a position of the image: past the deletes, among
+    /// those just before the row that stands there, of smaller keys. Goes over the entries from the first up to that
+    /// place. It takes no memory.
+    pub fn find_gap(&self, rid: u64, row: &Row) -> u64
+        requires rid { rid < 2 ^ 63 }
+
+        // So that a search may halve among the deletes just before a row.
+        requires ascending { IsTrue (deletes_ascend self.now.entries) }
+        ensures { result ≡ gap_from rid (key_of self.now.key_cols row.now) 0 0 self.now.entries }
+    {
+        let key = key_of(self.key_cols, row);
+        let mut inserts = 0;
+        let mut deletes = 0;
+        for place in 0..self.tree.len() {
+            let entry = self.tree.get(place);
+            let stands = rid + deletes;
+            let next = entry.sid + inserts;
+            if !is_passed(key, next, stands, &entry.change) {
+                return stands - inserts;
+            }
+            inserts += added_by(&entry.change);
+            deletes += gone_by(&entry.change);
+        }
+        rid + deletes - inserts
+    }
+}
+
+/// Whether a change that stands at `next` is passed on the way to an insert of the key before what stands at `row`.
+fn is_passed(key: &[Value], next: u64, row: u64, change: &Change) -> bool
+    ensures { result ≡ is_passed key.now next row change.now }
+{
+    next < row || (next == row && deletes_below(key, change))
+}
+
+/// Whether the change deletes a row of a smaller key.
+fn deletes_below(key: &[Value], change: &Change) -> bool
+    ensures { result ≡ deletes_below key.now change.now }
+{
+    match change {
+        Change::Del(gone) => gone.cells().cmp(key).is_lt(),
+        _ => false,
+    }
+}
+
+/// How many rows the change adds.
+fn added_by(change: &Change) -> u64
+    ensures { result ≡ added_by change.now }
+{
+    match change {
+        Change::Ins(_) => 1,
+        _ => 0,
+    }
+}
+
+/// How many rows the change takes away.
+fn gone_by(change: &Change) -> u64
+    ensures { result ≡ gone_by change.now }
+{
+    match change {
+        Change::Del(_) => 1,
+        _ => 0,
     }
 }
 

@@ -80,6 +80,13 @@ impl DeltaTree {
         })
     }
 
+    /// How many of a row's first cells are its key.
+    pub fn key_cols(&self) -> usize
+        ensures { result ≡ self.now.key_cols }
+    {
+        self.key_cols
+    }
+
     /// How many entries the tree has.
     pub fn len(&self) -> usize
         ensures { result ≡ length self.now.entries }

@@ -204,7 +204,7 @@ module _ (key_cols : ℕ) (t : Table) (k : Key) (c : Change) (here : T (is_place
   balance : (r r' i d : ℕ) → d + r' ≡ i + r → (r + i) - d ≡ r'
   balance r r' i d e = omega arith
 
-  moved_one : (y : Effects) → T (is_sorted key_cmp t) → T (are_keyed_effects key_cols y) → T (all_fit t y) → T (list_all (λ e. is_apart e.0 e.1) y) → rebased_entry key_cols (canonical_entries t y) (entry_at (rank k t) c) ≡ entry_at (rank k (table_with t y)) c
+  pub moved_one : (y : Effects) → T (is_sorted key_cmp t) → T (are_keyed_effects key_cols y) → T (all_fit t y) → T (list_all (λ e. is_apart e.0 e.1) y) → rebased_entry key_cols (canonical_entries t y) (entry_at (rank k t) c) ≡ entry_at (rank k (table_with t y)) c
   moved_one y ht hy fy apart =
       let ins = inserts_all y (second _ _ hy) apart in
       let del = deletes_all y fy in
@@ -214,7 +214,7 @@ module _ (key_cols : ℕ) (t : Table) (k : Key) (c : Change) (here : T (is_place
 -- ---- effects that don't clash
 
 -- what doesn't clash adds no row where the other has an effect
-none_added : (f : Effect) (g : Option Effect) (old : Option Row) → T (fits old f) → T (holds_at (fits old) g) → clashes f g ≡ false → T (holds_at adds_none g)
+pub none_added : (f : Effect) (g : Option Effect) (old : Option Row) → T (fits old f) → T (holds_at (fits old) g) → clashes f g ≡ false → T (holds_at adds_none g)
 none_added f None old p q unclashed = tt
 none_added (effect.Ins r) (Some (effect.Ins s)) old p q unclashed = cc
 none_added (effect.Ins r) (Some (effect.Rep s)) None p q unclashed = absurd q
@@ -232,7 +232,7 @@ none_added f (Some effect.Del) old p q unclashed = tt
 none_added f (Some (effect.Mod c)) old p q unclashed = tt
 
 -- a test of what is found is one of each entry under the key
-spread : (p : Effect → Bool) (k : Key) (y : Effects) → T (is_sorted key_cmp y) → T (holds_at p (find key_cmp k y)) → T (list_all (λ e. cond (eq_by_cmp key_cmp k e.0) (p e.1) true) y)
+pub spread : (p : Effect → Bool) (k : Key) (y : Effects) → T (is_sorted key_cmp y) → T (holds_at p (find key_cmp k y)) → T (list_all (λ e. cond (eq_by_cmp key_cmp k e.0) (p e.1) true) y)
 spread p k [] h found = tt
 spread p k (e ∷ y) h found =
     elim (eq_by_cmp key_cmp k e.0) as (λ b. eq_by_cmp key_cmp k e.0 ≡ b → T (holds_at p (cond b (Some e.1) (find key_cmp k y))) → T (cond b (p e.1) true && list_all (λ e. cond (eq_by_cmp key_cmp k e.0) (p e.1) true) y)) [

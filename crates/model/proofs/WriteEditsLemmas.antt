@@ -43,7 +43,7 @@ module _ (key_cols limit : ℕ) (t : Table) (es : Effects) (ht : T (is_keyed_tab
   lawful = all_lawful es (second _ _ he) fe
 
   -- by the effect so far
-  inserted : (row : Row) (old : Option Effect) → find key_cmp (key_of key_cols row) es ≡ old → T (holds_at (fits (row_at t (key_of key_cols row))) old) → T (fits (changed_by row_after old (row_at t (key_of key_cols row))) (Ins row)) → canonical_entries t (alter key_cmp (key_of key_cols row) (composed_effect (Ins row)) es) ≡ edited_entries key_cols (rank (key_of key_cols row) t) (Insert row) old (canonical_entries t es)
+  pub inserted : (row : Row) (old : Option Effect) → find key_cmp (key_of key_cols row) es ≡ old → T (holds_at (fits (row_at t (key_of key_cols row))) old) → T (fits (changed_by row_after old (row_at t (key_of key_cols row))) (Ins row)) → canonical_entries t (alter key_cmp (key_of key_cols row) (composed_effect (Ins row)) es) ≡ edited_entries key_cols (rank (key_of key_cols row) t) (Insert row) old (canonical_entries t es)
   inserted row None is fit done =
       let k = key_of key_cols row in
       ap (λ o. canonical_entries t (store key_cmp k (composed_effect (Ins row) o) es)) is
@@ -65,7 +65,7 @@ module _ (key_cols limit : ℕ) (t : Table) (es : Effects) (ht : T (is_keyed_tab
     at_key : (old : Option Effect) → find key_cmp k es ≡ old → T (holds_at (is_keyed_effect key_cols k) old)
     at_key old is = subst (λ o. T (holds_at (is_keyed_effect key_cols k) o)) is (each_at key_cmp key_cmp_total key_cmp-IsAntisymmetric (is_keyed_effect key_cols) es (second _ _ he) k)
 
-    deleted : (old : Option Effect) → find key_cmp k es ≡ old → T (holds_at (fits (row_at t k)) old) → T (fits (changed_by row_after old (row_at t k)) Del) → canonical_entries t (alter key_cmp k (composed_effect Del) es) ≡ edited_entries key_cols (rank k t) (Delete k) old (canonical_entries t es)
+    pub deleted : (old : Option Effect) → find key_cmp k es ≡ old → T (holds_at (fits (row_at t k)) old) → T (fits (changed_by row_after old (row_at t k)) Del) → canonical_entries t (alter key_cmp k (composed_effect Del) es) ≡ edited_entries key_cols (rank k t) (Delete k) old (canonical_entries t es)
     deleted None is fit done =
         ap (λ o. canonical_entries t (store key_cmp k (composed_effect Del o) es)) is
         ∙ edited key_cols t k (edited_entries key_cols (rank k t) (Delete k) None) (Some Del) es None is sorted lawful (delete-past key_cols t k done) (delete-row key_cols t k done)
@@ -80,7 +80,7 @@ module _ (key_cols limit : ℕ) (t : Table) (es : Effects) (ht : T (is_keyed_tab
         ap (λ o. canonical_entries t (store key_cmp k (composed_effect Del o) es)) is
         ∙ edited key_cols t k (edited_entries key_cols (rank k t) (Delete k) (Some (Rep row))) (Some Del) es (Some (Rep row)) is sorted lawful (take-past key_cols t k) (take-replaced key_cols t k row (at_key (Some (Rep row)) is))
 
-    modified : (col : ℕ) (value : Value) (old : Option Effect) → find key_cmp k es ≡ old → T (holds_at (fits (row_at t k)) old) → T (fits (changed_by row_after old (row_at t k)) (Mod ((col, value) ∷ []))) → canonical_entries t (alter key_cmp k (composed_effect (Mod ((col, value) ∷ []))) es) ≡ edited_entries key_cols (rank k t) (Set k col value) old (canonical_entries t es)
+    pub modified : (col : ℕ) (value : Value) (old : Option Effect) → find key_cmp k es ≡ old → T (holds_at (fits (row_at t k)) old) → T (fits (changed_by row_after old (row_at t k)) (Mod ((col, value) ∷ []))) → canonical_entries t (alter key_cmp k (composed_effect (Mod ((col, value) ∷ []))) es) ≡ edited_entries key_cols (rank k t) (Set k col value) old (canonical_entries t es)
     modified col value None is fit done =
         ap (λ o. canonical_entries t (store key_cmp k (composed_effect (Mod ((col, value) ∷ [])) o) es)) is
         ∙ edited key_cols t k (edited_entries key_cols (rank k t) (Set k col value) None) (Some (Mod ((col, value) ∷ []))) es None is sorted lawful (modify-past key_cols t k done col value) (modify-row key_cols t k done col value)
@@ -95,13 +95,13 @@ module _ (key_cols limit : ℕ) (t : Table) (es : Effects) (ht : T (is_keyed_tab
         ap (λ o. canonical_entries t (store key_cmp k (composed_effect (Mod ((col, value) ∷ [])) o) es)) is
         ∙ edited key_cols t k (edited_entries key_cols (rank k t) (Set k col value) (Some (Rep row))) (Some (Rep (set row col value))) es (Some (Rep row)) is sorted lawful (change-past key_cols t k col value) (change-replaced key_cols t k col value row (at_key (Some (Rep row)) is))
 
-    abbrev fits_now : Effect → Type 0
+    abbrev pub fits_now : Effect → Type 0
     fits_now f = T (fits (changed_by row_after (find key_cmp k es) (row_at t k)) f)
 
-    fit_so_far : T (holds_at (fits (row_at t k)) (find key_cmp k es))
+    pub fit_so_far : T (holds_at (fits (row_at t k)) (find key_cmp k es))
     fit_so_far = each_at key_cmp key_cmp_total key_cmp-IsAntisymmetric (λ j f. fits (row_at t j) f) es fe k
 
-    here : (f : Effect) → T (fits (row_at (table_with t es) k) f) → fits_now f
+    pub here : (f : Effect) → T (fits (row_at (table_with t es) k) f) → fits_now f
     here f h = subst (λ old. T (fits old f)) (row_at-table_with t es k sorted) h
 
   by_write : (write : Write) → T (is_done (reply_to key_cols limit t es write)) → canonical_entries t (alter key_cmp (key_of_write key_cols write) (composed_effect (effect_of_write write)) es) ≡ edited_entries key_cols (rank (key_of_write key_cols write) t) write (find key_cmp (key_of_write key_cols write) es) (canonical_entries t es)

@@ -1,0 +1,5 @@
+pub mod AgainLemmas
+pub mod FrameLemmas
+pub mod ReadLemmas
+pub mod TakesLemmas
+mod WorkedColumns

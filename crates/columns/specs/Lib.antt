@@ -1,0 +1,4 @@
+pub mod Bytes
+pub mod Column
+pub mod Reading
+pub mod Vectors

@@ -1,0 +1,16 @@
+//! A column of a store: its frames, their bytes, and what a list of bytes says as a column.
+//!
+//! *What it stands on.* `values`, `blocks` for the values of a block and their payload, and `thiserror`.
+#![tactic(auto)]
+
+mod fault;
+mod frame;
+mod place;
+mod reading;
+mod writing;
+
+pub use fault::ReadFault;
+pub use frame::{Frame, Head, Part};
+pub use place::{Place, Unfinished};
+pub use reading::read_column;
+pub use writing::{write_header, write_part};

@@ -1,0 +1,4 @@
+pub mod PartsLemmas
+pub mod PiecesLemmas
+pub mod StoreLemmas
+mod WorkedStores

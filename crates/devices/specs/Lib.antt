@@ -1,0 +1,4 @@
+pub mod Device
+pub mod Image
+pub mod Store
+pub mod Stored

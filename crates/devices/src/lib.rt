@@ -1,0 +1,27 @@
+//! The devices that columns are written to, and the store that writes tables to them.
+//!
+//! *What a contract sees.* A device is the bytes that it has taken and how often it has failed.
+//!
+//! *What it stands on.* `values`, `blocks`, `stable`, `columns` for the frames of a column, and `thiserror` for what a
+//! fault shows.
+#![tactic(auto)]
+
+mod boxed;
+mod device;
+mod fail_at;
+mod fault;
+mod file;
+mod memory;
+mod pieces;
+mod reading;
+mod store;
+#[cfg(test)]
+mod tests;
+
+pub use device::{ColumnDevice, DeviceFault, ended};
+pub use fail_at::FailAt;
+pub use fault::StoreFault;
+pub use file::FileColumn;
+pub use memory::MemColumn;
+pub use reading::{newest_among, read_parts};
+pub use store::Store;

@@ -1,0 +1,72 @@
+//! The pieces of a table's image, one for each column.
+ghost use Rattle.std.specs.Prelude.{◌≡◌, ◌≤◌, ◌++◌, IfOk, OnOk, length, map};
+ghost use Rattle.values.specs.declared.limits.TheConstants.{MAX_ROWS};
+ghost use Rattle.columns.specs.Column.{column_bytes};
+ghost use Rattle.devices.specs.Image.{headers_of, image_frames, pieces_of};
+
+use blocks::Block;
+use columns::{write_header, write_part};
+use stable::{Column, StableTable};
+use std::alloc::Global;
+use values::limits::MAX_BLOCK_VALUES;
+use values::{ColumnType, NoMemory};
+
+/// Appends a column's values, each block as a frame of this generation.
+fn write_column(
+    alloc: Global,
+    generation: u32,
+    column: &Column,
+    out: &mut Vec<u8>,
+) -> Result<(), NoMemory>
+    requires { length column.now.values ≤ MAX_ROWS }
+    ensures { OnOk result (out.new.items ≡ out.old.items ++ column_bytes (image_frames generation column.now)) }
+{
+    let count = column.len();
+    if count == 0 {
+        let none = Block::new(alloc, column.column_type());
+        return write_part(alloc, generation, 0, true, &none, out);
+    }
+    let blocks = count.div_ceil(MAX_BLOCK_VALUES);
+    for k in 0..blocks {
+        write_part(
+            alloc,
+            generation,
+            k as u32,
+            k + 1 == blocks,
+            column.block(k),
+            out,
+        )?;
+    }
+    Ok(())
+}
+
+/// The header of each column.
+pub(crate) fn headers_of(alloc: Global, types: &[ColumnType]) -> Result<Vec<Vec<u8>>, NoMemory>
+    ensures { IfOk result (λ headers. map (λ p. p.items) headers.items ≡ headers_of types.now) }
+{
+    let mut headers = Vec::with_capacity(alloc, types.len())?;
+    for ty in types {
+        let mut header = Vec::new(alloc);
+        write_header(*ty, &mut header)?;
+        headers.push(header)?;
+    }
+    Ok(headers)
+}
+
+/// What each column's device is to take for a table.
+pub(crate) fn pieces_of(
+    alloc: Global,
+    generation: u32,
+    table: &StableTable,
+) -> Result<Vec<Vec<u8>>, NoMemory>
+    ensures { IfOk result (λ pieces. map (λ p. p.items) pieces.items ≡ pieces_of generation table.now) }
+{
+    let width = table.schema().width();
+    let mut pieces = Vec::with_capacity(alloc, width)?;
+    for col in 0..width {
+        let mut piece = Vec::new(alloc);
+        write_column(alloc, generation, table.column(col), &mut piece)?;
+        pieces.push(piece)?;
+    }
+    Ok(pieces)
+}

@@ -1,0 +1,74 @@
+//! What devices leave at their end.
+
+use super::*;
+use stable::StableTable;
+use std::alloc::Global;
+use std::sync::{Arc, OnceLock};
+use std::test::Fail;
+use values::{ColumnType, Row, Schema, Value};
+
+/// What the slot has, or no bytes.
+fn left_in(out: &Arc<OnceLock<Vec<u8>>>) -> &[u8] {
+    match out.get() {
+        Some(contents) => contents.as_slice(),
+        None => &[],
+    }
+}
+
+#[test]
+fn a_sound_device_leaves_a_clean_end(rt: HostRuntime) -> Result<(), Fail> {
+    let out = Arc::new(rt.alloc(), OnceLock::new())?;
+    let mut column = MemColumn::new(Vec::new(rt.alloc()), Arc::try_clone(&out)?)?;
+    assert!(rt; column.append(b"ab").is_ok());
+    drop(column);
+    assert_eq!(rt; left_in(&out), b"abE".as_slice());
+    Ok(())
+}
+
+#[test]
+fn a_failed_device_gets_no_clean_end(rt: HostRuntime) -> Result<(), Fail> {
+    let out = Arc::new(rt.alloc(), OnceLock::new())?;
+    let column = MemColumn::new(Vec::new(rt.alloc()), Arc::try_clone(&out)?)?;
+    let mut column: Box<dyn ColumnDevice + Send> = Box::new(rt.alloc(), FailAt::new(column, 2, 1))?;
+    if column.failures() == 0 {
+        assert!(rt; column.append(b"ab").is_ok());
+    }
+    if column.failures() == 0 {
+        assert!(rt; column.append(b"cd").is_err());
+    }
+    assert_eq!(rt; column.failures(), 1);
+    drop(column);
+    assert_eq!(rt; left_in(&out), b"abc".as_slice());
+    Ok(())
+}
+
+/// The table of one column of numbers with the row 10.
+fn one_row(alloc: Global) -> Result<StableTable, Fail> {
+    let mut cols = Vec::new(alloc);
+    cols.push((String::from_str(alloc, "id")?, ColumnType::Int))?;
+    let schema = Schema::new(alloc, cols, 1)?;
+    let mut cells = Vec::new(alloc);
+    cells.push(Value::Int(10))?;
+    let mut rows = Vec::new(alloc);
+    rows.push(Row::new(cells))?;
+    Ok(StableTable::build(alloc, schema, rows)?)
+}
+
+#[test]
+fn one_row_is_stored_as_it_is_named(rt: HostRuntime) -> Result<(), Fail> {
+    let out = Arc::new(rt.alloc(), OnceLock::new())?;
+    let table = one_row(rt.alloc())?;
+    let column = MemColumn::new(Vec::new(rt.alloc()), Arc::try_clone(&out)?)?;
+    let mut devices: Vec<Box<dyn ColumnDevice + Send>> = Vec::new(rt.alloc());
+    devices.push(Box::new(rt.alloc(), column)?)?;
+    let schema = table.schema().copy()?;
+    let mut store = Store::new(rt.alloc(), devices, &schema, 1)?;
+    assert_eq!(rt; store.append_image(&table), Ok(1));
+    drop(store);
+    let named = [
+        0x48, 1, 1, 0x42, 0, 0, 0, 1, 0, 0, 0, 0, 1, 0, 1, 0, 0, 0, 8, 0, 0, 0, 0, 0, 0, 0, 10,
+        0x45,
+    ];
+    assert_eq!(rt; left_in(&out), named.as_slice());
+    Ok(())
+}

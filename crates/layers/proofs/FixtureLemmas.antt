@@ -1,0 +1,68 @@
+-- The trees of writes over a table, as tests make them.
+use Rattle.std.proofs.Common.{◌≡◌, ◌∙◌, ℕ, ◌≤◌, ◌<◌, ◌^◌, true, [], List, length, refl, sym, ap, subst, arith}
+use Rattle.std.specs.List.{list_all}
+use Rattle.values.specs.Shape.{Columns}
+use Rattle.model.specs.declared.entry.Entry.{Entry}
+use Rattle.model.specs.declared.write.Write.{Write}
+use Rattle.model.specs.Table.{Table, IsTable}
+use Rattle.model.specs.Effects.{Effects, AreOver, table_with}
+use Rattle.model.specs.Entries.{canonical_entries, IsLawful}
+use Rattle.model.specs.Places.{insert_count}
+use Rattle.model.specs.Writes.{effects_after_all, write_fits_schema}
+use Rattle.model.proofs.AllLaws.{all_keep, ordered}
+use Rattle.delta.specs.Tree.{Tree}
+use Rattle.delta.proofs.CountLemmas.{counts-le}
+use Rattle.layers.specs.Over.{IsTreeOf, IsSmall, AreConsecutive, AreAligned}
+
+module _ (schema : Columns) (t : Table) (x : Effects) where
+  -- writes that fit the schema leave effects over the table
+  pub over_writes : (writes : List Write) (limit key_cols : ℕ) (none : Effects) → IsTable schema t → list_all (write_fits_schema schema) writes ≡ true → key_cols ≡ schema.key_cols → x ≡ effects_after_all key_cols limit t none writes → none ≡ [] → AreOver schema t x
+  over_writes writes limit key_cols none table fit keys is empty =
+      let start : AreOver schema t [] = record { table = table; effects_are = record { keyed = refl; fitting = refl }; fit = refl } in
+      subst (AreOver schema t) (sym (is ∙ (λ i. effects_after_all (keys i) limit t (empty i) writes))) (all_keep schema limit t [] writes start fit)
+
+  -- their entries are lawful, where there aren't too many rows or entries
+  pub lawful_layer : AreOver schema t x → (entries : List Entry) (key_cols : ℕ) → key_cols ≡ schema.key_cols → entries ≡ canonical_entries t x → length t < 2 ^ 32 → length entries ≤ 2 ^ 40 → IsLawful key_cols entries
+  lawful_layer over entries key_cols keys is few short =
+      let h = ordered schema t x over in
+      let whole : IsLawful schema.key_cols (canonical_entries t x) = record {
+        ordered = h.ordered;
+        placed = λ i d lt. omega (arith, h.placed i d lt, few);
+        counted = omega (arith, short, ap length is);
+      } in
+      subst (λ n. IsLawful n entries) (sym keys) (subst (IsLawful schema.key_cols) (sym is) whole)
+
+  -- and they are the effects' tree
+  pub is_tree : AreOver schema t x → (entries : List Entry) (key_cols : ℕ) (tree : Tree) → key_cols ≡ schema.key_cols → entries ≡ canonical_entries t x → length entries < 1000000 → tree ≡ record { key_cols = key_cols; entries = entries } → IsTreeOf schema t x tree
+  is_tree over entries key_cols tree keys is few made = record {
+    over = over;
+    tree_is = made ∙ (λ i. record { key_cols = keys i; entries = is i });
+    few = omega (arith, few, counts-le entries, ap (λ (r : Tree). insert_count r.entries) made);
+  }
+
+-- a tree over the table that another leaves
+pub are_consecutive : (schema : Columns) (t after : Table) (x f : Effects) (lower upper : Tree) → IsSmall schema t → IsTreeOf schema t x lower → after ≡ table_with t x → IsTreeOf schema after f upper → AreConsecutive lower upper
+are_consecutive schema t after x f lower upper small below is above = record {
+  schema = schema;
+  t = t;
+  x = x;
+  f = f;
+  small = small;
+  below = below;
+  above = subst (λ s. IsTreeOf schema s f upper) is above;
+}
+
+pub are_aligned : (schema : Columns) (t : Table) (x y : Effects) (one two : Tree) → IsSmall schema t → IsTreeOf schema t x one → IsTreeOf schema t y two → AreAligned one two
+are_aligned schema t x y one two small first second = record {
+  schema = schema;
+  t = t;
+  x = x;
+  y = y;
+  small = small;
+  x_is = first;
+  y_is = second;
+}
+
+-- a table with no rows
+pub no_rows : (schema : Columns) (t : Table) → t ≡ [] → IsTable schema t
+no_rows schema t is = let empty : IsTable schema [] = record { keyed = refl; fitting = refl } in subst (IsTable schema) (sym is) empty

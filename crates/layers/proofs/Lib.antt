@@ -1,0 +1,9 @@
+pub mod CountsLemmas
+pub mod KeyPlaceLemmas
+pub mod RowPlaceLemmas
+pub mod GapPlaceLemmas
+pub mod StepLemmas
+pub mod RestLemmas
+pub mod ClashLemmas
+pub mod SerialLemmas
+pub mod FixtureLemmas

@@ -1,0 +1,207 @@
+-- The walk over a tree beside another one over the same image.
+use Rattle.std.proofs.Common.{◌≡◌, ℕ, zero, suc, ◌+◌, ◌<◌, ◌≤◌, ◌^◌, Bool, false, T, Option, Some, None, is_some, List, [], ◌∷◌, ◌++◌, map, length, take, drop, get_or, set, refl, sym, ap, ◌∙◌, subst, arith, append-nil}
+use Rattle.std.specs.Prelude.{IfSome, slice_get}
+use Rattle.std.specs.Bool.{passes}
+use Rattle.std.specs.List.{list_all}
+use Rattle.std.proofs.lemmas.List.{map-append, length-map}
+use Rattle.std.proofs.lemmas.List.Elements.{All-weaker}
+use Rattle.std.proofs.lemmas.Option.{slice_get_within, get_or_from_slice_get, slice_get_read}
+use Rattle.values.specs.Orders.{key_cmp}
+use Rattle.values.specs.Shape.{Columns}
+use Rattle.model.specs.declared.clash.Clash.{Clash}
+use Rattle.model.specs.declared.entry.Entry.{Entry}
+use Rattle.model.specs.declared.entry.Change.{Change}
+use Rattle.model.specs.Maps.{is_sorted}
+use Rattle.model.specs.Table.{Table, is_keyed_table}
+use Rattle.model.specs.Effects.{Effects, is_keyed_effect, are_keyed_effects, all_fit, table_with}
+use Rattle.model.specs.Clashes.{conflicts, Conflicts}
+use Rattle.model.specs.Entries.{entry_at, canonical_entries, change_cmp, are_ordered, IsLawful}
+use Rattle.model.specs.Places.{insert_count}
+use Rattle.model.specs.Rebasing.{or_else, clash_with, first_clash, first_clash_from, rebased_entry, rebased_entries, IsLeastClash}
+use Rattle.model.proofs.MapsLemmas.{first, second}
+use Rattle.model.proofs.SplitLemmas.{canonical_entries-placed}
+use Rattle.model.proofs.FirstClashLemmas.{first_clash-least}
+use Rattle.model.proofs.AllLaws.{finds, rebases, ordered}
+use Rattle.delta.specs.Search.{stands_before, IsSplit}
+use Rattle.delta.specs.Tree.{Tree}
+use Rattle.layers.specs.Over.{IsTreeOf, AreAligned}
+use Rattle.layers.specs.Serialization.{clash_with_head, rebased_tree}
+use Rattle.layers.proofs.CountsLemmas.{counted, few}
+use Rattle.layers.proofs.ClashLemmas.{is_ranked, agree_all, ranked-canonical_entries, clash_place}
+
+head_drop : (n : ℕ) (es : List Entry) (e : Entry) → slice_get es n ≡ Some e → drop n es ≡ e ∷ drop (n + 1) es
+head_drop n [] e is = cc
+head_drop zero (z ∷ es) e is =
+    let same : z ≡ e = cc in
+    let one : ◌≡◌ {A = ℕ} 1 (zero + 1) = omega arith in
+    λ i. same i ∷ drop (one i) (z ∷ es)
+head_drop (suc n) (z ∷ es) e is =
+    let next : suc (n + 1) ≡ suc n + 1 = omega arith in
+    head_drop n es e is ∙ ap (λ m. e ∷ drop m (z ∷ es)) next
+
+next_take : (n : ℕ) (es : List Entry) (e : Entry) → slice_get es n ≡ Some e → take (n + 1) es ≡ take n es ++ e ∷ []
+next_take n [] e is = cc
+next_take zero (z ∷ es) e is =
+    let same : z ≡ e = cc in
+    let one : zero + 1 ≡ 1 = omega arith in
+    ap (λ m. take m (z ∷ es)) one ∙ ap (λ y. y ∷ []) same
+next_take (suc n) (z ∷ es) e is =
+    let next : suc n + 1 ≡ suc (n + 1) = omega arith in
+    ap (λ m. take m (z ∷ es)) next ∙ ap (λ ys. z ∷ ys) (next_take n es e is)
+
+holds_at : (p : Entry → Bool) (n : ℕ) (es : List Entry) (e : Entry) → T (list_all p es) → slice_get es n ≡ Some e → T (p e)
+holds_at p n [] e h is = cc
+holds_at p zero (z ∷ es) e h is = let same : z ≡ e = cc in subst (λ y. T (p y)) same (first (p z) _ h)
+holds_at p (suc n) (z ∷ es) e h is = holds_at p n es e (second (p z) _ h) is
+
+-- ---- one entry more
+
+-- an entry that clashes with none leaves the clash to the next ones
+pub clear_next : (key_cols n : ℕ) (xs ys : List Entry) (e : Entry) → slice_get xs n ≡ Some e → clash_with key_cols n e 0 ys ≡ None → first_clash_from key_cols n (drop n xs) ys ≡ first_clash_from key_cols (n + 1) (drop (n + 1) xs) ys
+clear_next key_cols n xs ys e at none =
+    let next : suc n ≡ n + 1 = omega arith in
+    ap (λ zs. first_clash_from key_cols n zs ys) (head_drop n xs e at)
+    ∙ ap (λ c. or_else c (first_clash_from key_cols (suc n) (drop (n + 1) xs) ys)) none
+    ∙ ap (λ m. first_clash_from key_cols m (drop (n + 1) xs) ys) next
+
+-- and one that clashes is the first
+pub clash_here : (key_cols n : ℕ) (xs ys : List Entry) (e : Entry) (clash : Clash) → slice_get xs n ≡ Some e → clash_with key_cols n e 0 ys ≡ Some clash → first_clash_from key_cols n (drop n xs) ys ≡ Some clash
+clash_here key_cols n xs ys e clash at some =
+    ap (λ zs. first_clash_from key_cols n zs ys) (head_drop n xs e at)
+    ∙ ap (λ c. or_else c (first_clash_from key_cols (suc n) (drop (n + 1) xs) ys)) some
+
+-- the entries so far with one more, made consecutive
+pub moved_next : (key_cols n sid : ℕ) (xs ys out : List Entry) (e : Entry) (change : Change) → slice_get xs n ≡ Some e → sid ≡ (rebased_entry key_cols ys e).sid → change ≡ e.change → out ≡ map (rebased_entry key_cols ys) (take n xs) → out ++ entry_at sid change ∷ [] ≡ map (rebased_entry key_cols ys) (take (n + 1) xs)
+moved_next key_cols n sid xs ys out e change at sid_is change_is is =
+    (λ i. is i ++ entry_at (sid_is i) (change_is i) ∷ [])
+    ∙ sym (map-append (rebased_entry key_cols ys) (take n xs) (e ∷ []))
+    ∙ ap (map (rebased_entry key_cols ys)) (sym (next_take n xs e at))
+
+pub none_left : (n : ℕ) (es : List Entry) → length es ≤ n → drop n es ≡ []
+none_left zero [] h = refl
+none_left (suc n) [] h = refl
+none_left zero (e ∷ es) h = absurd (omega arith)
+none_left (suc n) (e ∷ es) h = none_left n es (omega arith)
+
+pub all_taken : (n : ℕ) (es : List Entry) → length es ≤ n → take n es ≡ es
+all_taken zero [] h = refl
+all_taken (suc n) [] h = refl
+all_taken zero (e ∷ es) h = absurd (omega arith)
+all_taken (suc n) (e ∷ es) h = ap (λ ys. e ∷ ys) (all_taken n es (omega arith))
+
+-- ---- of two trees over one table
+
+-- how many rows and entries effects make
+module _ (schema : Columns) (t : Table) (x : Effects) (tree : Tree) (h : IsTreeOf schema t x tree) (rows : length t ≤ 2147483647) where
+  keyed : T (are_keyed_effects schema.key_cols x)
+  keyed = passes (are_keyed_effects schema.key_cols x) h.over.effects_are.keyed
+
+  each : T (list_all (λ e. is_keyed_effect schema.key_cols e.0 e.1) x)
+  each = second (is_sorted key_cmp x) (list_all (λ e. is_keyed_effect schema.key_cols e.0 e.1) x) keyed
+
+  rows_after : length (table_with t x) ≤ 4294967294
+  rows_after =
+      let t_sorted = first (is_sorted key_cmp t) _ (passes (is_keyed_table schema.key_cols t) h.over.table.keyed) in
+      let x_sorted = first (is_sorted key_cmp x) (list_all (λ e. is_keyed_effect schema.key_cols e.0 e.1) x) keyed in
+      let moved = counted t x t_sorted x_sorted (passes (all_fit t x) h.over.fit) in
+      let same = ap (λ (r : Tree). insert_count r.entries) h.tree_is in
+      omega (arith, moved, same, h.few, rows)
+
+module _ (x y : Tree) (w : AreAligned x y) where
+  cols_x : x.key_cols ≡ w.schema.key_cols
+  cols_x = ap (λ (r : Tree). r.key_cols) w.x_is.tree_is
+
+  cols_y : y.key_cols ≡ w.schema.key_cols
+  cols_y = ap (λ (r : Tree). r.key_cols) w.y_is.tree_is
+
+  list_x : x.entries ≡ canonical_entries w.t w.x
+  list_x = ap (λ (r : Tree). r.entries) w.x_is.tree_is
+
+  list_y : y.entries ≡ canonical_entries w.t w.y
+  list_y = ap (λ (r : Tree). r.entries) w.y_is.tree_is
+
+  pub small_sid : (n : ℕ) (e : Entry) → slice_get x.entries n ≡ Some e → e.sid < 2 ^ 63
+  small_sid n e at =
+      let here = sym (ap (λ (es : List Entry). slice_get es n) list_x) ∙ at in
+      let within = slice_get_within (canonical_entries w.t w.x) n e here in
+      let placed = canonical_entries-placed w.t w.x n e within in
+      let same = get_or_from_slice_get (canonical_entries w.t w.x) n e e here in
+      let bound : e.sid ≤ length w.t = subst (λ (z : Entry). z.sid ≤ length w.t) same placed in
+      omega (arith, bound, w.small.rows)
+
+  -- the first clash of an entry is that at its place
+  pub clash_is : (n : ℕ) (e : Entry) (p : ℕ) → slice_get x.entries n ≡ Some e → IsSplit (stands_before (change_cmp y.key_cols e.change) e.sid) y.entries p → clash_with y.key_cols n e 0 y.entries ≡ clash_with_head y.key_cols n e p (drop p y.entries)
+  clash_is n e p at split =
+      let here = sym (ap (λ (es : List Entry). slice_get es n) list_x) ∙ at in
+      let kc = w.schema.key_cols in
+      let x_ranked = ranked-canonical_entries kc w.t w.x (each w.schema w.t w.x x w.x_is w.small.rows) in
+      let y_ranked = ranked-canonical_entries kc w.t w.y (each w.schema w.t w.y y w.y_is w.small.rows) in
+      let agree = agree_all kc w.t e (canonical_entries w.t w.y) (holds_at (is_ranked kc w.t) n (canonical_entries w.t w.x) e x_ranked here) y_ranked in
+      let order = passes (are_ordered kc (canonical_entries w.t w.y)) (ordered w.schema w.t w.y w.y_is.over).ordered in
+      let P = λ (r : Tree). IsSplit (stands_before (change_cmp r.key_cols e.change) e.sid) r.entries p → clash_with r.key_cols n e 0 r.entries ≡ clash_with_head r.key_cols n e p (drop p r.entries) in
+      subst P (sym w.y_is.tree_is) (λ s. clash_place kc e (canonical_entries w.t w.y) p n order s agree) split
+
+  -- the first clash of all, in the words of the effects
+  found_is : first_clash y.key_cols x.entries y.entries ≡ first_clash w.schema.key_cols (canonical_entries w.t w.x) (canonical_entries w.t w.y)
+  found_is i = first_clash (cols_y i) (list_x i) (list_y i)
+
+  pub conflicting : (clash : Clash) → first_clash y.key_cols x.entries y.entries ≡ Some clash → Conflicts w.x w.y × IsLeastClash w.schema.key_cols x.entries y.entries clash
+  conflicting clash found =
+      let some = sym (finds w.schema w.t w.x w.y w.x_is.over w.y_is.over) ∙ ap is_some (sym found_is ∙ found) in
+      let here : first_clash w.schema.key_cols x.entries y.entries ≡ Some clash = ap (λ (k : ℕ). first_clash k x.entries y.entries) (sym cols_y) ∙ found in
+      (some, subst (λ (o : Option Clash). IfSome o (IsLeastClash w.schema.key_cols x.entries y.entries)) here (first_clash-least w.schema.key_cols x.entries y.entries).least)
+
+  pub unconflicting : first_clash y.key_cols x.entries y.entries ≡ None → conflicts w.x w.y ≡ false
+  unconflicting none = sym (finds w.schema w.t w.x w.y w.x_is.over w.y_is.over) ∙ ap is_some (sym found_is ∙ none)
+
+  pub rebased_list : first_clash y.key_cols x.entries y.entries ≡ None → rebased_entries y.key_cols y.entries x.entries ≡ canonical_entries (table_with w.t w.y) w.x
+  rebased_list none =
+      (λ i. rebased_entries (cols_y i) (list_y i) (list_x i))
+      ∙ (rebases w.schema w.t w.x w.y w.x_is.over w.y_is.over (unconflicting none)).1
+
+  pub rebased_is : (tree : Tree) (out : List Entry) → first_clash y.key_cols x.entries y.entries ≡ None → out ≡ rebased_entries y.key_cols y.entries x.entries → tree ≡ record { key_cols = x.key_cols; entries = out } → tree ≡ rebased_tree x y w
+  rebased_is tree out none is tree_is = tree_is ∙ (λ i. record { key_cols = cols_x i; entries = (is ∙ rebased_list none) i })
+
+  pub lawful : (out : List Entry) → first_clash y.key_cols x.entries y.entries ≡ None → out ≡ rebased_entries y.key_cols y.entries x.entries → IsLawful x.key_cols out
+  lawful out none is =
+      let over = (rebases w.schema w.t w.x w.y w.x_is.over w.y_is.over (unconflicting none)).0 in
+      let after = table_with w.t w.y in
+      let entries = ordered w.schema after w.x over in
+      let rows = rows_after w.schema w.t w.y y w.y_is w.small.rows in
+      let short = few w.schema w.t w.x w.small.lawful w.x_is.over in
+      let same : length (rebased_entries y.key_cols y.entries x.entries) ≡ length x.entries = length-map _ _ in
+      let moved : length (canonical_entries after w.x) ≡ length (canonical_entries w.t w.x) = ap length (sym (rebased_list none)) ∙ same ∙ ap length list_x in
+      let law : IsLawful w.schema.key_cols (canonical_entries after w.x) = record {
+        ordered = entries.ordered;
+        placed = All-weaker (λ e. e.sid ≤ length after) (λ e. e.sid < 2 ^ 32) (λ e le. omega (arith, le, rows)) (canonical_entries after w.x) entries.placed;
+        counted = omega (arith, short, moved, rows_after w.schema w.t w.x x w.x_is w.small.rows, w.small.rows);
+      } in
+      subst (λ (r : Tree). IsLawful r.key_cols r.entries) (λ i. record { key_cols = sym cols_x i; entries = sym (is ∙ rebased_list none) i }) law
+
+-- ---- the entries changed in place
+
+-- behind those that are made consecutive the next one is as it was
+same_there : (f : Entry → Entry) (n : ℕ) (xs : List Entry) (d : Entry) → n < length xs → get_or (map f (take n xs) ++ drop n xs) n d ≡ get_or xs n d
+same_there f n [] d lt = absurd (omega arith)
+same_there f zero (x ∷ xs) d lt = refl
+same_there f (suc n) (x ∷ xs) d lt = let short : n < length xs = omega arith in same_there f n xs d short
+
+pub owned_at : (f : Entry → Entry) (n : ℕ) (xs items : List Entry) (e : Entry) → items ≡ map f (take n xs) ++ drop n xs → n < length xs → e ≡ get_or items n e → slice_get xs n ≡ Some e
+owned_at f n xs items e is lt at = slice_get_read xs (length xs) n e refl lt (at ∙ ap (λ (es : List Entry). get_or es n e) is ∙ same_there f n xs e lt)
+
+set_next : (f : Entry → Entry) (n : ℕ) (xs : List Entry) (e : Entry) → slice_get xs n ≡ Some e → set (map f (take n xs) ++ drop n xs) n (f e) ≡ map f (take (suc n) xs) ++ drop (suc n) xs
+set_next f n [] e is = cc
+set_next f zero (z ∷ xs) e is = let same : e ≡ z = cc in ap (λ y. f y ∷ xs) same
+set_next f (suc n) (z ∷ xs) e is = ap (λ ys. f z ∷ ys) (set_next f n xs e is)
+
+pub owned_next : (key_cols n sid : ℕ) (xs ys items : List Entry) (e : Entry) → slice_get xs n ≡ Some e → sid ≡ (rebased_entry key_cols ys e).sid → items ≡ map (rebased_entry key_cols ys) (take n xs) ++ drop n xs →
+    set items n (entry_at sid e.change) ≡ map (rebased_entry key_cols ys) (take (n + 1) xs) ++ drop (n + 1) xs
+owned_next key_cols n sid xs ys items e at sid_is is =
+    let next : suc n ≡ n + 1 = omega arith in
+    (λ i. set (is i) n (entry_at (sid_is i) e.change))
+    ∙ set_next (rebased_entry key_cols ys) n xs e at
+    ∙ ap (λ m. map (rebased_entry key_cols ys) (take m xs) ++ drop m xs) next
+
+pub owned_all : (key_cols n : ℕ) (xs ys items : List Entry) → length xs ≤ n → items ≡ map (rebased_entry key_cols ys) (take n xs) ++ drop n xs → items ≡ rebased_entries key_cols ys xs
+owned_all key_cols n xs ys items end is =
+    is ∙ (λ i. map (rebased_entry key_cols ys) (all_taken n xs end i) ++ none_left n xs end i) ∙ append-nil (map (rebased_entry key_cols ys) xs)

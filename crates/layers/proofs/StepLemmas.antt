@@ -1,0 +1,360 @@
+-- One upper entry, folded into the tree of the effects so far.
+use Rattle.std.proofs.Common.{◌≡◌, ℕ, ◌<◌, ◌≤◌, ◌^◌, Bool, true, false, cond, T, Option, Some, None, is_some, List, length, refl, sym, ap, ◌∙◌, subst, arith}
+use Rattle.std.specs.Prelude.{IsTrue, IsSome, IsSomeAnd, IsFalse, is_none, nat_lt, slice_get}
+use Rattle.std.proofs.lemmas.Bool.Decides.{nat_tests}
+use Rattle.std.specs.Bool.{passes}
+use Rattle.values.specs.Orders.{key_cmp}
+use Rattle.values.specs.Shape.{Columns, key_of, cell_fits_schema, cell_fault_at, value_fault}
+use Rattle.values.specs.declared.value.ColumnType.{ColumnType}
+use Rattle.values.specs.declared.fault.ShapeFault.TheVariants.{KeyColumn}
+use Rattle.values.specs.declared.row.Row.{Row}
+use Rattle.values.specs.declared.row.Key.{Key}
+use Rattle.values.specs.declared.value.Value.{Value}
+use Rattle.model.specs.declared.entry.Entry.{Entry}
+use Rattle.model.specs.declared.entry.Change.{Change}
+use Rattle.model.specs.declared.entry.Change.TheVariants.{Ins, Del, Mod}
+use Rattle.model.specs.declared.effect.Effect.{Effect}
+use Rattle.model.specs.declared.effect.Effect.TheVariants as effect
+use Rattle.model.specs.declared.write.Write.TheVariants.{Delete, Set}
+use Rattle.model.specs.Maps.{find, is_sorted}
+use Rattle.model.specs.Table.{row_at, rank, is_keyed_table}
+use Rattle.model.specs.Effects.{are_keyed_effects, fits, all_fit, row_after, table_with}
+use Rattle.std.proofs.lemmas.Option.{slice_get_within}
+use Rattle.model.specs.Entries.{entry_at, is_insert, canonical_entries}
+use Rattle.model.specs.Edits.{put_ins, put_del, put_mod, take_ins, set_ins, edited_entries}
+use Rattle.model.proofs.MapsLemmas.{first, changed_by, holds_at}
+use Rattle.model.proofs.SplitLemmas.{rank-le-length}
+use Rattle.model.proofs.WriteEditsLemmas.{inserted, deleted, modified, fit_so_far, here}
+use Rattle.delta.specs.declared.places.Place.{Place}
+use Rattle.delta.specs.declared.places.Place.TheVariants.{Inserted, Base}
+use Rattle.delta.specs.Lookups.{has_delete, inserted_row}
+use Rattle.delta.specs.Positions.{IsAtRid, gap_from, deletes_ascend}
+use Rattle.delta.specs.Laws.{row_inserted, MayEdit}
+use Rattle.delta.specs.Tree.{Tree}
+use Rattle.delta.proofs.LawsLemmas.{may_insert, may_delete, may_set, known, Known}
+use Rattle.layers.specs.Propagation.{IsNext, IsKeyOfInsert, effect_of_change, effects_with, next_tree}
+use Rattle.layers.proofs.RowPlaceLemmas.{IsRowPlace, IsInsertOf, row_place}
+use Rattle.layers.proofs.GapPlaceLemmas.{gap_place, deletes_ascend-canonical_entries}
+
+-- the same step, of an entry whose change is told
+pub with_change : (tree : Tree) (entry : Entry) (c : Change) → entry.change ≡ c → IsNext tree entry → IsNext tree (entry_at entry.sid c)
+with_change tree entry c is w = subst (λ d. IsNext tree (entry_at entry.sid d)) is w
+
+-- an edit by a write, by whether the row is inserted
+deletes_by : (key_cols sid : ℕ) (key : Key) (old : Option Effect) (es : List Entry) → edited_entries key_cols sid (Delete key) old es ≡ cond (is_some (row_inserted old)) (take_ins key_cols sid key es) (put_del key_cols sid key es)
+deletes_by key_cols sid key None es = refl
+deletes_by key_cols sid key (Some (effect.Ins row)) es = refl
+deletes_by key_cols sid key (Some effect.Del) es = refl
+deletes_by key_cols sid key (Some (effect.Mod cells)) es = refl
+deletes_by key_cols sid key (Some (effect.Rep row)) es = refl
+
+sets_by : (key_cols sid : ℕ) (key : Key) (col : ℕ) (value : Value) (old : Option Effect) (es : List Entry) → edited_entries key_cols sid (Set key col value) old es ≡ cond (is_some (row_inserted old)) (set_ins key_cols sid key col value es) (put_mod key_cols sid col value es)
+sets_by key_cols sid key col value None es = refl
+sets_by key_cols sid key col value (Some (effect.Ins row)) es = refl
+sets_by key_cols sid key col value (Some effect.Del) es = refl
+sets_by key_cols sid key col value (Some (effect.Mod cells)) es = refl
+sets_by key_cols sid key col value (Some (effect.Rep row)) es = refl
+
+-- what an edit by a write may need
+may_delete_by : (key_cols sid : ℕ) (key : Key) (old : Option Effect) (es : List Entry) → MayEdit key_cols sid (Delete key) old es → (is_some (row_inserted old) ≡ true → IsSome (inserted_row key_cols sid key es)) × (is_some (row_inserted old) ≡ false → IsFalse (has_delete sid es))
+may_delete_by key_cols sid key None es m = (λ e. cc, λ e. m)
+may_delete_by key_cols sid key (Some (effect.Ins row)) es m = (λ e. m, λ e. cc)
+may_delete_by key_cols sid key (Some effect.Del) es m = (λ e. cc, λ e. m)
+may_delete_by key_cols sid key (Some (effect.Mod cells)) es m = (λ e. cc, λ e. m)
+may_delete_by key_cols sid key (Some (effect.Rep row)) es m = (λ e. m, λ e. cc)
+
+may_set_by : (key_cols sid : ℕ) (key : Key) (col : ℕ) (value : Value) (old : Option Effect) (es : List Entry) → MayEdit key_cols sid (Set key col value) old es → (is_some (row_inserted old) ≡ true → IsSomeAnd (inserted_row key_cols sid key es) (λ row. col < length row)) × (is_some (row_inserted old) ≡ true → key_cols ≤ col) × (is_some (row_inserted old) ≡ false → IsFalse (has_delete sid es))
+may_set_by key_cols sid key col value None es m = (λ e. cc, λ e. cc, λ e. m)
+may_set_by key_cols sid key col value (Some (effect.Ins row)) es m = (λ e. m.0, λ e. m.1, λ e. cc)
+may_set_by key_cols sid key col value (Some effect.Del) es m = (λ e. cc, λ e. cc, λ e. m)
+may_set_by key_cols sid key col value (Some (effect.Mod cells)) es m = (λ e. cc, λ e. cc, λ e. m)
+may_set_by key_cols sid key col value (Some (effect.Rep row)) es m = (λ e. m.0, λ e. m.1, λ e. cc)
+
+module _ (tree : Tree) (entry : Entry) (w : IsNext tree entry) where
+  abbrev key_cols : ℕ
+  key_cols = w.schema.key_cols
+
+  abbrev es : List Entry
+  es = canonical_entries w.t w.x
+
+  abbrev sid : ℕ
+  sid = rank w.key w.t
+
+  -- the tree's own key columns and entries
+  pub cols_is : tree.key_cols ≡ w.schema.key_cols
+  cols_is = ap (λ (r : Tree). r.key_cols) w.tree_is
+
+  pub list_is : tree.entries ≡ canonical_entries w.t w.x
+  list_is = ap (λ (r : Tree). r.entries) w.tree_is
+
+  pub small_rid : entry.sid < 2 ^ 63
+  small_rid = omega (arith, w.place, rank-le-length w.key (table_with w.t w.x), w.image)
+
+  pub small_sid : rank w.key w.t < 2 ^ 32
+  small_sid = omega (arith, rank-le-length w.key w.t, w.rows)
+
+  keyed_table : T (is_keyed_table w.schema.key_cols w.t)
+  keyed_table = passes (is_keyed_table w.schema.key_cols w.t) w.over.table.keyed
+
+  keyed : T (are_keyed_effects w.schema.key_cols w.x)
+  keyed = passes (are_keyed_effects w.schema.key_cols w.x) w.over.effects_are.keyed
+
+  fitting : T (all_fit w.t w.x)
+  fitting = passes (all_fit w.t w.x) w.over.fit
+
+  fit_now : T (fits (row_at (table_with w.t w.x) w.key) (effect_of_change entry.change))
+  fit_now = passes (fits (row_at (table_with w.t w.x) w.key) (effect_of_change entry.change)) w.fit
+
+  pub ascending : IsTrue (deletes_ascend tree.entries)
+  ascending =
+      let sorted = first (is_sorted key_cmp w.x) _ keyed in
+      ap deletes_ascend list_is ∙ is_true (deletes_ascend (canonical_entries w.t w.x)) (deletes_ascend-canonical_entries w.t w.x sorted)
+    where
+      is_true : (b : Bool) → T b → b ≡ true
+      is_true true h = refl
+      is_true false h = absurd h
+
+  -- what is known of the key
+  at_key : Known w.schema w.t w.x w.key (find key_cmp w.key w.x)
+  at_key = known w.schema 0 w.t w.x w.over w.key
+
+  fit_old : T (fits (changed_by row_after (find key_cmp w.key w.x) (row_at w.t w.key)) (effect_of_change entry.change))
+  fit_old = here w.schema.key_cols 0 w.t w.x keyed_table keyed fitting w.key (effect_of_change entry.change) fit_now
+
+  fit_before : T (holds_at (fits (row_at w.t w.key)) (find key_cmp w.key w.x))
+  fit_before = fit_so_far w.schema.key_cols 0 w.t w.x keyed_table keyed fitting w.key
+
+  -- the key's row is where its position is
+  pub place_is : T (is_some (row_at (table_with w.t w.x) w.key)) → (P : Place) → ((place : Place) → IsAtRid tree.entries entry.sid place → place ≡ P) → IsRowPlace w.schema w.t w.x w.over w.key P
+  place_is there P only =
+      row_place w.schema w.t w.x w.over w.key entry.sid w.place there P
+      (λ place at. only place (subst (λ (zs : List Entry). IsAtRid zs entry.sid place) (sym list_is) at))
+
+-- a cell that fits is outside the key
+outside : (schema : Columns) (col : ℕ) (value : Value) → T (cell_fits_schema schema col value) → schema.key_cols ≤ col
+outside schema col value h = by (slice_get schema.types col) h
+  where
+    by : (o : Option ColumnType) → T (is_none (cell_fault_at o schema.key_cols col value)) → schema.key_cols ≤ col
+    by None g = absurd g
+    by (Some type) g = past (nat_lt col schema.key_cols) refl g
+      where
+        past : (b : Bool) → nat_lt col schema.key_cols ≡ b → T (is_none (cond b (Some KeyColumn) (value_fault type col value))) → schema.key_cols ≤ col
+        past true e p = absurd p
+        past false e p = grind (arith, nat_tests)
+
+-- ---- an insert
+
+module _ (tree : Tree) (s : ℕ) (row : Row) (w : IsNext tree (entry_at s (Ins row))) where
+  abbrev k0 : Key
+  k0 = key_of w.schema.key_cols row
+
+  key_now : key_of tree.key_cols row ≡ w.key
+  key_now = ap (λ (n : ℕ). key_of n row) (cols_is tree (entry_at s (Ins row)) w) ∙ w.own
+
+  gap_is : gap_from s (key_of tree.key_cols row) 0 0 tree.entries ≡ rank w.key w.t
+  gap_is = (λ i. gap_from (w.place i) (key_now i) 0 0 (list_is tree (entry_at s (Ins row)) w i)) ∙ gap_place w.schema w.t w.x w.over w.key
+
+  insert_is : canonical_entries w.t (effects_with w.x w.key (Ins row)) ≡ put_ins w.schema.key_cols (rank w.key w.t) row (canonical_entries w.t w.x)
+  insert_is =
+      let e = entry_at s (Ins row) in
+      let ht = keyed_table tree e w in
+      let he = keyed tree e w in
+      let fe = fitting tree e w in
+      let now : T (fits (row_at (table_with w.t w.x) k0) (effect.Ins row)) = subst (λ (k : Key). T (fits (row_at (table_with w.t w.x) k) (effect.Ins row))) (sym w.own) (fit_now tree e w) in
+      subst (λ (k : Key). canonical_entries w.t (effects_with w.x k (Ins row)) ≡ put_ins w.schema.key_cols (rank k w.t) row (canonical_entries w.t w.x)) w.own
+      (inserted w.schema.key_cols 0 w.t w.x ht he fe row (find key_cmp k0 w.x) refl (fit_so_far w.schema.key_cols 0 w.t w.x ht he fe k0) (here w.schema.key_cols 0 w.t w.x ht he fe k0 (effect.Ins row) now))
+
+  free_is : is_some (inserted_row w.schema.key_cols (rank w.key w.t) w.key (canonical_entries w.t w.x)) ≡ false
+  free_is =
+      let e = entry_at s (Ins row) in
+      may_insert (inserted_row w.schema.key_cols (rank w.key w.t) w.key (canonical_entries w.t w.x)) (find key_cmp w.key w.x) (row_at w.t w.key) row (at_key tree e w).insert (fit_old tree e w)
+
+  module _ (sid : ℕ) (is : sid ≡ gap_from s (key_of tree.key_cols row) 0 0 tree.entries) where
+    sid_is : sid ≡ rank w.key w.t
+    sid_is = is ∙ gap_is
+
+    pub insert_small : sid < 2 ^ 32
+    insert_small = omega (arith, sid_is, small_sid tree (entry_at s (Ins row)) w)
+
+    pub insert_now : put_ins tree.key_cols sid row tree.entries ≡ canonical_entries w.t (effects_with w.x w.key (Ins row))
+    insert_now = (λ i. put_ins (cols_is tree (entry_at s (Ins row)) w i) (sid_is i) row (list_is tree (entry_at s (Ins row)) w i)) ∙ sym insert_is
+
+    pub insert_free : is_some (inserted_row tree.key_cols sid (key_of tree.key_cols row) tree.entries) ≡ false
+    insert_free = (λ i. is_some (inserted_row (cols_is tree (entry_at s (Ins row)) w i) (sid_is i) (key_now i) (list_is tree (entry_at s (Ins row)) w i))) ∙ free_is
+
+    pub insert_room : length (put_ins tree.key_cols sid row tree.entries) ≤ 2 ^ 40
+    insert_room = subst (λ (zs : List Entry). length zs ≤ 2 ^ 40) (sym insert_now) w.room
+
+    pub insert_next : (new : Tree) → new ≡ record tree { entries = put_ins tree.key_cols sid row tree.entries } → new ≡ next_tree tree (entry_at s (Ins row)) w
+    insert_next new new_is = new_is ∙ (λ i. record { key_cols = cols_is tree (entry_at s (Ins row)) w i; entries = insert_now i })
+
+-- what is found at a place
+same_item : (zs ys : List Entry) (n : ℕ) (r y : Entry) → zs ≡ ys → slice_get zs n ≡ Some r → slice_get ys n ≡ Some y → r ≡ y
+same_item zs ys n r y same p q = let both : Some r ≡ Some y = sym p ∙ ap (λ (es : List Entry). slice_get es n) same ∙ q in cc
+
+-- ---- a delete
+
+module _ (tree : Tree) (s : ℕ) (gone : Key) (w : IsNext tree (entry_at s (Del gone))) where
+  abbrev del_entry : Entry
+  del_entry = entry_at s (Del gone)
+
+  abbrev old : Option Effect
+  old = find key_cmp w.key w.x
+
+  pub delete_there : T (is_some (row_at (table_with w.t w.x) w.key))
+  delete_there = fit_now tree del_entry w
+
+  delete_is : canonical_entries w.t (effects_with w.x w.key (Del gone)) ≡ cond (is_some (row_inserted old)) (take_ins w.schema.key_cols (rank w.key w.t) w.key (canonical_entries w.t w.x)) (put_del w.schema.key_cols (rank w.key w.t) w.key (canonical_entries w.t w.x))
+  delete_is =
+      deleted w.schema.key_cols 0 w.t w.x (keyed_table tree del_entry w) (keyed tree del_entry w) (fitting tree del_entry w) w.key old refl (fit_before tree del_entry w) (fit_old tree del_entry w)
+      ∙ deletes_by w.schema.key_cols (rank w.key w.t) w.key old (canonical_entries w.t w.x)
+
+  delete_may : MayEdit w.schema.key_cols (rank w.key w.t) (Delete w.key) old (canonical_entries w.t w.x)
+  delete_may = may_delete w.schema w.t w.x w.key old (at_key tree del_entry w) (fit_old tree del_entry w)
+
+  pub taken_within : (n : ℕ) → ((place : Place) → IsAtRid tree.entries s place → place ≡ Inserted n) → n < length tree.entries
+  taken_within n only =
+      let there = place_is tree del_entry w delete_there (Inserted n) only in
+      slice_get_within tree.entries n there.0 (ap (λ (zs : List Entry). slice_get zs n) (list_is tree del_entry w) ∙ there.1)
+
+  module _ (n : ℕ) (r : Entry) (only : (place : Place) → IsAtRid tree.entries s place → place ≡ Inserted n) (at : slice_get tree.entries n ≡ Some r) where
+    found : IsRowPlace w.schema w.t w.x w.over w.key (Inserted n)
+    found = place_is tree del_entry w delete_there (Inserted n) only
+
+    taken_sid : r.sid ≡ rank w.key w.t
+    taken_sid = ap (λ (e : Entry). e.sid) (same_item tree.entries (canonical_entries w.t w.x) n r found.0 (list_is tree del_entry w) at found.1) ∙ found.2
+
+    pub take_now : take_ins tree.key_cols r.sid gone tree.entries ≡ canonical_entries w.t (effects_with w.x w.key (Del gone))
+    take_now =
+        (λ i. take_ins (cols_is tree del_entry w i) (taken_sid i) (w.own i) (list_is tree del_entry w i))
+        ∙ sym (delete_is ∙ ap (λ b. cond b (take_ins w.schema.key_cols (rank w.key w.t) w.key (canonical_entries w.t w.x)) (put_del w.schema.key_cols (rank w.key w.t) w.key (canonical_entries w.t w.x))) found.4)
+
+    pub take_there : is_some (inserted_row tree.key_cols r.sid gone tree.entries) ≡ true
+    take_there =
+        (λ i. is_some (inserted_row (cols_is tree del_entry w i) (taken_sid i) (w.own i) (list_is tree del_entry w i)))
+        ∙ (may_delete_by w.schema.key_cols (rank w.key w.t) w.key old (canonical_entries w.t w.x) delete_may).0 found.4
+
+    pub take_next : (new : Tree) → new ≡ record tree { entries = take_ins tree.key_cols r.sid gone tree.entries } → new ≡ next_tree tree del_entry w
+    take_next new new_is = new_is ∙ (λ i. record { key_cols = cols_is tree del_entry w i; entries = take_now i })
+
+  module _ (q : ℕ) (only : (place : Place) → IsAtRid tree.entries s place → place ≡ Base q) where
+    on_base : IsRowPlace w.schema w.t w.x w.over w.key (Base q)
+    on_base = place_is tree del_entry w delete_there (Base q) only
+
+    pub delete_small : q < 2 ^ 32
+    delete_small = omega (arith, on_base.0, small_sid tree del_entry w)
+
+    pub delete_now : put_del tree.key_cols q gone tree.entries ≡ canonical_entries w.t (effects_with w.x w.key (Del gone))
+    delete_now =
+        (λ i. put_del (cols_is tree del_entry w i) (on_base.0 i) (w.own i) (list_is tree del_entry w i))
+        ∙ sym (delete_is ∙ ap (λ b. cond b (take_ins w.schema.key_cols (rank w.key w.t) w.key (canonical_entries w.t w.x)) (put_del w.schema.key_cols (rank w.key w.t) w.key (canonical_entries w.t w.x))) on_base.1)
+
+    pub delete_free : has_delete q tree.entries ≡ false
+    delete_free =
+        (λ i. has_delete (on_base.0 i) (list_is tree del_entry w i))
+        ∙ (may_delete_by w.schema.key_cols (rank w.key w.t) w.key old (canonical_entries w.t w.x) delete_may).1 on_base.1
+
+    pub delete_room : length (put_del tree.key_cols q gone tree.entries) ≤ 2 ^ 40
+    delete_room = subst (λ (zs : List Entry). length zs ≤ 2 ^ 40) (sym delete_now) w.room
+
+    pub delete_next : (new : Tree) → new ≡ record tree { entries = put_del tree.key_cols q gone tree.entries } → new ≡ next_tree tree del_entry w
+    delete_next new new_is = new_is ∙ (λ i. record { key_cols = cols_is tree del_entry w i; entries = delete_now i })
+
+-- ---- a modify
+
+module _ (tree : Tree) (s col : ℕ) (value : Value) (w : IsNext tree (entry_at s (Mod col value))) where
+  abbrev mod_entry : Entry
+  mod_entry = entry_at s (Mod col value)
+
+  abbrev before : Option Effect
+  before = find key_cmp w.key w.x
+
+  pub modify_there : T (is_some (row_at (table_with w.t w.x) w.key))
+  modify_there = fit_now tree mod_entry w
+
+  modify_is : canonical_entries w.t (effects_with w.x w.key (Mod col value)) ≡ cond (is_some (row_inserted before)) (set_ins w.schema.key_cols (rank w.key w.t) w.key col value (canonical_entries w.t w.x)) (put_mod w.schema.key_cols (rank w.key w.t) col value (canonical_entries w.t w.x))
+  modify_is =
+      modified w.schema.key_cols 0 w.t w.x (keyed_table tree mod_entry w) (keyed tree mod_entry w) (fitting tree mod_entry w) w.key col value before refl (fit_before tree mod_entry w) (fit_old tree mod_entry w)
+      ∙ sets_by w.schema.key_cols (rank w.key w.t) w.key col value before (canonical_entries w.t w.x)
+
+  cell_fit : T (cell_fits_schema w.schema col value)
+  cell_fit = passes (cell_fits_schema w.schema col value) w.cell
+
+  modify_may : MayEdit w.schema.key_cols (rank w.key w.t) (Set w.key col value) before (canonical_entries w.t w.x)
+  modify_may = may_set w.schema w.t w.x w.key col value cell_fit (outside w.schema col value cell_fit) before (at_key tree mod_entry w) (fit_old tree mod_entry w)
+
+  may_parts : (is_some (row_inserted before) ≡ true → IsSomeAnd (inserted_row w.schema.key_cols (rank w.key w.t) w.key (canonical_entries w.t w.x)) (λ row. col < length row)) × (is_some (row_inserted before) ≡ true → w.schema.key_cols ≤ col) × (is_some (row_inserted before) ≡ false → IsFalse (has_delete (rank w.key w.t) (canonical_entries w.t w.x)))
+  may_parts = may_set_by w.schema.key_cols (rank w.key w.t) w.key col value before (canonical_entries w.t w.x) modify_may
+
+  inserts_row : (c : Change) → IsInsertOf w.schema w.t w.x w.over w.key c → IsTrue (is_insert c)
+  inserts_row (Ins row) own = refl
+  inserts_row (Del gone) own = absurd own
+  inserts_row (Mod other v) own = absurd own
+
+  pub is_insert_there : (n : ℕ) → ((place : Place) → IsAtRid tree.entries s place → place ≡ Inserted n) → (n < length tree.entries) × ((r : Entry) → slice_get tree.entries n ≡ Some r → IsTrue (is_insert r.change))
+  is_insert_there n only =
+      let there = place_is tree mod_entry w modify_there (Inserted n) only in (
+        slice_get_within tree.entries n there.0 (ap (λ (zs : List Entry). slice_get zs n) (list_is tree mod_entry w) ∙ there.1),
+        λ r at. subst (λ (e : Entry). IsTrue (is_insert e.change)) (sym (same_item tree.entries (canonical_entries w.t w.x) n r there.0 (list_is tree mod_entry w) at there.1)) (inserts_row there.0.change there.3),
+      )
+
+  module _ (n : ℕ) (r : Entry) (k : Key) (only : (place : Place) → IsAtRid tree.entries s place → place ≡ Inserted n) (at : slice_get tree.entries n ≡ Some r) (key_is : IsKeyOfInsert tree.key_cols k r.change) where
+    row_found : IsRowPlace w.schema w.t w.x w.over w.key (Inserted n)
+    row_found = place_is tree mod_entry w modify_there (Inserted n) only
+
+    same_entry : r ≡ row_found.0
+    same_entry = same_item tree.entries (canonical_entries w.t w.x) n r row_found.0 (list_is tree mod_entry w) at row_found.1
+
+    set_sid : r.sid ≡ rank w.key w.t
+    set_sid = ap (λ (e : Entry). e.sid) same_entry ∙ row_found.2
+
+    key_of_row : (c : Change) → IsInsertOf w.schema w.t w.x w.over w.key c → IsKeyOfInsert tree.key_cols k c → k ≡ w.key
+    key_of_row (Ins row) own told = told ∙ ap (λ (m : ℕ). key_of m row) (cols_is tree mod_entry w) ∙ own
+    key_of_row (Del gone) own told = absurd own
+    key_of_row (Mod other v) own told = absurd own
+
+    set_key : k ≡ w.key
+    set_key = key_of_row row_found.0.change row_found.3 (subst (λ (e : Entry). IsKeyOfInsert tree.key_cols k e.change) same_entry key_is)
+
+    pub set_now : set_ins tree.key_cols r.sid k col value tree.entries ≡ canonical_entries w.t (effects_with w.x w.key (Mod col value))
+    set_now =
+        (λ i. set_ins (cols_is tree mod_entry w i) (set_sid i) (set_key i) col value (list_is tree mod_entry w i))
+        ∙ sym (modify_is ∙ ap (λ b. cond b (set_ins w.schema.key_cols (rank w.key w.t) w.key col value (canonical_entries w.t w.x)) (put_mod w.schema.key_cols (rank w.key w.t) col value (canonical_entries w.t w.x))) row_found.4)
+
+    pub set_there : IsSomeAnd (inserted_row tree.key_cols r.sid k tree.entries) (λ row. col < length row)
+    set_there =
+        let path : inserted_row tree.key_cols r.sid k tree.entries ≡ inserted_row w.schema.key_cols (rank w.key w.t) w.key (canonical_entries w.t w.x) =
+        (λ i. inserted_row (cols_is tree mod_entry w i) (set_sid i) (set_key i) (list_is tree mod_entry w i)) in
+        subst (λ (o : Option Row). IsSomeAnd o (λ row. col < length row)) (sym path) (may_parts.0 row_found.4)
+
+    pub set_outside : tree.key_cols ≤ col
+    set_outside = let le = may_parts.1 row_found.4 in omega (arith, le, cols_is tree mod_entry w)
+
+    pub set_next : (new : Tree) → new ≡ record tree { entries = set_ins tree.key_cols r.sid k col value tree.entries } → new ≡ next_tree tree mod_entry w
+    set_next new new_is = new_is ∙ (λ i. record { key_cols = cols_is tree mod_entry w i; entries = set_now i })
+
+  module _ (q : ℕ) (only : (place : Place) → IsAtRid tree.entries s place → place ≡ Base q) where
+    row_on_base : IsRowPlace w.schema w.t w.x w.over w.key (Base q)
+    row_on_base = place_is tree mod_entry w modify_there (Base q) only
+
+    pub modify_small : q < 2 ^ 32
+    modify_small = omega (arith, row_on_base.0, small_sid tree mod_entry w)
+
+    pub modify_now : put_mod tree.key_cols q col value tree.entries ≡ canonical_entries w.t (effects_with w.x w.key (Mod col value))
+    modify_now =
+        (λ i. put_mod (cols_is tree mod_entry w i) (row_on_base.0 i) col value (list_is tree mod_entry w i))
+        ∙ sym (modify_is ∙ ap (λ b. cond b (set_ins w.schema.key_cols (rank w.key w.t) w.key col value (canonical_entries w.t w.x)) (put_mod w.schema.key_cols (rank w.key w.t) col value (canonical_entries w.t w.x))) row_on_base.1)
+
+    pub modify_free : has_delete q tree.entries ≡ false
+    modify_free =
+        (λ i. has_delete (row_on_base.0 i) (list_is tree mod_entry w i)) ∙ may_parts.2 row_on_base.1
+
+    pub modify_room : length (put_mod tree.key_cols q col value tree.entries) ≤ 2 ^ 40
+    modify_room = subst (λ (zs : List Entry). length zs ≤ 2 ^ 40) (sym modify_now) w.room
+
+    pub modify_next : (new : Tree) → new ≡ record tree { entries = put_mod tree.key_cols q col value tree.entries } → new ≡ next_tree tree mod_entry w
+    modify_next new new_is = new_is ∙ (λ i. record { key_cols = cols_is tree mod_entry w i; entries = modify_now i })
+
+-- what holds of each step with a change holds of those with an equal one
+pub told : (tree : Tree) (s : ℕ) (d c : Change) → d ≡ c → (P : (e : Change) → IsNext tree (entry_at s e) → Type 0) → ((w : IsNext tree (entry_at s c)) → P c w) → (w : IsNext tree (entry_at s d)) → P d w
+told tree s d c is P all = let Q = λ (e : Change). (w : IsNext tree (entry_at s e)) → P e w in subst Q (sym is) all

@@ -1,0 +1,59 @@
+use Rattle.std.proofs.Common.{◌≡◌, ℕ, ◌<◌, ◌≤◌, List, length, sym, ap, ◌∙◌, subst, arith}
+use Rattle.model.specs.declared.entry.Entry.{Entry}
+use Rattle.model.specs.Entries.{IsLawful}
+use Rattle.model.specs.Rebasing.{first_clash_from, rebased_entry}
+use Rattle.layers.specs.Over.{AreAligned}
+use Rattle.layers.proofs.ClashLemmas.{rebased_place}
+use Rattle.layers.proofs.SerialLemmas.{clear_next, clash_here, owned_at, owned_next, owned_all, none_left, clash_is, conflicting, unconflicting, rebased_is, lawful}
+use Rattle.layers.proofs.rebase.serialize_owned.Goals as goal
+
+pub returns-in-Some : goal.returns-in-Some
+returns-in-Some c =
+    let x = c.args.x in
+    let y = c.args.y.now in
+    let n = c.loop-place.place in
+    let e = c.index_mut-entry.result.now in
+    let p = c.find_change-found.result.place in
+    let short : n < length x.entries = omega (arith, c.loop-place-test.true, c.len-place-end.ensures, ap length c.into_entries-entries.ensures, c.into_entries-entries.result.ok.0) in
+    let at = owned_at (rebased_entry y.key_cols y.entries) n x.entries c.loop-place.entries.items e c.loop-place.invariant.moved short c.index_mut-entry.ensures.value in
+    let own = clash_is x y c.requires n e p at c.find_change-found.ensures.split ∙ sym c.clash_at.ensures ∙ c.in-Some.is in
+    let found = c.loop-place.invariant.clear ∙ clash_here y.key_cols n x.entries y.entries e c.in-Some.clash at own in
+    λ (w : AreAligned x y). conflicting x y w c.in-Some.clash found
+
+pub loop-place-preserved : goal.loop-place-preserved
+loop-place-preserved c =
+    let x = c.args.x in
+    let y = c.args.y.now in
+    let n = c.loop-place.place in
+    let e = c.index_mut-entry.result.now in
+    let p = c.find_change-found.result.place in
+    let short : n < length x.entries = omega (arith, c.loop-place-test.true, c.len-place-end.ensures, ap length c.into_entries-entries.ensures, c.into_entries-entries.result.ok.0) in
+    let at = owned_at (rebased_entry y.key_cols y.entries) n x.entries c.loop-place.entries.items e c.loop-place.invariant.moved short c.index_mut-entry.ensures.value in
+    let own = clash_is x y c.requires n e p at c.find_change-found.ensures.split ∙ sym c.clash_at.ensures ∙ c.in_default.is in
+    let sid = c.find_change-found.ensures.rid ∙ rebased_place y.key_cols e y.entries p c.find_change-found.ensures.split in
+    record {
+      moved = owned_next y.key_cols n c.find_change-found.result.rid x.entries y.entries c.loop-place.entries.items e at sid c.loop-place.invariant.moved;
+      clear = c.loop-place.invariant.clear ∙ clear_next y.key_cols n x.entries y.entries e at own;
+    }
+
+pub from_sorted-requires : goal.from_sorted-requires
+from_sorted-requires c =
+    let x = c.args.x in
+    let y = c.args.y.now in
+    let n = c.loop-place.place in
+    let end : length x.entries ≤ n = omega (arith, c.loop-place-test.false, c.len-place-end.ensures, ap length c.into_entries-entries.ensures, c.into_entries-entries.result.ok.0) in
+    let none = c.loop-place.invariant.clear ∙ ap (λ (es : List Entry). first_clash_from y.key_cols n es y.entries) (none_left n x.entries end) in
+    let all = owned_all y.key_cols n x.entries y.entries c.loop-place.entries.items end c.loop-place.invariant.moved in
+    subst (λ (k : ℕ). IsLawful k c.loop-place.entries.items) (sym c.key_cols-key_cols.ensures) (lawful x y c.requires c.loop-place.entries.items none all)
+
+pub returns : goal.returns
+returns c =
+    let x = c.args.x in
+    let y = c.args.y.now in
+    let n = c.loop-place.place in
+    let out = c.loop-place.entries.items in
+    let end : length x.entries ≤ n = omega (arith, c.loop-place-test.false, c.len-place-end.ensures, ap length c.into_entries-entries.ensures, c.into_entries-entries.result.ok.0) in
+    let none = c.loop-place.invariant.clear ∙ ap (λ (es : List Entry). first_clash_from y.key_cols n es y.entries) (none_left n x.entries end) in
+    let all = owned_all y.key_cols n x.entries y.entries out end c.loop-place.invariant.moved in
+    let tree_is : c.in_ok-from_sorted.field-0 ≡ record { key_cols = x.key_cols; entries = out } = c.in_ok-from_sorted.ensures ∙ (λ i. record { key_cols = c.key_cols-key_cols.ensures i; entries = out }) in
+    λ (w : AreAligned x y). (unconflicting x y w none, rebased_is x y w c.in_ok-from_sorted.field-0 out none all tree_is)

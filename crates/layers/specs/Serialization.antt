@@ -1,0 +1,27 @@
+-- A tree made consecutive to another one over the same image, or where the two clash.
+use Rattle.std.specs.Prelude.{◌≡◌, ℕ, false, Option, None, List, [], ◌∷◌}
+use Rattle.model.specs.declared.entry.Entry.{Entry}
+use Rattle.model.specs.declared.clash.Clash.{Clash}
+use Rattle.model.specs.Effects.{table_with}
+use Rattle.model.specs.Clashes.{conflicts, Conflicts}
+use Rattle.model.specs.Rebasing.{clash_of_entries, or_clash, IsLeastClash}
+use Rattle.delta.specs.Tree.{Tree}
+use Rattle.layers.specs.declared.rebase.Serialized.{Serialized}
+use Rattle.layers.specs.declared.rebase.Serialized.TheVariants as answer
+use Rattle.layers.specs.Over.{tree_of, AreAligned}
+
+-- the tree of the first one's effects over the table after the second one's
+abbrev pub rebased_tree : (first second : Tree) → AreAligned first second → Tree
+rebased_tree first second w = tree_of w.schema (table_with w.t w.y) w.x
+
+-- a tree where the effects don't conflict: theirs over the table after the others; else two entries that clash, the first
+abbrev pub IsSerialized : (first second : Tree) → AreAligned first second → Serialized → Type 0
+IsSerialized first second w (answer.Tree tree) = (conflicts w.x w.y ≡ false) × (tree ≡ rebased_tree first second w)
+IsSerialized first second w (answer.Conflict clash) = Conflicts w.x w.y × IsLeastClash w.schema.key_cols first.entries second.entries clash
+
+-- ---- one entry
+
+-- the clash of the entry at place i with the first of these, the one at place j
+abbrev pub clash_with_head : ℕ → ℕ → Entry → ℕ → List Entry → Option Clash
+clash_with_head key_cols i x j [] = None
+clash_with_head key_cols i x j (y ∷ ys) = or_clash i j (clash_of_entries key_cols x y) None

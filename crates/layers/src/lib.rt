@@ -1,0 +1,19 @@
+//! Delta trees over delta trees: one folded into the tree below it, and one made consecutive to another over the same
+//! image (Héman et al. 2010, "Propagate" and "Serialize").
+//!
+//! *What a contract sees.* Trees as the entries of effects over a table: a fold gives those of the composed effects, and
+//! a tree made consecutive to another those over the table after it, or the first two entries that clash.
+//!
+//! *What it stands on.* `delta` for the trees, `model` for effects and their laws. No key column of a table is read.
+#![tactic(auto)]
+
+mod clash;
+mod entry;
+mod propagation;
+mod rebase;
+#[cfg(test)]
+mod tests;
+
+pub use model::{Clash, ClashKind};
+pub use propagation::propagate;
+pub use rebase::{Serialized, serialize, serialize_owned};

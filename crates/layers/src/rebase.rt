@@ -1,0 +1,68 @@
+//! A tree made consecutive to another one over the same image.
+ghost use Rattle.std.specs.Prelude.{IfOk};
+ghost use Rattle.layers.specs.Over.{AreAligned};
+ghost use Rattle.layers.specs.Serialization.{IsSerialized};
+
+use crate::clash::clash_at;
+use crate::entry::{copy_change, entry_of};
+use delta::{DeltaTree, Entry};
+use model::Clash;
+use std::alloc::Global;
+use values::NoMemory;
+
+/// What becomes of a tree beside another one.
+#[derive(Drop)]
+pub enum Serialized {
+    /// The tree, consecutive to the other one.
+    Tree(DeltaTree),
+    /// The first two entries that can't both be kept.
+    Conflict(Clash),
+}
+
+/// The tree `x` made consecutive to `y`, which is over the same image, or the clash with the least place in `x`, then in
+/// `y` (Héman et al. 2010, "Serialize"): for each entry of `x` one look-up in `y`.
+///
+/// # Errors
+///
+/// `NoMemory` where a growth is refused.
+pub fn serialize(alloc: Global, x: &DeltaTree, y: &DeltaTree) -> Result<Serialized, NoMemory>
+    requires { AreAligned x.now y.now }
+    ensures { IfOk result (λ serialized. (w : AreAligned x.now y.now) → IsSerialized x.now y.now w serialized) }
+{
+    let mut entries = Vec::with_capacity(alloc, x.len())?;
+    for place in 0..x.len() {
+        let entry = entry_of(x, place);
+        let found = y.find_change(entry.sid, &entry.change);
+        if let Some(clash) = clash_at(place, entry, y, found.place) {
+            return Ok(Serialized::Conflict(clash));
+        }
+        entries.push(Entry {
+            sid: found.rid,
+            change: copy_change(&entry.change)?,
+        })?;
+    }
+    Ok(Serialized::Tree(DeltaTree::from_sorted(alloc, x.key_cols(), entries)?))
+}
+
+/// The same, where `x` isn't needed any more: its entries stay as they are but for their SIDs, and none is copied. At a
+/// clash it is dropped.
+///
+/// # Errors
+///
+/// None today; a tree that has nodes makes them from the allocator, and a growth may be refused.
+pub fn serialize_owned(alloc: Global, x: DeltaTree, y: &DeltaTree) -> Result<Serialized, NoMemory>
+    requires { AreAligned x y.now }
+    ensures { IfOk result (λ serialized. (w : AreAligned x y.now) → IsSerialized x y.now w serialized) }
+{
+    let key_cols = x.key_cols();
+    let mut entries = x.into_entries();
+    for place in 0..entries.len() {
+        let entry = &mut entries[place];
+        let found = y.find_change(entry.sid, &entry.change);
+        if let Some(clash) = clash_at(place, entry, y, found.place) {
+            return Ok(Serialized::Conflict(clash));
+        }
+        entry.sid = found.rid;
+    }
+    Ok(Serialized::Tree(DeltaTree::from_sorted(alloc, key_cols, entries)?))
+}
