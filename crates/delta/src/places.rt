@@ -1,5 +1,6 @@
 //! Positions in the image above: how far the entries move what stands at a SID, and what stands at a position.
-ghost use Rattle.std.specs.Prelude.{◌≡◌, ◌<◌, ◌^◌, ◌+ℤ◌, ◌≤ℤ◌, IsTrue, pos, is_some, take};
+ghost use Rattle.std.specs.Prelude.{◌≡◌, ◌<◌, ◌≤◌, ◌^◌, ◌+ℤ◌, ◌≤ℤ◌, IsTrue, length, pos, is_some, take};
+ghost use Rattle.std.specs.List.{All};
 ghost use Rattle.values.specs.Shape.{key_of};
 ghost use Rattle.model.specs.Entries.{change_cmp};
 ghost use Rattle.model.specs.Folding.{added_by, gone_by};
@@ -10,6 +11,7 @@ ghost use Rattle.delta.specs.Search.{insert_cmp, stands_before, IsSplit};
 
 use crate::sorted::key_of;
 use crate::tree::DeltaTree;
+use counted::CountedTree;
 use model::Change;
 use values::{Row, Value};
 
@@ -122,21 +124,30 @@ impl DeltaTree {
         requires ascending { IsTrue (deletes_ascend self.now.entries) }
         ensures { result ≡ gap_from rid (key_of self.now.key_cols row.now) 0 0 self.now.entries }
     {
-        let key = key_of(self.key_cols, row);
-        let mut inserts = 0;
-        let mut deletes = 0;
-        for place in 0..self.tree.len() {
-            let entry = self.tree.get(place);
-            let stands = rid + deletes;
-            let next = entry.sid + inserts;
-            if !is_passed(key, next, stands, &entry.change) {
-                return stands - inserts;
-            }
-            inserts += added_by(&entry.change);
-            deletes += gone_by(&entry.change);
-        }
-        rid + deletes - inserts
+        gap_of_rid(&self.tree, rid, key_of(self.key_cols, row))
     }
+}
+
+/// The SID of the gap at the position, by a walk over the entries.
+fn gap_of_rid(tree: &CountedTree, rid: u64, key: &[Value]) -> u64
+    requires rid { rid < 2 ^ 63 }
+    requires placed { All (λ e. e.sid < 2 ^ 32) tree.now.entries }
+    requires counted { length tree.now.entries ≤ 2 ^ 40 }
+    ensures { result ≡ gap_from rid key.now 0 0 tree.now.entries }
+{
+    let mut inserts = 0;
+    let mut deletes = 0;
+    for at in 0..tree.len() {
+        let entry = tree.get(at);
+        let row = rid + deletes;
+        let next = entry.sid + inserts;
+        if !is_passed(key, next, row, &entry.change) {
+            return row - inserts;
+        }
+        inserts += added_by(&entry.change);
+        deletes += gone_by(&entry.change);
+    }
+    rid + deletes - inserts
 }
 
 /// Whether a change that stands at `next` is passed on the way to an insert of the key before what stands at `row`.
