@@ -16,4 +16,4 @@ mod tests;
 
 pub use model::{Clash, ClashKind};
 pub use propagation::propagate;
-pub use rebase::{Serialized, serialize, serialize_owned};
+pub use rebase::{Serialized, serialize};

@@ -43,26 +43,3 @@ pub fn serialize(alloc: Global, x: &DeltaTree, y: &DeltaTree) -> Result<Serializ
     }
     Ok(Serialized::Tree(DeltaTree::from_sorted(alloc, x.key_cols(), entries)?))
 }
-
-/// The same, where `x` isn't needed any more: its entries stay as they are but for their SIDs, and none is copied. At a
-/// clash it is dropped.
-///
-/// # Errors
-///
-/// None today; a tree that has nodes makes them from the allocator, and a growth may be refused.
-pub fn serialize_owned(alloc: Global, x: DeltaTree, y: &DeltaTree) -> Result<Serialized, NoMemory>
-    requires { AreAligned x y.now }
-    ensures { IfOk result (λ serialized. (w : AreAligned x y.now) → IsSerialized x y.now w serialized) }
-{
-    let key_cols = x.key_cols();
-    let mut entries = x.into_entries();
-    for place in 0..entries.len() {
-        let entry = &mut entries[place];
-        let found = y.find_change(entry.sid, &entry.change);
-        if let Some(clash) = clash_at(place, entry, y, found.place) {
-            return Ok(Serialized::Conflict(clash));
-        }
-        entry.sid = found.rid;
-    }
-    Ok(Serialized::Tree(DeltaTree::from_sorted(alloc, key_cols, entries)?))
-}

@@ -400,9 +400,6 @@ fn trees_pass_or_clash(rt: HostRuntime) -> Result<(), Fail> {
         let serialized = serialize(alloc, &x, &y)?;
         let answer = answered(alloc, &serialized)?;
         assert_eq!(rt; answer.as_str(), want);
-        let serialized = serialize_owned(alloc, x, &y)?;
-        let answer = answered(alloc, &serialized)?;
-        assert_eq!(rt; answer.as_str(), want, "by value");
     }
     Ok(())
 }
