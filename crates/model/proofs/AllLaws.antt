@@ -104,21 +104,21 @@ module _ (schema : Columns) where
   edits limit t x write h = let k = tests t x h in canonical_entries-written schema.key_cols limit t x k.table k.effects k.fit write
 
   pub finds : ConflictIsFound schema
-  finds t x y h g =
+  finds rule t x y h g =
       let k = tests t x h in
       let l = tests t y g in
-      first_clash-canonical_entries schema.key_cols t x y k.effects l.effects k.fit l.fit
+      first_clash-canonical_entries rule schema.key_cols t x y k.effects l.effects k.fit l.fit
 
   pub rebases : RebasesEntries schema
-  rebases t x y h g free =
+  rebases rule t x y h g free =
       let k = tests t x h in
       let l = tests t y g in (
         record {
           table = leaves t y g;
           effects_are = h.effects_are;
-          fit = is_true _ (all_fit-unclashed t x y (first _ _ l.effects) k.fit l.fit free);
+          fit = is_true _ (all_fit-unclashed rule t x y (first _ _ l.effects) k.fit l.fit free);
         },
-        rebased_entry-canonical_entries schema.key_cols t x y (first _ _ k.table) k.effects l.effects k.fit l.fit free,
+        rebased_entry-canonical_entries rule schema.key_cols t x y (first _ _ k.table) k.effects l.effects k.fit l.fit free,
       )
 
   pub folds : FoldsToComposed schema

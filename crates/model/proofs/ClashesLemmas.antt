@@ -16,15 +16,17 @@ use Rattle.model.specs.declared.entry.Change.TheVariants.{Ins, Del, Mod}
 use Rattle.model.specs.declared.clash.ClashKind.{ClashKind}
 use Rattle.model.specs.declared.clash.ClashKind.TheVariants.{InsertInsert, DeleteDelete, DeleteModify, ModifyModify}
 use Rattle.model.specs.declared.clash.Clash.{Clash}
+use Rattle.model.specs.declared.clash.ConflictRule.{ConflictRule}
+use Rattle.model.specs.declared.clash.ConflictRule.TheVariants.{ByColumn, ByRow}
 use Rattle.model.specs.Maps.{find, is_sorted}
 use Rattle.model.specs.Table.{Table, row_at, rank}
 use Rattle.values.specs.Shape.{key_of}
-use Rattle.model.specs.Effects.{Cells, Effects, is_keyed_effect, are_keyed_effects, fits, all_fit, row_after, table_with}
+use Rattle.model.specs.Effects.{Cells, has_cells, Effects, is_keyed_effect, are_keyed_effects, fits, all_fit, row_after, table_with}
 use Rattle.model.specs.declared.effect.Effect.{Effect}
 use Rattle.model.specs.declared.effect.Effect.TheVariants as effect
 use Rattle.model.specs.Entries.{entry_at, entries_of, canonical_entries}
-use Rattle.model.specs.Clashes.{clashes, conflicts}
-use Rattle.model.specs.Rebasing.{clash_of_entries, or_clash, clash_with, or_else, first_clash_from, first_clash}
+use Rattle.model.specs.Clashes.{clashes, modifies_clash, conflicts}
+use Rattle.model.specs.Rebasing.{columns_clash, clash_of_entries, or_clash, clash_with, or_else, first_clash_from, first_clash}
 use Rattle.model.proofs.MapsLemmas.{both, first, second, turn_greater, holds_at, changed_by, each_at, find_below, below_tied}
 use Rattle.model.proofs.CompositionLemmas.{row_at-table_with}
 use Rattle.model.proofs.RebasingLemmas.{is_placed, rank-lt}
@@ -32,27 +34,28 @@ use Rattle.model.proofs.EditsLemmas.{maybe_entries}
 
 -- ---- each fits after the other
 
-unclashed_at : (f : Effect) (g : Option Effect) (old : Option Row) → T (fits old f) → T (holds_at (fits old) g) → clashes f g ≡ false → T (fits (changed_by row_after g old) f)
-unclashed_at f None old p q free = p
-unclashed_at (effect.Ins r) (Some (effect.Ins s)) old p q free = cc
-unclashed_at (effect.Ins r) (Some effect.Del) old p q free = tt
-unclashed_at (effect.Ins r) (Some (effect.Mod d)) None p q free = tt
-unclashed_at (effect.Ins r) (Some (effect.Mod d)) (Some o) p q free = absurd p
-unclashed_at (effect.Ins r) (Some (effect.Rep s)) None p q free = absurd q
-unclashed_at (effect.Ins r) (Some (effect.Rep s)) (Some o) p q free = absurd p
-unclashed_at effect.Del (Some (effect.Ins s)) old p q free = tt
-unclashed_at effect.Del (Some effect.Del) old p q free = cc
-unclashed_at effect.Del (Some (effect.Mod d)) old p q free = cc
-unclashed_at effect.Del (Some (effect.Rep s)) old p q free = tt
-unclashed_at (effect.Mod c) (Some (effect.Ins s)) old p q free = tt
-unclashed_at (effect.Mod c) (Some effect.Del) old p q free = cc
-unclashed_at (effect.Mod c) (Some (effect.Mod d)) None p q free = absurd q
-unclashed_at (effect.Mod c) (Some (effect.Mod d)) (Some o) p q free = tt
-unclashed_at (effect.Mod c) (Some (effect.Rep s)) old p q free = tt
-unclashed_at (effect.Rep r) (Some (effect.Ins s)) old p q free = tt
-unclashed_at (effect.Rep r) (Some effect.Del) old p q free = cc
-unclashed_at (effect.Rep r) (Some (effect.Mod d)) old p q free = cc
-unclashed_at (effect.Rep r) (Some (effect.Rep s)) old p q free = tt
+unclashed_at : (rule : ConflictRule) (f : Effect) (g : Option Effect) (old : Option Row) → T (fits old f) → T (holds_at (fits old) g) →
+    clashes rule f g ≡ false → T (fits (changed_by row_after g old) f)
+unclashed_at rule f None old p q free = p
+unclashed_at rule (effect.Ins r) (Some (effect.Ins s)) old p q free = cc
+unclashed_at rule (effect.Ins r) (Some effect.Del) old p q free = tt
+unclashed_at rule (effect.Ins r) (Some (effect.Mod d)) None p q free = tt
+unclashed_at rule (effect.Ins r) (Some (effect.Mod d)) (Some o) p q free = absurd p
+unclashed_at rule (effect.Ins r) (Some (effect.Rep s)) None p q free = absurd q
+unclashed_at rule (effect.Ins r) (Some (effect.Rep s)) (Some o) p q free = absurd p
+unclashed_at rule effect.Del (Some (effect.Ins s)) old p q free = tt
+unclashed_at rule effect.Del (Some effect.Del) old p q free = cc
+unclashed_at rule effect.Del (Some (effect.Mod d)) old p q free = cc
+unclashed_at rule effect.Del (Some (effect.Rep s)) old p q free = tt
+unclashed_at rule (effect.Mod c) (Some (effect.Ins s)) old p q free = tt
+unclashed_at rule (effect.Mod c) (Some effect.Del) old p q free = cc
+unclashed_at rule (effect.Mod c) (Some (effect.Mod d)) None p q free = absurd q
+unclashed_at rule (effect.Mod c) (Some (effect.Mod d)) (Some o) p q free = tt
+unclashed_at rule (effect.Mod c) (Some (effect.Rep s)) old p q free = tt
+unclashed_at rule (effect.Rep r) (Some (effect.Ins s)) old p q free = tt
+unclashed_at rule (effect.Rep r) (Some effect.Del) old p q free = cc
+unclashed_at rule (effect.Rep r) (Some (effect.Mod d)) old p q free = cc
+unclashed_at rule (effect.Rep r) (Some (effect.Rep s)) old p q free = tt
 
 left_false : (a b : Bool) → (a || b) ≡ false → a ≡ false
 left_false true b e = cc
@@ -62,18 +65,19 @@ right_false : (a b : Bool) → (a || b) ≡ false → b ≡ false
 right_false true b e = cc
 right_false false b e = e
 
-pub all_fit-unclashed : (t : Table) (x y : Effects) → T (is_sorted key_cmp y) → T (all_fit t x) → T (all_fit t y) → conflicts x y ≡ false → T (all_fit (table_with t y) x)
-all_fit-unclashed t [] y hy fx fy free = tt
-all_fit-unclashed t (e ∷ x) y hy fx fy free =
-    let head = unclashed_at e.1 (find key_cmp e.0 y) (row_at t e.0) (first _ _ fx) (each_at key_cmp key_cmp_total key_cmp-IsAntisymmetric (λ k f. fits (row_at t k) f) y fy e.0) (left_false (clashes e.1 (find key_cmp e.0 y)) _ free) in
+pub all_fit-unclashed : (rule : ConflictRule) (t : Table) (x y : Effects) → T (is_sorted key_cmp y) → T (all_fit t x) → T (all_fit t y) →
+    conflicts rule x y ≡ false → T (all_fit (table_with t y) x)
+all_fit-unclashed rule t [] y hy fx fy free = tt
+all_fit-unclashed rule t (e ∷ x) y hy fx fy free =
+    let head = unclashed_at rule e.1 (find key_cmp e.0 y) (row_at t e.0) (first _ _ fx) (each_at key_cmp key_cmp_total key_cmp-IsAntisymmetric (λ k f. fits (row_at t k) f) y fy e.0) (left_false (clashes rule e.1 (find key_cmp e.0 y)) _ free) in
     both _ _ (subst (λ old. T (fits old e.1)) (sym (row_at-table_with t y e.0 hy)) head)
-    (all_fit-unclashed t x y hy (second _ _ fx) fy (right_false (clashes e.1 (find key_cmp e.0 y)) _ free))
+    (all_fit-unclashed rule t x y hy (second _ _ fx) fy (right_false (clashes rule e.1 (find key_cmp e.0 y)) _ free))
 
 -- ---- the first clash is there where some pair clashes
 
-module _ (key_cols : ℕ) where
+module _ (rule : ConflictRule) (key_cols : ℕ) where
   abbrev do_clash : Entry → Entry → Bool
-  do_clash x y = is_some (clash_of_entries key_cols x y)
+  do_clash x y = is_some (clash_of_entries rule key_cols x y)
 
   abbrev clashes_with : List Entry → Entry → Bool
   clashes_with ys x = list_any (do_clash x) ys
@@ -86,16 +90,18 @@ module _ (key_cols : ℕ) where
   is_some-or_else None b = refl
   is_some-or_else (Some a) b = refl
 
-  is_some-clash_with : (i : ℕ) (x : Entry) (j : ℕ) (ys : List Entry) → is_some (clash_with key_cols i x j ys) ≡ clashes_with ys x
+  is_some-clash_with : (i : ℕ) (x : Entry) (j : ℕ) (ys : List Entry) → is_some (clash_with rule key_cols i x j ys) ≡ clashes_with ys x
   is_some-clash_with i x j [] = refl
-  is_some-clash_with i x j (y ∷ ys) = is_some-or_clash i j (clash_of_entries key_cols x y) (clash_with key_cols i x (suc j) ys) ∙ ap (λ b. do_clash x y || b) (is_some-clash_with i x (suc j) ys)
+  is_some-clash_with i x j (y ∷ ys) =
+      is_some-or_clash i j (clash_of_entries rule key_cols x y) (clash_with rule key_cols i x (suc j) ys)
+      ∙ ap (λ b. do_clash x y || b) (is_some-clash_with i x (suc j) ys)
 
-  is_some-first_clash : (i : ℕ) (xs ys : List Entry) → is_some (first_clash_from key_cols i xs ys) ≡ list_any (clashes_with ys) xs
+  is_some-first_clash : (i : ℕ) (xs ys : List Entry) → is_some (first_clash_from rule key_cols i xs ys) ≡ list_any (clashes_with ys) xs
   is_some-first_clash i [] ys = refl
   is_some-first_clash i (x ∷ xs) ys =
       let rest = is_some-first_clash (suc i) xs ys in
       let head = is_some-clash_with i x 0 ys in
-      is_some-or_else (clash_with key_cols i x 0 ys) (first_clash_from key_cols (suc i) xs ys) ∙ λ n. head n || rest n
+      is_some-or_else (clash_with rule key_cols i x 0 ys) (first_clash_from rule key_cols (suc i) xs ys) ∙ λ n. head n || rest n
 
   -- ---- entries of different keys don't clash
 
@@ -131,7 +137,8 @@ module _ (key_cols : ℕ) where
     apart k j (Del key) (Del other) ne hc hd = ap (λ b. is_some (cond b (Some DeleteDelete) None)) (other_rank k j ne hc hd)
     apart k j (Del key) (Mod col value) ne hc hd = ap (λ b. is_some (cond b (Some DeleteModify) None)) (other_rank k j ne hc hd)
     apart k j (Mod col value) (Del key) ne hc hd = ap (λ b. is_some (cond b (Some DeleteModify) None)) (other_rank k j ne hc hd)
-    apart k j (Mod col value) (Mod other w) ne hc hd = ap (λ b. is_some (cond (b && (col == other)) (Some ModifyModify) None)) (other_rank k j ne hc hd)
+    apart k j (Mod col value) (Mod other w) ne hc hd =
+        ap (λ b. is_some (cond (b && columns_clash rule col other) (Some ModifyModify) None)) (other_rank k j ne hc hd)
 
     module _ (k : Key) (c : Change) (hc : T (is_placed key_cols t k c)) where
       abbrev x : Entry
@@ -203,19 +210,46 @@ module _ (key_cols : ℕ) where
   kind_or true = refl
   kind_or false = refl
 
-  column_clash : (n : ℕ) (c : ℕ × Value) (others : Cells) → clashes_with (mods n others) (entry_at n (Mod c.0 c.1)) ≡ is_some (find nat_cmp c.0 others)
-  column_clash n c [] = refl
-  column_clash n c (d ∷ others) =
-      let rest = column_clash n c others in
-      let head = kind_or ((n == n) && (c.0 == d.0)) ∙ ap (λ b. b && (c.0 == d.0)) (same_number n) ∙ same_tests c.0 d.0 in
+  -- modifies of cells against the others, by the test of their columns
+  cell_clash : (n : ℕ) (c : ℕ × Value) (others : Cells) → rule ≡ ByColumn →
+      clashes_with (mods n others) (entry_at n (Mod c.0 c.1)) ≡ is_some (find nat_cmp c.0 others)
+  cell_clash n c [] by = refl
+  cell_clash n c (d ∷ others) by =
+      let rest = cell_clash n c others by in
+      let head =
+      kind_or ((n == n) && columns_clash rule c.0 d.0) ∙ ap (λ b. b && columns_clash rule c.0 d.0) (same_number n)
+      ∙ ap (λ r. columns_clash r c.0 d.0) by ∙ same_tests c.0 d.0 in
       (λ i. head i || rest i) ∙ sym (found_or (is_eq (nat_cmp c.0 d.0)) d.1 (find nat_cmp c.0 others))
 
-  columns_clash : (n : ℕ) (cells others : Cells) → list_any (clashes_with (mods n others)) (mods n cells) ≡ list_any (λ c. is_some (find nat_cmp c.0 others)) cells
-  columns_clash n [] others = refl
-  columns_clash n (c ∷ cells) others =
-      let head = column_clash n c others in
-      let rest = columns_clash n cells others in
+  cells_clash : (n : ℕ) (cells others : Cells) → rule ≡ ByColumn →
+      list_any (clashes_with (mods n others)) (mods n cells) ≡ list_any (λ c. is_some (find nat_cmp c.0 others)) cells
+  cells_clash n [] others by = refl
+  cells_clash n (c ∷ cells) others by =
+      let head = cell_clash n c others by in
+      let rest = cells_clash n cells others by in
       λ i. head i || rest i
+
+  -- by row the first of each clash
+  rows_clash : (n : ℕ) (cells others : Cells) → rule ≡ ByRow → T (has_cells cells) → T (has_cells others) →
+      list_any (clashes_with (mods n others)) (mods n cells) ≡ true
+  rows_clash n [] others by p q = absurd p
+  rows_clash n (c ∷ cells) [] by p q = absurd q
+  rows_clash n (c ∷ cells) (d ∷ others) by p q =
+      let first_two : do_clash (entry_at n (Mod c.0 c.1)) (entry_at n (Mod d.0 d.1)) ≡ true =
+      kind_or ((n == n) && columns_clash rule c.0 d.0) ∙ ap (λ b. b && columns_clash rule c.0 d.0) (same_number n)
+      ∙ ap (λ r. columns_clash r c.0 d.0) by in
+      let others_too = list_any (do_clash (entry_at n (Mod c.0 c.1))) (mods n others) in
+      let later = list_any (clashes_with (mods n (d ∷ others))) (mods n cells) in
+      ap (λ b. (b || others_too) || later) first_two
+
+  -- modifies on one key clash where two of their entries do
+  mods_clash : (n : ℕ) (cells others : Cells) → T (has_cells cells) → T (has_cells others) →
+      list_any (clashes_with (mods n others)) (mods n cells) ≡ modifies_clash rule cells others
+  mods_clash n cells others p q =
+      elim rule as (λ r. rule ≡ r → list_any (clashes_with (mods n others)) (mods n cells) ≡ modifies_clash r cells others) [
+        | ByColumn ↦ λ by. cells_clash n cells others by
+        | ByRow ↦ λ by. rows_clash n cells others by p q
+      ] refl
 
   keys_tie : (k : Key) (row other : Row) → T (eq_by_cmp key_cmp k (key_of key_cols row)) → T (eq_by_cmp key_cmp k (key_of key_cols other)) → eq_by_cmp key_cmp (key_of key_cols row) (key_of key_cols other) ≡ true
   keys_tie k row other p q =
@@ -224,7 +258,9 @@ module _ (key_cols : ℕ) where
       (λ i. eq_by_cmp key_cmp (left i) (right i)) ∙ ap is_eq (tied_itself key_cmp_total k)
 
   -- a clash of the effects is one of their entries
-  effects_clash : (n : ℕ) (k : Key) (f : Effect) (g : Option Effect) (old : Option Row) → T (is_keyed_effect key_cols k f) → T (holds_at (is_keyed_effect key_cols k) g) → T (fits old f) → T (holds_at (fits old) g) → list_any (clashes_with (maybe_entries n k g)) (entries_of n k f) ≡ clashes f g
+  effects_clash : (n : ℕ) (k : Key) (f : Effect) (g : Option Effect) (old : Option Row) → T (is_keyed_effect key_cols k f) →
+      T (holds_at (is_keyed_effect key_cols k) g) → T (fits old f) → T (holds_at (fits old) g) →
+      list_any (clashes_with (maybe_entries n k g)) (entries_of n k f) ≡ clashes rule f g
   effects_clash n k (effect.Ins row) None old kf kg p q = refl
   effects_clash n k effect.Del None old kf kg p q = refl
   effects_clash n k (effect.Mod cells) None old kf kg p q = none cells
@@ -250,7 +286,7 @@ module _ (key_cols : ℕ) where
   effects_clash n k (effect.Mod cells) (Some (effect.Ins other)) (Some o) kf kg p q = absurd q
   effects_clash n k (effect.Mod []) (Some effect.Del) old kf kg p q = absurd kf
   effects_clash n k (effect.Mod (c ∷ cells)) (Some effect.Del) old kf kg p q = ap (λ b. (is_some (cond b (Some DeleteModify) None) || false) || list_any (clashes_with (entry_at n (Del k) ∷ [])) (mods n cells)) (same_number n)
-  effects_clash n k (effect.Mod cells) (Some (effect.Mod others)) old kf kg p q = columns_clash n cells others
+  effects_clash n k (effect.Mod cells) (Some (effect.Mod others)) old kf kg p q = mods_clash n cells others (first _ _ kf) (first _ _ kg)
   effects_clash n k (effect.Mod []) (Some (effect.Rep other)) old kf kg p q = absurd kf
   effects_clash n k (effect.Mod (c ∷ cells)) (Some (effect.Rep other)) old kf kg p q = ap (λ b. (is_some (cond b (Some DeleteModify) None) || false) || list_any (clashes_with (entry_at n (Ins other) ∷ entry_at n (Del k) ∷ [])) (mods n cells)) (same_number n)
   effects_clash n k (effect.Rep row) (Some (effect.Ins other)) None kf kg p q = absurd p
@@ -278,7 +314,8 @@ module _ (key_cols : ℕ) where
     effect_here k (effect.Mod cells) he hf = cells_here k cells hf
     effect_here k (effect.Rep row) he hf = let head = to_here k (Ins row) he in let rest = to_here k (Del k) hf in λ i. head i || (rest i || false)
 
-    all_here : (x : Effects) → T (list_all (λ e. is_keyed_effect key_cols e.0 e.1) x) → T (all_fit t x) → list_any (clashes_with (canonical_entries t y)) (canonical_entries t x) ≡ conflicts x y
+    all_here : (x : Effects) → T (list_all (λ e. is_keyed_effect key_cols e.0 e.1) x) → T (all_fit t x) →
+        list_any (clashes_with (canonical_entries t y)) (canonical_entries t x) ≡ conflicts rule x y
     all_here [] he hf = refl
     all_here (e ∷ x) he hf =
         let head =
@@ -290,5 +327,7 @@ module _ (key_cols : ℕ) where
         list_any-append (clashes_with (canonical_entries t y)) (entries_of (rank e.0 t) e.0 e.1) (canonical_entries t x) ∙ λ i. head i || rest i
 
   -- two transactions clash just where a first clash of their entries is found
-  pub first_clash-canonical_entries : (t : Table) (x y : Effects) → T (are_keyed_effects key_cols x) → T (are_keyed_effects key_cols y) → T (all_fit t x) → T (all_fit t y) → is_some (first_clash key_cols (canonical_entries t x) (canonical_entries t y)) ≡ conflicts x y
+  pub first_clash-canonical_entries : (t : Table) (x y : Effects) → T (are_keyed_effects key_cols x) → T (are_keyed_effects key_cols y) →
+      T (all_fit t x) → T (all_fit t y) → is_some (first_clash rule key_cols (canonical_entries t x) (canonical_entries t y))
+      ≡ conflicts rule x y
   first_clash-canonical_entries t x y hx hy fx fy = is_some-first_clash 0 (canonical_entries t x) (canonical_entries t y) ∙ all_here t y hy fy x (second _ _ hx) fx

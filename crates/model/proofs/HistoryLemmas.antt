@@ -1,5 +1,5 @@
 -- Legal histories: their commits fit the tables that they found, and no table has more rows than the limit.
-use Rattle.std.proofs.Common.{◌≡◌, ℕ, zero, suc, ◌-◌, ◌≤◌, Bool, true, false, cond, ◌&&◌, List, [], ◌∷◌, ◌++◌, length, take, drop, refl, sym, subst, arith}
+use Rattle.std.proofs.Common.{◌≡◌, ℕ, zero, suc, ◌+◌, ◌-◌, ◌<◌, ◌≤◌, Bool, true, false, cond, ◌&&◌, ◌||◌, List, [], ◌∷◌, ◌++◌, length, take, drop, refl, sym, ap, subst, arith}
 use Rattle.std.specs.Prelude.{nat_lt, IsTrue}
 use Rattle.std.specs.List.{list_all, list_any}
 use Rattle.std.proofs.lemmas.Bool.Decides.{nat_tests}
@@ -9,7 +9,7 @@ use Rattle.model.specs.Table.{Table, IsTable}
 use Rattle.model.specs.Effects.{Effects, AreOver, table_with}
 use Rattle.model.specs.Writes.{write_fits_schema, effects_after}
 use Rattle.model.specs.Clashes.{conflicts}
-use Rattle.model.specs.History.{table_with_all, table_after, Record, due_reply, commits_with, writes_of, effects_of_record, IsLegalRecord, IsLegalFrom, commits_after, commits_from}
+use Rattle.model.specs.History.{table_with_all, table_after, Start, Record, due_reply, commits_with, writes_of, effects_of_record, IsSnapshot, IsLegalRecord, IsLegalFrom, commits_after, commits_from}
 use Rattle.model.specs.Laws.{LeavesTable, WriteKeeps, WritesKeep, RebasesEntries, AreCommits, LegalCommitsFit, LegalTablesKeepLimit}
 use Rattle.model.proofs.TurnsLemmas.{over-table_with_all}
 
@@ -31,10 +31,32 @@ table_with_all-append t [] later = refl
 table_with_all-append t (x ∷ commits) later = table_with_all-append (table_with t x) commits later
 
 -- the commits after the first k, after those k
-table_with_all-drop : (t : Table) (commits : List Effects) (k : ℕ) → table_with_all (table_after t commits k) (drop k commits) ≡ table_with_all t commits
+table_with_all-drop : (t : Table) (commits : List Effects) (k : ℕ) → table_with_all (table_with_all t (take k commits)) (drop k commits)
+    ≡ table_with_all t commits
 table_with_all-drop t commits zero = refl
 table_with_all-drop t [] (suc k) = refl
 table_with_all-drop t (x ∷ commits) (suc k) = table_with_all-drop (table_with t x) commits k
+
+-- ---- snapshots
+
+module _ (schema : Columns) (start : Start) (commits : List Effects) (k : ℕ) where
+  -- the table of a number from the base on is the snapshot of that number
+  pub IsSnapshot-table_after : start.base ≤ k → IsSnapshot schema start commits k (table_after start commits k)
+  IsSnapshot-table_after above = record { kept = λ here. refl; cut = λ below. absurd (omega (arith, above, below)) }
+
+  -- any table of the schema may be that of a number below the base
+  pub IsSnapshot-any : (t : Table) → k < start.base → IsTable schema t → IsSnapshot schema start commits k t
+  IsSnapshot-any t below table = record { kept = λ above. absurd (omega (arith, above, below)); cut = λ here. table }
+
+  -- what began below the base is too old
+  pub due_reply-cut : (x : Effects) → k < start.base → due_reply start commits k x ≡ TooOld (start.base + length commits)
+  due_reply-cut x below =
+      let n = start.base + length commits in
+      let late = nat_lt start.recent (n - k) in
+      let clash = list_any (conflicts start.rule x) (drop (k - start.base) commits) in
+      let full = nat_lt start.limit (length (table_with (table_with_all start.table commits) x)) in
+      let is : nat_lt k start.base ≡ true = grind (arith, nat_tests) in
+      ap (λ b. cond (b || late) (TooOld n) (cond clash (Conflict n) (cond full (Full n) (Committed (suc n))))) is
 
 -- ---- commits, each over the table that it found
 
@@ -46,7 +68,8 @@ module _ (schema : Columns) where
   AreCommits-take t (x ∷ commits) (suc k) h = (h.0, AreCommits-take (table_with t x) commits k h.1)
 
   -- and so are the rest, from the table after those k on
-  AreCommits-drop : (t : Table) (commits : List Effects) (k : ℕ) → AreCommits schema t commits → AreCommits schema (table_after t commits k) (drop k commits)
+  AreCommits-drop : (t : Table) (commits : List Effects) (k : ℕ) → AreCommits schema t commits →
+      AreCommits schema (table_with_all t (take k commits)) (drop k commits)
   AreCommits-drop t commits zero h = h
   AreCommits-drop t [] (suc k) h = tt
   AreCommits-drop t (x ∷ commits) (suc k) h = AreCommits-drop (table_with t x) commits k h.1
@@ -77,57 +100,70 @@ module _ (schema : Columns) where
 
 -- ---- one more record
 
-module _ (limit recent : ℕ) (opening : Table) (P : List Effects → Type 0) where
+module _ (start : Start) (P : List Effects → Type 0) where
   -- what holds of the commits holds after the reply that is due, if it holds with the effects where these are committed
-  commits_with-due_reply : (commits : List Effects) (k : ℕ) (x : Effects) → P commits → (list_any (conflicts x) (drop k commits) ≡ false → nat_lt limit (length (table_with (table_with_all opening commits) x)) ≡ false → P (commits ++ x ∷ [])) → P (commits_with commits x (due_reply limit recent opening commits k x))
+  commits_with-due_reply : (commits : List Effects) (k : ℕ) (x : Effects) → P commits →
+      (list_any (conflicts start.rule x) (drop (k - start.base) commits) ≡ false →
+      nat_lt start.limit (length (table_with (table_with_all start.table commits) x)) ≡ false → P (commits ++ x ∷ [])) →
+      P (commits_with commits x (due_reply start commits k x))
   commits_with-due_reply commits k x kept more =
-      by_tests (nat_lt recent (length commits - k)) (list_any (conflicts x) (drop k commits)) (nat_lt limit (length (table_with (table_with_all opening commits) x))) more
+      let n = start.base + length commits in
+      by_tests n (nat_lt k start.base || nat_lt start.recent (n - k)) (list_any (conflicts start.rule x) (drop (k - start.base) commits))
+      (nat_lt start.limit (length (table_with (table_with_all start.table commits) x))) more
     where
       -- by the three tests of the reply
-      by_tests : (old clash full : Bool) → (clash ≡ false → full ≡ false → P (commits ++ x ∷ [])) → P (commits_with commits x (cond old (TooOld (length commits)) (cond clash (Conflict (length commits)) (cond full (Full (length commits)) (Committed (suc (length commits)))))))
-      by_tests true clash full next = kept
-      by_tests false true full next = kept
-      by_tests false false true next = kept
-      by_tests false false false next = next refl refl
-
--- ---- the commits
+      by_tests : (n : ℕ) (old clash full : Bool) → (clash ≡ false → full ≡ false → P (commits ++ x ∷ [])) →
+          P (commits_with commits x (cond old (TooOld n) (cond clash (Conflict n) (cond full (Full n) (Committed (suc n))))))
+      by_tests n true clash full more = kept
+      by_tests n false true full more = kept
+      by_tests n false false true more = kept
+      by_tests n false false false more = more refl refl
 
 module _ (schema : Columns) (leaves : LeavesTable schema) (keeps : WriteKeeps schema) (rebases : RebasesEntries schema) where
-  module _ (limit recent : ℕ) (opening : Table) (table : IsTable schema opening) where
-    -- the effects of a legal record are over its snapshot
-    over-effects_of_record : (commits : List Effects) (r : Record) → AreCommits schema opening commits → IsLegalRecord schema limit recent opening commits r → AreOver schema (table_after opening commits r.begin) (effects_of_record schema limit recent opening commits r)
+  module _ (start : Start) (table : IsTable schema start.table) where
+    -- the effects of a legal record are over the table of its number
+    over-effects_of_record : (commits : List Effects) (r : Record) → AreCommits schema start.table commits →
+        IsLegalRecord schema start commits r → AreOver schema (table_after start commits r.begin) (effects_of_record schema start commits r)
     over-effects_of_record commits r commits_are legal =
-        let snapshot = table_after opening commits r.begin in
-        let before = IsTable-table_with_all schema leaves opening (take r.begin commits) table (AreCommits-take schema opening commits r.begin commits_are) in
-        over-effects_after_all schema keeps limit snapshot [] (writes_of r) (over_none schema snapshot before) legal.fitting
+        let k = r.begin - start.base in
+        let t = table_after start commits r.begin in
+        let fit = AreCommits-take schema start.table commits k commits_are in
+        let before = IsTable-table_with_all schema leaves start.table (take k commits) table fit in
+        over-effects_after_all schema keeps start.limit t [] (writes_of r) (over_none schema t before) legal.fitting
 
     -- a legal record leaves commits that are each over the table that they found
-    AreCommits-commits_after : (commits : List Effects) (r : Record) → AreCommits schema opening commits → IsLegalRecord schema limit recent opening commits r → AreCommits schema opening (commits_after schema limit recent opening commits r)
+    AreCommits-commits_after : (commits : List Effects) (r : Record) → AreCommits schema start.table commits →
+        IsLegalRecord schema start commits r → AreCommits schema start.table (commits_after schema start commits r)
     AreCommits-commits_after commits r commits_are legal =
-        let x = effects_of_record schema limit recent opening commits r in
+        let k = r.begin - start.base in
+        let x = effects_of_record schema start commits r in
         let over = over-effects_of_record commits r commits_are legal in
-        subst (λ reply. AreCommits schema opening (commits_with commits x reply)) (sym legal.replied)
-        (commits_with-due_reply limit recent opening (AreCommits schema opening) commits r.begin x commits_are
+        subst (λ reply. AreCommits schema start.table (commits_with commits x reply)) (sym legal.replied)
+        (commits_with-due_reply start (AreCommits schema start.table) commits r.begin x commits_are
         (λ free room.
-        let newest = over-table_with_all schema rebases (table_after opening commits r.begin) x (drop r.begin commits) over (AreCommits-drop schema opening commits r.begin commits_are) free in
-        AreCommits-append schema opening commits x commits_are (subst (λ t. AreOver schema t x) (table_with_all-drop opening commits r.begin) newest)))
+        let later = AreCommits-drop schema start.table commits k commits_are in
+        let newest = over-table_with_all schema rebases start.rule (table_after start commits r.begin) x (drop k commits) over later free in
+        let all = subst (λ t. AreOver schema t x) (table_with_all-drop start.table commits k) newest in
+        AreCommits-append schema start.table commits x commits_are all))
 
     -- and so does a legal history
-    AreCommits-commits_from : (commits : List Effects) (history : List Record) → AreCommits schema opening commits → IsLegalFrom schema limit recent opening commits history → AreCommits schema opening (commits_from schema limit recent opening commits history)
+    AreCommits-commits_from : (commits : List Effects) (history : List Record) → AreCommits schema start.table commits →
+        IsLegalFrom schema start commits history → AreCommits schema start.table (commits_from schema start commits history)
     AreCommits-commits_from commits [] commits_are legal = commits_are
     AreCommits-commits_from commits (r ∷ history) commits_are legal =
-        AreCommits-commits_from (commits_after schema limit recent opening commits r) history (AreCommits-commits_after commits r commits_are legal.0) legal.1
+        let next = AreCommits-commits_after commits r commits_are legal.0 in
+        AreCommits-commits_from (commits_after schema start commits r) history next legal.1
 
   -- the commits of a legal history are each over the table that it found
   pub AreCommits-commits_of : LegalCommitsFit schema
-  AreCommits-commits_of limit recent opening history table legal = AreCommits-commits_from limit recent opening table [] history tt legal
+  AreCommits-commits_of start history table legal = AreCommits-commits_from start table [] history tt legal
 
 -- ---- the row limit
 
 module _ (limit : ℕ) where
   -- each table of the commits keeps the limit
   abbrev TablesKeepLimit : Table → List Effects → Type 0
-  TablesKeepLimit t commits = (k : ℕ) → length (table_after t commits k) ≤ limit
+  TablesKeepLimit t commits = (k : ℕ) → length (table_with_all t (take k commits)) ≤ limit
 
   -- no commits leave the table that keeps it
   TablesKeepLimit-nil : (t : Table) → length t ≤ limit → TablesKeepLimit t []
@@ -135,7 +171,8 @@ module _ (limit : ℕ) where
   TablesKeepLimit-nil t h (suc k) = h
 
   -- one more commit keeps the limit where the table after it does
-  TablesKeepLimit-append : (t : Table) (commits : List Effects) (x : Effects) → TablesKeepLimit t commits → length (table_with (table_with_all t commits) x) ≤ limit → TablesKeepLimit t (commits ++ x ∷ [])
+  TablesKeepLimit-append : (t : Table) (commits : List Effects) (x : Effects) → TablesKeepLimit t commits →
+      length (table_with (table_with_all t commits) x) ≤ limit → TablesKeepLimit t (commits ++ x ∷ [])
   TablesKeepLimit-append t commits x h last zero = h zero
   TablesKeepLimit-append t [] x h last (suc k) = TablesKeepLimit-nil (table_with t x) last k
   TablesKeepLimit-append t (y ∷ commits) x h last (suc k) = TablesKeepLimit-append (table_with t y) commits x (λ j. h (suc j)) last k
@@ -144,21 +181,26 @@ module _ (limit : ℕ) where
   within : (n : ℕ) → nat_lt limit n ≡ false → n ≤ limit
   within n h = grind (arith, nat_tests)
 
-  module _ (schema : Columns) (recent : ℕ) (opening : Table) where
-    -- a legal record keeps the limit
-    TablesKeepLimit-commits_after : (commits : List Effects) (r : Record) → TablesKeepLimit opening commits → IsLegalRecord schema limit recent opening commits r → TablesKeepLimit opening (commits_after schema limit recent opening commits r)
-    TablesKeepLimit-commits_after commits r kept legal =
-        let x = effects_of_record schema limit recent opening commits r in
-        subst (λ reply. TablesKeepLimit opening (commits_with commits x reply)) (sym legal.replied)
-        (commits_with-due_reply limit recent opening (TablesKeepLimit opening) commits r.begin x kept
-        (λ free room. TablesKeepLimit-append opening commits x kept (within (length (table_with (table_with_all opening commits) x)) room)))
+module _ (schema : Columns) (start : Start) where
+  -- a legal record keeps the limit
+  TablesKeepLimit-commits_after : (commits : List Effects) (r : Record) → TablesKeepLimit start.limit start.table commits →
+      IsLegalRecord schema start commits r → TablesKeepLimit start.limit start.table (commits_after schema start commits r)
+  TablesKeepLimit-commits_after commits r kept legal =
+      let x = effects_of_record schema start commits r in
+      let count = length (table_with (table_with_all start.table commits) x) in
+      subst (λ reply. TablesKeepLimit start.limit start.table (commits_with commits x reply)) (sym legal.replied)
+      (commits_with-due_reply start (TablesKeepLimit start.limit start.table) commits r.begin x kept
+      (λ free room. TablesKeepLimit-append start.limit start.table commits x kept (within start.limit count room)))
 
-    -- and so does a legal history
-    TablesKeepLimit-commits_from : (commits : List Effects) (history : List Record) → TablesKeepLimit opening commits → IsLegalFrom schema limit recent opening commits history → TablesKeepLimit opening (commits_from schema limit recent opening commits history)
-    TablesKeepLimit-commits_from commits [] kept legal = kept
-    TablesKeepLimit-commits_from commits (r ∷ history) kept legal =
-        TablesKeepLimit-commits_from (commits_after schema limit recent opening commits r) history (TablesKeepLimit-commits_after commits r kept legal.0) legal.1
+  -- and so does a legal history
+  TablesKeepLimit-commits_from : (commits : List Effects) (history : List Record) → TablesKeepLimit start.limit start.table commits →
+      IsLegalFrom schema start commits history → TablesKeepLimit start.limit start.table (commits_from schema start commits history)
+  TablesKeepLimit-commits_from commits [] kept legal = kept
+  TablesKeepLimit-commits_from commits (r ∷ history) kept legal =
+      let next = TablesKeepLimit-commits_after commits r kept legal.0 in
+      TablesKeepLimit-commits_from (commits_after schema start commits r) history next legal.1
 
 -- no table of a legal history has more rows than the limit
 pub length-table_after : (schema : Columns) → LegalTablesKeepLimit schema
-length-table_after schema limit recent opening history k few legal = TablesKeepLimit-commits_from limit schema recent opening [] history (TablesKeepLimit-nil limit opening few) legal k
+length-table_after schema start history k few legal =
+    TablesKeepLimit-commits_from schema start [] history (TablesKeepLimit-nil start.limit start.table few) legal (k - start.base)

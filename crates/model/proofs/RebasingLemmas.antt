@@ -20,6 +20,7 @@ use Rattle.model.specs.Effects.{Cells, Effects, is_keyed_effect, are_keyed_effec
 use Rattle.model.specs.declared.effect.Effect.{Effect}
 use Rattle.model.specs.declared.effect.Effect.TheVariants as effect
 use Rattle.model.specs.Entries.{entry_at, entries_of, canonical_entries}
+use Rattle.model.specs.declared.clash.ConflictRule.{ConflictRule}
 use Rattle.model.specs.Clashes.{clashes, conflicts}
 use Rattle.model.specs.Rebasing.{stands_first, inserts_before, deletes_before, rebased_entry, rebased_entries}
 use Rattle.model.proofs.MapsLemmas.{both, first, second, less, turn_greater, holds_at, each_at, find_below, below_tied}
@@ -214,22 +215,23 @@ module _ (key_cols : ℕ) (t : Table) (k : Key) (c : Change) (here : T (is_place
 -- ---- effects that don't clash
 
 -- what doesn't clash adds no row where the other has an effect
-pub none_added : (f : Effect) (g : Option Effect) (old : Option Row) → T (fits old f) → T (holds_at (fits old) g) → clashes f g ≡ false → T (holds_at adds_none g)
-none_added f None old p q unclashed = tt
-none_added (effect.Ins r) (Some (effect.Ins s)) old p q unclashed = cc
-none_added (effect.Ins r) (Some (effect.Rep s)) None p q unclashed = absurd q
-none_added (effect.Ins r) (Some (effect.Rep s)) (Some o) p q unclashed = absurd p
-none_added effect.Del (Some (effect.Ins s)) None p q unclashed = absurd p
-none_added effect.Del (Some (effect.Ins s)) (Some o) p q unclashed = absurd q
-none_added effect.Del (Some (effect.Rep s)) old p q unclashed = cc
-none_added (effect.Mod c) (Some (effect.Ins s)) None p q unclashed = absurd p
-none_added (effect.Mod c) (Some (effect.Ins s)) (Some o) p q unclashed = absurd q
-none_added (effect.Mod c) (Some (effect.Rep s)) old p q unclashed = cc
-none_added (effect.Rep r) (Some (effect.Ins s)) None p q unclashed = absurd p
-none_added (effect.Rep r) (Some (effect.Ins s)) (Some o) p q unclashed = absurd q
-none_added (effect.Rep r) (Some (effect.Rep s)) old p q unclashed = cc
-none_added f (Some effect.Del) old p q unclashed = tt
-none_added f (Some (effect.Mod c)) old p q unclashed = tt
+pub none_added : (rule : ConflictRule) (f : Effect) (g : Option Effect) (old : Option Row) → T (fits old f) → T (holds_at (fits old) g) →
+    clashes rule f g ≡ false → T (holds_at adds_none g)
+none_added rule f None old p q unclashed = tt
+none_added rule (effect.Ins r) (Some (effect.Ins s)) old p q unclashed = cc
+none_added rule (effect.Ins r) (Some (effect.Rep s)) None p q unclashed = absurd q
+none_added rule (effect.Ins r) (Some (effect.Rep s)) (Some o) p q unclashed = absurd p
+none_added rule effect.Del (Some (effect.Ins s)) None p q unclashed = absurd p
+none_added rule effect.Del (Some (effect.Ins s)) (Some o) p q unclashed = absurd q
+none_added rule effect.Del (Some (effect.Rep s)) old p q unclashed = cc
+none_added rule (effect.Mod c) (Some (effect.Ins s)) None p q unclashed = absurd p
+none_added rule (effect.Mod c) (Some (effect.Ins s)) (Some o) p q unclashed = absurd q
+none_added rule (effect.Mod c) (Some (effect.Rep s)) old p q unclashed = cc
+none_added rule (effect.Rep r) (Some (effect.Ins s)) None p q unclashed = absurd p
+none_added rule (effect.Rep r) (Some (effect.Ins s)) (Some o) p q unclashed = absurd q
+none_added rule (effect.Rep r) (Some (effect.Rep s)) old p q unclashed = cc
+none_added rule f (Some effect.Del) old p q unclashed = tt
+none_added rule f (Some (effect.Mod c)) old p q unclashed = tt
 
 -- a test of what is found is one of each entry under the key
 pub spread : (p : Effect → Bool) (k : Key) (y : Effects) → T (is_sorted key_cmp y) → T (holds_at p (find key_cmp k y)) → T (list_all (λ e. cond (eq_by_cmp key_cmp k e.0) (p e.1) true) y)
@@ -265,16 +267,21 @@ module _ (key_cols : ℕ) (t : Table) (y : Effects) (ht : T (is_sorted key_cmp t
     effect_step (effect.Mod cells) h fit = cells_step cells fit
     effect_step (effect.Rep row) h fit = let head = step (Ins row) h in let rest = step (Del k) fit in λ i. head i ∷ rest i ∷ []
 
-  all_moved : (x : Effects) → T (list_all (λ e. is_keyed_effect key_cols e.0 e.1) x) → T (all_fit t x) → conflicts x y ≡ false → rebased_entries key_cols (canonical_entries t y) (canonical_entries t x) ≡ canonical_entries (table_with t y) x
-  all_moved [] h fit unclashed = refl
-  all_moved (e ∷ x) h fit unclashed =
-      let free = left_false (clashes e.1 (find key_cmp e.0 y)) _ unclashed in
+  all_moved : (rule : ConflictRule) (x : Effects) → T (list_all (λ e. is_keyed_effect key_cols e.0 e.1) x) → T (all_fit t x) →
+      conflicts rule x y ≡ false → rebased_entries key_cols (canonical_entries t y) (canonical_entries t x)
+      ≡ canonical_entries (table_with t y) x
+  all_moved rule [] h fit unclashed = refl
+  all_moved rule (e ∷ x) h fit unclashed =
+      let free = left_false (clashes rule e.1 (find key_cmp e.0 y)) _ unclashed in
       let fits_y = each_at key_cmp key_cmp_total key_cmp-IsAntisymmetric (λ k f. fits (row_at t k) f) y fy e.0 in
-      let apart = spread adds_none e.0 y (first _ _ hy) (none_added e.1 (find key_cmp e.0 y) (row_at t e.0) (first _ _ fit) fits_y free) in
+      let apart = spread adds_none e.0 y (first _ _ hy) (none_added rule e.1 (find key_cmp e.0 y) (row_at t e.0) (first _ _ fit) fits_y free) in
       let head = effect_step e.0 apart e.1 (first _ _ h) (first _ _ fit) in
-      let rest = all_moved x (second _ _ h) (second _ _ fit) (right_false (clashes e.1 (find key_cmp e.0 y)) _ unclashed) in
+      let rest = all_moved rule x (second _ _ h) (second _ _ fit) (right_false (clashes rule e.1 (find key_cmp e.0 y)) _ unclashed) in
       map-append (rebased_entry key_cols (canonical_entries t y)) (entries_of (rank e.0 t) e.0 e.1) (canonical_entries t x) ∙ λ i. head i ++ rest i
 
 -- X's entries moved over Y's, where the two don't clash, are X's entries over the table after Y
-pub rebased_entry-canonical_entries : (key_cols : ℕ) (t : Table) (x y : Effects) → T (is_sorted key_cmp t) → T (are_keyed_effects key_cols x) → T (are_keyed_effects key_cols y) → T (all_fit t x) → T (all_fit t y) → conflicts x y ≡ false → rebased_entries key_cols (canonical_entries t y) (canonical_entries t x) ≡ canonical_entries (table_with t y) x
-rebased_entry-canonical_entries key_cols t x y ht hx hy fx fy unclashed = all_moved key_cols t y ht hy fy x (second _ _ hx) fx unclashed
+pub rebased_entry-canonical_entries : (rule : ConflictRule) (key_cols : ℕ) (t : Table) (x y : Effects) → T (is_sorted key_cmp t) →
+    T (are_keyed_effects key_cols x) → T (are_keyed_effects key_cols y) → T (all_fit t x) → T (all_fit t y) → conflicts rule x y ≡ false →
+    rebased_entries key_cols (canonical_entries t y) (canonical_entries t x) ≡ canonical_entries (table_with t y) x
+rebased_entry-canonical_entries rule key_cols t x y ht hx hy fx fy unclashed =
+    all_moved key_cols t y ht hy fy rule x (second _ _ hx) fx unclashed

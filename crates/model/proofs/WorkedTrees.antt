@@ -1,11 +1,13 @@
 -- Trees over the base table, computed by the definitions: folded, made consecutive, clashing and stacked.
-use Rattle.std.proofs.Common.{◌≡◌, ℕ, Option, Some, List, [], ◌∷◌, codes, pos, refl}
+use Rattle.std.proofs.Common.{◌≡◌, ℕ, false, Option, Some, None, List, [], ◌∷◌, codes, pos, refl}
 use Rattle.values.specs.declared.row.Row.{Row}
 use Rattle.values.specs.declared.value.Value.TheVariants.{Int, Text}
 use Rattle.model.specs.declared.entry.Entry.{Entry}
 use Rattle.model.specs.declared.entry.Change.TheVariants.{Ins, Del, Mod}
 use Rattle.model.specs.declared.effect.Effect.TheVariants as effect
 use Rattle.model.specs.declared.clash.Clash.{Clash}
+use Rattle.model.specs.declared.clash.ConflictRule.{ConflictRule}
+use Rattle.model.specs.declared.clash.ConflictRule.TheVariants.{ByColumn, ByRow}
 use Rattle.model.specs.declared.clash.ClashKind.TheVariants.{InsertInsert, DeleteDelete, DeleteModify, ModifyModify}
 use Rattle.model.specs.Table.{rows_of}
 use Rattle.model.specs.Effects.{Effects, table_with}
@@ -132,8 +134,8 @@ folded_columns = refl
 abbrev rebased : Effects → Effects → List Entry
 rebased x y = rebased_entries 1 (canonical_entries base y) (canonical_entries base x)
 
-abbrev clash : Effects → Effects → Option Clash
-clash x y = first_clash 1 (canonical_entries base x) (canonical_entries base y)
+abbrev clash : ConflictRule → Effects → Effects → Option Clash
+clash rule x y = first_clash rule 1 (canonical_entries base x) (canonical_entries base y)
 
 an_insert_at_a_ghost_stays : rebased (inserts 25) (deletes 30) ≡ entry_at 2 (Ins (new_row 25)) ∷ []
 an_insert_at_a_ghost_stays = refl
@@ -144,17 +146,29 @@ a_modify_passes_inserts = refl
 a_delete_passes_a_delete : rebased (deletes 30) (deletes 10) ≡ entry_at 1 (Del (id 30)) ∷ []
 a_delete_passes_a_delete = refl
 
-two_modifies_of_a_column_clash : clash (sets_both 7) (sets_qty 20 8) ≡ Some (record { kind = ModifyModify; x = 1; y = 0 })
+two_modifies_of_a_column_clash : clash ByColumn (sets_both 7) (sets_qty 20 8) ≡ Some (record { kind = ModifyModify; x = 1; y = 0 })
 two_modifies_of_a_column_clash = refl
 
-a_delete_and_a_modify_clash : clash (deletes 20) (sets_both 7) ≡ Some (record { kind = DeleteModify; x = 0; y = 0 })
-a_delete_and_a_modify_clash = refl
+-- of two columns they clash by row alone
+abbrev names_bea : Effects
+names_bea = (id 20, effect.Mod ((1, Text (codes "Bea")) ∷ [])) ∷ []
 
-two_deletes_clash : clash replaces_20 (deletes 20) ≡ Some (record { kind = DeleteDelete; x = 1; y = 0 })
-two_deletes_clash = refl
+two_modifies_of_a_row_clash : clash ByRow (sets_qty 20 7) names_bea ≡ Some (record { kind = ModifyModify; x = 0; y = 0 })
+two_modifies_of_a_row_clash = refl
 
-two_inserts_of_a_key_clash : clash replaces_20 replaces_20 ≡ Some (record { kind = InsertInsert; x = 0; y = 0 })
-two_inserts_of_a_key_clash = refl
+two_modifies_of_a_row_pass : clash ByColumn (sets_qty 20 7) names_bea ≡ None
+two_modifies_of_a_row_pass = refl
+
+a_delete_and_a_modify_clash : (rule : ConflictRule) → clash rule (deletes 20) (sets_both 7)
+    ≡ Some (record { kind = DeleteModify; x = 0; y = 0 })
+a_delete_and_a_modify_clash rule = refl
+
+two_deletes_clash : (rule : ConflictRule) → clash rule replaces_20 (deletes 20) ≡ Some (record { kind = DeleteDelete; x = 1; y = 0 })
+two_deletes_clash rule = refl
+
+two_inserts_of_a_key_clash : (rule : ConflictRule) → clash rule replaces_20 replaces_20
+    ≡ Some (record { kind = InsertInsert; x = 0; y = 0 })
+two_inserts_of_a_key_clash rule = refl
 
 -- ---- three layers make one image
 
@@ -194,5 +208,5 @@ the_position_of_a_base_row : rid_of_base (canonical_entries base read_layer) 1 �
 the_position_of_a_base_row = refl
 
 -- an insert of a ghost's key doesn't clash with the delete, which another clash comes before
-an_insert_and_a_delete_of_one_key : conflicts (inserts 20) (deletes 20) ≡ conflicts [] []
-an_insert_and_a_delete_of_one_key = refl
+an_insert_and_a_delete_of_one_key : (rule : ConflictRule) → conflicts rule (inserts 20) (deletes 20) ≡ false
+an_insert_and_a_delete_of_one_key rule = refl

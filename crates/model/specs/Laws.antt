@@ -10,6 +10,7 @@ use Rattle.model.specs.declared.entry.Entry.{Entry}
 use Rattle.model.specs.declared.entry.Change.TheVariants.{Ins}
 use Rattle.model.specs.declared.write.Write.{Write}
 use Rattle.model.specs.declared.clash.ClashKind.{ClashKind}
+use Rattle.model.specs.declared.clash.ConflictRule.{ConflictRule}
 use Rattle.model.specs.Maps.{find}
 use Rattle.model.specs.Table.{Table, rows_of, rank, IsTable}
 use Rattle.model.specs.Effects.{Effects, AreOver, AreEffects, table_with}
@@ -22,7 +23,7 @@ use Rattle.model.specs.Places.{rid_of_insert, rid_of_base}
 use Rattle.model.specs.Edits.{edited_entries}
 use Rattle.model.specs.Rebasing.{first_clash, AreClashing, IsLeastClash, rebased_entries, passed_entries}
 use Rattle.model.specs.Folding.{folded_entries}
-use Rattle.model.specs.History.{table_with_all, table_after, Record, IsLegal, commits_of}
+use Rattle.model.specs.History.{table_with_all, table_after, Start, Record, IsLegal, commits_of}
 
 -- ---- tables and effects
 
@@ -95,14 +96,17 @@ module _ (key_cols : ℕ) where
 module _ (schema : Columns) where
   -- ---- two transactions
 
-  -- they conflict where a first clash of their entries is found
+  -- they conflict by a rule where a first clash of their entries is found by it
   abbrev pub ConflictIsFound : Type 0
-  ConflictIsFound = (t : Table) (x y : Effects) → AreOver schema t x → AreOver schema t y → is_some (first_clash schema.key_cols (canonical_entries t x) (canonical_entries t y)) ≡ conflicts x y
+  ConflictIsFound = (rule : ConflictRule) (t : Table) (x y : Effects) → AreOver schema t x → AreOver schema t y →
+      is_some (first_clash rule schema.key_cols (canonical_entries t x) (canonical_entries t y)) ≡ conflicts rule x y
 
   -- where they don't, the one's entries made consecutive to the other's are those over the table after it
   abbrev pub RebasesEntries : Type 0
-  RebasesEntries = (t : Table) (x y : Effects) → AreOver schema t x → AreOver schema t y → conflicts x y ≡ false →
-      AreOver schema (table_with t y) x × (rebased_entries schema.key_cols (canonical_entries t y) (canonical_entries t x) ≡ canonical_entries (table_with t y) x)
+  RebasesEntries = (rule : ConflictRule) (t : Table) (x y : Effects) → AreOver schema t x → AreOver schema t y →
+      conflicts rule x y ≡ false →
+      let entries = rebased_entries schema.key_cols (canonical_entries t y) (canonical_entries t x) in
+      AreOver schema (table_with t y) x × (entries ≡ canonical_entries (table_with t y) x)
 
   -- entries over a tree's image, folded into the tree, are those of the composed effects
   abbrev pub FoldsToComposed : Type 0
@@ -111,12 +115,12 @@ module _ (schema : Columns) where
 
 -- the first clash is one, and the least
 module _ (key_cols : ℕ) where
-  pub record IsFirstClash (xs ys : List Entry) : Type 0 where
-    pub least : IfSome (first_clash key_cols xs ys) (IsLeastClash key_cols xs ys)
-    pub none : IsNone (first_clash key_cols xs ys) → (i j : ℕ) (kind : ClashKind) → ¬ AreClashing key_cols xs ys i j kind
+  pub record IsFirstClash (rule : ConflictRule) (xs ys : List Entry) : Type 0 where
+    pub least : IfSome (first_clash rule key_cols xs ys) (IsLeastClash rule key_cols xs ys)
+    pub none : IsNone (first_clash rule key_cols xs ys) → (i j : ℕ) (kind : ClashKind) → ¬ AreClashing rule key_cols xs ys i j kind
 
   abbrev pub FirstClashIsLeast : Type 0
-  FirstClashIsLeast = (xs ys : List Entry) → IsFirstClash xs ys
+  FirstClashIsLeast = (rule : ConflictRule) (xs ys : List Entry) → IsFirstClash rule xs ys
 
 -- ---- histories
 
@@ -134,18 +138,21 @@ module _ (schema : Columns) where
   -- a transaction is made consecutive to the commits since its begin, one at a time, or is found to conflict with one.
   -- An insert and another effect on one key never come first: a commit that makes room for them conflicts itself
   abbrev pub DecidesInTurn : Type 0
-  DecidesInTurn = (t : Table) (x : Effects) (commits : List Effects) → AreOver schema t x → AreCommits t commits →
-      passed_entries schema.key_cols (trees_of t commits) (canonical_entries t x) ≡ cond (list_any (conflicts x) commits) None (Some (canonical_entries (table_with_all t commits) x))
+  DecidesInTurn = (rule : ConflictRule) (t : Table) (x : Effects) (commits : List Effects) → AreOver schema t x → AreCommits t commits →
+      passed_entries rule schema.key_cols (trees_of t commits) (canonical_entries t x)
+      ≡ cond (list_any (conflicts rule x) commits) None (Some (canonical_entries (table_with_all t commits) x))
 
   -- and where none conflicts, its effects fit the newest table
   abbrev pub FitsTheNewest : Type 0
-  FitsTheNewest = (t : Table) (x : Effects) (commits : List Effects) → AreOver schema t x → AreCommits t commits → list_any (conflicts x) commits ≡ false → AreOver schema (table_with_all t commits) x
+  FitsTheNewest = (rule : ConflictRule) (t : Table) (x : Effects) (commits : List Effects) → AreOver schema t x → AreCommits t commits →
+      list_any (conflicts rule x) commits ≡ false → AreOver schema (table_with_all t commits) x
 
-  -- the commits of a legal history are each over the table that it found
+  -- the commits of a legal history are each over the table that it found, wherever it starts
   abbrev pub LegalCommitsFit : Type 0
-  LegalCommitsFit = (limit recent : ℕ) (opening : Table) (history : List Record) → IsTable schema opening → IsLegal schema limit recent opening history → AreCommits opening (commits_of schema limit recent opening history)
+  LegalCommitsFit = (start : Start) (history : List Record) → IsTable schema start.table → IsLegal schema start history →
+      AreCommits start.table (commits_of schema start history)
 
   -- and no table of it has more rows than the limit
   abbrev pub LegalTablesKeepLimit : Type 0
-  LegalTablesKeepLimit = (limit recent : ℕ) (opening : Table) (history : List Record) (k : ℕ) → length opening ≤ limit → IsLegal schema limit recent opening history →
-      length (table_after opening (commits_of schema limit recent opening history) k) ≤ limit
+  LegalTablesKeepLimit = (start : Start) (history : List Record) (k : ℕ) → length start.table ≤ start.limit → IsLegal schema start history →
+      length (table_after start (commits_of schema start history) k) ≤ start.limit

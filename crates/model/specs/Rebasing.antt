@@ -8,6 +8,8 @@ use Rattle.model.specs.declared.entry.Change.TheVariants.{Ins, Del, Mod}
 use Rattle.model.specs.declared.clash.ClashKind.{ClashKind}
 use Rattle.model.specs.declared.clash.ClashKind.TheVariants.{InsertInsert, DeleteDelete, DeleteModify, ModifyModify}
 use Rattle.model.specs.declared.clash.Clash.{Clash}
+use Rattle.model.specs.declared.clash.ConflictRule.{ConflictRule}
+use Rattle.model.specs.declared.clash.ConflictRule.TheVariants.{ByColumn, ByRow}
 use Rattle.values.specs.Shape.{key_of}
 use Rattle.model.specs.Entries.{entry_at, is_insert, is_delete}
 
@@ -23,7 +25,12 @@ abbrev pub or_else : Option Clash → Option Clash → Option Clash
 or_else (Some clash) other = Some clash
 or_else None other = other
 
-module _ (key_cols : ℕ) where
+-- whether modifies of these two columns of one row clash
+abbrev pub columns_clash : ConflictRule → ℕ → ℕ → Bool
+columns_clash ByColumn col other = col == other
+columns_clash ByRow col other = true
+
+module _ (rule : ConflictRule) (key_cols : ℕ) where
   -- how two changes clash, where they stand at one place or not
   abbrev pub clash_of_changes : Bool → Change → Change → Option ClashKind
   clash_of_changes here (Ins row) (Ins other) = cond (eq_by_cmp key_cmp (key_of key_cols row) (key_of key_cols other)) (Some InsertInsert) None
@@ -32,7 +39,7 @@ module _ (key_cols : ℕ) where
   clash_of_changes here (Del key) (Del other) = cond here (Some DeleteDelete) None
   clash_of_changes here (Del key) (Mod col value) = cond here (Some DeleteModify) None
   clash_of_changes here (Mod col value) (Del key) = cond here (Some DeleteModify) None
-  clash_of_changes here (Mod col value) (Mod other w) = cond (here && (col == other)) (Some ModifyModify) None
+  clash_of_changes here (Mod col value) (Mod other w) = cond (here && columns_clash rule col other) (Some ModifyModify) None
 
   abbrev pub clash_of_entries : Entry → Entry → Option ClashKind
   clash_of_entries x y = clash_of_changes (x.sid == y.sid) x.change y.change
@@ -64,8 +71,9 @@ module _ (key_cols : ℕ) where
     pub clashing : AreClashing xs ys clash.x clash.y clash.kind
     pub least : (i j : ℕ) (kind : ClashKind) → AreClashing xs ys i j kind → (clash.x < i) ⊎ ((clash.x ≡ i) × (clash.y ≤ j))
 
-  -- ---- a tree made consecutive to another one
+-- ---- a tree made consecutive to another one
 
+module _ (key_cols : ℕ) where
   -- whether an insert at an equal place stands before the change
   abbrev pub stands_first : Change → Change → Bool
   stands_first (Ins row) (Ins other) = is_lt (key_cmp (key_of key_cols row) (key_of key_cols other))
@@ -87,7 +95,9 @@ module _ (key_cols : ℕ) where
   abbrev pub rebased_entries : List Entry → List Entry → List Entry
   rebased_entries ys xs = map (rebased_entry ys) xs
 
+module _ (rule : ConflictRule) (key_cols : ℕ) where
   -- the entries made consecutive to each of the trees in turn, or nothing where they clash with one
   abbrev pub passed_entries : List (List Entry) → List Entry → Option (List Entry)
   passed_entries [] xs = Some xs
-  passed_entries (ys ∷ trees) xs = cond (is_some (first_clash xs ys)) None (passed_entries trees (rebased_entries ys xs))
+  passed_entries (ys ∷ trees) xs =
+      cond (is_some (first_clash rule key_cols xs ys)) None (passed_entries trees (rebased_entries key_cols ys xs))

@@ -59,7 +59,7 @@ pub fn base_stands_at_rid()
     ensures { (key_cols : ℕ) → BaseStandsAtRid key_cols }
 {}
 
-/// Two transactions over one table conflict just where a first clash of their entries is found.
+/// Two transactions over one table conflict just where a first clash of their entries is found, by either rule.
 pub fn conflict_is_found()
     ensures { (schema : Columns) → ConflictIsFound schema }
 {}
@@ -92,7 +92,7 @@ pub fn fits_the_newest()
     ensures { (schema : Columns) → FitsTheNewest schema }
 {}
 
-/// Each commit of a legal history is over the table that it found.
+/// Each commit of a legal history is over the table that it found, whatever the number at which the history starts.
 pub fn legal_commits_fit()
     ensures { (schema : Columns) → LegalCommitsFit schema }
 {}

@@ -6,9 +6,10 @@ mod clash;
 mod effect;
 mod entry;
 mod laws;
+mod record;
 mod write;
 
-pub use clash::{Clash, ClashKind};
+pub use clash::{Clash, ClashKind, ConflictRule};
 pub use effect::{Cells, Effect};
 pub use entry::{Change, Entry};
 pub use laws::{
@@ -17,4 +18,5 @@ pub use laws::{
     leaves_table, legal_commits_fit, legal_tables_keep_limit, merges_to_table, rebases_entries,
     write_edits, write_keeps, write_keeps_limit, writes_keep,
 };
-pub use write::{CommitReply, Write, WriteReply};
+pub use record::Record;
+pub use write::{CommitReply, Write, WriteReply, is_done, key_of_write, reply_where};
