@@ -10,6 +10,7 @@ use Rattle.values.specs.Orders.{key_cmp, key_cmp_total, key_cmp-IsAntisymmetric}
 use Rattle.values.specs.Shape.{key_of}
 use Rattle.values.specs.declared.row.Row.{Row}
 use Rattle.values.specs.declared.row.Key.{Key}
+use Rattle.model.specs.declared.clash.ConflictRule.TheVariants.{ByColumn}
 use Rattle.model.specs.declared.clash.ClashKind.{ClashKind}
 use Rattle.model.specs.declared.clash.ClashKind.TheVariants.{InsertInsert, ModifyModify}
 use Rattle.model.specs.declared.entry.Entry.{Entry}
@@ -31,12 +32,12 @@ use Rattle.layers.proofs.KeyPlaceLemmas.{split_is}
 
 -- ---- the first entry that is left
 
-pub clash_head : (key_cols i j : ℕ) (x y : Entry) (es : List Entry) → slice_get es j ≡ Some y → or_clash i j (clash_of_entries key_cols x y) None ≡ clash_with_head key_cols i x j (drop j es)
+pub clash_head : (key_cols i j : ℕ) (x y : Entry) (es : List Entry) → slice_get es j ≡ Some y → or_clash i j (clash_of_entries ByColumn key_cols x y) None ≡ clash_with_head key_cols i x j (drop j es)
 clash_head key_cols i j x y es is = by j es is
   where
-    by : (n : ℕ) (zs : List Entry) → slice_get zs n ≡ Some y → or_clash i j (clash_of_entries key_cols x y) None ≡ clash_with_head key_cols i x j (drop n zs)
+    by : (n : ℕ) (zs : List Entry) → slice_get zs n ≡ Some y → or_clash i j (clash_of_entries ByColumn key_cols x y) None ≡ clash_with_head key_cols i x j (drop n zs)
     by n [] p = cc
-    by zero (z ∷ zs) p = let same : y ≡ z = cc in ap (λ (e : Entry). or_clash i j (clash_of_entries key_cols x e) None) same
+    by zero (z ∷ zs) p = let same : y ≡ z = cc in ap (λ (e : Entry). or_clash i j (clash_of_entries ByColumn key_cols x e) None) same
     by (suc n) (z ∷ zs) p = by n zs p
 
 pub clash_none : (key_cols i j : ℕ) (x : Entry) (es : List Entry) → slice_get es j ≡ None → None ≡ clash_with_head key_cols i x j (drop j es)
@@ -153,10 +154,10 @@ module _ (key_cols : ℕ) where
   agrees x y = agree_at (x.sid == y.sid) x.change y.change
 
   -- changes that don't tie don't clash
-  unclashed : (here : Bool) (c d : Change) → T (agree_at here c d) → (here ≡ true → change_cmp key_cols c d ≡ Equal → ⊥) → clash_of_changes key_cols here c d ≡ None
+  unclashed : (here : Bool) (c d : Change) → T (agree_at here c d) → (here ≡ true → change_cmp key_cols c d ≡ Equal → ⊥) → clash_of_changes ByColumn key_cols here c d ≡ None
   unclashed here (Ins row) (Ins other) a f = by (eq_by_cmp key_cmp (key_of key_cols row) (key_of key_cols other)) refl a
     where
-      by : (b : Bool) → eq_by_cmp key_cmp (key_of key_cols row) (key_of key_cols other) ≡ b → T (cond b here true) → clash_of_changes key_cols here (Ins row) (Ins other) ≡ None
+      by : (b : Bool) → eq_by_cmp key_cmp (key_of key_cols row) (key_of key_cols other) ≡ b → T (cond b here true) → clash_of_changes ByColumn key_cols here (Ins row) (Ins other) ≡ None
       by true e h = absurd (f (is_true here h) (equal (key_cmp (key_of key_cols row) (key_of key_cols other)) e))
       by false e h = ap (λ b. cond b (Some InsertInsert) None) e
   unclashed here (Ins row) (Del key) a f = refl
@@ -177,7 +178,7 @@ module _ (key_cols : ℕ) where
       by false e = refl
 
   -- and those that do, at one SID, clash
-  tied_clash : (c d : Change) → change_cmp key_cols c d ≡ Equal → is_some (clash_of_changes key_cols true c d) ≡ true
+  tied_clash : (c d : Change) → change_cmp key_cols c d ≡ Equal → is_some (clash_of_changes ByColumn key_cols true c d) ≡ true
   tied_clash (Ins row) (Ins other) e = ap (λ r. is_some (cond (is_eq r) (Some InsertInsert) None)) e
   tied_clash (Ins row) (Del key) e = cc
   tied_clash (Ins row) (Mod col value) e = cc
@@ -191,23 +192,23 @@ module _ (key_cols : ℕ) where
       ap (λ b. is_some (cond b (Some ModifyModify) None)) (number_is col other same)
 
   module _ (x : Entry) where
-    unclashed_entry : (y : Entry) → T (agrees x y) → (entry_cmp key_cols x y ≡ Equal → ⊥) → clash_of_entries key_cols x y ≡ None
+    unclashed_entry : (y : Entry) → T (agrees x y) → (entry_cmp key_cols x y ≡ Equal → ⊥) → clash_of_entries ByColumn key_cols x y ≡ None
     unclashed_entry y a f =
         unclashed (x.sid == y.sid) x.change y.change a
         (λ here tie. f (ap (λ n. ordering_then (nat_cmp x.sid n) (change_cmp key_cols x.change y.change)) (sym (eqb-true x.sid y.sid here)) ∙ ap (λ r. ordering_then r (change_cmp key_cols x.change y.change)) (tied_itself nat_cmp_total x.sid) ∙ tie))
 
-    tied_entry : (y : Entry) → entry_cmp key_cols x y ≡ Equal → is_some (clash_of_entries key_cols x y) ≡ true
+    tied_entry : (y : Entry) → entry_cmp key_cols x y ≡ Equal → is_some (clash_of_entries ByColumn key_cols x y) ≡ true
     tied_entry y e = by (nat_cmp x.sid y.sid) refl e
       where
-        by : (r : Ordering) → nat_cmp x.sid y.sid ≡ r → ordering_then r (change_cmp key_cols x.change y.change) ≡ Equal → is_some (clash_of_entries key_cols x y) ≡ true
+        by : (r : Ordering) → nat_cmp x.sid y.sid ≡ r → ordering_then r (change_cmp key_cols x.change y.change) ≡ Equal → is_some (clash_of_entries ByColumn key_cols x y) ≡ true
         by Less q g = cc
         by Equal q g =
             let same : x.sid ≡ y.sid = ranked x.sid y.sid Equal (sym q) in
-            ap (λ b. is_some (clash_of_changes key_cols b x.change y.change)) (number_is x.sid y.sid same) ∙ tied_clash x.change y.change g
+            ap (λ b. is_some (clash_of_changes ByColumn key_cols b x.change y.change)) (number_is x.sid y.sid same) ∙ tied_clash x.change y.change g
         by Greater q g = cc
 
     -- an entry that isn't before it, and doesn't clash, is past it
-    past_it : (y : Entry) → T (not (is_gt (entry_cmp key_cols x y))) → clash_of_entries key_cols x y ≡ None → entry_cmp key_cols x y ≡ Less
+    past_it : (y : Entry) → T (not (is_gt (entry_cmp key_cols x y))) → clash_of_entries ByColumn key_cols x y ≡ None → entry_cmp key_cols x y ≡ Less
     past_it y n none = by (entry_cmp key_cols x y) refl n
       where
         by : (r : Ordering) → entry_cmp key_cols x y ≡ r → T (not (is_gt r)) → r ≡ Less
@@ -215,11 +216,11 @@ module _ (key_cols : ℕ) where
         by Equal q g = let some = sym (tied_entry y q) ∙ ap is_some none in cc
         by Greater q g = absurd g
 
-    none_past : (y : Entry) (zs : List Entry) (i j : ℕ) → entry_cmp key_cols x y ≡ Less → T (list_all (λ z. is_lt (entry_cmp key_cols y z)) zs) → T (list_all (agrees x) zs) → clash_with key_cols i x j zs ≡ None
+    none_past : (y : Entry) (zs : List Entry) (i j : ℕ) → entry_cmp key_cols x y ≡ Less → T (list_all (λ z. is_lt (entry_cmp key_cols y z)) zs) → T (list_all (agrees x) zs) → clash_with ByColumn key_cols i x j zs ≡ None
     none_past y [] i j lt h a = refl
     none_past y (z ∷ zs) i j lt h a =
         let less_z = entry_cmp-trans key_cols x y z lt (less _ (first (is_lt (entry_cmp key_cols y z)) _ h)) in
-        ap (λ k. or_clash i j k (clash_with key_cols i x (suc j) zs)) (unclashed_entry z (first (agrees x z) _ a) (λ e. absurd_less less_z e))
+        ap (λ k. or_clash i j k (clash_with ByColumn key_cols i x (suc j) zs)) (unclashed_entry z (first (agrees x z) _ a) (λ e. absurd_less less_z e))
         ∙ none_past y zs i (suc j) lt (second (is_lt (entry_cmp key_cols y z)) _ h) (second (agrees x z) _ a)
       where
         absurd_less : {r : Ordering} → r ≡ Less → r ≡ Equal → ⊥
@@ -228,24 +229,24 @@ module _ (key_cols : ℕ) where
     abbrev stands_off : Entry → Bool
     stands_off y = stands_before (change_cmp key_cols x.change) x.sid y
 
-    skips : (xs ys : List Entry) (i j : ℕ) → T (list_all stands_off xs) → T (list_all (agrees x) xs) → clash_with key_cols i x j (xs ++ ys) ≡ clash_with key_cols i x (j + length xs) ys
-    skips [] ys i j h a = let none : j ≡ j + 0 = omega arith in ap (λ n. clash_with key_cols i x n ys) none
+    skips : (xs ys : List Entry) (i j : ℕ) → T (list_all stands_off xs) → T (list_all (agrees x) xs) → clash_with ByColumn key_cols i x j (xs ++ ys) ≡ clash_with ByColumn key_cols i x (j + length xs) ys
+    skips [] ys i j h a = let none : j ≡ j + 0 = omega arith in ap (λ n. clash_with ByColumn key_cols i x n ys) none
     skips (y ∷ xs) ys i j h a =
         let next : suc j + length xs ≡ j + suc (length xs) = omega arith in
-        ap (λ k. or_clash i j k (clash_with key_cols i x (suc j) (xs ++ ys))) (unclashed_entry y (first (agrees x y) _ a) (off (entry_cmp key_cols x y) (first (stands_off y) _ h)))
+        ap (λ k. or_clash i j k (clash_with ByColumn key_cols i x (suc j) (xs ++ ys))) (unclashed_entry y (first (agrees x y) _ a) (off (entry_cmp key_cols x y) (first (stands_off y) _ h)))
         ∙ skips xs ys i (suc j) (second (stands_off y) _ h) (second (agrees x y) _ a)
-        ∙ ap (λ n. clash_with key_cols i x n ys) next
+        ∙ ap (λ n. clash_with ByColumn key_cols i x n ys) next
       where
         off : (r : Ordering) → T (is_gt r) → r ≡ Equal → ⊥
         off Less g e = g
         off Equal g e = g
         off Greater g e = cc
 
-    at_head : (ys : List Entry) (i j : ℕ) → T (are_ordered key_cols ys) → T (list_all (λ y. not (stands_off y)) ys) → T (list_all (agrees x) ys) → clash_with key_cols i x j ys ≡ clash_with_head key_cols i x j ys
+    at_head : (ys : List Entry) (i j : ℕ) → T (are_ordered key_cols ys) → T (list_all (λ y. not (stands_off y)) ys) → T (list_all (agrees x) ys) → clash_with ByColumn key_cols i x j ys ≡ clash_with_head key_cols i x j ys
     at_head [] i j o h a = refl
-    at_head (y ∷ ys) i j o h a = by (clash_of_entries key_cols x y) refl
+    at_head (y ∷ ys) i j o h a = by (clash_of_entries ByColumn key_cols x y) refl
       where
-        by : (k : Option ClashKind) → clash_of_entries key_cols x y ≡ k → or_clash i j k (clash_with key_cols i x (suc j) ys) ≡ or_clash i j k None
+        by : (k : Option ClashKind) → clash_of_entries ByColumn key_cols x y ≡ k → or_clash i j k (clash_with ByColumn key_cols i x (suc j) ys) ≡ or_clash i j k None
         by (Some kind) e = refl
         by None e =
             none_past y ys i (suc j) (past_it y (first (not (stands_off y)) _ h) e) (first (list_all (λ z. is_lt (entry_cmp key_cols y z)) ys) (are_ordered key_cols ys) o) (second (agrees x y) _ a)
@@ -261,12 +262,12 @@ module _ (key_cols : ℕ) where
     all_rest p (suc n) (e ∷ es) h = all_rest p n es (second (p e) _ h)
 
     -- the first clash is that with the entry at the change's place, or there is none
-    pub clash_place : (es : List Entry) (n i : ℕ) → T (are_ordered key_cols es) → IsSplit stands_off es n → T (list_all (agrees x) es) → clash_with key_cols i x 0 es ≡ clash_with_head key_cols i x n (drop n es)
+    pub clash_place : (es : List Entry) (n i : ℕ) → T (are_ordered key_cols es) → IsSplit stands_off es n → T (list_all (agrees x) es) → clash_with ByColumn key_cols i x 0 es ≡ clash_with_head key_cols i x n (drop n es)
     clash_place es n i o split a =
         let count : 0 + length (take n es) ≡ n = omega (arith, length-take n es, split.within) in
-        ap (clash_with key_cols i x 0) (sym (take-append-drop n es))
+        ap (clash_with ByColumn key_cols i x 0) (sym (take-append-drop n es))
         ∙ skips (take n es) (drop n es) i 0 split.before (all_first (agrees x) n es a)
-        ∙ ap (λ m. clash_with key_cols i x m (drop n es)) count
+        ∙ ap (λ m. clash_with ByColumn key_cols i x m (drop n es)) count
         ∙ at_head (drop n es) i n (ordered_right key_cols (take n es) (drop n es) (subst (λ zs. T (are_ordered key_cols zs)) (sym (take-append-drop n es)) o)) split.after (all_rest (agrees x) n es a)
 
   -- ---- entries over one table agree

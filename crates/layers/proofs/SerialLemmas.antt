@@ -8,6 +8,7 @@ use Rattle.std.proofs.lemmas.List.Elements.{All-weaker}
 use Rattle.std.proofs.lemmas.Option.{slice_get_within, get_or_from_slice_get, slice_get_read}
 use Rattle.values.specs.Orders.{key_cmp}
 use Rattle.values.specs.Shape.{Columns}
+use Rattle.model.specs.declared.clash.ConflictRule.TheVariants.{ByColumn}
 use Rattle.model.specs.declared.clash.Clash.{Clash}
 use Rattle.model.specs.declared.entry.Entry.{Entry}
 use Rattle.model.specs.declared.entry.Change.{Change}
@@ -57,18 +58,18 @@ holds_at p (suc n) (z ∷ es) e h is = holds_at p n es e (second (p z) _ h) is
 -- ---- one entry more
 
 -- an entry that clashes with none leaves the clash to the next ones
-pub clear_next : (key_cols n : ℕ) (xs ys : List Entry) (e : Entry) → slice_get xs n ≡ Some e → clash_with key_cols n e 0 ys ≡ None → first_clash_from key_cols n (drop n xs) ys ≡ first_clash_from key_cols (n + 1) (drop (n + 1) xs) ys
+pub clear_next : (key_cols n : ℕ) (xs ys : List Entry) (e : Entry) → slice_get xs n ≡ Some e → clash_with ByColumn key_cols n e 0 ys ≡ None → first_clash_from ByColumn key_cols n (drop n xs) ys ≡ first_clash_from ByColumn key_cols (n + 1) (drop (n + 1) xs) ys
 clear_next key_cols n xs ys e at none =
     let next : suc n ≡ n + 1 = omega arith in
-    ap (λ zs. first_clash_from key_cols n zs ys) (head_drop n xs e at)
-    ∙ ap (λ c. or_else c (first_clash_from key_cols (suc n) (drop (n + 1) xs) ys)) none
-    ∙ ap (λ m. first_clash_from key_cols m (drop (n + 1) xs) ys) next
+    ap (λ zs. first_clash_from ByColumn key_cols n zs ys) (head_drop n xs e at)
+    ∙ ap (λ c. or_else c (first_clash_from ByColumn key_cols (suc n) (drop (n + 1) xs) ys)) none
+    ∙ ap (λ m. first_clash_from ByColumn key_cols m (drop (n + 1) xs) ys) next
 
 -- and one that clashes is the first
-pub clash_here : (key_cols n : ℕ) (xs ys : List Entry) (e : Entry) (clash : Clash) → slice_get xs n ≡ Some e → clash_with key_cols n e 0 ys ≡ Some clash → first_clash_from key_cols n (drop n xs) ys ≡ Some clash
+pub clash_here : (key_cols n : ℕ) (xs ys : List Entry) (e : Entry) (clash : Clash) → slice_get xs n ≡ Some e → clash_with ByColumn key_cols n e 0 ys ≡ Some clash → first_clash_from ByColumn key_cols n (drop n xs) ys ≡ Some clash
 clash_here key_cols n xs ys e clash at some =
-    ap (λ zs. first_clash_from key_cols n zs ys) (head_drop n xs e at)
-    ∙ ap (λ c. or_else c (first_clash_from key_cols (suc n) (drop (n + 1) xs) ys)) some
+    ap (λ zs. first_clash_from ByColumn key_cols n zs ys) (head_drop n xs e at)
+    ∙ ap (λ c. or_else c (first_clash_from ByColumn key_cols (suc n) (drop (n + 1) xs) ys)) some
 
 -- the entries so far with one more, made consecutive
 pub moved_next : (key_cols n sid : ℕ) (xs ys out : List Entry) (e : Entry) (change : Change) → slice_get xs n ≡ Some e → sid ≡ (rebased_entry key_cols ys e).sid → change ≡ e.change → out ≡ map (rebased_entry key_cols ys) (take n xs) → out ++ entry_at sid change ∷ [] ≡ map (rebased_entry key_cols ys) (take (n + 1) xs)
@@ -130,7 +131,7 @@ module _ (x y : Tree) (w : AreAligned x y) where
       omega (arith, bound, w.small.rows)
 
   -- the first clash of an entry is that at its place
-  pub clash_is : (n : ℕ) (e : Entry) (p : ℕ) → slice_get x.entries n ≡ Some e → IsSplit (stands_before (change_cmp y.key_cols e.change) e.sid) y.entries p → clash_with y.key_cols n e 0 y.entries ≡ clash_with_head y.key_cols n e p (drop p y.entries)
+  pub clash_is : (n : ℕ) (e : Entry) (p : ℕ) → slice_get x.entries n ≡ Some e → IsSplit (stands_before (change_cmp y.key_cols e.change) e.sid) y.entries p → clash_with ByColumn y.key_cols n e 0 y.entries ≡ clash_with_head y.key_cols n e p (drop p y.entries)
   clash_is n e p at split =
       let here = sym (ap (λ (es : List Entry). slice_get es n) list_x) ∙ at in
       let kc = w.schema.key_cols in
@@ -138,33 +139,33 @@ module _ (x y : Tree) (w : AreAligned x y) where
       let y_ranked = ranked-canonical_entries kc w.t w.y (each w.schema w.t w.y y w.y_is w.small.rows) in
       let agree = agree_all kc w.t e (canonical_entries w.t w.y) (holds_at (is_ranked kc w.t) n (canonical_entries w.t w.x) e x_ranked here) y_ranked in
       let order = passes (are_ordered kc (canonical_entries w.t w.y)) (ordered w.schema w.t w.y w.y_is.over).ordered in
-      let P = λ (r : Tree). IsSplit (stands_before (change_cmp r.key_cols e.change) e.sid) r.entries p → clash_with r.key_cols n e 0 r.entries ≡ clash_with_head r.key_cols n e p (drop p r.entries) in
+      let P = λ (r : Tree). IsSplit (stands_before (change_cmp r.key_cols e.change) e.sid) r.entries p → clash_with ByColumn r.key_cols n e 0 r.entries ≡ clash_with_head r.key_cols n e p (drop p r.entries) in
       subst P (sym w.y_is.tree_is) (λ s. clash_place kc e (canonical_entries w.t w.y) p n order s agree) split
 
   -- the first clash of all, in the words of the effects
-  found_is : first_clash y.key_cols x.entries y.entries ≡ first_clash w.schema.key_cols (canonical_entries w.t w.x) (canonical_entries w.t w.y)
-  found_is i = first_clash (cols_y i) (list_x i) (list_y i)
+  found_is : first_clash ByColumn y.key_cols x.entries y.entries ≡ first_clash ByColumn w.schema.key_cols (canonical_entries w.t w.x) (canonical_entries w.t w.y)
+  found_is i = first_clash ByColumn (cols_y i) (list_x i) (list_y i)
 
-  pub conflicting : (clash : Clash) → first_clash y.key_cols x.entries y.entries ≡ Some clash → Conflicts w.x w.y × IsLeastClash w.schema.key_cols x.entries y.entries clash
+  pub conflicting : (clash : Clash) → first_clash ByColumn y.key_cols x.entries y.entries ≡ Some clash → Conflicts ByColumn w.x w.y × IsLeastClash ByColumn w.schema.key_cols x.entries y.entries clash
   conflicting clash found =
-      let some = sym (finds w.schema w.t w.x w.y w.x_is.over w.y_is.over) ∙ ap is_some (sym found_is ∙ found) in
-      let here : first_clash w.schema.key_cols x.entries y.entries ≡ Some clash = ap (λ (k : ℕ). first_clash k x.entries y.entries) (sym cols_y) ∙ found in
-      (some, subst (λ (o : Option Clash). IfSome o (IsLeastClash w.schema.key_cols x.entries y.entries)) here (first_clash-least w.schema.key_cols x.entries y.entries).least)
+      let some = sym (finds w.schema ByColumn w.t w.x w.y w.x_is.over w.y_is.over) ∙ ap is_some (sym found_is ∙ found) in
+      let here : first_clash ByColumn w.schema.key_cols x.entries y.entries ≡ Some clash = ap (λ (k : ℕ). first_clash ByColumn k x.entries y.entries) (sym cols_y) ∙ found in
+      (some, subst (λ (o : Option Clash). IfSome o (IsLeastClash ByColumn w.schema.key_cols x.entries y.entries)) here (first_clash-least w.schema.key_cols ByColumn x.entries y.entries).least)
 
-  pub unconflicting : first_clash y.key_cols x.entries y.entries ≡ None → conflicts w.x w.y ≡ false
-  unconflicting none = sym (finds w.schema w.t w.x w.y w.x_is.over w.y_is.over) ∙ ap is_some (sym found_is ∙ none)
+  pub unconflicting : first_clash ByColumn y.key_cols x.entries y.entries ≡ None → conflicts ByColumn w.x w.y ≡ false
+  unconflicting none = sym (finds w.schema ByColumn w.t w.x w.y w.x_is.over w.y_is.over) ∙ ap is_some (sym found_is ∙ none)
 
-  pub rebased_list : first_clash y.key_cols x.entries y.entries ≡ None → rebased_entries y.key_cols y.entries x.entries ≡ canonical_entries (table_with w.t w.y) w.x
+  pub rebased_list : first_clash ByColumn y.key_cols x.entries y.entries ≡ None → rebased_entries y.key_cols y.entries x.entries ≡ canonical_entries (table_with w.t w.y) w.x
   rebased_list none =
       (λ i. rebased_entries (cols_y i) (list_y i) (list_x i))
-      ∙ (rebases w.schema w.t w.x w.y w.x_is.over w.y_is.over (unconflicting none)).1
+      ∙ (rebases w.schema ByColumn w.t w.x w.y w.x_is.over w.y_is.over (unconflicting none)).1
 
-  pub rebased_is : (tree : Tree) (out : List Entry) → first_clash y.key_cols x.entries y.entries ≡ None → out ≡ rebased_entries y.key_cols y.entries x.entries → tree ≡ record { key_cols = x.key_cols; entries = out } → tree ≡ rebased_tree x y w
+  pub rebased_is : (tree : Tree) (out : List Entry) → first_clash ByColumn y.key_cols x.entries y.entries ≡ None → out ≡ rebased_entries y.key_cols y.entries x.entries → tree ≡ record { key_cols = x.key_cols; entries = out } → tree ≡ rebased_tree x y w
   rebased_is tree out none is tree_is = tree_is ∙ (λ i. record { key_cols = cols_x i; entries = (is ∙ rebased_list none) i })
 
-  pub lawful : (out : List Entry) → first_clash y.key_cols x.entries y.entries ≡ None → out ≡ rebased_entries y.key_cols y.entries x.entries → IsLawful x.key_cols out
+  pub lawful : (out : List Entry) → first_clash ByColumn y.key_cols x.entries y.entries ≡ None → out ≡ rebased_entries y.key_cols y.entries x.entries → IsLawful x.key_cols out
   lawful out none is =
-      let over = (rebases w.schema w.t w.x w.y w.x_is.over w.y_is.over (unconflicting none)).0 in
+      let over = (rebases w.schema ByColumn w.t w.x w.y w.x_is.over w.y_is.over (unconflicting none)).0 in
       let after = table_with w.t w.y in
       let entries = ordered w.schema after w.x over in
       let rows = rows_after w.schema w.t w.y y w.y_is w.small.rows in
@@ -177,31 +178,3 @@ module _ (x y : Tree) (w : AreAligned x y) where
         counted = omega (arith, short, moved, rows_after w.schema w.t w.x x w.x_is w.small.rows, w.small.rows);
       } in
       subst (λ (r : Tree). IsLawful r.key_cols r.entries) (λ i. record { key_cols = sym cols_x i; entries = sym (is ∙ rebased_list none) i }) law
-
--- ---- the entries changed in place
-
--- behind those that are made consecutive the next one is as it was
-same_there : (f : Entry → Entry) (n : ℕ) (xs : List Entry) (d : Entry) → n < length xs → get_or (map f (take n xs) ++ drop n xs) n d ≡ get_or xs n d
-same_there f n [] d lt = absurd (omega arith)
-same_there f zero (x ∷ xs) d lt = refl
-same_there f (suc n) (x ∷ xs) d lt = let short : n < length xs = omega arith in same_there f n xs d short
-
-pub owned_at : (f : Entry → Entry) (n : ℕ) (xs items : List Entry) (e : Entry) → items ≡ map f (take n xs) ++ drop n xs → n < length xs → e ≡ get_or items n e → slice_get xs n ≡ Some e
-owned_at f n xs items e is lt at = slice_get_read xs (length xs) n e refl lt (at ∙ ap (λ (es : List Entry). get_or es n e) is ∙ same_there f n xs e lt)
-
-set_next : (f : Entry → Entry) (n : ℕ) (xs : List Entry) (e : Entry) → slice_get xs n ≡ Some e → set (map f (take n xs) ++ drop n xs) n (f e) ≡ map f (take (suc n) xs) ++ drop (suc n) xs
-set_next f n [] e is = cc
-set_next f zero (z ∷ xs) e is = let same : e ≡ z = cc in ap (λ y. f y ∷ xs) same
-set_next f (suc n) (z ∷ xs) e is = ap (λ ys. f z ∷ ys) (set_next f n xs e is)
-
-pub owned_next : (key_cols n sid : ℕ) (xs ys items : List Entry) (e : Entry) → slice_get xs n ≡ Some e → sid ≡ (rebased_entry key_cols ys e).sid → items ≡ map (rebased_entry key_cols ys) (take n xs) ++ drop n xs →
-    set items n (entry_at sid e.change) ≡ map (rebased_entry key_cols ys) (take (n + 1) xs) ++ drop (n + 1) xs
-owned_next key_cols n sid xs ys items e at sid_is is =
-    let next : suc n ≡ n + 1 = omega arith in
-    (λ i. set (is i) n (entry_at (sid_is i) e.change))
-    ∙ set_next (rebased_entry key_cols ys) n xs e at
-    ∙ ap (λ m. map (rebased_entry key_cols ys) (take m xs) ++ drop m xs) next
-
-pub owned_all : (key_cols n : ℕ) (xs ys items : List Entry) → length xs ≤ n → items ≡ map (rebased_entry key_cols ys) (take n xs) ++ drop n xs → items ≡ rebased_entries key_cols ys xs
-owned_all key_cols n xs ys items end is =
-    is ∙ (λ i. map (rebased_entry key_cols ys) (all_taken n xs end i) ++ none_left n xs end i) ∙ append-nil (map (rebased_entry key_cols ys) xs)

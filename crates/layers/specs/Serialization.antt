@@ -1,5 +1,6 @@
 -- A tree made consecutive to another one over the same image, or where the two clash.
 use Rattle.std.specs.Prelude.{◌≡◌, ℕ, false, Option, None, List, [], ◌∷◌}
+use Rattle.model.specs.declared.clash.ConflictRule.TheVariants.{ByColumn}
 use Rattle.model.specs.declared.entry.Entry.{Entry}
 use Rattle.model.specs.declared.clash.Clash.{Clash}
 use Rattle.model.specs.Effects.{table_with}
@@ -16,12 +17,12 @@ rebased_tree first second w = tree_of w.schema (table_with w.t w.y) w.x
 
 -- a tree where the effects don't conflict: theirs over the table after the others; else two entries that clash, the first
 abbrev pub IsSerialized : (first second : Tree) → AreAligned first second → Serialized → Type 0
-IsSerialized first second w (answer.Tree tree) = (conflicts w.x w.y ≡ false) × (tree ≡ rebased_tree first second w)
-IsSerialized first second w (answer.Conflict clash) = Conflicts w.x w.y × IsLeastClash w.schema.key_cols first.entries second.entries clash
+IsSerialized first second w (answer.Tree tree) = (conflicts ByColumn w.x w.y ≡ false) × (tree ≡ rebased_tree first second w)
+IsSerialized first second w (answer.Conflict clash) = Conflicts ByColumn w.x w.y × IsLeastClash ByColumn w.schema.key_cols first.entries second.entries clash
 
 -- ---- one entry
 
 -- the clash of the entry at place i with the first of these, the one at place j
 abbrev pub clash_with_head : ℕ → ℕ → Entry → ℕ → List Entry → Option Clash
 clash_with_head key_cols i x j [] = None
-clash_with_head key_cols i x j (y ∷ ys) = or_clash i j (clash_of_entries key_cols x y) None
+clash_with_head key_cols i x j (y ∷ ys) = or_clash i j (clash_of_entries ByColumn key_cols x y) None

@@ -3,6 +3,7 @@ ghost use Rattle.std.specs.Prelude.{◌≡◌, ◌==◌, None, drop};
 ghost use Rattle.std.specs.Ordering.{eq_by_cmp};
 ghost use Rattle.values.specs.Orders.{key_cmp};
 ghost use Rattle.values.specs.Shape.{key_of};
+ghost use Rattle.model.specs.declared.clash.ConflictRule.TheVariants.{ByColumn};
 ghost use Rattle.model.specs.Rebasing.{clash_of_entries, clash_of_changes, or_clash};
 ghost use Rattle.layers.specs.Serialization.{clash_with_head};
 
@@ -32,14 +33,14 @@ fn clash_of_kind(i: usize, j: usize, kind: Option<ClashKind>) -> Option<Clash>
 
 /// How two entries clash.
 fn clash_of_entries(key_cols: usize, x: &Entry, y: &Entry) -> Option<ClashKind>
-    ensures { result ≡ clash_of_entries key_cols x.now y.now }
+    ensures { result ≡ clash_of_entries ByColumn key_cols x.now y.now }
 {
     clash_of_changes(key_cols, x.sid == y.sid, &x.change, &y.change)
 }
 
 /// How two changes clash, where they stand at one SID or not.
 fn clash_of_changes(key_cols: usize, here: bool, x: &Change, y: &Change) -> Option<ClashKind>
-    ensures { result ≡ clash_of_changes key_cols here x.now y.now }
+    ensures { result ≡ clash_of_changes ByColumn key_cols here x.now y.now }
 {
     match x {
         Change::Ins(row) => match y {

@@ -1,5 +1,6 @@
 use Rattle.std.proofs.Common.{ℕ, None, sym, ap, ◌∙◌}
 use Rattle.std.specs.Option.{option_copied}
+use Rattle.model.specs.declared.clash.ConflictRule.TheVariants.{ByColumn}
 use Rattle.model.specs.Rebasing.{clash_of_entries, or_clash}
 use Rattle.layers.proofs.ClashLemmas.{clash_head, clash_none}
 use Rattle.layers.proofs.clash.clash_at.Goals as goal
@@ -10,7 +11,7 @@ returns-in-Some c =
     let x = c.args.entry.now in
     let at = sym c.entry.ensures ∙ ap option_copied c.in-Some.is in
     c.clash_of_kind.ensures
-    ∙ ap (λ k. or_clash c.args.i c.args.j k None) (c.clash_of_entries.ensures ∙ ap (λ (n : ℕ). clash_of_entries n x c.in-Some.found.now) c.key_cols.ensures)
+    ∙ ap (λ k. or_clash c.args.i c.args.j k None) (c.clash_of_entries.ensures ∙ ap (λ (n : ℕ). clash_of_entries ByColumn n x c.in-Some.found.now) c.key_cols.ensures)
     ∙ clash_head c.args.other.now.key_cols c.args.i c.args.j x c.in-Some.found.now es at
 
 pub returns-in-None : goal.returns-in-None

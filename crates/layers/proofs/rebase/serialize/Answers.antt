@@ -1,4 +1,5 @@
 use Rattle.std.proofs.Common.{◌≡◌, ℕ, ◌≤◌, List, map, length, sym, ap, ◌∙◌, subst, arith}
+use Rattle.model.specs.declared.clash.ConflictRule.TheVariants.{ByColumn}
 use Rattle.model.specs.declared.entry.Entry.{Entry}
 use Rattle.model.specs.Entries.{IsLawful}
 use Rattle.model.specs.Rebasing.{first_clash_from, rebased_entry}
@@ -44,7 +45,7 @@ from_sorted-requires c =
     let y = c.args.y.now in
     let n = c.loop-place.place in
     let end : length x.entries ≤ n = omega (arith, c.len-place-end.ensures, c.loop-place-test.false) in
-    let none = c.loop-place.invariant.clear ∙ ap (λ (es : List Entry). first_clash_from y.key_cols n es y.entries) (none_left n x.entries end) in
+    let none = c.loop-place.invariant.clear ∙ ap (λ (es : List Entry). first_clash_from ByColumn y.key_cols n es y.entries) (none_left n x.entries end) in
     let all = c.loop-place.invariant.moved ∙ ap (map (rebased_entry y.key_cols y.entries)) (all_taken n x.entries end) in
     subst (λ (k : ℕ). IsLawful k c.loop-place.entries.items) (sym c.key_cols.ensures) (lawful x y c.requires c.loop-place.entries.items none all)
 
@@ -55,7 +56,7 @@ returns c =
     let n = c.loop-place.place in
     let out = c.loop-place.entries.items in
     let end : length x.entries ≤ n = omega (arith, c.len-place-end.ensures, c.loop-place-test.false) in
-    let none = c.loop-place.invariant.clear ∙ ap (λ (es : List Entry). first_clash_from y.key_cols n es y.entries) (none_left n x.entries end) in
+    let none = c.loop-place.invariant.clear ∙ ap (λ (es : List Entry). first_clash_from ByColumn y.key_cols n es y.entries) (none_left n x.entries end) in
     let all = c.loop-place.invariant.moved ∙ ap (map (rebased_entry y.key_cols y.entries)) (all_taken n x.entries end) in
     let tree_is : c.in_ok-from_sorted.field-0 ≡ record { key_cols = x.key_cols; entries = out } = c.in_ok-from_sorted.ensures ∙ (λ i. record { key_cols = c.key_cols.ensures i; entries = out }) in
     λ (w : AreAligned x y). (unconflicting x y w none, rebased_is x y w c.in_ok-from_sorted.field-0 out none all tree_is)
