@@ -23,9 +23,9 @@ Stops false change next rid = rid <ℤ next
 -- and stops at the insert of that row, or at no insert
 abbrev pub IsSpot : ℤ → ℤ → List Entry → ℕ → ℤ → Bool → Type 0
 IsSpot rid shift [] zero up inserted = (up ≡ shift) × (inserted ≡ false)
-IsSpot rid shift [] (suc place) up inserted = ⊥
+IsSpot rid shift [] (suc index) up inserted = ⊥
 IsSpot rid shift (e ∷ entries) zero up inserted = (up ≡ shift) × Stops inserted e.change (pos e.sid +ℤ shift) rid
-IsSpot rid shift (e ∷ entries) (suc place) up inserted = Passes e.change (pos e.sid +ℤ shift) rid × IsSpot rid (weight_of e.change +ℤ shift) entries place up inserted
+IsSpot rid shift (e ∷ entries) (suc index) up inserted = Passes e.change (pos e.sid +ℤ shift) rid × IsSpot rid (weight_of e.change +ℤ shift) entries index up inserted
 
 -- the entries stand at places below 2^32
 abbrev pub ArePlaced : List Entry → Type 0

@@ -81,7 +81,7 @@ pub(crate) fn child_of(children: &[Child], at: usize) -> (usize, usize)
     (index, rest)
 }
 
-/// The child in which the entries below the place end, and what those before it add.
+/// The child in which the entries below the SID end, and what those before it add.
 pub(crate) fn child_below(children: &[Child], sid: u64) -> (usize, i64)
     requires children { AreChildren children.now }
     requires ordered { IsOrdered (all_items children.now) }

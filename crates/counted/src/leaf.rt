@@ -20,7 +20,7 @@ pub(crate) fn total_of(entries: &[Arc<Entry, Global>]) -> i64
     sum
 }
 
-/// What the entries below the place add.
+/// What the entries below the SID add.
 pub(crate) fn shift_in(entries: &[Arc<Entry, Global>], sid: u64) -> i64
     requires { length entries.now < 2 ^ 62 }
     ensures { result ≡ shift_before sid (values_of entries.now) }

@@ -27,7 +27,7 @@ pub(crate) enum Body {
     Inner(Vec<Child>),
 }
 
-/// A child, with its number of entries, its inserts minus deletes, and its first entry's place.
+/// A child, with its number of entries, its inserts minus deletes, and its first entry's SID.
 #[cycle(node)]
 #[derive(Drop)]
 pub(crate) struct Child {
@@ -99,7 +99,7 @@ impl Node {
         }
     }
 
-    /// What the entries below the place add.
+    /// What the entries below the SID add.
     pub(crate) fn shift_before<L: Ledger>(&self, sid: u64, steps: &mut Steps<L>) -> i64
         requires ordered { IsOrdered self.now.items }
         requires few { length self.now.items < 2 ^ 62 }

@@ -1,4 +1,4 @@
-//! The place at a position of the image above.
+//! What stands at a position of the image above.
 ghost use Rattle.std.specs.Prelude.{◌≡◌, ◌+◌, ◌^◌, ◌<◌, ◌≤◌, ◌+ℤ◌, ◌≤ℤ◌, ◌<ℤ◌, pos, ℕ, ℤ, Bool, true, false, length, slice_index_or, take, drop};
 ghost use Rattle.counted.specs.declared.node.Child.{Child};
 ghost use Rattle.counted.specs.Edits.{values_of};
@@ -17,7 +17,7 @@ use std::sync::ledger::Ledger;
 /// How many entries a walk to a position passes, what they add, and whether it ends at an insert's row.
 #[derive(Clone, Copy)]
 pub struct Spot {
-    pub place: usize,
+    pub index: usize,
     pub shift: i64,
     pub inserted: bool,
 }
@@ -29,7 +29,7 @@ impl Node {
         requires placed { ArePlaced self.now.items }
         requires above { (shift +ℤ pos (length self.now.items)) ≤ℤ pos (2 ^ 61) }
         requires below { pos (length self.now.items) ≤ℤ (shift +ℤ pos (2 ^ 61)) }
-        ensures spot { IsSpot rid shift self.now.items result.place result.shift result.inserted }
+        ensures spot { IsSpot rid shift self.now.items result.index result.shift result.inserted }
         ensures steps { steps.new ≡ steps.old + self.now.depth }
     {
         match self.read(steps) {
@@ -38,7 +38,7 @@ impl Node {
                 let (index, before, shift) = child_at_rid(children, rid, shift);
                 let spot = children[index].node.find_rid(rid, shift, steps);
                 Spot {
-                    place: before + spot.place,
+                    index: before + spot.index,
                     shift: spot.shift,
                     inserted: spot.inserted,
                 }
@@ -57,7 +57,7 @@ fn child_at_rid(children: &[Child], rid: i64, shift: i64) -> (usize, usize, i64)
     ensures within { result.0 < length children.now }
     ensures before { result.1 ≡ length (all_items (take result.0 children.now)) }
     ensures shift { result.2 ≡ total (all_items (take result.0 children.now)) +ℤ shift }
-    ensures spot { (d : Child) (place : ℕ) (up : ℤ) (inserted : Bool) → IsSpot rid result.2 (items_of (slice_index_or children.now result.0 d)) place up inserted → IsSpot rid shift (all_items children.now) (result.1 + place) up inserted }
+    ensures spot { (d : Child) (index : ℕ) (up : ℤ) (inserted : Bool) → IsSpot rid result.2 (items_of (slice_index_or children.now result.0 d)) index up inserted → IsSpot rid shift (all_items children.now) (result.1 + index) up inserted }
 {
     let mut index = 0;
     let mut before = 0;
@@ -75,32 +75,32 @@ fn spot_in(entries: &[Arc<Entry, Global>], rid: i64, shift: i64) -> Spot
     requires placed { ArePlaced (values_of entries.now) }
     requires above { (shift +ℤ pos (length entries.now)) ≤ℤ pos (2 ^ 61) }
     requires below { pos (length entries.now) ≤ℤ (shift +ℤ pos (2 ^ 61)) }
-    ensures { IsSpot rid shift (values_of entries.now) result.place result.shift result.inserted }
+    ensures { IsSpot rid shift (values_of entries.now) result.index result.shift result.inserted }
 {
-    let mut place = 0;
+    let mut index = 0;
     let mut up = shift;
-    while place < entries.len() {
-        let entry = &entries[place];
+    while index < entries.len() {
+        let entry = &entries[index];
         let next = row_above(entry.sid, up);
         if rid < next {
             return Spot {
-                place,
+                index,
                 shift: up,
                 inserted: false,
             };
         }
         if is_row(&entry.change, next, rid) {
             return Spot {
-                place,
+                index,
                 shift: up,
                 inserted: true,
             };
         }
         up += weight(&entry.change);
-        place += 1;
+        index += 1;
     }
     Spot {
-        place,
+        index,
         shift: up,
         inserted: false,
     }
@@ -120,7 +120,7 @@ fn begins_by(children: &[Child], index: usize, up: i64, rid: i64) -> bool
     row_above(children[index + 1].first, children[index].net + up) <= rid
 }
 
-/// The row of a place that stands `up` above the rows below.
+/// The row of what stands `up` above the rows below.
 fn row_above(sid: u64, up: i64) -> i64
     requires small { sid < 2 ^ 32 }
     requires above { up ≤ℤ pos (2 ^ 61) }

@@ -76,7 +76,7 @@ impl CountedTree {
         }
     }
 
-    /// What the entries below the place add.
+    /// What the entries below the SID add.
     pub fn shift_before<L: Ledger>(&self, sid: u64, steps: &mut Steps<L>) -> i64
         requires ordered { IsOrdered self.now.entries }
         ensures shift { result ≡ shift_before sid self.now.entries }
@@ -96,14 +96,14 @@ impl CountedTree {
         requires rid { rid < 2 ^ 63 }
         requires ordered { IsOrdered self.now.entries }
         requires placed { ArePlaced self.now.entries }
-        ensures spot { IsSpot (pos rid) (pos 0) self.now.entries result.place result.shift result.inserted }
+        ensures spot { IsSpot (pos rid) (pos 0) self.now.entries result.index result.shift result.inserted }
         ensures steps { steps.new ≡ steps.old + self.now.depth }
     {
         match &self.root {
             None => {
                 steps.tick();
                 Spot {
-                    place: 0,
+                    index: 0,
                     shift: 0,
                     inserted: false,
                 }
@@ -112,7 +112,7 @@ impl CountedTree {
         }
     }
 
-    /// What the entries below the place add, where nobody counts nodes.
+    /// What the entries below the SID add, where nobody counts nodes.
     pub fn shift(&self, sid: u64) -> i64
         requires ordered { IsOrdered self.now.entries }
         ensures { result ≡ shift_before sid self.now.entries }
@@ -125,7 +125,7 @@ impl CountedTree {
         requires rid { rid < 2 ^ 63 }
         requires ordered { IsOrdered self.now.entries }
         requires placed { ArePlaced self.now.entries }
-        ensures { IsSpot (pos rid) (pos 0) self.now.entries result.place result.shift result.inserted }
+        ensures { IsSpot (pos rid) (pos 0) self.now.entries result.index result.shift result.inserted }
     {
         spot_uncounted::<Brand>(self, rid, Blank::new(1))
     }
@@ -298,7 +298,7 @@ impl CountedTree {
     }
 }
 
-/// What the entries below the place add, by a count that is let go.
+/// What the entries below the SID add, by a count that is let go.
 fn shift_uncounted<L: Ledger>(tree: &CountedTree, sid: u64, blank: Blank) -> i64
     requires name { blank.name ≡ L.name }
     requires parts { blank.parts ≡ L.parts }
@@ -318,7 +318,7 @@ fn spot_uncounted<L: Ledger>(tree: &CountedTree, rid: u64, blank: Blank) -> Spot
     requires rid { rid < 2 ^ 63 }
     requires ordered { IsOrdered tree.now.entries }
     requires placed { ArePlaced tree.now.entries }
-    ensures { IsSpot (pos rid) (pos 0) tree.now.entries result.place result.shift result.inserted }
+    ensures { IsSpot (pos rid) (pos 0) tree.now.entries result.index result.shift result.inserted }
 {
     let mut steps = Steps::<L>::new(blank);
     tree.find_rid(rid, &mut steps)

@@ -6,7 +6,6 @@ ghost use Rattle.model.specs.Edits.{change_with_cell, put_ins, put_del, put_mod,
 ghost use Rattle.delta.specs.Lookups.{has_delete, inserted_row};
 ghost use Rattle.delta.specs.Changes.{is_modify_at, modify_count, has_cell};
 
-use crate::sorted::key_of;
 use crate::tree::{DeltaTree, copy_entry};
 use model::{Change, Entry};
 use values::{Key, NoMemory, Row, Value};
@@ -24,10 +23,10 @@ impl DeltaTree {
         ensures ok { OnOk result (self.new ≡ record self.old { entries = put_ins self.old.key_cols sid row self.old.entries }) }
         ensures err { OnErr result (self.new ≡ self.old) }
     {
-        let place = self.place_of_insert(sid, key_of(self.key_cols, &row));
+        let index = self.index_of_insert(sid, row.key(self.key_cols));
         let change = Change::Ins(row);
         self.tree
-            .replace_run(self.alloc, place, place, Entry { sid, change })?;
+            .replace_run(self.alloc, index, index, Entry { sid, change })?;
         Ok(())
     }
 
@@ -43,11 +42,11 @@ impl DeltaTree {
         ensures ok { OnOk result (self.new ≡ record self.old { entries = put_del self.old.key_cols sid key self.old.entries }) }
         ensures err { OnErr result (self.new ≡ self.old) }
     {
-        let place = self.base_place(sid);
-        let end = self.place_past(sid);
+        let index = self.base_index(sid);
+        let end = self.index_past(sid);
         let change = Change::Del(key);
         self.tree
-            .replace_run(self.alloc, place, end, Entry { sid, change })?;
+            .replace_run(self.alloc, index, end, Entry { sid, change })?;
         Ok(())
     }
 
@@ -63,11 +62,11 @@ impl DeltaTree {
         ensures ok { OnOk result (self.new ≡ record self.old { entries = put_mod self.old.key_cols sid col value self.old.entries }) }
         ensures err { OnErr result (self.new ≡ self.old) }
     {
-        let place = self.place_of_modify(sid, col);
-        let end = place + self.modifies_at(place, sid, col);
+        let index = self.index_of_modify(sid, col);
+        let end = index + self.modifies_at(index, sid, col);
         let change = Change::Mod(col, value);
         self.tree
-            .replace_run(self.alloc, place, end, Entry { sid, change })?;
+            .replace_run(self.alloc, index, end, Entry { sid, change })?;
         Ok(())
     }
 
@@ -81,8 +80,8 @@ impl DeltaTree {
         ensures ok { OnOk result (self.new ≡ record self.old { entries = take_ins self.old.key_cols sid key.now self.old.entries }) }
         ensures err { OnErr result (self.new ≡ self.old) }
     {
-        let place = self.place_of_insert(sid, key.cells());
-        self.tree.remove(self.alloc, place)?;
+        let index = self.index_of_insert(sid, key.cells());
+        self.tree.remove(self.alloc, index)?;
         Ok(())
     }
 
@@ -97,17 +96,17 @@ impl DeltaTree {
         ensures ok { OnOk result (self.new ≡ record self.old { entries = set_ins self.old.key_cols sid key.now col value self.old.entries }) }
         ensures err { OnErr result (self.new ≡ self.old) }
     {
-        let place = self.place_of_insert(sid, key.cells());
-        let entry = with_cell(self.tree.get(place), col, value)?;
-        self.tree.replace_run(self.alloc, place, place + 1, entry)?;
+        let index = self.index_of_insert(sid, key.cells());
+        let entry = with_cell(self.tree.get(index), col, value)?;
+        self.tree.replace_run(self.alloc, index, index + 1, entry)?;
         Ok(())
     }
 
-    /// How many of the entries from `place` on are the modify of this column at the SID: one or none.
-    fn modifies_at(&self, place: usize, sid: u64, col: usize) -> usize
-        ensures { result ≡ modify_count sid col (drop place self.now.entries) }
+    /// How many of the entries from `index` on are the modify of this column at the SID: one or none.
+    fn modifies_at(&self, index: usize, sid: u64, col: usize) -> usize
+        ensures { result ≡ modify_count sid col (drop index self.now.entries) }
     {
-        match self.tree.entry(place) {
+        match self.tree.entry(index) {
             Some(entry) => modify_worth(entry, sid, col),
             None => 0,
         }

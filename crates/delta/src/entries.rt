@@ -1,4 +1,4 @@
-//! The entries of a tree, in order: all, those from a place on, and those at a SID.
+//! The entries of a tree, in order: all, those from an index on, and those at a SID.
 ghost use Rattle.std.specs.Prelude.{◌≡◌, ◌≤◌, ◌==◌, drop, filter, length, slice_get};
 ghost use Rattle.std.specs.Option.{option_copied};
 ghost use Rattle.model.specs.Entries.{IsLawful};
@@ -15,13 +15,13 @@ impl DeltaTree {
         self.tree.iter(0, self.tree.len())
     }
 
-    /// The entries from a place on. It takes no memory, and goes over none that it leaves out.
-    pub fn iter_from(&self, place: usize) -> Iter<'_>
-        requires { place ≤ length self.now.entries }
-        ensures rest { result ≡ drop place self.now.entries }
+    /// The entries from an index on. It takes no memory, and goes over none that it leaves out.
+    pub fn iter_from(&self, index: usize) -> Iter<'_>
+        requires { index ≤ length self.now.entries }
+        ensures rest { result ≡ drop index self.now.entries }
         ensures lawful { IsLawful self.now.key_cols self.now.entries }
     {
-        self.tree.iter(place, self.tree.len() - place)
+        self.tree.iter(index, self.tree.len() - index)
     }
 
     /// The entries at the SID: the inserts by key, and then a delete, or modifies by column. Binary search finds the first
@@ -29,15 +29,15 @@ impl DeltaTree {
     pub fn entries_at(&self, sid: u64) -> Iter<'_>
         ensures { result ≡ filter (λ e. e.sid == sid) self.now.entries }
     {
-        let start = self.place_of_sid(sid);
-        let end = self.place_past(sid);
+        let start = self.index_of_sid(sid);
+        let end = self.index_past(sid);
         self.tree.iter(start, end - start)
     }
 
-    /// The entry at a place. It takes no memory.
-    pub fn entry(&self, place: usize) -> Option<&Entry>
-        ensures { option_copied result ≡ slice_get self.now.entries place }
+    /// The entry at an index. It takes no memory.
+    pub fn entry(&self, index: usize) -> Option<&Entry>
+        ensures { option_copied result ≡ slice_get self.now.entries index }
     {
-        self.tree.entry(place)
+        self.tree.entry(index)
     }
 }

@@ -18,5 +18,5 @@ mod tree;
 pub use counted::Iter;
 pub use laws::{a_write_is_one_call, canonical_look_ups, inserts_ascend_at_a_sid};
 pub use model::{Change, Entry};
-pub use places::{ChangePlace, KeyPlace, Place};
+pub use places::{ChangeIndex, KeyIndex, Place};
 pub use tree::DeltaTree;

@@ -15,15 +15,15 @@ impl DeltaTree {
     pub fn find_insert(&self, sid: u64, key: &[Value]) -> Option<&Row>
         ensures { option_copied result ≡ inserted_row self.now.key_cols sid key.now self.now.entries }
     {
-        self.insert_at_place(self.place_of_insert(sid, key), sid, key)
+        self.insert_at_index(self.index_of_insert(sid, key), sid, key)
     }
 
-    /// The same, where the search for the key has given its place.
-    pub(crate) fn insert_at_place(&self, place: usize, sid: u64, key: &[Value]) -> Option<&Row>
-        requires { IsSplit (stands_before (insert_cmp self.now.key_cols key.now) sid) self.now.entries place }
+    /// The same, where the search for the key has given its index.
+    pub(crate) fn insert_at_index(&self, index: usize, sid: u64, key: &[Value]) -> Option<&Row>
+        requires { IsSplit (stands_before (insert_cmp self.now.key_cols key.now) sid) self.now.entries index }
         ensures { option_copied result ≡ inserted_row self.now.key_cols sid key.now self.now.entries }
     {
-        let entry = self.tree.entry(place)?;
+        let entry = self.tree.entry(index)?;
         inserted_at(self.key_cols, entry, sid, key)
     }
 
@@ -31,7 +31,7 @@ impl DeltaTree {
     pub fn has_delete(&self, sid: u64) -> bool
         ensures { result ≡ has_delete sid self.now.entries }
     {
-        match self.tree.entry(self.base_place(sid)) {
+        match self.tree.entry(self.base_index(sid)) {
             Some(entry) => is_delete_at(entry, sid),
             None => false,
         }

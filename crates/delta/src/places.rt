@@ -9,7 +9,6 @@ ghost use Rattle.delta.specs.Lookups.{inserted_row};
 ghost use Rattle.delta.specs.Positions.{shift_before, IsAtRid, deletes_below, deletes_ascend, is_passed, gap_from};
 ghost use Rattle.delta.specs.Search.{insert_cmp, stands_before, IsSplit};
 
-use crate::sorted::key_of;
 use crate::tree::DeltaTree;
 use counted::CountedTree;
 use model::Change;
@@ -18,7 +17,7 @@ use values::{Row, Value};
 /// Where the row at a position of the image comes from.
 #[derive(Clone, Copy, Debug, PartialEq, Eq)]
 pub enum Place {
-    /// The insert that is the entry at this place.
+    /// The insert that is the entry at this index.
     Inserted(usize),
     /// The base row at this SID.
     Base(u64),
@@ -26,9 +25,9 @@ pub enum Place {
 
 /// Where the insert of a key stands at a SID, or would stand.
 #[derive(Clone, Copy, Debug, PartialEq, Eq)]
-pub struct KeyPlace {
+pub struct KeyIndex {
     /// How many entries stand before it.
-    pub place: usize,
+    pub index: usize,
     /// The position of its row in the image.
     pub rid: u64,
     /// Whether it is there.
@@ -37,24 +36,24 @@ pub struct KeyPlace {
 
 /// Where a change stands at a SID, or would stand.
 #[derive(Clone, Copy, Debug, PartialEq, Eq)]
-pub struct ChangePlace {
+pub struct ChangeIndex {
     /// How many entries stand before it.
-    pub place: usize,
+    pub index: usize,
     /// The position of its row in the image; of a deleted row, that of the next one.
     pub rid: u64,
 }
 
 impl DeltaTree {
-    /// The inserts less the deletes of the entries at SIDs below this one: how far they move what stands there. Counts
-    /// those entries one by one. It takes no memory.
+    /// The inserts less the deletes of the entries at SIDs below this one: how far they move what stands there. One
+    /// descent; it takes no memory.
     pub fn shift_before(&self, sid: u64) -> i64
         ensures { result ≡ shift_before sid self.now.entries }
     {
         self.tree.shift(sid)
     }
 
-    /// Where the row at a position of the image comes from; the base is thought to go on without end. Goes over the
-    /// entries from the first up to that place. It takes no memory.
+    /// Where the row at a position of the image comes from; the base is thought to go on without end. One descent; it
+    /// takes no memory.
     pub fn find_rid(&self, rid: u64) -> Place
         requires { rid < 2 ^ 63 }
         ensures at { IsAtRid self.now.entries rid result }
@@ -64,59 +63,59 @@ impl DeltaTree {
     {
         let spot = self.tree.spot(rid);
         if spot.inserted {
-            Place::Inserted(spot.place)
+            Place::Inserted(spot.index)
         } else {
             Place::Base(moved(rid, -spot.shift))
         }
     }
 
-    /// Where the insert of a key stands at a SID, or would stand, and the position of its row. Finds the place by binary
-    /// search, and counts the entries before it one by one. It takes no memory.
-    pub fn find_key(&self, sid: u64, key: &[Value]) -> KeyPlace
+    /// Where the insert of a key stands at a SID, or would stand, and the position of its row. A descent for the index,
+    /// one for what the entries before it add, and one for the entry; it takes no memory.
+    pub fn find_key(&self, sid: u64, key: &[Value]) -> KeyIndex
         requires { sid < 2 ^ 63 }
-        ensures split { IsSplit (stands_before (insert_cmp self.now.key_cols key.now) sid) self.now.entries result.place }
-        ensures rid { result.rid ≡ rid_of_insert (take result.place self.now.entries) sid }
+        ensures split { IsSplit (stands_before (insert_cmp self.now.key_cols key.now) sid) self.now.entries result.index }
+        ensures rid { result.rid ≡ rid_of_insert (take result.index self.now.entries) sid }
         ensures found { result.found ≡ is_some (inserted_row self.now.key_cols sid key.now self.now.entries) }
     {
-        let place = self.place_of_insert(sid, key);
-        let shift = self.tree.total_before(place);
-        KeyPlace {
-            place,
+        let index = self.index_of_insert(sid, key);
+        let shift = self.tree.total_before(index);
+        KeyIndex {
+            index,
             rid: moved(sid, shift),
-            found: self.insert_at_place(place, sid, key).is_some(),
+            found: self.insert_at_index(index, sid, key).is_some(),
         }
     }
 
     /// Where a change stands at a SID, or would stand, and the position of its row: behind the inserts there, or of an
-    /// insert behind those of smaller keys. Finds the place by binary search, and counts the entries before it one by one.
-    /// It takes no memory.
-    pub fn find_change(&self, sid: u64, change: &Change) -> ChangePlace
+    /// insert behind those of smaller keys. A descent for the index, and one for what the entries before it add; it takes
+    /// no memory.
+    pub fn find_change(&self, sid: u64, change: &Change) -> ChangeIndex
         requires { sid < 2 ^ 63 }
-        ensures split { IsSplit (stands_before (change_cmp self.now.key_cols change.now) sid) self.now.entries result.place }
-        ensures rid { result.rid ≡ rid_of_insert (take result.place self.now.entries) sid }
+        ensures split { IsSplit (stands_before (change_cmp self.now.key_cols change.now) sid) self.now.entries result.index }
+        ensures rid { result.rid ≡ rid_of_insert (take result.index self.now.entries) sid }
     {
-        let place = self.place_of_change(sid, change);
-        let shift = self.tree.total_before(place);
-        ChangePlace {
-            place,
+        let index = self.index_of_change(sid, change);
+        let shift = self.tree.total_before(index);
+        ChangeIndex {
+            index,
             rid: moved(sid, shift),
         }
     }
 
     /// How many entries stand before the change at the SID.
-    fn place_of_change(&self, sid: u64, change: &Change) -> usize
+    fn index_of_change(&self, sid: u64, change: &Change) -> usize
         ensures { IsSplit (stands_before (change_cmp self.now.key_cols change.now) sid) self.now.entries result }
     {
         match change {
-            Change::Ins(row) => self.place_of_insert(sid, key_of(self.key_cols, row)),
-            Change::Del(_) => self.base_place(sid),
-            Change::Mod(col, _) => self.place_of_modify(sid, *col),
+            Change::Ins(row) => self.index_of_insert(sid, row.key(self.key_cols)),
+            Change::Del(_) => self.base_index(sid),
+            Change::Mod(col, _) => self.index_of_modify(sid, *col),
         }
     }
 
     /// The SID at which an insert of the row stands whose row comes to a position of the image: past the deletes, among
     /// those just before the row that stands there, of smaller keys. Goes over the entries from the first up to that
-    /// place. It takes no memory.
+    /// one. It takes no memory.
     pub fn find_gap(&self, rid: u64, row: &Row) -> u64
         requires rid { rid < 2 ^ 63 }
 
@@ -124,7 +123,7 @@ impl DeltaTree {
         requires ascending { IsTrue (deletes_ascend self.now.entries) }
         ensures { result ≡ gap_from rid (key_of self.now.key_cols row.now) 0 0 self.now.entries }
     {
-        gap_of_rid(&self.tree, rid, key_of(self.key_cols, row))
+        gap_of_rid(&self.tree, rid, row.key(self.key_cols))
     }
 }
 

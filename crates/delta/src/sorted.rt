@@ -1,13 +1,12 @@
 //! Binary search in the entries of a tree: by SID, and among those of one SID by what the change is.
 ghost use Rattle.std.specs.Prelude.{◌≡◌};
-ghost use Rattle.values.specs.Shape.{key_of};
 ghost use Rattle.delta.specs.Search.{first_cmp, insert_cmp, base_cmp, modify_cmp, past_cmp, stands_before, IsSplit};
 
 use crate::tree::DeltaTree;
 use counted::Probe;
 use model::Change;
 use std::cmp::Ordering;
-use values::{Row, Value};
+use values::Value;
 
 /// What stands before all at a SID.
 struct First;
@@ -73,14 +72,14 @@ impl Probe for Past {
 
 impl DeltaTree {
     /// How many entries stand at SIDs below this one.
-    pub(crate) fn place_of_sid(&self, sid: u64) -> usize
+    pub(crate) fn index_of_sid(&self, sid: u64) -> usize
         ensures { IsSplit (stands_before first_cmp sid) self.now.entries result }
     {
         self.tree.place_of(sid, &First)
     }
 
     /// How many entries stand before the inserts of this key, or a greater one, at the SID.
-    pub(crate) fn place_of_insert(&self, sid: u64, key: &[Value]) -> usize
+    pub(crate) fn index_of_insert(&self, sid: u64, key: &[Value]) -> usize
         ensures { IsSplit (stands_before (insert_cmp self.now.key_cols key.now) sid) self.now.entries result }
     {
         self.tree.place_of(
@@ -94,36 +93,24 @@ impl DeltaTree {
 
     /// How many entries stand before what becomes of the base row at the SID: before its delete or its modifies, and past
     /// the inserts there. Found by binary search; it takes no memory.
-    pub fn base_place(&self, sid: u64) -> usize
+    pub fn base_index(&self, sid: u64) -> usize
         ensures { IsSplit (stands_before base_cmp sid) self.now.entries result }
     {
         self.tree.place_of(sid, &BaseRow)
     }
 
     /// How many entries stand at SIDs up to this one.
-    pub(crate) fn place_past(&self, sid: u64) -> usize
+    pub(crate) fn index_past(&self, sid: u64) -> usize
         ensures { IsSplit (stands_before past_cmp sid) self.now.entries result }
     {
         self.tree.place_of(sid, &Past)
     }
 
     /// How many entries stand before the modifies of this column, or a greater one, at the SID.
-    pub(crate) fn place_of_modify(&self, sid: u64, col: usize) -> usize
+    pub(crate) fn index_of_modify(&self, sid: u64, col: usize) -> usize
         ensures { IsSplit (stands_before (modify_cmp col) sid) self.now.entries result }
     {
         self.tree.place_of(sid, &ModifyOf { col })
-    }
-}
-
-/// The key of a row: its first `key_cols` cells.
-pub(crate) fn key_of(key_cols: usize, row: &Row) -> &[Value]
-    ensures { result.now ≡ key_of key_cols row.now }
-{
-    let cells = row.cells();
-    if key_cols < cells.len() {
-        &cells[..key_cols]
-    } else {
-        cells
     }
 }
 
@@ -132,7 +119,7 @@ pub(crate) fn compare_insert(key_cols: usize, key: &[Value], change: &Change) ->
     ensures { result ≡ insert_cmp key_cols key.now change.now }
 {
     match change {
-        Change::Ins(row) => key.cmp(key_of(key_cols, row)),
+        Change::Ins(row) => key.cmp(row.key(key_cols)),
         _ => Ordering::Less,
     }
 }

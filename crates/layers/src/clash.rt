@@ -9,9 +9,9 @@ ghost use Rattle.layers.specs.Serialization.{clash_with_head};
 
 use delta::{Change, DeltaTree, Entry};
 use model::{Clash, ClashKind};
-use values::{Row, Value};
+use values::Row;
 
-/// The clash of the entry, which is at place `i` of its tree, with that at place `j` of the other one.
+/// The clash of the entry, which has the index `i` in its tree, with that at `j` in the other one.
 pub(crate) fn clash_at(i: usize, entry: &Entry, other: &DeltaTree, j: usize) -> Option<Clash>
     ensures { result ≡ clash_with_head other.now.key_cols i entry.now j (drop j other.now.entries) }
 {
@@ -66,13 +66,5 @@ fn clash_of_changes(key_cols: usize, here: bool, x: &Change, y: &Change) -> Opti
 fn have_one_key(key_cols: usize, row: &Row, other: &Row) -> bool
     ensures { result ≡ eq_by_cmp key_cmp (key_of key_cols row.now) (key_of key_cols other.now) }
 {
-    key_of(key_cols, row).cmp(key_of(key_cols, other)).is_eq()
-}
-
-/// The key of a row: its first `key_cols` cells.
-fn key_of(key_cols: usize, row: &Row) -> &[Value]
-    ensures { result.now ≡ key_of key_cols row.now }
-{
-    let cells = row.cells();
-    &cells[..key_cols.min(cells.len())]
+    row.key(key_cols).cmp(other.key(key_cols)).is_eq()
 }

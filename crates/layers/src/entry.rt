@@ -1,15 +1,15 @@
-//! An entry of a tree, by its place, and its copy.
+//! An entry of a tree, by its index, and its copy.
 ghost use Rattle.std.specs.Prelude.{◌≡◌, ◌<◌, IfOk, Some, length, slice_get};
 
 use delta::{Change, DeltaTree, Entry};
 use values::NoMemory;
 
-/// The entry at a place.
-pub(crate) fn entry_of(tree: &DeltaTree, place: usize) -> &Entry
-    requires { place < length tree.now.entries }
-    ensures { slice_get tree.now.entries place ≡ Some result.now }
+/// The entry at an index.
+pub(crate) fn entry_of(tree: &DeltaTree, index: usize) -> &Entry
+    requires { index < length tree.now.entries }
+    ensures { slice_get tree.now.entries index ≡ Some result.now }
 {
-    match tree.entry(place) {
+    match tree.entry(index) {
         Some(entry) => entry,
         None => unreachable!(),
     }

@@ -40,15 +40,15 @@ fn fold_entry(tree: &mut DeltaTree, entry: &Entry) -> Result<(), NoMemory>
             tree.put_ins(sid, row.copy()?)
         }
         Change::Del(key) => match tree.find_rid(entry.sid) {
-            Place::Inserted(place) => {
-                let sid = entry_of(tree, place).sid;
+            Place::Inserted(index) => {
+                let sid = entry_of(tree, index).sid;
                 tree.take_ins(sid, key)
             }
             Place::Base(sid) => tree.put_del(sid, key.copy()?),
         },
         Change::Mod(col, value) => match tree.find_rid(entry.sid) {
-            Place::Inserted(place) => {
-                let inserted = entry_of(tree, place);
+            Place::Inserted(index) => {
+                let inserted = entry_of(tree, index);
                 let sid = inserted.sid;
                 let key = key_of_insert(tree.key_cols(), inserted)?;
                 tree.set_ins(sid, &key, *col, value.copy()?)

@@ -19,7 +19,7 @@ pub enum Serialized {
     Conflict(Clash),
 }
 
-/// The tree `x` made consecutive to `y`, which is over the same image, or the clash with the least place in `x`, then in
+/// The tree `x` made consecutive to `y`, which is over the same image, or the clash with the least index in `x`, then in
 /// `y` (Héman et al. 2010, "Serialize"): for each entry of `x` one look-up in `y`.
 ///
 /// # Errors
@@ -30,10 +30,10 @@ pub fn serialize(alloc: Global, x: &DeltaTree, y: &DeltaTree) -> Result<Serializ
     ensures { IfOk result (λ serialized. (w : AreAligned x.now y.now) → IsSerialized x.now y.now w serialized) }
 {
     let mut entries = Vec::with_capacity(alloc, x.len())?;
-    for place in 0..x.len() {
-        let entry = entry_of(x, place);
+    for index in 0..x.len() {
+        let entry = entry_of(x, index);
         let found = y.find_change(entry.sid, &entry.change);
-        if let Some(clash) = clash_at(place, entry, y, found.place) {
+        if let Some(clash) = clash_at(index, entry, y, found.index) {
             return Ok(Serialized::Conflict(clash));
         }
         entries.push(Entry {

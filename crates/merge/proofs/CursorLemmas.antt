@@ -164,9 +164,9 @@ cells-past sid (x ∷ xs) ys h = by (x.sid == sid) refl x.change refl ∙ cells-
     by true e (Del key) k = absurd (none (Del key) k (same_of x.sid sid e) refl)
     by true e (Mod col value) k = absurd (none (Mod col value) k (same_of x.sid sid e) refl)
 
-pub cells_at-left : (c : Cursor) → T (list_all (is_past c.sid) (take c.place c.tree.now.entries)) → cells_at c.sid c.tree.now.entries ≡ cells_at c.sid (entries_left c)
+pub cells_at-left : (c : Cursor) → T (list_all (is_past c.sid) (take c.index c.tree.now.entries)) → cells_at c.sid c.tree.now.entries ≡ cells_at c.sid (entries_left c)
 cells_at-left c h =
-    ap (cells_at c.sid) (sym (take-append-drop c.place c.tree.now.entries)) ∙ cells-past c.sid (take c.place c.tree.now.entries) (entries_left c) h
+    ap (cells_at c.sid) (sym (take-append-drop c.index c.tree.now.entries)) ∙ cells-past c.sid (take c.index c.tree.now.entries) (entries_left c) h
 
 -- ---- entries over rows
 
@@ -201,26 +201,26 @@ module _ (c : Cursor) where
   kc = c.tree.now.key_cols
 
   -- past an insert
-  pub inserts_next : (row : Row) (new : Cursor) → slice_get es c.place ≡ Some (entry_at c.sid (Ins row)) → new ≡ record c { place = c.place + 1 } → InsertsNext row c new
+  pub inserts_next : (row : Row) (new : Cursor) → slice_get es c.index ≡ Some (entry_at c.sid (Ins row)) → new ≡ record c { place = c.index + 1 } → InsertsNext row c new
   inserts_next row new is next =
-      let n : Cursor = record c { place = c.place + 1 } in
-      let left : entries_left c ≡ entry_at c.sid (Ins row) ∷ entries_left n = drop-at es c.place (entry_at c.sid (Ins row)) is in
+      let n : Cursor = record c { place = c.index + 1 } in
+      let left : entries_left c ≡ entry_at c.sid (Ins row) ∷ entries_left n = drop-at es c.index (entry_at c.sid (Ins row)) is in
       subst (λ x. InsertsNext row c x) (sym next) (record {
         rows = λ base. ap (merged_rows_from c.sid base) left ∙ merged_rows_from_insert c.sid row base (entries_left n);
         cursor = λ count h. record {
           lawful = h.lawful;
-          past = one_past c.sid c.place es (entry_at c.sid (Ins row)) is (insert_past c.sid c.sid row) h.past;
+          past = one_past c.sid c.index es (entry_at c.sid (Ins row)) is (insert_past c.sid c.sid row) h.past;
           few = h.few;
           over = over_tail kc c.sid (c.sid + count) (entry_at c.sid (Ins row)) (entries_left n) (subst (λ xs. IsOver kc c.sid (c.sid + count) xs) left h.over);
         };
       })
 
   -- past the delete of the next base row
-  pub deletes_next : (key : Key) (new : Cursor) → slice_get es c.place ≡ Some (entry_at c.sid (Del key)) → new ≡ record c { place = c.place + 1; sid = c.sid + 1 } → DeletesNext c new
+  pub deletes_next : (key : Key) (new : Cursor) → slice_get es c.index ≡ Some (entry_at c.sid (Del key)) → new ≡ record c { place = c.index + 1; sid = c.sid + 1 } → DeletesNext c new
   deletes_next key new is next =
       let x : Entry = entry_at c.sid (Del key) in
-      let n : Cursor = record c { place = c.place + 1; sid = c.sid + 1 } in
-      let left : entries_left c ≡ x ∷ entries_left n = drop-at es c.place x is in
+      let n : Cursor = record c { place = c.index + 1; sid = c.sid + 1 } in
+      let left : entries_left c ≡ x ∷ entries_left n = drop-at es c.index x is in
       let later : c.sid < c.sid + 1 = omega arith in
       let step : c.sid + 1 ≡ suc c.sid = omega arith in
       subst (λ y. DeletesNext c y) (sym next) (record {
@@ -240,20 +240,20 @@ module _ (c : Cursor) where
             let low : c.sid ≤ c.sid + 1 = omega arith in
             record {
               lawful = h.lawful;
-              past = one_past (c.sid + 1) c.place es x is (below_past (c.sid + 1) x later) (past-weaken c.sid (c.sid + 1) (take c.place es) low h.past);
+              past = one_past (c.sid + 1) c.index es x is (below_past (c.sid + 1) x later) (past-weaken c.sid (c.sid + 1) (take c.index es) low h.past);
               few = omega (arith, h.few);
               over = over_from kc c.sid (c.sid + 1) (c.sid + suc count) (c.sid + 1 + count) (entries_left n) stop (subst (λ m. T (all_from m (entries_left n))) (sym step) far) (over_tail kc c.sid (c.sid + suc count) x (entries_left n) o);
             };
       })
 
   -- that is what the test says
-  pub deletes_test : (new : Cursor) → starts_with_delete c.sid (entries_left c) ≡ true → new ≡ record c { place = c.place + 1; sid = c.sid + 1 } → DeletesNext c new
+  pub deletes_test : (new : Cursor) → starts_with_delete c.sid (entries_left c) ≡ true → new ≡ record c { place = c.index + 1; sid = c.sid + 1 } → DeletesNext c new
   deletes_test new test next = by (entries_left c) refl test
     where
       at_change : (x : Entry) (rest : List Entry) → entries_left c ≡ x ∷ rest → x.sid ≡ c.sid → (d : Change) → x.change ≡ d → is_delete d ≡ true → DeletesNext c new
       at_change x rest left here (Ins row) k t = cc
       at_change x rest left here (Mod col value) k t = cc
-      at_change x rest left here (Del key) k t = deletes_next key new (slice_get-drop es c.place x rest left ∙ (λ i. Some (entry_at (here i) (k i)))) next
+      at_change x rest left here (Del key) k t = deletes_next key new (slice_get-drop es c.index x rest left ∙ (λ i. Some (entry_at (here i) (k i)))) next
 
       by : (left : List Entry) → entries_left c ≡ left → starts_with_delete c.sid left ≡ true → DeletesNext c new
       by [] is t = cc
@@ -280,7 +280,7 @@ pub entries_past-none : (sid n : ℕ) (es : List Entry) → slice_get es n ≡ N
 entries_past-none sid n es is = ap (entries_past sid) (drop-none es n is) ∙ sym (drop-none es n is)
 
 -- the entries that are left stand at the cursor or past it
-pub cursor-le : (c : Cursor) (count : ℕ) (x : Entry) → IsCursor count c → slice_get c.tree.now.entries c.place ≡ Some x → c.sid ≤ x.sid
+pub cursor-le : (c : Cursor) (count : ℕ) (x : Entry) → IsCursor count c → slice_get c.tree.now.entries c.index ≡ Some x → c.sid ≤ x.sid
 cursor-le c count x h is =
-    let w = subst (λ xs. T (list_all (stands_within c.sid (c.sid + count)) xs)) (drop-at c.tree.now.entries c.place x is) h.over.within in
+    let w = subst (λ xs. T (list_all (stands_within c.sid (c.sid + count)) xs)) (drop-at c.tree.now.entries c.index x is) h.over.within in
     le_of c.sid x.sid (first (nat_le c.sid x.sid) _ (first (stands_within c.sid (c.sid + count) x) _ w))

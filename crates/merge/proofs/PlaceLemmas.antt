@@ -58,40 +58,40 @@ drop_passed (x ∷ xs) ys zero is = absurd (omega arith)
 drop_passed (x ∷ xs) ys (suc n) is = let shorter : length xs ≡ n = omega arith in drop_passed xs ys n shorter
 
 -- the cursor past entries that come before the base row at its SID, where no other does
-module _ (base : List Row) (c : Cursor) (over : IsOver c.tree.now.key_cols 0 (length base) c.tree.now.entries) (lawful : IsLawful c.tree.now.key_cols c.tree.now.entries) (small : length base < 2 ^ 62) (within : c.sid ≤ length base) (passed : T (list_all (is_passed 0 c.sid) (take c.place c.tree.now.entries))) (far : T (all_from c.sid (drop c.place c.tree.now.entries))) where
+module _ (base : List Row) (c : Cursor) (over : IsOver c.tree.now.key_cols 0 (length base) c.tree.now.entries) (lawful : IsLawful c.tree.now.key_cols c.tree.now.entries) (small : length base < 2 ^ 62) (within : c.sid ≤ length base) (passed : T (list_all (is_passed 0 c.sid) (take c.index c.tree.now.entries))) (far : T (all_from c.sid (drop c.index c.tree.now.entries))) where
   abbrev es : List Entry
   es = c.tree.now.entries
 
   abbrev kc : ℕ
   kc = c.tree.now.key_cols
 
-  whole : take c.place es ++ drop c.place es ≡ es
-  whole = take-append-drop c.place es
+  whole : take c.index es ++ drop c.index es ≡ es
+  whole = take-append-drop c.index es
 
-  reach : IsReached 0 c.sid c.sid base (take c.place es) (drop c.place es)
+  reach : IsReached 0 c.sid c.sid base (take c.index es) (drop c.index es)
   reach =
       let sum : c.sid ≡ 0 + c.sid = omega arith in
-      reached kc (take c.place es) (drop c.place es) 0 c.sid c.sid base sum within (subst (λ xs. T (are_ordered kc xs)) (sym whole) over.ordered) passed far
+      reached kc (take c.index es) (drop c.index es) 0 c.sid c.sid base sum within (subst (λ xs. T (are_ordered kc xs)) (sym whole) over.ordered) passed far
 
   -- at the position that they give
-  pub cursor_at : (rid : ℕ) → rid + delete_count (take c.place es) ≡ c.sid + insert_count (take c.place es) → IsCursorAt base rid c
+  pub cursor_at : (rid : ℕ) → rid + delete_count (take c.index es) ≡ c.sid + insert_count (take c.index es) → IsCursorAt base rid c
   cursor_at rid at =
       let r = reach in
       let count : length r.passed ≡ rid = omega (arith, r.count, at) in
       let stop : length base ≡ c.sid + length (drop c.sid base) = omega (arith, length-drop c.sid base, within) in
       record {
         within = within;
-        rows = sym (ap (drop rid) (ap (merged_rows base) (sym whole) ∙ r.image) ∙ drop_passed r.passed (merged_rows_from c.sid (drop c.sid base) (drop c.place es)) rid count);
+        rows = sym (ap (drop rid) (ap (merged_rows base) (sym whole) ∙ r.image) ∙ drop_passed r.passed (merged_rows_from c.sid (drop c.sid base) (drop c.index es)) rid count);
         cursor = record {
           lawful = lawful;
-          past = passed_past c.sid (take c.place es) passed;
+          past = passed_past c.sid (take c.index es) passed;
           few = omega (arith, stop, small);
-          over = over_from kc 0 c.sid (length base) (c.sid + length (drop c.sid base)) (drop c.place es) stop far (record { ordered = ordered_drop kc c.place es over.ordered; within = within_drop 0 (length base) c.place es over.within });
+          over = over_from kc 0 c.sid (length base) (c.sid + length (drop c.sid base)) (drop c.index es) stop far (record { ordered = ordered_drop kc c.index es over.ordered; within = within_drop 0 (length base) c.index es over.within });
         };
       }
 
   -- so many rows come before
-  pub passed_count : delete_count (take c.place es) ≤ c.sid + insert_count (take c.place es)
+  pub passed_count : delete_count (take c.index es) ≤ c.sid + insert_count (take c.index es)
   passed_count = let r = reach in omega (arith, r.count)
 
 -- ---- an insert
@@ -125,25 +125,25 @@ module _ (base : List Row) (c : Cursor) (rid : ℕ) (over : IsOver c.tree.now.ke
   abbrev list : List Entry
   list = c.tree.now.entries
 
-  inserted_here : (row : Row) → slice_get list c.place ≡ Some (entry_at c.sid (Ins row)) → rid_of_insert (take c.place list) c.sid ≡ rid → IsCursorAt base rid c
+  inserted_here : (row : Row) → slice_get list c.index ≡ Some (entry_at c.sid (Ins row)) → rid_of_insert (take c.index list) c.sid ≡ rid → IsCursorAt base rid c
   inserted_here row is at =
       let x : Entry = entry_at c.sid (Ins row) in
-      let later : List Entry = drop (c.place + 1) list in
-      let left : drop c.place list ≡ x ∷ later = drop-at list c.place x is in
-      let ordered : T (are_ordered c.tree.now.key_cols (take c.place list ++ x ∷ later)) = subst (λ xs. T (are_ordered c.tree.now.key_cols xs)) (sym (take-append-drop c.place list) ∙ ap (λ ys. take c.place list ++ ys) left) over.ordered in
-      let passed = before_insert c.tree.now.key_cols c.sid row (take c.place list) later ordered in
+      let later : List Entry = drop (c.index + 1) list in
+      let left : drop c.index list ≡ x ∷ later = drop-at list c.index x is in
+      let ordered : T (are_ordered c.tree.now.key_cols (take c.index list ++ x ∷ later)) = subst (λ xs. T (are_ordered c.tree.now.key_cols xs)) (sym (take-append-drop c.index list) ∙ ap (λ ys. take c.index list ++ ys) left) over.ordered in
+      let passed = before_insert c.tree.now.key_cols c.sid row (take c.index list) later ordered in
       let own : c.sid ≤ c.sid = omega arith in
-      let far = subst (λ ys. T (all_from c.sid ys)) (sym left) (all_from-ordered c.tree.now.key_cols c.sid x later (ordered_right c.tree.now.key_cols (take c.place list) (x ∷ later) ordered) own) in
-      let w = subst (λ ys. T (list_all (stands_within 0 (length base)) ys)) left (within_drop 0 (length base) c.place list over.within) in
+      let far = subst (λ ys. T (all_from c.sid ys)) (sym left) (all_from-ordered c.tree.now.key_cols c.sid x later (ordered_right c.tree.now.key_cols (take c.index list) (x ∷ later) ordered) own) in
+      let w = subst (λ ys. T (list_all (stands_within 0 (length base)) ys)) left (within_drop 0 (length base) c.index list over.within) in
       let within = le_of c.sid (length base) (second (nat_le 0 c.sid) _ (first (stands_within 0 (length base) x) _ w)) in
       let few = passed_count base c over lawful small within passed far in
       cursor_at base c over lawful small within passed far rid (omega (arith, few, at))
 
-  pub insert_found : (x : Entry) → slice_get list c.place ≡ Some x → x.sid ≡ c.sid → IsTrue (is_insert x.change) × (rid_of_insert (take c.place list) x.sid ≡ rid) → IsCursorAt base rid c
+  pub insert_found : (x : Entry) → slice_get list c.index ≡ Some x → x.sid ≡ c.sid → IsTrue (is_insert x.change) × (rid_of_insert (take c.index list) x.sid ≡ rid) → IsCursorAt base rid c
   insert_found x is here h = by x.change refl
     where
       by : (d : Change) → x.change ≡ d → IsCursorAt base rid c
-      by (Ins row) k = inserted_here row (is ∙ (λ i. Some (entry_at (here i) (k i)))) (ap (rid_of_insert (take c.place list)) (sym here) ∙ h.1)
+      by (Ins row) k = inserted_here row (is ∙ (λ i. Some (entry_at (here i) (k i)))) (ap (rid_of_insert (take c.index list)) (sym here) ∙ h.1)
       by (Del key) k = let not_one = ap is_insert k in let one = h.0 in cc
       by (Mod col value) k = let not_one = ap is_insert k in let one = h.0 in cc
 
@@ -297,28 +297,28 @@ none_far end s (e ∷ es) lt w h =
     by (Mod col value) t far = let l = lt_of e.sid end t in omega arith
 
 -- the cursor at a base row stands at its position
-module _ (base : List Row) (c : Cursor) (rid : ℕ) (over : IsOver c.tree.now.key_cols 0 (length base) c.tree.now.entries) (lawful : IsLawful c.tree.now.key_cols c.tree.now.entries) (small : length base < 2 ^ 62) (low : rid ≤ length (merged_rows base c.tree.now.entries)) (split : IsSplit (stands_before base_cmp c.sid) c.tree.now.entries c.place) (at : rid_of_base c.tree.now.entries c.sid ≡ rid) where
+module _ (base : List Row) (c : Cursor) (rid : ℕ) (over : IsOver c.tree.now.key_cols 0 (length base) c.tree.now.entries) (lawful : IsLawful c.tree.now.key_cols c.tree.now.entries) (small : length base < 2 ^ 62) (low : rid ≤ length (merged_rows base c.tree.now.entries)) (split : IsSplit (stands_before base_cmp c.sid) c.tree.now.entries c.index) (at : rid_of_base c.tree.now.entries c.sid ≡ rid) where
   abbrev all : List Entry
   all = c.tree.now.entries
 
-  passed : T (list_all (is_passed 0 c.sid) (take c.place all))
-  passed = stands_passed c.sid (take c.place all) split.before
+  passed : T (list_all (is_passed 0 c.sid) (take c.index all))
+  passed = stands_passed c.sid (take c.index all) split.before
 
-  far : T (all_from c.sid (drop c.place all))
-  far = far_after c.sid (drop c.place all) split.after
+  far : T (all_from c.sid (drop c.index all))
+  far = far_after c.sid (drop c.index all) split.after
 
-  inserts : insert_count (filter (λ e. nat_le e.sid c.sid) all) ≡ insert_count (take c.place all)
-  inserts = ap (λ xs. insert_count (filter (λ e. nat_le e.sid c.sid) xs)) (sym (take-append-drop c.place all)) ∙ inserts_at c.sid (take c.place all) (drop c.place all) passed split.after
+  inserts : insert_count (filter (λ e. nat_le e.sid c.sid) all) ≡ insert_count (take c.index all)
+  inserts = ap (λ xs. insert_count (filter (λ e. nat_le e.sid c.sid) xs)) (sym (take-append-drop c.index all)) ∙ inserts_at c.sid (take c.index all) (drop c.index all) passed split.after
 
-  deletes : delete_count (filter (λ e. nat_lt e.sid c.sid) all) ≡ delete_count (take c.place all)
-  deletes = ap (λ xs. delete_count (filter (λ e. nat_lt e.sid c.sid) xs)) (sym (take-append-drop c.place all)) ∙ deletes_at c.sid (take c.place all) (drop c.place all) passed split.after
+  deletes : delete_count (filter (λ e. nat_lt e.sid c.sid) all) ≡ delete_count (take c.index all)
+  deletes = ap (λ xs. delete_count (filter (λ e. nat_lt e.sid c.sid) xs)) (sym (take-append-drop c.index all)) ∙ deletes_at c.sid (take c.index all) (drop c.index all) passed split.after
 
   -- its SID is within the rows, since all that the entries add and take away comes before it otherwise
   inside : (w : ℕ) → c.sid ≡ suc (length base) + w → ⊥
   inside w is =
       let past : length base < c.sid = omega arith in
-      let none = none_far (length base) c.sid (drop c.place all) past (within_drop 0 (length base) c.place all over.within) far in
-      let same : take c.place all ≡ all = sym (append_none (take c.place all)) ∙ ap (λ ys. take c.place all ++ ys) (sym none) ∙ take-append-drop c.place all in
+      let none = none_far (length base) c.sid (drop c.index all) past (within_drop 0 (length base) c.index all over.within) far in
+      let same : take c.index all ≡ all = sym (append_none (take c.index all)) ∙ ap (λ ys. take c.index all ++ ys) (sym none) ∙ take-append-drop c.index all in
       omega (arith, low, at, inserts, deletes, ap insert_count same, ap delete_count same, length-merged_rows c.tree.now.key_cols base all over)
     where
       append_none : (xs : List Entry) → xs ++ [] ≡ xs

@@ -128,17 +128,17 @@ module _ (c : Cursor) where
   kc = c.tree.now.key_cols
 
   -- past the modifies of the next base row
-  module _ (x : Entry) (is : slice_get es c.place ≡ Some x) (here : x.sid ≡ c.sid) (kept : DeletesNone c) (other : (row : Row) → x.change ≡ Ins row → ⊥) where
+  module _ (x : Entry) (is : slice_get es c.index ≡ Some x) (here : x.sid ≡ c.sid) (kept : DeletesNone c) (other : (row : Row) → x.change ≡ Ins row → ⊥) where
     abbrev rest : List Entry
-    rest = drop (c.place + 1) es
+    rest = drop (c.index + 1) es
 
     left : entries_left c ≡ x ∷ rest
-    left = drop-at es c.place x is
+    left = drop-at es c.index x is
 
     -- the entry is a modify
     is_one : (d : Change) → x.change ≡ d → T (is_modify d)
     is_one (Ins row) k = absurd (other row k)
-    is_one (Del key) k = let no_one = sym (starts-same c.sid es c.place x is here) ∙ kept in let is_del = ap is_delete k in cc
+    is_one (Del key) k = let no_one = sym (starts-same c.sid es c.index x is here) ∙ kept in let is_del = ap is_delete k in cc
     is_one (Mod col value) k = tt
 
     all_modify : (d : Change) → x.change ≡ d → T (is_modify d) → T (are_ordered kc (entries_left c)) → T (list_all (modifies_at c.sid) (entries_left c))
@@ -158,7 +158,7 @@ module _ (c : Cursor) where
         let lt = lt_of c.sid (c.sid + count) (second (nat_le c.sid c.sid) (nat_lt c.sid (c.sid + count)) (first (stands_within c.sid (c.sid + count) (entry_at c.sid (Mod col value))) _ w)) in
         omega arith
 
-    pub modifies_next : (new : Cursor) (place : ℕ) → drop place es ≡ entries_past c.sid (entries_left c) → (T (list_all (is_past (suc c.sid)) (take c.place es)) → T (list_all (is_past (suc c.sid)) (take place es))) → new ≡ record c { place = place; sid = c.sid + 1 } → ModifiesNext c.sid c new
+    pub modifies_next : (new : Cursor) (place : ℕ) → drop place es ≡ entries_past c.sid (entries_left c) → (T (list_all (is_past (suc c.sid)) (take c.index es)) → T (list_all (is_past (suc c.sid)) (take place es))) → new ≡ record c { place = place; sid = c.sid + 1 } → ModifiesNext c.sid c new
     modifies_next new place further past next =
         let step : c.sid + 1 ≡ suc c.sid = omega arith in
         let low : c.sid ≤ suc c.sid = omega arith in
@@ -171,7 +171,7 @@ module _ (c : Cursor) where
               let stop : c.sid + suc count ≡ c.sid + 1 + count = omega arith in
               record {
                 lawful = h.lawful;
-                past = subst (λ m. T (list_all (is_past m) (take place es))) (sym step) (past (past-weaken c.sid (suc c.sid) (take c.place es) low h.past));
+                past = subst (λ m. T (list_all (is_past m) (take place es))) (sym step) (past (past-weaken c.sid (suc c.sid) (take c.index es) low h.past));
                 few = omega (arith, h.few);
                 over = subst (λ m. IsOver kc m (c.sid + 1 + count) (drop place es)) (sym step) (subst (λ e. IsOver kc (suc c.sid) e (drop place es)) stop (subst (λ xs. IsOver kc (suc c.sid) (c.sid + suc count) xs) (sym further) (over_past kc c.sid (c.sid + suc count) (entries_left c) h.over)));
               };
@@ -205,7 +205,7 @@ module _ (c : Cursor) (n most : ℕ) (few : n ≤ most) (some : 0 < most → 0 <
         let stop : c.sid + (k + count) ≡ c.sid + k + count = omega arith in
         record {
           lawful = h.lawful;
-          past = past-weaken c.sid (c.sid + k) (take c.place c.tree.now.entries) low h.past;
+          past = past-weaken c.sid (c.sid + k) (take c.index c.tree.now.entries) low h.past;
           few = omega (arith, h.few);
           over = over_from c.tree.now.key_cols c.sid (c.sid + k) (c.sid + (k + count)) (c.sid + k + count) (entries_left c) stop (all_from-weaken (c.sid + k) (c.sid + n) (entries_left c) near far) h.over;
         };
@@ -213,24 +213,24 @@ module _ (c : Cursor) (n most : ℕ) (few : n ≤ most) (some : 0 < most → 0 <
 
 module _ (c : Cursor) where
   -- with no entry left all rows stand
-  pub keeps_all : (most : ℕ) → slice_get c.tree.now.entries c.place ≡ None → KeepsNext most most c
+  pub keeps_all : (most : ℕ) → slice_get c.tree.now.entries c.index ≡ None → KeepsNext most most c
   keeps_all most is =
-      let left : entries_left c ≡ [] = drop-none c.tree.now.entries c.place is in
+      let left : entries_left c ≡ [] = drop-none c.tree.now.entries c.index is in
       keeps_next c most most (omega arith) (λ h. h) (subst (λ xs. T (all_from (c.sid + most) xs)) (sym left) tt)
       (λ base h le. let same = ap length (ap (merged_rows_from c.sid base) left ∙ merged_rows_from_nothing c.sid base) in omega (arith, same, le))
 
   -- before the next entry they do
-  pub keeps_some : (most : ℕ) (x : Entry) (count : ℕ) → IsCursor count c → slice_get c.tree.now.entries c.place ≡ Some x → c.sid < x.sid → KeepsNext most (min most (x.sid - c.sid)) c
+  pub keeps_some : (most : ℕ) (x : Entry) (count : ℕ) → IsCursor count c → slice_get c.tree.now.entries c.index ≡ Some x → c.sid < x.sid → KeepsNext most (min most (x.sid - c.sid)) c
   keeps_some most x count cursor is lt =
-      let rest = drop (c.place + 1) c.tree.now.entries in
-      let left : entries_left c ≡ x ∷ rest = drop-at c.tree.now.entries c.place x is in
+      let rest = drop (c.index + 1) c.tree.now.entries in
+      let left : entries_left c ≡ x ∷ rest = drop-at c.tree.now.entries c.index x is in
       let n : ℕ = min most (x.sid - c.sid) in
       let near : c.sid + n ≤ x.sid = grind arith in
       keeps_next c n most (grind arith) (λ h. grind arith)
       (subst (λ xs. T (all_from (c.sid + n) xs)) (sym left) (all_from-ordered c.tree.now.key_cols (c.sid + n) x rest (subst (λ xs. T (are_ordered c.tree.now.key_cols xs)) left cursor.over.ordered) near))
       (λ base h le. let top = at_end base x.change refl (subst (λ xs. T (list_all (stands_within c.sid (c.sid + length base)) xs)) left h.over.within) in omega arith)
     where
-      at_end : (base : List Row) (d : Change) → x.change ≡ d → T (list_all (stands_within c.sid (c.sid + length base)) (x ∷ drop (c.place + 1) c.tree.now.entries)) → x.sid ≤ c.sid + length base
+      at_end : (base : List Row) (d : Change) → x.change ≡ d → T (list_all (stands_within c.sid (c.sid + length base)) (x ∷ drop (c.index + 1) c.tree.now.entries)) → x.sid ≤ c.sid + length base
       at_end base d k h = by x.change (second (nat_le c.sid x.sid) _ (first (stands_within c.sid (c.sid + length base) x) _ h))
         where
           by : (d : Change) → T (cond (is_insert d) (nat_le x.sid (c.sid + length base)) (nat_lt x.sid (c.sid + length base))) → x.sid ≤ c.sid + length base

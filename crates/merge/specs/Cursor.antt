@@ -14,7 +14,7 @@ use Rattle.merge.specs.declared.cursor.Step.TheVariants.{Inserted, Modified, Kep
 
 -- the entries that are left
 abbrev pub entries_left : Cursor → List Entry
-entries_left c = drop c.place c.tree.now.entries
+entries_left c = drop c.index c.tree.now.entries
 
 -- whether an entry is past at the SID: below it, or an insert
 abbrev pub is_past : ℕ → Entry → Bool
@@ -23,7 +23,7 @@ is_past sid e = nat_lt e.sid sid || is_insert e.change
 -- a cursor over so many base rows that are left
 pub record IsCursor (count : ℕ) (c : Cursor) : Type 0 where
   pub lawful : IsLawful c.tree.now.key_cols c.tree.now.entries
-  pub past : T (list_all (is_past c.sid) (take c.place c.tree.now.entries))
+  pub past : T (list_all (is_past c.sid) (take c.index c.tree.now.entries))
   pub over : IsOver c.tree.now.key_cols c.sid (c.sid + count) (entries_left c)
   pub few : c.sid + count < 2 ^ 62
 

@@ -10,11 +10,11 @@ ghost use Rattle.merge.specs.Cursor.{DeletesNext, DeletesNone, IsCursor, IsCurso
 use delta::{Change, DeltaTree, Place};
 use values::Row;
 
-/// A place among the entries of a tree, and the base row that is next.
+/// An index among the entries of a tree, and the base row that is next.
 #[derive(Drop)]
 pub(crate) struct Cursor<'a> {
     tree: &'a DeltaTree,
-    place: usize,
+    index: usize,
     sid: u64,
 }
 
@@ -36,14 +36,14 @@ impl<'a> Cursor<'a> {
         ensures at { (base : List Cells) → IsOver tree.now.key_cols 0 (length base) tree.now.entries → IsLawful tree.now.key_cols tree.now.entries → length base < 2 ^ 62 → rid ≤ length (merged_rows base tree.now.entries) → IsCursorAt base rid result }
     {
         match tree.find_rid(rid) {
-            Place::Inserted(place) => Cursor {
+            Place::Inserted(index) => Cursor {
                 tree,
-                place,
-                sid: tree.entry(place).unwrap().sid,
+                index,
+                sid: tree.entry(index).unwrap().sid,
             },
             Place::Base(sid) => Cursor {
                 tree,
-                place: tree.base_place(sid),
+                index: tree.base_index(sid),
                 sid,
             },
         }
@@ -69,11 +69,11 @@ impl<'a> Cursor<'a> {
         ensures tree { self.new.tree ≡ self.old.tree }
         ensures skipped { result ≡ true → DeletesNext self.old self.new }
         ensures none { result ≡ false → (self.new ≡ self.old) × DeletesNone self.old }
-        ensures nearer { result ≡ true → self.old.place < length self.old.tree.now.entries × (self.new.place ≡ self.old.place + 1) }
+        ensures nearer { result ≡ true → self.old.index < length self.old.tree.now.entries × (self.new.index ≡ self.old.index + 1) }
     {
         let is_deleted = self.stands_at_delete();
         if is_deleted {
-            self.place += 1;
+            self.index += 1;
             self.sid += 1;
         }
         is_deleted
@@ -83,7 +83,7 @@ impl<'a> Cursor<'a> {
     fn stands_at_delete(&self) -> bool
         ensures { result ≡ starts_with_delete self.now.sid (entries_left self.now) }
     {
-        match self.tree.entry(self.place) {
+        match self.tree.entry(self.index) {
             Some(entry) => entry.sid == self.sid && is_delete(&entry.change),
             None => false,
         }
@@ -97,7 +97,7 @@ impl<'a> Cursor<'a> {
         ensures tree { self.new.tree ≡ self.old.tree }
         ensures step { StepGives most self.old result self.new }
     {
-        match self.tree.entry(self.place) {
+        match self.tree.entry(self.index) {
             None => Step::Kept(most),
             Some(entry) => {
                 if entry.sid > self.sid {
@@ -105,11 +105,11 @@ impl<'a> Cursor<'a> {
                 }
                 match &entry.change {
                     Change::Ins(row) => {
-                        self.place += 1;
+                        self.index += 1;
                         Step::Inserted(row)
                     }
                     Change::Del(_) | Change::Mod(..) => {
-                        self.place = past_sid(self.tree, self.place, self.sid);
+                        self.index = past_sid(self.tree, self.index, self.sid);
                         self.sid += 1;
                         Step::Modified(entry.sid as u32)
                     }
@@ -127,13 +127,13 @@ impl<'a> Cursor<'a> {
     }
 }
 
-/// The first place from this one on whose entry isn't at the SID.
-fn past_sid(tree: &DeltaTree, place: usize, sid: u64) -> usize
+/// The first index from this one on whose entry isn't at the SID.
+fn past_sid(tree: &DeltaTree, index: usize, sid: u64) -> usize
     requires { IsLawful tree.now.key_cols tree.now.entries }
-    ensures rest { drop result tree.now.entries ≡ entries_past sid (drop place tree.now.entries) }
-    ensures past { T (list_all (is_past (suc sid)) (take place tree.now.entries)) → T (list_all (is_past (suc sid)) (take result tree.now.entries)) }
+    ensures rest { drop result tree.now.entries ≡ entries_past sid (drop index tree.now.entries) }
+    ensures past { T (list_all (is_past (suc sid)) (take index tree.now.entries)) → T (list_all (is_past (suc sid)) (take result tree.now.entries)) }
 {
-    let mut at = place;
+    let mut at = index;
     while let Some(entry) = tree.entry(at) {
         if entry.sid != sid {
             break;

@@ -30,9 +30,9 @@ pub(crate) fn locate_over(tree: &DeltaTree, below: (u64, bool), key: &[Value]) -
         → result.1 ≡ is_some (row_at (table_with t layer.effects) key.now) }
 {
     let (sid, is_below) = below;
-    let place = tree.find_key(sid, key);
+    let index = tree.find_key(sid, key);
     (
-        place.rid,
-        place.found || (is_below && !tree.has_delete(sid)),
+        index.rid,
+        index.found || (is_below && !tree.has_delete(sid)),
     )
 }

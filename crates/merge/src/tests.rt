@@ -276,13 +276,13 @@ fn three_layers_make_one_image(rt: HostRuntime) -> Result<(), Fail> {
         let text = shown_at(alloc, &layers, rid)?;
         assert_eq!(rt; text.as_str(), there, "at {rid}");
     }
-    for (id, place) in [
+    for (id, index) in [
         (10, (0, false)),
         (16, (1, false)),
         (30, (2, true)),
         (99, (4, false)),
     ] {
-        assert_eq!(rt; layers.rank(&key(alloc, id)?), place, "of {id}");
+        assert_eq!(rt; layers.rank(&key(alloc, id)?), index, "of {id}");
     }
     for (from, to, there) in [
         (1, 9, "20,Bob,2 30,Zed,7 35,Gus,8"),
@@ -391,17 +391,17 @@ fn agrees(
     from: u64,
     to: u64,
 ) -> Result<bool, Fail> {
-    let mut place = from as usize;
+    let mut index = from as usize;
     for view in layers.scan(from, to) {
-        let Some(row) = rows.get(place) else {
+        let Some(row) = rows.get(index) else {
             return Ok(false);
         };
         if view.copy(alloc)?.cells() != row.cells() {
             return Ok(false);
         }
-        place = place.wrapping_add(1);
+        index = index.wrapping_add(1);
     }
-    Ok(place as u64 == to.min(rows.len() as u64) || from >= to)
+    Ok(index as u64 == to.min(rows.len() as u64) || from >= to)
 }
 
 /// Whether the table has just these rows.
@@ -409,8 +409,8 @@ fn is_table_of(alloc: Global, table: &StableTable, rows: &[Row]) -> Result<bool,
     if table.len() != rows.len() as u64 {
         return Ok(false);
     }
-    for (place, row) in rows.iter().enumerate() {
-        let sid = place as u64;
+    for (index, row) in rows.iter().enumerate() {
+        let sid = index as u64;
         if sid >= table.len() || table.row(alloc, sid)?.cells() != row.cells() {
             return Ok(false);
         }
@@ -422,8 +422,8 @@ fn is_table_of(alloc: Global, table: &StableTable, rows: &[Row]) -> Result<bool,
 fn a_thousand_rows_are_as_the_plain_program_merges_them(rt: HostRuntime) -> Result<(), Fail> {
     let alloc = rt.alloc();
     let mut rows = Vec::new(alloc);
-    for place in 0..1_000_u16 {
-        rows.push(row(alloc, i64::from(place) * 2, "old", 1)?)?;
+    for index in 0..1_000_u16 {
+        rows.push(row(alloc, i64::from(index) * 2, "old", 1)?)?;
     }
     let mut state = 2_010;
     let read = drawn_writes(alloc, &mut state, 24)?;
@@ -436,12 +436,12 @@ fn a_thousand_rows_are_as_the_plain_program_merges_them(rt: HostRuntime) -> Resu
     )?;
     let layers = Layers::new(&stack.stable, &stack.read, &stack.write, &stack.trans);
     assert_eq!(rt; layers.len(), stack.rows.len() as u64);
-    for (place, row) in stack.rows.as_slice().iter().enumerate() {
-        let found = match layers.row_at(place as u64) {
+    for (index, row) in stack.rows.as_slice().iter().enumerate() {
+        let found = match layers.row_at(index as u64) {
             Some(view) => view.copy(alloc)?.cells() == row.cells(),
             None => false,
         };
-        assert!(rt; found, "at {place}");
+        assert!(rt; found, "at {index}");
     }
     for (from, to) in [(0, 2_000), (1, 999), (500, 501), (333, 777), (998, 1_400)] {
         assert!(rt;

@@ -82,7 +82,7 @@ fn modified<'a>(tree: &'a DeltaTree, sid: u64, col: usize) -> Option<ValueRef<'a
     ensures { option_map value_of result ≡ last_cell col None (cells_at sid tree.now.entries) }
 {
     let mut found = None;
-    for entry in tree.iter_from(tree.base_place(sid)) {
+    for entry in tree.iter_from(tree.base_index(sid)) {
         match &entry.change {
             Change::Mod(other, value) => {
                 if entry.sid != sid {

@@ -1,11 +1,10 @@
 //! Whether rows are a table: row by row, whether it fits the schema and stands above the row before it.
 ghost use Rattle.std.specs.Prelude.{◌≡◌, option_map};
-ghost use Rattle.values.specs.Shape.{key_of};
 ghost use Rattle.stable.specs.Stable.{build_fault, row_fault_at, ascends};
 
 use crate::fault::BuildFault;
 use values::limits::MAX_ROWS;
-use values::{Row, Schema, Value};
+use values::{Row, Schema};
 
 /// The first fault of rows as a table.
 pub(crate) fn first_fault(schema: &Schema, rows: &[Row]) -> Option<BuildFault>
@@ -43,14 +42,6 @@ fn ascends(key_cols: usize, before: Option<&Row>, row: &Row) -> bool
 {
     match before {
         None => true,
-        Some(before) => key_of(key_cols, before).cmp(key_of(key_cols, row)).is_lt(),
+        Some(before) => before.key(key_cols).cmp(row.key(key_cols)).is_lt(),
     }
-}
-
-/// The key of a row, lent.
-fn key_of(key_cols: usize, row: &Row) -> &[Value]
-    ensures { result.now ≡ key_of key_cols row.now }
-{
-    let cells = row.cells();
-    &cells[..key_cols.min(cells.len())]
 }

@@ -3,6 +3,7 @@ ghost use Rattle.std.specs.Prelude.{◌≡◌, ◌<◌, IfOk, length, refl, slic
 ghost use Rattle.std.specs.Cmp.{eq_by_cmp_equiv, partial_equiv_from_equiv, po};
 ghost use Rattle.std.specs.Ordering.{eq_by_cmp, as_partial_cmp};
 ghost use Rattle.values.specs.Orders.{key_cmp, key_cmp_total};
+ghost use Rattle.values.specs.Shape.{key_of};
 
 use crate::fault::NoMemory;
 use crate::value::{Value, copy_values};
@@ -37,6 +38,14 @@ impl Row {
         ensures { result.now ≡ self.now }
     {
         self.cells.as_slice()
+    }
+
+    /// The key of the row, lent: its first `key_cols` values, or all where it has no more.
+    pub fn key(&self, key_cols: usize) -> &[Value]
+        ensures { result.now ≡ key_of key_cols self.now }
+    {
+        let cells = self.cells();
+        &cells[..key_cols.min(cells.len())]
     }
 
     /// The values that it was made of. Takes no memory.

@@ -6,12 +6,12 @@ use Rattle.counted.specs.Sums.{total}
 use Rattle.counted.proofs.spot.spot_in.Given as goal
 
 -- the walk over the entries from here on ends where the whole walk does
-abbrev pub invariant-loop-place : goal.invariant-loop-place
-invariant-loop-place l = record {
-  within : l.place ≤ length l.entries;
-  up : l.up ≡ total (values_of (take l.place l.entries)) +ℤ l.shift;
-  spot : (k : ℕ) (up : ℤ) (inserted : Bool) → IsSpot l.rid l.up (values_of (drop l.place l.entries)) k up inserted → IsSpot l.rid l.shift (values_of l.entries) (l.place + k) up inserted;
+abbrev pub invariant-loop-index : goal.invariant-loop-index
+invariant-loop-index l = record {
+  within : l.index ≤ length l.entries;
+  up : l.up ≡ total (values_of (take l.index l.entries)) +ℤ l.shift;
+  spot : (k : ℕ) (up : ℤ) (inserted : Bool) → IsSpot l.rid l.up (values_of (drop l.index l.entries)) k up inserted → IsSpot l.rid l.shift (values_of l.entries) (l.index + k) up inserted;
 }
 
-abbrev pub decreases-loop-place : goal.decreases-loop-place
-decreases-loop-place l = length l.entries - l.place
+abbrev pub decreases-loop-index : goal.decreases-loop-index
+decreases-loop-index l = length l.entries - l.index

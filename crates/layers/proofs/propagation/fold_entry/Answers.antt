@@ -28,8 +28,8 @@ find_rid-requires c = small_rid c.args.tree.now c.args.entry.now c.requires
 pub find_rid-requires-in-Mod : goal.find_rid-requires-in-Mod
 find_rid-requires-in-Mod c = small_rid c.args.tree.now c.args.entry.now c.requires
 
-pub put_ins-requires-clause-place : goal.put_ins-requires-clause-place
-put_ins-requires-clause-place c =
+pub put_ins-requires-clause-index : goal.put_ins-requires-clause-index
+put_ins-requires-clause-index c =
     let t = c.args.tree.now in
     let e = c.args.entry.now in
     let row = c.in-Ins.row in
@@ -73,7 +73,7 @@ entry_of-requires c =
     let key = c.in-Del.key in
     let w = with_change t e (Del key) c.in-Del.is c.requires in
     let only = λ (place : Place) (at : IsAtRid t.entries e.sid place). c.find_rid.ensures.only place at ∙ c.in-Inserted.is in
-    taken_within t e.sid key w c.in-Inserted.place only
+    taken_within t e.sid key w c.in-Inserted.index only
 
 pub take_ins-requires : goal.take_ins-requires
 take_ins-requires c =
@@ -82,7 +82,7 @@ take_ins-requires c =
     let key = c.in-Del.key in
     let w = with_change t e (Del key) c.in-Del.is c.requires in
     let only = λ (place : Place) (at : IsAtRid t.entries e.sid place). c.find_rid.ensures.only place at ∙ c.in-Inserted.is in
-    take_there t e.sid key w c.in-Inserted.place c.entry_of.result.now only c.entry_of.ensures
+    take_there t e.sid key w c.in-Inserted.index c.entry_of.result.now only c.entry_of.ensures
 
 pub returns-in-Inserted : goal.returns-in-Inserted
 returns-in-Inserted c =
@@ -93,11 +93,11 @@ returns-in-Inserted c =
     let only = λ (place : Place) (at : IsAtRid t.entries e.sid place). c.find_rid.ensures.only place at ∙ c.in-Inserted.is in
     record {
       ok = on_ok_weaker c.take_ins.result (λ new_is. told t e.sid e.change (Del key) c.in-Del.is (λ (d : Change) (v : IsNext t (entry_at e.sid d)). c.take_ins.new.self ≡ next_tree t (entry_at e.sid d) v)
-          (λ v. take_next t e.sid key v c.in-Inserted.place c.entry_of.result.now only c.entry_of.ensures c.take_ins.new.self new_is)) c.take_ins.ensures.ok;
+          (λ v. take_next t e.sid key v c.in-Inserted.index c.entry_of.result.now only c.entry_of.ensures c.take_ins.new.self new_is)) c.take_ins.ensures.ok;
     }
 
-pub put_del-requires-clause-place : goal.put_del-requires-clause-place
-put_del-requires-clause-place c =
+pub put_del-requires-clause-index : goal.put_del-requires-clause-index
+put_del-requires-clause-index c =
     let t = c.args.tree.now in
     let e = c.args.entry.now in
     let key = c.in-Del.key in
@@ -145,7 +145,7 @@ entry_of-inserted-requires c =
     let value = c.in-Mod.value in
     let w = with_change t e (Mod col value) c.in-Mod.is c.requires in
     let only = λ (place : Place) (at : IsAtRid t.entries e.sid place). c.find_rid-in-Mod.ensures.only place at ∙ c.in-Inserted-find_rid.is in
-    (is_insert_there t e.sid col value w c.in-Inserted-find_rid.place only).0
+    (is_insert_there t e.sid col value w c.in-Inserted-find_rid.index only).0
 
 pub key_of_insert-requires : goal.key_of_insert-requires
 key_of_insert-requires c =
@@ -155,7 +155,7 @@ key_of_insert-requires c =
     let value = c.in-Mod.value in
     let w = with_change t e (Mod col value) c.in-Mod.is c.requires in
     let only = λ (place : Place) (at : IsAtRid t.entries e.sid place). c.find_rid-in-Mod.ensures.only place at ∙ c.in-Inserted-find_rid.is in
-    (is_insert_there t e.sid col value w c.in-Inserted-find_rid.place only).1 c.entry_of-inserted.result.now c.entry_of-inserted.ensures
+    (is_insert_there t e.sid col value w c.in-Inserted-find_rid.index only).1 c.entry_of-inserted.result.now c.entry_of-inserted.ensures
 
 pub set_ins-requires-clause-there : goal.set_ins-requires-clause-there
 set_ins-requires-clause-there c =
@@ -167,7 +167,7 @@ set_ins-requires-clause-there c =
     let only = λ (place : Place) (at : IsAtRid t.entries e.sid place). c.find_rid-in-Mod.ensures.only place at ∙ c.in-Inserted-find_rid.is in
     let k = c.in_ok-key-in-Inserted-find_rid.key in
     let key_is = subst (λ (n : ℕ). IsKeyOfInsert n k c.entry_of-inserted.result.now.change) c.key_cols.ensures c.in_ok-key-in-Inserted-find_rid.ensures in
-    set_there t e.sid col value w c.in-Inserted-find_rid.place c.entry_of-inserted.result.now k only c.entry_of-inserted.ensures key_is
+    set_there t e.sid col value w c.in-Inserted-find_rid.index c.entry_of-inserted.result.now k only c.entry_of-inserted.ensures key_is
 
 pub set_ins-requires-clause-outside_key : goal.set_ins-requires-clause-outside_key
 set_ins-requires-clause-outside_key c =
@@ -179,7 +179,7 @@ set_ins-requires-clause-outside_key c =
     let only = λ (place : Place) (at : IsAtRid t.entries e.sid place). c.find_rid-in-Mod.ensures.only place at ∙ c.in-Inserted-find_rid.is in
     let k = c.in_ok-key-in-Inserted-find_rid.key in
     let key_is = subst (λ (n : ℕ). IsKeyOfInsert n k c.entry_of-inserted.result.now.change) c.key_cols.ensures c.in_ok-key-in-Inserted-find_rid.ensures in
-    set_outside t e.sid col value w c.in-Inserted-find_rid.place c.entry_of-inserted.result.now k only c.entry_of-inserted.ensures key_is
+    set_outside t e.sid col value w c.in-Inserted-find_rid.index c.entry_of-inserted.result.now k only c.entry_of-inserted.ensures key_is
 
 pub returns-in_ok-copy-in-Inserted-find_rid : goal.returns-in_ok-copy-in-Inserted-find_rid
 returns-in_ok-copy-in-Inserted-find_rid c =
@@ -194,11 +194,11 @@ returns-in_ok-copy-in-Inserted-find_rid c =
     let copied : c.in_ok-copy-in-Inserted-find_rid.field-0 ≡ value = c.in_ok-copy-in-Inserted-find_rid.ensures.same in
     record {
       ok = on_ok_weaker c.set_ins.result (λ new_is. told t e.sid e.change (Mod col value) c.in-Mod.is (λ (d : Change) (v : IsNext t (entry_at e.sid d)). c.set_ins.new.self ≡ next_tree t (entry_at e.sid d) v)
-          (λ v. set_next t e.sid col value v c.in-Inserted-find_rid.place c.entry_of-inserted.result.now k only c.entry_of-inserted.ensures key_is c.set_ins.new.self (new_is ∙ ap (λ (x : Value). record t { entries = set_ins t.key_cols c.entry_of-inserted.result.now.sid k col x t.entries }) copied))) c.set_ins.ensures.ok;
+          (λ v. set_next t e.sid col value v c.in-Inserted-find_rid.index c.entry_of-inserted.result.now k only c.entry_of-inserted.ensures key_is c.set_ins.new.self (new_is ∙ ap (λ (x : Value). record t { entries = set_ins t.key_cols c.entry_of-inserted.result.now.sid k col x t.entries }) copied))) c.set_ins.ensures.ok;
     }
 
-pub put_mod-requires-clause-place : goal.put_mod-requires-clause-place
-put_mod-requires-clause-place c =
+pub put_mod-requires-clause-index : goal.put_mod-requires-clause-index
+put_mod-requires-clause-index c =
     let t = c.args.tree.now in
     let e = c.args.entry.now in
     let col = c.in-Mod.col in

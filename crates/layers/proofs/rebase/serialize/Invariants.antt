@@ -4,8 +4,8 @@ use Rattle.model.specs.Rebasing.{first_clash, first_clash_from, rebased_entry}
 use Rattle.layers.proofs.rebase.serialize.Given as goal
 
 -- the entries so far clash with none, and are made consecutive
-abbrev pub invariant-loop-place : goal.invariant-loop-place
-invariant-loop-place l = record {
-  moved : l.entries.items ≡ map (rebased_entry l.y.key_cols l.y.entries) (take l.place l.x.entries);
-  clear : first_clash ByColumn l.y.key_cols l.x.entries l.y.entries ≡ first_clash_from ByColumn l.y.key_cols l.place (drop l.place l.x.entries) l.y.entries;
+abbrev pub invariant-loop-index : goal.invariant-loop-index
+invariant-loop-index l = record {
+  moved : l.entries.items ≡ map (rebased_entry l.y.key_cols l.y.entries) (take l.index l.x.entries);
+  clear : first_clash ByColumn l.y.key_cols l.x.entries l.y.entries ≡ first_clash_from ByColumn l.y.key_cols l.index (drop l.index l.x.entries) l.y.entries;
 }

@@ -5,18 +5,18 @@ use Rattle.delta.proofs.RangesLemmas.{first-le-past, filter-at}
 use Rattle.delta.proofs.tree.DeltaTree.entries_at.Goals as goal
 
 pub overflow_sub-end : goal.overflow_sub-end
-overflow_sub-end c = first-le-past c.args.sid c.args.self.now.entries _ _ c.place_of_sid-start.ensures c.place_past-end.ensures
+overflow_sub-end c = first-le-past c.args.sid c.args.self.now.entries _ _ c.index_of_sid-start.ensures c.index_past-end.ensures
 
 pub iter-requires : goal.iter-requires
 iter-requires c =
-    let le = first-le-past c.args.sid c.args.self.now.entries _ _ c.place_of_sid-start.ensures c.place_past-end.ensures in
-    let within = c.place_past-end.ensures.within in
+    let le = first-le-past c.args.sid c.args.self.now.entries _ _ c.index_of_sid-start.ensures c.index_past-end.ensures in
+    let within = c.index_past-end.ensures.within in
     let list = ap (λ (w : Tree). length w.entries) c.self.view_is in
     omega arith
 
 pub returns : goal.returns
 returns c =
-    let n = c.place_of_sid-start.result in
-    let m = c.place_past-end.result in
+    let n = c.index_of_sid-start.result in
+    let m = c.index_past-end.result in
     let list = ap (λ (w : Tree). take (m - n) (drop n w.entries)) c.self.view_is in
-    c.iter.ensures ∙ list ∙ filter-at c.args.sid c.args.self.now.entries n m c.place_of_sid-start.ensures c.place_past-end.ensures
+    c.iter.ensures ∙ list ∙ filter-at c.args.sid c.args.self.now.entries n m c.index_of_sid-start.ensures c.index_past-end.ensures

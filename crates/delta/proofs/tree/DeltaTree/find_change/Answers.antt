@@ -13,11 +13,11 @@ use Rattle.delta.proofs.tree.DeltaTree.find_change.Goals as goal
 pub moved-requires-clause-above : goal.moved-requires-clause-above
 moved-requires-clause-above c =
     let t = c.args.self.now in
-    let n = c.place_of_change-place.result in
+    let n = c.index_of_change-index.result in
     let es = c.self.inside.tree.entries in
     let list : es ≡ t.entries = ap (λ (w : Tree). w.entries) c.self.view_is in
     let ordered : T (are_ordered t.key_cols t.entries) = subst (λ (w : Tree). T (are_ordered w.key_cols w.entries)) c.self.view_is (T_from_true _ c.self.invariant.ordered) in
-    let few = deletes-before-change t.key_cols c.args.sid c.args.change.now t.entries n ordered c.place_of_change-place.ensures in
+    let few = deletes-before-change t.key_cols c.args.sid c.args.change.now t.entries n ordered c.index_of_change-index.ensures in
     let gone = ap (λ (xs : List Entry). delete_count (take n xs)) list in
     let come = ap (λ (xs : List Entry). insert_count (take n xs)) list in
     let sum = c.total_before-shift.ensures ∙ total-is (take n es) in
@@ -27,11 +27,11 @@ moved-requires-clause-above c =
 pub moved-requires-clause-below : goal.moved-requires-clause-below
 moved-requires-clause-below c =
     let t = c.args.self.now in
-    let n = c.place_of_change-place.result in
+    let n = c.index_of_change-index.result in
     let es = c.self.inside.tree.entries in
     let list : es ≡ t.entries = ap (λ (w : Tree). w.entries) c.self.view_is in
     let ordered : T (are_ordered t.key_cols t.entries) = subst (λ (w : Tree). T (are_ordered w.key_cols w.entries)) c.self.view_is (T_from_true _ c.self.invariant.ordered) in
-    let few = deletes-before-change t.key_cols c.args.sid c.args.change.now t.entries n ordered c.place_of_change-place.ensures in
+    let few = deletes-before-change t.key_cols c.args.sid c.args.change.now t.entries n ordered c.index_of_change-index.ensures in
     let gone = ap (λ (xs : List Entry). delete_count (take n xs)) list in
     let come = ap (λ (xs : List Entry). insert_count (take n xs)) list in
     let sum = c.total_before-shift.ensures ∙ total-is (take n es) in
@@ -41,11 +41,11 @@ moved-requires-clause-below c =
 pub moved-requires-clause-within : goal.moved-requires-clause-within
 moved-requires-clause-within c =
     let t = c.args.self.now in
-    let n = c.place_of_change-place.result in
+    let n = c.index_of_change-index.result in
     let es = c.self.inside.tree.entries in
     let list : es ≡ t.entries = ap (λ (w : Tree). w.entries) c.self.view_is in
     let ordered : T (are_ordered t.key_cols t.entries) = subst (λ (w : Tree). T (are_ordered w.key_cols w.entries)) c.self.view_is (T_from_true _ c.self.invariant.ordered) in
-    let few = deletes-before-change t.key_cols c.args.sid c.args.change.now t.entries n ordered c.place_of_change-place.ensures in
+    let few = deletes-before-change t.key_cols c.args.sid c.args.change.now t.entries n ordered c.index_of_change-index.ensures in
     let gone = ap (λ (xs : List Entry). delete_count (take n xs)) list in
     let come = ap (λ (xs : List Entry). insert_count (take n xs)) list in
     let sum = c.total_before-shift.ensures ∙ total-is (take n es) in
@@ -55,11 +55,11 @@ moved-requires-clause-within c =
 pub returns-clause-rid : goal.returns-clause-rid
 returns-clause-rid c =
     let t = c.args.self.now in
-    let n = c.place_of_change-place.result in
+    let n = c.index_of_change-index.result in
     let es = c.self.inside.tree.entries in
     let list : es ≡ t.entries = ap (λ (w : Tree). w.entries) c.self.view_is in
     let ordered : T (are_ordered t.key_cols t.entries) = subst (λ (w : Tree). T (are_ordered w.key_cols w.entries)) c.self.view_is (T_from_true _ c.self.invariant.ordered) in
-    let few = deletes-before-change t.key_cols c.args.sid c.args.change.now t.entries n ordered c.place_of_change-place.ensures in
+    let few = deletes-before-change t.key_cols c.args.sid c.args.change.now t.entries n ordered c.index_of_change-index.ensures in
     let gone = ap (λ (xs : List Entry). delete_count (take n xs)) list in
     let come = ap (λ (xs : List Entry). insert_count (take n xs)) list in
     let sum = c.total_before-shift.ensures ∙ total-is (take n es) in

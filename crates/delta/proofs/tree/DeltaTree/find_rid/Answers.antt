@@ -25,37 +25,37 @@ pub overflow_sub-spot : goal.overflow_sub-spot
 overflow_sub-spot c =
     let s = c.spot-spot.result in
     let is = c.spot-spot.ensures in
-    let z = spot_total c.args.rid c.self.inside.tree.entries s.place s.shift (pos 0) s.inserted is in
-    let le = spot_le c.args.rid c.self.inside.tree.entries s.place s.shift (pos 0) s.inserted (omega (arith, ints)) is in
-    let w = total_within (take s.place c.self.inside.tree.entries) in
-    omega (arith, ints, length-take s.place c.self.inside.tree.entries, c.self.invariant.counted, c.requires)
+    let z = spot_total c.args.rid c.self.inside.tree.entries s.index s.shift (pos 0) s.inserted is in
+    let le = spot_le c.args.rid c.self.inside.tree.entries s.index s.shift (pos 0) s.inserted (omega (arith, ints)) is in
+    let w = total_within (take s.index c.self.inside.tree.entries) in
+    omega (arith, ints, length-take s.index c.self.inside.tree.entries, c.self.invariant.counted, c.requires)
 
 pub moved-requires-clause-above : goal.moved-requires-clause-above
 moved-requires-clause-above c =
     let s = c.spot-spot.result in
     let is = c.spot-spot.ensures in
-    let z = spot_total c.args.rid c.self.inside.tree.entries s.place s.shift (pos 0) s.inserted is in
-    let le = spot_le c.args.rid c.self.inside.tree.entries s.place s.shift (pos 0) s.inserted (omega (arith, ints)) is in
-    let w = total_within (take s.place c.self.inside.tree.entries) in
-    omega (arith, ints, length-take s.place c.self.inside.tree.entries, c.self.invariant.counted, c.requires)
+    let z = spot_total c.args.rid c.self.inside.tree.entries s.index s.shift (pos 0) s.inserted is in
+    let le = spot_le c.args.rid c.self.inside.tree.entries s.index s.shift (pos 0) s.inserted (omega (arith, ints)) is in
+    let w = total_within (take s.index c.self.inside.tree.entries) in
+    omega (arith, ints, length-take s.index c.self.inside.tree.entries, c.self.invariant.counted, c.requires)
 
 pub moved-requires-clause-below : goal.moved-requires-clause-below
 moved-requires-clause-below c =
     let s = c.spot-spot.result in
     let is = c.spot-spot.ensures in
-    let z = spot_total c.args.rid c.self.inside.tree.entries s.place s.shift (pos 0) s.inserted is in
-    let le = spot_le c.args.rid c.self.inside.tree.entries s.place s.shift (pos 0) s.inserted (omega (arith, ints)) is in
-    let w = total_within (take s.place c.self.inside.tree.entries) in
-    omega (arith, ints, length-take s.place c.self.inside.tree.entries, c.self.invariant.counted, c.requires)
+    let z = spot_total c.args.rid c.self.inside.tree.entries s.index s.shift (pos 0) s.inserted is in
+    let le = spot_le c.args.rid c.self.inside.tree.entries s.index s.shift (pos 0) s.inserted (omega (arith, ints)) is in
+    let w = total_within (take s.index c.self.inside.tree.entries) in
+    omega (arith, ints, length-take s.index c.self.inside.tree.entries, c.self.invariant.counted, c.requires)
 
 pub moved-requires-clause-within : goal.moved-requires-clause-within
 moved-requires-clause-within c =
     let s = c.spot-spot.result in
     let is = c.spot-spot.ensures in
-    let z = spot_total c.args.rid c.self.inside.tree.entries s.place s.shift (pos 0) s.inserted is in
-    let le = spot_le c.args.rid c.self.inside.tree.entries s.place s.shift (pos 0) s.inserted (omega (arith, ints)) is in
-    let w = total_within (take s.place c.self.inside.tree.entries) in
-    omega (arith, ints, length-take s.place c.self.inside.tree.entries, c.self.invariant.counted, c.requires)
+    let z = spot_total c.args.rid c.self.inside.tree.entries s.index s.shift (pos 0) s.inserted is in
+    let le = spot_le c.args.rid c.self.inside.tree.entries s.index s.shift (pos 0) s.inserted (omega (arith, ints)) is in
+    let w = total_within (take s.index c.self.inside.tree.entries) in
+    omega (arith, ints, length-take s.index c.self.inside.tree.entries, c.self.invariant.counted, c.requires)
 
 pub returns-then-spot-clause-at : goal.returns-then-spot-clause-at
 returns-then-spot-clause-at c =
@@ -66,7 +66,7 @@ returns-then-spot-clause-at c =
     let ordered : T (are_ordered t.key_cols t.entries) = subst (λ (w : Tree). T (are_ordered w.key_cols w.entries)) c.self.view_is (T_from_true _ c.self.invariant.ordered) in
     let s = c.spot-spot.result in
     let is = c.spot-spot.ensures in
-    let found : Inserted s.place ≡ place_from rid 0 0 0 t.entries = ap Inserted (let f : s.place ≡ 0 + s.place = omega arith in f) ∙ sym (spot_true rid es s.place s.shift 0 0 0 (pos 0) (omega (arith, ints)) (subst (λ (b : Bool). IsSpot (pos rid) (pos 0) es s.place s.shift b) c.if-spot.true is)) ∙ ap (place_from rid 0 0 0) list in
+    let found : Inserted s.index ≡ place_from rid 0 0 0 t.entries = ap Inserted (let f : s.index ≡ 0 + s.index = omega arith in f) ∙ sym (spot_true rid es s.index s.shift 0 0 0 (pos 0) (omega (arith, ints)) (subst (λ (b : Bool). IsSpot (pos rid) (pos 0) es s.index s.shift b) c.if-spot.true is)) ∙ ap (place_from rid 0 0 0) list in
     subst (λ place. IsAtRid t.entries rid place) (sym found) (place_from-at t.key_cols t.entries ordered rid)
 
 pub returns-then-spot-clause-only : goal.returns-then-spot-clause-only
@@ -78,7 +78,7 @@ returns-then-spot-clause-only c =
     let ordered : T (are_ordered t.key_cols t.entries) = subst (λ (w : Tree). T (are_ordered w.key_cols w.entries)) c.self.view_is (T_from_true _ c.self.invariant.ordered) in
     let s = c.spot-spot.result in
     let is = c.spot-spot.ensures in
-    let found : Inserted s.place ≡ place_from rid 0 0 0 t.entries = ap Inserted (let f : s.place ≡ 0 + s.place = omega arith in f) ∙ sym (spot_true rid es s.place s.shift 0 0 0 (pos 0) (omega (arith, ints)) (subst (λ (b : Bool). IsSpot (pos rid) (pos 0) es s.place s.shift b) c.if-spot.true is)) ∙ ap (place_from rid 0 0 0) list in
+    let found : Inserted s.index ≡ place_from rid 0 0 0 t.entries = ap Inserted (let f : s.index ≡ 0 + s.index = omega arith in f) ∙ sym (spot_true rid es s.index s.shift 0 0 0 (pos 0) (omega (arith, ints)) (subst (λ (b : Bool). IsSpot (pos rid) (pos 0) es s.index s.shift b) c.if-spot.true is)) ∙ ap (place_from rid 0 0 0) list in
     λ place at. place_from-only t.key_cols t.entries ordered rid place at ∙ sym found
 
 pub returns-else-spot-clause-at : goal.returns-else-spot-clause-at
@@ -90,12 +90,12 @@ returns-else-spot-clause-at c =
     let ordered : T (are_ordered t.key_cols t.entries) = subst (λ (w : Tree). T (are_ordered w.key_cols w.entries)) c.self.view_is (T_from_true _ c.self.invariant.ordered) in
     let s = c.spot-spot.result in
     let is = c.spot-spot.ensures in
-    let z = spot_total c.args.rid c.self.inside.tree.entries s.place s.shift (pos 0) s.inserted is in
-    let le = spot_le c.args.rid c.self.inside.tree.entries s.place s.shift (pos 0) s.inserted (omega (arith, ints)) is in
-    let w = total_within (take s.place c.self.inside.tree.entries) in
+    let z = spot_total c.args.rid c.self.inside.tree.entries s.index s.shift (pos 0) s.inserted is in
+    let le = spot_le c.args.rid c.self.inside.tree.entries s.index s.shift (pos 0) s.inserted (omega (arith, ints)) is in
+    let w = total_within (take s.index c.self.inside.tree.entries) in
     let to = c.moved.ensures in
-    let found = λ (n : ℕ) (same : (pos n +ℤ s.shift) ≡ pos rid). sym (spot_false rid es s.place s.shift n 0 0 0 (pos 0) (omega (arith, ints)) same (subst (λ (b : Bool). IsSpot (pos rid) (pos 0) es s.place s.shift b) c.if-spot.false is)) ∙ ap (place_from rid 0 0 0) list in
-    subst (λ place. IsAtRid t.entries rid place) (sym (found _ (omega (arith, ints, length-take s.place c.self.inside.tree.entries, c.self.invariant.counted, c.requires)))) (place_from-at t.key_cols t.entries ordered rid)
+    let found = λ (n : ℕ) (same : (pos n +ℤ s.shift) ≡ pos rid). sym (spot_false rid es s.index s.shift n 0 0 0 (pos 0) (omega (arith, ints)) same (subst (λ (b : Bool). IsSpot (pos rid) (pos 0) es s.index s.shift b) c.if-spot.false is)) ∙ ap (place_from rid 0 0 0) list in
+    subst (λ place. IsAtRid t.entries rid place) (sym (found _ (omega (arith, ints, length-take s.index c.self.inside.tree.entries, c.self.invariant.counted, c.requires)))) (place_from-at t.key_cols t.entries ordered rid)
 
 pub returns-else-spot-clause-only : goal.returns-else-spot-clause-only
 returns-else-spot-clause-only c =
@@ -106,9 +106,9 @@ returns-else-spot-clause-only c =
     let ordered : T (are_ordered t.key_cols t.entries) = subst (λ (w : Tree). T (are_ordered w.key_cols w.entries)) c.self.view_is (T_from_true _ c.self.invariant.ordered) in
     let s = c.spot-spot.result in
     let is = c.spot-spot.ensures in
-    let z = spot_total c.args.rid c.self.inside.tree.entries s.place s.shift (pos 0) s.inserted is in
-    let le = spot_le c.args.rid c.self.inside.tree.entries s.place s.shift (pos 0) s.inserted (omega (arith, ints)) is in
-    let w = total_within (take s.place c.self.inside.tree.entries) in
+    let z = spot_total c.args.rid c.self.inside.tree.entries s.index s.shift (pos 0) s.inserted is in
+    let le = spot_le c.args.rid c.self.inside.tree.entries s.index s.shift (pos 0) s.inserted (omega (arith, ints)) is in
+    let w = total_within (take s.index c.self.inside.tree.entries) in
     let to = c.moved.ensures in
-    let found = λ (n : ℕ) (same : (pos n +ℤ s.shift) ≡ pos rid). sym (spot_false rid es s.place s.shift n 0 0 0 (pos 0) (omega (arith, ints)) same (subst (λ (b : Bool). IsSpot (pos rid) (pos 0) es s.place s.shift b) c.if-spot.false is)) ∙ ap (place_from rid 0 0 0) list in
-    λ place at. place_from-only t.key_cols t.entries ordered rid place at ∙ sym (found _ (omega (arith, ints, length-take s.place c.self.inside.tree.entries, c.self.invariant.counted, c.requires)))
+    let found = λ (n : ℕ) (same : (pos n +ℤ s.shift) ≡ pos rid). sym (spot_false rid es s.index s.shift n 0 0 0 (pos 0) (omega (arith, ints)) same (subst (λ (b : Bool). IsSpot (pos rid) (pos 0) es s.index s.shift b) c.if-spot.false is)) ∙ ap (place_from rid 0 0 0) list in
+    λ place at. place_from-only t.key_cols t.entries ordered rid place at ∙ sym (found _ (omega (arith, ints, length-take s.index c.self.inside.tree.entries, c.self.invariant.counted, c.requires)))

@@ -12,7 +12,7 @@ by_head sid col (e ∷ es) = refl
 
 pub returns-in-Some : goal.returns-in-Some
 returns-in-Some c =
-    let n = c.args.place in
+    let n = c.args.index in
     let es = c.self.inside.tree.entries in
     let list = ap (λ (w : Tree). w.entries) c.self.view_is in
     c.modify_worth.ensures
@@ -21,7 +21,7 @@ returns-in-Some c =
 
 pub returns-in-None : goal.returns-in-None
 returns-in-None c =
-    let n = c.args.place in
+    let n = c.args.index in
     let es = c.self.inside.tree.entries in
     let list = ap (λ (w : Tree). w.entries) c.self.view_is in
     head_none (λ e. cond (is_modify_at c.args.sid c.args.col e) 1 0) 0 es c.args.self.now.entries n list (none_within es n (sym c.in-None.ensures))

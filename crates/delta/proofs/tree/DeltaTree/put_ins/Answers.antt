@@ -19,11 +19,11 @@ pub returns-clause-ok : goal.returns-clause-ok
 returns-clause-ok c =
     let t = c.args.self.now in
     let e = entry_at c.args.sid (Ins c.args.row) in
-    let n = c.place_of_insert-place.result in
+    let n = c.index_of_insert-index.result in
     let width : c.self.inside.key_cols ≡ t.key_cols = ap (λ (w : Tree). w.key_cols) c.self.view_is in
     let list : c.self.inside.tree.entries ≡ t.entries = ap (λ (w : Tree). w.entries) c.self.view_is in
-    let key : c.key_of.result.now ≡ key_of t.key_cols c.args.row = c.key_of.ensures ∙ ap (λ k. key_of k c.args.row) width in
-    let split = subst (λ (k : Key). IsSplit (stands_before (insert_cmp t.key_cols k) c.args.sid) t.entries n) key c.place_of_insert-place.ensures in
+    let key : c.key.result.now ≡ key_of t.key_cols c.args.row = c.key.ensures ∙ ap (λ k. key_of k c.args.row) width in
+    let split = subst (λ (k : Key). IsSplit (stands_before (insert_cmp t.key_cols k) c.args.sid) t.entries n) key c.index_of_insert-index.ensures in
     let same : c.replace_run.new.self.entries ≡ put_ins t.key_cols c.args.sid c.args.row t.entries =
     c.in_ok-replace_run.ensures.ok ∙ ap (λ (es : List Entry). with_run es n n e) list ∙ sym (put_ins-split t.key_cols c.args.sid c.args.row t.entries n split c.requires.free) in
     λ i. record { key_cols = width i; entries = same i }
@@ -32,15 +32,15 @@ pub invariant_of-self-2 : goal.invariant_of-self-2
 invariant_of-self-2 c =
     let t = c.args.self.now in
     let e = entry_at c.args.sid (Ins c.args.row) in
-    let n = c.place_of_insert-place.result in
+    let n = c.index_of_insert-index.result in
     let es = c.self.inside.tree.entries in
     let width : c.self.inside.key_cols ≡ t.key_cols = ap (λ (w : Tree). w.key_cols) c.self.view_is in
     let list : es ≡ t.entries = ap (λ (w : Tree). w.entries) c.self.view_is in
-    let key : c.key_of.result.now ≡ key_of t.key_cols c.args.row = c.key_of.ensures ∙ ap (λ k. key_of k c.args.row) width in
-    let split = subst (λ (k : Key). IsSplit (stands_before (insert_cmp t.key_cols k) c.args.sid) t.entries n) key c.place_of_insert-place.ensures in
+    let key : c.key.result.now ≡ key_of t.key_cols c.args.row = c.key.ensures ∙ ap (λ k. key_of k c.args.row) width in
+    let split = subst (λ (k : Key). IsSplit (stands_before (insert_cmp t.key_cols k) c.args.sid) t.entries n) key c.index_of_insert-index.ensures in
     let new = c.replace_run.new.self.entries in
     let same : new ≡ put_ins t.key_cols c.args.sid c.args.row t.entries =
     c.in_ok-replace_run.ensures.ok ∙ ap (λ (xs : List Entry). with_run xs n n e) list ∙ sym (put_ins-split t.key_cols c.args.sid c.args.row t.entries n split c.requires.free) in
     let lawful_before : IsLawful t.key_cols t.entries = subst (λ (w : Tree). IsLawful w.key_cols w.entries) c.self.view_is c.self.invariant in
-    let lawful : IsLawful c.self.inside.key_cols new = subst (λ (k : ℕ). IsLawful k new) (sym width) (subst (λ (xs : List Entry). IsLawful t.key_cols xs) (sym same) (IsLawful-put_ins t.key_cols c.args.sid c.args.row t.entries n lawful_before split c.requires.free c.requires.place c.requires.room)) in
+    let lawful : IsLawful c.self.inside.key_cols new = subst (λ (k : ℕ). IsLawful k new) (sym width) (subst (λ (xs : List Entry). IsLawful t.key_cols xs) (sym same) (IsLawful-put_ins t.key_cols c.args.sid c.args.row t.entries n lawful_before split c.requires.free c.requires.index c.requires.room)) in
     lawful

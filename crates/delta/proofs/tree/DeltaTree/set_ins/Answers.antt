@@ -17,16 +17,16 @@ use Rattle.delta.proofs.tree.DeltaTree.set_ins.Goals as goal
 pub get-requires : goal.get-requires
 get-requires c =
     let t = c.args.self.now in
-    let found = found_in c.self.inside.key_cols c.self.inside.tree.entries t c.args.sid c.cells.result.now c.args.key.now c.place_of_insert-place.result c.self.view_is c.cells.ensures c.self.invariant.ordered c.place_of_insert-place.ensures (some_of _ _ c.requires.there) in
+    let found = found_in c.self.inside.key_cols c.self.inside.tree.entries t c.args.sid c.cells.result.now c.args.key.now c.index_of_insert-index.result c.self.view_is c.cells.ensures c.self.invariant.ordered c.index_of_insert-index.ensures (some_of _ _ c.requires.there) in
     let list : c.self.inside.tree.entries ≡ t.entries = ap (λ (w : Tree). w.entries) c.self.view_is in
     omega (arith, found.short, ap length list)
 
 pub with_cell-requires : goal.with_cell-requires
 with_cell-requires c =
     let t = c.args.self.now in
-    let found = found_in c.self.inside.key_cols c.self.inside.tree.entries t c.args.sid c.cells.result.now c.args.key.now c.place_of_insert-place.result c.self.view_is c.cells.ensures c.self.invariant.ordered c.place_of_insert-place.ensures (some_of _ _ c.requires.there) in
+    let found = found_in c.self.inside.key_cols c.self.inside.tree.entries t c.args.sid c.cells.result.now c.args.key.now c.index_of_insert-index.result c.self.view_is c.cells.ensures c.self.invariant.ordered c.index_of_insert-index.ensures (some_of _ _ c.requires.there) in
     let list : c.self.inside.tree.entries ≡ t.entries = ap (λ (w : Tree). w.entries) c.self.view_is in
-    let n = c.place_of_insert-place.result in
+    let n = c.index_of_insert-index.result in
     let x = c.get.result.now in
     let y = get_or t.entries n nothing in
     let item : x ≡ y = some_get c.self.inside.tree.entries n x nothing c.get.ensures ∙ ap (λ (es : List Entry). get_or es n nothing) list in
@@ -36,16 +36,16 @@ with_cell-requires c =
 pub replace_run-requires-clause-within : goal.replace_run-requires-clause-within
 replace_run-requires-clause-within c =
     let t = c.args.self.now in
-    let found = found_in c.self.inside.key_cols c.self.inside.tree.entries t c.args.sid c.cells.result.now c.args.key.now c.place_of_insert-place.result c.self.view_is c.cells.ensures c.self.invariant.ordered c.place_of_insert-place.ensures (some_of _ _ c.requires.there) in
+    let found = found_in c.self.inside.key_cols c.self.inside.tree.entries t c.args.sid c.cells.result.now c.args.key.now c.index_of_insert-index.result c.self.view_is c.cells.ensures c.self.invariant.ordered c.index_of_insert-index.ensures (some_of _ _ c.requires.there) in
     let list : c.self.inside.tree.entries ≡ t.entries = ap (λ (w : Tree). w.entries) c.self.view_is in
     omega (arith, found.short, ap length list)
 
 pub returns-clause-ok : goal.returns-clause-ok
 returns-clause-ok c =
     let t = c.args.self.now in
-    let found = found_in c.self.inside.key_cols c.self.inside.tree.entries t c.args.sid c.cells.result.now c.args.key.now c.place_of_insert-place.result c.self.view_is c.cells.ensures c.self.invariant.ordered c.place_of_insert-place.ensures (some_of _ _ c.requires.there) in
+    let found = found_in c.self.inside.key_cols c.self.inside.tree.entries t c.args.sid c.cells.result.now c.args.key.now c.index_of_insert-index.result c.self.view_is c.cells.ensures c.self.invariant.ordered c.index_of_insert-index.ensures (some_of _ _ c.requires.there) in
     let list : c.self.inside.tree.entries ≡ t.entries = ap (λ (w : Tree). w.entries) c.self.view_is in
-    let n = c.place_of_insert-place.result in
+    let n = c.index_of_insert-index.result in
     let x = c.get.result.now in
     let y = get_or t.entries n nothing in
     let item : x ≡ y = some_get c.self.inside.tree.entries n x nothing c.get.ensures ∙ ap (λ (es : List Entry). get_or es n nothing) list in
@@ -60,9 +60,9 @@ returns-clause-ok c =
 pub invariant_of-self-2 : goal.invariant_of-self-2
 invariant_of-self-2 c =
     let t = c.args.self.now in
-    let found = found_in c.self.inside.key_cols c.self.inside.tree.entries t c.args.sid c.cells.result.now c.args.key.now c.place_of_insert-place.result c.self.view_is c.cells.ensures c.self.invariant.ordered c.place_of_insert-place.ensures (some_of _ _ c.requires.there) in
+    let found = found_in c.self.inside.key_cols c.self.inside.tree.entries t c.args.sid c.cells.result.now c.args.key.now c.index_of_insert-index.result c.self.view_is c.cells.ensures c.self.invariant.ordered c.index_of_insert-index.ensures (some_of _ _ c.requires.there) in
     let list : c.self.inside.tree.entries ≡ t.entries = ap (λ (w : Tree). w.entries) c.self.view_is in
-    let n = c.place_of_insert-place.result in
+    let n = c.index_of_insert-index.result in
     let x = c.get.result.now in
     let y = get_or t.entries n nothing in
     let item : x ≡ y = some_get c.self.inside.tree.entries n x nothing c.get.ensures ∙ ap (λ (es : List Entry). get_or es n nothing) list in

@@ -5,7 +5,7 @@ use Rattle.merge.proofs.cursor.Cursor.skip_delete.Goals as goal
 pub overflow_add-self-then-is_deleted : goal.overflow_add-self-then-is_deleted
 overflow_add-self-then-is_deleted c =
     let old = c.args.self.now in
-    let fits = starts-fits old.tree.now.key_cols old.sid old.tree.now.entries old.place c.requires.1.lawful (sym c.stands_at_delete-is_deleted.ensures ∙ c.if-is_deleted.true) in
+    let fits = starts-fits old.tree.now.key_cols old.sid old.tree.now.entries old.index c.requires.1.lawful (sym c.stands_at_delete-is_deleted.ensures ∙ c.if-is_deleted.true) in
     omega (arith, fits.0)
 
 pub returns-then-is_deleted-clause-skipped : goal.returns-then-is_deleted-clause-skipped

@@ -18,19 +18,19 @@ pub overflow_add-self : goal.overflow_add-self
 overflow_add-self c =
     let old = c.args.self.now in
     let at = sym c.entry.ensures ∙ ap option_copied c.in-Some.is in
-    omega (arith, place_fits old.tree.now.key_cols old.tree.now.entries old.place c.in-Some.entry.now c.requires.is.1.lawful at)
+    omega (arith, place_fits old.tree.now.key_cols old.tree.now.entries old.index c.in-Some.entry.now c.requires.is.1.lawful at)
 
 pub overflow_add-self-in-Del : goal.overflow_add-self-in-Del
 overflow_add-self-in-Del c =
     let old = c.args.self.now in
     let at = sym c.entry.ensures ∙ ap option_copied c.in-Some.is in
-    omega (arith, placed_at old.tree.now.key_cols old.tree.now.entries old.place c.in-Some.entry.now c.requires.is.1.lawful at, cursor-le old c.requires.is.0 c.in-Some.entry.now c.requires.is.1 at)
+    omega (arith, placed_at old.tree.now.key_cols old.tree.now.entries old.index c.in-Some.entry.now c.requires.is.1.lawful at, cursor-le old c.requires.is.0 c.in-Some.entry.now c.requires.is.1 at)
 
 pub overflow_cast-result : goal.overflow_cast-result
 overflow_cast-result c =
     let old = c.args.self.now in
     let at = sym c.entry.ensures ∙ ap option_copied c.in-Some.is in
-    omega (arith, placed_at old.tree.now.key_cols old.tree.now.entries old.place c.in-Some.entry.now c.requires.is.1.lawful at)
+    omega (arith, placed_at old.tree.now.key_cols old.tree.now.entries old.index c.in-Some.entry.now c.requires.is.1.lawful at)
 
 pub returns-in-Ins-clause-step : goal.returns-in-Ins-clause-step
 returns-in-Ins-clause-step c =

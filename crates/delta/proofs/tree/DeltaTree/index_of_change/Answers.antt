@@ -7,4 +7,4 @@ use Rattle.model.specs.Entries.{change_cmp}
 use Rattle.delta.specs.Search.{insert_cmp, base_cmp, modify_cmp, stands_before, IsSplit}
 use Rattle.delta.specs.Tree.{Tree}
 use Rattle.delta.proofs.ChangesLemmas.{insert_cmp-same, base_cmp-same, modify_cmp-same}
-use Rattle.delta.proofs.tree.DeltaTree.place_of_change.Goals as goal
+use Rattle.delta.proofs.tree.DeltaTree.index_of_change.Goals as goal

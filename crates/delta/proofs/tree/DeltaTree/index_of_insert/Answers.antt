@@ -6,7 +6,7 @@ use Rattle.delta.specs.Tree.{Tree}
 use Rattle.delta.specs.Search.{insert_cmp, stands_before, IsSplit}
 use Rattle.delta.proofs.SearchLemmas.{parted, insert_cmp-closed}
 use Rattle.delta.proofs.CountedLemmas.{split_from_boundary}
-use Rattle.delta.proofs.tree.DeltaTree.place_of_insert.Goals as goal
+use Rattle.delta.proofs.tree.DeltaTree.index_of_insert.Goals as goal
 
 pub returns : goal.returns
 returns c =

@@ -7,12 +7,12 @@ use Rattle.delta.specs.Search.{insert_cmp, stands_before, IsSplit}
 use Rattle.delta.specs.Changes.{row_at}
 use Rattle.delta.proofs.CountedLemmas.{some_get, some_within, none_within}
 use Rattle.delta.proofs.LookupLemmas.{inserted_row-split, head_at, head_none}
-use Rattle.delta.proofs.tree.DeltaTree.insert_at_place.Goals as goal
+use Rattle.delta.proofs.tree.DeltaTree.insert_at_index.Goals as goal
 
 pub returns : goal.returns
 returns c =
     let t = c.args.self.now in
-    let n = c.args.place in
+    let n = c.args.index in
     let width : c.self.inside.key_cols ≡ t.key_cols = ap (λ (w : Tree). w.key_cols) c.self.view_is in
     let list : c.self.inside.tree.entries ≡ t.entries = ap (λ (w : Tree). w.entries) c.self.view_is in
     let ordered : T (are_ordered t.key_cols t.entries) = subst (λ (w : Tree). T (are_ordered w.key_cols w.entries)) c.self.view_is (T_from_true _ c.self.invariant.ordered) in
@@ -25,7 +25,7 @@ returns c =
 pub returns-in_err-entry : goal.returns-in_err-entry
 returns-in_err-entry c =
     let t = c.args.self.now in
-    let n = c.args.place in
+    let n = c.args.index in
     let list : c.self.inside.tree.entries ≡ t.entries = ap (λ (w : Tree). w.entries) c.self.view_is in
     let ordered : T (are_ordered t.key_cols t.entries) = subst (λ (w : Tree). T (are_ordered w.key_cols w.entries)) c.self.view_is (T_from_true _ c.self.invariant.ordered) in
     let split : IsSplit (stands_before (insert_cmp t.key_cols c.args.key.now) c.args.sid) t.entries n = c.requires in
