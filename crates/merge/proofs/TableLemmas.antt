@@ -1,22 +1,19 @@
 -- Rows of an image put into columns.
-use Rattle.std.proofs.Common.{◌≡◌, ℕ, ◌+◌, ◌-◌, ◌<◌, ◌≤◌, true, false, None, Option, Result, Ok, Err, List, [], ◌∷◌, ◌++◌, length, take, drop, map, get_or, slice_get, append_assoc, Some, refl, sym, ap, subst, ◌∙◌, arith}
+use Rattle.std.proofs.Common.{◌≡◌, ℕ, ◌+◌, ◌-◌, ◌<◌, ◌≤◌, true, false, None, List, [], ◌∷◌, ◌++◌, length, take, drop, get_or, slice_get, append_assoc, Some, refl, sym, ap, subst, ◌∙◌, arith}
 use Rattle.std.specs.List.{All}
 use Rattle.std.proofs.lemmas.List.{take-map, drop-map, length-map, length-append, map-append, get_or_append_left, get_or-append_right}
 use Rattle.std.proofs.lemmas.List.Elements.{All-head}
 use Rattle.std.proofs.lemmas.Option.{get_or_from_slice_get}
-use Rattle.values.specs.Shape.{Columns, IsSchema, has_type, is_too_long, list_fault}
+use Rattle.values.specs.Shape.{Columns, has_type, is_too_long, list_fault}
 use Rattle.values.specs.declared.row.Row.{Row}
 use Rattle.values.specs.declared.value.ColumnType.{ColumnType}
 use Rattle.values.specs.declared.value.ColumnType.TheVariants as column
 use Rattle.values.specs.declared.value.Value.{Value}
 use Rattle.values.specs.declared.value.Value.TheVariants.{Int, Text, Bool as Truth}
-use Rattle.std.specs.Prelude.{IsOk, MatchOption}
-use Rattle.stable.specs.declared.fault.BuildFault.{BuildFault}
-use Rattle.stable.specs.Stable.{IsStable, build_fault}
-use Rattle.blocks.specs.Column.{Column}
-use Rattle.stable.specs.Rows.{AreEven, IsKept, column_values, first_columns, row_count, rows_of}
+use Rattle.stable.specs.Stable.{IsStable}
+use Rattle.stable.specs.Rows.{column_values}
 use Rattle.stable.proofs.CallerLemmas.{no_build_fault}
-use Rattle.stable.proofs.RowsLemmas.{fit_at, kept, shown, width, width_of}
+use Rattle.stable.proofs.RowsLemmas.{fit_at, width_of}
 use Rattle.stable.proofs.StableLemmas.{all_shaped}
 use Rattle.merge.specs.Fitting.{StandsAt}
 use Rattle.merge.specs.Runs.{run_rows, IsStableRun}
