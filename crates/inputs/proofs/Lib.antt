@@ -11,3 +11,4 @@ mod CallsLemmas
 mod WordsLemmas
 mod PositionLemmas
 mod WorkedWords
+mod WorkedTables

@@ -2,7 +2,7 @@
 use Rattle.std.proofs.Common.{◌≡◌, ◌∙◌, ◌<◌, ℕ, zero, suc, Bool, true, false, List, [], ◌∷◌, ◌++◌, length, drop, Option, Some, None, Result, Ok, Err, Bor, refl, sym, ap, append_assoc, inl, subst, arith}
 use Rattle.std.specs.Result.{IsErrAnd, IfErr, IfOk}
 use Rattle.csv.specs.Machine.{Read}
-use Rattle.csv.specs.Reading.{AreRecords, Reached, ReadRecord, default_config, strip_bom, took_first}
+use Rattle.csv.specs.Reading.{AreRecords, Reached, ReadRecord, default_config, is_flexible, strip_bom, took_first}
 use Rattle.csv.specs.Records.{field_at}
 use Rattle.csv.specs.declared.parser.Config.{Config}
 use Rattle.csv.specs.declared.parser.State.{State}
@@ -71,11 +71,11 @@ reached-start cfg s s2 xs e = (e, refl)
 
 -- what a read adds
 pub reads-one : (text : List ℕ) (read : List Fields) (old new : Reader (Bor (List ℕ))) (found : Bool) (fields : Fields)
-    → IsReading text read old → took_first new ≡ true → ReadRecord (λ (s : Bor (List ℕ)). Some s.now) old new found fields → ReadsOne text read new found fields
-reads-one text read old new true fields h begun r =
+    → IsReading text read old → took_first new ≡ true → is_flexible new ≡ is_flexible old → ReadRecord (λ (s : Bor (List ℕ)). Some s.now) old new found fields → ReadsOne text read new found fields
+reads-one text read old new true fields h begun flex r =
     let more = rows-more (λ (s : Bor (List ℕ)). Some s.now) old new fields default_config st.StartRecord (strip_bom text) h.left read h.config h.source h.reached r in
-    record { plain = r.3 ∙ h.plain; ready = inl begun; config = r.2 ∙ h.config; left = more.0; source = more.1; reached = more.2 }
-reads-one text read old new false fields h begun r =
+    record { plain = r.3 ∙ h.plain; ready = inl begun; config = r.2 ∙ h.config; flexible = flex ∙ h.flexible; left = more.0; source = more.1; reached = more.2 }
+reads-one text read old new false fields h begun flex r =
     (old.state, h.left, h.reached, rows-end (λ (s : Bor (List ℕ)). Some s.now) old new fields default_config h.left h.config h.source r)
 
 -- the records after the first ones

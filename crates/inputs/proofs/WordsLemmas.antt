@@ -2,7 +2,7 @@
 use Rattle.std.proofs.Common.{◌≡◌, ℤ, pos, true, Option, Some, None, Result, Ok, Err, refl, subst}
 use Rattle.std.specs.Option.{IfSome}
 use Rattle.std.specs.Result.{IsErrAnd, IfErr}
-use Rattle.clap.specs.Words.{NarrowsTo, Text, is_simple}
+use Rattle.clap.specs.Words.{NarrowsTo, Text, is_simple, is_simple_and_free}
 use Rattle.clap.specs.declared.builder.value_parser.ValueParser.{ValueParser}
 use Rattle.clap.specs.declared.builder.value_parser.ValueParser.TheVariants.{Unsigned}
 use Rattle.clap.proofs.OnLiterals.{clap_on_literals}
@@ -15,6 +15,10 @@ use Rattle.inputs.specs.declared.words.Settings.TheVariants.{Run}
 pub usage-simple : is_simple usage ≡ true
 unfolding clap_on_literals
 usage-simple = refl
+
+pub usage-free : is_simple_and_free usage ≡ true
+unfolding clap_on_literals
+usage-free = refl
 
 -- the numbers that a limit may be
 pub narrowed : (p r : ValueParser) (low high : ℤ) → p ≡ Unsigned 0 18446744073709551615 → low ≡ pos 1 → high ≡ pos 2147483647 → NarrowsTo p (Some low) (Some high) r → r ≡ Unsigned 1 MAX_ROWS

@@ -1,5 +1,5 @@
 -- The call that a record asks for: its verb, and then its arguments.
-use Rattle.std.specs.Prelude.{ℕ, suc, ◌+◌, ◌==◌, cond, Option, Some, None, Result, Ok, Err, List, [], ◌∷◌, length, take, drop, slice_get, codes}
+use Rattle.std.specs.Prelude.{ℕ, suc, ◌+◌, ◌==◌, cond, Option, Some, None, Result, Ok, Err, List, [], ◌∷◌, length, take, drop, slice_get, find, codes}
 use Rattle.std.specs.Str.{bytes_eq}
 use Rattle.values.specs.Shape.{Columns}
 use Rattle.values.specs.declared.value.ColumnType.{ColumnType}
@@ -14,24 +14,25 @@ use Rattle.inputs.specs.declared.fault.ScriptFault.{ScriptFault}
 use Rattle.inputs.specs.declared.fault.ScriptFault.TheVariants.{BadCount, BadVerb, BadArgument}
 use Rattle.inputs.specs.declared.verb.Verb.{Verb}
 use Rattle.inputs.specs.declared.verb.Verb.TheVariants as verb
+use Rattle.inputs.specs.declared.verb.TheConstants.{VERBS}
 
--- the verbs that read, or end a transaction
-abbrev pub other_verb_of : List ℕ → Option Verb
-other_verb_of word =
-    cond (bytes_eq word (codes "get")) (Some verb.Get)
-    (cond (bytes_eq word (codes "at")) (Some verb.At)
-    (cond (bytes_eq word (codes "rank")) (Some verb.Rank)
-    (cond (bytes_eq word (codes "len")) (Some verb.Len)
-    (cond (bytes_eq word (codes "scan")) (Some verb.Scan)
-    (cond (bytes_eq word (codes "commit")) (Some verb.Commit)
-    (cond (bytes_eq word (codes "abort")) (Some verb.Abort) None))))))
+-- the word by which a script asks for a verb
+abbrev pub verb_word : Verb → List ℕ
+verb_word verb.Begin = codes "begin"
+verb_word verb.Insert = codes "insert"
+verb_word verb.Delete = codes "delete"
+verb_word verb.Set = codes "set"
+verb_word verb.Get = codes "get"
+verb_word verb.At = codes "at"
+verb_word verb.Rank = codes "rank"
+verb_word verb.Len = codes "len"
+verb_word verb.Scan = codes "scan"
+verb_word verb.Commit = codes "commit"
+verb_word verb.Abort = codes "abort"
 
+-- the verb whose word this is
 abbrev pub verb_of : List ℕ → Option Verb
-verb_of word =
-    cond (bytes_eq word (codes "begin")) (Some verb.Begin)
-    (cond (bytes_eq word (codes "insert")) (Some verb.Insert)
-    (cond (bytes_eq word (codes "delete")) (Some verb.Delete)
-    (cond (bytes_eq word (codes "set")) (Some verb.Set) (other_verb_of word))))
+verb_of word = find (λ v. bytes_eq (verb_word v) word) VERBS
 
 -- how many arguments a verb wants
 abbrev pub arguments_of : Columns → Verb → ℕ

@@ -6,7 +6,8 @@ use Rattle.inputs.specs.Cells.{place_from}
 use Rattle.inputs.specs.Reading.{Fields}
 use Rattle.inputs.specs.declared.fault.ScriptFault.{ScriptFault}
 use Rattle.inputs.specs.declared.fault.ScriptFault.TheVariants.{BadClient, TooManyClients}
-use Rattle.inputs.specs.declared.client.TheConstants.{MAX_CLIENT_BYTES, MAX_SCRIPT_CLIENTS}
+use Rattle.values.specs.declared.limits.TheConstants.{MAX_CLIENT_BYTES}
+use Rattle.inputs.specs.declared.client.TheConstants.{MAX_SCRIPT_CLIENTS}
 
 abbrev pub is_client_byte : ℕ → Bool
 is_client_byte c = is_ascii_alphanumeric c || c == 45 || c == 95

@@ -1,5 +1,5 @@
 -- The columns that a table's first record names.
-use Rattle.std.specs.Prelude.{ℕ, suc, ◌+◌, ◌==◌, nat_lt, Bool, true, false, cond, ◌&&◌, not, Option, Some, None, Result, Ok, Err, List, [], ◌∷◌, length, take, drop, map, count_by, position, codes}
+use Rattle.std.specs.Prelude.{ℕ, suc, ◌+◌, ◌==◌, nat_lt, Bool, true, false, cond, ◌&&◌, not, Option, Some, None, Result, Ok, Err, List, [], ◌∷◌, length, take, drop, map, count_by, position, find, codes}
 use Rattle.std.specs.Str.{is_utf8, bytes_eq}
 use Rattle.values.specs.Shape.{Columns, schema_fault}
 use Rattle.values.specs.declared.value.ColumnType.{ColumnType}
@@ -10,20 +10,24 @@ use Rattle.inputs.specs.Reading.{Fields}
 use Rattle.inputs.specs.declared.fault.TableFault.{TableFault}
 use Rattle.inputs.specs.declared.fault.TableFault.TheVariants.{BadHeader, Schema}
 use Rattle.inputs.specs.declared.header.Heading.{Heading}
-use Rattle.inputs.specs.declared.header.TheConstants.{MAX_NAME_BYTES}
+use Rattle.values.specs.declared.limits.TheConstants.{MAX_NAME_BYTES}
+use Rattle.inputs.specs.declared.header.TheConstants.{KINDS}
 
 abbrev pub is_colon : ℕ → Bool
 is_colon c = c == 58
 
+-- how a header cell writes a type, and that the column is one of the key
+abbrev pub kind_word : ColumnType → Bool → List ℕ
+kind_word column.Int false = codes "int"
+kind_word column.Text false = codes "text"
+kind_word column.Bool false = codes "bool"
+kind_word column.Int true = codes "int:key"
+kind_word column.Text true = codes "text:key"
+kind_word column.Bool true = codes "bool:key"
+
 -- the type that a header cell gives after the name, and whether the column is one of the key
 abbrev pub kind_of : List ℕ → Option (ColumnType × Bool)
-kind_of bytes =
-    cond (bytes_eq bytes (codes "int")) (Some (column.Int, false))
-    (cond (bytes_eq bytes (codes "text")) (Some (column.Text, false))
-    (cond (bytes_eq bytes (codes "bool")) (Some (column.Bool, false))
-    (cond (bytes_eq bytes (codes "int:key")) (Some (column.Int, true))
-    (cond (bytes_eq bytes (codes "text:key")) (Some (column.Text, true))
-    (cond (bytes_eq bytes (codes "bool:key")) (Some (column.Bool, true)) None)))))
+kind_of bytes = find (λ kind. bytes_eq (kind_word kind.0 kind.1) bytes) KINDS
 
 -- a column of this name, which is a text of 1 to 64 bytes
 abbrev pub named : List ℕ → Option (ColumnType × Bool) → Option Heading

@@ -1,7 +1,7 @@
 -- The records of a text, and how far a reader has come.
 use Rattle.std.specs.Prelude.{◌≡◌, ℕ, Bool, true, false, Some, List, ◌++◌, ◌∷◌, []}
 use Rattle.std.proofs.Common.{Bor}
-use Rattle.csv.specs.Reading.{AreRecords, Reached, Ready, default_config, source_of, strip_bom, reader_trim, reader_config, reader_state}
+use Rattle.csv.specs.Reading.{AreRecords, Reached, Ready, default_config, source_of, strip_bom, reader_trim, reader_config, reader_state, is_flexible}
 use Rattle.csv.specs.declared.parser.State.TheVariants as st
 use Rattle.csv.specs.declared.reader.Reader.{Reader}
 use Rattle.csv.specs.declared.reader.Trim.TheVariants as trim
@@ -19,6 +19,8 @@ pub record IsReading (text : List ℕ) (read : List Fields) (reader : Reader (Bo
   pub plain : reader_trim reader ≡ trim.None
   pub ready : Ready reader
   pub config : reader_config reader ≡ default_config
+  -- a record of any length is read
+  pub flexible : is_flexible reader ≡ true
   pub left : List ℕ
   pub source : source_of (λ (s : Bor (List ℕ)). Some s.now) reader ≡ Some left
   pub reached : Reached default_config st.StartRecord (strip_bom text) read (reader_state reader) left

@@ -9,9 +9,7 @@ use crate::fault::ScriptFault;
 use csv::ByteRecord;
 use std::alloc::Global;
 use values::Text;
-
-/// Bytes of a client's name.
-const MAX_CLIENT_BYTES: usize = 32;
+use values::limits::MAX_CLIENT_BYTES;
 
 /// How many clients a script may have, as long as one transaction is run at a time.
 pub(crate) const MAX_SCRIPT_CLIENTS: usize = 1;

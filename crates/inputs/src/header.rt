@@ -1,15 +1,23 @@
 //! The header: the columns that the first record names, as a schema.
 ghost use Rattle.std.specs.Prelude.{◌≡◌, ◌≢◌, ◌<◌, IfOk, IfErr, IfSome, Ok, Err, Some, true, length, position};
 ghost use Rattle.csv.specs.Records.{fields_of};
-ghost use Rattle.inputs.specs.Header.{as_schema, headings_of, heading_of, is_colon, kind_of, named, placed, schema_of};
+ghost use Rattle.inputs.specs.Header.{as_schema, headings_of, heading_of, is_colon, kind_of, kind_word, named, placed, schema_of};
 
 use crate::fault::TableFault;
 use csv::ByteRecord;
 use std::alloc::Global;
+use values::limits::MAX_NAME_BYTES;
 use values::{ColumnType, NoMemory, Schema, SchemaFault, Text};
 
-/// Bytes of a column's name.
-const MAX_NAME_BYTES: usize = 64;
+/// Every type, in the key and outside it, once.
+const KINDS: [(ColumnType, bool); 6] = [
+    (ColumnType::Int, false),
+    (ColumnType::Text, false),
+    (ColumnType::Bool, false),
+    (ColumnType::Int, true),
+    (ColumnType::Text, true),
+    (ColumnType::Bool, true),
+];
 
 /// A column, as its header cell names it.
 #[derive(Drop)]
@@ -118,25 +126,28 @@ fn name_heading(
     }))
 }
 
-/// The type after a column's name, and whether the column is one of the key.
+/// What a header cell has after the column's name and a colon: its type, and whether the column is one of the key.
+pub fn kind_word(column: ColumnType, is_key: bool) -> &'static str
+    ensures { result.now ≡ kind_word column is_key }
+{
+    match (column, is_key) {
+        (ColumnType::Int, false) => "int",
+        (ColumnType::Text, false) => "text",
+        (ColumnType::Bool, false) => "bool",
+        (ColumnType::Int, true) => "int:key",
+        (ColumnType::Text, true) => "text:key",
+        (ColumnType::Bool, true) => "bool:key",
+    }
+}
+
+/// The type and the key of this word.
 fn read_kind(bytes: &[u8]) -> Option<(ColumnType, bool)>
     ensures { result ≡ kind_of bytes.now }
 {
-    if bytes == b"int".as_slice() {
-        Some((ColumnType::Int, false))
-    } else if bytes == b"text".as_slice() {
-        Some((ColumnType::Text, false))
-    } else if bytes == b"bool".as_slice() {
-        Some((ColumnType::Bool, false))
-    } else if bytes == b"int:key".as_slice() {
-        Some((ColumnType::Int, true))
-    } else if bytes == b"text:key".as_slice() {
-        Some((ColumnType::Text, true))
-    } else if bytes == b"bool:key".as_slice() {
-        Some((ColumnType::Bool, true))
-    } else {
-        None
-    }
+    KINDS
+        .iter()
+        .copied()
+        .find(|kind| kind_word(kind.0, kind.1).as_bytes() == bytes)
 }
 
 /// The schema of columns, those of the key first.

@@ -3,7 +3,7 @@ ghost use Rattle.std.specs.Prelude.{◌≡◌, IfOk, List, [], ℕ};
 ghost use Rattle.csv.specs.Records.{fields_of};
 ghost use Rattle.inputs.specs.Reading.{Fields, IsReading, ReadsOne};
 
-use csv::{ByteRecord, Reader, ReaderBuilder};
+use csv::{ByteRecord, ErrorKind, Reader, ReaderBuilder};
 use std::alloc::Global;
 use values::NoMemory;
 
@@ -26,11 +26,15 @@ pub(crate) fn next_record<'a>(
     reader: &mut Reader<&'a [u8]>,
     fields: &mut ByteRecord,
 ) -> Result<bool, NoMemory>
+    requires { (text : List ℕ) × (read : List Fields) × IsReading text read reader.old }
     ensures { IfOk result (λ found. (text : List ℕ) (read : List Fields) → IsReading text read reader.old → ReadsOne text read reader.new found (fields_of fields.new)) }
 {
-    // Bytes at hand never fail to be read, and a record of any length is taken.
-    let Ok(found) = reader.read_byte_record(fields) else {
-        return Err(NoMemory);
-    };
-    Ok(found)
+    match reader.read_byte_record(fields) {
+        Ok(found) => Ok(found),
+        Err(error) => match error.into_kind() {
+            ErrorKind::Io(_) | ErrorKind::OutOfMemory => Err(NoMemory),
+            // A record of any length is taken, as bytes.
+            _ => unreachable!(),
+        },
+    }
 }

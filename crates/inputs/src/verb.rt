@@ -1,6 +1,6 @@
-//! The verbs of a script, and how many arguments each wants.
+//! The verbs of a script: their words, and how many arguments each wants.
 ghost use Rattle.std.specs.Prelude.{◌≡◌, ◌≤◌};
-ghost use Rattle.inputs.specs.Calls.{arguments_of, other_verb_of, verb_of};
+ghost use Rattle.inputs.specs.Calls.{arguments_of, verb_of, verb_word};
 
 use values::Schema;
 
@@ -20,44 +20,50 @@ pub enum Verb {
     Abort,
 }
 
+/// Every verb, once.
+const VERBS: [Verb; 11] = [
+    Verb::Begin,
+    Verb::Insert,
+    Verb::Delete,
+    Verb::Set,
+    Verb::Get,
+    Verb::At,
+    Verb::Rank,
+    Verb::Len,
+    Verb::Scan,
+    Verb::Commit,
+    Verb::Abort,
+];
+
+impl Verb {
+    /// The word by which a script asks for the verb, and a reply line names it.
+    pub fn word(self) -> &'static str
+        ensures { result.now ≡ verb_word self }
+    {
+        match self {
+            Verb::Begin => "begin",
+            Verb::Insert => "insert",
+            Verb::Delete => "delete",
+            Verb::Set => "set",
+            Verb::Get => "get",
+            Verb::At => "at",
+            Verb::Rank => "rank",
+            Verb::Len => "len",
+            Verb::Scan => "scan",
+            Verb::Commit => "commit",
+            Verb::Abort => "abort",
+        }
+    }
+}
+
 /// The verb of this word.
 pub(crate) fn read_verb(word: &[u8]) -> Option<Verb>
     ensures { result ≡ verb_of word.now }
 {
-    if word == b"begin".as_slice() {
-        Some(Verb::Begin)
-    } else if word == b"insert".as_slice() {
-        Some(Verb::Insert)
-    } else if word == b"delete".as_slice() {
-        Some(Verb::Delete)
-    } else if word == b"set".as_slice() {
-        Some(Verb::Set)
-    } else {
-        read_other_verb(word)
-    }
-}
-
-/// The verb of this word, where it is neither a begin nor a write.
-fn read_other_verb(word: &[u8]) -> Option<Verb>
-    ensures { result ≡ other_verb_of word.now }
-{
-    if word == b"get".as_slice() {
-        Some(Verb::Get)
-    } else if word == b"at".as_slice() {
-        Some(Verb::At)
-    } else if word == b"rank".as_slice() {
-        Some(Verb::Rank)
-    } else if word == b"len".as_slice() {
-        Some(Verb::Len)
-    } else if word == b"scan".as_slice() {
-        Some(Verb::Scan)
-    } else if word == b"commit".as_slice() {
-        Some(Verb::Commit)
-    } else if word == b"abort".as_slice() {
-        Some(Verb::Abort)
-    } else {
-        None
-    }
+    VERBS
+        .iter()
+        .copied()
+        .find(|verb| verb.word().as_bytes() == word)
 }
 
 /// How many arguments the verb wants.

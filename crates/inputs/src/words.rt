@@ -1,6 +1,6 @@
 //! The words of the command line.
-ghost use Rattle.std.specs.Prelude.{◌≡◌, ◌≤◌, IfErr, IfOk, IfSome, IsNone, map, option_map};
-ghost use Rattle.clap.specs.Words.{app_of, first_value, found_of, kind_of, subcommand_rows_of};
+ghost use Rattle.std.specs.Prelude.{◌≡◌, ◌≤◌, [], IfErr, IfOk, IfSome, IsNone, map, option_map};
+ghost use Rattle.clap.specs.Words.{app_of, fault_of, first_value, found_of, kind_of, subcommand_rows_of};
 ghost use Rattle.clap.specs.declared.error.kind.ErrorKind.TheVariants.{OutOfMemory};
 ghost use Rattle.inputs.specs.Words.{usage, word_for, word_in, AreAsked, AreOf, IsWithinLimits};
 ghost use Rattle.inputs.specs.declared.words.Settings.{Settings as Asked};
@@ -33,6 +33,7 @@ pub enum Settings<'a> {
 pub fn read_words<'a>(alloc: Global, words: &'a [&'a str]) -> Result<Settings<'a>, Error>
     ensures said { IfOk result (λ settings. AreOf (word_for (map (λ word. word.now) words.now)) settings) }
     ensures within { IfOk result (λ settings. IsWithinLimits settings) }
+    ensures faultless { IfOk result (λ settings. fault_of usage (map (λ word. word.now) words.now) ≡ []) }
     ensures taken { IfErr result (λ error. (settings : Asked) → AreAsked (map (λ word. word.now) words.now) settings → kind_of error ≡ OutOfMemory) }
 {
     let mut command = program(alloc)?;

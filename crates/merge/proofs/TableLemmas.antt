@@ -1,22 +1,19 @@
 -- Rows of an image put into columns.
-use Rattle.std.proofs.Common.{◌≡◌, ℕ, ◌+◌, ◌-◌, ◌<◌, ◌≤◌, true, false, None, Option, Result, Ok, Err, List, [], ◌∷◌, ◌++◌, length, take, drop, map, get_or, slice_get, append_assoc, Some, refl, sym, ap, subst, ◌∙◌, arith}
+use Rattle.std.proofs.Common.{◌≡◌, ℕ, ◌+◌, ◌-◌, ◌<◌, ◌≤◌, true, false, None, List, [], ◌∷◌, ◌++◌, length, take, drop, get_or, slice_get, append_assoc, Some, refl, sym, ap, subst, ◌∙◌, arith}
 use Rattle.std.specs.List.{All}
 use Rattle.std.proofs.lemmas.List.{take-map, drop-map, length-map, length-append, map-append, get_or_append_left, get_or-append_right}
 use Rattle.std.proofs.lemmas.List.Elements.{All-head}
 use Rattle.std.proofs.lemmas.Option.{get_or_from_slice_get}
-use Rattle.values.specs.Shape.{Columns, IsSchema, has_type, is_too_long, list_fault}
+use Rattle.values.specs.Shape.{Columns, has_type, is_too_long, list_fault}
 use Rattle.values.specs.declared.row.Row.{Row}
 use Rattle.values.specs.declared.value.ColumnType.{ColumnType}
 use Rattle.values.specs.declared.value.ColumnType.TheVariants as column
 use Rattle.values.specs.declared.value.Value.{Value}
 use Rattle.values.specs.declared.value.Value.TheVariants.{Int, Text, Bool as Truth}
-use Rattle.std.specs.Prelude.{IsOk, MatchOption}
-use Rattle.stable.specs.declared.fault.BuildFault.{BuildFault}
-use Rattle.stable.specs.Stable.{IsStable, build_fault}
-use Rattle.blocks.specs.Column.{Column}
-use Rattle.stable.specs.Rows.{AreEven, IsKept, column_values, first_columns, row_count, rows_of}
+use Rattle.stable.specs.Stable.{IsStable}
+use Rattle.stable.specs.Rows.{column_values}
 use Rattle.stable.proofs.CallerLemmas.{no_build_fault}
-use Rattle.stable.proofs.RowsLemmas.{fit_at, kept, shown, width, width_of}
+use Rattle.stable.proofs.RowsLemmas.{fit_at, width_of}
 use Rattle.stable.proofs.StableLemmas.{all_shaped}
 use Rattle.merge.specs.Fitting.{StandsAt}
 use Rattle.merge.specs.Runs.{run_rows, IsStableRun}
@@ -117,54 +114,3 @@ module _ (ty : ColumnType) (col : ℕ) (rows rest all : List Row) (is : all ≡ 
   values_fit old done e =
       let cell = λ (row : Row). get_or row col (Truth false) in
       omega (arith, ap (λ (vs : List Value). length vs) e, length-append old (column_values col all), length-map all cell, length-map done cell, ap (λ (rs : List Row). length rs) is, length-append rows rest)
-
--- ---- all columns
-
-row_count_is : (columns : List Column) (n : ℕ) → 0 < length columns → ((col : ℕ) (d : Column) → col < length columns → length (get_or columns col d).values ≡ n) → row_count columns ≡ n
-row_count_is [] n some f = absurd (omega (arith, some))
-row_count_is (c ∷ columns) n some f = f 0 c (omega arith)
-
--- each column of a table's rows
-pub record AreWhole (schema : Columns) (rows : List Row) (columns : List Column) : Type 0 where
-  pub stable : IsStable (record { schema = schema; rows = rows })
-  pub some : 0 < length schema.types
-  pub filled : columns ≡ first_columns schema.types rows (length schema.types)
-
--- the columns are whole when there are as many as the schema has
-module _ (schema lent : Columns) (rows : List Row) (columns : List Column) (width col : ℕ) where
-  pub whole : lent ≡ schema → width ≡ length lent.types → IsSchema lent → width ≤ col → col ≤ width → IsStable (record { schema = schema; rows = rows }) → columns ≡ first_columns schema.types rows col → AreWhole schema rows columns
-  whole is wide lawful least most h e =
-      let same : length lent.types ≡ length schema.types = ap (λ (x : Columns). length x.types) is in
-      let all : col ≡ length schema.types = omega (arith, least, most, wide, same) in
-      record {
-        stable = h;
-        some = omega (arith, lawful.keyed, lawful.key_within, same);
-        filled = e ∙ ap (first_columns schema.types rows) all;
-      }
-
--- they show just those rows
-module _ (schema : Columns) (rows : List Row) (columns : List Column) (h : AreWhole schema rows columns) where
-  keeps : IsKept schema (length rows) columns
-  keeps = kept schema rows (no_build_fault schema rows h.stable) (length rows) refl columns h.filled
-
-  counts : row_count columns ≡ length rows
-  counts = row_count_is columns (length rows) (omega (arith, h.some, width schema (length rows) columns keeps)) keeps.filled
-
-  pub all_typed : map (λ c. c.ty) columns ≡ schema.types
-  all_typed = keeps.typed
-
-  pub all_even : AreEven columns
-  all_even = λ col d lt. keeps.filled col d lt ∙ sym counts
-
-  pub all_rows : rows_of (row_count columns) columns ≡ rows
-  all_rows = ap (λ n. rows_of n columns) counts ∙ shown schema rows (no_build_fault schema rows h.stable) (length rows) refl columns h.filled
-
-  -- and so have no fault
-  pub no_fault : build_fault schema (rows_of (row_count columns) columns) ≡ None
-  no_fault = ap (build_fault schema) all_rows ∙ no_build_fault schema rows h.stable
-
--- a call that answers a fault just where one stands answers none here
-pub never_refused : {T : Type 0} → (fault : Option BuildFault) (result : Result T BuildFault) (e : BuildFault) → fault ≡ None → result ≡ Err e → MatchOption fault (IsOk result) (λ f. result ≡ Err f) → ⊥
-never_refused None (Ok x) e none is h = cc is
-never_refused None (Err x) e none is h = cc h
-never_refused (Some f) result e none is h = cc none

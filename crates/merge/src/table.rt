@@ -32,10 +32,7 @@ impl<'a> Layers<'a> {
         for col in 0..width {
             columns.push(self.column(alloc, col)?)?;
         }
-        match StableTable::from_columns(schema.copy()?, columns) {
-            Ok(table) => Ok(table),
-            Err(_) => unreachable!(),
-        }
+        Ok(StableTable::of_columns(schema.copy()?, columns))
     }
 
     /// The values of the image's rows in one column.

@@ -8,3 +8,4 @@ pub mod RankLemmas
 pub mod RowsLemmas
 pub mod StableLemmas
 pub mod StandLemmas
+pub mod WholeLemmas

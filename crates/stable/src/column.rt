@@ -95,13 +95,13 @@ impl Column {
     ///
     /// # Errors
     ///
-    /// `NoMemory` where a growth is refused: the first of those values may stand after the others then.
+    /// `NoMemory` where a growth is refused: the first of those values may stand after the others then, and nothing else.
     pub fn extend_from(&mut self, other: &Column, from: usize, count: usize) -> Result<(), NoMemory>
         requires room { length self.old.values + count < 2 ^ 63 }
         requires typed { other.now.ty ≡ self.old.ty }
         requires within { from + count ≤ length other.now.values }
         ensures ok { OnOk result (self.new ≡ record self.old { values = self.old.values ++ take count (drop from other.now.values) }) }
-        ensures err { OnErr result ((some : ℕ) × (self.new ≡ record self.old { values = self.old.values ++ take some (drop from other.now.values) })) }
+        ensures err { OnErr result ((some : ℕ) × (some ≤ count) × (self.new ≡ record self.old { values = self.old.values ++ take some (drop from other.now.values) })) }
     {
         let length = other.len();
         prove!(from + count <= length);

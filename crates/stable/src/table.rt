@@ -56,7 +56,7 @@ impl StableTable {
     {
         match first_fault(&schema, rows.as_slice()) {
             Some(fault) => Err(fault),
-            None => Ok(StableTable::from_rows(alloc, schema, rows.as_slice())?),
+            None => Ok(StableTable::of_rows(alloc, schema, rows.as_slice())?),
         }
     }
 
@@ -75,25 +75,37 @@ impl StableTable {
         let count = row_count(columns.as_slice());
         match first_fault_of(&schema, columns.as_slice(), count) {
             Some(fault) => Err(fault),
-            None => Ok(StableTable {
-                schema,
-                columns,
-                count,
-            }),
+            None => Ok(StableTable::of_columns(schema, columns)),
         }
     }
 
-    /// The table of rows without a fault.
-    fn from_rows(alloc: Global, schema: Schema, rows: &[Row]) -> Result<StableTable, NoMemory>
-        requires { build_fault schema rows.now ≡ None }
+    /// The table that columns are: of the schema's types, each with as many values, their rows in strictly ascending key.
+    /// Tests nothing and takes no memory. Every table is made here.
+    pub fn of_columns(schema: Schema, columns: Vec<Column>) -> StableTable
+        requires typed { map (λ c. c.ty) columns.items ≡ schema.types }
+        requires even { AreEven columns.items }
+        requires table { IsStable (record { schema = schema; rows = rows_of (row_count columns.items) columns.items }) }
+        ensures { result ≡ record { schema = schema; rows = rows_of (row_count columns.items) columns.items } }
+    {
+        StableTable {
+            count: row_count(columns.as_slice()),
+            schema,
+            columns,
+        }
+    }
+
+    /// The table that rows are: they fit the schema, and stand in strictly ascending key. Each is copied, and none is
+    /// tested.
+    ///
+    /// # Errors
+    ///
+    /// `NoMemory` where a growth is refused.
+    pub fn of_rows(alloc: Global, schema: Schema, rows: &[Row]) -> Result<StableTable, NoMemory>
+        requires { IsStable (record { schema = schema; rows = rows.now }) }
         ensures { IfOk result (λ table. table ≡ record { schema = schema; rows = rows.now }) }
     {
         let columns = columns_of(alloc, schema.types(), rows)?;
-        Ok(StableTable {
-            schema,
-            columns,
-            count: rows.len(),
-        })
+        Ok(StableTable::of_columns(schema, columns))
     }
 
     /// The columns' names and types, and which are the key.

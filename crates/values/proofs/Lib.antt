@@ -1,1 +1,2 @@
 mod SchemaLemmas
+mod WorkedLimits

@@ -25,3 +25,9 @@ pub const MAX_BLOCK_VALUES: usize = 1_024;
 
 /// The last generation of a store, since a frame spells it in four bytes.
 pub const MAX_GENERATION: u32 = 4_294_967_295;
+
+/// Bytes of a column's name in a header cell. A name is told in an error line and compared with every other name.
+pub const MAX_NAME_BYTES: usize = 64;
+
+/// Bytes of a client's name in a script. A name stands in each of its client's reply lines.
+pub const MAX_CLIENT_BYTES: usize = 32;

@@ -13,6 +13,7 @@ returns c =
       plain = rw (e, h) at made.trim ∙ c.new.ensures.trim;
       ready = inr (inr (rw (e, h) at made.has_headers, made.headers));
       config = rw (e, h) at made.config ∙ c.new.ensures.config;
+      flexible = rw (e) at made.flexible;
       left = strip_bom c.args.text.now;
       source = made.source;
       reached = reached-start default_config st.StartRecord _ (strip_bom c.args.text.now) (sym made.state);

@@ -1,9 +1,9 @@
-use Rattle.std.proofs.Common.{◌≡◌, ◌∙◌, ap, map}
+use Rattle.std.proofs.Common.{◌≡◌, ◌∙◌, ap, map, sym}
 use Rattle.std.specs.Option.{option_map}
-use Rattle.clap.specs.Words.{App, app_of, is_simple, subcommand_of, takes}
+use Rattle.clap.specs.Words.{App, app_of, fault_of, is_simple, is_simple_and_free, subcommand_of, takes}
 use Rattle.inputs.specs.Words.{usage, word_in}
 use Rattle.inputs.proofs.ReadLemmas.{passed-up}
-use Rattle.inputs.proofs.WordsLemmas.{usage-simple, AreOf-same, if-told}
+use Rattle.inputs.proofs.WordsLemmas.{usage-simple, usage-free, AreOf-same, if-told}
 use Rattle.inputs.proofs.words.read_words.Goals as goal
 
 pub returns-in-Some-clause-said : goal.returns-in-Some-clause-said
@@ -24,3 +24,9 @@ returns-in_err-matches-clause-taken c =
 pub returns-in_err-error-in-None-clause-taken : goal.returns-in_err-error-in-None-clause-taken
 returns-in_err-error-in-None-clause-taken c =
     if-told c.from_residual-in_err-error-in-None.result _ _ (λ error kind settings asked. kind) c.from_residual-in_err-error-in-None.ensures.1
+
+pub returns-in-Some-clause-faultless : goal.returns-in-Some-clause-faultless
+returns-in-Some-clause-faultless c =
+    let is : app_of c.in_ok-command.command ≡ usage = c.in_ok-command.ensures.ok in
+    let words = map (λ word. word.now) c.args.words.now in
+    sym (ap (λ (a : App). fault_of a words) is) ∙ c.in_ok-matches.ensures.kinds (ap is_simple_and_free is ∙ usage-free)

@@ -28,7 +28,7 @@ push-requires-clause-short c =
     (stands_at c.args.other.now.ty c.args.other.now.values c.loop-i.i (value_of c.get.result) c.get.ensures c.len-length.ensures.fit).1
 
 pub returns-in_err-push-clause-err : goal.returns-in_err-push-clause-err
-returns-in_err-push-clause-err c = on_err c.from_residual.result (c.loop-i.i - c.args.from, c.in_err-push.ensures.err ∙ c.loop-i.invariant)
+returns-in_err-push-clause-err c = on_err c.from_residual.result (c.loop-i.i - c.args.from, omega (arith, c.loop-i-test.true, c.loop-i.auto.i), c.in_err-push.ensures.err ∙ c.loop-i.invariant)
 
 pub loop-i-preserved : goal.loop-i-preserved
 loop-i-preserved c =
