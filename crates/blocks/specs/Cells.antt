@@ -4,8 +4,8 @@ use Rattle.values.specs.declared.value.ColumnType.TheVariants as column
 use Rattle.values.specs.declared.value.Value.TheVariants.{Int, Text, Bool as Truth}
 use Rattle.blocks.specs.declared.block.Cells.{Cells}
 use Rattle.blocks.specs.declared.block.Cells.TheVariants as kept
-use Rattle.blocks.specs.declared.block.Run.{Run}
-use Rattle.blocks.specs.declared.block.Run.TheVariants as lent
+use Rattle.blocks.specs.declared.block.BlockValues.{BlockValues}
+use Rattle.blocks.specs.declared.block.BlockValues.TheVariants as lent
 use Rattle.blocks.specs.Column.{Column}
 
 -- the column that is kept
@@ -15,7 +15,7 @@ column_of (kept.Texts ts) = record { ty = column.Text; values = map Text ts }
 column_of (kept.Truths bs) = record { ty = column.Bool; values = map Truth bs }
 
 -- the column that is lent
-abbrev pub column_of_run : Run → Column
-column_of_run (lent.Ints xs) = record { ty = column.Int; values = map Int xs.now }
-column_of_run (lent.Texts ts) = record { ty = column.Text; values = map Text ts.now }
-column_of_run (lent.Truths bs) = record { ty = column.Bool; values = map Truth bs.now }
+abbrev pub column_of_values : BlockValues → Column
+column_of_values (lent.Ints xs) = record { ty = column.Int; values = map Int xs.now }
+column_of_values (lent.Texts ts) = record { ty = column.Text; values = map Text ts.now }
+column_of_values (lent.Truths bs) = record { ty = column.Bool; values = map Truth bs.now }

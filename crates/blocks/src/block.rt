@@ -6,7 +6,7 @@ ghost use Rattle.values.specs.Shape.{has_type, is_too_long};
 ghost use Rattle.values.specs.declared.value.ColumnType.TheVariants as column;
 ghost use Rattle.values.specs.declared.value.Value.TheVariants.{Int, Text};
 ghost use Rattle.values.specs.declared.limits.TheConstants.{MAX_BLOCK_VALUES};
-ghost use Rattle.blocks.specs.Cells.{column_of, column_of_run};
+ghost use Rattle.blocks.specs.Cells.{column_of, column_of_values};
 ghost use Rattle.blocks.specs.Column.{AllFit};
 
 use crate::bits::Bits;
@@ -25,7 +25,7 @@ pub(crate) enum Cells {
 
 /// A block's values, lent by type: a scan asks for the type once a block, and for no value's.
 #[derive(Clone, Copy)]
-pub enum Run<'a> {
+pub enum BlockValues<'a> {
     Ints(&'a [i64]),
     Texts(&'a Texts),
     Truths(&'a Bits),
@@ -135,13 +135,13 @@ impl Block {
     }
 
     /// The values, lent by type. It takes no memory.
-    pub fn run(&self) -> Run<'_>
-        ensures { column_of_run result ≡ self.now }
+    pub fn values(&self) -> BlockValues<'_>
+        ensures { column_of_values result ≡ self.now }
     {
         match &self.cells {
-            Cells::Ints(ints) => Run::Ints(ints.as_slice()),
-            Cells::Texts(texts) => Run::Texts(texts),
-            Cells::Truths(truths) => Run::Truths(truths),
+            Cells::Ints(ints) => BlockValues::Ints(ints.as_slice()),
+            Cells::Texts(texts) => BlockValues::Texts(texts),
+            Cells::Truths(truths) => BlockValues::Truths(truths),
         }
     }
 

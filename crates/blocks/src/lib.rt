@@ -18,7 +18,7 @@ mod tests;
 mod texts;
 
 pub use bits::Bits;
-pub use block::{Block, Run};
+pub use block::{Block, BlockValues};
 pub use fault::BlockFault;
 pub use laws::{a_payload_is_of_one_list, a_payload_reads_back, what_reads_is_a_payload};
 pub use payload::write_block;

@@ -259,20 +259,20 @@ fn blocks_are_written_and_read_again(rt: HostRuntime) -> Result<(), Fail> {
 }
 
 /// What the run lends: the values with a comma between two.
-fn run_shown(alloc: Global, run: Run<'_>) -> Result<String, Fail> {
+fn values_shown(alloc: Global, run: BlockValues<'_>) -> Result<String, Fail> {
     let mut text = String::new(alloc);
     match run {
-        Run::Ints(ints) => {
+        BlockValues::Ints(ints) => {
             for number in ints {
                 write!(text, "{number},")?;
             }
         }
-        Run::Texts(texts) => {
+        BlockValues::Texts(texts) => {
             for i in 0..texts.len() {
                 write!(text, "{},", texts.get(i))?;
             }
         }
-        Run::Truths(truths) => {
+        BlockValues::Truths(truths) => {
             for i in 0..truths.len() {
                 write!(text, "{},", truths.get(i))?;
             }
@@ -292,8 +292,8 @@ fn a_block_and_its_copy_lend_their_values(rt: HostRuntime) -> Result<(), Fail> {
         let values = samples(rt.alloc(), ty, 3)?;
         let block = Block::from_values(rt.alloc(), ty, &values)?;
         let copied = block.copy()?;
-        assert_eq!(rt; run_shown(rt.alloc(), block.run())?.as_str(), lent);
-        assert_eq!(rt; run_shown(rt.alloc(), copied.run())?.as_str(), lent);
+        assert_eq!(rt; values_shown(rt.alloc(), block.values())?.as_str(), lent);
+        assert_eq!(rt; values_shown(rt.alloc(), copied.values())?.as_str(), lent);
     }
     Ok(())
 }
@@ -342,7 +342,7 @@ fn a_refused_push_leaves_the_block(rt: HostRuntime) -> Result<(), Fail> {
             Ok(()) => after,
             Err(NoMemory) => before,
         };
-        assert_eq!(rt; run_shown(rt.alloc(), block.run())?.as_str(), left);
+        assert_eq!(rt; values_shown(rt.alloc(), block.values())?.as_str(), left);
     }
     Ok(())
 }

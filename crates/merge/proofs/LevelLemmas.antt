@@ -100,7 +100,7 @@ module _ (key_cols : ℕ) where
       both (nat_le n e.sid) _ (of_le n e.sid le)
       (all_from-weaken n e.sid es le (from_head e es (first (list_all (λ y. is_lt (entry_cmp key_cols e y)) es) _ h)))
 
--- ---- a run without entries
+-- ---- a stretch without entries
 
 take_drop_zero : (n : ℕ) → n + 0 ≡ n
 take_drop_zero n = omega arith

@@ -7,7 +7,7 @@ pub mod StepLemmas
 pub mod PlaceLemmas
 pub mod LeftLemmas
 pub mod RangeLemmas
-pub mod RunLemmas
+pub mod StretchLemmas
 pub mod KeyLemmas
 pub mod FixtureLemmas
 pub mod TableLemmas

@@ -36,7 +36,7 @@ pub drop_twice : {X : Type 0} (j k l : ℕ) (xs : List X) → l ≡ j + k → dr
 drop_twice j k l xs is = drop-drop k j xs ∙ ap (λ m. drop m xs) (sym is)
 
 module _ (key_cols : ℕ) where
-  -- a run without entries comes before
+  -- a stretch without entries comes before
   past_gap : (j n m k s : ℕ) (base : List Row) (x : Entry) (before after : List Entry) → m ≡ n + j → j ≤ k → k ≤ length base → T (all_from m (x ∷ before ++ after)) → IsReached m (k - j) s (drop j base) (x ∷ before) after → IsReached n k s base (x ∷ before) after
   past_gap j n m k s base x before after is le short far h =
       let split : k ≡ j + (k - j) = omega arith in

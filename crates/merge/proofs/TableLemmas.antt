@@ -16,12 +16,12 @@ use Rattle.stable.proofs.CallerLemmas.{no_build_fault}
 use Rattle.stable.proofs.RowsLemmas.{fit_at, width_of}
 use Rattle.stable.proofs.StableLemmas.{all_shaped}
 use Rattle.merge.specs.Fitting.{StandsAt}
-use Rattle.merge.specs.Runs.{run_rows, IsStableRun}
-use Rattle.merge.specs.declared.run.Run.TheVariants.{Stable, Row as One}
-use Rattle.merge.specs.declared.run.StableRun.{StableRun}
+use Rattle.merge.specs.Stretches.{stretch_rows, IsStableStretch}
+use Rattle.merge.specs.declared.stretch.Stretch.TheVariants.{Stable, Row as One}
+use Rattle.merge.specs.declared.stretch.StableStretch.{StableStretch}
 use Rattle.merge.specs.View.{row_of}
 use Rattle.merge.specs.declared.view.RowView.{RowView}
-use Rattle.merge.proofs.RunLemmas.{run_next}
+use Rattle.merge.proofs.StretchLemmas.{stretch_next}
 
 -- a value is of one type
 same_type : (a b : ColumnType) (v : Value) → has_type a v ≡ true → has_type b v ≡ true → a ≡ b
@@ -47,19 +47,19 @@ same_type column.Bool column.Text (Int x) p q = cc p
 same_type column.Bool column.Text (Text x) p q = cc p
 same_type column.Bool column.Text (Truth x) p q = cc q
 
--- a run of stable rows has the column, and it is of the type
-module _ (ty : ColumnType) (col : ℕ) (run : StableRun) (is : IsStableRun run) (kept : IsStable run.table.now) (stand : All (StandsAt ty col) (run_rows (Stable run))) where
+-- a stretch of stable rows has the column, and it is of the type
+module _ (ty : ColumnType) (col : ℕ) (stretch : StableStretch) (is : IsStableStretch stretch) (kept : IsStable stretch.table.now) (stand : All (StandsAt ty col) (stretch_rows (Stable stretch))) where
   abbrev types : List ColumnType
-  types = run.table.now.schema.types
+  types = stretch.table.now.schema.types
 
   abbrev first : Row
-  first = get_or run.table.now.rows run.sid []
+  first = get_or stretch.table.now.rows stretch.sid []
 
   first_stands : StandsAt ty col first
-  first_stands = All-head (StandsAt ty col) first (take (run.len - 1) (drop (run.sid + 1) run.table.now.rows)) (subst (All (StandsAt ty col)) (run_next run is) stand)
+  first_stands = All-head (StandsAt ty col) first (take (stretch.len - 1) (drop (stretch.sid + 1) stretch.table.now.rows)) (subst (All (StandsAt ty col)) (stretch_next stretch is) stand)
 
   shaped : list_fault types first ≡ None
-  shaped = all_shaped run.table.now.schema run.table.now.rows (no_build_fault run.table.now.schema run.table.now.rows kept) run.sid [] (omega (arith, is.some, is.within))
+  shaped = all_shaped stretch.table.now.schema stretch.table.now.rows (no_build_fault stretch.table.now.schema stretch.table.now.rows kept) stretch.sid [] (omega (arith, is.some, is.within))
 
   pub has_column : col < length types
   has_column = omega (arith, first_stands.wide, width_of types first shaped)
@@ -67,13 +67,13 @@ module _ (ty : ColumnType) (col : ℕ) (run : StableRun) (is : IsStableRun run) 
   pub column_type : get_or types col column.Int ≡ ty
   column_type = same_type (get_or types col column.Int) ty (get_or first col (Truth false)) (fit_at types first col has_column shaped).typed first_stands.typed
 
-  pub run_values : take run.len (drop run.sid (column_values col run.table.now.rows)) ≡ column_values col (run_rows (Stable run))
-  run_values =
+  pub stretch_values : take stretch.len (drop stretch.sid (column_values col stretch.table.now.rows)) ≡ column_values col (stretch_rows (Stable stretch))
+  stretch_values =
       let cell = λ (row : Row). get_or row col (Truth false) in
-      ap (take run.len) (drop-map cell run.sid run.table.now.rows) ∙ take-map cell run.len (drop run.sid run.table.now.rows)
+      ap (take stretch.len) (drop-map cell stretch.sid stretch.table.now.rows) ∙ take-map cell stretch.len (drop stretch.sid stretch.table.now.rows)
 
 -- the value of a single row is of the type, and no long text
-module _ (ty : ColumnType) (col : ℕ) (view : RowView) (v : Value) (stand : All (StandsAt ty col) (run_rows (One view))) (e : slice_get (row_of view) col ≡ Some v) where
+module _ (ty : ColumnType) (col : ℕ) (view : RowView) (v : Value) (stand : All (StandsAt ty col) (stretch_rows (One view))) (e : slice_get (row_of view) col ≡ Some v) where
   cell_is : get_or (row_of view) col (Truth false) ≡ v
   cell_is = get_or_from_slice_get (row_of view) col v (Truth false) e
 
@@ -83,7 +83,7 @@ module _ (ty : ColumnType) (col : ℕ) (view : RowView) (v : Value) (stand : All
   pub view_short : is_too_long v ≡ false
   view_short = ap is_too_long (sym cell_is) ∙ (All-head (StandsAt ty col) (row_of view) [] stand).short
 
-  pub view_values : v ∷ [] ≡ column_values col (run_rows (One view))
+  pub view_values : v ∷ [] ≡ column_values col (stretch_rows (One view))
   view_values = ap (λ x. x ∷ []) (sym cell_is)
 
 -- ---- all rows
@@ -103,7 +103,7 @@ module _ (ty : ColumnType) (col : ℕ) (rows rest all : List Row) (is : all ≡ 
   pub right_stand : All (StandsAt ty col) rest
   right_stand = λ k d lt. subst (λ (row : Row). StandsAt ty col row) (ap (λ rs. get_or rs (length rows + k) d) is ∙ get_or-append_right rows rest (length rows) (length rows + k) d refl (omega arith) ∙ ap (λ n. get_or rest n d) (omega arith)) (stand (length rows + k) d (omega (arith, lt, ap (λ (rs : List Row). length rs) is, length-append rows rest)))
 
-  -- the values of a run go from those that are left to those so far
+  -- the values of a stretch go from those that are left to those so far
   pub values_move : (old : List Value) (done : List Value) → old ++ column_values col all ≡ done → (old ++ column_values col rows) ++ column_values col rest ≡ done
   values_move old done e =
       append_assoc old (column_values col rows) (column_values col rest)

@@ -4,8 +4,8 @@ use Rattle.values.specs.declared.row.Row.{Row}
 use Rattle.values.specs.declared.limits.TheConstants.{MAX_ROWS}
 use Rattle.merge.specs.Cursor.{rows_left, IsCursor}
 use Rattle.merge.specs.declared.view.Layer.TheVariants.{Read, Write, Trans}
-use Rattle.merge.specs.declared.rows.StableRows.{StableRows}
-use Rattle.merge.specs.declared.rows.Level.{Level}
+use Rattle.merge.specs.declared.level.StableRows.{StableRows}
+use Rattle.merge.specs.declared.level.Level.{Level}
 
 abbrev pub stable_left : StableRows → List Row
 stable_left r = drop r.sid r.table.now.rows

@@ -2,6 +2,6 @@ pub mod Image
 pub mod Level
 pub mod View
 pub mod Cursor
-pub mod Runs
+pub mod Stretches
 pub mod Left
 pub mod Fitting

@@ -1,25 +1,24 @@
-//! The image of a stable table under its three layers of changes: rows by position, the rank of a key, scans and runs
+//! The image of a stable table under its three layers of changes: rows by position, the rank of a key, scans and stretches
 //! (Héman et al. 2010, "MergeScan"). Everything is lent; no call but the copy of a row takes memory.
 //!
 //! *What a contract sees.* Layers are the schema, the stable rows and the entries of three trees; the image is what each
-//! tree in turn makes of the rows below it. A view is its row, a scan the rows that are left, and so are runs.
+//! tree in turn makes of the rows below it. A view is its row, a scan the rows that are left, and so are stretches.
 //!
 //! *What it stands on.* `stable` for the rows, `delta` for the trees, `model` for what merged rows are; in tests `oracle`
 //! for images to compare with.
 #![tactic(auto)]
 
 mod cursor;
+mod layers;
 mod level;
-mod rows;
-mod run;
 mod scan;
-mod stack;
+mod stretch;
 mod table;
 #[cfg(test)]
 mod tests;
 mod view;
 
-pub use run::{Run, StableRun};
-pub use scan::{MergeScan, Runs};
-pub use stack::Layers;
+pub use layers::Layers;
+pub use scan::{MergeScan, Stretches};
+pub use stretch::{StableStretch, Stretch};
 pub use view::RowView;

@@ -1,26 +1,26 @@
-//! Walks over a range of the image: run by run, and row by row (Héman et al. 2010, "MergeScan").
+//! Walks over a range of the image: stretch by stretch, and row by row (Héman et al. 2010, "MergeScan").
 ghost use Rattle.std.specs.Prelude.{◌≡◌, ◌++◌, ◌≤◌, ◌<◌, ◌^◌, min, length, drop, take, Some};
 ghost use Rattle.std.specs.Iterator.{YieldsFirstBy, at_most};
 ghost use Rattle.merge.specs.View.{row_of};
-ghost use Rattle.merge.specs.Runs.{YieldsRun};
+ghost use Rattle.merge.specs.Stretches.{YieldsStretch};
 
-use crate::rows::{Image, Rows};
-use crate::run::{Run, StableRun};
+use crate::level::{Image, Rows};
+use crate::stretch::{StableStretch, Stretch};
 use crate::view::RowView;
 use delta::DeltaTree;
 use stable::StableTable;
 use std::iter::FusedIterator;
 use std::marker::Model;
 
-/// The runs that are left of a range of the image, in order. A contract sees them as their rows.
+/// The stretches that are left of a range of the image, in order. A contract sees them as their rows.
 #[derive(Drop)]
-pub struct Runs<'a> {
+pub struct Stretches<'a> {
     rows: Image<'a>,
     /// How many rows are wanted of those that are left.
     left: u64,
 }
 
-impl<'a> Model for Runs<'a> {
+impl<'a> Model for Stretches<'a> {
     ghost use Rattle.std.specs.Prelude.{List, ◌≤◌, ◌<◌, ◌^◌, length, take};
     ghost use Rattle.values.specs.declared.row.Row.{Row};
 
@@ -33,17 +33,17 @@ impl<'a> Model for Runs<'a> {
     ghost invariant = { λ r. AreCursors r.rows × (r.left ≤ length (image_left r.rows)) × (r.left < 2 ^ 62) };
 }
 
-impl<'a> Runs<'a> {
+impl<'a> Stretches<'a> {
     ghost use Rattle.merge.specs.Left.{AreCursors, image_left};
 
-    /// The runs of so many rows.
-    pub(crate) fn new(rows: Image<'a>, left: u64) -> Runs<'a>
+    /// The stretches of so many rows.
+    pub(crate) fn new(rows: Image<'a>, left: u64) -> Stretches<'a>
         requires cursors { AreCursors rows }
         requires left { left ≤ length (image_left rows) }
         requires few { left < 2 ^ 62 }
         ensures { result ≡ take left (image_left rows.entry) }
     {
-        Runs { rows, left }
+        Stretches { rows, left }
     }
 
     /// How many rows are left.
@@ -55,24 +55,24 @@ impl<'a> Runs<'a> {
     }
 }
 
-impl<'a> Iterator for Runs<'a> {
-    type Item = Run<'a>;
+impl<'a> Iterator for Stretches<'a> {
+    type Item = Stretch<'a>;
 
-    ghost next_gives = { λ s r t. YieldsRun s r t };
+    ghost next_gives = { λ s r t. YieldsStretch s r t };
 
     ghost remaining = { λ s. at_most (length s) };
 
-    fn next(&mut self) -> Option<Run<'a>> {
-        let Runs { rows, left } = self;
+    fn next(&mut self) -> Option<Stretch<'a>> {
+        let Stretches { rows, left } = self;
         if *left == 0 {
             return None;
         }
-        let run = rows.next_run(*left);
-        *left -= run.count();
-        Some(run)
+        let stretch = rows.next_stretch(*left);
+        *left -= stretch.count();
+        Some(stretch)
     }
 
-    /// At least one run where a row is left, and no more than there are rows.
+    /// At least one stretch where a row is left, and no more than there are rows.
     fn size_hint(&self) -> (usize, Option<usize>)
         ensures least { result.0 ≡ min 1 (length self.now) }
         ensures most { result.1 ≡ Some (length self.now) }
@@ -82,15 +82,15 @@ impl<'a> Iterator for Runs<'a> {
     }
 }
 
-impl<'a> FusedIterator for Runs<'a> {}
+impl<'a> FusedIterator for Stretches<'a> {}
 
 /// The rows that are left of a range of the image, in order, lent one by one. A row between two entries costs an
 /// increment; no key of a stable row is read. A contract sees them as their rows.
 #[derive(Drop)]
 pub struct MergeScan<'a> {
-    runs: Runs<'a>,
-    /// What is left of the run that was begun.
-    run: StableRun<'a>,
+    stretches: Stretches<'a>,
+    /// What is left of the stretch that was begun.
+    stretch: StableStretch<'a>,
     /// A tree for the views, which don't look into it.
     tree: &'a DeltaTree,
 }
@@ -102,22 +102,30 @@ impl<'a> Model for MergeScan<'a> {
 
     ghost Value = { List Row };
 
-    ghost view = { λ s. take s.run.len (drop s.run.sid s.run.table.now.rows) ++ s.runs };
+    ghost view = { λ s. take s.stretch.len (drop s.stretch.sid s.stretch.table.now.rows) ++ s.stretches };
 
-    ghost invariant = { λ s. (s.run.sid + s.run.len ≤ length s.run.table.now.rows) × (length s.run.table.now.rows ≤ MAX_ROWS) };
+    ghost invariant = { λ s. (s.stretch.sid + s.stretch.len ≤ length s.stretch.table.now.rows) × (length s.stretch.table.now.rows ≤ MAX_ROWS) };
 }
 
 impl<'a> MergeScan<'a> {
-    /// The rows of these runs.
-    pub(crate) fn new(table: &'a StableTable, runs: Runs<'a>, tree: &'a DeltaTree) -> MergeScan<'a>
-        ensures { result ≡ runs.entry }
+    /// The rows of these stretches.
+    pub(crate) fn new(
+        table: &'a StableTable,
+        stretches: Stretches<'a>,
+        tree: &'a DeltaTree,
+    ) -> MergeScan<'a>
+        ensures { result ≡ stretches.entry }
     {
-        let run = StableRun {
+        let stretch = StableStretch {
             table,
             sid: table.len(),
             len: 0,
         };
-        MergeScan { runs, run, tree }
+        MergeScan {
+            stretches,
+            stretch,
+            tree,
+        }
     }
 }
 
@@ -129,15 +137,15 @@ impl<'a> Iterator for MergeScan<'a> {
     ghost remaining = { λ s. at_most (length s) };
 
     fn next(&mut self) -> Option<RowView<'a>> {
-        if self.run.len > 0 {
-            return Some(self.run.next_view(self.tree));
+        if self.stretch.len > 0 {
+            return Some(self.stretch.next_view(self.tree));
         }
-        match self.runs.next()? {
-            Run::Row(view) => Some(view),
-            Run::Stable(run) => {
-                let mut rest = run;
+        match self.stretches.next()? {
+            Stretch::Row(view) => Some(view),
+            Stretch::Stable(stretch) => {
+                let mut rest = stretch;
                 let view = rest.next_view(self.tree);
-                self.run = rest;
+                self.stretch = rest;
                 Some(view)
             }
         }
@@ -156,7 +164,7 @@ impl<'a> Iterator for MergeScan<'a> {
 impl<'a> ExactSizeIterator for MergeScan<'a> {
     /// How many rows are left.
     fn len(&self) -> usize {
-        (self.run.len + self.runs.rows_left()) as usize
+        (self.stretch.len + self.stretches.rows_left()) as usize
     }
 }
 

@@ -5,10 +5,10 @@ ghost use Rattle.values.specs.declared.limits.TheConstants.{MAX_ROWS};
 ghost use Rattle.stable.specs.Rows.{column_at, column_values};
 ghost use Rattle.merge.specs.Fitting.{StandsAt};
 ghost use Rattle.merge.specs.Image.{image_rows};
-ghost use Rattle.merge.specs.Runs.{IsRun, run_rows};
+ghost use Rattle.merge.specs.Stretches.{IsStretch, stretch_rows};
 
-use crate::run::Run;
-use crate::stack::Layers;
+use crate::layers::Layers;
+use crate::stretch::Stretch;
 use stable::{Column, StableTable};
 use std::alloc::Global;
 use values::NoMemory;
@@ -42,26 +42,30 @@ impl<'a> Layers<'a> {
         ensures { IfOk result (λ column. column ≡ column_at self.now.schema.types (image_rows self.now) col) }
     {
         let mut column = Column::new(alloc, self.schema().types()[col]);
-        for run in self.runs(0, self.len()) {
-            add_run(&mut column, run, col)?;
+        for stretch in self.stretches(0, self.len()) {
+            add_stretch(&mut column, stretch, col)?;
         }
         Ok(column)
     }
 }
 
-/// Puts the values of a run's rows in one column after the others.
-fn add_run(column: &mut Column, run: Run<'_>, col: usize) -> Result<(), NoMemory>
-    requires is { IsRun 3 run }
-    requires stand { All (StandsAt column.old.ty col) (run_rows run) }
-    requires room { length column.old.values + length (run_rows run) < 2 ^ 63 }
-    ensures { OnOk result (column.new ≡ record column.old { values = column.old.values ++ column_values col (run_rows run.entry) }) }
+/// Puts the values of a stretch's rows in one column after the others.
+fn add_stretch(column: &mut Column, stretch: Stretch<'_>, col: usize) -> Result<(), NoMemory>
+    requires is { IsStretch 3 stretch }
+    requires stand { All (StandsAt column.old.ty col) (stretch_rows stretch) }
+    requires room { length column.old.values + length (stretch_rows stretch) < 2 ^ 63 }
+    ensures { OnOk result (column.new ≡ record column.old { values = column.old.values ++ column_values col (stretch_rows stretch.entry) }) }
 {
-    match run {
-        Run::Stable(run) => {
-            let width = run.table.schema().width();
+    match stretch {
+        Stretch::Stable(stretch) => {
+            let width = stretch.table.schema().width();
             prove!(col < width);
-            column.extend_from(run.table.column(col), run.sid as usize, run.len as usize)
+            column.extend_from(
+                stretch.table.column(col),
+                stretch.sid as usize,
+                stretch.len as usize,
+            )
         }
-        Run::Row(view) => column.push(view.value(col)),
+        Stretch::Row(view) => column.push(view.value(col)),
     }
 }

@@ -243,13 +243,13 @@ fn shown_at(alloc: Global, layers: &Layers<'_>, rid: u64) -> Result<String, Fail
     Ok(text)
 }
 
-/// How many rows the runs of a range have.
-fn rows_in_runs(layers: &Layers<'_>, from: u64, to: u64) -> u64 {
+/// How many rows the stretches of a range have.
+fn rows_in_stretches(layers: &Layers<'_>, from: u64, to: u64) -> u64 {
     let mut count = 0_u64;
-    for run in layers.runs(from, to) {
-        let rows = match run {
-            Run::Stable(stable) => stable.len,
-            Run::Row(_) => 1,
+    for stretch in layers.stretches(from, to) {
+        let rows = match stretch {
+            Stretch::Stable(stable) => stable.len,
+            Stretch::Row(_) => 1,
         };
         count = count.wrapping_add(rows);
     }
@@ -257,7 +257,7 @@ fn rows_in_runs(layers: &Layers<'_>, from: u64, to: u64) -> u64 {
 }
 
 #[test]
-fn three_layers_make_one_image(rt: HostRuntime) -> Result<(), Fail> {
+fn three_layers_make_one_image(rt: HostStretchtime) -> Result<(), Fail> {
     let alloc = rt.alloc();
     let rows = rows_of(alloc, BASE.as_slice())?;
     let stack = stepped(
@@ -295,14 +295,14 @@ fn three_layers_make_one_image(rt: HostRuntime) -> Result<(), Fail> {
     }
     assert_eq!(rt; layers.scan(1, 9).len(), 3);
     assert_eq!(rt; layers.scan(1, 9).size_hint(), (3, Some(3)));
-    assert_eq!(rt; layers.runs(1, 9).size_hint(), (1, Some(3)));
-    assert_eq!(rt; layers.runs(1, 9).rows_left(), 3);
-    assert_eq!(rt; rows_in_runs(&layers, 1, 9), 3);
+    assert_eq!(rt; layers.stretches(1, 9).size_hint(), (1, Some(3)));
+    assert_eq!(rt; layers.stretches(1, 9).rows_left(), 3);
+    assert_eq!(rt; rows_in_stretches(&layers, 1, 9), 3);
     Ok(())
 }
 
 #[test]
-fn images_at_the_edges(rt: HostRuntime) -> Result<(), Fail> {
+fn images_at_the_edges(rt: HostStretchtime) -> Result<(), Fail> {
     let no_rows: &'static [Named] = &[];
     let cases: [Case; 4] = [
         (
@@ -419,7 +419,7 @@ fn is_table_of(alloc: Global, table: &StableTable, rows: &[Row]) -> Result<bool,
 }
 
 #[test]
-fn a_thousand_rows_are_as_the_plain_program_merges_them(rt: HostRuntime) -> Result<(), Fail> {
+fn a_thousand_rows_are_as_the_plain_program_merges_them(rt: HostStretchtime) -> Result<(), Fail> {
     let alloc = rt.alloc();
     let mut rows = Vec::new(alloc);
     for index in 0..1_000_u16 {

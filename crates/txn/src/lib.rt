@@ -20,7 +20,7 @@ mod writes;
 
 pub use delta::DeltaTree;
 pub use fault::WriteFault;
-pub use merge::{MergeScan, RowView, Run, Runs, StableRun};
+pub use merge::{MergeScan, RowView, Stretch, Stretches, StableStretch};
 pub use model::{Write, WriteReply};
 pub use parts::Parts;
 pub use transaction::Txn;

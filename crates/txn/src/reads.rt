@@ -6,7 +6,7 @@ ghost use Rattle.model.specs.Table.{rank, row_at, rows_of};
 ghost use Rattle.merge.specs.View.{row_of};
 
 use crate::transaction::Txn;
-use merge::{MergeScan, RowView, Runs};
+use merge::{MergeScan, RowView, Stretches};
 use stable::StableTable;
 use std::alloc::Global;
 use values::{Key, NoMemory};
@@ -45,12 +45,12 @@ impl Txn {
         self.layers().scan(from, to)
     }
 
-    /// The runs of those rows, in order: stable rows that stand together as they are, to be read column by column, and
+    /// The stretches of those rows, in order: stable rows that stand together as they are, to be read column by column, and
     /// rows that a layer inserts or modifies.
-    pub fn runs(&self, from: u64, to: u64) -> Runs<'_>
+    pub fn stretches(&self, from: u64, to: u64) -> Stretches<'_>
         ensures { result ≡ drop from (take to (rows_of (image_of self.now))) }
     {
-        self.layers().runs(from, to)
+        self.layers().stretches(from, to)
     }
 
     /// Those rows as a stable table, column by column.

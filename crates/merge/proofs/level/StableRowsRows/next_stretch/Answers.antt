@@ -1,0 +1,10 @@
+use Rattle.std.proofs.Common.{◌∙◌, ◌++◌, List, take, drop, sym, ap, take-append-drop}
+use Rattle.std.proofs.lemmas.List.{drop-drop}
+use Rattle.values.specs.declared.row.Row.{Row as Cells}
+use Rattle.merge.proofs.level.StableRowsRows.next_stretch.Goals as goal
+
+pub returns-clause-rows : goal.returns-clause-rows
+returns-clause-rows c =
+    let rows = c.args.self.now.table.now.rows in
+    let left : List Cells = drop c.args.self.now.sid rows in
+    sym (take-append-drop c.args.most left) ∙ ap (λ (ys : List Cells). take c.args.most left ++ ys) (drop-drop c.args.most c.args.self.now.sid rows)

@@ -1,0 +1,168 @@
+//! The layers, and what stands where in their image.
+ghost use Rattle.std.specs.Prelude.{◌≡◌, ◌↔◌, ◌≤◌, ◌<◌, IsTrue, [], length, drop, take, slice_get, is_some};
+ghost use Rattle.std.specs.Option.{option_map};
+ghost use Rattle.model.specs.Table.{IsTable, rank, row_at};
+ghost use Rattle.merge.specs.Image.{image_rows, image_table};
+ghost use Rattle.merge.specs.View.{row_of};
+
+use crate::cursor::Cursor;
+use crate::level::{Image, Level, Rows, StableRows, grown, locate_over};
+use crate::scan::{MergeScan, Stretches};
+use crate::view::{Layer, RowView};
+use delta::DeltaTree;
+use stable::StableTable;
+use std::marker::Model;
+use values::{Key, Schema, Value};
+
+/// A stable table under its Read-, Write- and Trans-PDT, all lent (Héman et al. 2010, "Transaction management").
+#[derive(Drop)]
+pub struct Layers<'a> {
+    stable: &'a StableTable,
+    read: &'a DeltaTree,
+    write: &'a DeltaTree,
+    trans: &'a DeltaTree,
+    /// How many rows the image has.
+    len: u64,
+}
+
+impl<'a> Model for Layers<'a> {
+    ghost use Rattle.std.specs.Prelude.{◌≡◌};
+    ghost use Rattle.merge.specs.Image.{Stack, stack_of};
+    ghost use Rattle.merge.specs.Level.{AreKept};
+
+    ghost Value = { Stack };
+
+    ghost view = { λ l. stack_of l.stable.now l.read.now l.write.now l.trans.now };
+
+    ghost invariant = { λ l. AreKept l.stable.now l.read.now l.write.now l.trans.now l.len };
+}
+
+impl<'a> Layers<'a> {
+    ghost use Rattle.merge.specs.Image.{AreStacked, stack_of};
+    ghost use Rattle.merge.specs.Left.{AreCursors, image_left};
+
+    /// The layers over the table, each tree over the image of those below it. It takes no memory.
+    pub fn new(
+        stable: &'a StableTable,
+        read: &'a DeltaTree,
+        write: &'a DeltaTree,
+        trans: &'a DeltaTree,
+    ) -> Layers<'a>
+        requires { AreStacked stable.now read.now write.now trans.now }
+        ensures { result ≡ stack_of stable.now read.now write.now trans.now }
+    {
+        let under_read = grown(stable.len(), read);
+        let under_write = grown(under_read, write);
+        Layers {
+            stable,
+            read,
+            write,
+            trans,
+            len: grown(under_write, trans),
+        }
+    }
+
+    /// The columns of the rows.
+    pub fn schema(&self) -> &'a Schema
+        ensures { result.now ≡ self.now.schema }
+    {
+        self.stable.schema()
+    }
+
+    /// How many rows the image has.
+    pub fn len(&self) -> u64
+        ensures count { result ≡ length (image_rows self.now) }
+
+        // The image is that of a table: its rows ascend by their keys and fit the schema.
+        ensures table { IsTable self.now.schema (image_table self.now) }
+    {
+        self.len
+    }
+
+    /// Whether the image has no rows.
+    pub fn is_empty(&self) -> bool
+        ensures { IsTrue result ↔ (image_rows self.now ≡ []) }
+    {
+        self.len == 0
+    }
+
+    /// The row at a position, lent, or none past the end. Each tree is gone over up to the place, until its entries carry
+    /// counts; the stable table is not searched, and no memory is taken.
+    pub fn row_at(&self, rid: u64) -> Option<RowView<'a>>
+        ensures { option_map row_of result ≡ slice_get (image_rows self.now) rid }
+    {
+        if rid < self.len {
+            let mut rows = self.rows_from(rid);
+            Some(rows.next_stretch(1).first(self.trans))
+        } else {
+            None
+        }
+    }
+
+    /// The stretches of the rows from one position up to another, and without that; both are cut to the length of the image.
+    pub fn stretches(&self, from: u64, to: u64) -> Stretches<'a>
+        ensures { result ≡ drop from (take to (image_rows self.now)) }
+    {
+        let start = from.min(self.len);
+        let end = to.min(self.len);
+        Stretches::new(self.rows_from(start), end.saturating_sub(start))
+    }
+
+    /// The rows from one position up to another, and without that; both are cut to the length of the image. No memory is
+    /// taken.
+    pub fn scan(&self, from: u64, to: u64) -> MergeScan<'a>
+        ensures { result ≡ drop from (take to (image_rows self.now)) }
+    {
+        MergeScan::new(self.stable, self.stretches(from, to), self.trans)
+    }
+
+    /// How many rows have a key below this one, and whether a row has the key: by halving in the stable table and in each
+    /// tree, with a count of the entries before the key's place there. No memory is taken.
+    pub fn rank(&self, key: &Key) -> (u64, bool)
+        ensures rank { result.0 ≡ rank key.now (image_table self.now) }
+        ensures there { result.1 ≡ is_some (row_at (image_table self.now) key.now) }
+    {
+        self.locate(key.cells())
+    }
+
+    /// The same for the key of these cells.
+    pub fn locate(&self, key: &[Value]) -> (u64, bool)
+        ensures rank { result.0 ≡ rank key.now (image_table self.now) }
+        ensures there { result.1 ≡ is_some (row_at (image_table self.now) key.now) }
+    {
+        let in_stable = self.stable.locate(key);
+        let in_read = locate_over(self.read, in_stable, key);
+        let in_write = locate_over(self.write, in_read, key);
+        locate_over(self.trans, in_write, key)
+    }
+
+    /// What is left of the image from a position on.
+    fn rows_from(&self, rid: u64) -> Image<'a>
+        requires { rid ≤ length (image_rows self.now) }
+        ensures rows { image_left result ≡ drop rid (image_rows self.now) }
+        ensures cursors { AreCursors result }
+    {
+        let trans = Cursor::at(self.trans, rid);
+        let write = Cursor::at(self.write, trans.sid());
+        let read = Cursor::at(self.read, write.sid());
+        let stable = StableRows {
+            table: self.stable,
+            sid: read.sid(),
+        };
+        let under_read = Level {
+            below: stable,
+            cursor: read,
+            layer: Layer::Read,
+        };
+        let under_write = Level {
+            below: under_read,
+            cursor: write,
+            layer: Layer::Write,
+        };
+        Level {
+            below: under_write,
+            cursor: trans,
+            layer: Layer::Trans,
+        }
+    }
+}

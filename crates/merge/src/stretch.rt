@@ -1,0 +1,65 @@
+//! A stretch of rows that stand together.
+ghost use Rattle.std.specs.Prelude.{◌≡◌, ℕ, ◌+◌, ◌-◌, ◌∷◌, length, drop};
+ghost use Rattle.merge.specs.View.{IsBare, row_of};
+ghost use Rattle.merge.specs.Stretches.{IsStretch, IsStableStretch, stretch_rows};
+ghost use Rattle.merge.specs.declared.stretch.Stretch.TheVariants.{Stable};
+
+use crate::view::RowView;
+use delta::DeltaTree;
+use stable::StableTable;
+
+/// Rows of a stable table that no layer changes: so many, from the SID on.
+#[derive(Clone, Copy)]
+pub struct StableStretch<'a> {
+    pub table: &'a StableTable,
+    pub sid: u64,
+    pub len: u64,
+}
+
+/// Rows of the image that stand together and come from one place.
+#[derive(Clone, Copy)]
+pub enum Stretch<'a> {
+    /// Stable rows as they are.
+    Stable(StableStretch<'a>),
+    /// A row that a layer inserts or modifies.
+    Row(RowView<'a>),
+}
+
+impl<'a> StableStretch<'a> {
+    /// The first row of the stretch, which goes on after it. The view keeps the tree, and doesn't look into it.
+    pub(crate) fn next_view(&mut self, tree: &'a DeltaTree) -> RowView<'a>
+        requires { IsStableStretch self.old }
+        ensures rows { stretch_rows (Stable self.old) ≡ row_of result ∷ stretch_rows (Stable self.new) }
+        ensures moved { self.new ≡ record self.old { sid = self.old.sid + 1; len = self.old.len - 1 } }
+    {
+        let view = RowView::stable(self.table, self.sid, tree);
+        self.sid += 1;
+        self.len -= 1;
+        view
+    }
+}
+
+impl<'a> Stretch<'a> {
+    /// How many rows the stretch has.
+    pub(crate) fn count(&self) -> u64
+        requires { (depth : ℕ) × IsStretch depth self.now }
+        ensures { result ≡ length (stretch_rows self.now) }
+    {
+        match self {
+            Stretch::Stable(stretch) => stretch.len,
+            Stretch::Row(_) => 1,
+        }
+    }
+
+    /// The first row of the stretch. The view keeps the tree, and doesn't look into it.
+    pub(crate) fn first(&self, tree: &'a DeltaTree) -> RowView<'a>
+        requires { (depth : ℕ) × IsStretch depth self.now }
+        ensures row { stretch_rows self.now ≡ row_of result ∷ drop 1 (stretch_rows self.now) }
+        ensures bare { (depth : ℕ) → IsStretch depth self.now → IsBare depth result }
+    {
+        match self {
+            Stretch::Stable(stretch) => RowView::stable(stretch.table, stretch.sid, tree),
+            Stretch::Row(view) => *view,
+        }
+    }
+}
