@@ -16,8 +16,8 @@ use Rattle.blocks.proofs.LawsLemmas.{reads_back}
 use Rattle.columns.specs.declared.frame.Frame.{Frame}
 use Rattle.columns.specs.declared.frame.Frame.TheVariants.{Header, Block, End}
 use Rattle.columns.specs.declared.frame.Part.{Part}
-use Rattle.columns.specs.declared.place.Place.{Place}
-use Rattle.columns.specs.Column.{flag_byte, head_of, head_bytes, frame_bytes, column_bytes, may_stand, IsPartAt, IsFrameAt, AreFramesAt, IsColumn, start, place_after, place_after_all, head_at, is_cut_block, is_rest}
+use Rattle.columns.specs.declared.seam.Seam.{Seam}
+use Rattle.columns.specs.Column.{flag_byte, head_of, head_bytes, frame_bytes, column_bytes, may_stand, IsPartAt, IsFrameAt, AreFramesAt, IsColumn, start, seam_after, seam_after_all, head_at, is_cut_block, is_rest}
 use Rattle.columns.specs.Reading.{◌>>=◌, found_then, AreWanted, header_at, part_of, payload_at, part_at, frame_at, frames_at, frames_of}
 use Rattle.columns.proofs.FrameLemmas.{ok_is, header_again, head_again, part_at-stands}
 
@@ -69,8 +69,8 @@ payload_again col at part rest is =
     ap (λ b. Ok (Some (Block (record { generation = part.generation; number = part.number; last = b; block = part.block }), rest))) (flag_again part.last) in
     rw enough (ap (λ r. part_of col at h ty (drop (length payload) (payload ++ rest)) r) read ∙ ap (λ x. part_of col at h ty x (Ok values)) back ∙ last)
 
-part_again : (col at : ℕ) (place : Place) (part : Part) (rest : List ℕ) → IsPartAt place part → part_at col at place (head_bytes (head_of part) ++ (payload_of part.block.ty part.block.values ++ rest)) ≡ Ok (Some (Block part, rest))
-part_again col at place part rest is =
+part_again : (col at : ℕ) (seam : Seam) (part : Part) (rest : List ℕ) → IsPartAt seam part → part_at col at seam (head_bytes (head_of part) ++ (payload_of part.block.ty part.block.values ++ rest)) ≡ Ok (Some (Block part, rest))
+part_again col at seam part rest is =
     let body = payload_of part.block.ty part.block.values ++ rest in
     let h = head_of part in
     let again : head_at (head_bytes h ++ body) ≡ h = head_again h body (record {
@@ -79,23 +79,23 @@ part_again col at place part rest is =
       count = omega (arith, is.block.few);
       size = payload_short part.block is.block;
     }) in
-    sym (part_at-stands col at place (head_bytes h ++ body) h part.block.ty (omega arith) (sym again) is.stands (typed_again place.ty part.block.ty is.typed))
+    sym (part_at-stands col at seam (head_bytes h ++ body) h part.block.ty (omega arith) (sym again) is.stands (typed_again seam.ty part.block.ty is.typed))
     ∙ payload_again col at part rest is.block
 
 -- ---- a frame
 
-pub frame_again : (col at : ℕ) (wanted : Option ColumnType) (place : Place) (frame : Frame) (rest : List ℕ) → IsFrameAt place frame → AreWanted wanted (frame ∷ []) → frame_at col at wanted place (frame_bytes frame ++ rest) ≡ Ok (Some (frame, rest))
+pub frame_again : (col at : ℕ) (wanted : Option ColumnType) (seam : Seam) (frame : Frame) (rest : List ℕ) → IsFrameAt seam frame → AreWanted wanted (frame ∷ []) → frame_at col at wanted seam (frame_bytes frame ++ rest) ≡ Ok (Some (frame, rest))
 unfolding frame_at
-frame_again col at wanted place (Header ty) rest is w = header_again col at wanted ty rest w.0
-frame_again col at wanted place (Block part) rest is w =
-    ap (frame_at col at wanted place) (append_assoc (head_bytes (head_of part)) (payload_of part.block.ty part.block.values) rest) ∙ part_again col at place part rest is
-frame_again col at wanted place End rest is w = refl
+frame_again col at wanted seam (Header ty) rest is w = header_again col at wanted ty rest w.0
+frame_again col at wanted seam (Block part) rest is w =
+    ap (frame_at col at wanted seam) (append_assoc (head_bytes (head_of part)) (payload_of part.block.ty part.block.values) rest) ∙ part_again col at seam part rest is
+frame_again col at wanted seam End rest is w = refl
 
 -- a rest is read as the end
-pub rest_again : (col at : ℕ) (wanted : Option ColumnType) (place : Place) (rest : List ℕ) → 0 < length rest → is_rest place rest ≡ true → frame_at col at wanted place rest ≡ Ok None
+pub rest_again : (col at : ℕ) (wanted : Option ColumnType) (seam : Seam) (rest : List ℕ) → 0 < length rest → is_rest seam rest ≡ true → frame_at col at wanted seam rest ≡ Ok None
 unfolding frame_at header_at part_at
-rest_again col at wanted place [] some h = absurd (omega arith)
-rest_again col at wanted place (first ∷ bytes) some h =
+rest_again col at wanted seam [] some h = absurd (omega arith)
+rest_again col at wanted seam (first ∷ bytes) some h =
     elim (cases_Bool (eqb first 72)) [
       | inl header ↦
           let short : ltb (length bytes) 2 ≡ true = rw header at h in
@@ -103,29 +103,29 @@ rest_again col at wanted place (first ∷ bytes) some h =
           rw (header, cut) refl
       | inr other ↦ elim (cases_Bool (eqb first 66)) [
         | inl block ↦
-            let cut : is_cut_block place (first ∷ bytes) ≡ true = rw (other, block) at h in
+            let cut : is_cut_block seam (first ∷ bytes) ≡ true = rw (other, block) at h in
             rw (other, block) (cut_block cut)
         | inr neither ↦ absurd (let f : false ≡ true = rw (other, neither) at h in cc)
       ]
     ]
   where
-    cut_block : is_cut_block place (first ∷ bytes) ≡ true → part_at col at place (first ∷ bytes) ≡ Ok None
+    cut_block : is_cut_block seam (first ∷ bytes) ≡ true → part_at col at seam (first ∷ bytes) ≡ Ok None
     cut_block cut =
         elim (cases_Bool (ltb (length (first ∷ bytes)) 16)) [
           | inl short ↦ rw short refl
           | inr long ↦
-              let more : (may_stand place (head_at (first ∷ bytes)) && ltb (length (drop 16 (first ∷ bytes))) (head_at (first ∷ bytes)).size) ≡ true = rw long at cut in
-              let both = and_parts (may_stand place (head_at (first ∷ bytes))) (ltb (length (drop 16 (first ∷ bytes))) (head_at (first ∷ bytes)).size) more in
+              let more : (may_stand seam (head_at (first ∷ bytes)) && ltb (length (drop 16 (first ∷ bytes))) (head_at (first ∷ bytes)).size) ≡ true = rw long at cut in
+              let both = and_parts (may_stand seam (head_at (first ∷ bytes))) (ltb (length (drop 16 (first ∷ bytes))) (head_at (first ∷ bytes)).size) more in
               rw (long, both.0, both.1) refl
         ]
 
 -- ---- a column
 
-pub frames_step : (most col : ℕ) (wanted : Option ColumnType) (size : ℕ) (place : Place) (bytes : List ℕ) → 0 < length bytes
-    → frames_at (suc most) col wanted size place bytes ≡ (frame_at col (size - length bytes) wanted place bytes >>= λ found. found_then found (λ frame rest. frames_at most col wanted size (place_after place frame) rest))
+pub frames_step : (most col : ℕ) (wanted : Option ColumnType) (size : ℕ) (seam : Seam) (bytes : List ℕ) → 0 < length bytes
+    → frames_at (suc most) col wanted size seam bytes ≡ (frame_at col (size - length bytes) wanted seam bytes >>= λ found. found_then found (λ frame rest. frames_at most col wanted size (seam_after seam frame) rest))
 unfolding frames_at
-frames_step most col wanted size place [] some = absurd (omega arith)
-frames_step most col wanted size place (byte ∷ bytes) some = refl
+frames_step most col wanted size seam [] some = absurd (omega arith)
+frames_step most col wanted size seam (byte ∷ bytes) some = refl
 
 pub frame_long : (frame : Frame) → 0 < length (frame_bytes frame)
 frame_long (Header ty) = omega arith
@@ -137,25 +137,25 @@ wanted_first wanted (Header ty) frames w = ((w.0, tt), w.1)
 wanted_first wanted (Block part) frames w = (tt, w)
 wanted_first wanted End frames w = (tt, w)
 
-pub frames_again : (most col : ℕ) (wanted : Option ColumnType) (size : ℕ) (place : Place) (frames : List Frame) (rest : List ℕ) → AreFramesAt place frames → AreWanted wanted frames → is_rest (place_after_all place frames) rest ≡ true → length (column_bytes frames ++ rest) ≤ most
-    → frames_at most col wanted size place (column_bytes frames ++ rest) ≡ Ok frames
+pub frames_again : (most col : ℕ) (wanted : Option ColumnType) (size : ℕ) (seam : Seam) (frames : List Frame) (rest : List ℕ) → AreFramesAt seam frames → AreWanted wanted frames → is_rest (seam_after_all seam frames) rest ≡ true → length (column_bytes frames ++ rest) ≤ most
+    → frames_at most col wanted size seam (column_bytes frames ++ rest) ≡ Ok frames
 unfolding frames_at
-frames_again zero col wanted size place [] rest are w torn le = refl
-frames_again (suc most) col wanted size place [] [] are w torn le = refl
-frames_again (suc most) col wanted size place [] (byte ∷ rest) are w torn le =
-    ap (λ r. r >>= λ found. found_then found (λ frame left. frames_at most col wanted size (place_after place frame) left)) (rest_again col (size - length (byte ∷ rest)) wanted place (byte ∷ rest) (omega arith) torn)
-frames_again zero col wanted size place (frame ∷ frames) rest are w torn le = absurd (omega (arith, frame_long frame, length-append (frame_bytes frame ++ column_bytes frames) rest, length-append (frame_bytes frame) (column_bytes frames)))
-frames_again (suc most) col wanted size place (frame ∷ frames) rest are w torn le =
+frames_again zero col wanted size seam [] rest are w torn le = refl
+frames_again (suc most) col wanted size seam [] [] are w torn le = refl
+frames_again (suc most) col wanted size seam [] (byte ∷ rest) are w torn le =
+    ap (λ r. r >>= λ found. found_then found (λ frame left. frames_at most col wanted size (seam_after seam frame) left)) (rest_again col (size - length (byte ∷ rest)) wanted seam (byte ∷ rest) (omega arith) torn)
+frames_again zero col wanted size seam (frame ∷ frames) rest are w torn le = absurd (omega (arith, frame_long frame, length-append (frame_bytes frame ++ column_bytes frames) rest, length-append (frame_bytes frame) (column_bytes frames)))
+frames_again (suc most) col wanted size seam (frame ∷ frames) rest are w torn le =
     let others = column_bytes frames ++ rest in
     let bytes = frame_bytes frame ++ others in
     let shape : column_bytes (frame ∷ frames) ++ rest ≡ bytes = append_assoc (frame_bytes frame) (column_bytes frames) rest in
     let counted : length bytes ≡ length (frame_bytes frame) + length others = length-append (frame_bytes frame) others in
     let some : 0 < length bytes = omega (arith, counted, frame_long frame) in
     let first = wanted_first wanted frame frames w in
-    ap (frames_at (suc most) col wanted size place) shape
-    ∙ frames_step most col wanted size place bytes some
-    ∙ ap (λ r. r >>= λ found. found_then found (λ f left. frames_at most col wanted size (place_after place f) left)) (frame_again col (size - length bytes) wanted place frame others are.0 first.0)
-    ∙ ap (λ r. r >>= λ fs. Ok (frame ∷ fs)) (frames_again most col wanted size (place_after place frame) frames rest are.1 first.1 torn (omega (arith, ap length shape, counted, frame_long frame)))
+    ap (frames_at (suc most) col wanted size seam) shape
+    ∙ frames_step most col wanted size seam bytes some
+    ∙ ap (λ r. r >>= λ found. found_then found (λ f left. frames_at most col wanted size (seam_after seam f) left)) (frame_again col (size - length bytes) wanted seam frame others are.0 first.0)
+    ∙ ap (λ r. r >>= λ fs. Ok (frame ∷ fs)) (frames_again most col wanted size (seam_after seam frame) frames rest are.1 first.1 torn (omega (arith, ap length shape, counted, frame_long frame)))
 
 -- the bytes of a column read as its frames
 pub column_again : (col : ℕ) (bytes : List ℕ) (frames : List Frame) (rest : List ℕ) (wanted : Option ColumnType) → IsColumn bytes frames rest → AreWanted wanted frames → frames_of col wanted bytes ≡ Ok frames

@@ -21,7 +21,7 @@ use Rattle.columns.specs.declared.frame.Frame.{Frame}
 use Rattle.columns.specs.declared.frame.Frame.TheVariants.{Header, Block}
 use Rattle.columns.specs.declared.frame.Head.{Head}
 use Rattle.columns.specs.declared.frame.Part.{Part}
-use Rattle.columns.specs.declared.place.Place.{Place}
+use Rattle.columns.specs.declared.seam.Seam.{Seam}
 use Rattle.columns.specs.Bytes.{type_byte}
 use Rattle.columns.specs.Column.{flag_byte, head_of, head_bytes, frame_bytes, has_due_count, is_in_turn, may_stand, IsPartAt, IsFrameAt, word_at, half_at, head_at}
 use Rattle.columns.specs.Reading.{type_of, is_wanted, header_of, header_at, part_of, payload_at, part_at}
@@ -100,13 +100,13 @@ header_of_ok col at wanted (Some ty) after rest frame e =
     record { ty = ty; named_is = refl; frame_is = sym (ap (λ (p : Frame × List ℕ). p.0) same); rest_is = ap (λ (p : Frame × List ℕ). p.1) same }
 
 -- what a frame that was read says of its bytes
-pub record Takes (place : Place) (bytes rest : List ℕ) (frame : Frame) : Type 0 where
+pub record Takes (seam : Seam) (bytes rest : List ℕ) (frame : Frame) : Type 0 where
   pub spelt : bytes ≡ frame_bytes frame ++ rest
-  pub lawful : IsFrameAt place frame
+  pub lawful : IsFrameAt seam frame
 
-pub header_takes : (col at : ℕ) (wanted : Option ColumnType) (place : Place) (bytes rest : List ℕ) (frame : Frame) → get_or bytes 0 0 ≡ 72 → header_at col at wanted bytes ≡ Ok (Some (frame, rest)) → Takes place bytes rest frame
+pub header_takes : (col at : ℕ) (wanted : Option ColumnType) (seam : Seam) (bytes rest : List ℕ) (frame : Frame) → get_or bytes 0 0 ≡ 72 → header_at col at wanted bytes ≡ Ok (Some (frame, rest)) → Takes seam bytes rest frame
 unfolding header_at
-header_takes col at wanted place bytes rest frame h e =
+header_takes col at wanted seam bytes rest frame h e =
     let named = type_of (get_or bytes 2 0) in
     let a = whole_ok (ltb (length bytes) 3) (cond (eqb (get_or bytes 1 0) 1) (header_of col at wanted named (drop 3 bytes)) (Err (BadFrame col at))) (frame, rest) e in
     let b = passed_ok (eqb (get_or bytes 1 0) 1) (header_of col at wanted named (drop 3 bytes)) (BadFrame col at) (Some (frame, rest)) a.1 in
@@ -115,7 +115,7 @@ header_takes col at wanted place bytes rest frame h e =
     let ty : get_or bytes 2 0 ≡ type_byte read.ty = type_of_ok (get_or bytes 2 0) read.ty read.named_is in
     let cells : bytes ≡ get_or bytes 0 0 ∷ get_or bytes 1 0 ∷ get_or bytes 2 0 ∷ drop 3 bytes = three_cells bytes (ltb-false _ _ a.0) in
     let spelt : bytes ≡ frame_bytes (Header read.ty) ++ rest = cells ∙ ap (λ x. x ∷ get_or bytes 1 0 ∷ get_or bytes 2 0 ∷ drop 3 bytes) h ∙ ap (λ x. 72 ∷ x ∷ get_or bytes 2 0 ∷ drop 3 bytes) one ∙ ap (λ x. 72 ∷ 1 ∷ x ∷ drop 3 bytes) ty ∙ ap (λ xs. 72 ∷ 1 ∷ type_byte read.ty ∷ xs) read.rest_is in
-    subst (Takes place bytes rest) (sym read.frame_is) (record { spelt = spelt; lawful = tt })
+    subst (Takes seam bytes rest) (sym read.frame_is) (record { spelt = spelt; lawful = tt })
 
 pub header_again : (col at : ℕ) (wanted : Option ColumnType) (ty : ColumnType) (rest : List ℕ) → is_wanted wanted ty ≡ true → header_at col at wanted (frame_bytes (Header ty) ++ rest) ≡ Ok (Some (Header ty, rest))
 unfolding header_at
@@ -138,7 +138,7 @@ two_small a b p q zero = p
 two_small a b p q (suc zero) = q
 two_small a b p q (suc (suc i)) = omega arith
 
--- the word at a place is spelt by its cells
+-- the word at a seam is spelt by its cells
 word_spelt : (bytes : List ℕ) (i : ℕ) → AreBytes bytes → to_be_bytes w32 (word_at bytes i) ≡ get_or bytes i 0 ∷ get_or bytes (i + 1) 0 ∷ get_or bytes (i + 2) 0 ∷ get_or bytes (i + 3) 0 ∷ []
 word_spelt bytes i small = be_bytes_4 (get_or bytes i 0 ∷ get_or bytes (i + 1) 0 ∷ get_or bytes (i + 2) 0 ∷ get_or bytes (i + 3) 0 ∷ []) (word_at bytes i) refl (four_small _ _ _ _ (small i) (small (i + 1)) (small (i + 2)) (small (i + 3))) refl
 
@@ -212,15 +212,15 @@ head_again h rest small =
 -- ---- blocks
 
 -- what a test of a block's numbers says
-record MayStand (place : Place) (h : Head) : Type 0 where
-  typed : is_some place.ty ≡ true
-  turn : is_in_turn place h ≡ true
+record MayStand (seam : Seam) (h : Head) : Type 0 where
+  typed : is_some seam.ty ≡ true
+  turn : is_in_turn seam h ≡ true
   count : has_due_count h ≡ true
 
-may_stand_says : (place : Place) (h : Head) → may_stand place h ≡ true → MayStand place h
-may_stand_says place h e =
-    let a = and_parts (is_some place.ty && is_in_turn place h) (has_due_count h) e in
-    let b = and_parts (is_some place.ty) (is_in_turn place h) a.0 in
+may_stand_says : (seam : Seam) (h : Head) → may_stand seam h ≡ true → MayStand seam h
+may_stand_says seam h e =
+    let a = and_parts (is_some seam.ty && is_in_turn seam h) (has_due_count h) e in
+    let b = and_parts (is_some seam.ty) (is_in_turn seam h) a.0 in
     record { typed = b.0; turn = b.1; count = a.1 }
 
 typed_is : (ty : Option ColumnType) → is_some ty ≡ true → ty ≡ Some (unwrap_or ty column.Int)
@@ -260,19 +260,19 @@ part_of_ok col at h ty after rest (Ok values) frame e =
     record { values = values; reading_is = refl; frame_is = sym (ap (λ (p : Frame × List ℕ). p.0) same); rest_is = ap (λ (p : Frame × List ℕ). p.1) same }
 part_of_ok col at h ty after rest (Err fault) frame e = absurd cc
 
-pub part_takes : (col at : ℕ) (place : Place) (bytes rest : List ℕ) (frame : Frame) → AreBytes bytes → get_or bytes 0 0 ≡ 66 → part_at col at place bytes ≡ Ok (Some (frame, rest)) → Takes place bytes rest frame
+pub part_takes : (col at : ℕ) (seam : Seam) (bytes rest : List ℕ) (frame : Frame) → AreBytes bytes → get_or bytes 0 0 ≡ 66 → part_at col at seam bytes ≡ Ok (Some (frame, rest)) → Takes seam bytes rest frame
 unfolding part_at
-part_takes col at place bytes rest frame small first e =
+part_takes col at seam bytes rest frame small first e =
     let h = head_at bytes in
-    let ty = unwrap_or place.ty column.Int in
+    let ty = unwrap_or seam.ty column.Int in
     let body = drop 16 bytes in
     let payload = take h.size body in
     let reading = reading_of ty h.count payload in
-    let a = whole_ok (ltb (length bytes) 16) (cond (may_stand place h) (payload_at col at h ty body) (Err (BadFrame col at))) (frame, rest) e in
-    let b = passed_ok (may_stand place h) (payload_at col at h ty body) (BadFrame col at) (Some (frame, rest)) a.1 in
+    let a = whole_ok (ltb (length bytes) 16) (cond (may_stand seam h) (payload_at col at h ty body) (Err (BadFrame col at))) (frame, rest) e in
+    let b = passed_ok (may_stand seam h) (payload_at col at h ty body) (BadFrame col at) (Some (frame, rest)) a.1 in
     let c = whole_ok (ltb (length body) h.size) (part_of col at h ty (drop h.size body) reading) (frame, rest) b.1 in
     let read = part_of_ok col at h ty (drop h.size body) rest reading frame c.1 in
-    let says = may_stand_says place h b.0 in
+    let says = may_stand_says seam h b.0 in
     let count = count_says h says.count in
     let part : Part = record { generation = h.generation; number = h.number; last = eqb h.flag 1; block = record { ty = ty; values = read.values } } in
     let is : IsPayload ty h.count payload read.values = is_payload ty h.count payload read.values (AreBytes-take h.size body (AreBytes-drop 16 bytes small)) read.reading_is in
@@ -282,9 +282,9 @@ part_takes col at place bytes rest frame small first e =
     ap (λ x. make_head h.generation h.number x (length read.values) (length (payload_of ty read.values))) count.0
     ∙ ap (λ x. make_head h.generation h.number h.flag x (length (payload_of ty read.values))) is.counted
     ∙ ap (λ x. make_head h.generation h.number h.flag h.count x) size in
-    let lawful : IsPartAt place part = record {
-      stands = ap (may_stand place) head ∙ b.0;
-      typed = typed_is place.ty says.typed;
+    let lawful : IsPartAt seam part = record {
+      stands = ap (may_stand seam) head ∙ b.0;
+      typed = typed_is seam.ty says.typed;
       block = record { few = omega (arith, is.counted, count.1); fit = is.fit };
       generation = word_small bytes 1 small;
       number = word_small bytes 5 small;
@@ -296,12 +296,12 @@ part_takes col at place bytes rest frame small first e =
     ∙ ap (λ x. head_bytes h ++ (payload_of ty read.values ++ x)) read.rest_is
     ∙ sym (append_assoc (head_bytes h) (payload_of ty read.values) rest)
     ∙ ap (λ x. head_bytes x ++ payload_of ty read.values ++ rest) (sym head) in
-    subst (Takes place bytes rest) (sym read.frame_is) (record { spelt = spelt; lawful = lawful })
+    subst (Takes seam bytes rest) (sym read.frame_is) (record { spelt = spelt; lawful = lawful })
 
 -- the block whose numbers may stand here is the payload at them
-pub part_at-stands : (col at : ℕ) (place : Place) (bytes : List ℕ) (h : Head) (ty : ColumnType) → 16 ≤ length bytes → h ≡ head_at bytes → may_stand place h ≡ true → ty ≡ unwrap_or place.ty column.Int → payload_at col at h ty (drop 16 bytes) ≡ part_at col at place bytes
+pub part_at-stands : (col at : ℕ) (seam : Seam) (bytes : List ℕ) (h : Head) (ty : ColumnType) → 16 ≤ length bytes → h ≡ head_at bytes → may_stand seam h ≡ true → ty ≡ unwrap_or seam.ty column.Int → payload_at col at h ty (drop 16 bytes) ≡ part_at col at seam bytes
 unfolding part_at
-part_at-stands col at place bytes h ty long head stands typed =
+part_at-stands col at seam bytes h ty long head stands typed =
     let enough : ltb (length bytes) 16 ≡ false = le-ltb _ _ long in
-    let good : may_stand place (head_at bytes) ≡ true = ap (may_stand place) (sym head) ∙ stands in
-    sym (rw (enough, good) (ap (λ x. payload_at col at x (unwrap_or place.ty column.Int) (drop 16 bytes)) (sym head) ∙ ap (λ x. payload_at col at h x (drop 16 bytes)) (sym typed)))
+    let good : may_stand seam (head_at bytes) ≡ true = ap (may_stand seam) (sym head) ∙ stands in
+    sym (rw (enough, good) (ap (λ x. payload_at col at x (unwrap_or seam.ty column.Int) (drop 16 bytes)) (sym head) ∙ ap (λ x. payload_at col at h x (drop 16 bytes)) (sym typed)))

@@ -10,8 +10,8 @@ use Rattle.columns.specs.declared.frame.Frame.{Frame}
 use Rattle.columns.specs.declared.frame.Frame.TheVariants.{Header, Block, End}
 use Rattle.columns.specs.declared.frame.Head.{Head}
 use Rattle.columns.specs.declared.frame.Part.{Part}
-use Rattle.columns.specs.declared.place.Place.{Place}
-use Rattle.columns.specs.declared.place.Unfinished.{Unfinished}
+use Rattle.columns.specs.declared.seam.Seam.{Seam}
+use Rattle.columns.specs.declared.seam.Unfinished.{Unfinished}
 
 -- ---- the bytes of a frame
 
@@ -44,8 +44,8 @@ column_bytes frames = flat_map frame_bytes frames
 
 -- ---- which frame may stand where
 
--- the place before the first frame
-abbrev pub start : Place
+-- the seam before the first frame
+abbrev pub start : Seam
 start = record { ty = None; newest = None; before = None }
 
 -- whether a generation is above each before it
@@ -59,49 +59,49 @@ goes_on None h = false
 goes_on (Some before) h = (before.generation == h.generation) && (before.number + 1 == h.number)
 
 -- whether it begins a new generation, or goes on with that one
-abbrev pub is_in_turn : Place → Head → Bool
-is_in_turn place h = cond (h.number == 0) (is_above place.newest h.generation) (goes_on place.before h)
+abbrev pub is_in_turn : Seam → Head → Bool
+is_in_turn seam h = cond (h.number == 0) (is_above seam.newest h.generation) (goes_on seam.before h)
 
 -- whether it is full, or the last and not empty, or the one block of an empty table
 abbrev pub has_due_count : Head → Bool
 has_due_count h = cond (h.flag == 0) (h.count == MAX_BLOCK_VALUES) (cond (h.flag == 1) (nat_le h.count MAX_BLOCK_VALUES && (nat_lt 0 h.count || (h.number == 0))) false)
 
--- whether a block with these numbers may stand at the place
-abbrev pub may_stand : Place → Head → Bool
-may_stand place h = is_some place.ty && is_in_turn place h && has_due_count h
+-- whether a block with these numbers may stand at the seam
+abbrev pub may_stand : Seam → Head → Bool
+may_stand seam h = is_some seam.ty && is_in_turn seam h && has_due_count h
 
--- a block that may stand at the place
-pub record IsPartAt (place : Place) (part : Part) : Type 0 where
-  pub stands : may_stand place (head_of part) ≡ true
-  pub typed : place.ty ≡ Some part.block.ty
+-- a block that may stand at the seam
+pub record IsPartAt (seam : Seam) (part : Part) : Type 0 where
+  pub stands : may_stand seam (head_of part) ≡ true
+  pub typed : seam.ty ≡ Some part.block.ty
   pub block : IsBlock part.block
   pub generation : part.generation < 4294967296
   pub number : part.number < 4294967296
 
-abbrev pub IsFrameAt : Place → Frame → Type 0
-IsFrameAt place (Header ty) = Unit {0}
-IsFrameAt place (Block part) = IsPartAt place part
-IsFrameAt place End = Unit {0}
+abbrev pub IsFrameAt : Seam → Frame → Type 0
+IsFrameAt seam (Header ty) = Unit {0}
+IsFrameAt seam (Block part) = IsPartAt seam part
+IsFrameAt seam End = Unit {0}
 
 -- the block that has to go on, after this one
 abbrev pub unfinished : Part → Option Unfinished
 unfinished part = cond part.last None (Some (record { generation = part.generation; number = part.number }))
 
--- the place after a frame
-abbrev pub place_after : Place → Frame → Place
-place_after place (Header ty) = record { ty = Some ty; newest = place.newest; before = None }
-place_after place (Block part) = record { ty = place.ty; newest = Some part.generation; before = unfinished part }
-place_after place End = record { ty = place.ty; newest = place.newest; before = None }
+-- the seam after a frame
+abbrev pub seam_after : Seam → Frame → Seam
+seam_after seam (Header ty) = record { ty = Some ty; newest = seam.newest; before = None }
+seam_after seam (Block part) = record { ty = seam.ty; newest = Some part.generation; before = unfinished part }
+seam_after seam End = record { ty = seam.ty; newest = seam.newest; before = None }
 
 -- after frames
-abbrev pub place_after_all : Place → List Frame → Place
-place_after_all place [] = place
-place_after_all place (frame ∷ frames) = place_after_all (place_after place frame) frames
+abbrev pub seam_after_all : Seam → List Frame → Seam
+seam_after_all seam [] = seam
+seam_after_all seam (frame ∷ frames) = seam_after_all (seam_after seam frame) frames
 
 -- whether each of the frames may stand where it stands
-abbrev pub AreFramesAt : Place → List Frame → Type 0
-AreFramesAt place [] = Unit {0}
-AreFramesAt place (frame ∷ frames) = IsFrameAt place frame × AreFramesAt (place_after place frame) frames
+abbrev pub AreFramesAt : Seam → List Frame → Type 0
+AreFramesAt seam [] = Unit {0}
+AreFramesAt seam (frame ∷ frames) = IsFrameAt seam frame × AreFramesAt (seam_after seam frame) frames
 
 -- ---- the rest
 
@@ -117,17 +117,17 @@ abbrev pub head_at : List ℕ → Head
 head_at bytes = record { generation = word_at bytes 1; number = word_at bytes 5; flag = get_or bytes 9 0; count = half_at bytes 10; size = word_at bytes 12 }
 
 -- whether bytes that begin with a block's byte are the beginning of a block that may stand here, cut short
-abbrev pub is_cut_block : Place → List ℕ → Bool
-is_cut_block place bytes = nat_lt (length bytes) 16 || (may_stand place (head_at bytes) && nat_lt (length (drop 16 bytes)) (head_at bytes).size)
+abbrev pub is_cut_block : Seam → List ℕ → Bool
+is_cut_block seam bytes = nat_lt (length bytes) 16 || (may_stand seam (head_at bytes) && nat_lt (length (drop 16 bytes)) (head_at bytes).size)
 
 -- whether bytes are the beginning of a header or a block that may stand here, cut short, or none
-abbrev pub is_rest : Place → List ℕ → Bool
-is_rest place [] = true
-is_rest place (first ∷ bytes) =
-    cond (first == 72) (nat_lt (length bytes) 2) (cond (first == 66) (is_cut_block place (first ∷ bytes)) false)
+abbrev pub is_rest : Seam → List ℕ → Bool
+is_rest seam [] = true
+is_rest seam (first ∷ bytes) =
+    cond (first == 72) (nat_lt (length bytes) 2) (cond (first == 66) (is_cut_block seam (first ∷ bytes)) false)
 
 -- bytes are a column of these frames with this rest
 pub record IsColumn (bytes : List ℕ) (frames : List Frame) (rest : List ℕ) : Type 0 where
   pub lawful : AreFramesAt start frames
-  pub torn : is_rest (place_after_all start frames) rest ≡ true
+  pub torn : is_rest (seam_after_all start frames) rest ≡ true
   pub spelt : bytes ≡ column_bytes frames ++ rest

@@ -12,9 +12,9 @@ use Rattle.columns.specs.declared.frame.Frame.{Frame}
 use Rattle.columns.specs.declared.frame.Frame.TheVariants.{Header, Block, End}
 use Rattle.columns.specs.declared.frame.Head.{Head}
 use Rattle.columns.specs.declared.frame.Part.{Part}
-use Rattle.columns.specs.declared.place.Place.{Place}
+use Rattle.columns.specs.declared.seam.Seam.{Seam}
 use Rattle.columns.specs.Bytes.{type_byte}
-use Rattle.columns.specs.Column.{start, head_at, may_stand, place_after}
+use Rattle.columns.specs.Column.{start, head_at, may_stand, seam_after}
 
 -- a frame and the bytes after it, or none where the bytes are a rest
 abbrev pub Found : Type 0
@@ -61,17 +61,17 @@ payload_at col at h ty bytes =
     else part_of col at h ty (drop h.size bytes) (reading_of ty h.count (take h.size bytes))
 
 -- the block at the front of the bytes
-unfoldable pub part_at : ℕ → ℕ → Place → List ℕ → Result Found ReadFault
-part_at col at place bytes =
+unfoldable pub part_at : ℕ → ℕ → Seam → List ℕ → Result Found ReadFault
+part_at col at seam bytes =
     if nat_lt (length bytes) 16 then Ok None
-    else if may_stand place (head_at bytes) then payload_at col at (head_at bytes) (unwrap_or place.ty column.Int) (drop 16 bytes)
+    else if may_stand seam (head_at bytes) then payload_at col at (head_at bytes) (unwrap_or seam.ty column.Int) (drop 16 bytes)
     else Err (BadFrame col at)
 
 -- the frame at the front of the bytes
-unfoldable pub frame_at : ℕ → ℕ → Option ColumnType → Place → List ℕ → Result Found ReadFault
-frame_at col at wanted place bytes =
+unfoldable pub frame_at : ℕ → ℕ → Option ColumnType → Seam → List ℕ → Result Found ReadFault
+frame_at col at wanted seam bytes =
     if get_or bytes 0 0 == 72 then header_at col at wanted bytes
-    else if get_or bytes 0 0 == 66 then part_at col at place bytes
+    else if get_or bytes 0 0 == 66 then part_at col at seam bytes
     else if get_or bytes 0 0 == 69 then Ok (Some (End, drop 1 bytes))
     else Err (BadFrame col at)
 
@@ -93,12 +93,12 @@ found_then None next = Ok []
 found_then (Some found) next = and_then found.0 (next found.0 found.1)
 
 -- the frames of a column of so many bytes, the first of them at these; at most so many
-unfoldable pub frames_at : ℕ → ℕ → Option ColumnType → ℕ → Place → List ℕ → Result (List Frame) ReadFault
-frames_at zero col wanted size place bytes = Ok []
-frames_at (suc most) col wanted size place [] = Ok []
-frames_at (suc most) col wanted size place (byte ∷ bytes) =
-    frame_at col (size - length (byte ∷ bytes)) wanted place (byte ∷ bytes)
-    >>= λ found. found_then found (λ frame rest. frames_at most col wanted size (place_after place frame) rest)
+unfoldable pub frames_at : ℕ → ℕ → Option ColumnType → ℕ → Seam → List ℕ → Result (List Frame) ReadFault
+frames_at zero col wanted size seam bytes = Ok []
+frames_at (suc most) col wanted size seam [] = Ok []
+frames_at (suc most) col wanted size seam (byte ∷ bytes) =
+    frame_at col (size - length (byte ∷ bytes)) wanted seam (byte ∷ bytes)
+    >>= λ found. found_then found (λ frame rest. frames_at most col wanted size (seam_after seam frame) rest)
 
 -- the frames of a column: each has a byte at least
 abbrev pub frames_of : ℕ → Option ColumnType → List ℕ → Result (List Frame) ReadFault

@@ -5,12 +5,12 @@
 
 mod fault;
 mod frame;
-mod place;
+mod seam;
 mod reading;
 mod writing;
 
 pub use fault::ReadFault;
 pub use frame::{Frame, Head, Part};
-pub use place::{Place, Unfinished};
+pub use seam::{Seam, Unfinished};
 pub use reading::read_column;
 pub use writing::{write_header, write_part};

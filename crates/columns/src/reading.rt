@@ -5,7 +5,7 @@ ghost use Rattle.columns.specs.Reading.{Gives, found_now, frame_at, frames_of, h
 
 use crate::fault::ReadFault;
 use crate::frame::{Frame, Head, Part, type_byte};
-use crate::place::Place;
+use crate::seam::Seam;
 use blocks::{BlockFault, read_block};
 use std::alloc::Global;
 use values::ColumnType;
@@ -25,14 +25,14 @@ pub fn read_column(
     ensures { Gives (λ parts. parts.items) result (parts_after [] (frames_of col (Some ty) bytes.now)) }
 {
     let mut parts = Vec::new(alloc);
-    let mut place = Place::start();
+    let mut seam = Seam::start();
     let mut rest = bytes;
     while !rest.is_empty() {
         let at = bytes.len() - rest.len();
-        let Some((frame, after)) = frame_at(alloc, col, at, ty, &place, rest)? else {
+        let Some((frame, after)) = frame_at(alloc, col, at, ty, &seam, rest)? else {
             return Ok(parts);
         };
-        place = place.after(&frame);
+        seam = seam.after(&frame);
         keep_block(&mut parts, frame)?;
         rest = after;
     }
@@ -58,15 +58,15 @@ fn frame_at<'a>(
     col: usize,
     at: usize,
     ty: ColumnType,
-    place: &Place,
+    seam: &Seam,
     bytes: &'a [u8],
 ) -> Result<Option<(Frame, &'a [u8])>, ReadFault>
     requires { 0 < length bytes.now }
-    ensures { Gives found_now result (frame_at col at (Some ty) place.now bytes.now) }
+    ensures { Gives found_now result (frame_at col at (Some ty) seam.now bytes.now) }
 {
     match bytes[0] {
         b'H' => header_at(col, at, ty, bytes),
-        b'B' => part_at(alloc, col, at, place, bytes),
+        b'B' => part_at(alloc, col, at, seam, bytes),
         b'E' => Ok(Some((Frame::End, &bytes[1..]))),
         _ => Err(ReadFault::BadFrame(col, at)),
     }
@@ -105,19 +105,19 @@ fn part_at<'a>(
     alloc: Global,
     col: usize,
     at: usize,
-    place: &Place,
+    seam: &Seam,
     bytes: &'a [u8],
 ) -> Result<Option<(Frame, &'a [u8])>, ReadFault>
-    ensures { Gives found_now result (part_at col at place.now bytes.now) }
+    ensures { Gives found_now result (part_at col at seam.now bytes.now) }
 {
     if bytes.len() < 16 {
         return Ok(None);
     }
     let head = head_at(bytes);
-    if !place.may_stand(&head) {
+    if !seam.may_stand(&head) {
         return Err(ReadFault::BadFrame(col, at));
     }
-    let ty = place.ty.unwrap_or(ColumnType::Int);
+    let ty = seam.ty.unwrap_or(ColumnType::Int);
     let (_, body) = bytes.split_at(16);
     payload_at(alloc, col, at, &head, ty, body)
 }

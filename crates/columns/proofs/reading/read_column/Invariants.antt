@@ -8,7 +8,7 @@ abbrev pub invariant-loop-rest : goal.invariant-loop-rest
 invariant-loop-rest l = record {
   left : length l.rest ≤ length l.bytes;
   bytes : AreBytes l.rest;
-  read : IsReadTo l.col (Some l.ty) (length l.bytes) l.place l.rest l.parts.items (parts_after [] (frames_of l.col (Some l.ty) l.bytes));
+  read : IsReadTo l.col (Some l.ty) (length l.bytes) l.seam l.rest l.parts.items (parts_after [] (frames_of l.col (Some l.ty) l.bytes));
 }
 
 abbrev pub decreases-loop-rest : goal.decreases-loop-rest

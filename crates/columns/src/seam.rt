@@ -1,6 +1,6 @@
 //! What the frames so far say of the frames that may follow.
 ghost use Rattle.std.specs.Prelude.{◌≡◌};
-ghost use Rattle.columns.specs.Column.{start, may_stand, goes_on, is_above, is_in_turn, has_due_count, place_after};
+ghost use Rattle.columns.specs.Column.{start, may_stand, goes_on, is_above, is_in_turn, has_due_count, seam_after};
 
 use crate::frame::{Frame, Head};
 use values::ColumnType;
@@ -13,9 +13,9 @@ pub struct Unfinished {
     pub number: u32,
 }
 
-/// A place between two frames of a column.
+/// A seam between two frames of a column.
 #[derive(Clone, Copy)]
-pub struct Place {
+pub struct Seam {
     /// The type of the last header before it.
     pub ty: Option<ColumnType>,
     /// The greatest generation before it.
@@ -24,12 +24,12 @@ pub struct Place {
     pub before: Option<Unfinished>,
 }
 
-impl Place {
-    /// The place before the first frame.
-    pub fn start() -> Place
+impl Seam {
+    /// The seam before the first frame.
+    pub fn start() -> Seam
         ensures { result ≡ start }
     {
-        Place {
+        Seam {
             ty: None,
             newest: None,
             before: None,
@@ -77,17 +77,17 @@ impl Place {
         }
     }
 
-    /// The place after a frame.
-    pub fn after(self, frame: &Frame) -> Place
-        ensures { result ≡ place_after self frame.now }
+    /// The seam after a frame.
+    pub fn after(self, frame: &Frame) -> Seam
+        ensures { result ≡ seam_after self frame.now }
     {
         match frame {
-            Frame::Header(ty) => Place {
+            Frame::Header(ty) => Seam {
                 ty: Some(*ty),
                 newest: self.newest,
                 before: None,
             },
-            Frame::Block(part) => Place {
+            Frame::Block(part) => Seam {
                 ty: self.ty,
                 newest: Some(part.generation),
                 before: if part.last {
@@ -99,7 +99,7 @@ impl Place {
                     })
                 },
             },
-            Frame::End => Place {
+            Frame::End => Seam {
                 ty: self.ty,
                 newest: self.newest,
                 before: None,
