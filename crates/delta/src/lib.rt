@@ -12,8 +12,6 @@ mod laws;
 mod lookup;
 mod places;
 mod sorted;
-#[cfg(test)]
-mod tests;
 mod tree;
 
 pub use entries::Iter;

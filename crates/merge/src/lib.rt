@@ -4,8 +4,7 @@
 //! *What a contract sees.* Layers are the schema, the stable rows and the entries of three trees; the image is what each
 //! tree in turn makes of the rows below it. A view is its row, a scan the rows that are left, and so are runs.
 //!
-//! *What it stands on.* `stable` for the rows, `delta` for the trees, `model` for what merged rows are; in tests `oracle`
-//! for images to compare with.
+//! *What it stands on.* `stable` for the rows, `delta` for the trees, `model` for what merged rows are.
 #![tactic(auto)]
 
 mod cursor;
@@ -15,8 +14,6 @@ mod run;
 mod scan;
 mod stack;
 mod table;
-#[cfg(test)]
-mod tests;
 mod view;
 
 pub use run::{Run, StableRun};
