@@ -11,8 +11,6 @@ mod laws;
 mod lookup;
 mod places;
 mod sorted;
-#[cfg(test)]
-mod tests;
 mod tree;
 
 pub use counted::Iter;

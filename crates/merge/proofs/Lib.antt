@@ -9,5 +9,4 @@ pub mod LeftLemmas
 pub mod RangeLemmas
 pub mod StretchLemmas
 pub mod KeyLemmas
-pub mod FixtureLemmas
 pub mod TableLemmas

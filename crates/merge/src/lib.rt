@@ -4,8 +4,7 @@
 //! *What a contract sees.* Layers are the schema, the stable rows and the entries of three trees; the image is what each
 //! tree in turn makes of the rows below it. A view is its row, a scan the rows that are left, and so are stretches.
 //!
-//! *What it stands on.* `stable` for the rows, `delta` for the trees, `model` for what merged rows are; in tests `oracle`
-//! for images to compare with.
+//! *What it stands on.* `stable` for the rows, `delta` for the trees, `model` for what merged rows are.
 #![tactic(auto)]
 
 mod cursor;
@@ -14,8 +13,6 @@ mod level;
 mod scan;
 mod stretch;
 mod table;
-#[cfg(test)]
-mod tests;
 mod view;
 
 pub use layers::Layers;

@@ -1,5 +1,5 @@
 mod ManagedLemmas
-mod RunLemmas
+pub mod RunLemmas
 mod ToldLemmas
 mod OutputLemmas
 mod ProgramLemmas

@@ -20,8 +20,6 @@ mod reads;
 mod refusal;
 mod reply;
 mod serial;
-#[cfg(test)]
-mod tests;
 
 pub use inputs::{
     Call, ClientCall, Script, ScriptFault, Settings, TableFault, Verb, read_script, read_table,

@@ -223,6 +223,3 @@ fn send<W: Write>(text: &mut Vec<u8>, out: &mut W) -> Result<(), ShowFault>
         Err(_) => Err(ShowFault::Write),
     }
 }
-
-#[cfg(test)]
-mod tests;

@@ -88,6 +88,3 @@ fn script_of(alloc: Global, schema: &Schema, bytes: Option<&[u8]>) -> Result<Scr
     };
     Ok(read_script(alloc, schema, text)?)
 }
-
-#[cfg(test)]
-mod tests;

@@ -96,6 +96,3 @@ impl From<ShowFault> for Refusal {
         Refusal::Output(fault)
     }
 }
-
-#[cfg(test)]
-mod tests;

@@ -8,20 +8,10 @@
 #![tactic(auto)]
 
 mod column;
-#[cfg(test)]
-mod column_tests;
 mod columns;
 mod fault;
-#[cfg(test)]
-mod fault_tests;
-#[cfg(test)]
-mod key_tests;
 mod order;
 mod table;
-#[cfg(test)]
-mod tests;
-#[cfg(test)]
-mod wide_key_tests;
 
 pub use column::Column;
 pub use fault::BuildFault;

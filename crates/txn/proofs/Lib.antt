@@ -1,5 +1,4 @@
 mod CountsLemmas
-mod ReadsLemmas
+pub mod ReadsLemmas
 pub mod TxnLemmas
-mod VersionLemmas
-mod FixtureLemmas
+pub mod VersionLemmas

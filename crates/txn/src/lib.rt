@@ -12,8 +12,6 @@
 mod fault;
 mod parts;
 mod reads;
-#[cfg(test)]
-mod tests;
 mod transaction;
 mod version;
 mod writes;

@@ -1,0 +1,2 @@
+mod LayerLemmas
+mod VersionLemmas
