@@ -5,12 +5,12 @@
 
 mod fault;
 mod frame;
-mod seam;
 mod reading;
+mod seam;
 mod writing;
 
 pub use fault::ReadFault;
 pub use frame::{Frame, Head, Part};
-pub use seam::{Seam, Unfinished};
 pub use reading::read_column;
+pub use seam::{Seam, Unfinished};
 pub use writing::{write_header, write_part};

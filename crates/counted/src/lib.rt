@@ -11,8 +11,6 @@ mod node;
 mod search;
 mod spot;
 mod steps;
-#[cfg(test)]
-mod tests;
 mod tree;
 
 pub use entry::weight;

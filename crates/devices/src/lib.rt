@@ -15,8 +15,6 @@ mod memory;
 mod pieces;
 mod reading;
 mod store;
-#[cfg(test)]
-mod tests;
 
 pub use device::{ColumnDevice, DeviceFault, ended};
 pub use fail_at::FailAt;

@@ -6,4 +6,3 @@ pub mod StepLemmas
 pub mod RestLemmas
 pub mod ClashLemmas
 pub mod SerialLemmas
-pub mod FixtureLemmas

@@ -11,8 +11,6 @@ mod clash;
 mod entry;
 mod propagation;
 mod rebase;
-#[cfg(test)]
-mod tests;
 
 pub use model::{Clash, ClashKind};
 pub use propagation::propagate;

@@ -1,2 +1,3 @@
 mod LayerLemmas
 mod VersionLemmas
+mod FoldLemmas

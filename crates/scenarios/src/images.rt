@@ -15,7 +15,7 @@ mod drawn;
 use crate::shown::{row_text, rows_text};
 use delta::DeltaTree;
 use fixtures::{BASE, Item, ItemWrite, copy_rows, item_columns, items, key, writes_of};
-use merge::{Layers, Run};
+use merge::{Layers, Stretch};
 use model::Write;
 use oracle::{Effects, OrderedTable, canonical_entries, merged_rows};
 use stable::StableTable;
@@ -24,10 +24,10 @@ use std::test::Fail;
 use values::{Row, Schema};
 
 /// More rows than any image here has.
-const AMPLE: u64 = 1_000_000;
+pub(crate) const AMPLE: u64 = 1_000_000;
 
 /// More rows, or entries, than any table here has.
-const MANY: usize = 1_000_000;
+pub(crate) const MANY: usize = 1_000_000;
 
 /// A tree over a table, and the table after its effects.
 #[derive(Drop)]
@@ -63,7 +63,7 @@ fn fits(schema: &Schema, write: &Write) -> bool
 }
 
 /// Whether each write fits the schema.
-fn all_fit(schema: &Schema, writes: &[Write]) -> bool
+pub(crate) fn all_fit(schema: &Schema, writes: &[Write]) -> bool
     ensures { result ≡ list_all (write_fits_schema schema.now) writes.now }
 {
     writes.iter().all(|write| fits(schema, write))
@@ -143,13 +143,13 @@ fn named_stack(alloc: Global, rows: &[Row], named: [&[ItemWrite]; 3]) -> Result<
     )
 }
 
-/// How many rows the runs of a range have.
-fn rows_in_runs(layers: &Layers<'_>, from: u64, to: u64) -> u64 {
+/// How many rows the stretches of a range have.
+fn rows_in_stretches(layers: &Layers<'_>, from: u64, to: u64) -> u64 {
     let mut count = 0_u64;
-    for run in layers.runs(from, to) {
-        let rows = match run {
-            Run::Stable(stable) => stable.len,
-            Run::Row(_) => 1,
+    for stretch in layers.stretches(from, to) {
+        let rows = match stretch {
+            Stretch::Stable(stable) => stable.len,
+            Stretch::Row(_) => 1,
         };
         count = count.wrapping_add(rows);
     }
@@ -195,9 +195,9 @@ fn three_layers_make_one_image(rt: HostRuntime) -> Result<(), Fail> {
     }
     assert_eq!(rt; layers.scan(1, 9).len(), 3);
     assert_eq!(rt; layers.scan(1, 9).size_hint(), (3, Some(3)));
-    assert_eq!(rt; layers.runs(1, 9).size_hint(), (1, Some(3)));
-    assert_eq!(rt; layers.runs(1, 9).rows_left(), 3);
-    assert_eq!(rt; rows_in_runs(&layers, 1, 9), 3);
+    assert_eq!(rt; layers.stretches(1, 9).size_hint(), (1, Some(3)));
+    assert_eq!(rt; layers.stretches(1, 9).rows_left(), 3);
+    assert_eq!(rt; rows_in_stretches(&layers, 1, 9), 3);
     Ok(())
 }
 

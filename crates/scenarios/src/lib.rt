@@ -6,6 +6,8 @@
 #![tactic(auto)]
 
 #[cfg(test)]
+mod folds;
+#[cfg(test)]
 mod images;
 #[cfg(test)]
 mod managers;
@@ -13,6 +15,8 @@ mod managers;
 mod programs;
 #[cfg(test)]
 mod shown;
+#[cfg(test)]
+mod stores;
 #[cfg(test)]
 mod tables;
 #[cfg(test)]

@@ -17,7 +17,7 @@ use std::alloc::Global;
 use std::process::Abort;
 use std::sync::Arc;
 use std::test::Fail;
-use txn::{RowView, Run, Txn, Version, WriteFault, WriteReply};
+use txn::{RowView, Stretch, Txn, Version, WriteFault, WriteReply};
 use values::{Key, NoMemory, Row, ShapeFault, Value, ValueRef};
 
 /// How many rows are the most in these tests.
@@ -254,13 +254,13 @@ fn reads_are_of_the_table_with_its_own_writes(rt: HostRuntime) -> Result<(), Fai
     Ok(())
 }
 
-/// The runs of all rows: a row by its number, stable rows by their first place and their count.
-fn run_shape(alloc: Global, txn: &Txn) -> Result<String, NoMemory> {
+/// The stretches of all rows: a row by its number, stable rows by their first place and their count.
+fn stretch_shape(alloc: Global, txn: &Txn) -> Result<String, NoMemory> {
     let mut text = String::new(alloc);
-    for run in txn.runs(0, u64::MAX) {
-        let part = match run {
-            Run::Stable(rows) => format!(in alloc; "Stable {}+{};", rows.sid, rows.len)?,
-            Run::Row(view) => format!(in alloc; "Row {};", number_of(Some(view)))?,
+    for stretch in txn.stretches(0, u64::MAX) {
+        let part = match stretch {
+            Stretch::Stable(rows) => format!(in alloc; "Stable {}+{};", rows.sid, rows.len)?,
+            Stretch::Row(view) => format!(in alloc; "Row {};", number_of(Some(view)))?,
         };
         text.push_str(part.as_str())?;
     }
@@ -268,7 +268,7 @@ fn run_shape(alloc: Global, txn: &Txn) -> Result<String, NoMemory> {
 }
 
 #[test]
-fn its_rows_stand_in_runs_and_make_a_table(rt: HostRuntime) -> Result<(), Fail> {
+fn its_rows_stand_in_stretches_and_make_a_table(rt: HostRuntime) -> Result<(), Fail> {
     let alloc = rt.alloc();
     let deleted = key(alloc, 10)?;
     let changed = key(alloc, 20)?;
@@ -277,13 +277,13 @@ fn its_rows_stand_in_runs_and_make_a_table(rt: HostRuntime) -> Result<(), Fail> 
     let removed = txn.delete(&deleted);
     let added = txn.insert(row);
     let set = txn.set(&changed, 2, Value::Int(7));
-    let runs = run_shape(alloc, &txn);
+    let stretches = stretch_shape(alloc, &txn);
     let table = txn.to_table(alloc);
     txn.abort();
     assert!(&rt; removed == Ok(WriteReply::Done));
     assert!(&rt; added == Ok(WriteReply::Done));
     assert!(&rt; set == Ok(WriteReply::Done));
-    assert_eq!(&rt; runs?.as_str(), "Row 20;Row 25;Stable 2+1;");
+    assert_eq!(&rt; stretches?.as_str(), "Row 20;Row 25;Stable 2+1;");
     let table = table?;
     assert!(&rt; table.len() == 3);
     for (sid, id, name, quantity) in [(0, 20, "Bob", 7), (1, 25, "Dee", 4), (2, 30, "Cid", 3)] {

@@ -9,6 +9,7 @@ ghost use Rattle.std.specs.Prelude.{◌≡◌, ◌<◌, IsTrue, IfOk, IfSome, Is
 ghost use Rattle.values.specs.Shape.{key_of};
 ghost use Rattle.delta.specs.Lookups.{inserted_row};
 
+mod depths;
 mod places;
 
 use crate::shown::entries_text;
@@ -19,14 +20,6 @@ use std::process::Abort;
 use std::test::Fail;
 use values::{Key, NoMemory, Row, Value, ValueRef};
 
-/// The first cell of a row, which is its key.
-fn key_cells(row: &Row) -> &[Value]
-    ensures { result.now ≡ key_of 1 row.now }
-{
-    let cells = row.cells();
-    &cells[..cells.len().min(1)]
-}
-
 /// Puts the row in, where its key isn't inserted at the SID.
 fn put_ins(rt: &impl Abort, tree: &mut DeltaTree, sid: u64, row: Row) -> Result<(), NoMemory>
     requires keyed { tree.old.key_cols ≡ 1 }
@@ -34,7 +27,7 @@ fn put_ins(rt: &impl Abort, tree: &mut DeltaTree, sid: u64, row: Row) -> Result<
 {
     assert!(rt; sid < 100);
     assert!(rt; tree.len() < 100);
-    assert!(rt; tree.find_insert(sid, key_cells(&row)).is_none());
+    assert!(rt; tree.find_insert(sid, row.key(1)).is_none());
     tree.put_ins(sid, row)
 }
 

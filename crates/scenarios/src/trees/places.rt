@@ -4,7 +4,7 @@ ghost use Rattle.std.specs.Prelude.{◌≡◌};
 
 use super::changed;
 use crate::shown::entries_text;
-use delta::{DeltaTree, KeyPlace, Place};
+use delta::{DeltaTree, KeyIndex, Place};
 use fixtures::{Step, copy_entry, key};
 use std::alloc::Global;
 use std::test::Fail;
@@ -55,8 +55,8 @@ fn made_again(alloc: Global, tree: &DeltaTree) -> Result<DeltaTree, NoMemory>
     requires keyed { tree.now.key_cols ≡ 1 }
 {
     let mut entries = Vec::with_capacity(alloc, tree.len())?;
-    for place in 0..tree.len() {
-        if let Some(entry) = tree.entry(place) {
+    for index in 0..tree.len() {
+        if let Some(entry) = tree.entry(index) {
             entries.push(copy_entry(entry)?)?;
         }
     }
@@ -69,7 +69,7 @@ fn a_tree_with_no_entries_has_none_anywhere(rt: HostRuntime) -> Result<(), Fail>
     assert!(rt; tree.entries_at(0).next().is_none());
     assert!(rt; tree.iter_from(0).next().is_none());
     assert!(rt; tree.entry(0).is_none());
-    assert_eq!(rt; tree.base_place(3), 0);
+    assert_eq!(rt; tree.base_index(3), 0);
     assert!(rt; tree.copy()?.is_empty());
     assert!(rt; made_again(rt.alloc(), &tree)?.is_empty());
     Ok(())
@@ -100,17 +100,17 @@ fn the_entries_from_a_place_on_follow_those_before_it(rt: HostRuntime) -> Result
     let Some(tree) = changed(&rt, alloc, MIXED.as_slice())? else {
         return Ok(());
     };
-    for (place, rest) in [
+    for (index, rest) in [
         (0, "1+20,Bea,8 1-20 2:1=Cy 2:2=7 3+40,Gus,9"),
         (1, "1-20 2:1=Cy 2:2=7 3+40,Gus,9"),
         (4, "3+40,Gus,9"),
         (5, ""),
     ] {
-        assert!(rt; place <= tree.len());
-        let text = entries_text(alloc, tree.iter_from(place))?;
-        assert_eq!(rt; text.as_str(), rest, "from {place}");
+        assert!(rt; index <= tree.len());
+        let text = entries_text(alloc, tree.iter_from(index))?;
+        assert_eq!(rt; text.as_str(), rest, "from {index}");
     }
-    for (place, sid) in [
+    for (index, sid) in [
         (0, Some(1)),
         (1, Some(1)),
         (2, Some(2)),
@@ -118,8 +118,8 @@ fn the_entries_from_a_place_on_follow_those_before_it(rt: HostRuntime) -> Result
         (4, Some(3)),
         (5, None),
     ] {
-        let found = tree.entry(place).map(|entry| entry.sid);
-        assert_eq!(rt; found, sid, "at {place}");
+        let found = tree.entry(index).map(|entry| entry.sid);
+        assert_eq!(rt; found, sid, "at {index}");
     }
     Ok(())
 }
@@ -129,8 +129,8 @@ fn a_base_rows_changes_stand_past_the_inserts_at_its_sid(rt: HostRuntime) -> Res
     let Some(tree) = changed(&rt, rt.alloc(), MIXED.as_slice())? else {
         return Ok(());
     };
-    for (sid, place) in [(0, 0), (1, 1), (2, 2), (3, 5), (4, 5)] {
-        assert_eq!(rt; tree.base_place(sid), place, "at {sid}");
+    for (sid, index) in [(0, 0), (1, 1), (2, 2), (3, 5), (4, 5)] {
+        assert_eq!(rt; tree.base_index(sid), index, "at {sid}");
     }
     Ok(())
 }
@@ -162,8 +162,8 @@ fn a_tree_with_no_entries_moves_nothing(rt: HostRuntime) -> Result<(), Fail> {
         assert!(rt; at <= MOST);
         assert_eq!(rt; tree.shift_before(at), 0, "at {at}");
         assert_eq!(rt; tree.find_rid(at), Place::Base(at), "at {at}");
-        let there = KeyPlace {
-            place: 0,
+        let there = KeyIndex {
+            index: 0,
             rid: at,
             found: false,
         };
@@ -230,9 +230,9 @@ fn each_position_has_its_place(rt: HostRuntime) -> Result<(), Fail> {
         let Some(tree) = changed(&rt, rt.alloc(), steps.as_slice())? else {
             return Ok(());
         };
-        for (rid, place) in cases {
+        for (rid, index) in cases {
             assert!(rt; rid <= MOST);
-            assert_eq!(rt; tree.find_rid(rid), place, "{label} at {rid}");
+            assert_eq!(rt; tree.find_rid(rid), index, "{label} at {rid}");
         }
     }
     Ok(())
@@ -273,9 +273,9 @@ fn a_key_has_its_place_among_the_inserts_at_a_sid(rt: HostRuntime) -> Result<(),
         let Some(tree) = changed(&rt, alloc, steps.as_slice())? else {
             return Ok(());
         };
-        for (sid, id, place, rid, found) in cases {
+        for (sid, id, index, rid, found) in cases {
             assert!(rt; sid <= MOST);
-            let there = KeyPlace { place, rid, found };
+            let there = KeyIndex { index, rid, found };
             assert_eq!(rt;
                 tree.find_key(sid, key(alloc, id)?.cells()),
                 there,

@@ -1,5 +1,5 @@
-//! Depths, one entry at a time and all at once.
-use crate::CountedTree;
+//! Depths of the counted tree, one entry at a time and all at once.
+use counted::CountedTree;
 use model::{Change, Entry};
 use std::alloc::{AllocError, Global};
 use std::process::Abort;
@@ -47,7 +47,7 @@ fn depths(rt: &(impl Abort + AllocGlobal), count: u32, depth: usize) -> Result<(
 }
 
 #[test]
-fn levels(rt: HostRuntime) -> Result<(), Fail> {
+fn depth_follows_the_count(rt: HostRuntime) -> Result<(), Fail> {
     depths(&rt, 0, 1)?;
     depths(&rt, 15, 1)?;
     depths(&rt, 17, 2)?;

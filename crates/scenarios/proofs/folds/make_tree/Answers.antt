@@ -2,9 +2,10 @@ use Rattle.std.proofs.Common.{◌∙◌, ◌≤◌, ◌<◌, ◌^◌, length, sy
 use Rattle.model.specs.Effects.{AreOver}
 use Rattle.model.specs.Table.{IsTable}
 use Rattle.model.proofs.AllLaws.{leaves}
-use Rattle.layers.specs.declared.tests.TheConstants.{AMPLE}
-use Rattle.layers.proofs.FixtureLemmas.{lawful_layer, over_writes, is_tree}
-use Rattle.layers.proofs.tests.make_layer.Goals as goal
+use Rattle.scenarios.specs.declared.images.TheConstants.{AMPLE}
+use Rattle.scenarios.proofs.LayerLemmas.{lawful_layer, over_writes}
+use Rattle.scenarios.proofs.FoldLemmas.{is_tree}
+use Rattle.scenarios.proofs.folds.make_tree.Goals as goal
 
 pub from_sorted-requires : goal.from_sorted-requires
 from_sorted-requires c =

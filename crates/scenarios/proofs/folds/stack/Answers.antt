@@ -1,5 +1,5 @@
-use Rattle.layers.proofs.FixtureLemmas.{are_consecutive}
-use Rattle.layers.proofs.tests.stack.Goals as goal
+use Rattle.scenarios.proofs.FoldLemmas.{are_consecutive}
+use Rattle.scenarios.proofs.folds.stack.Goals as goal
 
 pub returns : goal.returns
 returns c =

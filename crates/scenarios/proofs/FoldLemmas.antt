@@ -15,24 +15,7 @@ use Rattle.delta.proofs.CountLemmas.{counts-le}
 use Rattle.layers.specs.Over.{IsTreeOf, IsSmall, AreConsecutive, AreAligned}
 
 module _ (schema : Columns) (t : Table) (x : Effects) where
-  -- writes that fit the schema leave effects over the table
-  pub over_writes : (writes : List Write) (limit key_cols : ℕ) (none : Effects) → IsTable schema t → list_all (write_fits_schema schema) writes ≡ true → key_cols ≡ schema.key_cols → x ≡ effects_after_all key_cols limit t none writes → none ≡ [] → AreOver schema t x
-  over_writes writes limit key_cols none table fit keys is empty =
-      let start : AreOver schema t [] = record { table = table; effects_are = record { keyed = refl; fitting = refl }; fit = refl } in
-      subst (AreOver schema t) (sym (is ∙ (λ i. effects_after_all (keys i) limit t (empty i) writes))) (all_keep schema limit t [] writes start fit)
-
-  -- their entries are lawful, where there aren't too many rows or entries
-  pub lawful_layer : AreOver schema t x → (entries : List Entry) (key_cols : ℕ) → key_cols ≡ schema.key_cols → entries ≡ canonical_entries t x → length t < 2 ^ 32 → length entries ≤ 2 ^ 40 → IsLawful key_cols entries
-  lawful_layer over entries key_cols keys is few short =
-      let h = ordered schema t x over in
-      let whole : IsLawful schema.key_cols (canonical_entries t x) = record {
-        ordered = h.ordered;
-        placed = λ i d lt. omega (arith, h.placed i d lt, few);
-        counted = omega (arith, short, ap length is);
-      } in
-      subst (λ n. IsLawful n entries) (sym keys) (subst (IsLawful schema.key_cols) (sym is) whole)
-
-  -- and they are the effects' tree
+  -- the entries of effects over a table are their tree
   pub is_tree : AreOver schema t x → (entries : List Entry) (key_cols : ℕ) (tree : Tree) → key_cols ≡ schema.key_cols → entries ≡ canonical_entries t x → length entries < 1000000 → tree ≡ record { key_cols = key_cols; entries = entries } → IsTreeOf schema t x tree
   is_tree over entries key_cols tree keys is few made = record {
     over = over;

@@ -1,5 +1,5 @@
-use Rattle.layers.proofs.FixtureLemmas.{are_aligned}
-use Rattle.layers.proofs.tests.align.Goals as goal
+use Rattle.scenarios.proofs.FoldLemmas.{are_aligned}
+use Rattle.scenarios.proofs.folds.align.Goals as goal
 
 pub returns : goal.returns
 returns c =

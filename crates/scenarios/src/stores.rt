@@ -1,6 +1,6 @@
 //! What devices leave at their end.
 
-use super::*;
+use devices::{ColumnDevice, FailAt, MemColumn, Store};
 use stable::StableTable;
 use std::alloc::Global;
 use std::sync::{Arc, OnceLock};
