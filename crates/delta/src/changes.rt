@@ -18,7 +18,7 @@ impl DeltaTree {
     /// `NoMemory` where a growth is refused: the tree is as it was, and the row is dropped.
     pub fn put_ins(&mut self, sid: u64, row: Row) -> Result<(), NoMemory>
         requires free { IsNone (inserted_row self.old.key_cols sid (key_of self.old.key_cols row) self.old.entries) }
-        requires place { sid < 2 ^ 32 }
+        requires sid { sid < 2 ^ 32 }
         requires room { length (put_ins self.old.key_cols sid row self.old.entries) ≤ 2 ^ 40 }
         ensures ok { OnOk result (self.new ≡ record self.old { entries = put_ins self.old.key_cols sid row self.old.entries }) }
         ensures err { OnErr result (self.new ≡ self.old) }
@@ -37,7 +37,7 @@ impl DeltaTree {
     /// `NoMemory` where a growth is refused: the tree is as it was, and the key is dropped.
     pub fn put_del(&mut self, sid: u64, key: Key) -> Result<(), NoMemory>
         requires free { IsFalse (has_delete sid self.old.entries) }
-        requires place { sid < 2 ^ 32 }
+        requires sid { sid < 2 ^ 32 }
         requires room { length (put_del self.old.key_cols sid key self.old.entries) ≤ 2 ^ 40 }
         ensures ok { OnOk result (self.new ≡ record self.old { entries = put_del self.old.key_cols sid key self.old.entries }) }
         ensures err { OnErr result (self.new ≡ self.old) }
@@ -57,7 +57,7 @@ impl DeltaTree {
     /// `NoMemory` where a growth is refused: the tree is as it was, and the value is dropped.
     pub fn put_mod(&mut self, sid: u64, col: usize, value: Value) -> Result<(), NoMemory>
         requires free { IsFalse (has_delete sid self.old.entries) }
-        requires place { sid < 2 ^ 32 }
+        requires sid { sid < 2 ^ 32 }
         requires room { length (put_mod self.old.key_cols sid col value self.old.entries) ≤ 2 ^ 40 }
         ensures ok { OnOk result (self.new ≡ record self.old { entries = put_mod self.old.key_cols sid col value self.old.entries }) }
         ensures err { OnErr result (self.new ≡ self.old) }

@@ -28,7 +28,7 @@ pub(crate) fn edit(
     reply: WriteReply,
 ) -> Result<(), NoMemory>
     requires may { IsTrue (is_done reply) → MayBeEdited tree.old.key_cols found.sid found.inserted write.now tree.old.entries }
-    requires place { found.sid ≤ MAX_ROWS }
+    requires sid { found.sid ≤ MAX_ROWS }
     requires room { IsTrue (is_done reply) → length (edited tree.old.key_cols found.sid found.inserted write.now tree.old.entries) ≤ 2 ^ 40 }
     ensures ok { OnOk result (tree.new ≡ record tree.old { entries = cond (is_done reply) (edited tree.old.key_cols found.sid found.inserted write.now tree.old.entries) tree.old.entries }) }
     ensures err { OnErr result (tree.new ≡ tree.old) }

@@ -28,8 +28,8 @@ find_rid-requires c = small_rid c.args.tree.now c.args.entry.now c.requires
 pub find_rid-requires-in-Mod : goal.find_rid-requires-in-Mod
 find_rid-requires-in-Mod c = small_rid c.args.tree.now c.args.entry.now c.requires
 
-pub put_ins-requires-clause-index : goal.put_ins-requires-clause-index
-put_ins-requires-clause-index c =
+pub put_ins-requires-clause-sid : goal.put_ins-requires-clause-sid
+put_ins-requires-clause-sid c =
     let t = c.args.tree.now in
     let e = c.args.entry.now in
     let row = c.in-Ins.row in
@@ -96,8 +96,8 @@ returns-in-Inserted c =
           (λ v. take_next t e.sid key v c.in-Inserted.index c.entry_of.result.now only c.entry_of.ensures c.take_ins.new.self new_is)) c.take_ins.ensures.ok;
     }
 
-pub put_del-requires-clause-index : goal.put_del-requires-clause-index
-put_del-requires-clause-index c =
+pub put_del-requires-clause-sid : goal.put_del-requires-clause-sid
+put_del-requires-clause-sid c =
     let t = c.args.tree.now in
     let e = c.args.entry.now in
     let key = c.in-Del.key in
@@ -197,8 +197,8 @@ returns-in_ok-copy-in-Inserted-find_rid c =
           (λ v. set_next t e.sid col value v c.in-Inserted-find_rid.index c.entry_of-inserted.result.now k only c.entry_of-inserted.ensures key_is c.set_ins.new.self (new_is ∙ ap (λ (x : Value). record t { entries = set_ins t.key_cols c.entry_of-inserted.result.now.sid k col x t.entries }) copied))) c.set_ins.ensures.ok;
     }
 
-pub put_mod-requires-clause-index : goal.put_mod-requires-clause-index
-put_mod-requires-clause-index c =
+pub put_mod-requires-clause-sid : goal.put_mod-requires-clause-sid
+put_mod-requires-clause-sid c =
     let t = c.args.tree.now in
     let e = c.args.entry.now in
     let col = c.in-Mod.col in

@@ -40,5 +40,5 @@ invariant_of-self-2 c =
     let same : new ≡ put_del t.key_cols c.args.sid c.args.key t.entries =
     c.in_ok-replace_run.ensures.ok ∙ ap (λ (xs : List Entry). with_run xs n m e) list ∙ sym (put_del-split t.key_cols c.args.sid c.args.key t.entries n m c.base_index-index.ensures c.index_past-end.ensures c.requires.free) in
     let lawful_before : IsLawful t.key_cols t.entries = subst (λ (w : Tree). IsLawful w.key_cols w.entries) c.self.view_is c.self.invariant in
-    let lawful : IsLawful c.self.inside.key_cols new = subst (λ (k : ℕ). IsLawful k new) (sym width) (subst (λ (xs : List Entry). IsLawful t.key_cols xs) (sym same) (IsLawful-put_del t.key_cols c.args.sid c.args.key t.entries n m lawful_before c.base_index-index.ensures c.index_past-end.ensures c.requires.free c.requires.index c.requires.room)) in
+    let lawful : IsLawful c.self.inside.key_cols new = subst (λ (k : ℕ). IsLawful k new) (sym width) (subst (λ (xs : List Entry). IsLawful t.key_cols xs) (sym same) (IsLawful-put_del t.key_cols c.args.sid c.args.key t.entries n m lawful_before c.base_index-index.ensures c.index_past-end.ensures c.requires.free c.requires.sid c.requires.room)) in
     lawful

@@ -38,5 +38,5 @@ invariant_of-self-2 c =
     let same : new ≡ put_mod t.key_cols c.args.sid c.args.col c.args.value t.entries =
     run ∙ sym (put_mod-split t.key_cols c.args.sid c.args.col c.args.value t.entries n c.index_of_modify-index.ensures c.requires.free) in
     let lawful_before : IsLawful t.key_cols t.entries = subst (λ (w : Tree). IsLawful w.key_cols w.entries) c.self.view_is c.self.invariant in
-    let lawful : IsLawful c.self.inside.key_cols new = subst (λ (k : ℕ). IsLawful k new) (sym width) (subst (λ (xs : List Entry). IsLawful t.key_cols xs) (sym same) (IsLawful-put_mod t.key_cols c.args.sid c.args.col c.args.value t.entries n lawful_before c.index_of_modify-index.ensures c.requires.free c.requires.index c.requires.room)) in
+    let lawful : IsLawful c.self.inside.key_cols new = subst (λ (k : ℕ). IsLawful k new) (sym width) (subst (λ (xs : List Entry). IsLawful t.key_cols xs) (sym same) (IsLawful-put_mod t.key_cols c.args.sid c.args.col c.args.value t.entries n lawful_before c.index_of_modify-index.ensures c.requires.free c.requires.sid c.requires.room)) in
     lawful

@@ -20,8 +20,8 @@ is_seen : (c : goal.After-write-3-1) → IsSeen (fields c) c.args.write c.find-f
 is_seen c = seen (fields c) c.args.self.now c.self.view_is c.args.write c.schema.result.now c.key_cols-key_cols.result c.key_of_write.result.now c.find-found.result.sid c.len.result c.find-found.result.there c.find-found.result.inserted c.reply_where-reply.result c.requires
     c.schema.ensures c.key_cols-key_cols.ensures.count c.key_of_write.ensures c.find-found.ensures c.len.ensures c.reply_where-reply.ensures
 
-pub edit-requires-clause-index : goal.edit-requires-clause-index
-edit-requires-clause-index c = seen_place (fields c) c.self.invariant.0 c.self.inside.tree c.self.invariant.1 c.args.write c.find-found.result.sid c.find-found.result.inserted c.reply_where-reply.result (is_seen c)
+pub edit-requires-clause-sid : goal.edit-requires-clause-sid
+edit-requires-clause-sid c = seen_place (fields c) c.self.invariant.0 c.self.inside.tree c.self.invariant.1 c.args.write c.find-found.result.sid c.find-found.result.inserted c.reply_where-reply.result (is_seen c)
 
 pub edit-requires-clause-may : goal.edit-requires-clause-may
 edit-requires-clause-may c = seen_may (fields c) c.self.invariant.0 c.self.inside.tree c.self.invariant.1 c.args.write c.find-found.result.sid c.find-found.result.inserted c.reply_where-reply.result (is_seen c)

@@ -1,0 +1,35 @@
+//! The library in a few lines, as the README shows it: a table is opened, a transaction sets a cell and commits, and the
+//! newest table is shown.
+#![tactic(auto)]
+
+use model::CommitReply;
+use pdtcli::{Manager, StableTable, read_table};
+use values::limits::MAX_ROWS;
+use values::{Key, NoMemory, Value};
+
+const TABLE: &[u8] = b"id:int:key,name:text,qty:int\n10,Ann,1\n20,Bob,2\n";
+
+fn main(rt: HostRuntime) -> anyhow::Result<()> {
+    let alloc = rt.alloc();
+    let (schema, rows) = read_table(alloc, TABLE)?;
+    let table = StableTable::build(alloc, schema, rows)?;
+    let mut manager = Manager::open(alloc, table, 64, MAX_ROWS)?;
+
+    let key = Key::new(vec![in alloc; Value::Int(10)]?);
+    let mut txn = manager.begin(0)?; // client 0, over the newest table
+    let reply = txn.set(&key, 2, Value::Int(7)); // Ok(WriteReply::Done), or Missing
+    match manager.commit(txn) {
+        Ok(CommitReply::Committed(number)) => println!(rt; "{reply:?}, commit {number}")?,
+        Ok(refused) => println!(rt; "{refused:?}")?, // Conflict, TooOld or Full
+        Err((txn, NoMemory)) => txn.abort(), // nothing has changed
+    }
+
+    let newest = manager.newest(); // rows in key order, kept by columns
+    for sid in 0..newest.len() {
+        for col in 0..newest.schema().width() {
+            print!(rt; "{:?} ", newest.value(sid, col))?; // lent, in constant time
+        }
+        println!(rt; "")?;
+    }
+    Ok(())
+}
