@@ -83,24 +83,29 @@ fn program<'a>(alloc: Global) -> Result<Command<'a>, Error>
     ensures err { IfErr result (λ error. kind_of error ≡ OutOfMemory) }
 {
     let table = Arg::new(alloc, "table")
+        .help("The table, as CSV: a header such as id:int:key,name:text, then a record for each row")
         .value_name("TABLE")
         .required(true)
         .action(ArgAction::Set);
     let script = Arg::new(alloc, "script")
+        .help("The script, as CSV: a client and its call in each record, such as a,insert,25,Dee,4")
         .value_name("SCRIPT")
         .required(true)
         .action(ArgAction::Set);
     let limit = Arg::new(alloc, "limit")
+        .help("The most rows that the table may have, 1 to 2147483647")
         .long("limit")
         .value_name("N")
         .action(ArgAction::Set)
         .value_parser(clap::value_parser!(u64).range(1..=MAX_ROWS as i64));
     let run = Command::new(alloc, "run")
+        .about("Runs a script over a table, and prints each reply and then the newest table")
         .arg(table)?
         .arg(script)?
         .arg(limit)?;
     Ok(
         Command::new(alloc, "pdt")
+            .about("Runs transactions over a table, with Positional Delta Trees under snapshot isolation")
             .subcommand_required(true)
             .subcommand(run)?,
     )
