@@ -201,9 +201,9 @@ module _ (c : Cursor) where
   kc = c.tree.now.key_cols
 
   -- past an insert
-  pub inserts_next : (row : Row) (new : Cursor) → slice_get es c.index ≡ Some (entry_at c.sid (Ins row)) → new ≡ record c { place = c.index + 1 } → InsertsNext row c new
+  pub inserts_next : (row : Row) (new : Cursor) → slice_get es c.index ≡ Some (entry_at c.sid (Ins row)) → new ≡ record c { index = c.index + 1 } → InsertsNext row c new
   inserts_next row new is next =
-      let n : Cursor = record c { place = c.index + 1 } in
+      let n : Cursor = record c { index = c.index + 1 } in
       let left : entries_left c ≡ entry_at c.sid (Ins row) ∷ entries_left n = drop-at es c.index (entry_at c.sid (Ins row)) is in
       subst (λ x. InsertsNext row c x) (sym next) (record {
         rows = λ base. ap (merged_rows_from c.sid base) left ∙ merged_rows_from_insert c.sid row base (entries_left n);
@@ -216,10 +216,10 @@ module _ (c : Cursor) where
       })
 
   -- past the delete of the next base row
-  pub deletes_next : (key : Key) (new : Cursor) → slice_get es c.index ≡ Some (entry_at c.sid (Del key)) → new ≡ record c { place = c.index + 1; sid = c.sid + 1 } → DeletesNext c new
+  pub deletes_next : (key : Key) (new : Cursor) → slice_get es c.index ≡ Some (entry_at c.sid (Del key)) → new ≡ record c { index = c.index + 1; sid = c.sid + 1 } → DeletesNext c new
   deletes_next key new is next =
       let x : Entry = entry_at c.sid (Del key) in
-      let n : Cursor = record c { place = c.index + 1; sid = c.sid + 1 } in
+      let n : Cursor = record c { index = c.index + 1; sid = c.sid + 1 } in
       let left : entries_left c ≡ x ∷ entries_left n = drop-at es c.index x is in
       let later : c.sid < c.sid + 1 = omega arith in
       let step : c.sid + 1 ≡ suc c.sid = omega arith in
@@ -247,7 +247,7 @@ module _ (c : Cursor) where
       })
 
   -- that is what the test says
-  pub deletes_test : (new : Cursor) → starts_with_delete c.sid (entries_left c) ≡ true → new ≡ record c { place = c.index + 1; sid = c.sid + 1 } → DeletesNext c new
+  pub deletes_test : (new : Cursor) → starts_with_delete c.sid (entries_left c) ≡ true → new ≡ record c { index = c.index + 1; sid = c.sid + 1 } → DeletesNext c new
   deletes_test new test next = by (entries_left c) refl test
     where
       at_change : (x : Entry) (rest : List Entry) → entries_left c ≡ x ∷ rest → x.sid ≡ c.sid → (d : Change) → x.change ≡ d → is_delete d ≡ true → DeletesNext c new

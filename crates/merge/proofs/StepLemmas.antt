@@ -158,7 +158,7 @@ module _ (c : Cursor) where
         let lt = lt_of c.sid (c.sid + count) (second (nat_le c.sid c.sid) (nat_lt c.sid (c.sid + count)) (first (stands_within c.sid (c.sid + count) (entry_at c.sid (Mod col value))) _ w)) in
         omega arith
 
-    pub modifies_next : (new : Cursor) (place : ℕ) → drop place es ≡ entries_past c.sid (entries_left c) → (T (list_all (is_past (suc c.sid)) (take c.index es)) → T (list_all (is_past (suc c.sid)) (take place es))) → new ≡ record c { place = place; sid = c.sid + 1 } → ModifiesNext c.sid c new
+    pub modifies_next : (new : Cursor) (place : ℕ) → drop place es ≡ entries_past c.sid (entries_left c) → (T (list_all (is_past (suc c.sid)) (take c.index es)) → T (list_all (is_past (suc c.sid)) (take place es))) → new ≡ record c { index = place; sid = c.sid + 1 } → ModifiesNext c.sid c new
     modifies_next new place further past next =
         let step : c.sid + 1 ≡ suc c.sid = omega arith in
         let low : c.sid ≤ suc c.sid = omega arith in

@@ -48,5 +48,5 @@ returns-in-Del-clause-step c =
     let at = sym c.entry.ensures ∙ ap option_copied c.in-Some.is in
     let low = cursor-le old c.requires.is.0 x c.requires.is.1 at in
     let here : x.sid ≡ old.sid = omega (arith, c.if-entry-self.false, low) in
-    let new = record old { place = c.past_sid-self.result; sid = old.sid + 1 } in
+    let new = record old { index = c.past_sid-self.result; sid = old.sid + 1 } in
     subst (λ n. ModifiesNext n old new) (sym here) (modifies_next old x at here c.requires.undeleted (no_insert x c.in-Del.is) new c.past_sid-self.result c.past_sid-self.ensures.rest c.past_sid-self.ensures.past refl)
