@@ -1,16 +1,16 @@
 -- A history decided record by record, whatever the schema's columns: only the number of key columns matters to a reply.
-use Rattle.std.specs.Prelude.{◌≡◌, ℕ, ◌≤◌, IsTrue, MatchOption, cond, Option, List, [], ◌∷◌, map, length}
+use Rattle.std.specs.Prelude.{◌≡◌, ℕ, ◌+◌, ◌≤◌, nat_le, IsTrue, MatchOption, IsSomeAnd, cond, Option, Some, List, [], ◌∷◌, map, length, slice_get}
 use Rattle.std.specs.List.{list_all}
 use Rattle.values.specs.Shape.{Columns}
 use Rattle.model.specs.declared.write.Write.{Write}
 use Rattle.model.specs.declared.write.WriteReply.{WriteReply}
-use Rattle.model.specs.Table.{Table}
+use Rattle.model.specs.Table.{Table, IsTable}
 use Rattle.model.specs.Effects.{Effects}
 use Rattle.values.specs.Orders.{key_cmp}
 use Rattle.model.specs.Maps.{alter}
 use Rattle.model.specs.Composition.{composed_effect}
 use Rattle.model.specs.Writes.{write_fits_schema, key_of_write, effect_of_write, is_done, replies_to, effects_after_all}
-use Rattle.model.specs.History.{table_after, Record, writes_of, due_reply, effects_of_record, commits_after}
+use Rattle.model.specs.History.{table_after, Start, Record, writes_of, due_reply, commits_with, effects_of_record, commits_after}
 
 module _ (key_cols limit : ℕ) (t : Table) where
   -- each write got the reply that is due after those before it
@@ -40,22 +40,37 @@ effects_when_all key_cols effects (w ∷ writes) = effects_when_all key_cols (ef
 abbrev pub keyed_by : ℕ → Columns
 keyed_by key_cols = record { names = []; types = []; key_cols = key_cols }
 
-module _ (key_cols limit recent : ℕ) (opening : Table) where
-  -- a record that began at one of these commits and got the replies that are due
+-- the table of a number: from the start's own on by the commits, and below it among the older ones, if it is there
+abbrev pub snapshot_at : Start → List Table → List Effects → ℕ → Option Table
+snapshot_at start older commits k = cond (nat_le start.base k) (Some (table_after start commits k)) (slice_get older k)
+
+module _ (key_cols : ℕ) (start : Start) (older : List Table) where
+  -- a record that began at a number that was there and got the replies that are due
   pub record IsDue (commits : List Effects) (r : Record) : Type 0 where
-    pub begun : r.begin ≤ length commits
-    pub answered : GotDueReplies key_cols limit (table_after opening commits r.begin) [] r.writes
-    pub replied : r.reply ≡ due_reply limit recent opening commits r.begin (effects_of_record (keyed_by key_cols) limit recent opening commits r)
+    pub begun : r.begin ≤ start.base + length commits
+    pub answered : IsSomeAnd (snapshot_at start older commits r.begin) (λ t. GotDueReplies key_cols start.limit t [] r.writes)
+    pub replied : r.reply ≡ due_reply start commits r.begin (effects_of_record (keyed_by key_cols) start commits r)
 
   -- each record is due after those before it
   abbrev pub AreDueFrom : List Effects → List Record → Type 0
   AreDueFrom commits [] = Unit {0}
-  AreDueFrom commits (r ∷ history) = IsDue commits r × AreDueFrom (commits_after (keyed_by key_cols) limit recent opening commits r) history
+  AreDueFrom commits (r ∷ history) = IsDue commits r × AreDueFrom (commits_after (keyed_by key_cols) start commits r) history
 
-  -- the effects of a record that is due, or none of another
-  abbrev pub AreDueEffects : List Effects → Record → Option Effects → Type 0
-  AreDueEffects commits r found = MatchOption found (¬ (IsDue commits r)) (λ effects. IsDue commits r × (effects ≡ effects_of_record (keyed_by key_cols) limit recent opening commits r))
+  -- a record is due and leaves the commits that it leaves with these effects, or it isn't due
+  abbrev pub IsDueAs : List Effects → Record → Option Effects → Type 0
+  IsDueAs commits r found =
+      MatchOption found (¬ (IsDue commits r))
+      (λ effects. IsDue commits r × (commits_with commits effects r.reply ≡ commits_after (keyed_by key_cols) start commits r))
 
 -- each write of a history may be asked for under the schema
 abbrev pub AllFitSchema : Columns → List Record → Type 0
 AllFitSchema schema history = IsTrue (list_all (λ r. list_all (write_fits_schema schema) (writes_of r)) history)
+
+-- each of them is a table of the schema
+abbrev pub AreTables : Columns → List Table → Type 0
+AreTables schema [] = Unit {0}
+AreTables schema (t ∷ tables) = IsTable schema t × AreTables schema tables
+
+-- each record began at this number or a later one
+abbrev pub AllBeginFrom : ℕ → List Record → Type 0
+AllBeginFrom base history = IsTrue (list_all (λ r. nat_le base r.begin) history)

@@ -6,10 +6,10 @@ ghost use Rattle.std.specs.List.{list_any};
 ghost use Rattle.model.specs.Maps.{find};
 ghost use Rattle.model.specs.Effects.{set_cells, fits, row_after};
 ghost use Rattle.model.specs.Composition.{over_cells, composed_effect};
-ghost use Rattle.model.specs.Clashes.{clashes};
+ghost use Rattle.model.specs.Clashes.{clashes, modifies_clash};
 
 use crate::map::put;
-use model::{Cells, Effect};
+use model::{Cells, ConflictRule, Effect};
 use std::alloc::Global;
 use std::collections::BTreeMap;
 use values::{NoMemory, Row, Value};
@@ -102,16 +102,26 @@ pub(crate) fn row_after(
 }
 
 /// Whether two effects on one key can't both be kept.
-pub(crate) fn clashes(x: &Effect, y: Option<&Effect>) -> bool
-    ensures { result ≡ clashes x.now (option_copied y.entry) }
+pub(crate) fn clashes(rule: ConflictRule, x: &Effect, y: Option<&Effect>) -> bool
+    ensures { result ≡ clashes rule x.now (option_copied y.entry) }
 {
     match (x, y) {
         (_, None) => false,
         (Effect::Ins(_), Some(Effect::Ins(_))) => true,
         (Effect::Ins(_), _) => false,
         (_, Some(Effect::Ins(_))) => false,
-        (Effect::Mod(cells), Some(Effect::Mod(others))) => share_column(cells, others),
+        (Effect::Mod(cells), Some(Effect::Mod(others))) => modifies_clash(rule, cells, others),
         _ => true,
+    }
+}
+
+/// Whether two modifies of one row can't both be kept.
+fn modifies_clash(rule: ConflictRule, cells: &Cells, others: &Cells) -> bool
+    ensures { result ≡ modifies_clash rule cells.now others.now }
+{
+    match rule {
+        ConflictRule::ByColumn => share_column(cells, others),
+        ConflictRule::ByRow => true,
     }
 }
 

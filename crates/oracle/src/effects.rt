@@ -9,7 +9,7 @@ ghost use Rattle.model.specs.Clashes.{clashes, conflicts};
 
 use crate::effect::{clashes, composed_effect, copy_effect};
 use crate::map::{put, store};
-use model::Effect;
+use model::{ConflictRule, Effect};
 use std::alloc::Global;
 use std::collections::BTreeMap;
 use std::marker::Model;
@@ -104,19 +104,20 @@ impl Effects {
         Ok(composed)
     }
 
-    /// Whether two transactions can't both be kept: their effects on some key clash. Takes one search for each effect.
-    pub fn conflicts(&self, other: &Effects) -> bool
-        ensures { result ≡ conflicts self.now other.now }
+    /// Whether two transactions can't both be kept by the rule: their effects on some key clash. Takes one search for each
+    /// effect.
+    pub fn conflicts(&self, rule: ConflictRule, other: &Effects) -> bool
+        ensures { result ≡ conflicts rule self.now other.now }
     {
         self.by_key()
             .iter()
-            .any(|(key, effect)| other.clash_at(key, effect))
+            .any(|(key, effect)| other.clash_at(rule, key, effect))
     }
 
     /// Whether an effect on the key clashes with what is done here.
-    fn clash_at(&self, key: &Key, effect: &Effect) -> bool
-        ensures { result ≡ clashes effect.now (find key_cmp key.now self.now) }
+    fn clash_at(&self, rule: ConflictRule, key: &Key, effect: &Effect) -> bool
+        ensures { result ≡ clashes rule effect.now (find key_cmp key.now self.now) }
     {
-        clashes(effect, self.get(key))
+        clashes(rule, effect, self.get(key))
     }
 }

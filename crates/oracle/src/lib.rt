@@ -6,14 +6,14 @@ mod effect;
 mod effects;
 mod entries;
 mod map;
-mod record;
 mod replay;
+mod start;
 mod table;
 
 pub use effects::Effects;
 pub use entries::{canonical_entries, merged_rows};
-pub use record::Record;
 pub use replay::{due_reply, is_legal, table_after};
+pub use start::Start;
 pub use table::{OrderedTable, effects_of_writes};
 
 #[cfg(test)]

@@ -180,7 +180,7 @@ fn is_below(key: &Key, bound: &Key) -> bool
 }
 
 /// The key of the row: its first columns.
-pub(crate) fn key_of(alloc: Global, key_cols: usize, row: &Row) -> Result<Key, NoMemory>
+fn key_of(alloc: Global, key_cols: usize, row: &Row) -> Result<Key, NoMemory>
     ensures { IfOk result (λ key. key ≡ key_of key_cols row.now) }
 {
     let cells = row.cells();

@@ -3,9 +3,10 @@
 //! `NoMemory`, and by nothing else, shows under `rt try --test --fail-alloc 1..`: each `?` then ends its test.
 use super::*;
 use CommitReply::{Committed, Conflict, Full, TooOld};
+use ConflictRule::{ByColumn, ByRow};
 use Reply::{Begun, Decided, Wrote};
 use WriteReply::{Done, Duplicate, Missing};
-use model::{Change, CommitReply, Entry, Write, WriteReply};
+use model::{Change, CommitReply, ConflictRule, Entry, Record, Write, WriteReply};
 use std::alloc::{AllocError, Global};
 use std::mem::swap;
 use std::process::Abort;
@@ -148,13 +149,11 @@ struct Client {
     writes: Vec<(Write, WriteReply)>,
 }
 
-/// The commits over a table, and the history of all who asked for one.
+/// The commits from a start on, and the history of all who asked for one.
 #[derive(Drop)]
 struct Trial {
     alloc: Global,
-    limit: u64,
-    recent: usize,
-    opening: OrderedTable,
+    start: Start,
     commits: Vec<Effects>,
     history: Vec<Record>,
     clients: Vec<Client>,
@@ -162,12 +161,15 @@ struct Trial {
 
 impl Trial {
     /// Three clients who have begun, over the base table.
-    fn new(alloc: Global, limit: u64, recent: usize) -> Result<Trial, NoMemory> {
+    fn new(
+        alloc: Global,
+        limit: u64,
+        recent: usize,
+        rule: ConflictRule,
+    ) -> Result<Trial, NoMemory> {
         let mut trial = Trial {
             alloc,
-            limit,
-            recent,
-            opening: base_table(alloc)?,
+            start: Start::new(base_table(alloc)?, 0, limit, recent, rule),
             commits: Vec::new(alloc),
             history: Vec::new(alloc),
             clients: Vec::new(alloc),
@@ -180,10 +182,10 @@ impl Trial {
     }
 
     fn begun(&self) -> Result<Client, NoMemory> {
-        let begin = self.commits.len() as u64;
+        let begin = self.start.base() + self.commits.len() as u64;
         Ok(Client {
             begin,
-            snapshot: table_after(&self.opening, self.commits.as_slice(), begin)?,
+            snapshot: table_after(&self.start, self.commits.as_slice(), begin)?,
             effects: Effects::new(self.alloc),
             writes: Vec::new(self.alloc),
         })
@@ -196,7 +198,9 @@ impl Trial {
         };
         if let Some(write) = written(self.alloc, call)? {
             let effects = &mut client.effects;
-            let reply = client.snapshot.write(1, self.limit, effects, &write)?;
+            let reply = client
+                .snapshot
+                .write(1, self.start.limit(), effects, &write)?;
             client.writes.push((write, reply))?;
             return Ok(Reply::Wrote(reply));
         }
@@ -215,14 +219,7 @@ impl Trial {
             writes,
         } = client;
         let commits = self.commits.as_slice();
-        let reply = due_reply(
-            self.limit,
-            self.recent,
-            &self.opening,
-            commits,
-            begin,
-            &effects,
-        )?;
+        let reply = due_reply(&self.start, commits, begin, &effects)?;
         if let Committed(_) = reply {
             self.commits.push(effects)?;
         }
@@ -230,23 +227,35 @@ impl Trial {
         Ok(reply)
     }
 
-    /// The rows after all commits.
-    fn image(&self) -> Result<String, NoMemory> {
-        let rows = self.opening.with_all(self.commits.as_slice())?.rows()?;
-        Ok(shown_rows(self.alloc, rows.as_slice())?)
+    /// The table after all commits.
+    fn newest(&self) -> Result<OrderedTable, NoMemory> {
+        self.start.table().with_all(self.commits.as_slice())
     }
 
-    fn is_legal(&self) -> Result<bool, NoMemory> {
-        let history = self.history.as_slice();
-        is_legal(
-            self.alloc,
-            1,
-            self.limit,
-            self.recent,
-            &self.opening,
-            history,
-        )
+    /// Its rows.
+    fn image(&self) -> Result<String, NoMemory> {
+        Ok(shown_rows(self.alloc, self.newest()?.rows()?.as_slice())?)
     }
+
+    /// The history is cut: it goes on from another start, and who has begun stays as it is.
+    fn cut(&mut self, start: Start) {
+        self.start = start;
+        self.commits = Vec::new(self.alloc);
+        self.history = Vec::new(self.alloc);
+    }
+
+    fn is_legal(&self, older: &[OrderedTable]) -> Result<bool, NoMemory> {
+        is_legal(self.alloc, 1, &self.start, older, self.history.as_slice())
+    }
+}
+
+/// That the calls get these replies.
+fn answers(rt: &impl Abort, trial: &mut Trial, calls: &[(usize, Call, Reply)]) -> Result<(), Fail> {
+    for (name, call, reply) in calls {
+        let given = trial.answer(*name, *call)?;
+        assert_eq!(rt; given, *reply, "client {name} {call:?}");
+    }
+    Ok(())
 }
 
 /// That the calls get these replies and leave this image, and that their history is legal.
@@ -256,12 +265,10 @@ fn runs(
     calls: &[(usize, Call, Reply)],
     image: &str,
 ) -> Result<(), Fail> {
-    for (name, call, reply) in calls {
-        let given = trial.answer(*name, *call)?;
-        assert_eq!(rt; given, *reply, "client {name} {call:?}");
-    }
+    answers(rt, &mut trial, calls)?;
     assert_eq!(rt; trial.image()?.as_str(), image);
-    assert!(rt; trial.is_legal()?);
+    let older = Vec::new(trial.alloc);
+    assert!(rt; trial.is_legal(older.as_slice())?);
     Ok(())
 }
 
@@ -273,7 +280,7 @@ const C: usize = 2;
 
 #[test]
 fn refused_writes_leave_the_image(rt: HostRuntime) -> Result<(), Fail> {
-    let trial = Trial::new(rt.alloc(), AMPLE, RECENT)?;
+    let trial = Trial::new(rt.alloc(), AMPLE, RECENT, ByColumn)?;
     let calls = [
         (A, Call::Insert(20, "Bob", 2), Wrote(Duplicate)),
         (A, Call::Delete(25), Wrote(Missing)),
@@ -284,7 +291,7 @@ fn refused_writes_leave_the_image(rt: HostRuntime) -> Result<(), Fail> {
 
 #[test]
 fn an_insert_changed_and_deleted_leaves_no_entry(rt: HostRuntime) -> Result<(), Fail> {
-    let trial = Trial::new(rt.alloc(), AMPLE, RECENT)?;
+    let trial = Trial::new(rt.alloc(), AMPLE, RECENT, ByColumn)?;
     let calls = [
         (A, Call::Insert(25, "Dee", 4), Wrote(Done)),
         (A, Call::SetQuantity(25, 5), Wrote(Done)),
@@ -296,7 +303,6 @@ fn an_insert_changed_and_deleted_leaves_no_entry(rt: HostRuntime) -> Result<(), 
 
 #[test]
 fn a_replaced_row_conflicts_with_a_modify(rt: HostRuntime) -> Result<(), Fail> {
-    let trial = Trial::new(rt.alloc(), AMPLE, RECENT)?;
     let calls = [
         (A, Call::Delete(20), Wrote(Done)),
         (A, Call::Insert(20, "Bea", 9), Wrote(Done)),
@@ -304,12 +310,16 @@ fn a_replaced_row_conflicts_with_a_modify(rt: HostRuntime) -> Result<(), Fail> {
         (A, Call::Commit, Decided(Committed(1))),
         (B, Call::Commit, Decided(Conflict(1))),
     ];
-    runs(&rt, trial, calls.as_slice(), "10,Ann,1 20,Bea,9 30,Cid,3")
+    for rule in [ByColumn, ByRow] {
+        let trial = Trial::new(rt.alloc(), AMPLE, RECENT, rule)?;
+        runs(&rt, trial, calls.as_slice(), "10,Ann,1 20,Bea,9 30,Cid,3")?;
+    }
+    Ok(())
 }
 
 #[test]
 fn modifies_of_two_columns_both_commit(rt: HostRuntime) -> Result<(), Fail> {
-    let trial = Trial::new(rt.alloc(), AMPLE, RECENT)?;
+    let trial = Trial::new(rt.alloc(), AMPLE, RECENT, ByColumn)?;
     let calls = [
         (A, Call::SetName(20, "Bea"), Wrote(Done)),
         (B, Call::SetQuantity(20, 7), Wrote(Done)),
@@ -320,20 +330,34 @@ fn modifies_of_two_columns_both_commit(rt: HostRuntime) -> Result<(), Fail> {
 }
 
 #[test]
+fn modifies_of_two_columns_conflict_by_row(rt: HostRuntime) -> Result<(), Fail> {
+    let trial = Trial::new(rt.alloc(), AMPLE, RECENT, ByRow)?;
+    let calls = [
+        (A, Call::SetName(20, "Bea"), Wrote(Done)),
+        (B, Call::SetQuantity(20, 7), Wrote(Done)),
+        (A, Call::Commit, Decided(Committed(1))),
+        (B, Call::Commit, Decided(Conflict(1))),
+    ];
+    runs(&rt, trial, calls.as_slice(), "10,Ann,1 20,Bea,2 30,Cid,3")
+}
+
+#[test]
 fn same_value_modifies_conflict(rt: HostRuntime) -> Result<(), Fail> {
-    let trial = Trial::new(rt.alloc(), AMPLE, RECENT)?;
     let calls = [
         (A, Call::SetQuantity(20, 2), Wrote(Done)),
         (B, Call::SetQuantity(20, 2), Wrote(Done)),
         (A, Call::Commit, Decided(Committed(1))),
         (B, Call::Commit, Decided(Conflict(1))),
     ];
-    runs(&rt, trial, calls.as_slice(), "10,Ann,1 20,Bob,2 30,Cid,3")
+    for rule in [ByColumn, ByRow] {
+        let trial = Trial::new(rt.alloc(), AMPLE, RECENT, rule)?;
+        runs(&rt, trial, calls.as_slice(), "10,Ann,1 20,Bob,2 30,Cid,3")?;
+    }
+    Ok(())
 }
 
 #[test]
 fn only_inserts_of_one_key_conflict(rt: HostRuntime) -> Result<(), Fail> {
-    let trial = Trial::new(rt.alloc(), AMPLE, RECENT)?;
     let calls = [
         (A, Call::Insert(25, "Dee", 4), Wrote(Done)),
         (B, Call::Insert(25, "Eve", 5), Wrote(Done)),
@@ -342,17 +366,21 @@ fn only_inserts_of_one_key_conflict(rt: HostRuntime) -> Result<(), Fail> {
         (B, Call::Commit, Decided(Conflict(1))),
         (C, Call::Commit, Decided(Committed(2))),
     ];
-    runs(
-        &rt,
-        trial,
-        calls.as_slice(),
-        "10,Ann,1 20,Bob,2 25,Dee,4 26,Flo,6 30,Cid,3",
-    )
+    for rule in [ByColumn, ByRow] {
+        let trial = Trial::new(rt.alloc(), AMPLE, RECENT, rule)?;
+        runs(
+            &rt,
+            trial,
+            calls.as_slice(),
+            "10,Ann,1 20,Bob,2 25,Dee,4 26,Flo,6 30,Cid,3",
+        )?;
+    }
+    Ok(())
 }
 
 #[test]
 fn a_commit_undone_by_another_still_conflicts(rt: HostRuntime) -> Result<(), Fail> {
-    let trial = Trial::new(rt.alloc(), AMPLE, RECENT)?;
+    let trial = Trial::new(rt.alloc(), AMPLE, RECENT, ByColumn)?;
     let calls = [
         (B, Call::Insert(25, "Dee", 4), Wrote(Done)),
         (B, Call::Commit, Decided(Committed(1))),
@@ -367,19 +395,22 @@ fn a_commit_undone_by_another_still_conflicts(rt: HostRuntime) -> Result<(), Fai
 
 #[test]
 fn write_skew_commits(rt: HostRuntime) -> Result<(), Fail> {
-    let trial = Trial::new(rt.alloc(), AMPLE, RECENT)?;
     let calls = [
         (A, Call::SetQuantity(20, 0), Wrote(Done)),
         (B, Call::SetQuantity(10, 0), Wrote(Done)),
         (A, Call::Commit, Decided(Committed(1))),
         (B, Call::Commit, Decided(Committed(2))),
     ];
-    runs(&rt, trial, calls.as_slice(), "10,Ann,0 20,Bob,0 30,Cid,3")
+    for rule in [ByColumn, ByRow] {
+        let trial = Trial::new(rt.alloc(), AMPLE, RECENT, rule)?;
+        runs(&rt, trial, calls.as_slice(), "10,Ann,0 20,Bob,0 30,Cid,3")?;
+    }
+    Ok(())
 }
 
 #[test]
 fn an_old_begin_is_decided_or_too_old(rt: HostRuntime) -> Result<(), Fail> {
-    let trial = Trial::new(rt.alloc(), AMPLE, 2)?;
+    let trial = Trial::new(rt.alloc(), AMPLE, 2, ByColumn)?;
     let calls = [
         (B, Call::Commit, Decided(Committed(1))),
         (B, Call::Begin, Begun),
@@ -393,7 +424,7 @@ fn an_old_begin_is_decided_or_too_old(rt: HostRuntime) -> Result<(), Fail> {
 
 #[test]
 fn the_row_limit_holds_in_and_across_transactions(rt: HostRuntime) -> Result<(), Fail> {
-    let trial = Trial::new(rt.alloc(), 4, RECENT)?;
+    let trial = Trial::new(rt.alloc(), 4, RECENT, ByColumn)?;
     let calls = [
         (A, Call::Insert(40, "Dee", 4), Wrote(Done)),
         (A, Call::Insert(41, "Eve", 5), Wrote(WriteReply::Full)),
@@ -410,9 +441,74 @@ fn the_row_limit_holds_in_and_across_transactions(rt: HostRuntime) -> Result<(),
 }
 
 #[test]
+fn numbers_go_on_after_a_cut(rt: HostRuntime) -> Result<(), Fail> {
+    let alloc = rt.alloc();
+    let mut trial = Trial::new(alloc, AMPLE, RECENT, ByColumn)?;
+    let before = [
+        (B, Call::Insert(25, "Dee", 4), Wrote(Done)),
+        (B, Call::Commit, Decided(Committed(1))),
+        (C, Call::Begin, Begun),
+    ];
+    answers(&rt, &mut trial, before.as_slice())?;
+    let mut older = Vec::new(alloc);
+    assert!(rt; trial.is_legal(older.as_slice())?);
+    trial.cut(Start::new(trial.newest()?, 1, AMPLE, RECENT, ByColumn));
+    let after = [
+        (C, Call::SetQuantity(30, 9), Wrote(Done)),
+        (C, Call::Commit, Decided(Committed(2))),
+        (A, Call::SetQuantity(10, 9), Wrote(Done)),
+        (A, Call::Commit, Decided(TooOld(2))),
+        (B, Call::Begin, Begun),
+        (B, Call::Commit, Decided(Committed(3))),
+    ];
+    answers(&rt, &mut trial, after.as_slice())?;
+    assert_eq!(rt;
+        trial.image()?.as_str(),
+        "10,Ann,1 20,Bob,2 25,Dee,4 30,Cid,9"
+    );
+    assert_eq!(rt; trial.history.len(), 3);
+    // A began at the base table, which the cut took away.
+    assert!(rt; !trial.is_legal(older.as_slice())?);
+    older.push(base_table(alloc)?)?;
+    assert!(rt; trial.is_legal(older.as_slice())?);
+    let mut other = Vec::new(alloc);
+    other.push(OrderedTable::new(alloc))?;
+    assert!(rt; !trial.is_legal(other.as_slice())?);
+    Ok(())
+}
+
+#[test]
+fn a_history_after_a_cut_counts_from_its_base(rt: HostRuntime) -> Result<(), Fail> {
+    let alloc = rt.alloc();
+    let start = Start::new(base_table(alloc)?, 5, AMPLE, RECENT, ByColumn);
+    let mut older = Vec::new(alloc);
+    older.push(OrderedTable::new(alloc))?;
+    for (label, begin, commit, legal) in [
+        ("at the base", 5, Committed(6), true),
+        ("numbers from nothing", 5, Committed(1), false),
+        ("a begin from nothing", 0, Committed(6), false),
+        ("too old under the base", 0, TooOld(5), true),
+        (
+            "too old under a table that isn't there",
+            4,
+            TooOld(5),
+            false,
+        ),
+        ("a begin that was not there", 6, Committed(6), false),
+    ] {
+        let mut history = Vec::new(alloc);
+        history.push(Record::new(0, begin, Vec::new(alloc), commit))?;
+        let answer = is_legal(alloc, 1, &start, older.as_slice(), history.as_slice())?;
+        assert_eq!(rt; answer, legal, "{label}");
+    }
+    Ok(())
+}
+
+#[test]
 fn a_history_with_another_answer_is_not_legal(rt: HostRuntime) -> Result<(), Fail> {
     let alloc = rt.alloc();
-    let opening = base_table(alloc)?;
+    let start = Start::new(base_table(alloc)?, 0, AMPLE, RECENT, ByColumn);
+    let older = Vec::new(alloc);
     for (label, begin, reply, commit, legal) in [
         ("as it was", 0, Done, Committed(1), true),
         (
@@ -433,7 +529,7 @@ fn a_history_with_another_answer_is_not_legal(rt: HostRuntime) -> Result<(), Fai
         assert_eq!(rt; (entry.client(), entry.begin()), (7, begin));
         assert_eq!(rt; (entry.writes().len(), entry.reply()), (1, commit));
         history.push(entry)?;
-        let answer = is_legal(alloc, 1, AMPLE, RECENT, &opening, history.as_slice())?;
+        let answer = is_legal(alloc, 1, &start, older.as_slice(), history.as_slice())?;
         assert_eq!(rt; answer, legal, "{label}");
     }
     Ok(())
@@ -497,7 +593,7 @@ fn tables_and_effects_are_read(rt: HostRuntime) -> Result<(), Fail> {
     let mut effects = effects_of(alloc, &table, [Call::Insert(25, "Dee", 4)].as_slice())?;
     assert!(rt; table.all_fit(&effects));
     assert!(rt; !table.with(&effects)?.all_fit(&effects));
-    assert!(rt; effects.conflicts(&effects.copy()?));
+    assert!(rt; effects.conflicts(ByColumn, &effects.copy()?));
     assert!(rt; effects.get(&bound).is_some());
     let again = Write::Insert(row(alloc, 25, "Eve", 5)?);
     assert_eq!(rt; table.reply_to(1, AMPLE, &effects, &again)?, Duplicate);

@@ -1,13 +1,12 @@
-//! One write: the key that it is about, its reply, and the change of the tree that it makes.
+//! The change of the tree that a write makes.
 ghost use Rattle.std.specs.Prelude.{◌≡◌, ◌≤◌, ◌^◌, cond, IsTrue, OnOk, OnErr, length};
-ghost use Rattle.values.specs.Shape.{key_of};
 ghost use Rattle.values.specs.declared.limits.TheConstants.{MAX_ROWS};
-ghost use Rattle.model.specs.Writes.{key_of_write, reply_where, is_done};
+ghost use Rattle.model.specs.Writes.{is_done};
 ghost use Rattle.txn.specs.Edit.{edited, MayBeEdited};
 
 use delta::DeltaTree;
-use model::{Write, WriteReply};
-use values::{NoMemory, Row, Value};
+use model::{Write, WriteReply, is_done};
+use values::NoMemory;
 
 /// What a transaction finds at a key.
 #[derive(Clone, Copy)]
@@ -49,42 +48,4 @@ pub(crate) fn edit(
         ),
         Write::Set(_, col, value) => tree.put_mod(sid, *col, value.copy()?),
     }
-}
-
-/// The key that a write is about, lent.
-pub(crate) fn key_of_write(key_cols: usize, write: &Write) -> &[Value]
-    ensures { result.now ≡ key_of_write key_cols write.now }
-{
-    match write {
-        Write::Insert(row) => key_of(key_cols, row),
-        Write::Delete(key) => key.cells(),
-        Write::Set(key, _, _) => key.cells(),
-    }
-}
-
-/// The key of a row, lent.
-fn key_of(key_cols: usize, row: &Row) -> &[Value]
-    ensures { result.now ≡ key_of key_cols row.now }
-{
-    let cells = row.cells();
-    &cells[..key_cols.min(cells.len())]
-}
-
-/// The reply where the key is, or isn't, in a table of `count` rows.
-pub(crate) fn reply_where(limit: u64, there: bool, count: u64, write: &Write) -> WriteReply
-    ensures { result ≡ reply_where limit there count write.now }
-{
-    match write {
-        Write::Insert(_) if there => WriteReply::Duplicate,
-        Write::Insert(_) if limit <= count => WriteReply::Full,
-        Write::Insert(_) => WriteReply::Done,
-        _ if there => WriteReply::Done,
-        _ => WriteReply::Missing,
-    }
-}
-
-fn is_done(reply: WriteReply) -> bool
-    ensures { result ≡ is_done reply }
-{
-    matches!(reply, WriteReply::Done)
 }

@@ -1,13 +1,14 @@
 //! The writes of a transaction over its snapshot.
 ghost use Rattle.std.specs.Prelude.{◌≡◌, ℕ, ◌∷◌, [], map, IfOk, OnOk, OnErr};
-ghost use Rattle.model.specs.Writes.{key_of_write, effect_of_write, reply_where, is_done};
+ghost use Rattle.model.specs.Writes.{key_of_write, effect_of_write, is_done};
 ghost use Rattle.model.specs.Writes.{reply_to, effects_after, replies_to, effects_after_all};
 ghost use Rattle.model.specs.Table.{Table};
 ghost use Rattle.oracle.specs.Replay.{AreAnswered, GotDueReplies, effects_when_all};
 
+use crate::effect::copy_values;
 use crate::effects::Effects;
-use crate::table::{OrderedTable, key_of};
-use model::{Cells, Effect, Write, WriteReply};
+use crate::table::OrderedTable;
+use model::{Cells, Effect, Write, WriteReply, is_done, key_of_write, reply_where};
 use std::alloc::Global;
 use std::collections::BTreeMap;
 use values::{Key, NoMemory};
@@ -25,9 +26,9 @@ impl OrderedTable {
             ≡ reply_to key_cols limit self.now effects.now write.now) }
     {
         let image = self.with(effects)?;
-        let key = key_of_write(self.alloc, key_cols, write)?;
+        let key = written_key(self.alloc, key_cols, write)?;
         let there = image.row_at(&key).is_some();
-        Ok(reply_where(limit, there, image.len(), write))
+        Ok(reply_where(limit, there, image.len() as u64, write))
     }
 
     /// Answers a write, and adds what it does to the effects. On want of memory they stay.
@@ -46,7 +47,7 @@ impl OrderedTable {
     {
         let reply = self.reply_to(key_cols, limit, effects, write)?;
         if is_done(reply) {
-            let key = key_of_write(self.alloc, key_cols, write)?;
+            let key = written_key(self.alloc, key_cols, write)?;
             let effect = effect_of_write(self.alloc, write)?;
             effects.compose(&key, &effect)?;
         }
@@ -109,22 +110,18 @@ pub fn effects_of_writes(
     let mut effects = Effects::new(alloc);
     for (write, reply) in writes {
         if is_done(*reply) {
-            let key = key_of_write(alloc, key_cols, write)?;
+            let key = written_key(alloc, key_cols, write)?;
             effects.compose(&key, &effect_of_write(alloc, write)?)?;
         }
     }
     Ok(effects)
 }
 
-/// The key that a write is about.
-fn key_of_write(alloc: Global, key_cols: usize, write: &Write) -> Result<Key, NoMemory>
+/// The key that a write is about, copied.
+fn written_key(alloc: Global, key_cols: usize, write: &Write) -> Result<Key, NoMemory>
     ensures { IfOk result (λ key. key ≡ key_of_write key_cols write.now) }
 {
-    match write {
-        Write::Insert(row) => key_of(alloc, key_cols, row),
-        Write::Delete(key) => key.copy(),
-        Write::Set(key, _, _) => key.copy(),
-    }
+    Ok(Key::new(copy_values(alloc, key_of_write(key_cols, write))?))
 }
 
 /// What a write does to its key where it is done.
@@ -140,23 +137,4 @@ fn effect_of_write(alloc: Global, write: &Write) -> Result<Effect, NoMemory>
             Ok(Effect::Mod(Cells::new(cells)))
         }
     }
-}
-
-/// The reply where the key is, or isn't, in a table of `count` rows.
-fn reply_where(limit: u64, there: bool, count: usize, write: &Write) -> WriteReply
-    ensures { result ≡ reply_where limit there count write.now }
-{
-    match write {
-        Write::Insert(_) if there => WriteReply::Duplicate,
-        Write::Insert(_) if limit <= count as u64 => WriteReply::Full,
-        Write::Insert(_) => WriteReply::Done,
-        _ if there => WriteReply::Done,
-        _ => WriteReply::Missing,
-    }
-}
-
-fn is_done(reply: WriteReply) -> bool
-    ensures { result ≡ is_done reply }
-{
-    matches!(reply, WriteReply::Done)
 }
