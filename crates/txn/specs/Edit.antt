@@ -6,6 +6,19 @@ use Rattle.model.specs.declared.write.Write.{Write}
 use Rattle.model.specs.declared.write.Write.TheVariants.{Insert, Delete, Set}
 use Rattle.model.specs.Edits.{put_ins, put_del, put_mod, take_ins, set_ins}
 use Rattle.delta.specs.Lookups.{has_delete, inserted_row}
+use Rattle.txn.specs.declared.writes.FoundRow.{FoundRow}
+use Rattle.txn.specs.declared.writes.FoundRow.TheVariants.{Absent, Inserted, Base}
+
+-- whether a transaction finds a row, and whether it inserted it
+abbrev pub is_there : FoundRow → Bool
+is_there Absent = false
+is_there Inserted = true
+is_there Base = true
+
+abbrev pub is_inserted : FoundRow → Bool
+is_inserted Absent = false
+is_inserted Inserted = true
+is_inserted Base = false
 
 module _ (key_cols sid : ℕ) where
   -- the entries after the change

@@ -5,13 +5,14 @@ ghost use Rattle.values.specs.declared.limits.TheConstants.{MAX_ROWS};
 ghost use Rattle.model.specs.declared.write.Write.TheVariants as asked;
 ghost use Rattle.model.specs.Writes.{write_fits_schema};
 ghost use Rattle.model.specs.Table.{rows_of};
+ghost use Rattle.txn.specs.Edit.{is_inserted, is_there};
 ghost use Rattle.merge.specs.Image.{image_rows, image_table};
 ghost use Rattle.txn.specs.declared.fault.WriteFault.TheVariants as write_fault;
 
 use crate::fault::WriteFault;
 use crate::parts::Parts;
 use crate::version::Version;
-use crate::writes::{Found, edit};
+use crate::writes::{Found, FoundRow, edit};
 use delta::DeltaTree;
 use merge::Layers;
 use model::{Write, WriteReply, key_of_write, reply_where};
@@ -182,7 +183,7 @@ impl Txn {
     {
         let key_cols = self.schema().key_cols();
         let found = self.find(key_of_write(key_cols, &write));
-        let reply = reply_where(self.row_limit, found.there, self.len(), &write);
+        let reply = reply_where(self.row_limit, found.row.is_there(), self.len(), &write);
         self.writes.try_reserve(1)?;
         edit(&mut self.tree, found, &write, reply)?;
         self.writes.push_reserved((write, reply));
@@ -191,15 +192,22 @@ impl Txn {
 
     /// What stands at a key.
     fn find(&self, key: &[Value]) -> Found
-        ensures { IsFound self.now key.now result.sid result.there result.inserted }
+        ensures { IsFound self.now key.now result.sid (is_there result.row) (is_inserted result.row) }
     {
         let (sid, in_base) = self.version.locate(key);
-        let inserted = self.tree.find_insert(sid, key).is_some();
-        Found {
-            sid,
-            there: inserted || (in_base && !self.tree.has_delete(sid)),
-            inserted,
+        if self.tree.find_insert(sid, key).is_some() {
+            return Found {
+                sid,
+                row: FoundRow::Inserted,
+            };
         }
+        let is_kept = in_base && !self.tree.has_delete(sid);
+        let row = if is_kept {
+            FoundRow::Base
+        } else {
+            FoundRow::Absent
+        };
+        Found { sid, row }
     }
 
     /// How many rows the version's table has with its own writes. Takes no memory.

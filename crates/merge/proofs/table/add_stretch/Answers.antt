@@ -13,14 +13,14 @@ use Rattle.merge.proofs.table.add_stretch.Goals as goal
 
 pub prove-unreachable-requires : goal.prove-unreachable-requires
 prove-unreachable-requires c =
-    let has = has_column c.args.column.now.ty c.args.col c.in-Stable.stretch' (subst (IsStretch 3) c.in-Stable.is c.requires.is) c.schema.ensures.lawful (subst (λ (r : Stretch). All (StandsAt c.args.column.now.ty c.args.col) (stretch_rows r)) c.in-Stable.is c.requires.stand) in
+    let has = has_column c.args.column.now.ty c.args.col c.in-Stable.stretch (subst (IsStretch 3) c.in-Stable.is c.requires.is) c.schema.ensures.lawful (subst (λ (r : Stretch). All (StandsAt c.args.column.now.ty c.args.col) (stretch_rows r)) c.in-Stable.is c.requires.stand) in
     omega (arith, has, c.if-prove.true, c.width-width.ensures.columns, ap (λ (s : Columns). length s.types) c.schema.ensures.columns)
 
 pub extend_from-requires-clause-typed : goal.extend_from-requires-clause-typed
 extend_from-requires-clause-typed c =
     let ty = c.args.column.now.ty in
     ap (λ (x : Column). x.ty) c.column.ensures
-    ∙ column_type ty c.args.col c.in-Stable.stretch' (subst (IsStretch 3) c.in-Stable.is c.requires.is) c.schema.ensures.lawful (subst (λ (r : Stretch). All (StandsAt ty c.args.col) (stretch_rows r)) c.in-Stable.is c.requires.stand)
+    ∙ column_type ty c.args.col c.in-Stable.stretch (subst (IsStretch 3) c.in-Stable.is c.requires.is) c.schema.ensures.lawful (subst (λ (r : Stretch). All (StandsAt ty c.args.col) (stretch_rows r)) c.in-Stable.is c.requires.stand)
 
 pub push-requires-clause-typed : goal.push-requires-clause-typed
 push-requires-clause-typed c =
@@ -36,7 +36,7 @@ pub returns-in-Stable : goal.returns-in-Stable
 returns-in-Stable c =
     let ty = c.args.column.now.ty in
     let col = c.args.col in
-    let stretch = c.in-Stable.stretch' in
+    let stretch = c.in-Stable.stretch in
     let old = c.args.column.now.values in
     let stand = subst (λ (r : Stretch). All (StandsAt ty col) (stretch_rows r)) c.in-Stable.is c.requires.stand in
     let same : take stretch.len (drop stretch.sid c.column.result.now.values) ≡ column_values col (stretch_rows c.args.stretch) =

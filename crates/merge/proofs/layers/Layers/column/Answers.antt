@@ -29,18 +29,18 @@ loop-stretch-init c =
 
 pub add_stretch-requires-clause-stand : goal.add_stretch-requires-clause-stand
 add_stretch-requires-clause-stand c =
-    left_stand c.loop-stretch.column.ty c.args.col (stretch_rows c.in-Some.stretch') c.next.new.self c.loop-stretch.stretch-iterator c.in-Some.ensures.steps.0 c.loop-stretch.invariant.2
+    left_stand c.loop-stretch.column.ty c.args.col (stretch_rows c.in-Some.stretch) c.next.new.self c.loop-stretch.stretch-iterator c.in-Some.ensures.steps.0 c.loop-stretch.invariant.2
 
 pub add_stretch-requires-clause-room : goal.add_stretch-requires-clause-room
 add_stretch-requires-clause-room c =
     let image = image_rows c.args.self.now in
-    let fit = values_fit c.loop-stretch.column.ty c.args.col (stretch_rows c.in-Some.stretch') c.next.new.self c.loop-stretch.stretch-iterator c.in-Some.ensures.steps.0 c.loop-stretch.invariant.2 c.loop-stretch.column.values image c.loop-stretch.invariant.1 in
+    let fit = values_fit c.loop-stretch.column.ty c.args.col (stretch_rows c.in-Some.stretch) c.next.new.self c.loop-stretch.stretch-iterator c.in-Some.ensures.steps.0 c.loop-stretch.invariant.2 c.loop-stretch.column.values image c.loop-stretch.invariant.1 in
     omega (arith, fit, c.requires.few)
 
 pub loop-stretch-preserved : goal.loop-stretch-preserved
 loop-stretch-preserved c =
     let col = c.args.col in
-    let rows = stretch_rows c.in-Some.stretch' in
+    let rows = stretch_rows c.in-Some.stretch in
     let rest = c.next.new.self in
     let ty = c.loop-stretch.column.ty in
     let done = column_values col (image_rows c.args.self.now) in

@@ -2,6 +2,7 @@ use Rattle.std.proofs.Common.{◌≡◌, List, ◌∷◌, ◌++◌, [], sym, ap,
 use Rattle.model.specs.declared.write.Write.{Write}
 use Rattle.model.specs.declared.write.WriteReply.{WriteReply}
 use Rattle.delta.specs.Tree.{Tree}
+use Rattle.txn.specs.Edit.{is_inserted, is_there}
 use Rattle.txn.specs.Txn.{Transaction, transaction_at, IsTransaction, tree_of}
 use Rattle.txn.proofs.TxnLemmas.{IsSeen, seen, seen_place, seen_may, seen_room, seen_next, seen_tree}
 use Rattle.txn.proofs.transaction.Txn.write.Goals as goal
@@ -16,28 +17,28 @@ fields c =
     let inside = c.self.inside in
     transaction_at inside.version inside.row_limit inside.client inside.writes.items
 
-is_seen : (c : goal.After-write-3-1) → IsSeen (fields c) c.args.write c.find-found.result.sid c.find-found.result.inserted c.reply_where-reply.result
-is_seen c = seen (fields c) c.args.self.now c.self.view_is c.args.write c.schema.result.now c.key_cols-key_cols.result c.key_of_write.result.now c.find-found.result.sid c.len.result c.find-found.result.there c.find-found.result.inserted c.reply_where-reply.result c.requires
+is_seen : (c : goal.After-write-3-1) → IsSeen (fields c) c.args.write c.find-found.result.sid (is_inserted c.find-found.result.row) c.reply_where-reply.result
+is_seen c = seen (fields c) c.args.self.now c.self.view_is c.args.write c.schema.result.now c.key_cols-key_cols.result c.key_of_write.result.now c.find-found.result.sid c.len.result (is_there c.find-found.result.row) (is_inserted c.find-found.result.row) c.reply_where-reply.result c.requires
     c.schema.ensures c.key_cols-key_cols.ensures.count c.key_of_write.ensures c.find-found.ensures c.len.ensures c.reply_where-reply.ensures
 
 pub edit-requires-clause-sid : goal.edit-requires-clause-sid
-edit-requires-clause-sid c = seen_place (fields c) c.self.invariant.0 c.self.inside.tree c.self.invariant.1 c.args.write c.find-found.result.sid c.find-found.result.inserted c.reply_where-reply.result (is_seen c)
+edit-requires-clause-sid c = seen_place (fields c) c.self.invariant.0 c.self.inside.tree c.self.invariant.1 c.args.write c.find-found.result.sid (is_inserted c.find-found.result.row) c.reply_where-reply.result (is_seen c)
 
 pub edit-requires-clause-may : goal.edit-requires-clause-may
-edit-requires-clause-may c = seen_may (fields c) c.self.invariant.0 c.self.inside.tree c.self.invariant.1 c.args.write c.find-found.result.sid c.find-found.result.inserted c.reply_where-reply.result (is_seen c)
+edit-requires-clause-may c = seen_may (fields c) c.self.invariant.0 c.self.inside.tree c.self.invariant.1 c.args.write c.find-found.result.sid (is_inserted c.find-found.result.row) c.reply_where-reply.result (is_seen c)
 
 pub edit-requires-clause-room : goal.edit-requires-clause-room
-edit-requires-clause-room c = seen_room (fields c) c.self.invariant.0 c.self.inside.tree c.self.invariant.1 c.args.write c.find-found.result.sid c.find-found.result.inserted c.reply_where-reply.result (is_seen c)
+edit-requires-clause-room c = seen_room (fields c) c.self.invariant.0 c.self.inside.tree c.self.invariant.1 c.args.write c.find-found.result.sid (is_inserted c.find-found.result.row) c.reply_where-reply.result (is_seen c)
 
 pub invariant_of-self-2 : goal.invariant_of-self-2
 invariant_of-self-2 c =
     let inside = c.self.inside in
     let txn : Transaction = transaction_at inside.version inside.row_limit inside.client inside.writes.items in
     let reply = c.reply_where-reply.result in
-    let s : IsSeen txn c.args.write c.find-found.result.sid c.find-found.result.inserted reply =
-    seen txn c.args.self.now c.self.view_is c.args.write c.schema.result.now c.key_cols-key_cols.result c.key_of_write.result.now c.find-found.result.sid c.len.result c.find-found.result.there c.find-found.result.inserted reply c.requires
+    let s : IsSeen txn c.args.write c.find-found.result.sid (is_inserted c.find-found.result.row) reply =
+    seen txn c.args.self.now c.self.view_is c.args.write c.schema.result.now c.key_cols-key_cols.result c.key_of_write.result.now c.find-found.result.sid c.len.result (is_there c.find-found.result.row) (is_inserted c.find-found.result.row) reply c.requires
     c.schema.ensures c.key_cols-key_cols.ensures.count c.key_of_write.ensures c.find-found.ensures c.len.ensures c.reply_where-reply.ensures in
-    let kept = seen_next txn c.self.invariant.0 inside.tree c.self.invariant.1 c.args.write c.find-found.result.sid c.find-found.result.inserted reply s in
-    let tree = c.in_ok-edit.ensures.ok ∙ seen_tree txn c.self.invariant.0 inside.tree c.self.invariant.1 c.args.write c.find-found.result.sid c.find-found.result.inserted reply s in
+    let kept = seen_next txn c.self.invariant.0 inside.tree c.self.invariant.1 c.args.write c.find-found.result.sid (is_inserted c.find-found.result.row) reply s in
+    let tree = c.in_ok-edit.ensures.ok ∙ seen_tree txn c.self.invariant.0 inside.tree c.self.invariant.1 c.args.write c.find-found.result.sid (is_inserted c.find-found.result.row) reply s in
     let items : c.push_reserved.new.self.items ≡ inside.writes.items ++ (c.args.write, reply) ∷ [] = c.push_reserved.ensures.items ∙ ap (λ ws. ws ++ (c.args.write, reply) ∷ []) c.in_ok-try_reserve.ensures.items in
     subst (λ (ws : List (Write × WriteReply)). Kept c.edit.new.tree (transaction_at inside.version inside.row_limit inside.client ws)) (sym items) (kept, tree)
