@@ -1,6 +1,7 @@
 use Rattle.std.proofs.Common.{◌≡◌, List, ◌∷◌, ◌++◌, [], sym, ap, ◌∙◌, subst}
 use Rattle.model.specs.declared.write.Write.{Write}
 use Rattle.model.specs.declared.write.WriteReply.{WriteReply}
+use Rattle.model.specs.Writes.{reply_where}
 use Rattle.delta.specs.Tree.{Tree}
 use Rattle.txn.specs.Edit.{is_inserted, is_there}
 use Rattle.txn.specs.Txn.{Transaction, transaction_at, IsTransaction, tree_of}
@@ -19,7 +20,7 @@ fields c =
 
 is_seen : (c : goal.After-write-3-1) → IsSeen (fields c) c.args.write c.find-found.result.sid (is_inserted c.find-found.result.row) c.reply_where-reply.result
 is_seen c = seen (fields c) c.args.self.now c.self.view_is c.args.write c.schema.result.now c.key_cols-key_cols.result c.key_of_write.result.now c.find-found.result.sid c.len.result (is_there c.find-found.result.row) (is_inserted c.find-found.result.row) c.reply_where-reply.result c.requires
-    c.schema.ensures c.key_cols-key_cols.ensures.count c.key_of_write.ensures c.find-found.ensures c.len.ensures c.reply_where-reply.ensures
+    c.schema.ensures c.key_cols-key_cols.ensures.count c.key_of_write.ensures c.find-found.ensures c.len.ensures (c.reply_where-reply.ensures ∙ ap (λ b. reply_where c.self.inside.row_limit b c.len.result c.args.write) c.is_there.ensures)
 
 pub edit-requires-clause-sid : goal.edit-requires-clause-sid
 edit-requires-clause-sid c = seen_place (fields c) c.self.invariant.0 c.self.inside.tree c.self.invariant.1 c.args.write c.find-found.result.sid (is_inserted c.find-found.result.row) c.reply_where-reply.result (is_seen c)
@@ -37,7 +38,7 @@ invariant_of-self-2 c =
     let reply = c.reply_where-reply.result in
     let s : IsSeen txn c.args.write c.find-found.result.sid (is_inserted c.find-found.result.row) reply =
     seen txn c.args.self.now c.self.view_is c.args.write c.schema.result.now c.key_cols-key_cols.result c.key_of_write.result.now c.find-found.result.sid c.len.result (is_there c.find-found.result.row) (is_inserted c.find-found.result.row) reply c.requires
-    c.schema.ensures c.key_cols-key_cols.ensures.count c.key_of_write.ensures c.find-found.ensures c.len.ensures c.reply_where-reply.ensures in
+    c.schema.ensures c.key_cols-key_cols.ensures.count c.key_of_write.ensures c.find-found.ensures c.len.ensures (c.reply_where-reply.ensures ∙ ap (λ b. reply_where c.self.inside.row_limit b c.len.result c.args.write) c.is_there.ensures) in
     let kept = seen_next txn c.self.invariant.0 inside.tree c.self.invariant.1 c.args.write c.find-found.result.sid (is_inserted c.find-found.result.row) reply s in
     let tree = c.in_ok-edit.ensures.ok ∙ seen_tree txn c.self.invariant.0 inside.tree c.self.invariant.1 c.args.write c.find-found.result.sid (is_inserted c.find-found.result.row) reply s in
     let items : c.push_reserved.new.self.items ≡ inside.writes.items ++ (c.args.write, reply) ∷ [] = c.push_reserved.ensures.items ∙ ap (λ ws. ws ++ (c.args.write, reply) ∷ []) c.in_ok-try_reserve.ensures.items in
