@@ -1,7 +1,7 @@
 //! Runs over the bytes of two files: what is written, and the first part that is refused.
 use crate::output::ShowFault;
 use crate::plain::OpenFault;
-use crate::program::run_texts;
+use crate::program::{FileFault, run_texts};
 use crate::refusal::Refusal;
 use inputs::{ScriptFault, TableFault};
 use std::io;
@@ -19,8 +19,8 @@ fn the_stored_run_in_one_call(rt: HostRuntime) -> Result<(), Fail> {
     let mut out = Vec::new(rt.alloc());
     let status = run_texts(
         rt.alloc(),
-        Some(TABLE),
-        Some(script.as_slice()),
+        Ok(TABLE),
+        Ok(script.as_slice()),
         MAX_ROWS,
         &mut out,
     )?;
@@ -33,7 +33,7 @@ fn the_stored_run_in_one_call(rt: HostRuntime) -> Result<(), Fail> {
 fn an_empty_script_shows_the_table_in_key_order(rt: HostRuntime) -> Result<(), Fail> {
     let want = "\nid:int:key,name:text,qty:int\n10,Ann,1\n20,Bob,2\n30,Cid,3\n";
     let mut out = Vec::new(rt.alloc());
-    let status = run_texts(rt.alloc(), Some(TABLE), Some(b""), MAX_ROWS, &mut out)?;
+    let status = run_texts(rt.alloc(), Ok(TABLE), Ok(b""), MAX_ROWS, &mut out)?;
     assert_eq!(&rt; status, 0);
     assert_eq!(&rt; str::from_utf8(out.as_slice())?, want);
     Ok(())
@@ -45,53 +45,73 @@ fn the_first_part_that_is_refused_is_told(rt: HostRuntime) -> Result<(), Fail> {
     let no_number: &[u8] = b"id:int:key,name:text,qty:int\nx,Ann,1\n";
     let jump: &[u8] = b"a,jump\n";
     for (label, table, script, limit, want) in [
-        ("no table", None, None, 1, Refusal::UnreadableTable),
+        (
+            "no table",
+            Err(FileFault::Unreadable),
+            Err(FileFault::Unreadable),
+            1,
+            Refusal::UnreadableTable,
+        ),
+        (
+            "no memory for the table's bytes",
+            Err(FileFault::NoMemory),
+            Err(FileFault::Unreadable),
+            1,
+            Refusal::Table(TableFault::NoMemory),
+        ),
+        (
+            "no memory for the script's bytes",
+            Ok(TABLE),
+            Err(FileFault::NoMemory),
+            1,
+            Refusal::Script(ScriptFault::NoMemory),
+        ),
         (
             "a key twice, before the script",
-            Some(twice),
-            None,
+            Ok(twice),
+            Err(FileFault::Unreadable),
             1,
             Refusal::Table(TableFault::RepeatedKey(3)),
         ),
         (
             "no number, before the script",
-            Some(no_number),
-            Some(jump),
+            Ok(no_number),
+            Ok(jump),
             1,
             Refusal::Table(TableFault::BadCell(2, 0)),
         ),
         (
             "no script, before the limit",
-            Some(TABLE),
-            None,
+            Ok(TABLE),
+            Err(FileFault::Unreadable),
             1,
             Refusal::UnreadableScript,
         ),
         (
             "no verb, before the limit",
-            Some(TABLE),
-            Some(jump),
+            Ok(TABLE),
+            Ok(jump),
             1,
             Refusal::Script(ScriptFault::BadVerb(1)),
         ),
         (
             "a row above the limit",
-            Some(TABLE),
-            Some(b"a,begin\n".as_slice()),
+            Ok(TABLE),
+            Ok(b"a,begin\n".as_slice()),
             2,
             Refusal::Open(OpenFault::TooManyRows),
         ),
         (
             "a limit of no rows",
-            Some(TABLE),
-            Some(b"".as_slice()),
+            Ok(TABLE),
+            Ok(b"".as_slice()),
             0,
             Refusal::Open(OpenFault::BadLimit),
         ),
         (
             "a limit past the largest",
-            Some(TABLE),
-            Some(b"".as_slice()),
+            Ok(TABLE),
+            Ok(b"".as_slice()),
             MAX_ROWS + 1,
             Refusal::Open(OpenFault::BadLimit),
         ),
@@ -122,8 +142,8 @@ impl Write for Closed {
 fn an_output_that_is_refused_is_told(rt: HostRuntime) {
     let found = run_texts(
         rt.alloc(),
-        Some(TABLE),
-        Some(b"a,begin\n"),
+        Ok(TABLE),
+        Ok(b"a,begin\n"),
         MAX_ROWS,
         &mut Closed,
     );
