@@ -1,5 +1,6 @@
--- What every call that was read keeps: its values are of their columns' types.
-use Rattle.std.specs.Prelude.{Bool, true, false, ◌&&◌, Option, Some, None, List, [], ◌∷◌, slice_get}
+-- What every script keeps: each call is of a client that it has, and its values are of their columns' types.
+use Rattle.std.specs.Prelude.{ℕ, ◌<◌, Bool, true, false, ◌&&◌, IsTrue, Option, Some, None, List, [], ◌∷◌, length, slice_get}
+use Rattle.std.specs.List.{All}
 use Rattle.values.specs.Shape.{Columns, has_type}
 use Rattle.values.specs.declared.value.ColumnType.{ColumnType}
 use Rattle.values.specs.declared.value.Value.{Value}
@@ -8,6 +9,7 @@ use Rattle.model.specs.declared.write.Write.TheVariants.{Insert, Delete, Set}
 use Rattle.inputs.specs.Calls.{key_types}
 use Rattle.inputs.specs.declared.call.Call.{Call}
 use Rattle.inputs.specs.declared.call.Call.TheVariants.{Begin, Write, Read, Commit, Abort}
+use Rattle.inputs.specs.declared.call.ClientCall.{ClientCall}
 use Rattle.inputs.specs.declared.call.Read.{Read as Reading}
 use Rattle.inputs.specs.declared.call.Read.TheVariants.{Get, At, Rank, Len, Scan}
 
@@ -44,3 +46,13 @@ is_typed_call schema (Write write) = is_typed_write schema write
 is_typed_call schema (Read read) = is_typed_read schema read
 is_typed_call schema Commit = true
 is_typed_call schema Abort = true
+
+-- a script: the schema that it was read under, its clients' names and its calls
+pub record Typed : Type 0 where
+  pub schema : Columns
+  pub clients : List (List ℕ)
+  pub calls : List ClientCall
+
+pub record IsTyped (script : Typed) : Type 0 where
+  pub numbered : All (λ call. call.client < length script.clients) script.calls
+  pub typed : All (λ call. IsTrue (is_typed_call script.schema call.call)) script.calls

@@ -40,12 +40,3 @@ pub struct ClientCall {
     /// What it asks for.
     pub call: Call,
 }
-
-/// A script's calls, in its order.
-#[derive(Drop)]
-pub struct Script {
-    /// The clients' names, in order of first appearance.
-    pub clients: Vec<Text>,
-    /// The calls.
-    pub calls: Vec<ClientCall>,
-}

@@ -25,9 +25,10 @@ mod tests;
 mod verb;
 mod words;
 
-pub use call::{Call, ClientCall, Read, Script};
+pub use call::{Call, ClientCall, Read};
 pub use fault::{ScriptFault, TableFault};
-pub use script::read_script;
+pub use header::kind_word;
+pub use script::{Script, read_script};
 pub use table::read_table;
 pub use verb::Verb;
 pub use words::{Settings, read_words};

@@ -1,19 +1,64 @@
 //! A whole script, read from text.
-ghost use Rattle.std.specs.Prelude.{◌≡◌, ◌≢◌, ◌<◌, ◌≤◌, length, IsTrue, IfOk, IfErr, Ok, Err};
-ghost use Rattle.std.specs.List.{All, list_all};
+ghost use Rattle.std.specs.Prelude.{◌≡◌, ◌≢◌, ◌≤◌, length, IfOk, IfErr, Ok, Err};
+ghost use Rattle.std.specs.List.{list_all};
 ghost use Rattle.std.specs.Str.{is_utf8};
 ghost use Rattle.csv.specs.Records.{fields_of};
-ghost use Rattle.inputs.specs.Typed.{is_typed_call};
+ghost use Rattle.inputs.specs.Typed.{IsTyped};
 ghost use Rattle.inputs.specs.Script.{call_of, IsScriptOf, IsScriptFaultOf};
 
 use crate::arguments::read_asked;
-use crate::call::{ClientCall, Script};
+use crate::call::ClientCall;
 use crate::client::{MAX_SCRIPT_CLIENTS, add_client, read_client};
 use crate::fault::ScriptFault;
 use crate::reading::{next_record, records_of};
 use csv::ByteRecord;
 use std::alloc::Global;
+use std::marker::Model;
 use values::{Schema, Text};
+
+/// A script's calls, in its order. Each is of a client that the script has, and typed under the schema that the script
+/// was read under.
+#[derive(Drop)]
+pub struct Script {
+    schema: Schema,
+    /// The clients' names, in order of first appearance.
+    clients: Vec<Text>,
+    calls: Vec<ClientCall>,
+}
+
+impl Model for Script {
+    ghost use Rattle.inputs.specs.Typed.{IsTyped, Typed};
+
+    ghost Value = { Typed };
+
+    ghost view = { λ s. record { schema = s.schema; clients = s.clients.items; calls = s.calls.items } };
+
+    ghost invariant = { λ s. IsTyped (record { schema = s.schema; clients = s.clients.items; calls = s.calls.items }) };
+}
+
+impl Script {
+    /// The schema that the calls are typed under.
+    pub fn schema(&self) -> &Schema
+        ensures { result.now ≡ self.now.schema }
+    {
+        &self.schema
+    }
+
+    /// The clients' names, in order of first appearance.
+    pub fn clients(&self) -> &[Text]
+        ensures { result.now ≡ self.now.clients }
+    {
+        self.clients.as_slice()
+    }
+
+    /// The calls, in order.
+    pub fn calls(&self) -> &[ClientCall]
+        ensures calls { result.now ≡ self.now.calls }
+        ensures lawful { IsTyped self.now }
+    {
+        self.calls.as_slice()
+    }
+}
 
 /// The clients and the calls of a script's text over a table of this schema, in the text's order.
 ///
@@ -22,12 +67,12 @@ use values::{Schema, Text};
 /// The fault of the first record that has one: `BadText`, `BadClient`, `TooManyClients`, `BadCount` where there is no
 /// verb, `BadVerb`, `BadCount`, and `BadArgument` from the left, for `set` the column's name before its cell.
 pub fn read_script(alloc: Global, schema: &Schema, text: &[u8]) -> Result<Script, ScriptFault>
-    ensures ok { IfOk result (λ script. IsScriptOf schema.now text.now script.clients.items script.calls.items) }
-    ensures clients { IfOk result (λ script. All (λ call. call.client < length script.clients.items) script.calls.items) }
-    ensures few { IfOk result (λ script. length script.clients.items ≤ MAX_SCRIPT_CLIENTS) }
-    ensures typed { IfOk result (λ script. All (λ call. IsTrue (is_typed_call schema.now call.call)) script.calls.items) }
+    ensures ok { IfOk result (λ script. IsScriptOf schema.now text.now script.clients script.calls) }
+    ensures under { IfOk result (λ script. script.schema ≡ schema.now) }
+    ensures few { IfOk result (λ script. length script.clients ≤ MAX_SCRIPT_CLIENTS) }
     ensures err { IfErr result (λ fault. fault ≢ ScriptFault.NoMemory → IsScriptFaultOf schema.now text.now fault) }
 {
+    let under = schema.copy()?;
     let mut reader = records_of(alloc, text);
     let mut fields = ByteRecord::new(alloc);
     let mut clients = Vec::new(alloc);
@@ -35,7 +80,11 @@ pub fn read_script(alloc: Global, schema: &Schema, text: &[u8]) -> Result<Script
     for number in 1..u64::MAX {
         let more = next_record(&mut reader, &mut fields)?;
         if !more {
-            return Ok(Script { clients, calls });
+            return Ok(Script {
+                schema: under,
+                clients,
+                calls,
+            });
         }
         let call = read_call(alloc, schema, clients.as_slice(), number, &fields)?;
         add_client(alloc, &mut clients, &fields)?;

@@ -1,16 +1,13 @@
 //! The program: takes the words, reads the files, prints what the run leaves, and ends with its status.
 #![tactic(auto)]
 
-use pdtcli::{Settings, read_words, run_texts};
+use pdtcli::{FileFault, Settings, read_words, run_texts, status_of};
 use std::process::ExitCode;
 use std::rt::{Env, Files};
 use std::{env, fs, io};
 
 /// The status of a command line that asks for no run.
 const MISUSED: u8 = 2;
-
-/// The status where an input is refused, or the output.
-const REFUSED: u8 = 1;
 
 fn main(rt: HostRuntime) -> ExitCode {
     match answered(&rt) {
@@ -52,21 +49,28 @@ fn run<R: Files + AllocGlobal + Print + Eprint>(
     script: &str,
     limit: u64,
 ) -> u8 {
-    let table = fs::read(rt, table).ok();
-    let script = fs::read(rt, script).ok();
+    let table = fs::read(rt, table);
+    let script = fs::read(rt, script);
     let mut out = io::writer(rt);
-    match run_texts(
+    let answer = run_texts(
         rt.alloc(),
-        table.as_ref().map(|bytes| bytes.as_slice()),
-        script.as_ref().map(|bytes| bytes.as_slice()),
+        bytes_of(&table),
+        bytes_of(&script),
         limit,
         &mut out,
-    ) {
-        Ok(status) => status,
-        Err(refusal) => {
-            // Where even this can't be written, the status alone tells.
-            let _ = eprintln!(rt; "{refusal}");
-            REFUSED
-        }
+    );
+    if let Err(refusal) = &answer {
+        // Where even this can't be written, the status alone tells.
+        let _ = eprintln!(rt; "{refusal}");
+    }
+    status_of(&answer)
+}
+
+/// A file's bytes, or why they aren't there.
+fn bytes_of(read: &io::Result<Vec<u8>>) -> Result<&[u8], FileFault> {
+    match read {
+        Ok(bytes) => Ok(bytes.as_slice()),
+        Err(fault) if fault.kind() == io::ErrorKind::OutOfMemory => Err(FileFault::NoMemory),
+        Err(_) => Err(FileFault::Unreadable),
     }
 }

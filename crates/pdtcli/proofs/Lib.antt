@@ -4,3 +4,4 @@ mod ToldLemmas
 mod OutputLemmas
 mod ProgramLemmas
 mod ReadsLemmas
+mod WorkedLimits

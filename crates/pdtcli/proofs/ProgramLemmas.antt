@@ -1,8 +1,8 @@
 -- What an opening's answer says of its first fault, and what is so of a refusal that is passed up.
-use Rattle.std.proofs.Common.{◌≡◌, ℕ, Option, Some, None, Result, Ok, Err, List, sym, refl, subst}
+use Rattle.std.proofs.Common.{◌≡◌, ℕ, Option, Some, None, Result, Ok, Err, sym, refl, subst}
 use Rattle.std.specs.Prelude.{IfErr, IsErrAnd, IsOkUnless, MatchOption, unwrap_or}
 use Rattle.pdtcli.specs.Managed.{Managed, fault_of_opening}
-use Rattle.pdtcli.specs.Program.{Inputs, AreInputs, AreOpened}
+use Rattle.pdtcli.specs.Program.{File, Inputs, AreInputs, AreOpened}
 use Rattle.pdtcli.specs.declared.plain.manager.OpenFault.{OpenFault}
 use Rattle.pdtcli.specs.declared.plain.manager.OpenFault.TheVariants.{NoMemory}
 use Rattle.pdtcli.specs.declared.program.TheConstants.{RECENT_COMMITS}
@@ -17,7 +17,7 @@ no_fault None m h = refl
 no_fault (Some f) m h = cc h
 
 -- what was opened has no fault
-pub opened : (table script : Option (List ℕ)) (limit : ℕ) (inputs : Inputs) (m : Managed) → AreInputs table script inputs
+pub opened : (table script : File) (limit : ℕ) (inputs : Inputs) (m : Managed) → AreInputs table script inputs
     → MatchOption (fault_of_opening inputs.stable RECENT_COMMITS limit) (IsOkUnless (Ok m) NoMemory) (λ f. Ok m ≡ Err f) → AreOpened table script limit inputs
 opened table script limit inputs m read h = record { read = read; fits = no_fault (fault_of_opening inputs.stable RECENT_COMMITS limit) m h }
 

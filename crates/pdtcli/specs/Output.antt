@@ -7,10 +7,10 @@ use Rattle.csv.specs.declared.writer.Writer.{Writer}
 use Rattle.values.specs.Shape.{Columns}
 use Rattle.values.specs.declared.row.Row.{Row}
 use Rattle.values.specs.declared.value.ColumnType.{ColumnType}
-use Rattle.values.specs.declared.value.ColumnType.TheVariants as column
 use Rattle.model.specs.Table.{rows_of}
 use Rattle.pdtcli.specs.Managed.{newest_table}
 use Rattle.pdtcli.specs.Outcome.{Left}
+use Rattle.inputs.specs.Header.{kind_word}
 use Rattle.inputs.specs.Reading.{Fields}
 use Rattle.pdtcli.specs.Replies.{line_fields}
 use Rattle.pdtcli.specs.Shown.{row_fields}
@@ -20,14 +20,9 @@ use Rattle.pdtcli.specs.declared.reply.ReplyLine.{ReplyLine}
 
 -- ---- the records of an image
 
--- what stands after a column's name: its type, and whether it is one of the key
+-- what stands after a column's name: a colon, its type, and whether it is one of the key
 abbrev pub kind_text : ColumnType → Bool → List ℕ
-kind_text column.Int false = codes ":int"
-kind_text column.Text false = codes ":text"
-kind_text column.Bool false = codes ":bool"
-kind_text column.Int true = codes ":int:key"
-kind_text column.Text true = codes ":text:key"
-kind_text column.Bool true = codes ":bool:key"
+kind_text type is_key = 58 ∷ kind_word type is_key
 
 -- the header cells of the columns from column `at` on, the first `key_cols` of all being the key
 abbrev pub header_cells : ℕ → ℕ → List (List ℕ) → List ColumnType → Fields

@@ -9,26 +9,11 @@ use Rattle.pdtcli.specs.Shown.{row_fields, truth_text}
 use Rattle.pdtcli.specs.declared.reply.Reply.{Reply}
 use Rattle.pdtcli.specs.declared.reply.Reply.TheVariants as reply
 use Rattle.pdtcli.specs.declared.reply.ReplyLine.{ReplyLine}
-use Rattle.inputs.specs.declared.verb.Verb.{Verb}
-use Rattle.inputs.specs.declared.verb.Verb.TheVariants as verb
+use Rattle.inputs.specs.Calls.{verb_word}
 
 -- the name of the client of this number
 abbrev pub client_name : List (List ℕ) → ℕ → List ℕ
 client_name clients client = unwrap_or (slice_get clients client) []
-
--- the word by which a script asks for a verb
-abbrev pub verb_word : Verb → List ℕ
-verb_word verb.Begin = codes "begin"
-verb_word verb.Insert = codes "insert"
-verb_word verb.Delete = codes "delete"
-verb_word verb.Set = codes "set"
-verb_word verb.Get = codes "get"
-verb_word verb.At = codes "at"
-verb_word verb.Rank = codes "rank"
-verb_word verb.Len = codes "len"
-verb_word verb.Scan = codes "scan"
-verb_word verb.Commit = codes "commit"
-verb_word verb.Abort = codes "abort"
 
 abbrev pub write_fields : WriteReply → Fields
 write_fields write_reply.Done = codes "Done" ∷ []

@@ -2,14 +2,15 @@
 ghost use Rattle.std.specs.Prelude.{◌≡◌, ◌<◌, ◌++◌, ◌∷◌, [], OnOk, IfOk, get_or, length};
 ghost use Rattle.values.specs.Lent.{value_of};
 ghost use Rattle.csv.specs.Records.{fields_of, partial_of};
-ghost use Rattle.pdtcli.specs.Output.{header_fields, kind_text};
+ghost use Rattle.pdtcli.specs.Output.{header_fields};
 ghost use Rattle.pdtcli.specs.Shown.{cell_text, row_fields};
 
 use csv::ByteRecord;
+use inputs::kind_word;
 use itoa::Buffer;
 use stable::StableTable;
 use std::alloc::Global;
-use values::{ColumnType, NoMemory, Schema, ValueRef};
+use values::{NoMemory, Schema, ValueRef};
 
 /// Adds a header cell for each column.
 pub(crate) fn push_header(
@@ -22,34 +23,21 @@ pub(crate) fn push_header(
     ensures whole { OnOk result (partial_of fields.new ≡ []) }
 {
     for col in 0..schema.width() {
-        let kind = kind_of(schema.column_type(col), col < schema.key_cols());
+        let kind = kind_word(schema.column_type(col), col < schema.key_cols());
         let cell = header_cell(alloc, schema.name(col), kind)?;
         fields.push_field(cell.as_slice())?;
     }
     Ok(())
 }
 
-/// A column's name and what stands after it.
+/// A column's name, a colon and what stands after it.
 fn header_cell(alloc: Global, name: &str, kind: &str) -> Result<Vec<u8>, NoMemory>
-    ensures { IfOk result (λ cell. cell.items ≡ name.now ++ kind.now) }
+    ensures { IfOk result (λ cell. cell.items ≡ name.now ++ 58 ∷ kind.now) }
 {
     let mut cell = Vec::from_slice(alloc, name.as_bytes())?;
+    cell.push(b':')?;
     cell.extend_from_slice(kind.as_bytes())?;
     Ok(cell)
-}
-
-/// What stands after a column's name: its type, and whether it is one of the key.
-fn kind_of(column: ColumnType, is_key: bool) -> &'static str
-    ensures { result.now ≡ kind_text column is_key }
-{
-    match (column, is_key) {
-        (ColumnType::Int, false) => ":int",
-        (ColumnType::Text, false) => ":text",
-        (ColumnType::Bool, false) => ":bool",
-        (ColumnType::Int, true) => ":int:key",
-        (ColumnType::Text, true) => ":text:key",
-        (ColumnType::Bool, true) => ":bool:key",
-    }
 }
 
 /// Adds a field for each cell of a row of the table.

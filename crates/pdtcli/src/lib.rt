@@ -28,7 +28,7 @@ pub use inputs::{
 pub use outcome::Outcome;
 pub use output::{ShowFault, show};
 pub use plain::{Manager, OpenFault};
-pub use program::run_texts;
+pub use program::{FileFault, run_texts, status_of};
 pub use refusal::Refusal;
 pub use reply::{Reply, ReplyLine};
 pub use serial::run_serial;

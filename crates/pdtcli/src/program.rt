@@ -1,31 +1,39 @@
 //! What the program does with the bytes of its files: it reads them, runs the script over the table, and shows what the
 //! run leaves.
-ghost use Rattle.std.specs.Prelude.{◌≡◌, ◌<◌, false, IfErr, IfOk, IsTrue, length};
-ghost use Rattle.std.specs.Option.{option_copied};
-ghost use Rattle.std.specs.List.{All};
-ghost use Rattle.inputs.specs.Typed.{is_typed_call};
+ghost use Rattle.std.specs.Prelude.{◌≡◌, false, IfErr, IfOk};
 ghost use Rattle.std.specs.Io.KnownBytes.{Appends};
 ghost use Rattle.pdtcli.specs.Outcome.{Left};
 ghost use Rattle.pdtcli.specs.Output.{exit_status, shown};
-ghost use Rattle.pdtcli.specs.Program.{HasScript, HasTable, IsRefusalOf, IsRunOf, IsScriptRefusal, IsTableRefusal};
+ghost use Rattle.pdtcli.specs.Program.{bytes_of, status_of, HasScript, HasTable, IsRefusalOf, IsRunOf, IsScriptRefusal, IsTableRefusal};
 ghost use Rattle.pdtcli.specs.Refusals.{is_output};
 
 use crate::output::show;
 use crate::plain::Manager;
 use crate::refusal::Refusal;
 use crate::serial::run_serial;
-use inputs::{Script, TableFault, read_script, read_table};
-use stable::{BuildFault, StableTable};
+use inputs::{Script, ScriptFault, TableFault, read_script, read_table};
+use stable::StableTable;
 use std::alloc::Global;
 use std::io::Write;
-use values::Schema;
+use values::{NoMemory, Schema};
 
 /// How many recent commits a run keeps.
 const RECENT_COMMITS: usize = 64;
 
-/// Runs a script over a table, each given as the bytes of its file or as `None` where the file can't be read, writes
-/// what the run leaves, and answers the program's exit status. The table may have at most `limit` rows, 1 to
-/// 2,147,483,647.
+/// The status where an input is refused, or the output.
+const REFUSED: u8 = 1;
+
+/// Why a file's bytes aren't there.
+#[derive(Clone, Copy, Debug, PartialEq, Eq)]
+pub enum FileFault {
+    /// The file can't be read.
+    Unreadable,
+    /// A growth was refused while it was read.
+    NoMemory,
+}
+
+/// Runs a script over a table, each given as the bytes of its file or as why they aren't there, writes what the run
+/// leaves, and answers the program's exit status. The table may have at most `limit` rows, 1 to 2,147,483,647.
 ///
 /// # Errors
 ///
@@ -33,16 +41,16 @@ const RECENT_COMMITS: usize = 64;
 /// last of them may come after something was written.
 pub fn run_texts<W: Write>(
     alloc: Global,
-    table: Option<&[u8]>,
-    script: Option<&[u8]>,
+    table: Result<&[u8], FileFault>,
+    script: Result<&[u8], FileFault>,
     limit: u64,
     out: &mut W,
 ) -> Result<u8, Refusal>
     ensures shown { IfOk result (λ status. (left : Left)
-        × IsRunOf (option_copied table.entry) (option_copied script.entry) limit left
+        × IsRunOf (bytes_of table.entry) (bytes_of script.entry) limit left
         × Appends (W.contents out.old) (W.contents out.new) (shown left)
         × (status ≡ exit_status left.lines)) }
-    ensures refused { IfErr result (IsRefusalOf (option_copied table.entry) (option_copied script.entry) limit) }
+    ensures refused { IfErr result (IsRefusalOf (bytes_of table.entry) (bytes_of script.entry) limit) }
     ensures silent { IfErr result (λ refusal. is_output refusal ≡ false → out.new ≡ out.old) }
 {
     let stable = table_of(alloc, table)?;
@@ -55,36 +63,49 @@ pub fn run_texts<W: Write>(
     Ok(show(alloc, &outcome, out)?)
 }
 
+/// The status that the program ends with, by what `run_texts` answers: that of the run, or 1 where a part was refused.
+pub fn status_of(answer: &Result<u8, Refusal>) -> u8
+    ensures { result ≡ status_of answer.now }
+{
+    match answer {
+        Ok(status) => *status,
+        Err(_) => REFUSED,
+    }
+}
+
 /// The table of these bytes.
-fn table_of(alloc: Global, bytes: Option<&[u8]>) -> Result<StableTable, Refusal>
-    ensures ok { IfOk result (HasTable (option_copied bytes.entry)) }
-    ensures refused { IfErr result (IsTableRefusal (option_copied bytes.entry)) }
+fn table_of(alloc: Global, given: Result<&[u8], FileFault>) -> Result<StableTable, Refusal>
+    ensures ok { IfOk result (HasTable (bytes_of given.entry)) }
+    ensures refused { IfErr result (IsTableRefusal (bytes_of given.entry)) }
     ensures input { IfErr result (λ refusal. is_output refusal ≡ false) }
 {
-    let Some(text) = bytes else {
-        return Err(Refusal::UnreadableTable);
+    let text = match given {
+        Ok(text) => text,
+        Err(FileFault::Unreadable) => return Err(Refusal::UnreadableTable),
+        Err(FileFault::NoMemory) => return Err(Refusal::Table(TableFault::NoMemory)),
     };
     let (schema, rows) = read_table(alloc, text)?;
-    match StableTable::build(alloc, schema, rows) {
+    match StableTable::of_rows(alloc, schema, rows.as_slice()) {
         Ok(table) => Ok(table),
-        Err(fault) => match fault {
-            BuildFault::NoMemory => Err(Refusal::Table(TableFault::NoMemory)),
-            // What was read fits and ascends.
-            _ => unreachable!(),
-        },
+        Err(NoMemory) => Err(Refusal::Table(TableFault::NoMemory)),
     }
 }
 
 /// The script of these bytes, over a table of the schema.
-fn script_of(alloc: Global, schema: &Schema, bytes: Option<&[u8]>) -> Result<Script, Refusal>
-    ensures ok { IfOk result (λ script. HasScript schema.now (option_copied bytes.entry) script.clients.items script.calls.items) }
-    ensures typed { IfOk result (λ script. All (λ asked. IsTrue (is_typed_call schema.now asked.call)) script.calls.items) }
-    ensures clients { IfOk result (λ script. All (λ asked. asked.client < length script.clients.items) script.calls.items) }
-    ensures refused { IfErr result (IsScriptRefusal schema.now (option_copied bytes.entry)) }
+fn script_of(
+    alloc: Global,
+    schema: &Schema,
+    given: Result<&[u8], FileFault>,
+) -> Result<Script, Refusal>
+    ensures ok { IfOk result (λ script. HasScript schema.now (bytes_of given.entry) script.clients script.calls) }
+    ensures under { IfOk result (λ script. script.schema ≡ schema.now) }
+    ensures refused { IfErr result (IsScriptRefusal schema.now (bytes_of given.entry)) }
     ensures input { IfErr result (λ refusal. is_output refusal ≡ false) }
 {
-    let Some(text) = bytes else {
-        return Err(Refusal::UnreadableScript);
+    let text = match given {
+        Ok(text) => text,
+        Err(FileFault::Unreadable) => return Err(Refusal::UnreadableScript),
+        Err(FileFault::NoMemory) => return Err(Refusal::Script(ScriptFault::NoMemory)),
     };
     Ok(read_script(alloc, schema, text)?)
 }

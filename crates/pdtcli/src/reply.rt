@@ -1,7 +1,7 @@
 //! What a script's calls are answered, and the fields of the reply lines: the one place where a reply becomes text.
 ghost use Rattle.std.specs.Prelude.{◌≡◌, ◌++◌, ◌∷◌, [], OnOk, codes, decimal};
 ghost use Rattle.csv.specs.Records.{fields_of, partial_of};
-ghost use Rattle.pdtcli.specs.Replies.{client_name, commit_fields, line_fields, reply_fields, verb_word, write_fields};
+ghost use Rattle.pdtcli.specs.Replies.{client_name, commit_fields, line_fields, reply_fields, write_fields};
 ghost use Rattle.pdtcli.specs.Shown.{row_fields, truth_text};
 
 use crate::image::push_cell;
@@ -68,7 +68,7 @@ pub(crate) fn push_line(
     ensures whole { OnOk result (partial_of fields.new ≡ []) }
 {
     push_word(fields, name_of(clients, line.client))?;
-    push_word(fields, word_of(line.verb))?;
+    push_word(fields, line.verb.word())?;
     push_reply(fields, &line.reply)
 }
 
@@ -79,25 +79,6 @@ fn name_of(clients: &[Text], client: u32) -> &str
     match clients.get(client as usize) {
         Some(name) => name.as_str(),
         None => "",
-    }
-}
-
-/// The word by which a script asks for the verb.
-fn word_of(verb: Verb) -> &'static str
-    ensures { result.now ≡ verb_word verb }
-{
-    match verb {
-        Verb::Begin => "begin",
-        Verb::Insert => "insert",
-        Verb::Delete => "delete",
-        Verb::Set => "set",
-        Verb::Get => "get",
-        Verb::At => "at",
-        Verb::Rank => "rank",
-        Verb::Len => "len",
-        Verb::Scan => "scan",
-        Verb::Commit => "commit",
-        Verb::Abort => "abort",
     }
 }
 

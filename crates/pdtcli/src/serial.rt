@@ -1,7 +1,6 @@
 //! A run of a script's calls, one after the other.
-ghost use Rattle.std.specs.Prelude.{◌≡◌, ◌<◌, ◌≤◌, replicate, None, Option, List, [], IfOk, IsTrue, length, map, vec_capacity};
-ghost use Rattle.std.specs.List.{All, range_with_len};
-ghost use Rattle.inputs.specs.Typed.{is_typed_call};
+ghost use Rattle.std.specs.Prelude.{◌≡◌, ◌≤◌, replicate, None, Option, List, [], IfOk, length, map, vec_capacity};
+ghost use Rattle.std.specs.List.{range_with_len};
 ghost use Rattle.txn.specs.Txn.{Transaction};
 ghost use Rattle.pdtcli.specs.Run.{IsRun, line_of, verb_of_call, verb_of_read, verb_of_write, decided_count, is_decided};
 
@@ -22,22 +21,22 @@ use values::{NoMemory, Text};
 /// `NoMemory` where a place for the run is refused; a call that finds no memory is answered so, and the run goes on.
 pub fn run_serial(alloc: Global, manager: Manager, script: &Script) -> Result<Outcome, NoMemory>
     // The calls were read under the manager's schema.
-    requires typed { All (λ asked. IsTrue (is_typed_call manager.schema asked.call)) script.now.calls.items }
-    requires clients { All (λ asked. asked.client < length script.now.clients.items) script.now.calls.items }
+    requires { script.now.schema ≡ manager.schema }
     ensures run { IfOk result (λ outcome. (transactions : List (Option Transaction))
-        × IsRun (record { manager = manager; transactions = replicate (length script.now.clients.items) None })
-        script.now.calls.items outcome.lines (record { manager = outcome.manager; transactions = transactions })) }
-    ensures clients { IfOk result (λ outcome. outcome.clients ≡ script.now.clients.items) }
-    ensures counts { IfOk result (λ outcome. outcome.counts ≡ map (decided_count outcome.lines) (range_with_len 0 (length script.now.clients.items))) }
+        × IsRun (record { manager = manager; transactions = replicate (length script.now.clients) None })
+        script.now.calls outcome.lines (record { manager = outcome.manager; transactions = transactions })) }
+    ensures clients { IfOk result (λ outcome. outcome.clients ≡ script.now.clients) }
+    ensures counts { IfOk result (λ outcome. outcome.counts ≡ map (decided_count outcome.lines) (range_with_len 0 (length script.now.clients))) }
 {
     let mut manager = manager;
-    let count = script.clients.len();
-    let names = copy_names(alloc, script.clients.as_slice())?;
+    let count = script.clients().len();
+    let names = copy_names(alloc, script.clients())?;
+    let calls = script.calls();
     let mut callers = new_callers(alloc, count)?;
     let counts = Vec::with_capacity(alloc, count)?;
-    let mut lines = Vec::with_capacity(alloc, script.calls.len())?;
-    let mut left = script.calls.len();
-    for asked in script.calls.as_slice() {
+    let mut lines = Vec::with_capacity(alloc, calls.len())?;
+    let mut left = calls.len();
+    for asked in calls {
         let reply = callers[asked.client as usize].serve(asked, &mut manager, &mut lines, left);
         lines.push_reserved(line_of(asked, reply));
         left -= 1;

@@ -24,7 +24,7 @@ fn assert_limited(
     want: &str,
 ) -> Result<(), Fail> {
     let mut out = Vec::new(alloc);
-    let status = run_texts(alloc, Some(table), Some(script), limit, &mut out)?;
+    let status = run_texts(alloc, Ok(table), Ok(script), limit, &mut out)?;
     assert_eq!(rt; str::from_utf8(out.as_slice())?, want);
     assert_eq!(rt; status, 0);
     Ok(())

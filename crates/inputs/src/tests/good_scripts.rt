@@ -81,8 +81,8 @@ fn assert_read(
 ) -> Result<(), Fail> {
     let schema = base_schema(rt, alloc);
     let script = read_script(alloc, &schema, text).expect(rt, label);
-    let found = shown(alloc, script.calls.as_slice())?;
-    assert_eq!(rt; script.clients.len(), clients, "at {label}");
+    let found = shown(alloc, script.calls())?;
+    assert_eq!(rt; script.clients().len(), clients, "at {label}");
     assert_eq!(rt; found.as_str(), want, "at {label}");
     Ok(())
 }
@@ -156,7 +156,7 @@ fn a_client_has_its_name(rt: HostRuntime) {
     let script = read_script(rt.alloc(), &schema, b"eve,begin\neve,commit\n").expect(
         &rt, "a script",
     );
-    for client in &script.clients {
+    for client in script.clients() {
         assert_eq!(rt; client.as_str(), "eve");
     }
 }
@@ -170,6 +170,6 @@ fn a_text_of_a_script_may_have_any_length(rt: HostRuntime) -> Result<(), Fail> {
         text.push('a')?;
     }
     let script = read_script(rt.alloc(), &schema, text.as_bytes()).expect(&rt, "a script");
-    assert_eq!(rt; script.calls.len(), 1);
+    assert_eq!(rt; script.calls().len(), 1);
     Ok(())
 }

@@ -11,7 +11,7 @@ ghost use Rattle.pdtcli.specs.Managed.{is_bad_limit, record_of};
 
 use model::CommitReply;
 use oracle::{Effects, OrderedTable, Record, effects_of_writes};
-use stable::{BuildFault, StableTable};
+use stable::StableTable;
 use std::alloc::{AllocFailed, Global};
 use std::marker::Model;
 use std::snapshot::Snapshot;
@@ -276,11 +276,5 @@ fn built(alloc: Global, schema: Schema, rows: Vec<Row>) -> Result<StableTable, N
     requires { IsStable (record { schema = schema; rows = rows.items }) }
     ensures { IfOk result (λ table. table ≡ record { schema = schema; rows = rows.items }) }
 {
-    match StableTable::build(alloc, schema, rows) {
-        Ok(table) => Ok(table),
-        Err(fault) => match fault {
-            BuildFault::NoMemory => Err(NoMemory),
-            _ => unreachable!(),
-        },
-    }
+    StableTable::of_rows(alloc, schema, rows.as_slice())
 }

@@ -32,8 +32,8 @@ fn ten_thousand_calls_over_ten_thousand_rows(rt: HostRuntime) -> Result<(), Fail
     let mut out = Vec::new(rt.alloc());
     let status = run_texts(
         rt.alloc(),
-        Some(table.as_str().as_bytes()),
-        Some(script.as_str().as_bytes()),
+        Ok(table.as_str().as_bytes()),
+        Ok(script.as_str().as_bytes()),
         MAX_ROWS,
         &mut out,
     )?;

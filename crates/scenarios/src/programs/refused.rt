@@ -1,6 +1,6 @@
 //! The first part that is refused, of a table, a script, a limit and an output.
 use super::BASE_TEXT;
-use pdtcli::{OpenFault, Refusal, ScriptFault, ShowFault, TableFault, run_texts};
+use pdtcli::{FileFault, OpenFault, Refusal, ScriptFault, ShowFault, TableFault, run_texts};
 use std::io;
 use std::io::Write;
 use std::test::Fail;
@@ -12,53 +12,73 @@ fn the_first_part_that_is_refused_is_told(rt: HostRuntime) -> Result<(), Fail> {
     let no_number: &[u8] = b"id:int:key,name:text,qty:int\nx,Ann,1\n";
     let jump: &[u8] = b"a,jump\n";
     for (label, table, script, limit, want) in [
-        ("no table", None, None, 1, Refusal::UnreadableTable),
+        (
+            "no table",
+            Err(FileFault::Unreadable),
+            Err(FileFault::Unreadable),
+            1,
+            Refusal::UnreadableTable,
+        ),
+        (
+            "no memory for the table's bytes",
+            Err(FileFault::NoMemory),
+            Err(FileFault::Unreadable),
+            1,
+            Refusal::Table(TableFault::NoMemory),
+        ),
+        (
+            "no memory for the script's bytes",
+            Ok(BASE_TEXT),
+            Err(FileFault::NoMemory),
+            1,
+            Refusal::Script(ScriptFault::NoMemory),
+        ),
         (
             "a key twice, before the script",
-            Some(twice),
-            None,
+            Ok(twice),
+            Err(FileFault::Unreadable),
             1,
             Refusal::Table(TableFault::RepeatedKey(3)),
         ),
         (
             "no number, before the script",
-            Some(no_number),
-            Some(jump),
+            Ok(no_number),
+            Ok(jump),
             1,
             Refusal::Table(TableFault::BadCell(2, 0)),
         ),
         (
             "no script, before the limit",
-            Some(BASE_TEXT),
-            None,
+            Ok(BASE_TEXT),
+            Err(FileFault::Unreadable),
             1,
             Refusal::UnreadableScript,
         ),
         (
             "no verb, before the limit",
-            Some(BASE_TEXT),
-            Some(jump),
+            Ok(BASE_TEXT),
+            Ok(jump),
             1,
             Refusal::Script(ScriptFault::BadVerb(1)),
         ),
         (
             "a row above the limit",
-            Some(BASE_TEXT),
-            Some(b"a,begin\n".as_slice()),
+            Ok(BASE_TEXT),
+            Ok(b"a,begin\n".as_slice()),
             2,
             Refusal::Open(OpenFault::TooManyRows),
         ),
         (
             "a limit of no rows",
-            Some(BASE_TEXT),
-            Some(b"".as_slice()),
+            Ok(BASE_TEXT),
+            Ok(b"".as_slice()),
             0,
             Refusal::Open(OpenFault::BadLimit),
         ),
         (
             "a limit past the largest",
-            Some(BASE_TEXT),
-            Some(b"".as_slice()),
+            Ok(BASE_TEXT),
+            Ok(b"".as_slice()),
             MAX_ROWS + 1,
             Refusal::Open(OpenFault::BadLimit),
         ),
@@ -89,8 +109,8 @@ impl Write for Closed {
 fn an_output_that_is_refused_is_told(rt: HostRuntime) {
     let found = run_texts(
         rt.alloc(),
-        Some(BASE_TEXT),
-        Some(b"a,begin\n"),
+        Ok(BASE_TEXT),
+        Ok(b"a,begin\n"),
         MAX_ROWS,
         &mut Closed,
     );

@@ -45,8 +45,8 @@ fn rows_are_refused_in_mid_stream(rt: HostRuntime) -> Result<(), Fail> {
         let mut out = Brimming { room };
         let found = run_texts(
             rt.alloc(),
-            Some(table.as_str().as_bytes()),
-            Some(b""),
+            Ok(table.as_str().as_bytes()),
+            Ok(b""),
             MAX_ROWS,
             &mut out,
         );
@@ -60,8 +60,8 @@ fn a_line_is_refused(rt: HostRuntime) {
     let mut out = Brimming { room: 5 };
     let found = run_texts(
         rt.alloc(),
-        Some(BASE_TEXT),
-        Some(b"a,begin\n"),
+        Ok(BASE_TEXT),
+        Ok(b"a,begin\n"),
         MAX_ROWS,
         &mut out,
     );

@@ -1,7 +1,9 @@
-use Rattle.std.proofs.Common.{◌≡◌, ◌+◌, length, ◌++◌, ◌∷◌, [], true, false, refl, sym, rules, arith}
+use Rattle.std.proofs.Common.{◌≡◌, ◌+◌, length, ◌++◌, ◌∷◌, [], true, false, refl, sym, subst, rules, arith}
 use Rattle.std.specs.Result.{is_ok}
 use Rattle.std.proofs.lemmas.List.{length-append}
 use Rattle.csv.specs.Records.{fields_of}
+use Rattle.values.specs.Shape.{Columns}
+use Rattle.inputs.specs.Typed.{IsTyped}
 use Rattle.inputs.specs.declared.fault.ScriptFault.TheVariants.{NoMemory}
 use Rattle.inputs.proofs.ReadLemmas.{passed-up, prepend-nil}
 use Rattle.inputs.proofs.ScriptLemmas.{call_of-text, calls_of-step, clients_of-step, script_of-fault, script_of-ok}
@@ -11,7 +13,7 @@ use Rattle.inputs.proofs.script.read_script.Goals as goal
 
 pub loop-number-init : goal.loop-number-init
 loop-number-init c =
-    rw (c.new-clients.ensures.items, c.new-calls.ensures.items) (record { count = refl; reading = ([], c.records_of-reader.ensures, λ more. refl, λ more. sym (prepend-nil _)) })
+    rw (c.new-clients.ensures.items, c.new-calls.ensures.items) (record { under = c.in_ok-under.ensures; count = refl; reading = ([], c.records_of-reader.ensures, λ more. refl, λ more. sym (prepend-nil _)) })
 
 pub returns-then-not-more-clause-ok : goal.returns-then-not-more-clause-ok
 returns-then-not-more-clause-ok c =
@@ -47,6 +49,7 @@ loop-number-preserved c =
     let count = c.loop-number.invariant.count in
     let longer : length (c.loop-number.calls.items ++ c.in_ok-call.call ∷ []) ≡ length c.loop-number.calls.items + 1 = simp length-append in
     rw (items, names) (record {
+      under = c.loop-number.invariant.under;
       count = omega (arith, count, longer);
       reading = (
         inv.0 ++ fields_of c.next_record.new.fields ∷ [],
@@ -67,17 +70,22 @@ unreachable-requires c =
     let last = c.loop-number-test.false in
     omega (arith, count, full.0, full.1, small, last)
 
-pub returns-then-not-more-clause-clients : goal.returns-then-not-more-clause-clients
-returns-then-not-more-clause-clients c =
-    let inv = c.loop-number.invariant.reading in
-    script_of-below c.args.schema.now inv.0 _ _ (script_of-ok c.args.schema.now inv.0 c.loop-number.number _ _ inv.2 inv.3)
-
 pub returns-then-not-more-clause-few : goal.returns-then-not-more-clause-few
 returns-then-not-more-clause-few c =
     let inv = c.loop-number.invariant.reading in
     script_of-few c.args.schema.now inv.0 _ _ (script_of-ok c.args.schema.now inv.0 c.loop-number.number _ _ inv.2 inv.3)
 
-pub returns-then-not-more-clause-typed : goal.returns-then-not-more-clause-typed
-returns-then-not-more-clause-typed c =
+pub invariant_of-result : goal.invariant_of-result
+invariant_of-result c =
     let inv = c.loop-number.invariant.reading in
-    script_of-typed c.args.schema.now inv.0 _ _ (script_of-ok c.args.schema.now inv.0 c.loop-number.number _ _ inv.2 inv.3)
+    let said = script_of-ok c.args.schema.now inv.0 c.loop-number.number _ _ inv.2 inv.3 in
+    let clients = c.loop-number.clients.items in
+    let calls = c.loop-number.calls.items in
+    subst (λ (under : Columns). IsTyped (record { schema = under; clients = clients; calls = calls })) (sym c.loop-number.invariant.under) (record {
+      numbered = script_of-below c.args.schema.now inv.0 clients calls said;
+      typed = script_of-typed c.args.schema.now inv.0 clients calls said;
+    })
+
+pub returns-in_err-more-clause-err : goal.returns-in_err-more-clause-err
+returns-in_err-more-clause-err c =
+    passed-up c.from_residual-in_err-more.result NoMemory _ c.from_residual-in_err-more.ensures.1 (λ ne. absurd (ne refl))

@@ -8,6 +8,7 @@ use Rattle.inputs.proofs.script.read_script.Given as goal
 -- the records so far lead to where the reader stands, and their clients and calls are those so far
 abbrev pub invariant-loop-number : goal.invariant-loop-number
 invariant-loop-number l = record {
+  under : l.under ≡ l.schema;
   count : l.number ≡ length l.calls.items + 1;
   reading : (read : List Fields) × IsReading l.fn.text read l.reader
       × ((more : List Fields) → clients_of [] (read ++ more) ≡ clients_of l.clients.items more)

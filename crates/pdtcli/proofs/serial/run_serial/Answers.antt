@@ -13,7 +13,7 @@ use Rattle.pdtcli.proofs.serial.run_serial.Goals as goal
 
 pub loop-asked-preserved : goal.loop-asked-preserved
 loop-asked-preserved c =
-    let calls = c.args.script.now.calls.items in
+    let calls = c.args.script.now.calls in
     let i = c.loop-asked.asked-index in
     let asked = c.asked-item.result in
     let m = c.loop-asked.manager in
@@ -21,10 +21,10 @@ loop-asked-preserved c =
     let mine = c.index_mut.result.now in
     let after : Side = record { manager = c.serve-reply.new.manager; own = c.serve-reply.new.self } in
     let reply = c.serve-reply.result in
-    let list : c.as_slice-asked-items.result.now ≡ calls = c.as_slice-asked-items.ensures.value in
+    let list : c.calls-calls.result.now ≡ calls = c.calls-calls.ensures.calls in
     let inside : i < length calls = omega (arith, c.loop-asked-test.true, ap (λ (xs : List ClientCall). length xs) list) in
     let here : asked ≡ get_or calls i asked = c.asked-item.is ∙ ap (λ (xs : List ClientCall). get_or xs i asked) list in
-    let bound : asked.client < length c.args.script.now.clients.items = subst (λ (a : ClientCall). a.client < length c.args.script.now.clients.items) (sym here) (c.requires.clients i asked inside) in
+    let bound : asked.client < length c.args.script.now.clients = subst (λ (a : ClientCall). a.client < length c.args.script.now.clients) (sym here) (c.calls-calls.ensures.lawful.numbered i asked inside) in
     let client : asked.client < length callers = omega (arith, bound, c.loop-asked.invariant.ready.many) in
     let found : mine ≡ get_or callers asked.client mine = c.index_mut.ensures.value in
     let own : IfSome mine (IsOwn m) = subst (λ (o : Option Transaction). IfSome o (IsOwn m)) (sym found) (c.loop-asked.invariant.ready.own asked.client mine client) in
@@ -46,13 +46,13 @@ loop-asked-preserved c =
     c.push_reserved.ensures.items
     ∙ (λ j. served.2 j ++ c.line_of.ensures j ∷ [])
     ∙ append_assoc before (shown_lines asked rows) (line_of asked reply ∷ []) in
-    let start : State = record { manager = c.args.manager; transactions = replicate (length c.args.script.now.clients.items) None } in
+    let start : State = record { manager = c.args.manager; transactions = replicate (length c.args.script.now.clients) None } in
     let next : State = record { manager = after.manager; transactions = set callers asked.client after.own } in
     let more = IsRun-more start (record { manager = m; transactions = callers }) next (take i calls) before asked these c.loop-asked.invariant.run taken in
     let longer : take i calls ++ asked ∷ [] ≡ take (i + 1) calls = ap (λ (a : ClientCall). take i calls ++ a ∷ []) here ∙ sym (take_more calls i asked inside) in
     record {
       run = subst (λ (e : List ClientCall × List ReplyLine). IsRun start e.0 e.1 next) (λ j. (longer j, (sym told) j)) more;
-      ready = ready_again c.args.manager.schema (length c.args.script.now.clients.items) m callers c.loop-asked.invariant.ready asked.client asked.call mine after rows reply own step;
+      ready = ready_again c.args.manager.schema (length c.args.script.now.clients) m callers c.loop-asked.invariant.ready asked.client asked.call mine after rows reply own step;
       left = omega (arith, c.loop-asked.invariant.left, inside);
       room = omega (arith, c.push_reserved.ensures.len, c.push_reserved.ensures.capacity, c.serve-reply.ensures.room, c.loop-asked.invariant.left, inside);
       counts = c.loop-asked.invariant.counts;

@@ -7,9 +7,9 @@ use Rattle.pdtcli.proofs.serial.run_serial.Given as goal
 -- the lines so far are a run of the calls so far, each client is ready for the next, and there is room for the rest
 abbrev pub invariant-loop-asked : goal.invariant-loop-asked
 invariant-loop-asked l = record {
-  run : IsRun (record { manager = l.fn.manager; transactions = replicate (length l.script.clients.items) None }) (take l.asked-index l.script.calls.items) l.lines.items (record { manager = l.manager; transactions = l.callers.items });
-  ready : IsReady l.fn.manager.schema (length l.script.clients.items) l.manager l.callers.items;
-  left : l.asked-index + l.left ≡ length l.script.calls.items;
+  run : IsRun (record { manager = l.fn.manager; transactions = replicate (length l.script.clients) None }) (take l.asked-index l.script.calls) l.lines.items (record { manager = l.manager; transactions = l.callers.items });
+  ready : IsReady l.fn.manager.schema (length l.script.clients) l.manager l.callers.items;
+  left : l.asked-index + l.left ≡ length l.script.calls;
   room : vec_len l.lines + l.left ≤ vec_capacity l.lines;
   counts : (l.counts.items ≡ []) × (l.count ≤ vec_capacity l.counts);
 }
