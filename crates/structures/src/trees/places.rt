@@ -55,10 +55,8 @@ fn made_again(alloc: Global, tree: &DeltaTree) -> Result<DeltaTree, NoMemory>
     requires keyed { tree.now.key_cols ≡ 1 }
 {
     let mut entries = Vec::with_capacity(alloc, tree.len())?;
-    for place in 0..tree.len() {
-        if let Some(entry) = tree.entry(place) {
-            entries.push(copy_entry(entry)?)?;
-        }
+    for entry in tree.iter_from(0) {
+        entries.push(copy_entry(entry)?)?;
     }
     DeltaTree::from_sorted(alloc, 1, entries)
 }

@@ -1,7 +1,7 @@
 use Rattle.std.proofs.Common.{ap, ◌∙◌}
 use Rattle.txn.specs.Txn.{Transaction}
-use Rattle.scenarios.proofs.VersionLemmas.{tree_is_layer}
-use Rattle.scenarios.proofs.transactions.stacks.tree_over.Goals as goal
+use Rattle.structures.proofs.VersionLemmas.{tree_is_layer}
+use Rattle.structures.proofs.transactions.stacks.tree_over.Goals as goal
 
 pub returns : goal.returns
 returns c =

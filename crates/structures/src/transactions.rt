@@ -3,7 +3,6 @@
 //! That a refused growth is answered shows under `rt try --test --fail-alloc N`, for N from 1 on: a case then ends with
 //! NoMemory in the place of its answer.
 ghost use Rattle.std.specs.Prelude.{◌≡◌};
-ghost use Rattle.pdtcli.specs.Managed.{Managed, IsOwn};
 
 mod random_writes;
 mod refusals;
@@ -24,10 +23,9 @@ use values::{Key, NoMemory, Row, ShapeFault, Value, ValueRef};
 const ROOM: u64 = 4;
 
 /// The reply to a write.
-pub(crate) fn answer(txn: &mut Txn, write: Write) -> Result<WriteReply, WriteFault>
+fn answer(txn: &mut Txn, write: Write) -> Result<WriteReply, WriteFault>
     ensures schema { txn.new.schema ≡ txn.old.schema }
     ensures table { txn.new.table ≡ txn.old.table }
-    ensures own { (m : Managed) → IsOwn m txn.old → IsOwn m txn.new }
 {
     match write {
         Write::Insert(row) => txn.insert(row),

@@ -1,8 +1,8 @@
 use Rattle.std.proofs.Common.{◌≡◌, ◌∙◌, sym, ap}
 use Rattle.stable.specs.Stable.{Stable}
 use Rattle.values.specs.Shape.{Columns}
-use Rattle.scenarios.proofs.LayerLemmas.{are_stacked, same_table}
-use Rattle.scenarios.proofs.images.stacked.Goals as goal
+use Rattle.structures.proofs.LayerLemmas.{are_stacked, same_table}
+use Rattle.structures.proofs.images.stacked.Goals as goal
 
 pub returns : goal.returns
 returns c =

@@ -4,8 +4,8 @@ use Rattle.delta.specs.Tree.{Tree}
 use Rattle.stable.specs.Stable.{Stable}
 use Rattle.merge.specs.Image.{IsLayer}
 use Rattle.txn.specs.Version.{Lower, AreLower, version_at, version_of, lower_table, empty_tree}
-use Rattle.scenarios.proofs.VersionLemmas.{one_layer, two_layers, layer_of_version}
-use Rattle.scenarios.proofs.transactions.stacks.make_lower.Goals as goal
+use Rattle.structures.proofs.VersionLemmas.{one_layer, two_layers, layer_of_version}
+use Rattle.structures.proofs.transactions.stacks.make_lower.Goals as goal
 
 pub stacked-requires : goal.stacked-requires
 stacked-requires c =

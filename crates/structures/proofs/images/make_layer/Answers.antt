@@ -1,12 +1,12 @@
 use Rattle.std.proofs.Common.{◌≡◌, ◌∙◌, ◌≤◌, ◌<◌, ◌^◌, length, sym, ap, subst, arith}
 use Rattle.delta.specs.Tree.{Tree}
 use Rattle.model.specs.Effects.{AreOver}
-use Rattle.scenarios.specs.declared.images.TheConstants.{AMPLE}
+use Rattle.structures.specs.declared.images.TheConstants.{AMPLE}
 use Rattle.model.specs.Table.{IsTable}
 use Rattle.model.proofs.AllLaws.{leaves}
 use Rattle.merge.specs.Image.{IsLayer}
-use Rattle.scenarios.proofs.LayerLemmas.{lawful_layer, over_writes}
-use Rattle.scenarios.proofs.images.make_layer.Goals as goal
+use Rattle.structures.proofs.LayerLemmas.{lawful_layer, over_writes}
+use Rattle.structures.proofs.images.make_layer.Goals as goal
 
 pub from_sorted-requires : goal.from_sorted-requires
 from_sorted-requires c =
