@@ -1,25 +1,10 @@
-//! The tests of the crates that have none of their own: trees, tables, images, transactions, managers and runs of the
-//! program, from answers that a person worked out and beside the slow program of `oracle`.
+//! The tests of managers and of whole runs: the rules of the program, told by what a person worked out.
 //!
 //! That a refused growth is answered shows under `rt try --test --fail-alloc N`, for N from 1 on: each test ends well,
 //! or with the error of the growth.
 #![tactic(auto)]
 
 #[cfg(test)]
-mod folds;
-#[cfg(test)]
-mod images;
-#[cfg(test)]
 mod managers;
 #[cfg(test)]
 mod programs;
-#[cfg(test)]
-mod shown;
-#[cfg(test)]
-mod stores;
-#[cfg(test)]
-mod tables;
-#[cfg(test)]
-mod transactions;
-#[cfg(test)]
-mod trees;

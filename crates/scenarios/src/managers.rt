@@ -5,9 +5,8 @@ ghost use Rattle.pdtcli.specs.Managed.{Managed, IsOwn};
 
 mod openings;
 
-use crate::transactions::answer;
 use fixtures::{ItemWrite, base_table, key, write_of};
-use model::{CommitReply, WriteReply};
+use model::{CommitReply, Write, WriteReply};
 use pdtcli::{Manager, Txn, WriteFault};
 use std::alloc::Global;
 use std::test::Fail;
@@ -39,7 +38,11 @@ fn begin_both(manager: &Manager) -> Result<(Txn, Txn), NoMemory>
 fn wrote(alloc: Global, txn: &mut Txn, named: ItemWrite) -> Result<WriteReply, WriteFault>
     ensures own { (m : Managed) → IsOwn m txn.old → IsOwn m txn.new }
 {
-    answer(txn, write_of(alloc, named)?)
+    match write_of(alloc, named)? {
+        Write::Insert(row) => txn.insert(row),
+        Write::Delete(key) => txn.delete(&key),
+        Write::Set(key, col, value) => txn.set(&key, col, value),
+    }
 }
 
 /// The reply to the commit of a transaction, or none where memory is refused.

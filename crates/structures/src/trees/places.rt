@@ -1,0 +1,285 @@
+//! What stands at a SID and at a position of three layers' trees, over the base rows with the keys 10, 20 and 30. Each
+//! layer stands over the image of the one before it, so its SIDs are positions there.
+ghost use Rattle.std.specs.Prelude.{◌≡◌};
+
+use super::changed;
+use crate::shown::entries_text;
+use delta::{DeltaTree, KeyIndex, Place};
+use fixtures::{Step, copy_entry, key};
+use std::alloc::Global;
+use std::test::Fail;
+use values::{NoMemory, ValueRef};
+
+/// The greatest position that a look-up takes.
+const MOST: u64 = 9_223_372_036_854_775_807;
+
+/// A SID and the number of a key; how many entries stand before its insert there, at which position that stands or would
+/// stand, and whether it is there.
+type KeyCase = (u64, i64, usize, u64, bool);
+
+/// Inserts (15, Flo, 5) and deletes 30: the image has the keys 10, 15 and 20.
+const READ: [(Step, &str); 2] = [
+    (Step::Insert(1, 15, "Flo", 5), "1+15,Flo,5"),
+    (Step::Delete(2, 30), "1+15,Flo,5 2-30"),
+];
+
+/// Modifies 15 and inserts (30, Zed, 7): the keys 10, 15, 20 and 30.
+const WRITE: [(Step, &str); 2] = [
+    (Step::Modify(1, 2, ValueRef::Int(6)), "1:2=6"),
+    (Step::Insert(3, 30, "Zed", 7), "1:2=6 3+30,Zed,7"),
+];
+
+/// Deletes 10 and inserts (35, Gus, 8): the keys 15, 20, 30 and 35.
+const TRANS: [(Step, &str); 2] = [
+    (Step::Delete(0, 10), "0-10"),
+    (Step::Insert(4, 35, "Gus", 8), "0-10 4+35,Gus,8"),
+];
+
+/// An insert, a delete, another insert and two modifies: three SIDs, of which one has two entries.
+const MIXED: [(Step, &str); 5] = [
+    (Step::Insert(1, 20, "Bea", 8), "1+20,Bea,8"),
+    (Step::Delete(1, 20), "1+20,Bea,8 1-20"),
+    (Step::Insert(3, 40, "Gus", 9), "1+20,Bea,8 1-20 3+40,Gus,9"),
+    (
+        Step::Modify(2, 2, ValueRef::Int(7)),
+        "1+20,Bea,8 1-20 2:2=7 3+40,Gus,9",
+    ),
+    (
+        Step::Modify(2, 1, ValueRef::Text("Cy")),
+        "1+20,Bea,8 1-20 2:1=Cy 2:2=7 3+40,Gus,9",
+    ),
+];
+
+/// A tree of the same entries, made from copies of them.
+fn made_again(alloc: Global, tree: &DeltaTree) -> Result<DeltaTree, NoMemory>
+    requires keyed { tree.now.key_cols ≡ 1 }
+{
+    let mut entries = Vec::with_capacity(alloc, tree.len())?;
+    for entry in tree.iter_from(0) {
+        entries.push(copy_entry(entry)?)?;
+    }
+    DeltaTree::from_sorted(alloc, 1, entries)
+}
+
+#[test]
+fn a_tree_with_no_entries_has_none_anywhere(rt: HostRuntime) -> Result<(), Fail> {
+    let tree = DeltaTree::new(rt.alloc(), 1);
+    assert!(rt; tree.entries_at(0).next().is_none());
+    assert!(rt; tree.iter_from(0).next().is_none());
+    assert!(rt; tree.entry(0).is_none());
+    assert_eq!(rt; tree.base_index(3), 0);
+    assert!(rt; tree.copy()?.is_empty());
+    assert!(rt; made_again(rt.alloc(), &tree)?.is_empty());
+    Ok(())
+}
+
+#[test]
+fn the_entries_at_a_sid_are_found(rt: HostRuntime) -> Result<(), Fail> {
+    let alloc = rt.alloc();
+    let Some(tree) = changed(&rt, alloc, MIXED.as_slice())? else {
+        return Ok(());
+    };
+    for (sid, there) in [
+        (0, ""),
+        (1, "1+20,Bea,8 1-20"),
+        (2, "2:1=Cy 2:2=7"),
+        (3, "3+40,Gus,9"),
+        (4, ""),
+    ] {
+        let text = entries_text(alloc, tree.entries_at(sid))?;
+        assert_eq!(rt; text.as_str(), there, "at {sid}");
+    }
+    Ok(())
+}
+
+#[test]
+fn the_entries_from_a_place_on_follow_those_before_it(rt: HostRuntime) -> Result<(), Fail> {
+    let alloc = rt.alloc();
+    let Some(tree) = changed(&rt, alloc, MIXED.as_slice())? else {
+        return Ok(());
+    };
+    for (index, rest) in [
+        (0, "1+20,Bea,8 1-20 2:1=Cy 2:2=7 3+40,Gus,9"),
+        (1, "1-20 2:1=Cy 2:2=7 3+40,Gus,9"),
+        (4, "3+40,Gus,9"),
+        (5, ""),
+    ] {
+        assert!(rt; index <= tree.len());
+        let text = entries_text(alloc, tree.iter_from(index))?;
+        assert_eq!(rt; text.as_str(), rest, "from {index}");
+    }
+    for (index, sid) in [
+        (0, Some(1)),
+        (1, Some(1)),
+        (2, Some(2)),
+        (3, Some(2)),
+        (4, Some(3)),
+        (5, None),
+    ] {
+        let found = tree.entry(index).map(|entry| entry.sid);
+        assert_eq!(rt; found, sid, "at {index}");
+    }
+    Ok(())
+}
+
+#[test]
+fn a_base_rows_changes_stand_past_the_inserts_at_its_sid(rt: HostRuntime) -> Result<(), Fail> {
+    let Some(tree) = changed(&rt, rt.alloc(), MIXED.as_slice())? else {
+        return Ok(());
+    };
+    for (sid, index) in [(0, 0), (1, 1), (2, 2), (3, 5), (4, 5)] {
+        assert_eq!(rt; tree.base_index(sid), index, "at {sid}");
+    }
+    Ok(())
+}
+
+#[test]
+fn a_copy_and_a_tree_made_again_have_the_same_entries(rt: HostRuntime) -> Result<(), Fail> {
+    const ALL: &str = "1+20,Bea,8 1-20 2:1=Cy 2:2=7 3+40,Gus,9";
+    let alloc = rt.alloc();
+    let Some(tree) = changed(&rt, alloc, MIXED.as_slice())? else {
+        return Ok(());
+    };
+    for (label, other) in [
+        ("copied", tree.copy()?),
+        ("made again", made_again(alloc, &tree)?),
+    ] {
+        let text = entries_text(alloc, other.iter())?;
+        assert_eq!(rt; text.as_str(), ALL, "{label}");
+        assert_eq!(rt; other.len(), 5, "{label}");
+        assert_eq!(rt; other.total(), 1, "{label}");
+    }
+    Ok(())
+}
+
+#[test]
+fn a_tree_with_no_entries_moves_nothing(rt: HostRuntime) -> Result<(), Fail> {
+    let alloc = rt.alloc();
+    let tree = DeltaTree::new(alloc, 1);
+    for at in [0, 7, MOST] {
+        assert!(rt; at <= MOST);
+        assert_eq!(rt; tree.shift_before(at), 0, "at {at}");
+        assert_eq!(rt; tree.find_rid(at), Place::Base(at), "at {at}");
+        let there = KeyIndex {
+            index: 0,
+            rid: at,
+            found: false,
+        };
+        assert_eq!(rt;
+            tree.find_key(at, key(alloc, 15)?.cells()),
+            there,
+            "at {at}"
+        );
+    }
+    Ok(())
+}
+
+#[test]
+fn entries_move_what_stands_at_greater_sids(rt: HostRuntime) -> Result<(), Fail> {
+    const READ_SHIFTS: [(u64, i64); 6] = [(0, 0), (1, 0), (2, 1), (3, 0), (4, 0), (MOST, 0)];
+    const WRITE_SHIFTS: [(u64, i64); 6] = [(0, 0), (1, 0), (2, 0), (3, 0), (4, 1), (MOST, 1)];
+    const TRANS_SHIFTS: [(u64, i64); 6] = [(0, 0), (1, -1), (3, -1), (4, -1), (5, 0), (MOST, 0)];
+    for (label, steps, cases) in [
+        ("read", READ, READ_SHIFTS),
+        ("write", WRITE, WRITE_SHIFTS),
+        ("trans", TRANS, TRANS_SHIFTS),
+    ] {
+        let Some(tree) = changed(&rt, rt.alloc(), steps.as_slice())? else {
+            return Ok(());
+        };
+        for (sid, shift) in cases {
+            assert_eq!(rt; tree.shift_before(sid), shift, "{label} at {sid}");
+        }
+    }
+    Ok(())
+}
+
+#[test]
+fn each_position_has_its_place(rt: HostRuntime) -> Result<(), Fail> {
+    const READ_PLACES: [(u64, Place); 6] = [
+        (0, Place::Base(0)),
+        (1, Place::Inserted(0)),
+        (2, Place::Base(1)),
+        (3, Place::Base(3)),
+        (4, Place::Base(4)),
+        (MOST, Place::Base(MOST)),
+    ];
+    const WRITE_PLACES: [(u64, Place); 6] = [
+        (0, Place::Base(0)),
+        (1, Place::Base(1)),
+        (2, Place::Base(2)),
+        (3, Place::Inserted(1)),
+        (4, Place::Base(3)),
+        (MOST, Place::Base(9_223_372_036_854_775_806)),
+    ];
+    const TRANS_PLACES: [(u64, Place); 6] = [
+        (0, Place::Base(1)),
+        (1, Place::Base(2)),
+        (2, Place::Base(3)),
+        (3, Place::Inserted(1)),
+        (4, Place::Base(4)),
+        (MOST, Place::Base(MOST)),
+    ];
+    for (label, steps, cases) in [
+        ("read", READ, READ_PLACES),
+        ("write", WRITE, WRITE_PLACES),
+        ("trans", TRANS, TRANS_PLACES),
+    ] {
+        let Some(tree) = changed(&rt, rt.alloc(), steps.as_slice())? else {
+            return Ok(());
+        };
+        for (rid, index) in cases {
+            assert!(rt; rid <= MOST);
+            assert_eq!(rt; tree.find_rid(rid), index, "{label} at {rid}");
+        }
+    }
+    Ok(())
+}
+
+#[test]
+fn a_key_has_its_place_among_the_inserts_at_a_sid(rt: HostRuntime) -> Result<(), Fail> {
+    const READ_KEYS: [KeyCase; 6] = [
+        (0, 5, 0, 0, false),
+        (1, 12, 0, 1, false),
+        (1, 15, 0, 1, true),
+        (1, 18, 1, 2, false),
+        (2, 25, 1, 3, false),
+        (3, 40, 2, 3, false),
+    ];
+    const WRITE_KEYS: [KeyCase; 6] = [
+        (0, 5, 0, 0, false),
+        (1, 12, 0, 1, false),
+        (2, 18, 1, 2, false),
+        (3, 25, 1, 3, false),
+        (3, 30, 1, 3, true),
+        (3, 35, 2, 4, false),
+    ];
+    const TRANS_KEYS: [KeyCase; 6] = [
+        (0, 5, 0, 0, false),
+        (1, 12, 1, 0, false),
+        (3, 25, 1, 2, false),
+        (4, 32, 1, 3, false),
+        (4, 35, 1, 3, true),
+        (4, 40, 2, 4, false),
+    ];
+    let alloc = rt.alloc();
+    for (label, steps, cases) in [
+        ("read", READ, READ_KEYS),
+        ("write", WRITE, WRITE_KEYS),
+        ("trans", TRANS, TRANS_KEYS),
+    ] {
+        let Some(tree) = changed(&rt, alloc, steps.as_slice())? else {
+            return Ok(());
+        };
+        for (sid, id, index, rid, found) in cases {
+            assert!(rt; sid <= MOST);
+            let there = KeyIndex { index, rid, found };
+            assert_eq!(rt;
+                tree.find_key(sid, key(alloc, id)?.cells()),
+                there,
+                "{label}: {id} at {sid}"
+            );
+        }
+    }
+    Ok(())
+}
