@@ -1,5 +1,5 @@
-//! The tests of tables, trees, folds, images, transactions and devices, from answers that a person worked out and beside the slow program
-//! of `oracle`.
+//! The tests of tables, trees, folds, images, transactions and devices, from answers that a person worked out and beside
+//! the slow program of `oracle`.
 //!
 //! That a refused growth is answered shows under `rt try --test --fail-alloc N`, for N from 1 on: each test ends well,
 //! or with the error of the growth.
