@@ -25,33 +25,6 @@ reads_on front i at next count bytes t rest total lt place e so_far =
     let one : after front (texts_at i at (count - i) bytes) ≡ after front (and_then (Text t) (texts_at (i + 1) next (count - (i + 1)) rest)) = rw (left, e, place) refl in
     sym (after-and_then front (Text t) (texts_at (i + 1) next (count - (i + 1)) rest)) ∙ sym one ∙ so_far
 
--- a fault of a text is that of the reading
-pub reads_fault : (fault : BlockFault) (front : List Value) (i at count : ℕ) (bytes : List ℕ) (total : Result (List Value) BlockFault) → i < count → Fails fault (text_at i at bytes) → after front (texts_at i at (count - i) bytes) ≡ total → Fails fault total
-unfolding texts_at
-reads_fault fault front i at count bytes total lt failed so_far = by fault failed
-  where
-    step : (f : BlockFault) → text_at i at bytes ≡ Err f → total ≡ Err f
-    step f e =
-        let left : count - i ≡ suc (count - (i + 1)) = omega arith in
-        let one : after front (texts_at i at (count - i) bytes) ≡ Err f = rw (left, e) refl in
-        sym so_far ∙ one
-
-    by : (f : BlockFault) → Fails f (text_at i at bytes) → Fails f total
-    by NoMemory h = tt
-    by (Short n) h = step (Short n) h
-    by (Long n) h = step (Long n) h
-    by (BadText n) h = step (BadText n) h
-    by (TextTooLong n) h = step (TextTooLong n) h
-    by BadPadding h = step BadPadding h
-
--- no text is left to read, and no byte
-pub reads_end : (front : List Value) (i at count : ℕ) (total : Result (List Value) BlockFault) → count ≤ i → after front (texts_at i at (count - i) []) ≡ total → total ≡ Ok front
-unfolding texts_at
-reads_end front i at count total le so_far =
-    let none : count - i ≡ 0 = omega arith in
-    let one : after front (texts_at i at (count - i) []) ≡ Ok front = rw none (ap done (append-nil front)) in
-    sym so_far ∙ one
-
 -- but bytes are
 pub reads_left : (front : List Value) (i at count : ℕ) (bytes : List ℕ) (total : Result (List Value) BlockFault) → count ≤ i → 0 < length bytes → after front (texts_at i at (count - i) bytes) ≡ total → total ≡ Err (Long at)
 unfolding texts_at

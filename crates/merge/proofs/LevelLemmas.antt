@@ -102,9 +102,6 @@ module _ (key_cols : ℕ) where
 
 -- ---- a stretch without entries
 
-take_drop_zero : (n : ℕ) → n + 0 ≡ n
-take_drop_zero n = omega arith
-
 -- the rows before the first entry stand as they are
 pub merged_rows_from-gap : (k n m : ℕ) (base : List Row) (es : List Entry) → m ≡ n + k → k ≤ length base → T (all_from m es) → merged_rows_from n base es ≡ take k base ++ merged_rows_from m (drop k base) es
 merged_rows_from-gap zero n m base es is le h = let e : n ≡ m = omega arith in ap (λ p. merged_rows_from p base es) e

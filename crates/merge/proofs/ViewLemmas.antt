@@ -141,11 +141,6 @@ module _ (sid : ℕ) where
   pub cells_at-split : (es : List Entry) (n : ℕ) → IsSplit before_base es n → cells_at sid (drop n es) ≡ cells_at sid es
   cells_at-split es n h = sym (no_modifies (take n es) (drop n es) h.before) ∙ ap (cells_at sid) (take-append-drop n es)
 
-  -- a modify at the SID is the next cell
-  pub cells_at-modify : (x : Entry) (col : ℕ) (value : Value) (es : List Entry) → x.sid ≡ sid → x.change ≡ Mod col value → cells_at sid (x ∷ es) ≡ (col, value) ∷ cells_at sid es
-  cells_at-modify x col value es here is =
-      (λ i. cells_at sid (entry_at (here i) (is i) ∷ es)) ∙ ap modified_cells (changes_at_here sid (Mod col value) es)
-
 module _ (key_cols sid : ℕ) where
   ranked_greater : (n m : ℕ) → m < n → T (is_gt (ordering_then (nat_cmp n m) Equal))
   ranked_greater n m lt =

@@ -140,9 +140,6 @@ module _ (es : List Entry) (single : (m : ℕ) → length (deleted_keys (changes
       let rest = del_grow (suc n) k s e in
       omega (arith, count_next del_worth n es, single n, here_del n)
 
-  first_case : (a i d r : ℕ) → r + a + d ≡ (a + i) + d → r ≡ i + 0
-  first_case a i d r e = omega arith
-
   found : (base : List Row) (n k s r : ℕ) → s ≡ n + k → k < length base → length (deleted_keys (changes_at s es)) ≡ 0 → r + (n + ins_below n) + del_below s ≡ (s + ins_below s + ins_here s) + del_below n → slice_get (merged_rows_from n base es) r ≡ row_left (slice_get base k) (changes_at s es)
   found [] n k s r is lt kept at_r = absurd (omega arith)
   found (row ∷ base) n zero s r is lt kept at_r =

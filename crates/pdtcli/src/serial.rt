@@ -11,7 +11,7 @@ use crate::reply::{Reply, ReplyLine};
 use inputs::{Call, ClientCall, Read, Script, Verb};
 use model::Write;
 use std::alloc::Global;
-use values::{NoMemory, Text};
+use values::{NoMemory, copy_texts};
 
 /// Makes a script's calls in order, from a manager with no transaction open. Transactions that are open at the end are
 /// ended without a line.
@@ -30,7 +30,7 @@ pub fn run_serial(alloc: Global, manager: Manager, script: &Script) -> Result<Ou
 {
     let mut manager = manager;
     let count = script.clients().len();
-    let names = copy_names(alloc, script.clients())?;
+    let names = copy_texts(alloc, script.clients())?;
     let calls = script.calls();
     let mut callers = new_callers(alloc, count)?;
     let counts = Vec::with_capacity(alloc, count)?;
@@ -54,17 +54,6 @@ fn new_callers(alloc: Global, count: usize) -> Result<Vec<Caller>, NoMemory>
         callers.push(Caller::new())?;
     }
     Ok(callers)
-}
-
-/// The clients' names, copied.
-fn copy_names(alloc: Global, names: &[Text]) -> Result<Vec<Text>, NoMemory>
-    ensures { IfOk result (λ copied. copied.items ≡ names.now) }
-{
-    let mut copied = Vec::with_capacity(alloc, names.len())?;
-    for name in names {
-        copied.push(name.copy()?)?;
-    }
-    Ok(copied)
 }
 
 /// For each client, how many of its commits were decided. The room for it is there.

@@ -123,7 +123,3 @@ count_more [] n c even lt is = absurd (omega arith)
 count_more (x ∷ columns) n c even lt is =
     let next : n + 1 ≡ suc n = omega arith in
     ap (λ (d : Column). length d.values) is ∙ even n c lt ∙ ap (λ k. row_count (take k (x ∷ columns))) (sym next)
-
--- even columns of a schema's types, whose values may stand there
-pub are_columns : (schema : Columns) (columns : List Column) → map (λ c. c.ty) columns ≡ schema.types → AreEven columns → All (λ c. all_may_stand c.ty c.values) columns → AreColumns schema (row_count columns) columns
-are_columns schema columns typed even fit = record { typed = typed; filled = even; fit = fit }

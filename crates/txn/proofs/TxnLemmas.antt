@@ -122,10 +122,6 @@ module _ (txn : Transaction) (h : IsTransaction txn) where
   effects_fit : T (all_fit txn.table (effects_of txn))
   effects_fit = T_from_true (all_fit txn.table (effects_of txn)) over.fit
 
-  -- the image has the snapshot's rows, and the inserts less the deletes
-  pub image_counted : delete_count (entries_of txn) + length (image_of txn) ≡ insert_count (entries_of txn) + length txn.table
-  image_counted = counted txn.table (effects_of txn) table_sorted effects_sorted effects_fit
-
   pub image_within : length (image_of txn) ≤ txn.limit
   image_within = limit_kept txn.schema txn.limit txn.table [] (asked_of txn) (record { table = h.table; effects_are = record { keyed = refl; fitting = refl }; fit = refl }) (T_from_true (list_all (write_fits_schema txn.schema) (asked_of txn)) h.fitting) h.within
 

@@ -19,5 +19,5 @@ mod value;
 pub use fault::{NoMemory, SchemaFault, ShapeFault};
 pub use row::{Key, Row};
 pub use schema::Schema;
-pub use text::Text;
+pub use text::{Text, copy_texts};
 pub use value::{ColumnType, Value, ValueRef};

@@ -7,7 +7,7 @@ ghost use Rattle.values.specs.Shape.{columns_of, names_of, types_of, schema_faul
 use crate::fault::{NoMemory, SchemaFault, ShapeFault};
 use crate::limits::{MAX_COLUMNS, MAX_KEY_COLUMNS, MAX_TEXT_BYTES};
 use crate::row::{Key, Row};
-use crate::text::Text;
+use crate::text::{Text, copy_texts};
 use crate::value::{ColumnType, Value};
 use std::alloc::Global;
 use std::marker::Model;
@@ -213,17 +213,6 @@ fn split(
         types.push(column)?;
     }
     Ok((names, types))
-}
-
-/// The texts, copied.
-fn copy_texts(alloc: Global, texts: &[Text]) -> Result<Vec<Text>, NoMemory>
-    ensures { IfOk result (λ copies. copies.items ≡ texts.now) }
-{
-    let mut copies = Vec::with_capacity(alloc, texts.len())?;
-    for text in texts {
-        copies.push(text.copy()?)?;
-    }
-    Ok(copies)
 }
 
 /// The first fault of values as a list of these types.

@@ -2,6 +2,7 @@
 ghost use Rattle.std.specs.Prelude.{◌≡◌, IfOk, string_bytes};
 
 use crate::fault::NoMemory;
+use std::alloc::Global;
 use std::marker::Model;
 
 /// A text of any length: how long it may be is asked where it is checked as a cell.
@@ -50,4 +51,19 @@ impl Text {
     {
         Ok(Text::new(self.text.clone()?))
     }
+}
+
+/// The texts in their order, each in memory of its own.
+///
+/// # Errors
+///
+/// `NoMemory` where a growth is refused.
+pub fn copy_texts(alloc: Global, texts: &[Text]) -> Result<Vec<Text>, NoMemory>
+    ensures { IfOk result (λ copies. copies.items ≡ texts.now) }
+{
+    let mut copies = Vec::with_capacity(alloc, texts.len())?;
+    for text in texts {
+        copies.push(text.copy()?)?;
+    }
+    Ok(copies)
 }
