@@ -12,3 +12,6 @@ mod WordsLemmas
 mod PositionLemmas
 mod WorkedWords
 mod WorkedTables
+mod FillingLemmas
+mod AscentLemmas
+mod LoadLemmas

@@ -8,3 +8,4 @@ pub mod Reading
 pub mod Script
 pub mod Words
 pub mod Typed
+pub mod Filling

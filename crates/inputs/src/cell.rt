@@ -1,12 +1,14 @@
 //! The value that a cell's bytes say.
-ghost use Rattle.std.specs.Prelude.{◌≡◌, ◌≢◌, ◌==◌, get_or, IfOk, IfErr, Ok, Err, Some, None};
+ghost use Rattle.std.specs.Prelude.{◌≡◌, ◌≢◌, ◌==◌, get_or, IfOk, IfErr, IsTrue, IsFalse, Ok, Err, Some, None};
+ghost use Rattle.values.specs.Lent.{value_of as lent_value_of};
+ghost use Rattle.values.specs.Shape.{has_type, is_too_long};
 ghost use Rattle.inputs.specs.Cells.{int_of, position_of, truth_of, value_of};
 ghost use Rattle.inputs.specs.Input.{cell_of};
 
 use crate::fault::TableFault;
 use std::alloc::Global;
 use values::limits::MAX_TEXT_BYTES;
-use values::{ColumnType, NoMemory, Text, Value};
+use values::{ColumnType, NoMemory, Text, Value, ValueRef};
 
 /// The cell `at` of the record of this number, as a value of its column's type.
 pub(crate) fn read_cell(
@@ -19,23 +21,41 @@ pub(crate) fn read_cell(
     ensures ok { IfOk result (λ value. cell_of column number at bytes.now ≡ Ok value) }
     ensures err { IfErr result (λ fault. fault ≢ TableFault.NoMemory → cell_of column number at bytes.now ≡ Err fault) }
 {
+    let value = lent_cell(column, number, at, bytes)?;
+    Ok(value.copy(alloc)?)
+}
+
+/// The same, lent from the bytes.
+pub(crate) fn lent_cell(
+    column: ColumnType,
+    number: u64,
+    at: usize,
+    bytes: &[u8],
+) -> Result<ValueRef<'_>, TableFault>
+    ensures ok { IfOk result (λ value. cell_of column number at bytes.now ≡ Ok (lent_value_of value)) }
+    ensures typed { IfOk result (λ value. IsTrue (has_type column (lent_value_of value))) }
+    ensures short { IfOk result (λ value. IsFalse (is_too_long (lent_value_of value))) }
+    ensures err { IfErr result (λ fault. cell_of column number at bytes.now ≡ Err fault) }
+{
     match column {
         ColumnType::Int => match read_int(bytes) {
-            Some(number) => Ok(Value::Int(number)),
+            Some(number) => Ok(ValueRef::Int(number)),
             None => Err(TableFault::BadCell(number, at)),
         },
         ColumnType::Bool => match read_truth(bytes) {
-            Some(truth) => Ok(Value::Bool(truth)),
+            Some(truth) => Ok(ValueRef::Bool(truth)),
             None => Err(TableFault::BadCell(number, at)),
         },
-        ColumnType::Text => read_text(alloc, number, at, bytes),
+        ColumnType::Text => lent_text(number, at, bytes),
     }
 }
 
 /// The same of a text column.
-fn read_text(alloc: Global, number: u64, at: usize, bytes: &[u8]) -> Result<Value, TableFault>
-    ensures ok { IfOk result (λ value. cell_of ColumnType.Text number at bytes.now ≡ Ok value) }
-    ensures err { IfErr result (λ fault. fault ≢ TableFault.NoMemory → cell_of ColumnType.Text number at bytes.now ≡ Err fault) }
+fn lent_text(number: u64, at: usize, bytes: &[u8]) -> Result<ValueRef<'_>, TableFault>
+    ensures ok { IfOk result (λ value. cell_of ColumnType.Text number at bytes.now ≡ Ok (lent_value_of value)) }
+    ensures typed { IfOk result (λ value. IsTrue (has_type ColumnType.Text (lent_value_of value))) }
+    ensures short { IfOk result (λ value. IsFalse (is_too_long (lent_value_of value))) }
+    ensures err { IfErr result (λ fault. cell_of ColumnType.Text number at bytes.now ≡ Err fault) }
 {
     let text = match str::from_utf8(bytes) {
         Ok(text) => text,
@@ -44,7 +64,7 @@ fn read_text(alloc: Global, number: u64, at: usize, bytes: &[u8]) -> Result<Valu
     if text.len() > MAX_TEXT_BYTES {
         return Err(TableFault::TextTooLong(number, at));
     }
-    Ok(Value::Text(Text::new(String::from_str(alloc, text)?)))
+    Ok(ValueRef::Text(text))
 }
 
 /// The value of this type that the bytes say, if they say one. A text may have any length.

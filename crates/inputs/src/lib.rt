@@ -5,16 +5,20 @@
 //! its records, the first fault from the start or the schema and the rows; so is a script, whose answer is the clients'
 //! names and the calls. A command line's settings are those that its words say.
 //!
-//! *What it stands on.* `values` for schemas, rows and limits, `model` for writes and for what a table is, `csv` for
-//! records, `clap` for the command line, and `thiserror` for what a fault shows.
+//! *What it stands on.* `values` for schemas, rows and limits, `blocks` and `stable` for the columns of a table, `model`
+//! for writes and for what a table is, `csv` for records, `clap` for the command line, and `thiserror` for what a fault
+//! shows.
 #![tactic(auto)]
 
 mod arguments;
+mod ascent;
 mod call;
 mod cell;
 mod client;
+mod columns;
 mod fault;
 mod header;
+mod loading;
 mod order;
 mod reading;
 mod row;
@@ -28,6 +32,7 @@ mod words;
 pub use call::{Call, ClientCall, Read};
 pub use fault::{ScriptFault, TableFault};
 pub use header::kind_word;
+pub use loading::load_table;
 pub use script::{Script, read_script};
 pub use table::read_table;
 pub use verb::Verb;

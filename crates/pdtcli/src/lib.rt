@@ -22,8 +22,8 @@ mod reply;
 mod serial;
 
 pub use inputs::{
-    Call, ClientCall, Script, ScriptFault, Settings, TableFault, Verb, read_script, read_table,
-    read_words,
+    Call, ClientCall, Script, ScriptFault, Settings, TableFault, Verb, load_table, read_script,
+    read_table, read_words,
 };
 pub use outcome::Outcome;
 pub use output::{ShowFault, show};

@@ -11,11 +11,11 @@ use crate::output::show;
 use crate::plain::Manager;
 use crate::refusal::Refusal;
 use crate::serial::run_serial;
-use inputs::{Script, ScriptFault, TableFault, read_script, read_table};
+use inputs::{Script, ScriptFault, TableFault, load_table, read_script};
 use stable::StableTable;
 use std::alloc::Global;
 use std::io::Write;
-use values::{NoMemory, Schema};
+use values::Schema;
 
 /// How many recent commits a run keeps.
 const RECENT_COMMITS: usize = 64;
@@ -84,11 +84,7 @@ fn table_of(alloc: Global, given: Result<&[u8], FileFault>) -> Result<StableTabl
         Err(FileFault::Unreadable) => return Err(Refusal::UnreadableTable),
         Err(FileFault::NoMemory) => return Err(Refusal::Table(TableFault::NoMemory)),
     };
-    let (schema, rows) = read_table(alloc, text)?;
-    match StableTable::of_rows(alloc, schema, rows.as_slice()) {
-        Ok(table) => Ok(table),
-        Err(NoMemory) => Err(Refusal::Table(TableFault::NoMemory)),
-    }
+    Ok(load_table(alloc, text)?)
 }
 
 /// The script of these bytes, over a table of the schema.

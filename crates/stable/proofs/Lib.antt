@@ -1,4 +1,4 @@
-mod ExtendLemmas
+pub mod ExtendLemmas
 pub mod BelowLemmas
 pub mod CallerLemmas
 pub mod ColumnLemmas

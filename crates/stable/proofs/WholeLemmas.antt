@@ -8,7 +8,7 @@ use Rattle.stable.specs.Rows.{AreEven, IsKept, first_columns, row_count, rows_of
 use Rattle.stable.proofs.CallerLemmas.{no_build_fault}
 use Rattle.stable.proofs.RowsLemmas.{kept, shown, width}
 
-row_count_is : (columns : List Column) (n : ℕ) → 0 < length columns → ((col : ℕ) (d : Column) → col < length columns → length (get_or columns col d).values ≡ n) → row_count columns ≡ n
+pub row_count_is : (columns : List Column) (n : ℕ) → 0 < length columns → ((col : ℕ) (d : Column) → col < length columns → length (get_or columns col d).values ≡ n) → row_count columns ≡ n
 row_count_is [] n some f = absurd (omega (arith, some))
 row_count_is (c ∷ columns) n some f = f 0 c (omega arith)
 

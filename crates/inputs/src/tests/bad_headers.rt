@@ -1,10 +1,10 @@
 //! Tables that are refused for their header.
-use crate::{TableFault, read_table};
+use crate::{TableFault, load_table, read_table};
 use std::alloc::Global;
 use std::process::Abort;
 use values::SchemaFault;
 
-/// Fails where the text is not refused by this fault.
+/// Fails where the text is not refused by this fault, as rows and into columns.
 pub(super) fn assert_refused(
     rt: &impl Abort,
     alloc: Global,
@@ -14,6 +14,8 @@ pub(super) fn assert_refused(
 ) {
     let found = read_table(alloc, text).err();
     assert_eq!(rt; found, Some(want), "at {label}");
+    let found = load_table(alloc, text).err();
+    assert_eq!(rt; found, Some(want), "loaded, at {label}");
 }
 
 const TYPES: [(&str, &[u8], TableFault); 7] = [

@@ -1,5 +1,5 @@
 //! Tables that are read, with their rows.
-use crate::read_table;
+use crate::{load_table, read_table};
 use crate::tests::shown::write_cells;
 use std::alloc::Global;
 use std::process::Abort;
@@ -18,7 +18,7 @@ fn shown(alloc: Global, rows: &[Row]) -> Result<String, Fail> {
     Ok(text)
 }
 
-/// Fails where the text is not read as these rows.
+/// Fails where the text is not read as these rows, both as rows and into columns.
 fn assert_read(
     rt: &impl Abort,
     alloc: Global,
@@ -29,6 +29,13 @@ fn assert_read(
     let (_, rows) = read_table(alloc, text).expect(rt, label);
     let found = shown(alloc, rows.as_slice())?;
     assert_eq!(rt; found.as_str(), want, "at {label}");
+    let table = load_table(alloc, text).expect(rt, label);
+    let mut loaded = Vec::new(alloc);
+    for sid in 0..table.len() {
+        loaded.push(table.row(alloc, sid)?)?;
+    }
+    let found = shown(alloc, loaded.as_slice())?;
+    assert_eq!(rt; found.as_str(), want, "loaded, at {label}");
     Ok(())
 }
 

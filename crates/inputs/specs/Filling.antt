@@ -1,0 +1,58 @@
+-- Columns that are filled record by record, and their rows in an order.
+use Rattle.std.specs.Prelude.{◌≡◌, ℕ, ◌+◌, ◌≤◌, List, [], ◌∷◌, ◌++◌, Ok, length, map}
+use Rattle.std.specs.List.{range_with_len}
+use Rattle.std.specs.Ordering.{nat_cmp, ordering_then}
+use Rattle.std.specs.declared.cmp.Ordering.{Ordering}
+use Rattle.values.specs.Orders.{key_cmp}
+use Rattle.values.specs.Shape.{key_of}
+use Rattle.values.specs.declared.limits.TheConstants.{MAX_ROWS}
+use Rattle.values.specs.declared.row.Row.{Row}
+use Rattle.values.specs.declared.value.ColumnType.{ColumnType}
+use Rattle.values.specs.declared.value.Value.{Value}
+use Rattle.blocks.specs.Column.{Column}
+use Rattle.stable.specs.Rows.{cell_at, row_at}
+use Rattle.inputs.specs.Input.{row_of}
+use Rattle.inputs.specs.Reading.{Fields}
+use Rattle.inputs.specs.declared.order.Numbered.{Numbered}
+
+-- ---- columns
+
+abbrev pub types_in : List Column → List ColumnType
+types_in columns = map (λ c. c.ty) columns
+
+abbrev pub empty_column : ColumnType → Column
+empty_column ty = record { ty = ty; values = [] }
+
+-- each value after those of its column; a column past the last value stays as it is
+abbrev pub extended : List Column → List Value → List Column
+extended [] values = []
+extended (c ∷ columns) [] = c ∷ columns
+extended (c ∷ columns) (v ∷ values) = record { ty = c.ty; values = c.values ++ v ∷ [] } ∷ extended columns values
+
+-- the record of this number has a cell for each column, and the columns have them now
+pub record IsAdded (old : List Column) (number : ℕ) (fields : Fields) (new : List Column) : Type 0 where
+  pub cells : Row
+  pub said : row_of (types_in old) number fields ≡ Ok (record { number = number; row = cells })
+  pub wide : length cells ≡ length old
+  pub few : number ≤ MAX_ROWS + 1
+  pub filled : new ≡ extended old cells
+
+-- ---- rows
+
+-- the row at a place, with the number of its record: the first row is that of record 2
+abbrev pub row_in : List Column → ℕ → Numbered
+row_in columns place = record { number = place + 2; row = row_at columns place }
+
+abbrev pub rows_in : ℕ → List Column → List Numbered
+rows_in count columns = map (row_in columns) (range_with_len 0 count)
+
+-- ---- orders
+
+-- the values of a column at these places
+abbrev pub column_in_order : List ℕ → Column → Column
+column_in_order places c = record { ty = c.ty; values = map (λ place. cell_at place c) places }
+
+-- how two places stand, by their rows' keys and then by themselves
+abbrev pub place_cmp : ℕ → List Column → ℕ → ℕ → Ordering
+place_cmp key_cols columns a b =
+    ordering_then (key_cmp (key_of key_cols (row_at columns a)) (key_of key_cols (row_at columns b))) (nat_cmp a b)

@@ -1,0 +1,207 @@
+//! The rows of columns in ascending key, and the first record whose key an earlier one has. Places count from 0, and the
+//! row at place 0 is that of record 2.
+ghost use Rattle.std.specs.Prelude.{◌≡◌, ◌≢◌, ◌<◌, ◌≤◌, ◌+◌, ◌^◌, IfOk, IfErr, IsTrue, None, ℕ, map, length};
+ghost use Rattle.std.specs.List.{All, range_with_len};
+ghost use Rattle.std.specs.List.Sorted.{IsPermutation, IsSorted};
+ghost use Rattle.std.specs.declared.cmp.Ordering.TheVariants.{Less};
+ghost use Rattle.values.specs.Lent.{value_of};
+ghost use Rattle.values.specs.Orders.{key_cmp};
+ghost use Rattle.values.specs.Shape.{key_of};
+ghost use Rattle.values.specs.declared.limits.TheConstants.{MAX_ROWS};
+ghost use Rattle.stable.specs.Rows.{cell_at, row_at, rows_of};
+ghost use Rattle.inputs.specs.Filling.{column_in_order, place_cmp, row_in, rows_in, types_in};
+ghost use Rattle.inputs.specs.Input.{first_repeat, same_key, IsAscending};
+ghost use Rattle.inputs.specs.Order.{lower_repeat, IsLeastRepeat, IsRepeatFault};
+
+use crate::fault::TableFault;
+use stable::Column;
+use std::alloc::Global;
+use std::cmp::Ordering;
+use values::{NoMemory, ValueRef};
+
+/// The columns of so many rows, with the rows in ascending key.
+///
+/// # Errors
+///
+/// `RepeatedKey` with the least record whose key an earlier one has, and `NoMemory` where a growth is refused.
+pub(crate) fn in_ascending_key(
+    alloc: Global,
+    key_cols: usize,
+    columns: Vec<Column>,
+    count: usize,
+) -> Result<Vec<Column>, TableFault>
+    requires few { count ≤ MAX_ROWS }
+    requires key { key_cols ≤ length columns.items }
+    requires filled { All (λ c. length c.values ≡ count) columns.items }
+    ensures distinct { IfOk result (λ sorted. first_repeat key_cols (rows_in count columns.items) ≡ None) }
+    ensures each_once { IfOk result (λ sorted. IsPermutation (rows_of count columns.items) (rows_of count sorted.items)) }
+    ensures ascending { IfOk result (λ sorted. IsAscending key_cols (rows_of count sorted.items)) }
+    ensures typed { IfOk result (λ sorted. types_in sorted.items ≡ types_in columns.items) }
+    ensures filled { IfOk result (λ sorted. All (λ c. length c.values ≡ count) sorted.items) }
+    ensures err { IfErr result (λ fault. fault ≢ TableFault.NoMemory → IsRepeatFault key_cols (rows_in count columns.items) fault) }
+{
+    if is_ascending(columns.as_slice(), key_cols, count) {
+        return Ok(columns);
+    }
+    sorted_by_key(alloc, key_cols, columns.as_slice(), count)
+}
+
+/// The same of rows in any order.
+fn sorted_by_key(
+    alloc: Global,
+    key_cols: usize,
+    columns: &[Column],
+    count: usize,
+) -> Result<Vec<Column>, TableFault>
+    requires few { count ≤ MAX_ROWS }
+    requires key { key_cols ≤ length columns.now }
+    requires filled { All (λ c. length c.values ≡ count) columns.now }
+    ensures distinct { IfOk result (λ sorted. first_repeat key_cols (rows_in count columns.now) ≡ None) }
+    ensures each_once { IfOk result (λ sorted. IsPermutation (rows_of count columns.now) (rows_of count sorted.items)) }
+    ensures ascending { IfOk result (λ sorted. IsAscending key_cols (rows_of count sorted.items)) }
+    ensures typed { IfOk result (λ sorted. types_in sorted.items ≡ types_in columns.now) }
+    ensures filled { IfOk result (λ sorted. All (λ c. length c.values ≡ count) sorted.items) }
+    ensures err { IfErr result (λ fault. fault ≢ TableFault.NoMemory → IsRepeatFault key_cols (rows_in count columns.now) fault) }
+{
+    let places = places_by_key(alloc, columns, key_cols, count)?;
+    match least_repeat(columns, key_cols, places.as_slice()) {
+        Some(number) => Err(TableFault::RepeatedKey(number)),
+        None => Ok(columns_in_order(alloc, columns, places.as_slice())?),
+    }
+}
+
+/// Whether each of so many rows has a key above that of the row before.
+fn is_ascending(columns: &[Column], key_cols: usize, count: usize) -> bool
+    requires { key_cols ≤ length columns.now }
+    ensures { IsTrue result → (k : ℕ) → k + 1 < count → key_cmp (key_of key_cols (row_at columns.now k)) (key_of key_cols (row_at columns.now (k + 1))) ≡ Less }
+{
+    for i in 1..count {
+        if !compare_keys(columns, key_cols, i - 1, i).is_lt() {
+            return false;
+        }
+    }
+    true
+}
+
+/// How the keys of two rows stand.
+fn compare_keys(columns: &[Column], key_cols: usize, i: usize, j: usize) -> Ordering
+    requires { key_cols ≤ length columns.now }
+    ensures { result ≡ key_cmp (key_of key_cols (row_at columns.now i)) (key_of key_cols (row_at columns.now j)) }
+{
+    for column in &columns[..key_cols] {
+        match cell_at(column, i).cmp(&cell_at(column, j)) {
+            Ordering::Equal => {}
+            unequal => return unequal,
+        }
+    }
+    Ordering::Equal
+}
+
+/// The value of a column at a place, and false past the last.
+fn cell_at(column: &Column, place: usize) -> ValueRef<'_>
+    ensures { value_of result ≡ cell_at place column.now }
+{
+    if place < column.len() {
+        column.get(place)
+    } else {
+        ValueRef::Bool(false)
+    }
+}
+
+/// The places of so many rows, by their keys, and those of one key in turn.
+fn places_by_key(
+    alloc: Global,
+    columns: &[Column],
+    key_cols: usize,
+    count: usize,
+) -> Result<Vec<u32>, NoMemory>
+    requires key { key_cols ≤ length columns.now }
+    requires few { count ≤ MAX_ROWS }
+    ensures each_once { IfOk result (λ places. IsPermutation (range_with_len 0 count) places.items) }
+    ensures sorted { IfOk result (λ places. IsSorted (place_cmp key_cols columns.now) places.items) }
+{
+    let mut places = places_in_turn(alloc, count)?;
+    places.sort_by(|a, b| {
+        compare_keys(columns, key_cols, *a as usize, *b as usize).then(a.cmp(b))
+    })?;
+    Ok(places)
+}
+
+/// The places of so many rows.
+fn places_in_turn(alloc: Global, count: usize) -> Result<Vec<u32>, NoMemory>
+    requires { count ≤ MAX_ROWS }
+    ensures { IfOk result (λ places. places.items ≡ range_with_len 0 count) }
+{
+    let mut places = Vec::with_capacity(alloc, count)?;
+    for place in 0..count {
+        places.push(place as u32)?;
+    }
+    Ok(places)
+}
+
+/// Of the rows that have the key of the row before them in this order, the least number of a record.
+fn least_repeat(columns: &[Column], key_cols: usize, places: &[u32]) -> Option<u64>
+    requires { key_cols ≤ length columns.now }
+    ensures { IsLeastRepeat key_cols (map (row_in columns.now) places.now) (length places.now) result }
+{
+    let mut least = None;
+    for i in 0..places.len().saturating_sub(1) {
+        least = least_after(columns, key_cols, places[i], places[i + 1], least);
+    }
+    least
+}
+
+/// The least number, after a row and the one behind it.
+fn least_after(
+    columns: &[Column],
+    key_cols: usize,
+    before: u32,
+    place: u32,
+    least: Option<u64>,
+) -> Option<u64>
+    requires { key_cols ≤ length columns.now }
+    ensures { result ≡ lower_repeat (same_key key_cols (row_in columns.now before) (row_in columns.now place)) (place + 2) least }
+{
+    let order = compare_keys(columns, key_cols, before as usize, place as usize);
+    if !order.is_eq() {
+        return least;
+    }
+    let number = u64::from(place) + 2;
+    match least {
+        Some(lower) if lower <= number => Some(lower),
+        _ => Some(number),
+    }
+}
+
+/// The columns, with their values in the order of these places.
+fn columns_in_order(
+    alloc: Global,
+    columns: &[Column],
+    places: &[u32],
+) -> Result<Vec<Column>, NoMemory>
+    requires few { length places.now ≤ MAX_ROWS }
+    requires within { All (λ c. All (λ place. place < length c.values) places.now) columns.now }
+    ensures { IfOk result (λ sorted. sorted.items ≡ map (column_in_order places.now) columns.now) }
+{
+    let mut sorted = Vec::with_capacity(alloc, columns.len())?;
+    for column in columns {
+        sorted.push(column_in_order(alloc, column, places)?)?;
+    }
+    Ok(sorted)
+}
+
+/// One of them.
+fn column_in_order(alloc: Global, column: &Column, places: &[u32]) -> Result<Column, NoMemory>
+    requires few { length places.now ≤ MAX_ROWS }
+    requires within { All (λ place. place < length column.now.values) places.now }
+    ensures { IfOk result (λ sorted. sorted ≡ column_in_order places.now column.now) }
+{
+    let count = column.len();
+    let mut sorted = Column::new(alloc, column.column_type());
+    for place in places {
+        let at = *place as usize;
+        prove!(at < count);
+        sorted.push(column.get(at))?;
+    }
+    Ok(sorted)
+}

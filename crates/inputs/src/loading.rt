@@ -1,0 +1,42 @@
+//! A whole table, read from text into its columns.
+ghost use Rattle.std.specs.Prelude.{◌≢◌, IfOk, IfErr};
+ghost use Rattle.inputs.specs.Input.{IsTableOf, IsFaultOf};
+
+use crate::ascent::in_ascending_key;
+use crate::columns::{add_record, empty_columns};
+use crate::fault::TableFault;
+use crate::header::read_header;
+use crate::reading::{next_record, records_of};
+use csv::ByteRecord;
+use stable::StableTable;
+use std::alloc::Global;
+
+/// The table of a text, as `read_table` reads it: the cells go from the text into the columns, and no row is made. Rows
+/// that stand in ascending key stay where they are; others are sorted by their places.
+///
+/// # Errors
+///
+/// Those of `read_table`.
+pub fn load_table(alloc: Global, text: &[u8]) -> Result<StableTable, TableFault>
+    ensures ok { IfOk result (λ table. IsTableOf text.now table.schema table.rows) }
+    ensures err { IfErr result (λ fault. fault ≢ TableFault.NoMemory → IsFaultOf text.now fault) }
+{
+    let mut reader = records_of(alloc, text);
+    let mut fields = ByteRecord::new(alloc);
+    let found = next_record(&mut reader, &mut fields)?;
+    if !found {
+        return Err(TableFault::NoHeader);
+    }
+    let schema = read_header(alloc, &fields)?;
+    let mut columns = empty_columns(alloc, schema.types())?;
+    for number in 2..u64::MAX {
+        let more = next_record(&mut reader, &mut fields)?;
+        if !more {
+            let count = (number - 2) as usize;
+            let sorted = in_ascending_key(alloc, schema.key_cols(), columns, count)?;
+            return Ok(StableTable::of_columns(schema, sorted));
+        }
+        add_record(&mut columns, number, &fields)?;
+    }
+    unreachable!()
+}
