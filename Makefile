@@ -1,5 +1,9 @@
 # Each target is one line; the work is done by the toolchain's command rt.
-.PHONY: run test examples fmt check
+.PHONY: try run test examples fmt check
+
+# runs the program on its example, unproved: a look, in about a minute
+try:
+	cd crates/pdt && rt try -- run data/table.csv data/script.csv
 
 # proves and builds the program, and runs its example
 run:

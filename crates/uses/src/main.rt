@@ -3,7 +3,7 @@
 #![tactic(auto)]
 
 use model::CommitReply;
-use pdtcli::{Manager, StableTable, read_table};
+use pdtcli::{Manager, load_table};
 use values::limits::MAX_ROWS;
 use values::{Key, NoMemory, Value};
 
@@ -11,9 +11,7 @@ const TABLE: &[u8] = b"id:int:key,name:text,qty:int\n10,Ann,1\n20,Bob,2\n";
 
 fn main(rt: HostRuntime) -> anyhow::Result<()> {
     let alloc = rt.alloc();
-    let (schema, rows) = read_table(alloc, TABLE)?;
-    let table = StableTable::build(alloc, schema, rows)?;
-    let mut manager = Manager::open(alloc, table, 64, MAX_ROWS)?;
+    let mut manager = Manager::open(alloc, load_table(alloc, TABLE)?, 64, MAX_ROWS)?;
 
     let key = Key::new(vec![in alloc; Value::Int(10)]?);
     let mut txn = manager.begin(0)?; // client 0, over the newest table
