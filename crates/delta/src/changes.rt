@@ -70,11 +70,11 @@ impl DeltaTree {
         Ok(())
     }
 
-    /// Takes the insert of this key at the SID away. It takes no memory.
+    /// Takes the insert of this key at the SID away.
     ///
     /// # Errors
     ///
-    /// None today; a tree whose nodes are shared has to copy some of them.
+    /// `NoMemory` where a growth is refused, for the nodes on the way to it are made anew: the tree is as it was.
     pub fn take_ins(&mut self, sid: u64, key: &Key) -> Result<(), NoMemory>
         requires { IsSome (inserted_row self.old.key_cols sid key.now self.old.entries) }
         ensures ok { OnOk result (self.new ≡ record self.old { entries = take_ins self.old.key_cols sid key.now self.old.entries }) }
@@ -85,11 +85,11 @@ impl DeltaTree {
         Ok(())
     }
 
-    /// Puts another value into a cell of the row that is inserted with this key at the SID. It takes no memory.
+    /// Puts another value into a cell of the row that is inserted with this key at the SID.
     ///
     /// # Errors
     ///
-    /// None today; a tree whose nodes are shared has to copy some of them.
+    /// `NoMemory` where a growth is refused, for the nodes on the way to it are made anew: the tree is as it was.
     pub fn set_ins(&mut self, sid: u64, key: &Key, col: usize, value: Value) -> Result<(), NoMemory>
         requires there { IsSomeAnd (inserted_row self.old.key_cols sid key.now self.old.entries) (λ row. col < length row) }
         requires outside_key { self.old.key_cols ≤ col }

@@ -86,8 +86,8 @@ impl<'a> Layers<'a> {
         self.len == 0
     }
 
-    /// The row at a position, lent, or none past the end. Each tree is gone over up to the place, until its entries carry
-    /// counts; the stable table is not searched, and no memory is taken.
+    /// The row at a position, lent, or none past the end. Takes a descent in each tree; the stable table is not searched,
+    /// and no memory is taken.
     pub fn row_at(&self, rid: u64) -> Option<RowView<'a>>
         ensures { option_map row_of result ≡ slice_get (image_rows self.now) rid }
     {
@@ -116,8 +116,8 @@ impl<'a> Layers<'a> {
         MergeScan::new(self.stable, self.stretches(from, to), self.trans)
     }
 
-    /// How many rows have a key below this one, and whether a row has the key: by halving in the stable table and in each
-    /// tree, with a count of the entries before the key's place there. No memory is taken.
+    /// How many rows have a key below this one, and whether a row has the key: by halving in the stable table and a few
+    /// descents in each tree. No memory is taken.
     pub fn rank(&self, key: &Key) -> (u64, bool)
         ensures rank { result.0 ≡ rank key.now (image_table self.now) }
         ensures there { result.1 ≡ is_some (row_at (image_table self.now) key.now) }

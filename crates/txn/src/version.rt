@@ -175,7 +175,7 @@ impl Version {
     }
 
     /// How many rows have a key below that of these cells, and whether the table has that key: by halving in the stable
-    /// table and in each tree, with a count of the entries before the key's place there.
+    /// table and a few descents in each tree.
     pub(crate) fn locate(&self, key: &[Value]) -> (u64, bool)
         ensures rank { result.0 ≡ rank key.now self.now.table }
         ensures there { result.1 ≡ is_some (row_at self.now.table key.now) }
