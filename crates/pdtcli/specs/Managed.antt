@@ -3,9 +3,10 @@ use Rattle.std.specs.Prelude.{◌≡◌, ℕ, ◌≤◌, ◌==◌, nat_lt, Bool,
 use Rattle.values.specs.Shape.{Columns}
 use Rattle.values.specs.declared.limits.TheConstants.{MAX_ROWS, MAX_RECENT_COMMITS}
 use Rattle.model.specs.declared.write.CommitReply.{CommitReply}
+use Rattle.model.specs.declared.clash.ConflictRule.TheVariants.{ByColumn}
 use Rattle.model.specs.Table.{Table, IsTable}
 use Rattle.model.specs.Effects.{Effects}
-use Rattle.model.specs.History.{Record, IsLegal, commits_of, table_after, table_with_all, due_reply}
+use Rattle.model.specs.History.{Start, Record, IsLegal, commits_of, table_after, table_with_all, due_reply}
 use Rattle.stable.specs.Stable.{Stable, table_in}
 use Rattle.txn.specs.Txn.{Transaction, effects_of}
 use Rattle.pdtcli.specs.declared.plain.manager.OpenFault.{OpenFault}
@@ -25,9 +26,13 @@ abbrev pub managed_at : Stable → ℕ → ℕ → List Record → Managed
 managed_at s limit recent history =
     record { schema = s.schema; limit = limit; recent = recent; opening = table_in s; history = history }
 
+-- its history starts from the table that it was opened with, at number 0, and modifies conflict by column
+abbrev pub start_of : Managed → Start
+start_of m = record { table = m.opening; base = 0; limit = m.limit; recent = m.recent; rule = ByColumn }
+
 -- the effects that were committed, in order
 abbrev pub commits_in : Managed → List Effects
-commits_in m = commits_of m.schema m.limit m.recent m.opening m.history
+commits_in m = commits_of m.schema (start_of m) m.history
 
 -- the table after all of them
 abbrev pub newest_table : Managed → Table
@@ -38,7 +43,7 @@ pub record IsManaged (m : Managed) : Type 0 where
   pub table : IsTable m.schema m.opening
   pub within : length m.opening ≤ m.limit
   pub limited : m.limit ≤ MAX_ROWS
-  pub legal : IsLegal m.schema m.limit m.recent m.opening m.history
+  pub legal : IsLegal m.schema (start_of m) m.history
 
 -- what it holds beside its history: these are its commits, and this is its newest table
 pub record HasNewest (m : Managed) (commits : List Effects) (newest : Stable) : Type 0 where
@@ -52,11 +57,11 @@ pub record IsOwn (m : Managed) (txn : Transaction) : Type 0 where
   pub schema : txn.schema ≡ m.schema
   pub limit : txn.limit ≡ m.limit
   pub begun : txn.begin ≤ length (commits_in m)
-  pub snapshot : txn.table ≡ table_after m.opening (commits_in m) txn.begin
+  pub snapshot : txn.table ≡ table_after (start_of m) (commits_in m) txn.begin
 
 -- the reply that is due to its commit
 abbrev pub reply_due : Managed → Transaction → CommitReply
-reply_due m txn = due_reply m.limit m.recent m.opening (commits_in m) txn.begin (effects_of txn)
+reply_due m txn = due_reply (start_of m) (commits_in m) txn.begin (effects_of txn)
 
 -- its record, with the reply to its commit
 abbrev pub record_of : Transaction → CommitReply → Record

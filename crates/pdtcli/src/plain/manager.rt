@@ -4,13 +4,14 @@ ghost use Rattle.std.specs.List.{list_any};
 ghost use Rattle.model.specs.Table.{rows_of};
 ghost use Rattle.model.specs.Effects.{table_with};
 ghost use Rattle.model.specs.Clashes.{conflicts};
+ghost use Rattle.model.specs.declared.clash.ConflictRule.TheVariants.{ByColumn};
 ghost use Rattle.pdtcli.specs.declared.plain.manager.OpenFault.TheVariants as open_fault;
 ghost use Rattle.stable.specs.Stable.{IsStable, table_in};
 ghost use Rattle.txn.specs.Txn.{IsTransaction, effects_of};
 ghost use Rattle.pdtcli.specs.Managed.{is_bad_limit, record_of};
 
-use model::CommitReply;
-use oracle::{Effects, OrderedTable, Record, effects_of_writes};
+use model::{CommitReply, ConflictRule, Record};
+use oracle::{Effects, OrderedTable, effects_of_writes};
 use stable::StableTable;
 use std::alloc::{AllocFailed, Global};
 use std::marker::Model;
@@ -187,7 +188,7 @@ impl Manager {
     fn table_after(&self, txn: &Txn, effects: &Effects) -> Result<Option<StableTable>, NoMemory>
         requires own { IsOwn self.now txn.now }
         requires effects { effects.now ≡ effects_of txn.now }
-        requires clear { IsFalse (list_any (conflicts effects.now) (drop txn.now.begin (commits_in self.now))) }
+        requires clear { IsFalse (list_any (conflicts ByColumn effects.now) (drop txn.now.begin (commits_in self.now))) }
         ensures { IfOk result (λ table. IsTableAfter self.now effects.now table) }
     {
         if txn.begin() == self.commits.len() as u64 {
@@ -225,11 +226,13 @@ fn is_bad_limit(recent: usize, row_limit: u64) -> bool
     recent == 0 || recent > MAX_RECENT_COMMITS || row_limit == 0 || row_limit > MAX_ROWS
 }
 
-/// Whether the effects clash with those of one of the commits.
+/// Whether the effects clash, by column, with those of one of the commits.
 fn conflicts_with_any(effects: &Effects, commits: &[Effects]) -> bool
-    ensures { result ≡ list_any (conflicts effects.now) commits.now }
+    ensures { result ≡ list_any (conflicts ByColumn effects.now) commits.now }
 {
-    commits.iter().any(|commit| effects.conflicts(commit))
+    commits
+        .iter()
+        .any(|commit| effects.conflicts(ConflictRule::ByColumn, commit))
 }
 
 /// What a transaction's writes do, by key. Takes a search and a copy for each.

@@ -1,6 +1,7 @@
 use Rattle.std.proofs.Common.{◌≡◌, ◌≤◌, List, drop, ap, sym, ◌∙◌, subst, length, arith}
 use Rattle.std.specs.List.{list_any}
 use Rattle.model.specs.Clashes.{conflicts}
+use Rattle.model.specs.declared.clash.ConflictRule.TheVariants.{ByColumn}
 use Rattle.model.specs.Table.{rows_of}
 use Rattle.model.specs.Effects.{Effects, table_with}
 use Rattle.stable.specs.Stable.{Stable, table_in}
@@ -31,4 +32,4 @@ built-requires c =
     let newest : table_in c.deref.result.now ≡ newest_table m = ap table_in c.deref.ensures ∙ c.self.invariant.table_is ∙ ap newest_table c.self.view_is in
     let rows : c.in_ok-rows.rows.items ≡ rows_of (table_with (newest_table m) (effects_of txn)) = c.in_ok-rows.ensures ∙ (λ i. rows_of (table_with (newest i) (c.requires.effects i))) in
     let few : length c.in_ok-rows.rows.items ≤ m.limit = omega (arith, c.if-len-self.false, c.len-2.ensures, c.in_ok-rows.rows.ok, ap (λ (w : Managed). w.limit) c.self.view_is) in
-    next_stable m lawful txn c.begin.ensures.lawful c.requires.own (ap (λ (x : Effects). list_any (conflicts x) (drop txn.begin (commits_in m))) (sym c.requires.effects) ∙ c.requires.clear) c.in_ok-schema.schema schema c.in_ok-rows.rows.items rows few
+    next_stable m lawful txn c.begin.ensures.lawful c.requires.own (ap (λ (x : Effects). list_any (conflicts ByColumn x) (drop txn.begin (commits_in m))) (sym c.requires.effects) ∙ c.requires.clear) c.in_ok-schema.schema schema c.in_ok-rows.rows.items rows few
