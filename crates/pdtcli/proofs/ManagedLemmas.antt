@@ -85,9 +85,6 @@ module _ (m : Managed) (h : IsManaged m) where
   commits_fit_it : AreCommits m.schema m.opening (commits_in m)
   commits_fit_it = commits_fit m.schema (start_of m) m.history h.table h.legal
 
-  pub newest-IsTable : IsTable m.schema (newest_table m)
-  newest-IsTable = IsTable-table_with_all m.schema m.opening (commits_in m) h.table commits_fit_it
-
   pub newest_within : length (newest_table m) ≤ m.limit
   newest_within =
       let last = length (commits_in m) in
