@@ -1,8 +1,9 @@
-pub mod BitsLemmas
+mod BitsLemmas
 mod CutsLemmas
 mod FitLemmas
-pub mod IntsLemmas
-pub mod LawsLemmas
+mod IntsLemmas
+mod LawsLemmas
 mod ReadLemmas
 mod TextsLemmas
 mod PushLemmas
+pub mod CallerLemmas

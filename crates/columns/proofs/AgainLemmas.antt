@@ -11,8 +11,7 @@ use Rattle.values.specs.declared.value.Value.TheVariants.{Int, Text, Bool as Tru
 use Rattle.blocks.specs.Column.{Column, Fits, IsBlock, AllFit}
 use Rattle.blocks.specs.Payload.{byte_count, is_true, spelling, payload_of}
 use Rattle.blocks.specs.Reading.{reading_of}
-use Rattle.blocks.proofs.BitsLemmas.{length-packed}
-use Rattle.blocks.proofs.LawsLemmas.{reads_back}
+use Rattle.blocks.proofs.CallerLemmas.{length-packed, reads_back}
 use Rattle.columns.specs.declared.frame.Frame.{Frame}
 use Rattle.columns.specs.declared.frame.Frame.TheVariants.{Header, Block, End}
 use Rattle.columns.specs.declared.frame.Part.{Part}

@@ -13,8 +13,7 @@ use Rattle.blocks.specs.Payload.{AreBytes, payload_of}
 use Rattle.blocks.specs.Reading.{reading_of}
 use Rattle.blocks.specs.Laws.{IsPayload}
 use Rattle.blocks.specs.declared.fault.BlockFault.{BlockFault}
-use Rattle.blocks.proofs.LawsLemmas.{is_payload}
-use Rattle.blocks.proofs.IntsLemmas.{AreBytes-drop, AreBytes-take}
+use Rattle.blocks.proofs.CallerLemmas.{is_payload, AreBytes-drop, AreBytes-take}
 use Rattle.columns.specs.declared.fault.ReadFault.{ReadFault}
 use Rattle.columns.specs.declared.fault.ReadFault.TheVariants.{BadFrame, TypesDiffer}
 use Rattle.columns.specs.declared.frame.Frame.{Frame}

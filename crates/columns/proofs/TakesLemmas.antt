@@ -4,7 +4,7 @@ use Rattle.std.proofs.lemmas.Bool.{eqb-true, cases_Bool}
 use Rattle.std.proofs.lemmas.List.{length-append, drop_at}
 use Rattle.values.specs.declared.value.ColumnType.{ColumnType}
 use Rattle.blocks.specs.Payload.{AreBytes}
-use Rattle.blocks.proofs.IntsLemmas.{AreBytes-drop}
+use Rattle.blocks.proofs.CallerLemmas.{AreBytes-drop}
 use Rattle.columns.specs.declared.fault.ReadFault.{ReadFault}
 use Rattle.columns.specs.declared.fault.ReadFault.TheVariants.{BadFrame}
 use Rattle.columns.specs.declared.frame.Frame.{Frame}

@@ -1,7 +1,8 @@
-pub mod Boundaries
-pub mod Leaves
-pub mod Places
-pub mod Runs
-pub mod Spots
-pub mod SpotSteps
-pub mod Totals
+mod Boundaries
+mod Leaves
+mod Places
+mod Runs
+mod Spots
+mod SpotSteps
+mod Totals
+pub mod CallerLemmas

@@ -19,7 +19,7 @@ use Rattle.model.specs.declared.entry.Change.{Change}
 use Rattle.model.specs.declared.entry.Change.TheVariants.{Ins, Del, Mod}
 use Rattle.model.specs.Entries.{entry_at, is_delete, is_modify, change_cmp, entry_cmp, are_ordered}
 use Rattle.model.specs.Edits.{put_entry, is_insert_of, change_with_cell, put_ins, put_del, put_mod, take_ins, set_ins}
-use Rattle.model.proofs.MapsLemmas.{both, first, second, less, turn_less}
+use Rattle.model.proofs.CallerLemmas.{both, first, second, less, turn_less}
 use Rattle.delta.specs.Search.{insert_cmp, base_cmp, modify_cmp, past_cmp, stands_before, IsSplit}
 use Rattle.delta.specs.Lookups.{has_delete, row_of, is_insert_at, inserted_row}
 use Rattle.delta.specs.Changes.{modifies_column, modify_count, has_cell, with_run}

@@ -12,7 +12,7 @@ use Rattle.model.specs.declared.entry.Change.{Change}
 use Rattle.model.specs.declared.entry.Change.TheVariants.{Ins, Del, Mod}
 use Rattle.model.specs.Entries.{change_cmp, entry_cmp, are_ordered, IsLawful}
 use Rattle.model.specs.Places.{insert_count, delete_count}
-use Rattle.model.proofs.MapsLemmas.{first, second, less}
+use Rattle.model.proofs.CallerLemmas.{first, second, less}
 use Rattle.counted.specs.Search.{IsBoundary}
 use Rattle.counted.specs.Spots.{ArePlaced}
 use Rattle.counted.specs.Sums.{weight_of, total, next_sid, IsOrdered}

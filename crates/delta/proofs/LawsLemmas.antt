@@ -29,12 +29,7 @@ use Rattle.model.specs.Effects.{Cells, Effects, is_keyed_effect, are_keyed_effec
 use Rattle.model.specs.Writes.{write_fits_schema, key_of_write, effect_of_write, reply_to, is_done}
 use Rattle.model.specs.Entries.{entry_at, is_delete, is_modify, entries_of, canonical_entries, change_cmp, entry_cmp, are_ordered}
 use Rattle.model.specs.Merging.{changes_at, inserted_rows}
-use Rattle.model.proofs.MapsLemmas.{both, first, second, less, turn_greater, below_tied, changed_by, holds_at, each_at}
-use Rattle.model.proofs.CompositionLemmas.{row_at-table_with}
-use Rattle.model.proofs.WritesLemmas.{done_fits}
-use Rattle.model.proofs.FittingLemmas.{sets_no_key-fits}
-use Rattle.model.proofs.PositionsLemmas.{single_delete}
-use Rattle.model.proofs.RebasingLemmas.{is_placed, rank-lt}
+use Rattle.model.proofs.CallerLemmas.{both, first, second, less, turn_greater, below_tied, changed_by, holds_at, each_at, row_at-table_with, done_fits, sets_no_key-fits, single_delete, is_placed, rank-lt}
 use Rattle.delta.specs.Lookups.{has_delete, inserted_row, is_insert_at}
 use Rattle.delta.specs.Changes.{is_delete_at}
 use Rattle.delta.specs.Laws.{InsertsAscendAtASid, row_inserted, deletes_row, CanonicalLookUps, MayEdit, AWriteIsOneCall}

@@ -1,14 +1,15 @@
-pub mod SearchLemmas
-pub mod CountLemmas
-pub mod ChangesLemmas
-pub mod ChangeCountLemmas
-pub mod OrderLemmas
-pub mod LawfulLemmas
-pub mod LookupLemmas
-pub mod RangesLemmas
-pub mod PositionsLemmas
-pub mod GapLemmas
+mod SearchLemmas
+mod CountLemmas
+mod ChangesLemmas
+mod ChangeCountLemmas
+mod OrderLemmas
+mod LawfulLemmas
+mod LookupLemmas
+mod RangesLemmas
+mod PositionsLemmas
+mod GapLemmas
+mod LengthLemmas
+mod LawsLemmas
+mod CountedLemmas
+mod SpotLemmas
 pub mod CallerLemmas
-pub mod LawsLemmas
-pub mod CountedLemmas
-pub mod SpotLemmas

@@ -12,7 +12,7 @@ use Rattle.model.specs.declared.entry.Entry.{Entry}
 use Rattle.model.specs.declared.entry.Change.{Change}
 use Rattle.model.specs.declared.entry.Change.TheVariants.{Ins, Del, Mod}
 use Rattle.model.specs.Entries.{is_delete, change_cmp, entry_cmp, are_ordered}
-use Rattle.model.proofs.MapsLemmas.{first, second}
+use Rattle.model.proofs.CallerLemmas.{first, second}
 use Rattle.delta.specs.Search.{insert_cmp, base_cmp, stands_before, IsSplit}
 use Rattle.delta.specs.Lookups.{has_delete, inserted_row, is_insert_at, row_of}
 use Rattle.delta.specs.Changes.{row_at, is_delete_at}

@@ -14,7 +14,7 @@ use Rattle.model.specs.declared.entry.Change.{Change}
 use Rattle.model.specs.declared.entry.Change.TheVariants.{Ins, Del, Mod}
 use Rattle.model.specs.Entries.{entry_at, is_delete, change_cmp, entry_cmp, are_ordered}
 use Rattle.model.specs.Edits.{change_with_cell}
-use Rattle.model.proofs.MapsLemmas.{both, first, second, less}
+use Rattle.model.proofs.CallerLemmas.{both, first, second, less}
 use Rattle.delta.specs.Search.{insert_cmp, modify_cmp, past_cmp, stands_before}
 use Rattle.delta.specs.Changes.{modifies_column, is_modify_at, modify_count, with_run}
 use Rattle.delta.proofs.SearchLemmas.{greater}

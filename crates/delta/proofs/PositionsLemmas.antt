@@ -14,7 +14,7 @@ use Rattle.model.specs.declared.entry.Change.{Change}
 use Rattle.model.specs.declared.entry.Change.TheVariants.{Ins, Del, Mod}
 use Rattle.model.specs.Entries.{is_insert, is_delete, change_cmp, entry_cmp, are_ordered}
 use Rattle.model.specs.Places.{insert_count, delete_count}
-use Rattle.model.proofs.MapsLemmas.{both, first, second}
+use Rattle.model.proofs.CallerLemmas.{both, first, second}
 use Rattle.delta.specs.declared.places.Place.{Place}
 use Rattle.delta.specs.declared.places.Place.TheVariants.{Inserted, Base}
 use Rattle.delta.specs.Search.{insert_cmp, stands_before, IsSplit}

@@ -8,7 +8,7 @@ use Rattle.std.proofs.lemmas.List.{get_or-take}
 use Rattle.std.proofs.lemmas.Bool.{cases_lt}
 use Rattle.std.proofs.lemmas.List.Elements.{filter-append}
 use Rattle.model.specs.declared.entry.Entry.{Entry}
-use Rattle.model.proofs.MapsLemmas.{first, second}
+use Rattle.model.proofs.CallerLemmas.{first, second}
 use Rattle.delta.specs.Search.{first_cmp, past_cmp, stands_before, IsSplit}
 use Rattle.delta.proofs.ChangesLemmas.{nothing, all_from, all_take, all_drop, all_both, filter_all, filter_none, three_parts, middle_part}
 use Rattle.delta.proofs.SearchLemmas.{at_index}

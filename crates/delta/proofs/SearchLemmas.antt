@@ -12,7 +12,7 @@ use Rattle.model.specs.declared.entry.Entry.{Entry}
 use Rattle.model.specs.declared.entry.Change.{Change}
 use Rattle.model.specs.declared.entry.Change.TheVariants.{Ins, Del, Mod}
 use Rattle.model.specs.Entries.{change_cmp, entry_cmp, are_ordered}
-use Rattle.model.proofs.MapsLemmas.{both, first, second, less, turn_less, turn_greater}
+use Rattle.model.proofs.CallerLemmas.{both, first, second, less, turn_less, turn_greater}
 use Rattle.delta.specs.Search.{insert_cmp, first_cmp, base_cmp, modify_cmp, past_cmp, stands_before, IsSplit}
 
 pub is_true : (b : Bool) → T b → b ≡ true

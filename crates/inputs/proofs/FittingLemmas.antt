@@ -18,8 +18,7 @@ use Rattle.values.specs.declared.value.Value.{Value}
 use Rattle.values.specs.declared.value.Value.TheVariants.{Int, Text, Bool as Truth}
 use Rattle.model.specs.Maps.{is_sorted}
 use Rattle.model.specs.Table as model
-use Rattle.model.proofs.MapsLemmas.{both, first, below_less}
-use Rattle.model.proofs.TableLemmas.{is_keyed_table-table_of}
+use Rattle.model.proofs.CallerLemmas.{both, first, below_less, is_keyed_table-table_of}
 use Rattle.inputs.specs.Cells.{int_of, truth_of}
 use Rattle.inputs.specs.Header.{schema_of}
 use Rattle.inputs.specs.Input.{cell_of, cells_of, numbered, row_of, rows_of, first_repeat, unless_repeated, keyed, under, table_of, IsAscending}

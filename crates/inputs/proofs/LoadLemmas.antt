@@ -9,8 +9,7 @@ use Rattle.values.specs.declared.value.ColumnType.{ColumnType}
 use Rattle.blocks.specs.Column.{Column}
 use Rattle.stable.specs.Rows.{AreEven, row_count, rows_of}
 use Rattle.stable.specs.Stable.{IsStable}
-use Rattle.stable.proofs.RowsLemmas.{length_rows}
-use Rattle.stable.proofs.WholeLemmas.{row_count_is}
+use Rattle.stable.proofs.CallerLemmas.{length_rows, row_count_is}
 use Rattle.inputs.specs.Cells.{prepend}
 use Rattle.inputs.specs.Filling.{rows_in, types_in}
 use Rattle.inputs.specs.Header.{schema_of}

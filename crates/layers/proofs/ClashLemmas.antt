@@ -23,10 +23,9 @@ use Rattle.model.specs.Effects.{Cells, Effects, is_keyed_effect}
 use Rattle.model.specs.Entries.{entry_at, entries_of, canonical_entries, change_cmp, entry_cmp, are_ordered}
 use Rattle.model.specs.Places.{insert_count, delete_count, rid_of_insert}
 use Rattle.model.specs.Rebasing.{or_clash, clash_of_changes, clash_of_entries, clash_with, stands_first, inserts_before, deletes_before, rebased_entry}
-use Rattle.model.proofs.MapsLemmas.{first, second, both, less, turn_less, turn_greater}
+use Rattle.model.proofs.CallerLemmas.{first, second, both, less, turn_less, turn_greater}
 use Rattle.delta.specs.Search.{stands_before, IsSplit}
-use Rattle.delta.proofs.CountLemmas.{insert_count-cons, delete_count-cons, insert_worth, delete_worth}
-use Rattle.delta.proofs.OrderLemmas.{entry_cmp-trans, ordered_right}
+use Rattle.delta.proofs.CallerLemmas.{insert_count-cons, delete_count-cons, insert_worth, delete_worth, entry_cmp-trans, ordered_right}
 use Rattle.layers.specs.Serialization.{clash_with_head}
 use Rattle.layers.proofs.KeyPlaceLemmas.{split_is}
 

@@ -24,12 +24,9 @@ use Rattle.model.specs.Effects.{Cells, Effects, AreOver, set_cells, has_cells, i
 use Rattle.model.specs.Composition.{over_cells, composed_effect, composed_effects}
 use Rattle.model.specs.Entries.{entry_at, entries_of, canonical_entries}
 use Rattle.model.specs.Places.{insert_count}
-use Rattle.model.proofs.MapsLemmas.{first, second, both, less, changed_by, holds_at, each_at, find_below, find_first, find-alter, sorted-alter, same_map}
-use Rattle.model.proofs.CompositionLemmas.{cells_ascend, row_at-table_with, effect_at-composed_effects, sorted-composed_effects}
-use Rattle.model.proofs.RankLemmas.{inserts_of, deletes_of, sum_below, rank-table_with}
-use Rattle.model.proofs.AllLaws.{composes}
+use Rattle.model.proofs.CallerLemmas.{first, second, both, less, changed_by, holds_at, each_at, find_below, find_first, find-alter, sorted-alter, same_map, cells_ascend, row_at-table_with, effect_at-composed_effects, sorted-composed_effects, inserts_of, deletes_of, sum_below, rank-table_with, composes}
 use Rattle.delta.specs.Tree.{Tree}
-use Rattle.delta.proofs.CountLemmas.{insert_count-append}
+use Rattle.delta.proofs.CallerLemmas.{insert_count-append}
 use Rattle.layers.specs.Over.{tree_of, AreConsecutive}
 use Rattle.layers.specs.Propagation.{IsNext, IsOfKey, cell_fits, effect_of_change, effects_with, next_tree}
 use Rattle.layers.proofs.CountsLemmas.{counted, few}

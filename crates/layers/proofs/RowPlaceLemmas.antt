@@ -23,20 +23,14 @@ use Rattle.model.specs.Entries.{entry_at, is_insert, canonical_entries, are_orde
 use Rattle.model.specs.Edits.{is_insert_of}
 use Rattle.model.specs.Places.{insert_count, delete_count, rid_of_insert, rid_of_base}
 use Rattle.model.specs.Rebasing.{inserts_before, deletes_before, rebased_entry}
-use Rattle.model.proofs.MapsLemmas.{first, second, changed_by, holds_at}
-use Rattle.model.proofs.CompositionLemmas.{row_at-table_with}
-use Rattle.model.proofs.RebasingLemmas.{adds_none, moved_one, spread}
-use Rattle.model.proofs.AllLaws.{ordered}
+use Rattle.model.proofs.CallerLemmas.{first, second, changed_by, holds_at, row_at-table_with, adds_none, moved_one, spread, ordered, canonical_entries-at_key}
 use Rattle.delta.specs.declared.places.Place.{Place}
 use Rattle.delta.specs.declared.places.Place.TheVariants.{Inserted, Base}
 use Rattle.delta.specs.Search.{insert_cmp, stands_before, IsSplit}
 use Rattle.delta.specs.Positions.{IsAtRid}
 use Rattle.delta.specs.Laws.{row_inserted, deletes_row}
-use Rattle.delta.proofs.ChangesLemmas.{nothing, has_insert, HasInsert}
-use Rattle.delta.proofs.CountLemmas.{insert_count-cons, delete_count-cons, insert_worth, delete_worth}
-use Rattle.delta.proofs.LawsLemmas.{finds_effect}
+use Rattle.delta.proofs.CallerLemmas.{nothing, has_insert, HasInsert, insert_count-cons, delete_count-cons, insert_worth, delete_worth, finds_effect}
 use Rattle.layers.proofs.KeyPlaceLemmas.{own, sorted_effects, sorted_table, fitting, low_all, high_all, rank_is}
-use Rattle.model.proofs.SplitLemmas.{canonical_entries-at_key}
 
 -- ---- a list split in two
 

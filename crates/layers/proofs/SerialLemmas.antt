@@ -19,10 +19,7 @@ use Rattle.model.specs.Clashes.{conflicts, Conflicts}
 use Rattle.model.specs.Entries.{entry_at, canonical_entries, change_cmp, are_ordered, IsLawful}
 use Rattle.model.specs.Places.{insert_count}
 use Rattle.model.specs.Rebasing.{or_else, clash_with, first_clash, first_clash_from, rebased_entry, rebased_entries, IsLeastClash}
-use Rattle.model.proofs.MapsLemmas.{first, second}
-use Rattle.model.proofs.SplitLemmas.{canonical_entries-placed}
-use Rattle.model.proofs.FirstClashLemmas.{first_clash-least}
-use Rattle.model.proofs.AllLaws.{finds, rebases, ordered}
+use Rattle.model.proofs.CallerLemmas.{first, second, canonical_entries-placed, first_clash-least, finds, rebases, ordered}
 use Rattle.delta.specs.Search.{stands_before, IsSplit}
 use Rattle.delta.specs.Tree.{Tree}
 use Rattle.layers.specs.Over.{IsTreeOf, AreAligned}

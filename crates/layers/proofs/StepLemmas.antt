@@ -22,16 +22,14 @@ use Rattle.model.specs.Effects.{are_keyed_effects, fits, all_fit, row_after, tab
 use Rattle.std.proofs.lemmas.Option.{slice_get_within}
 use Rattle.model.specs.Entries.{entry_at, is_insert, canonical_entries}
 use Rattle.model.specs.Edits.{put_ins, put_del, put_mod, take_ins, set_ins, edited_entries}
-use Rattle.model.proofs.MapsLemmas.{first, changed_by, holds_at}
-use Rattle.model.proofs.SplitLemmas.{rank-le-length}
-use Rattle.model.proofs.WriteEditsLemmas.{inserted, deleted, modified, fit_so_far, here}
+use Rattle.model.proofs.CallerLemmas.{first, changed_by, holds_at, rank-le-length, inserted, deleted, modified, fit_so_far, here}
 use Rattle.delta.specs.declared.places.Place.{Place}
 use Rattle.delta.specs.declared.places.Place.TheVariants.{Inserted, Base}
 use Rattle.delta.specs.Lookups.{has_delete, inserted_row}
 use Rattle.delta.specs.Positions.{IsAtRid, gap_from, deletes_ascend}
 use Rattle.delta.specs.Laws.{row_inserted, MayEdit}
 use Rattle.delta.specs.Tree.{Tree}
-use Rattle.delta.proofs.LawsLemmas.{may_insert, may_delete, may_set, known, Known}
+use Rattle.delta.proofs.CallerLemmas.{may_insert, may_delete, may_set, known, Known}
 use Rattle.layers.specs.Propagation.{IsNext, IsKeyOfInsert, effect_of_change, effects_with, next_tree}
 use Rattle.layers.proofs.RowPlaceLemmas.{IsRowPlace, IsInsertOf, row_place}
 use Rattle.layers.proofs.GapPlaceLemmas.{gap_place, deletes_ascend-canonical_entries}

@@ -12,8 +12,7 @@ use Rattle.model.specs.declared.entry.Change.{Change}
 use Rattle.model.specs.declared.entry.Change.TheVariants.{Ins, Del, Mod}
 use Rattle.model.specs.Entries.{entry_at, is_insert, is_delete, entry_cmp, are_ordered, IsLawful}
 use Rattle.model.specs.Merging.{changes_at, merged_rows_from}
-use Rattle.model.proofs.MapsLemmas.{both, first, second}
-use Rattle.model.proofs.MergingLemmas.{changes_at_other, merged_rows_from_insert, merged_rows_from_delete}
+use Rattle.model.proofs.CallerLemmas.{both, first, second, changes_at_other, merged_rows_from_insert, merged_rows_from_delete}
 use Rattle.merge.specs.Level.{stands_within, IsOver}
 use Rattle.merge.specs.View.{modified_cells, cells_at}
 use Rattle.merge.specs.Cursor.{entries_left, is_past, IsCursor, entries_past, starts_with_delete, DeletesNext, InsertsNext}

@@ -18,18 +18,13 @@ use Rattle.model.specs.Table.{Table, row_at, rank, is_keyed_table}
 use Rattle.model.specs.Effects.{Cells, Effects, AreOver, fits, all_fit, row_after, is_keyed_effect, are_keyed_effects, table_with}
 use Rattle.model.specs.Entries.{entry_at, entries_of, canonical_entries}
 use Rattle.model.specs.Places.{insert_count, delete_count, rid_of_insert}
-use Rattle.model.proofs.MapsLemmas.{both, first, second, turn_less, turn_greater, changed_by, find-alter_all}
-use Rattle.model.proofs.RankLemmas.{is_below, inserts_of, deletes_of, sum_below, rank-table_with}
-use Rattle.model.proofs.RebasingLemmas.{rank-le, rank-lt}
-use Rattle.model.proofs.SplitLemmas.{canonical_entries-at_key}
+use Rattle.model.proofs.CallerLemmas.{both, first, second, turn_less, turn_greater, changed_by, find-alter_all, is_below, inserts_of, deletes_of, sum_below, rank-table_with, rank-le, rank-lt, canonical_entries-at_key}
 use Rattle.delta.specs.Search.{insert_cmp, stands_before, IsSplit}
 use Rattle.delta.specs.Lookups.{has_delete, inserted_row}
 use Rattle.delta.specs.Laws.{row_inserted, deletes_row}
 use Rattle.delta.specs.Tree.{Tree}
-use Rattle.delta.proofs.CountLemmas.{insert_count-append, delete_count-append}
+use Rattle.delta.proofs.CallerLemmas.{insert_count-append, delete_count-append, filter_all, filter_none, finds_effect}
 use Rattle.std.proofs.lemmas.List.Elements.{filter-append}
-use Rattle.delta.proofs.ChangesLemmas.{filter_all, filter_none}
-use Rattle.delta.proofs.LawsLemmas.{finds_effect}
 use Rattle.merge.specs.Image.{IsLayer}
 
 -- ---- how many inserts and deletes effects are

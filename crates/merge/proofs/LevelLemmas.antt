@@ -12,8 +12,7 @@ use Rattle.model.specs.declared.entry.Change.{Change}
 use Rattle.model.specs.declared.entry.Change.TheVariants.{Ins, Del, Mod}
 use Rattle.model.specs.Entries.{entry_at, change_cmp, entry_cmp, are_ordered}
 use Rattle.model.specs.Merging.{inserted_rows, left_of, merged_rows_from}
-use Rattle.model.proofs.MapsLemmas.{both, first, second}
-use Rattle.model.proofs.MergingLemmas.{changes_at_here, all_after, lt_of, of_lt, merged_rows_from_past, merged_rows_from_none}
+use Rattle.model.proofs.CallerLemmas.{both, first, second, changes_at_here, all_after, lt_of, of_lt, merged_rows_from_past, merged_rows_from_none}
 
 -- ---- tests of places
 

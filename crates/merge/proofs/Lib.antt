@@ -1,12 +1,13 @@
-pub mod LevelLemmas
-pub mod ReachLemmas
-pub mod StackLemmas
-pub mod ViewLemmas
-pub mod CursorLemmas
-pub mod StepLemmas
-pub mod PlaceLemmas
-pub mod LeftLemmas
-pub mod RangeLemmas
-pub mod StretchLemmas
-pub mod KeyLemmas
-pub mod TableLemmas
+mod LevelLemmas
+mod ReachLemmas
+mod StackLemmas
+mod ViewLemmas
+mod CursorLemmas
+mod StepLemmas
+mod PlaceLemmas
+mod LeftLemmas
+mod RangeLemmas
+mod StretchLemmas
+mod KeyLemmas
+mod TableLemmas
+pub mod CallerLemmas

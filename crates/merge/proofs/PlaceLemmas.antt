@@ -12,10 +12,9 @@ use Rattle.model.specs.declared.entry.Change.TheVariants.{Ins, Del, Mod}
 use Rattle.model.specs.Entries.{entry_at, is_insert, change_cmp, entry_cmp, are_ordered, IsLawful}
 use Rattle.model.specs.Merging.{merged_rows_from, merged_rows}
 use Rattle.model.specs.Places.{insert_count, delete_count, rid_of_insert, rid_of_base}
-use Rattle.model.proofs.MapsLemmas.{both, first, second}
+use Rattle.model.proofs.CallerLemmas.{both, first, second}
 use Rattle.delta.specs.Search.{base_cmp, stands_before, IsSplit}
-use Rattle.delta.proofs.CountLemmas.{insert_worth, delete_worth, insert_count-cons, delete_count-cons, insert_count-append, delete_count-append}
-use Rattle.delta.proofs.OrderLemmas.{ordered_right}
+use Rattle.delta.proofs.CallerLemmas.{insert_worth, delete_worth, insert_count-cons, delete_count-cons, insert_count-append, delete_count-append, ordered_right}
 use Rattle.merge.specs.Level.{stands_within, IsOver}
 use Rattle.merge.specs.Cursor.{is_past, IsCursorAt}
 use Rattle.merge.specs.declared.cursor.Cursor.{Cursor}

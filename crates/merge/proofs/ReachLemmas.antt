@@ -13,8 +13,7 @@ use Rattle.model.specs.Entries.{entry_at, is_insert, entry_cmp, are_ordered}
 use Rattle.std.specs.Ordering.{is_lt}
 use Rattle.model.specs.Merging.{merged_rows_from, merged_rows}
 use Rattle.model.specs.Places.{insert_count, delete_count}
-use Rattle.model.proofs.MapsLemmas.{both, first, second}
-use Rattle.model.proofs.MergingLemmas.{all_after, merged_rows_from_insert, merged_rows_from_delete}
+use Rattle.model.proofs.CallerLemmas.{both, first, second, all_after, merged_rows_from_insert, merged_rows_from_delete}
 use Rattle.merge.specs.Level.{stands_within, IsOver}
 use Rattle.merge.proofs.LevelLemmas.{le_of, all_from, all_from-ordered, all_from-after, after_delete, merged_rows_from-gap, merged_rows_from-cell}
 

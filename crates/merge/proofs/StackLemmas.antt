@@ -18,13 +18,7 @@ use Rattle.model.specs.Table.{Table, rows_of, row_at, rank, table_of, is_keyed_t
 use Rattle.model.specs.Effects.{Cells, Effects, AreOver, fits, all_fit, are_keyed_effects, is_keyed_effect, table_with}
 use Rattle.model.specs.Entries.{entry_at, entries_of, canonical_entries}
 use Rattle.model.specs.Merging.{merged_rows}
-use Rattle.model.proofs.MapsLemmas.{both, first, second}
-use Rattle.model.proofs.RankLemmas.{is_below, one_if, rank-cons}
-use Rattle.model.proofs.SplitLemmas.{rank-le-length}
-use Rattle.model.proofs.EntriesLemmas.{ordered-canonical_entries}
-use Rattle.model.proofs.TableLemmas.{rows_of-table_of, table_of-rows_of}
-use Rattle.model.proofs.MergingLemmas.{merged_rows-canonical_entries}
-use Rattle.model.proofs.AllLaws.{leaves}
+use Rattle.model.proofs.CallerLemmas.{both, first, second, is_below, one_if, rank-cons, rank-le-length, ordered-canonical_entries, rows_of-table_of, table_of-rows_of, merged_rows-canonical_entries, leaves}
 use Rattle.stable.specs.Stable.{Stable, table_in}
 use Rattle.delta.specs.Tree.{Tree}
 use Rattle.merge.specs.Image.{Stack, stack_of, read_rows, write_rows, image_rows, image_table, IsLayer, AreStacked}

@@ -14,8 +14,7 @@ use Rattle.model.specs.declared.entry.Change.TheVariants.{Ins, Del, Mod}
 use Rattle.model.specs.Effects.{set_cells}
 use Rattle.model.specs.Entries.{entry_at, is_insert, is_delete, is_modify, change_cmp, entry_cmp, are_ordered}
 use Rattle.model.specs.Merging.{changes_at, inserted_rows, left_of, merged_rows_from}
-use Rattle.model.proofs.MapsLemmas.{both, first, second}
-use Rattle.model.proofs.MergingLemmas.{merged_rows_from_past, merged_rows_from_nothing}
+use Rattle.model.proofs.CallerLemmas.{both, first, second, merged_rows_from_past, merged_rows_from_nothing}
 use Rattle.merge.specs.Level.{stands_within, IsOver}
 use Rattle.merge.specs.View.{modified_cells, cells_at}
 use Rattle.merge.specs.Cursor.{entries_left, is_past, IsCursor, rows_left, entries_past, DeletesNone, ModifiesNext, KeepsNext}

@@ -12,9 +12,7 @@ use Rattle.values.specs.declared.value.Value.{Value}
 use Rattle.values.specs.declared.value.Value.TheVariants.{Int, Text, Bool as Truth}
 use Rattle.stable.specs.Stable.{IsStable}
 use Rattle.stable.specs.Rows.{column_values}
-use Rattle.stable.proofs.CallerLemmas.{no_build_fault}
-use Rattle.stable.proofs.RowsLemmas.{fit_at, width_of}
-use Rattle.stable.proofs.StableLemmas.{all_shaped}
+use Rattle.stable.proofs.CallerLemmas.{no_build_fault, fit_at, width_of, all_shaped}
 use Rattle.merge.specs.Fitting.{StandsAt}
 use Rattle.merge.specs.Stretches.{stretch_rows, IsStableStretch}
 use Rattle.merge.specs.declared.stretch.Stretch.TheVariants.{Stable, Row as One}

@@ -17,8 +17,7 @@ use Rattle.model.specs.Effects.{Cells, set_cells}
 use Rattle.model.specs.Entries.{entry_at, entry_cmp, are_ordered}
 use Rattle.model.specs.Merging.{changes_at}
 use Rattle.model.specs.Table.{table_of}
-use Rattle.model.proofs.MapsLemmas.{both, first, second}
-use Rattle.model.proofs.MergingLemmas.{changes_at_here, changes_at_other, changes_at_after}
+use Rattle.model.proofs.CallerLemmas.{both, first, second, changes_at_here, changes_at_other, changes_at_after}
 use Rattle.delta.specs.Search.{base_cmp, stands_before, IsSplit}
 use Rattle.stable.specs.Stable.{Stable, table_in, IsStable}
 use Rattle.merge.specs.View.{modified_cells, cells_at, last_cell, cells_if, source_row, read_row, write_row, row_of}

@@ -1,25 +1,26 @@
-pub mod MapsLemmas
-pub mod RankLemmas
-pub mod TableLemmas
-pub mod FinMapLemmas
-pub mod CompositionLemmas
-pub mod WritesLemmas
-pub mod FittingLemmas
-pub mod MergingLemmas
-pub mod PlacesLemmas
-pub mod EditsLemmas
-pub mod WriteEditsLemmas
-pub mod EntriesLemmas
-pub mod SplitLemmas
-pub mod PositionsLemmas
-pub mod LimitLemmas
-pub mod ClashesLemmas
-pub mod FirstClashLemmas
-pub mod RebasingLemmas
-pub mod TurnsLemmas
-pub mod FoldingSteps
-pub mod FoldingLemmas
-pub mod HistoryLemmas
-pub mod AllLaws
-pub mod WorkedTransactions
-pub mod WorkedTrees
+mod MapsLemmas
+mod RankLemmas
+mod TableLemmas
+mod FinMapLemmas
+mod CompositionLemmas
+mod WritesLemmas
+mod FittingLemmas
+mod MergingLemmas
+mod PlacesLemmas
+mod EditsLemmas
+mod WriteEditsLemmas
+mod EntriesLemmas
+mod SplitLemmas
+mod PositionsLemmas
+mod LimitLemmas
+mod ClashesLemmas
+mod FirstClashLemmas
+mod RebasingLemmas
+mod TurnsLemmas
+mod FoldingSteps
+mod FoldingLemmas
+mod HistoryLemmas
+mod AllLaws
+mod WorkedTransactions
+mod WorkedTrees
+pub mod CallerLemmas

@@ -9,7 +9,7 @@ use Rattle.std.specs.Map.{keys_of, remove_entry}
 use Rattle.std.specs.BTreeMap.{insert_entry, is_at}
 use Rattle.std.specs.FinMap.Entries.{by_order, below_all}
 use Rattle.model.specs.Maps.{find, put, is_sorted, without, alter_all}
-use Rattle.model.proofs.MapsLemmas.{both, first, second, less, without_below, below_tied, changed_by, find-alter_all, sorted-alter_all, same_map}
+use Rattle.model.proofs.CallerLemmas.{both, first, second, less, without_below, below_tied, changed_by, find-alter_all, sorted-alter_all, same_map}
 
 pub is_true : (b : Bool) → T b → b ≡ true
 is_true true h = refl

@@ -14,7 +14,7 @@ use Rattle.model.specs.declared.write.CommitReply.{CommitReply}
 use Rattle.model.specs.Maps.{alter}
 use Rattle.model.specs.Composition.{composed_effect}
 use Rattle.model.specs.Writes.{write_fits_schema, key_of_write, effect_of_write, is_done, effects_after, effects_after_all}
-use Rattle.model.proofs.HistoryLemmas.{IsSnapshot-table_after, IsSnapshot-any, due_reply-cut}
+use Rattle.model.proofs.CallerLemmas.{IsSnapshot-table_after, IsSnapshot-any, due_reply-cut}
 use Rattle.oracle.specs.Replay.{GotDueReplies, effects_when, effects_when_all, keyed_by, snapshot_at, IsDue, IsDueAs, AreDueFrom, AllFitSchema, AreTables, AllBeginFrom}
 
 both_first : (a b : Bool) → IsTrue (a && b) → IsTrue a

@@ -5,3 +5,4 @@ mod OutputLemmas
 mod ProgramLemmas
 mod ReadsLemmas
 mod WorkedLimits
+pub mod CallerLemmas

@@ -18,14 +18,12 @@ use Rattle.model.specs.Laws.{AreCommits}
 use Rattle.model.specs.History.{Start, Record, table_with_all, table_after, due_reply, commits_with, commits_after, commits_from, effects_of_record, IsLegalRecord, IsLegalFrom}
 use Rattle.std.proofs.lemmas.Float.{T_from_true}
 use Rattle.values.specs.declared.limits.TheConstants.{MAX_ROWS}
-use Rattle.model.proofs.TableLemmas.{table_of-rows_of}
-use Rattle.model.proofs.AllLaws.{leaves, fits_newest, commits_fit}
-use Rattle.model.proofs.HistoryLemmas.{length-table_after, IsSnapshot-table_after}
+use Rattle.model.proofs.CallerLemmas.{table_of-rows_of, leaves, fits_newest, commits_fit, length-table_after, IsSnapshot-table_after}
 use Rattle.stable.specs.Stable.{Stable, IsStable, table_in}
 use Rattle.txn.specs.Txn.{Transaction, effects_of, image_of, asked_of, IsTransaction}
 use Rattle.pdtcli.specs.Managed.{Managed, start_of, commits_in, newest_table, IsManaged, HasNewest, IsOwn, reply_due, record_of, with_record}
 use Rattle.pdtcli.specs.Prepared.{LeavesTable}
-use Rattle.txn.proofs.TxnLemmas.{over, image_within}
+use Rattle.txn.proofs.CallerLemmas.{over, image_within}
 
 pub take_length : {A : Type 0} (xs : List A) → take (length xs) xs ≡ xs
 take_length [] = refl

@@ -11,7 +11,7 @@ use Rattle.values.specs.declared.value.ColumnType.{ColumnType}
 use Rattle.values.specs.declared.value.Value.{Value}
 use Rattle.model.specs.declared.write.Write.{Write}
 use Rattle.model.specs.declared.write.Write.TheVariants.{Insert, Delete, Set}
-use Rattle.model.proofs.MapsLemmas.{first, second}
+use Rattle.model.proofs.CallerLemmas.{first, second}
 use Rattle.inputs.specs.Calls.{key_types}
 use Rattle.inputs.specs.Typed.{are_of_types, is_of_column, is_typed_write}
 use Rattle.pdtcli.specs.Run.{write_fault}

@@ -1,11 +1,12 @@
-pub mod ExtendLemmas
-pub mod BelowLemmas
+mod ExtendLemmas
+mod BelowLemmas
+mod FaultLemmas
+mod ColumnLemmas
+mod ColumnsLemmas
+mod PushLemmas
+mod RankLemmas
+mod RowsLemmas
+mod StableLemmas
+mod StandLemmas
+mod WholeLemmas
 pub mod CallerLemmas
-pub mod ColumnLemmas
-pub mod ColumnsLemmas
-pub mod PushLemmas
-pub mod RankLemmas
-pub mod RowsLemmas
-pub mod StableLemmas
-pub mod StandLemmas
-pub mod WholeLemmas

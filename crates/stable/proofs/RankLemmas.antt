@@ -10,8 +10,7 @@ use Rattle.values.specs.declared.row.Row.{Row}
 use Rattle.values.specs.declared.row.Key.{Key}
 use Rattle.model.specs.Maps.{is_sorted}
 use Rattle.model.specs.Table.{table_of, row_at, rank}
-use Rattle.model.proofs.MapsLemmas.{both, first, second, less, find_first, turn_less, turn_greater, find_below, find_past, below_less}
-use Rattle.model.proofs.MergingLemmas.{rank_below}
+use Rattle.model.proofs.CallerLemmas.{both, first, second, less, find_first, turn_less, turn_greater, find_below, find_past, below_less, rank_below}
 use Rattle.stable.specs.Stable.{holds_key}
 
 is_true : (b : Bool) → T b → b ≡ true

@@ -12,8 +12,7 @@ use Rattle.values.specs.declared.limits.TheConstants.{MAX_ROWS}
 use Rattle.values.specs.declared.row.Row.{Row}
 use Rattle.model.specs.Maps.{is_sorted}
 use Rattle.model.specs.Table.{table_of, is_keyed_table}
-use Rattle.model.proofs.MapsLemmas.{both, first, less, below_less}
-use Rattle.model.proofs.TableLemmas.{is_keyed_table-table_of}
+use Rattle.model.proofs.CallerLemmas.{both, first, less, below_less, is_keyed_table-table_of}
 use Rattle.stable.specs.Stable.{Stable, IsStable, table_in, ascends, shape_or_order, row_fault_at, or_fault, rows_fault, build_fault}
 use Rattle.stable.specs.declared.fault.BuildFault.{BuildFault}
 use Rattle.stable.specs.declared.fault.BuildFault.TheVariants.{TooManyRows}

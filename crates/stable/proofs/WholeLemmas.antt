@@ -5,7 +5,7 @@ use Rattle.values.specs.declared.row.Row.{Row}
 use Rattle.blocks.specs.Column.{Column}
 use Rattle.stable.specs.Stable.{IsStable}
 use Rattle.stable.specs.Rows.{AreEven, IsKept, first_columns, row_count, rows_of}
-use Rattle.stable.proofs.CallerLemmas.{no_build_fault}
+use Rattle.stable.proofs.FaultLemmas.{no_build_fault}
 use Rattle.stable.proofs.RowsLemmas.{kept, shown, width}
 
 pub row_count_is : (columns : List Column) (n : ℕ) → 0 < length columns → ((col : ℕ) (d : Column) → col < length columns → length (get_or columns col d).values ≡ n) → row_count columns ≡ n

@@ -9,9 +9,9 @@ use Rattle.model.specs.Effects.{Effects, AreOver, table_with}
 use Rattle.model.specs.Entries.{canonical_entries, IsLawful}
 use Rattle.model.specs.Places.{insert_count}
 use Rattle.model.specs.Writes.{effects_after_all, write_fits_schema}
-use Rattle.model.proofs.AllLaws.{all_keep, ordered}
+use Rattle.model.proofs.CallerLemmas.{all_keep, ordered}
 use Rattle.delta.specs.Tree.{Tree}
-use Rattle.delta.proofs.CountLemmas.{counts-le}
+use Rattle.delta.proofs.CallerLemmas.{counts-le}
 use Rattle.layers.specs.Over.{IsTreeOf, IsSmall, AreConsecutive, AreAligned}
 
 module _ (schema : Columns) (t : Table) (x : Effects) where

@@ -11,16 +11,14 @@ use Rattle.values.specs.declared.row.Row.{Row}
 use Rattle.std.specs.Bool.{passes}
 use Rattle.model.specs.Maps.{is_sorted}
 use Rattle.model.specs.Effects.{Effects, AreOver, table_with}
-use Rattle.model.proofs.MapsLemmas.{first}
+use Rattle.model.proofs.CallerLemmas.{first, all_keep, canonical_entries-placed}
 use Rattle.delta.specs.Tree.{Tree}
 use Rattle.stable.specs.Stable.{Stable, IsStable, table_in}
 use Rattle.merge.specs.Image.{IsLayer, AreStacked}
 use Rattle.model.specs.Entries.{canonical_entries, IsLawful}
 use Rattle.model.specs.Writes.{effects_after_all, write_fits_schema}
-use Rattle.model.proofs.AllLaws.{all_keep}
-use Rattle.model.proofs.SplitLemmas.{canonical_entries-placed}
-use Rattle.delta.proofs.SearchLemmas.{is_true}
-use Rattle.merge.proofs.StackLemmas.{over-canonical_entries}
+use Rattle.delta.proofs.CallerLemmas.{is_true}
+use Rattle.merge.proofs.CallerLemmas.{over-canonical_entries}
 
 module _ (schema : Columns) (t : Table) (x : Effects) where
   -- writes that fit the schema leave effects over the table

@@ -3,14 +3,13 @@ use Rattle.std.proofs.Common.{◌≡◌, ap, ◌∙◌, sym, subst}
 use Rattle.values.specs.Shape.{Columns}
 use Rattle.model.specs.Table.{Table}
 use Rattle.model.specs.Effects.{table_with}
-use Rattle.model.proofs.AllLaws.{leaves}
+use Rattle.model.proofs.CallerLemmas.{leaves}
 use Rattle.delta.specs.Tree.{Tree}
 use Rattle.stable.specs.Stable.{Stable, table_in}
 use Rattle.merge.specs.Image.{IsLayer}
 use Rattle.txn.specs.Txn.{Transaction, IsTransaction, tree_of}
 use Rattle.txn.specs.Version.{Lower, AreLower, TableVersion, lower_table, empty_tree}
-use Rattle.txn.proofs.ReadsLemmas.{is_layer}
-use Rattle.txn.proofs.VersionLemmas.{no_layer, lower_table_is}
+use Rattle.txn.proofs.CallerLemmas.{is_layer, no_layer, lower_table_is}
 
 -- the tree of a transaction is over the table that it was opened on
 pub tree_is_layer : (schema : Columns) (t : Table) (txn : Transaction) (tree : Tree) → IsTransaction txn → txn.schema ≡ schema → txn.table ≡ t → tree ≡ tree_of txn → IsLayer schema t tree

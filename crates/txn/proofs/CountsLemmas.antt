@@ -21,9 +21,8 @@ use Rattle.model.specs.Table.{Table, row_at, rank, is_keyed_table}
 use Rattle.model.specs.Effects.{Cells, Effects, set_cells, fits, has_cells, row_after, all_fit, table_with, is_keyed_effect, are_keyed_effects, effect_fits_schema, AreOver}
 use Rattle.model.specs.Entries.{entry_at, entries_of, canonical_entries}
 use Rattle.model.specs.Places.{insert_count, delete_count}
-use Rattle.model.proofs.MapsLemmas.{first, second, less, without_below, below_tied, sorted-alter}
-use Rattle.model.proofs.RankLemmas.{inserts_of, deletes_of, fits_other}
-use Rattle.delta.proofs.CountLemmas.{insert_count-append, delete_count-append}
+use Rattle.model.proofs.CallerLemmas.{first, second, less, without_below, below_tied, sorted-alter, inserts_of, deletes_of, fits_other}
+use Rattle.delta.proofs.CallerLemmas.{insert_count-append, delete_count-append}
 
 -- ---- what one effect does to the number of rows
 

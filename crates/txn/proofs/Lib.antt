@@ -1,4 +1,5 @@
 mod CountsLemmas
-pub mod ReadsLemmas
-pub mod TxnLemmas
-pub mod VersionLemmas
+mod ReadsLemmas
+mod TxnLemmas
+mod VersionLemmas
+pub mod CallerLemmas

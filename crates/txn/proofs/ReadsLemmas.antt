@@ -8,13 +8,9 @@ use Rattle.values.specs.declared.row.Key.{Key}
 use Rattle.model.specs.Maps.{is_sorted}
 use Rattle.model.specs.Table.{Table, rows_of, table_of, row_at, rank, is_keyed_table, IsTable}
 use Rattle.model.specs.Merging.{merged_rows}
-use Rattle.model.proofs.AllLaws.{leaves}
-use Rattle.model.proofs.MapsLemmas.{first, second, find_below, below_less, turn_greater}
-use Rattle.model.proofs.MergingLemmas.{rank_below}
-use Rattle.model.proofs.RankLemmas.{one_if, rank-cons}
-use Rattle.model.proofs.TableLemmas.{table_of-rows_of}
+use Rattle.model.proofs.CallerLemmas.{leaves, first, second, find_below, below_less, turn_greater, rank_below, one_if, rank-cons, table_of-rows_of}
 use Rattle.merge.specs.Image.{IsLayer}
-use Rattle.merge.proofs.StackLemmas.{merges}
+use Rattle.merge.proofs.CallerLemmas.{merges}
 use Rattle.txn.specs.Txn.{Transaction, IsTransaction, effects_of, image_of, entries_of, tree_of}
 use Rattle.txn.proofs.TxnLemmas.{over}
 

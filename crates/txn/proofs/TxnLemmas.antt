@@ -22,14 +22,11 @@ use Rattle.model.specs.Writes.{write_fits_schema, key_of_write, reply_where, rep
 use Rattle.model.specs.Entries.{canonical_entries}
 use Rattle.model.specs.Places.{insert_count, delete_count}
 use Rattle.model.specs.Edits.{edited_entries}
-use Rattle.model.proofs.MapsLemmas.{both, first, second, changed_by, holds_at}
-use Rattle.model.proofs.AllLaws.{all_keep, keeps, edits}
-use Rattle.model.proofs.CompositionLemmas.{row_at-table_with, fits_at_key}
-use Rattle.model.proofs.LimitLemmas.{length-effects_after}
+use Rattle.model.proofs.CallerLemmas.{both, first, second, changed_by, holds_at, all_keep, keeps, edits, row_at-table_with, fits_at_key, length-effects_after}
 use Rattle.delta.specs.Tree.{Tree}
 use Rattle.delta.specs.Lookups.{has_delete, inserted_row}
 use Rattle.delta.specs.Laws.{row_inserted, deletes_row, FindsEffect, MayEdit}
-use Rattle.delta.proofs.LawsLemmas.{finds_effect, may_call}
+use Rattle.delta.proofs.CallerLemmas.{finds_effect, may_call}
 use Rattle.txn.specs.Edit.{edited, MayBeEdited}
 use Rattle.txn.specs.Txn.{Transaction, asked_of, answers_of, effects_of, image_of, entries_of, tree_of, IsTransaction, IsFound, with_write, answer_to}
 use Rattle.txn.proofs.CountsLemmas.{counted, few}

@@ -6,13 +6,11 @@ use Rattle.values.specs.declared.row.Row.{Row}
 use Rattle.model.specs.Table.{Table, rows_of, table_of, is_keyed_table, IsTable}
 use Rattle.model.specs.Effects.{table_with}
 use Rattle.model.specs.Merging.{merged_rows}
-use Rattle.model.proofs.AllLaws.{leaves}
-use Rattle.model.proofs.MergingLemmas.{merged_rows_from_nothing}
-use Rattle.model.proofs.TableLemmas.{rows_of-table_of, table_of-rows_of}
+use Rattle.model.proofs.CallerLemmas.{leaves, merged_rows_from_nothing, rows_of-table_of, table_of-rows_of}
 use Rattle.delta.specs.Tree.{Tree}
 use Rattle.stable.specs.Stable.{Stable, IsStable, table_in}
 use Rattle.merge.specs.Image.{IsLayer, AreStacked, stack_of, image_rows, image_table}
-use Rattle.merge.proofs.StackLemmas.{layer_rows}
+use Rattle.merge.proofs.CallerLemmas.{layer_rows}
 use Rattle.txn.specs.Version.{Lower, lower_rows, lower_table, AreLower, version_of, version_at, empty_tree}
 
 -- ---- no entries

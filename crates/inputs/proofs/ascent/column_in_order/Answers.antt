@@ -7,7 +7,7 @@ use Rattle.values.specs.declared.value.Value.{Value}
 use Rattle.values.specs.declared.value.Value.TheVariants.{Bool as Truth}
 use Rattle.blocks.specs.Column.{Column}
 use Rattle.stable.specs.Rows.{cell_at}
-use Rattle.stable.proofs.ExtendLemmas.{stands_at}
+use Rattle.stable.proofs.CallerLemmas.{stands_at}
 use Rattle.inputs.specs.Filling.{column_in_order}
 use Rattle.inputs.proofs.ascent.column_in_order.Goals as goal
 

@@ -4,8 +4,7 @@ use Rattle.values.specs.Lent.{value_of}
 use Rattle.values.specs.Orders.{key_cmp}
 use Rattle.blocks.specs.Column.{Column}
 use Rattle.stable.specs.Rows.{cell_at}
-use Rattle.stable.proofs.BelowLemmas.{decided}
-use Rattle.stable.proofs.ColumnsLemmas.{keys_of}
+use Rattle.stable.proofs.CallerLemmas.{decided, keys_of}
 use Rattle.inputs.proofs.AscentLemmas.{keys_at}
 use Rattle.inputs.proofs.ascent.compare_keys.Goals as goal
 

@@ -1,6 +1,6 @@
 use Rattle.std.proofs.Common.{arith}
 use Rattle.std.proofs.lemmas.Int.{ints}
-use Rattle.delta.proofs.CountLemmas.{counts-le}
+use Rattle.delta.proofs.CallerLemmas.{counts-le}
 use Rattle.merge.proofs.level.grown.Goals as goal
 
 pub overflow_add-result : goal.overflow_add-result

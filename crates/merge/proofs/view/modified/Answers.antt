@@ -6,8 +6,8 @@ use Rattle.values.specs.Lent.{value_of}
 use Rattle.model.specs.declared.entry.Entry.{Entry}
 use Rattle.model.specs.Entries.{are_ordered}
 use Rattle.delta.specs.Search.{base_cmp, stands_before}
-use Rattle.delta.proofs.OrderLemmas.{ordered_right}
-use Rattle.model.proofs.MapsLemmas.{first}
+use Rattle.delta.proofs.CallerLemmas.{ordered_right}
+use Rattle.model.proofs.CallerLemmas.{first}
 use Rattle.merge.specs.View.{cells_at, last_cell}
 use Rattle.merge.proofs.ViewLemmas.{cells_at-split, cells_at-end}
 use Rattle.merge.proofs.view.modified.Goals as goal

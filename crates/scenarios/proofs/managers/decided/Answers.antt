@@ -1,4 +1,4 @@
-use Rattle.pdtcli.proofs.RunLemmas.{own_decided}
+use Rattle.pdtcli.proofs.CallerLemmas.{own_decided}
 use Rattle.scenarios.proofs.managers.decided.Goals as goal
 
 pub returns-in-Ok : goal.returns-in-Ok

@@ -1,7 +1,7 @@
 use Rattle.std.proofs.Common.{◌∙◌, ◌≤◌, ◌<◌, ◌^◌, length, sym, subst, arith}
 use Rattle.model.specs.Effects.{AreOver}
 use Rattle.model.specs.Table.{IsTable}
-use Rattle.model.proofs.AllLaws.{leaves}
+use Rattle.model.proofs.CallerLemmas.{leaves}
 use Rattle.structures.specs.declared.images.TheConstants.{AMPLE}
 use Rattle.structures.proofs.LayerLemmas.{lawful_layer, over_writes}
 use Rattle.structures.proofs.FoldLemmas.{is_tree}

@@ -3,7 +3,7 @@ use Rattle.delta.specs.Tree.{Tree}
 use Rattle.model.specs.Effects.{AreOver}
 use Rattle.structures.specs.declared.images.TheConstants.{AMPLE}
 use Rattle.model.specs.Table.{IsTable}
-use Rattle.model.proofs.AllLaws.{leaves}
+use Rattle.model.proofs.CallerLemmas.{leaves}
 use Rattle.merge.specs.Image.{IsLayer}
 use Rattle.structures.proofs.LayerLemmas.{lawful_layer, over_writes}
 use Rattle.structures.proofs.images.make_layer.Goals as goal

@@ -5,7 +5,7 @@ use Rattle.std.proofs.lemmas.Float.{T_from_true}
 use Rattle.model.specs.declared.entry.Entry.{Entry}
 use Rattle.model.specs.Entries.{are_ordered}
 use Rattle.counted.specs.Spots.{IsSpot}
-use Rattle.counted.proofs.Totals.{total_within}
+use Rattle.counted.proofs.CallerLemmas.{total_within}
 use Rattle.delta.specs.Tree.{Tree}
 use Rattle.delta.specs.Positions.{IsAtRid, place_from}
 use Rattle.delta.specs.declared.places.Place.{Place}

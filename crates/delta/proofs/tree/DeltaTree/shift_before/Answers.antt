@@ -3,7 +3,7 @@ use Rattle.std.proofs.lemmas.Int.{ints}
 use Rattle.std.proofs.lemmas.Float.{T_from_true}
 use Rattle.std.specs.Prelude.{nat_lt}
 use Rattle.model.specs.declared.entry.Entry.{Entry}
-use Rattle.counted.proofs.Totals.{shift_within}
+use Rattle.counted.proofs.CallerLemmas.{shift_within}
 use Rattle.delta.specs.Tree.{Tree}
 use Rattle.delta.specs.Positions.{shift_before}
 use Rattle.delta.proofs.CountedLemmas.{total-is, shift-is, ordered_from_lawful}

@@ -5,7 +5,7 @@ use Rattle.blocks.specs.Column.{Column}
 use Rattle.stable.specs.Rows.{column_at, first_columns, row_count, rows_of}
 use Rattle.stable.specs.Stable.{IsStable}
 use Rattle.merge.specs.Image.{image_rows}
-use Rattle.stable.proofs.WholeLemmas.{whole, all_typed, all_even, all_rows, all_stable}
+use Rattle.stable.proofs.CallerLemmas.{whole, all_typed, all_even, all_rows, all_stable}
 use Rattle.merge.proofs.layers.Layers.to_table.Goals as goal
 
 pub loop-col-init : goal.loop-col-init

@@ -4,7 +4,7 @@ use Rattle.values.specs.Shape.{Columns, list_fault}
 use Rattle.values.specs.declared.row.Row.{Row}
 use Rattle.values.specs.declared.value.ColumnType.{ColumnType}
 use Rattle.stable.specs.Rows.{first_columns}
-use Rattle.stable.proofs.CallerLemmas.{no_build_fault}
+use Rattle.stable.proofs.FaultLemmas.{no_build_fault}
 use Rattle.stable.proofs.StableLemmas.{all_shaped}
 use Rattle.stable.proofs.WholeLemmas.{AreWhole, all_typed, all_even, all_rows, all_stable}
 use Rattle.stable.proofs.table.StableTable.of_rows.Goals as goal

@@ -1,6 +1,6 @@
 use Rattle.std.proofs.Common.{◌∙◌, sym, ap}
 use Rattle.model.specs.Table.{rows_of}
-use Rattle.model.proofs.TableLemmas.{rows_of-table_of}
+use Rattle.model.proofs.CallerLemmas.{rows_of-table_of}
 use Rattle.pdtcli.specs.Managed.{Managed, newest_table}
 use Rattle.pdtcli.proofs.plain.manager.Manager.newest.Goals as goal
 
