@@ -503,7 +503,7 @@ module _ (lower upper : Tree) (w : AreConsecutive lower upper) where
               own = own-first w.schema.key_cols e.0 e.1 here;
               cell = is_true _ (cell-first w.schema e.0 e.1 (shaped_here w.schema w.t w.x w.below.over e g h));
               fit = is_true _ (fit_is w.schema w.t w.x w.below.over e g h);
-              place = sym (rank_kept w.schema w.t w.x w.below.over e g h);
+              ranked = sym (rank_kept w.schema w.t w.x w.below.over e g h);
               rows = w.small.rows;
               image = omega (arith, image_is);
               room = subst (λ (z : Effects). length (canonical_entries w.t z) ≤ 2 ^ 40) all (entries_few n);

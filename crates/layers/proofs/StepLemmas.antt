@@ -86,7 +86,7 @@ module _ (tree : Tree) (entry : Entry) (w : IsNext tree entry) where
   list_is = ap (λ (r : Tree). r.entries) w.tree_is
 
   pub small_rid : entry.sid < 2 ^ 63
-  small_rid = omega (arith, w.index, rank-le-length w.key (table_with w.t w.x), w.image)
+  small_rid = omega (arith, w.ranked, rank-le-length w.key (table_with w.t w.x), w.image)
 
   pub small_sid : rank w.key w.t < 2 ^ 32
   small_sid = omega (arith, rank-le-length w.key w.t, w.rows)
@@ -125,7 +125,7 @@ module _ (tree : Tree) (entry : Entry) (w : IsNext tree entry) where
   -- the key's row is where its position is
   pub place_is : T (is_some (row_at (table_with w.t w.x) w.key)) → (P : Place) → ((place : Place) → IsAtRid tree.entries entry.sid place → place ≡ P) → IsRowPlace w.schema w.t w.x w.over w.key P
   place_is there P only =
-      row_place w.schema w.t w.x w.over w.key entry.sid w.index there P
+      row_place w.schema w.t w.x w.over w.key entry.sid w.ranked there P
       (λ place at. only place (subst (λ (zs : List Entry). IsAtRid zs entry.sid place) (sym list_is) at))
 
 -- a cell that fits is outside the key
@@ -150,7 +150,7 @@ module _ (tree : Tree) (s : ℕ) (row : Row) (w : IsNext tree (entry_at s (Ins r
   key_now = ap (λ (n : ℕ). key_of n row) (cols_is tree (entry_at s (Ins row)) w) ∙ w.own
 
   gap_is : gap_from s (key_of tree.key_cols row) 0 0 tree.entries ≡ rank w.key w.t
-  gap_is = (λ i. gap_from (w.index i) (key_now i) 0 0 (list_is tree (entry_at s (Ins row)) w i)) ∙ gap_place w.schema w.t w.x w.over w.key
+  gap_is = (λ i. gap_from (w.ranked i) (key_now i) 0 0 (list_is tree (entry_at s (Ins row)) w i)) ∙ gap_place w.schema w.t w.x w.over w.key
 
   insert_is : canonical_entries w.t (effects_with w.x w.key (Ins row)) ≡ put_ins w.schema.key_cols (rank w.key w.t) row (canonical_entries w.t w.x)
   insert_is =

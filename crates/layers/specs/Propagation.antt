@@ -61,7 +61,7 @@ pub record IsNext (tree : Tree) (entry : Entry) : Type 0 where
   pub own : IsOfKey schema.key_cols key entry.change
   pub cell : IsTrue (cell_fits schema entry.change)
   pub fit : IsTrue (fits (row_at (table_with t x) key) (effect_of_change entry.change))
-  pub place : entry.sid ≡ rank key (table_with t x)
+  pub ranked : entry.sid ≡ rank key (table_with t x)
   pub rows : length t ≤ 2147483647
   pub image : length (table_with t x) ≤ 2 ^ 40
   pub room : length (canonical_entries t (effects_with x key entry.change)) ≤ 2 ^ 40
