@@ -6,6 +6,7 @@ pub use Rattle.model.proofs.CompositionLemmas.{row_at-table_with, sorted-compose
 pub use Rattle.model.proofs.EntriesLemmas.{ordered-canonical_entries}
 pub use Rattle.model.proofs.FirstClashLemmas.{first_clash-least}
 pub use Rattle.model.proofs.FittingLemmas.{sets_no_key-fits}
+pub use Rattle.model.proofs.HistoryLemmas.{AreCommits-drop, table_with_all-drop}
 pub use Rattle.model.proofs.HistoryLemmas.{IsSnapshot-any, IsSnapshot-table_after, due_reply-cut, length-table_after}
 pub use Rattle.model.proofs.LimitLemmas.{length-effects_after}
 pub use Rattle.model.proofs.MapsLemmas.{below_less, below_tied, both, changed_by, each_at, find-alter, find-alter_all}

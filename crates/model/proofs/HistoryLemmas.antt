@@ -31,7 +31,7 @@ table_with_all-append t [] later = refl
 table_with_all-append t (x ∷ commits) later = table_with_all-append (table_with t x) commits later
 
 -- the commits after the first k, after those k
-table_with_all-drop : (t : Table) (commits : List Effects) (k : ℕ) → table_with_all (table_with_all t (take k commits)) (drop k commits)
+pub table_with_all-drop : (t : Table) (commits : List Effects) (k : ℕ) → table_with_all (table_with_all t (take k commits)) (drop k commits)
     ≡ table_with_all t commits
 table_with_all-drop t commits zero = refl
 table_with_all-drop t [] (suc k) = refl
@@ -68,7 +68,7 @@ module _ (schema : Columns) where
   AreCommits-take t (x ∷ commits) (suc k) h = (h.0, AreCommits-take (table_with t x) commits k h.1)
 
   -- and so are the rest, from the table after those k on
-  AreCommits-drop : (t : Table) (commits : List Effects) (k : ℕ) → AreCommits schema t commits →
+  pub AreCommits-drop : (t : Table) (commits : List Effects) (k : ℕ) → AreCommits schema t commits →
       AreCommits schema (table_with_all t (take k commits)) (drop k commits)
   AreCommits-drop t commits zero h = h
   AreCommits-drop t [] (suc k) h = tt

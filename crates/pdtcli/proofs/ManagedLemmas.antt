@@ -18,7 +18,7 @@ use Rattle.model.specs.Laws.{AreCommits}
 use Rattle.model.specs.History.{Start, Record, table_with_all, table_after, due_reply, commits_with, commits_after, commits_from, effects_of_record, IsLegalRecord, IsLegalFrom}
 use Rattle.std.proofs.lemmas.Float.{T_from_true}
 use Rattle.values.specs.declared.limits.TheConstants.{MAX_ROWS}
-use Rattle.model.proofs.CallerLemmas.{table_of-rows_of, leaves, fits_newest, commits_fit, length-table_after, IsSnapshot-table_after}
+use Rattle.model.proofs.CallerLemmas.{table_of-rows_of, leaves, fits_newest, commits_fit, length-table_after, IsSnapshot-table_after, AreCommits-drop, table_with_all-drop}
 use Rattle.stable.specs.Stable.{Stable, IsStable, table_in}
 use Rattle.txn.specs.Txn.{Transaction, effects_of, image_of, asked_of, IsTransaction}
 use Rattle.pdtcli.specs.Managed.{Managed, start_of, commits_in, newest_table, IsManaged, HasNewest, IsOwn, reply_due, record_of, with_record}
@@ -31,25 +31,11 @@ take_length (x ∷ xs) = ap (λ ys. x ∷ ys) (take_length xs)
 
 -- ---- tables after commits
 
-table_with_all-drop : (t : Table) (commits : List Effects) (k : ℕ) → table_with_all (table_with_all t (take k commits)) (drop k commits) ≡ table_with_all t commits
-table_with_all-drop t commits zero = refl
-table_with_all-drop t [] (suc k) = refl
-table_with_all-drop t (x ∷ commits) (suc k) = table_with_all-drop (table_with t x) commits k
-
 pub table_with_all-append : (t : Table) (commits : List Effects) (x : Effects) → table_with_all t (commits ++ x ∷ []) ≡ table_with (table_with_all t commits) x
 table_with_all-append t [] x = refl
 table_with_all-append t (y ∷ commits) x = table_with_all-append (table_with t y) commits x
 
 module _ (schema : Columns) where
-  AreCommits-drop : (t : Table) (commits : List Effects) (k : ℕ) → AreCommits schema t commits → AreCommits schema (table_with_all t (take k commits)) (drop k commits)
-  AreCommits-drop t commits zero h = h
-  AreCommits-drop t [] (suc k) h = tt
-  AreCommits-drop t (x ∷ commits) (suc k) h = AreCommits-drop (table_with t x) commits k h.1
-
-  IsTable-table_with_all : (t : Table) (commits : List Effects) → IsTable schema t → AreCommits schema t commits → IsTable schema (table_with_all t commits)
-  IsTable-table_with_all t [] h k = h
-  IsTable-table_with_all t (x ∷ commits) h k = IsTable-table_with_all (table_with t x) commits (leaves schema t x k.0) k.1
-
 module _ (m : Managed) where
   -- numbers count from 0
   number_is : (k : ℕ) → table_after (start_of m) (commits_in m) k ≡ table_with_all m.opening (take k (commits_in m))
