@@ -35,7 +35,6 @@ pub table_with_all-append : (t : Table) (commits : List Effects) (x : Effects) �
 table_with_all-append t [] x = refl
 table_with_all-append t (y ∷ commits) x = table_with_all-append (table_with t y) commits x
 
-module _ (schema : Columns) where
 module _ (m : Managed) where
   -- numbers count from 0
   number_is : (k : ℕ) → table_after (start_of m) (commits_in m) k ≡ table_with_all m.opening (take k (commits_in m))
