@@ -7,3 +7,5 @@ pub use Rattle.delta.proofs.LawsLemmas.{Known, finds_effect, known, may_call, ma
 pub use Rattle.delta.proofs.LengthLemmas.{length-put_del, length-put_ins, length-put_mod}
 pub use Rattle.delta.proofs.OrderLemmas.{entry_cmp-trans, ordered_right}
 pub use Rattle.delta.proofs.SearchLemmas.{is_true}
+pub use Rattle.delta.proofs.KeyPlaceLemmas.{fitting, high_all, low_all, own, rank_is, sorted_effects, sorted_table, split_is}
+pub use Rattle.delta.proofs.RowCountLemmas.{counted, few}

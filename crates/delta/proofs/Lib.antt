@@ -12,4 +12,6 @@ mod LengthLemmas
 mod LawsLemmas
 mod CountedLemmas
 mod SpotLemmas
+mod KeyPlaceLemmas
+mod RowCountLemmas
 pub mod CallerLemmas

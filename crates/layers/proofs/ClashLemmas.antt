@@ -25,9 +25,8 @@ use Rattle.model.specs.Places.{insert_count, delete_count, rid_of_insert}
 use Rattle.model.specs.Rebasing.{or_clash, clash_of_changes, clash_of_entries, clash_with, stands_first, inserts_before, deletes_before, rebased_entry}
 use Rattle.model.proofs.CallerLemmas.{first, second, both, less, turn_less, turn_greater}
 use Rattle.delta.specs.Search.{stands_before, IsSplit}
-use Rattle.delta.proofs.CallerLemmas.{insert_count-cons, delete_count-cons, insert_worth, delete_worth, entry_cmp-trans, ordered_right}
+use Rattle.delta.proofs.CallerLemmas.{insert_count-cons, delete_count-cons, insert_worth, delete_worth, entry_cmp-trans, ordered_right, split_is}
 use Rattle.layers.specs.Serialization.{clash_with_head}
-use Rattle.layers.proofs.KeyPlaceLemmas.{split_is}
 
 -- ---- the first entry that is left
 

@@ -21,8 +21,7 @@ use Rattle.model.specs.Entries.{entry_at, entries_of, canonical_entries}
 use Rattle.model.proofs.CallerLemmas.{first, second, both, less, turn_less, turn_greater, below_less, find_past, find_first, changed_by, row_at-table_with, is_below, inserts_of, deletes_of, sum_below, rank-table_with, rank-le, rank-lt}
 use Rattle.model.specs.Places.{deleted_keys}
 use Rattle.delta.specs.Positions.{deletes_below, is_passed, gap_from, keys_ascend, deletes_ascend}
-use Rattle.delta.proofs.CallerLemmas.{gap-passes, gap-ends}
-use Rattle.layers.proofs.KeyPlaceLemmas.{own, sorted_effects, sorted_table, fitting}
+use Rattle.delta.proofs.CallerLemmas.{gap-passes, gap-ends, own, sorted_effects, sorted_table, fitting}
 
 -- ---- what is passed, and what isn't
 

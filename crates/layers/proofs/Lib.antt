@@ -1,5 +1,3 @@
-pub mod CountsLemmas
-pub mod KeyPlaceLemmas
 pub mod RowPlaceLemmas
 pub mod GapPlaceLemmas
 pub mod StepLemmas

@@ -26,10 +26,9 @@ use Rattle.model.specs.Entries.{entry_at, entries_of, canonical_entries}
 use Rattle.model.specs.Places.{insert_count}
 use Rattle.model.proofs.CallerLemmas.{first, second, both, less, changed_by, holds_at, each_at, find_below, find_first, find-alter, sorted-alter, same_map, cells_ascend, row_at-table_with, effect_at-composed_effects, sorted-composed_effects, inserts_of, deletes_of, sum_below, rank-table_with, composes}
 use Rattle.delta.specs.Tree.{Tree}
-use Rattle.delta.proofs.CallerLemmas.{insert_count-append}
+use Rattle.delta.proofs.CallerLemmas.{insert_count-append, counted, few}
 use Rattle.layers.specs.Over.{tree_of, AreConsecutive}
 use Rattle.layers.specs.Propagation.{IsNext, IsOfKey, cell_fits, effect_of_change, effects_with, next_tree}
-use Rattle.layers.proofs.CountsLemmas.{counted, few}
 use Rattle.layers.proofs.GapPlaceLemmas.{sum_none, sum_at}
 
 -- ---- the first entry of effects, and the rest

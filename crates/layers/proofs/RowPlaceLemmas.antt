@@ -29,8 +29,7 @@ use Rattle.delta.specs.declared.places.Place.TheVariants.{Inserted, Base}
 use Rattle.delta.specs.Search.{insert_cmp, stands_before, IsSplit}
 use Rattle.delta.specs.Positions.{IsAtRid}
 use Rattle.delta.specs.Laws.{row_inserted, deletes_row}
-use Rattle.delta.proofs.CallerLemmas.{nothing, has_insert, HasInsert, insert_count-cons, delete_count-cons, insert_worth, delete_worth, finds_effect}
-use Rattle.layers.proofs.KeyPlaceLemmas.{own, sorted_effects, sorted_table, fitting, low_all, high_all, rank_is}
+use Rattle.delta.proofs.CallerLemmas.{nothing, has_insert, HasInsert, insert_count-cons, delete_count-cons, insert_worth, delete_worth, finds_effect, own, sorted_effects, sorted_table, fitting, low_all, high_all, rank_is}
 
 -- ---- a list split in two
 

@@ -24,7 +24,7 @@ use Rattle.delta.specs.Search.{stands_before, IsSplit}
 use Rattle.delta.specs.Tree.{Tree}
 use Rattle.layers.specs.Over.{IsTreeOf, AreAligned}
 use Rattle.layers.specs.Serialization.{clash_with_head, rebased_tree}
-use Rattle.layers.proofs.CountsLemmas.{counted, few}
+use Rattle.delta.proofs.CallerLemmas.{counted, few}
 use Rattle.layers.proofs.ClashLemmas.{is_ranked, agree_all, ranked-canonical_entries, clash_place}
 
 head_drop : (n : ℕ) (es : List Entry) (e : Entry) → slice_get es n ≡ Some e → drop n es ≡ e ∷ drop (n + 1) es

@@ -1,4 +1,3 @@
-mod CountsLemmas
 mod ReadsLemmas
 mod TxnLemmas
 mod VersionLemmas

@@ -26,10 +26,9 @@ use Rattle.model.proofs.CallerLemmas.{both, first, second, changed_by, holds_at,
 use Rattle.delta.specs.Tree.{Tree}
 use Rattle.delta.specs.Lookups.{has_delete, inserted_row}
 use Rattle.delta.specs.Laws.{row_inserted, deletes_row, FindsEffect, MayEdit}
-use Rattle.delta.proofs.CallerLemmas.{finds_effect, may_call}
+use Rattle.delta.proofs.CallerLemmas.{finds_effect, may_call, counted, few}
 use Rattle.txn.specs.Edit.{edited, MayBeEdited}
 use Rattle.txn.specs.Txn.{Transaction, asked_of, answers_of, effects_of, image_of, entries_of, tree_of, IsTransaction, IsFound, with_write, answer_to}
-use Rattle.txn.proofs.CountsLemmas.{counted, few}
 
 is_true : (b : Bool) → T b → IsTrue b
 is_true true h = refl

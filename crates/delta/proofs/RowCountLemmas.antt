@@ -22,7 +22,7 @@ use Rattle.model.specs.Effects.{Cells, Effects, set_cells, fits, has_cells, row_
 use Rattle.model.specs.Entries.{entry_at, entries_of, canonical_entries}
 use Rattle.model.specs.Places.{insert_count, delete_count}
 use Rattle.model.proofs.CallerLemmas.{first, second, less, without_below, below_tied, sorted-alter, inserts_of, deletes_of, fits_other}
-use Rattle.delta.proofs.CallerLemmas.{insert_count-append, delete_count-append}
+use Rattle.delta.proofs.CountLemmas.{insert_count-append, delete_count-append}
 
 -- ---- what one effect does to the number of rows
 

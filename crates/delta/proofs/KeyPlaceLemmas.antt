@@ -19,7 +19,8 @@ use Rattle.model.specs.Entries.{entry_at, entries_of, canonical_entries}
 use Rattle.model.specs.Places.{insert_count, delete_count, rid_of_insert}
 use Rattle.model.proofs.CallerLemmas.{both, first, second, turn_less, turn_greater, is_below, inserts_of, deletes_of, sum_below, rank-table_with, rank-le, rank-lt, canonical_entries-at_key}
 use Rattle.delta.specs.Search.{insert_cmp, stands_before, IsSplit}
-use Rattle.delta.proofs.CallerLemmas.{insert_count-append, delete_count-append, filter_all, filter_none}
+use Rattle.delta.proofs.CountLemmas.{insert_count-append, delete_count-append}
+use Rattle.delta.proofs.ChangesLemmas.{filter_all, filter_none}
 use Rattle.std.proofs.lemmas.List.Elements.{filter-append}
 
 -- ---- how many inserts and deletes effects are
