@@ -2,11 +2,10 @@
 
 use super::number;
 use blocks::Block;
-use fixtures::schema;
 use stable::{Column, StableTable};
 use std::alloc::Global;
 use std::test::Fail;
-use values::{ColumnType, ValueRef};
+use values::{ColumnType, Schema, ValueRef};
 
 #[test]
 fn a_value_stands_after_the_others(rt: HostRuntime) -> Result<(), Fail> {
@@ -38,12 +37,15 @@ fn a_block_is_taken_whole(rt: HostRuntime) -> Result<(), Fail> {
 
 /// What becomes of two numbers as the one column of a table: the fault, or `Ok`.
 fn of_two(alloc: Global, first: i64, second: i64) -> Result<String, Fail> {
+    let mut named = Vec::new(alloc);
+    named.push((String::from_str(alloc, "id")?, ColumnType::Int))?;
+    let schema = Schema::new(alloc, named, 1)?;
     let mut column = Column::new(alloc, ColumnType::Int);
     column.push(ValueRef::Int(first))?;
     column.push(ValueRef::Int(second))?;
     let mut columns = Vec::new(alloc);
     columns.push(column)?;
-    match StableTable::from_columns(schema(alloc, &[("id", ColumnType::Int)], 1)?, columns) {
+    match StableTable::from_columns(schema, columns) {
         Ok(table) => Ok(format!(in alloc; "Ok {}", table.len())?),
         Err(fault) => Ok(format!(in alloc; "{fault}")?),
     }
