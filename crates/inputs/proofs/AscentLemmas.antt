@@ -1,5 +1,5 @@
 -- Places in an order, and the rows that stand at them.
-use Rattle.std.proofs.Common.{◌≡◌, ◌∙◌, ◌+◌, ◌-◌, ◌<◌, ◌≤◌, ◌==◌, ℕ, Bool, true, false, cond, List, [], ◌∷◌, ◌++◌, length, drop, map, get_or, None, Ordering, Less, Equal, Greater, is_lt, nat_lt, refl, sym, ap, subst, arith, inl, inr}
+use Rattle.std.proofs.Common.{◌≡◌, ◌∙◌, ◌+◌, ◌-◌, ◌<◌, ◌≤◌, ◌==◌, ℕ, true, false, cond, List, [], ◌∷◌, length, drop, map, get_or, None, Ordering, Less, Equal, Greater, is_lt, nat_lt, refl, sym, ap, arith, inl, inr}
 use Rattle.std.specs.Cmp.{IsTotalOrder, IsStrictWeakOrder}
 use Rattle.std.specs.List.{All, range_with_len}
 use Rattle.std.specs.List.Sorted.{IsPermutation, IsSorted}
@@ -12,7 +12,6 @@ use Rattle.std.proofs.lemmas.List.Sorted.{ranks_by, length_permutation, All-perm
 use Rattle.std.proofs.lemmas.Simd.{map-map}
 use Rattle.values.specs.Orders.{key_cmp, key_cmp_total, value_cmp}
 use Rattle.values.specs.Shape.{key_of}
-use Rattle.values.specs.declared.row.Row.{Row}
 use Rattle.values.specs.declared.value.Value.{Value}
 use Rattle.values.specs.declared.value.Value.TheVariants.{Bool as Truth}
 use Rattle.blocks.specs.Column.{Column}

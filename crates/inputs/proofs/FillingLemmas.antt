@@ -11,7 +11,7 @@ use Rattle.values.specs.declared.value.ColumnType.{ColumnType}
 use Rattle.values.specs.declared.value.Value.{Value}
 use Rattle.values.specs.declared.value.Value.TheVariants.{Bool as Truth}
 use Rattle.blocks.specs.Column.{Column}
-use Rattle.stable.specs.Rows.{cell_at, row_at, rows_of}
+use Rattle.stable.specs.Rows.{row_at, rows_of}
 use Rattle.values.specs.declared.limits.TheConstants.{MAX_ROWS}
 use Rattle.inputs.specs.Cells.{prepend}
 use Rattle.inputs.specs.Input.{cells_of, row_of}

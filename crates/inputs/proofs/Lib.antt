@@ -15,3 +15,4 @@ mod WorkedTables
 mod FillingLemmas
 mod AscentLemmas
 mod LoadLemmas
+mod NumberLemmas

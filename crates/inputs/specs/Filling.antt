@@ -1,18 +1,20 @@
 -- Columns that are filled record by record, and their rows in an order.
-use Rattle.std.specs.Prelude.{◌≡◌, ℕ, ◌+◌, ◌≤◌, List, [], ◌∷◌, ◌++◌, Ok, length, map}
+use Rattle.std.specs.Prelude.{◌≡◌, ℕ, ℤ, pos, ◌+◌, ◌≤◌, List, [], ◌∷◌, ◌++◌, Ok, length, map}
 use Rattle.std.specs.List.{range_with_len}
-use Rattle.std.specs.Ordering.{nat_cmp, ordering_then}
+use Rattle.std.specs.Ordering.{int_cmp, nat_cmp, ordering_then}
 use Rattle.std.specs.declared.cmp.Ordering.{Ordering}
-use Rattle.values.specs.Orders.{key_cmp}
+use Rattle.values.specs.Orders.{key_cmp, value_cmp}
 use Rattle.values.specs.Shape.{key_of}
 use Rattle.values.specs.declared.limits.TheConstants.{MAX_ROWS}
 use Rattle.values.specs.declared.row.Row.{Row}
 use Rattle.values.specs.declared.value.ColumnType.{ColumnType}
 use Rattle.values.specs.declared.value.Value.{Value}
+use Rattle.values.specs.declared.value.Value.TheVariants.{Int, Text, Bool as Truth}
 use Rattle.blocks.specs.Column.{Column}
 use Rattle.stable.specs.Rows.{cell_at, row_at}
 use Rattle.inputs.specs.Input.{row_of}
 use Rattle.inputs.specs.Reading.{Fields}
+use Rattle.inputs.specs.declared.ascent.Keyed.{Keyed}
 use Rattle.inputs.specs.declared.order.Numbered.{Numbered}
 
 -- ---- columns
@@ -56,3 +58,21 @@ column_in_order places c = record { ty = c.ty; values = map (λ place. cell_at p
 abbrev pub place_cmp : ℕ → List Column → ℕ → ℕ → Ordering
 place_cmp key_cols columns a b =
     ordering_then (key_cmp (key_of key_cols (row_at columns a)) (key_of key_cols (row_at columns b))) (nat_cmp a b)
+
+-- ---- keys that are one number
+
+abbrev pub number_in : Value → ℤ
+number_in (Int number) = number
+number_in (Text text) = pos 0
+number_in (Truth truth) = pos 0
+
+-- a place, and the number that is its key in this column
+abbrev pub keyed_at : Column → ℕ → Keyed
+keyed_at c place = record { key = number_in (cell_at place c); place = place }
+
+abbrev pub keyed_cmp : Keyed → Keyed → Ordering
+keyed_cmp a b = ordering_then (int_cmp a.key b.key) (nat_cmp a.place b.place)
+
+-- how two places stand, by their values in this column and then by themselves
+abbrev pub number_cmp : Column → ℕ → ℕ → Ordering
+number_cmp c a b = ordering_then (value_cmp (cell_at a c) (cell_at b c)) (nat_cmp a b)

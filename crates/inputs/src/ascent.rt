@@ -9,7 +9,7 @@ ghost use Rattle.values.specs.Orders.{key_cmp};
 ghost use Rattle.values.specs.Shape.{key_of};
 ghost use Rattle.values.specs.declared.limits.TheConstants.{MAX_ROWS};
 ghost use Rattle.stable.specs.Rows.{cell_at, row_at, rows_of};
-ghost use Rattle.inputs.specs.Filling.{column_in_order, place_cmp, row_in, rows_in, types_in};
+ghost use Rattle.inputs.specs.Filling.{column_in_order, keyed_at, number_cmp, place_cmp, row_in, rows_in, types_in};
 ghost use Rattle.inputs.specs.Input.{first_repeat, same_key, IsAscending};
 ghost use Rattle.inputs.specs.Order.{lower_repeat, IsLeastRepeat, IsRepeatFault};
 
@@ -17,7 +17,14 @@ use crate::fault::TableFault;
 use stable::Column;
 use std::alloc::Global;
 use std::cmp::Ordering;
-use values::{NoMemory, ValueRef};
+use values::{ColumnType, NoMemory, ValueRef};
+
+/// A place, and the number that is its key.
+#[derive(Clone, Copy)]
+pub(crate) struct Keyed {
+    key: i64,
+    place: u32,
+}
 
 /// The columns of so many rows, with the rows in ascending key.
 ///
@@ -117,6 +124,28 @@ fn places_by_key(
 ) -> Result<Vec<u32>, NoMemory>
     requires key { key_cols ≤ length columns.now }
     requires few { count ≤ MAX_ROWS }
+    requires filled { All (λ c. length c.values ≡ count) columns.now }
+    ensures each_once { IfOk result (λ places. IsPermutation (range_with_len 0 count) places.items) }
+    ensures sorted { IfOk result (λ places. IsSorted (place_cmp key_cols columns.now) places.items) }
+{
+    if key_cols == 1 {
+        let column = &columns[0];
+        if matches!(column.column_type(), ColumnType::Int) {
+            return places_by_number(alloc, column, count);
+        }
+    }
+    places_by_cells(alloc, columns, key_cols, count)
+}
+
+/// The same, by comparing through the columns.
+fn places_by_cells(
+    alloc: Global,
+    columns: &[Column],
+    key_cols: usize,
+    count: usize,
+) -> Result<Vec<u32>, NoMemory>
+    requires key { key_cols ≤ length columns.now }
+    requires few { count ≤ MAX_ROWS }
     ensures each_once { IfOk result (λ places. IsPermutation (range_with_len 0 count) places.items) }
     ensures sorted { IfOk result (λ places. IsSorted (place_cmp key_cols columns.now) places.items) }
 {
@@ -124,6 +153,57 @@ fn places_by_key(
     places.sort_by(|a, b| {
         compare_keys(columns, key_cols, *a as usize, *b as usize).then(a.cmp(b))
     })?;
+    Ok(places)
+}
+
+/// The same where the key is one number, which stands beside its place as long as they are sorted.
+fn places_by_number(alloc: Global, column: &Column, count: usize) -> Result<Vec<u32>, NoMemory>
+    requires int { column.now.ty ≡ ColumnType.Int }
+    requires few { count ≤ MAX_ROWS }
+    requires filled { length column.now.values ≡ count }
+    ensures each_once { IfOk result (λ places. IsPermutation (range_with_len 0 count) places.items) }
+    ensures sorted { IfOk result (λ places. IsSorted (number_cmp column.now) places.items) }
+{
+    // Every value is a number, since each value of a column is of its type.
+    let known = column.len();
+    prove!(known == count);
+    let mut keyed = keyed_places(alloc, column, count)?;
+    keyed.sort_by(|a, b| a.key.cmp(&b.key).then(a.place.cmp(&b.place)))?;
+    let places = places_alone(alloc, keyed.as_slice())?;
+    Ok(places)
+}
+
+/// Each of so many places, with its number.
+fn keyed_places(alloc: Global, column: &Column, count: usize) -> Result<Vec<Keyed>, NoMemory>
+    requires { count ≤ MAX_ROWS }
+    ensures { IfOk result (λ keyed. keyed.items ≡ map (keyed_at column.now) (range_with_len 0 count)) }
+{
+    let mut keyed = Vec::with_capacity(alloc, count)?;
+    for place in 0..count {
+        keyed.push(keyed_at(column, place as u32))?;
+    }
+    Ok(keyed)
+}
+
+/// A place with the number of a column there, or 0 where there is none.
+fn keyed_at(column: &Column, place: u32) -> Keyed
+    ensures { result ≡ keyed_at column.now place }
+{
+    match cell_at(column, place as usize) {
+        ValueRef::Int(key) => Keyed { key, place },
+        ValueRef::Text(_) => Keyed { key: 0, place },
+        ValueRef::Bool(_) => Keyed { key: 0, place },
+    }
+}
+
+/// The places without their numbers.
+fn places_alone(alloc: Global, keyed: &[Keyed]) -> Result<Vec<u32>, NoMemory>
+    ensures { IfOk result (λ places. places.items ≡ map (λ k. k.place) keyed.now) }
+{
+    let mut places = Vec::with_capacity(alloc, keyed.len())?;
+    for one in keyed {
+        places.push(one.place)?;
+    }
     Ok(places)
 }
 

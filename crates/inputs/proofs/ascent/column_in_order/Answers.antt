@@ -1,5 +1,5 @@
-use Rattle.std.proofs.Common.{◌≡◌, ◌∙◌, ◌++◌, ◌∷◌, ◌<◌, [], false, List, ℕ, length, map, take, get_or, sym, ap, subst, arith}
-use Rattle.std.proofs.lemmas.List.{take_more, take_all, map-append, length-take, length-map}
+use Rattle.std.proofs.Common.{◌≡◌, ◌∙◌, ◌++◌, ◌∷◌, [], false, List, ℕ, map, take, get_or, sym, ap, arith}
+use Rattle.std.proofs.lemmas.List.{take_more, map-append}
 use Rattle.std.proofs.lemmas.Option.{get_or_from_slice_get}
 use Rattle.values.specs.Lent.{value_of}
 use Rattle.values.specs.Shape.{has_type}
@@ -8,7 +8,6 @@ use Rattle.values.specs.declared.value.Value.TheVariants.{Bool as Truth}
 use Rattle.blocks.specs.Column.{Column}
 use Rattle.stable.specs.Rows.{cell_at}
 use Rattle.stable.proofs.CallerLemmas.{stands_at}
-use Rattle.inputs.specs.Filling.{column_in_order}
 use Rattle.inputs.proofs.ascent.column_in_order.Goals as goal
 
 pub prove-unreachable-requires : goal.prove-unreachable-requires

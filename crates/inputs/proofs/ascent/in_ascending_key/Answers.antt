@@ -1,4 +1,3 @@
-use Rattle.std.proofs.Common.{length}
 use Rattle.std.proofs.lemmas.List.Sorted.{IsPermutation-refl}
 use Rattle.stable.specs.Rows.{rows_of}
 use Rattle.inputs.specs.Filling.{rows_in}

@@ -1,6 +1,6 @@
-use Rattle.std.proofs.Common.{◌≡◌, ◌∙◌, ◌<◌, ◌+◌, length, get_or, sym, ap, arith}
+use Rattle.std.proofs.Common.{◌≡◌, ◌<◌, ◌+◌, length, get_or, sym, arith}
 use Rattle.inputs.specs.Filling.{row_in}
-use Rattle.inputs.proofs.AscentLemmas.{rows_at, rows_at-get, length-rows_at, place-same}
+use Rattle.inputs.proofs.AscentLemmas.{rows_at, rows_at-get, length-rows_at}
 use Rattle.inputs.proofs.OrderLemmas.{IsLeastRepeat-start, IsLeastRepeat-step, IsLeastRepeat-end}
 use Rattle.inputs.proofs.ascent.least_repeat.Goals as goal
 

@@ -1,10 +1,6 @@
-use Rattle.std.proofs.Common.{◌≡◌, ◌∙◌, ◌≤◌, ℕ, List, length, map, sym, ap, subst, arith}
-use Rattle.std.specs.List.{All}
-use Rattle.std.specs.List.Sorted.{IsPermutation}
-use Rattle.blocks.specs.Column.{Column}
-use Rattle.values.specs.declared.row.Row.{Row}
-use Rattle.stable.specs.Rows.{row_at, rows_of}
-use Rattle.inputs.specs.Filling.{column_in_order, rows_in, types_in}
+use Rattle.std.proofs.Common.{◌∙◌, map, sym, ap, subst, arith}
+use Rattle.stable.specs.Rows.{rows_of}
+use Rattle.inputs.specs.Filling.{column_in_order, rows_in}
 use Rattle.inputs.specs.Input.{IsAscending}
 use Rattle.inputs.specs.declared.fault.TableFault.TheVariants.{RepeatedKey}
 use Rattle.inputs.proofs.AscentLemmas.{rows_at, rows_at-alone, rows_at-in_order, rows_at-moved, rows_numbered, rows_of-moved, rows_of-sorted, types_in-sorted, AreLong-sorted, length-places, length-rows_at, places_within}

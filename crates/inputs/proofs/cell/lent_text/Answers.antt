@@ -1,4 +1,4 @@
-use Rattle.inputs.proofs.CellLemmas.{text-ok, text-long, text-bad, lt_false}
+use Rattle.inputs.proofs.CellLemmas.{text-ok, text-long, text-bad}
 use Rattle.inputs.proofs.cell.lent_text.Goals as goal
 
 pub returns-in-Err-clause-err : goal.returns-in-Err-clause-err

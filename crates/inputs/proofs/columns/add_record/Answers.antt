@@ -1,10 +1,7 @@
-use Rattle.std.proofs.Common.{◌≡◌, ◌∙◌, ◌<◌, ◌^◌, List, length, sym, ap, arith, lit<}
-use Rattle.std.proofs.lemmas.List.{length-map}
+use Rattle.std.proofs.Common.{arith}
 use Rattle.csv.specs.Records.{fields_of}
-use Rattle.blocks.specs.Column.{Column}
 use Rattle.inputs.specs.Filling.{types_in}
-use Rattle.inputs.proofs.FillingLemmas.{row_of-cells, row_of-fault, row_of-count, row_of-many}
-use Rattle.inputs.proofs.ReadLemmas.{passed-up}
+use Rattle.inputs.proofs.FillingLemmas.{row_of-many}
 use Rattle.inputs.proofs.columns.add_record.Goals as goal
 
 pub returns-then-number-clause-err : goal.returns-then-number-clause-err

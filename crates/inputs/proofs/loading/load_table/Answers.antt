@@ -1,16 +1,11 @@
-use Rattle.std.proofs.Common.{◌≡◌, ◌∙◌, ◌+◌, ◌-◌, ◌<◌, ◌≤◌, ◌∷◌, ◌++◌, [], true, false, List, Ok, refl, sym, ap, subst, arith, rules, length, map, get_or}
-use Rattle.std.specs.Result.{is_ok}
-use Rattle.std.specs.List.{All}
-use Rattle.std.specs.List.Sorted.{IsPermutation}
+use Rattle.std.proofs.Common.{◌≡◌, ◌∙◌, ◌+◌, ◌-◌, ◌∷◌, ◌++◌, [], true, false, List, refl, sym, ap, subst, arith, rules, length}
 use Rattle.std.proofs.lemmas.List.{length-map}
 use Rattle.csv.specs.Records.{fields_of}
-use Rattle.values.specs.Shape.{Columns}
-use Rattle.values.specs.declared.row.Row.{Row}
 use Rattle.values.specs.declared.value.ColumnType.{ColumnType}
 use Rattle.blocks.specs.Column.{Column}
-use Rattle.stable.specs.Rows.{row_count, rows_of}
+use Rattle.stable.specs.Rows.{row_count}
 use Rattle.inputs.specs.Cells.{prepend}
-use Rattle.inputs.specs.Filling.{rows_in, types_in, extended}
+use Rattle.inputs.specs.Filling.{rows_in, extended}
 use Rattle.inputs.specs.Input.{row_of}
 use Rattle.inputs.specs.Input as said
 use Rattle.inputs.specs.Reading.{Fields}
@@ -18,8 +13,8 @@ use Rattle.inputs.specs.declared.fault.TableFault.TheVariants.{NoMemory}
 use Rattle.inputs.specs.declared.order.Numbered.{Numbered}
 use Rattle.inputs.proofs.ReadLemmas.{passed-up, prepend-nil}
 use Rattle.inputs.proofs.RowLemmas.{rows_of-step}
-use Rattle.inputs.proofs.TableLemmas.{table_of-none, table_of-bad_header, table_of-bad_row, table_of-repeat, table_of-ok}
-use Rattle.inputs.proofs.FillingLemmas.{AreLong, AreLong-empty, AreLong-extended, rows_in-alone, rows_in-extended, types_in-empty, types_in-extended}
+use Rattle.inputs.proofs.TableLemmas.{table_of-none, table_of-bad_header, table_of-bad_row, table_of-repeat}
+use Rattle.inputs.proofs.FillingLemmas.{AreLong-empty, AreLong-extended, rows_in-extended, types_in-empty, types_in-extended}
 use Rattle.inputs.proofs.LoadLemmas.{columns-count, columns-even, loaded-stable, loaded-table}
 use Rattle.inputs.proofs.loading.load_table.Goals as goal
 

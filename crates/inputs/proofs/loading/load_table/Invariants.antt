@@ -1,5 +1,4 @@
-use Rattle.std.proofs.Common.{◌≡◌, ◌≤◌, ◌+◌, ◌-◌, ◌++◌, ◌∷◌, List, Ok, length}
-use Rattle.std.specs.List.{All}
+use Rattle.std.proofs.Common.{◌≡◌, ◌≤◌, ◌+◌, ◌-◌, ◌++◌, ◌∷◌, List, Ok}
 use Rattle.values.specs.declared.limits.TheConstants.{MAX_ROWS}
 use Rattle.inputs.specs.Cells.{prepend}
 use Rattle.inputs.specs.Filling.{rows_in, types_in}

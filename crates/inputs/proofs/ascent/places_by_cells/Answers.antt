@@ -1,9 +1,8 @@
-use Rattle.std.proofs.Common.{rules, is_lt, subst, sym}
-use Rattle.std.specs.List.Sorted.{IsPermutation}
+use Rattle.std.proofs.Common.{rules, is_lt}
 use Rattle.std.proofs.lemmas.Fn.{always_returns_same}
 use Rattle.inputs.specs.Filling.{place_cmp}
 use Rattle.inputs.proofs.AscentLemmas.{place_cmp_weak}
-use Rattle.inputs.proofs.ascent.places_by_key.Goals as goal
+use Rattle.inputs.proofs.ascent.places_by_cells.Goals as goal
 
 pub returns-clause-sorted : goal.returns-clause-sorted
 returns-clause-sorted c =
