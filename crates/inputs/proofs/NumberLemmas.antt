@@ -18,7 +18,7 @@ use Rattle.values.specs.declared.value.Value.TheVariants.{Int, Text, Bool as Tru
 use Rattle.blocks.specs.Column.{Column}
 use Rattle.stable.specs.Column.{all_may_stand}
 use Rattle.stable.specs.Rows.{cell_at, row_at}
-use Rattle.stable.proofs.ExtendLemmas.{stands_at}
+use Rattle.stable.proofs.CallerLemmas.{stands_at}
 use Rattle.inputs.specs.Filling.{keyed_at, keyed_cmp, number_cmp, number_in, place_cmp}
 use Rattle.inputs.specs.declared.ascent.Keyed.{Keyed}
 
