@@ -1,12 +1,12 @@
 //! Rows in ascending key, and the first record whose key an earlier one has.
-ghost use Rattle.std.specs.Prelude.{◌≡◌, ◌≢◌, IfOk, IfErr, OnOk, Some, None, map, length, take};
+ghost use Rattle.std.specs.Prelude.{◌≡◌, ◌≢◌, IfOk, IfErr, OnOk, Some, None, map, length};
 ghost use Rattle.std.specs.List.Sorted.{IsPermutation};
 ghost use Rattle.inputs.specs.Input.{first_repeat, same_key, IsAscending};
 ghost use Rattle.inputs.specs.Order.{lower_repeat, AreNumbered, IsInOrder, IsLeastRepeat, IsRepeatFault};
 
 use crate::fault::TableFault;
 use std::alloc::Global;
-use values::{Row, Value};
+use values::Row;
 
 /// A row, and the number of the record that it was read from.
 #[derive(Drop)]
@@ -41,19 +41,12 @@ fn sort_rows(key_cols: usize, rows: &mut Vec<Numbered>) -> Result<(), TableFault
     ensures err { IfErr result (λ fault. fault ≡ TableFault.NoMemory) }
 {
     rows.sort_by(|a, b| {
-        key_cells(key_cols, &a.row)
-            .cmp(key_cells(key_cols, &b.row))
+        a.row
+            .key(key_cols)
+            .cmp(b.row.key(key_cols))
             .then(a.number.cmp(&b.number))
     })?;
     Ok(())
-}
-
-/// The first cells of a row.
-fn key_cells(key_cols: usize, row: &Row) -> &[Value]
-    ensures { result.now ≡ take key_cols row.now }
-{
-    let cells = row.cells();
-    &cells[..key_cols.min(cells.len())]
 }
 
 /// Of the rows that have the key of the row before them, the least number of a record.
@@ -76,7 +69,7 @@ fn least_after(
 ) -> Option<u64>
     ensures { result ≡ lower_repeat (same_key key_cols before.now row.now) row.now.number least }
 {
-    let order = key_cells(key_cols, &before.row).cmp(key_cells(key_cols, &row.row));
+    let order = before.row.key(key_cols).cmp(row.row.key(key_cols));
     if !order.is_eq() {
         return least;
     }

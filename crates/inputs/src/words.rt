@@ -83,7 +83,9 @@ fn program<'a>(alloc: Global) -> Result<Command<'a>, Error>
     ensures err { IfErr result (λ error. kind_of error ≡ OutOfMemory) }
 {
     let table = Arg::new(alloc, "table")
-        .help("The table, as CSV: a header such as id:int:key,name:text, then a record for each row")
+        .help(
+            "The table, as CSV: a header such as id:int:key,name:text, then a record for each row",
+        )
         .value_name("TABLE")
         .required(true)
         .action(ArgAction::Set);
@@ -105,7 +107,9 @@ fn program<'a>(alloc: Global) -> Result<Command<'a>, Error>
         .arg(limit)?;
     Ok(
         Command::new(alloc, "pdt")
-            .about("Runs transactions over a table, with Positional Delta Trees under snapshot isolation")
+            .about(
+                "Runs transactions over a table, with Positional Delta Trees under snapshot isolation",
+            )
             .subcommand_required(true)
             .subcommand(run)?,
     )

@@ -215,53 +215,25 @@ impl<'a> RowView<'a> {
         ensures row { row_of result ≡ set_cells (cells_at sid tree.now.entries) (row_of self.entry) }
         ensures bare { IsBare (suc (layer_number layer)) result }
     {
+        let mut view = self;
         match layer {
-            Layer::Read => RowView {
-                trees: Trees {
-                    read: tree,
-                    ..self.trees
-                },
-                sids: Sids {
-                    read: sid,
-                    ..self.sids
-                },
-                modified_by: ModifiedBy {
-                    read: true,
-                    ..self.modified_by
-                },
-                ..self
-            },
-            Layer::Write => RowView {
-                trees: Trees {
-                    write: tree,
-                    ..self.trees
-                },
-                sids: Sids {
-                    write: sid,
-                    ..self.sids
-                },
-                modified_by: ModifiedBy {
-                    write: true,
-                    ..self.modified_by
-                },
-                ..self
-            },
-            Layer::Trans => RowView {
-                trees: Trees {
-                    trans: tree,
-                    ..self.trees
-                },
-                sids: Sids {
-                    trans: sid,
-                    ..self.sids
-                },
-                modified_by: ModifiedBy {
-                    trans: true,
-                    ..self.modified_by
-                },
-                ..self
-            },
+            Layer::Read => {
+                view.trees.read = tree;
+                view.sids.read = sid;
+                view.modified_by.read = true;
+            }
+            Layer::Write => {
+                view.trees.write = tree;
+                view.sids.write = sid;
+                view.modified_by.write = true;
+            }
+            Layer::Trans => {
+                view.trees.trans = tree;
+                view.sids.trans = sid;
+                view.modified_by.trans = true;
+            }
         }
+        view
     }
 }
 
