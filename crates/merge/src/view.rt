@@ -215,25 +215,30 @@ impl<'a> RowView<'a> {
         ensures row { row_of result ≡ set_cells (cells_at sid tree.now.entries) (row_of self.entry) }
         ensures bare { IsBare (suc (layer_number layer)) result }
     {
-        let mut view = self;
+        let (mut trees, mut sids, mut modified_by) = (self.trees, self.sids, self.modified_by);
         match layer {
             Layer::Read => {
-                view.trees.read = tree;
-                view.sids.read = sid;
-                view.modified_by.read = true;
+                trees.read = tree;
+                sids.read = sid;
+                modified_by.read = true;
             }
             Layer::Write => {
-                view.trees.write = tree;
-                view.sids.write = sid;
-                view.modified_by.write = true;
+                trees.write = tree;
+                sids.write = sid;
+                modified_by.write = true;
             }
             Layer::Trans => {
-                view.trees.trans = tree;
-                view.sids.trans = sid;
-                view.modified_by.trans = true;
+                trees.trans = tree;
+                sids.trans = sid;
+                modified_by.trans = true;
             }
         }
-        view
+        RowView {
+            trees,
+            sids,
+            modified_by,
+            ..self
+        }
     }
 }
 
