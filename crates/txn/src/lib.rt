@@ -18,7 +18,7 @@ mod writes;
 
 pub use delta::DeltaTree;
 pub use fault::WriteFault;
-pub use merge::{MergeScan, RowView, Stretch, Stretches, StableStretch};
+pub use merge::{MergeScan, RowView, StableStretch, Stretch, Stretches};
 pub use model::{Write, WriteReply};
 pub use parts::Parts;
 pub use transaction::Txn;

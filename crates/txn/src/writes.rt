@@ -72,12 +72,7 @@ pub(crate) fn edit(
         Write::Insert(row) => tree.put_ins(sid, row.copy()?),
         Write::Delete(key) if inserted => tree.take_ins(sid, key),
         Write::Delete(key) => tree.put_del(sid, key.copy()?),
-        Write::Set(key, col, value) if inserted => tree.set_ins(
-            sid,
-            key,
-            *col,
-            value.copy()?,
-        ),
+        Write::Set(key, col, value) if inserted => tree.set_ins(sid, key, *col, value.copy()?),
         Write::Set(_, col, value) => tree.put_mod(sid, *col, value.copy()?),
     }
 }
