@@ -3,9 +3,9 @@
 //! That a refused growth is answered shows under `rt try --test --fail-alloc N`, for N from 1 on: each test ends well,
 //! or with the error of the growth.
 
-mod columns;
 mod faults;
 mod keys;
+mod kinds;
 
 use blocks::Block;
 use fixtures::{key, row_with, schema};
