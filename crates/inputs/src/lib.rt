@@ -24,8 +24,6 @@ mod reading;
 mod row;
 mod script;
 mod table;
-#[cfg(test)]
-mod tests;
 mod verb;
 mod words;
 

@@ -15,6 +15,3 @@ pub use entries::{canonical_entries, merged_rows};
 pub use replay::{due_reply, is_legal, table_after};
 pub use start::Start;
 pub use table::{OrderedTable, effects_of_writes};
-
-#[cfg(test)]
-mod tests;

@@ -8,6 +8,8 @@
 #[cfg(test)]
 mod folds;
 #[cfg(test)]
+mod histories;
+#[cfg(test)]
 mod images;
 #[cfg(test)]
 mod shown;

@@ -1,6 +1,6 @@
 //! Tables that are read, with their rows.
-use crate::tests::shown::write_cells;
-use crate::{load_table, read_table};
+use crate::readings::shown::write_cells;
+use inputs::{load_table, read_table};
 use std::alloc::Global;
 use std::process::Abort;
 use std::test::Fail;

@@ -1,6 +1,6 @@
 //! Command lines.
-use crate::{Settings, read_words};
 use clap::error::ErrorKind;
+use inputs::{Settings, read_words};
 use std::alloc::Global;
 use std::process::Abort;
 

@@ -1,5 +1,5 @@
 //! The longest names, the most columns and the longest texts.
-use crate::{TableFault, read_table};
+use inputs::{TableFault, read_table};
 use std::alloc::Global;
 use std::test::Fail;
 use values::SchemaFault;

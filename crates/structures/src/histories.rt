@@ -1,17 +1,20 @@
 //! What no clause says: that the calls succeed, and that the definitions are the ones that were meant. Each test runs
 //! transactions over one small table and compares with what a person expects. That a refused growth is answered by
 //! `NoMemory`, and by nothing else, shows under `rt try --test --fail-alloc 1..`: each `?` then ends its test.
-use super::*;
 use CommitReply::{Committed, Conflict, Full, TooOld};
 use ConflictRule::{ByColumn, ByRow};
 use Reply::{Begun, Decided, Wrote};
 use WriteReply::{Done, Duplicate, Missing};
+use fixtures::{BASE, item, items, key};
 use model::{Change, CommitReply, ConflictRule, Entry, Record, Write, WriteReply};
+use oracle::{
+    Effects, OrderedTable, Start, canonical_entries, due_reply, is_legal, merged_rows, table_after,
+};
 use std::alloc::{AllocError, Global};
 use std::mem::swap;
 use std::process::Abort;
 use std::test::Fail;
-use values::{Key, NoMemory, Row, Text, Value};
+use values::{NoMemory, Row, Value, ValueRef};
 
 /// The columns are id, which is the key, name and quantity.
 const NAME: usize = 1;
@@ -22,30 +25,9 @@ const AMPLE: u64 = 2_147_483_647;
 
 const RECENT: usize = 64;
 
-fn text(alloc: Global, name: &str) -> Result<Value, AllocError> {
-    Ok(Value::Text(Text::new(String::from_str(alloc, name)?)))
-}
-
-fn row(alloc: Global, id: i64, name: &str, quantity: i64) -> Result<Row, NoMemory> {
-    let mut cells = Vec::new(alloc);
-    cells.push(Value::Int(id))?;
-    cells.push(text(alloc, name)?)?;
-    cells.push(Value::Int(quantity))?;
-    Ok(Row::new(cells))
-}
-
-fn key(alloc: Global, id: i64) -> Result<Key, NoMemory> {
-    let mut cells = Vec::new(alloc);
-    cells.push(Value::Int(id))?;
-    Ok(Key::new(cells))
-}
-
-fn base_table(alloc: Global) -> Result<OrderedTable, NoMemory> {
-    let mut rows = Vec::new(alloc);
-    for (id, name, quantity) in [(10, "Ann", 1), (20, "Bob", 2), (30, "Cid", 3)] {
-        rows.push(row(alloc, id, name, quantity)?)?;
-    }
-    OrderedTable::from_rows(alloc, 1, rows)
+/// The base table, by key.
+fn base(alloc: Global) -> Result<OrderedTable, NoMemory> {
+    OrderedTable::from_rows(alloc, 1, items(alloc, BASE.as_slice())?)
 }
 
 /// The cells with commas between them.
@@ -128,11 +110,15 @@ enum Reply {
 
 fn written(alloc: Global, call: Call) -> Result<Option<Write>, NoMemory> {
     match call {
-        Call::Insert(id, name, quantity) => Ok(Some(Write::Insert(row(
+        Call::Insert(id, name, quantity) => Ok(Some(Write::Insert(item(
             alloc, id, name, quantity,
         )?))),
         Call::Delete(id) => Ok(Some(Write::Delete(key(alloc, id)?))),
-        Call::SetName(id, name) => Ok(Some(Write::Set(key(alloc, id)?, NAME, text(alloc, name)?))),
+        Call::SetName(id, name) => Ok(Some(Write::Set(
+            key(alloc, id)?,
+            NAME,
+            ValueRef::Text(name).copy(alloc)?,
+        ))),
         Call::SetQuantity(id, quantity) => {
             Ok(Some(Write::Set(key(alloc, id)?, QUANTITY, Value::Int(quantity))))
         }
@@ -169,7 +155,7 @@ impl Trial {
     ) -> Result<Trial, NoMemory> {
         let mut trial = Trial {
             alloc,
-            start: Start::new(base_table(alloc)?, 0, limit, recent, rule),
+            start: Start::new(base(alloc)?, 0, limit, recent, rule),
             commits: Vec::new(alloc),
             history: Vec::new(alloc),
             clients: Vec::new(alloc),
@@ -469,7 +455,7 @@ fn numbers_go_on_after_a_cut(rt: HostRuntime) -> Result<(), Fail> {
     assert_eq!(rt; trial.history.len(), 3);
     // A began at the base table, which the cut took away.
     assert!(rt; !trial.is_legal(older.as_slice())?);
-    older.push(base_table(alloc)?)?;
+    older.push(base(alloc)?)?;
     assert!(rt; trial.is_legal(older.as_slice())?);
     let mut other = Vec::new(alloc);
     other.push(OrderedTable::new(alloc))?;
@@ -480,7 +466,7 @@ fn numbers_go_on_after_a_cut(rt: HostRuntime) -> Result<(), Fail> {
 #[test]
 fn a_history_after_a_cut_counts_from_its_base(rt: HostRuntime) -> Result<(), Fail> {
     let alloc = rt.alloc();
-    let start = Start::new(base_table(alloc)?, 5, AMPLE, RECENT, ByColumn);
+    let start = Start::new(base(alloc)?, 5, AMPLE, RECENT, ByColumn);
     let mut older = Vec::new(alloc);
     older.push(OrderedTable::new(alloc))?;
     for (label, begin, commit, legal) in [
@@ -507,7 +493,7 @@ fn a_history_after_a_cut_counts_from_its_base(rt: HostRuntime) -> Result<(), Fai
 #[test]
 fn a_history_with_another_answer_is_not_legal(rt: HostRuntime) -> Result<(), Fail> {
     let alloc = rt.alloc();
-    let start = Start::new(base_table(alloc)?, 0, AMPLE, RECENT, ByColumn);
+    let start = Start::new(base(alloc)?, 0, AMPLE, RECENT, ByColumn);
     let older = Vec::new(alloc);
     for (label, begin, reply, commit, legal) in [
         ("as it was", 0, Done, Committed(1), true),
@@ -551,7 +537,7 @@ fn effects_of(alloc: Global, table: &OrderedTable, calls: &[Call]) -> Result<Eff
 #[test]
 fn entries_stand_in_order_and_merge(rt: HostRuntime) -> Result<(), Fail> {
     let alloc = rt.alloc();
-    let table = base_table(alloc)?;
+    let table = base(alloc)?;
     let first = [
         Call::Delete(20),
         Call::Insert(20, "Bea", 9),
@@ -580,7 +566,7 @@ fn entries_stand_in_order_and_merge(rt: HostRuntime) -> Result<(), Fail> {
 #[test]
 fn tables_and_effects_are_read(rt: HostRuntime) -> Result<(), Fail> {
     let alloc = rt.alloc();
-    let table = base_table(alloc)?;
+    let table = base(alloc)?;
     let bound = key(alloc, 25)?;
     assert_eq!(rt;
         (
@@ -595,7 +581,7 @@ fn tables_and_effects_are_read(rt: HostRuntime) -> Result<(), Fail> {
     assert!(rt; !table.with(&effects)?.all_fit(&effects));
     assert!(rt; effects.conflicts(ByColumn, &effects.copy()?));
     assert!(rt; effects.get(&bound).is_some());
-    let again = Write::Insert(row(alloc, 25, "Eve", 5)?);
+    let again = Write::Insert(item(alloc, 25, "Eve", 5)?);
     assert_eq!(rt; table.reply_to(1, AMPLE, &effects, &again)?, Duplicate);
     effects.store(bound, None)?;
     assert_eq!(rt;

@@ -1,5 +1,5 @@
 //! Tables that are refused for their header.
-use crate::{TableFault, load_table, read_table};
+use inputs::{TableFault, load_table, read_table};
 use std::alloc::Global;
 use std::process::Abort;
 use values::SchemaFault;

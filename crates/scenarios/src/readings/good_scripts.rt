@@ -1,6 +1,6 @@
 //! Scripts that are read, with their calls.
-use crate::tests::shown::{write_cell, write_cells};
-use crate::{Call, ClientCall, Read, read_script, read_table};
+use crate::readings::shown::{write_cell, write_cells};
+use inputs::{Call, ClientCall, Read, read_script, read_table};
 use model::Write;
 use std::alloc::Global;
 use std::process::Abort;

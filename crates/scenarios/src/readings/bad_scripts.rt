@@ -1,6 +1,6 @@
 //! Scripts that are refused, over the columns `id:int:key,name:text,qty:int`.
-use crate::tests::good_scripts::base_schema;
-use crate::{ScriptFault, read_script};
+use crate::readings::good_scripts::base_schema;
+use inputs::{ScriptFault, read_script};
 use std::alloc::Global;
 use std::process::Abort;
 use values::Schema;

@@ -1,5 +1,5 @@
 //! What a fault shows as: its name and its numbers.
-use crate::{ScriptFault, TableFault};
+use inputs::{ScriptFault, TableFault};
 use std::test::Fail;
 use values::SchemaFault;
 

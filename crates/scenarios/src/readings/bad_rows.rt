@@ -1,6 +1,6 @@
 //! Tables that are refused for a row.
-use crate::TableFault;
-use crate::tests::bad_headers::assert_refused;
+use crate::readings::bad_headers::assert_refused;
+use inputs::TableFault;
 
 const COUNTS: [(&str, &[u8], TableFault); 4] = [
     (
