@@ -13,9 +13,9 @@ run:
 test:
 	rt ci && examples/check
 
-# each example through the program, against its replies
+# each example through the proved program, against its replies
 examples:
-	examples/check
+	examples/check proved
 
 fmt:
 	for crate in crates/*/; do (cd $$crate && rt fmt); done
