@@ -35,10 +35,13 @@ fn depths(rt: &(impl Abort + AllocGlobal), count: u32, depth: usize) -> Result<(
     assert_eq!(rt; made.depth(), depth);
     assert_eq!(rt; made.len(), count as usize);
     let kept = up.copy()?;
-    while up.len() > 0 {
-        assert!(rt; up.len() < 1000);
+    for _ in 0..count {
+        let len = up.len();
+        assert!(rt; len > 0);
+        assert!(rt; len < 1000);
         up.remove(alloc, 0)?;
     }
+    assert_eq!(rt; up.len(), 0);
     assert_eq!(rt; up.depth(), 1);
     assert_eq!(rt; up.total(), 0);
     assert_eq!(rt; kept.len(), count as usize);
