@@ -1,5 +1,5 @@
 -- Values of a type may stand in a column of it.
-use Rattle.std.proofs.Common.{ℤ, List, ℕ, false, [], ◌∷◌, ◌++◌, map, IsTrue, FitsSigned}
+use Rattle.std.proofs.Common.{ℤ, List, ℕ, Bool, false, [], ◌∷◌, ◌++◌, map, IsTrue, FitsSigned}
 use Rattle.std.specs.Int.{w64}
 use Rattle.std.specs.List.{AllByRecursion, list_all}
 use Rattle.values.specs.Shape.{has_type}
@@ -25,3 +25,8 @@ truths_fit [] typed = tt
 truths_fit (Truth b ∷ values) typed = (tt, truths_fit values typed)
 truths_fit (Int x ∷ values) typed = absurd (refused typed)
 truths_fit (Text t ∷ values) typed = absurd (refused typed)
+
+-- truths fit, whichever they are
+pub bits_fit : (bs : List Bool) → AllFit column.Bool (map Truth bs)
+bits_fit [] = tt
+bits_fit (b ∷ bs) = (tt, bits_fit bs)

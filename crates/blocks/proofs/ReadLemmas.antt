@@ -1,11 +1,10 @@
 -- Reading texts one after the other, as a loop does.
 use Rattle.std.proofs.Common.{◌≡◌, ℕ, suc, ◌+◌, ◌-◌, ◌<◌, ◌≤◌, List, [], ◌∷◌, ◌++◌, length, Result, Ok, Err, refl, sym, ap, ◌∙◌, append_assoc, arith}
-use Rattle.std.proofs.lemmas.List.{append-nil}
 use Rattle.values.specs.declared.value.Value.{Value}
 use Rattle.values.specs.declared.value.Value.TheVariants.{Text}
 use Rattle.blocks.specs.declared.fault.BlockFault.{BlockFault}
-use Rattle.blocks.specs.declared.fault.BlockFault.TheVariants.{Short, Long, BadText, TextTooLong, BadPadding, NoMemory}
-use Rattle.blocks.specs.Reading.{◌>>=◌, and_then, text_at, texts_at, Fails}
+use Rattle.blocks.specs.declared.fault.BlockFault.TheVariants.{Long}
+use Rattle.blocks.specs.Reading.{◌>>=◌, and_then, text_at, texts_at}
 use Rattle.blocks.proofs.IntsLemmas.{done}
 
 -- values that were read before, and those that are read now

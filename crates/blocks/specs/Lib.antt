@@ -3,4 +3,5 @@ pub mod Column
 pub mod Cuts
 pub mod Laws
 pub mod Payload
+pub mod Places
 pub mod Reading

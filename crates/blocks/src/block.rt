@@ -1,6 +1,6 @@
 //! One column's values, up to 1,024 of them, kept by type.
 ghost use Rattle.std.specs.Prelude.{◌≡◌, ◌<◌, ◌≤◌, ◌++◌, ◌∷◌, [], length, map, Some, slice_get, IfOk, OnOk, OnErr, IsTrue, IsFalse};
-ghost use Rattle.std.specs.List.{list_all, list_any};
+ghost use Rattle.std.specs.List.{All, list_all, list_any};
 ghost use Rattle.values.specs.Lent.{value_of};
 ghost use Rattle.values.specs.Shape.{has_type, is_too_long};
 ghost use Rattle.values.specs.declared.value.ColumnType.TheVariants as column;
@@ -8,8 +8,10 @@ ghost use Rattle.values.specs.declared.value.Value.TheVariants.{Int, Text};
 ghost use Rattle.values.specs.declared.limits.TheConstants.{MAX_BLOCK_VALUES};
 ghost use Rattle.blocks.specs.Cells.{column_of, column_of_values};
 ghost use Rattle.blocks.specs.Column.{AllFit};
+ghost use Rattle.blocks.specs.Places.{IsPlaceOf, value_at};
 
 use crate::bits::Bits;
+use crate::gathering::cells_at;
 use crate::texts::Texts;
 use std::alloc::Global;
 use std::marker::Model;
@@ -67,6 +69,7 @@ impl Block {
     /// # Errors
     ///
     /// `NoMemory` where a growth is refused: the block is as it was.
+    #[inline(always)]
     pub fn push(&mut self, value: ValueRef<'_>) -> Result<(), NoMemory>
         requires few { length self.old.values < MAX_BLOCK_VALUES }
         requires typed { IsTrue (has_type self.old.ty (value_of value)) }
@@ -98,6 +101,26 @@ impl Block {
         Ok(Block { cells })
     }
 
+    /// The values at these places of blocks that have 1,024 values each but for the last, as a block of their own. They
+    /// are at most 1,024, all of the type, no text of them above 4,096 bytes.
+    ///
+    /// # Errors
+    ///
+    /// `NoMemory` where a growth is refused.
+    pub fn gather(
+        alloc: Global,
+        ty: ColumnType,
+        blocks: &[Block],
+        places: &[u32],
+    ) -> Result<Block, NoMemory>
+        requires few { length places.now ≤ MAX_BLOCK_VALUES }
+        requires there { All (IsPlaceOf ty blocks.now) places.now }
+        ensures { IfOk result (λ block. block ≡ record { ty = ty; values = map (value_at blocks.now) places.now }) }
+    {
+        let cells = cells_at(alloc, ty, blocks, places)?;
+        Ok(Block { cells })
+    }
+
     /// The type of the values.
     pub fn column_type(&self) -> ColumnType
         ensures { result ≡ self.now.ty }
@@ -123,6 +146,7 @@ impl Block {
     }
 
     /// The value number `i`, lent.
+    #[inline(always)]
     pub fn get(&self, i: usize) -> ValueRef<'_>
         requires { i < length self.now.values }
         ensures { slice_get self.now.values i ≡ Some (value_of result) }

@@ -10,11 +10,10 @@
 mod bits;
 mod block;
 mod fault;
+mod gathering;
 mod laws;
 mod payload;
 mod reading;
-#[cfg(test)]
-mod tests;
 mod texts;
 
 pub use bits::Bits;

@@ -69,6 +69,7 @@ impl Texts {
     }
 
     /// The text number `i`, lent.
+    #[inline(always)]
     pub fn get(&self, i: usize) -> &str
         requires { i < length self.now }
         ensures text { slice_get self.now i ≡ Some result.now }
@@ -83,6 +84,7 @@ impl Texts {
     /// # Errors
     ///
     /// `NoMemory` where a growth is refused.
+    #[inline(always)]
     pub(crate) fn push(&mut self, text: &str) -> Result<(), NoMemory>
         requires few { length self.old < MAX_BLOCK_VALUES }
         requires short { length text.now ≤ MAX_TEXT_BYTES }
@@ -111,6 +113,7 @@ impl Texts {
 }
 
 /// Where the text number `i` begins: where the one before it ends. One past the last begins where the last ends.
+#[inline(always)]
 fn begin_of(ends: &[u32], i: usize) -> usize
     requires { i ≤ length ends.now }
     ensures { result ≡ slice_index_or (0 ∷ ends.now) i 0 }

@@ -15,8 +15,8 @@ use Rattle.values.specs.Shape.{key_of}
 use Rattle.values.specs.declared.value.Value.{Value}
 use Rattle.values.specs.declared.value.Value.TheVariants.{Bool as Truth}
 use Rattle.blocks.specs.Column.{Column}
-use Rattle.stable.specs.Rows.{cell_at, row_at, rows_of}
-use Rattle.inputs.specs.Filling.{types_in, row_in, rows_in, place_cmp, column_in_order}
+use Rattle.stable.specs.Rows.{cell_at, gathered, row_at, rows_of}
+use Rattle.inputs.specs.Filling.{types_in, row_in, rows_in, place_cmp}
 use Rattle.inputs.specs.Input.{IsAscending}
 use Rattle.inputs.specs.Order.{AreNumbered, IsInOrder, IsLeastRepeat}
 use Rattle.inputs.specs.declared.order.Numbered.{Numbered}
@@ -117,7 +117,7 @@ module _ (columns : List Column) (places : List ℕ) where
   pub rows_at-alone : map (λ row. row.row) rows_at ≡ map (row_at columns) places
   rows_at-alone = map-map (λ (row : Numbered). row.row) (row_in columns) places
 
-  row_at-sorted : (k : ℕ) → k < length places → (cs : List Column) → row_at (map (column_in_order places) cs) k ≡ row_at cs (get_or places k 0)
+  row_at-sorted : (k : ℕ) → k < length places → (cs : List Column) → row_at (map (gathered places) cs) k ≡ row_at cs (get_or places k 0)
   row_at-sorted k lt [] = refl
   row_at-sorted k lt (c ∷ cs) =
       let one : get_or (map (λ place. cell_at place c) places) k (Truth false) ≡ cell_at (get_or places k 0) c = get_or-map (λ (place : ℕ). cell_at place c) places k 0 (Truth false) lt in
@@ -125,19 +125,19 @@ module _ (columns : List Column) (places : List ℕ) where
       (λ i. one i ∷ rest i)
 
   -- the rows that the columns in order show
-  pub rows_of-sorted : rows_of (length places) (map (column_in_order places) columns) ≡ map (row_at columns) places
+  pub rows_of-sorted : rows_of (length places) (map (gathered places) columns) ≡ map (row_at columns) places
   rows_of-sorted =
-      let sorted = map (column_in_order places) columns in
+      let sorted = map (gathered places) columns in
       sym (fill_by_all (row_at sorted) (map (row_at columns) places) (length places) [] (length-map places (row_at columns))
       (λ k lt. get_or-map (row_at columns) places k 0 [] lt ∙ sym (row_at-sorted k lt columns)))
 
-  pub types_in-sorted : (cs : List Column) → types_in (map (column_in_order places) cs) ≡ types_in cs
-  types_in-sorted cs = map-map (λ (c : Column). c.ty) (column_in_order places) cs
+  pub types_in-sorted : (cs : List Column) → types_in (map (gathered places) cs) ≡ types_in cs
+  types_in-sorted cs = map-map (λ (c : Column). c.ty) (gathered places) cs
 
-  pub AreLong-sorted : AreLong (length places) (map (column_in_order places) columns)
+  pub AreLong-sorted : AreLong (length places) (map (gathered places) columns)
   AreLong-sorted i d lt =
-      let within : i < length columns = omega (arith, lt, length-map columns (column_in_order places)) in
-      ap (λ (c : Column). length c.values) (get_or-map (column_in_order places) columns i d d within)
+      let within : i < length columns = omega (arith, lt, length-map columns (gathered places)) in
+      ap (λ (c : Column). length c.values) (get_or-map (gathered places) columns i d d within)
       ∙ length-map places (λ (place : ℕ). cell_at place (get_or columns i d))
 
 -- ---- all places, in another order

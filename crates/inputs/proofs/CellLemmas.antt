@@ -1,12 +1,16 @@
 -- What the bytes of a cell say.
-use Rattle.std.proofs.Common.{◌≡◌, ◌<◌, ◌≤◌, ◌^◌, ℕ, ℤ, pos, neg_ℤ, Bool, true, false, ◌&&◌, List, [], ◌∷◌, length, drop, get_or, Option, Some, None, Result, Ok, Err, refl, sym, ap, arith, inl, inr, nat_lt, nat_le, w64, zero, suc, lit<}
+use Rattle.std.proofs.Common.{◌≡◌, ◌<◌, ◌≤◌, ◌^◌, ℕ, ℤ, pos, neg_ℤ, Bool, true, false, ◌&&◌, ◌==◌, List, [], ◌∷◌, length, take, drop, get_or, Option, Some, None, Result, Ok, Err, refl, sym, ap, ◌∙◌, arith, inl, inr, nat_lt, nat_le, w64, to_z, of_z, ◌-ℤ◌, zero, suc, lit<}
 use Rattle.std.proofs.lemmas.Bool.{cases_Bool, cases_eq, eq-eqb, ne_eqb}
 use Rattle.std.proofs.lemmas.Bool.Decides.{nat_tests}
+use Rattle.std.proofs.Math.IntN.{+ℤ_idl}
+use Rattle.std.proofs.lemmas.Int.{to_z-of_z}
+use Rattle.std.proofs.lemmas.List.{length-take}
 use Rattle.std.proofs.lemmas.Str.{IsUtf8-from_is_utf8, is_utf8-from_IsUtf8, IsUtf8-from_ascii}
-use Rattle.std.proofs.lemmas.Str.Parse.{IsNumeralModel, numerals_by_value, tells_all_ascii_digits, parse_signed_minus, parse_signed_plain, parse_signed_plus}
+use Rattle.std.proofs.lemmas.Str.Parse.{IsNumeralModel, digits_value_short, numerals_by_value, tells_all_ascii_digits, parse_signed_minus, parse_signed_plain, parse_signed_plus}
+use Rattle.std.specs.Option.{IfSome}
 use Rattle.std.specs.Result.{OkIff, MatchResult, result_ok}
 use Rattle.std.specs.Str.{IsUtf8, is_utf8, all_ascii_digits}
-use Rattle.std.specs.Str.Parse.{ParsesSigned, digits_value, starts_with_minus, without_leading_sign}
+use Rattle.std.specs.Str.Parse.{AllDigits, ParsesSigned, digits_value, starts_with_minus, without_leading_sign}
 use Rattle.std.specs.Char.{is_ascii_digit}
 use Rattle.values.specs.declared.value.ColumnType.TheVariants as column
 use Rattle.values.specs.declared.value.Value.TheVariants.{Text}
@@ -146,3 +150,54 @@ signed-none false ds h = let no : (is_numeral ds && nat_lt (digits_value 10 ds) 
 pub int_of-no_text : (bs : List ℕ) → ¬ (IsUtf8 bs) → int_of bs ≡ None
 int_of-no_text bs h =
     signed-none (starts_with_minus bs) (without_leading_sign bs) (λ e. h (IsUtf8-from_ascii bs (sign-ascii bs (numeral-digits (without_leading_sign bs) e).0)))
+
+-- ---- a number of few digits
+
+-- digits of any value but the last few fit
+pub number-step : (bs : List ℕ) (i : ℕ) → i < length bs → length bs ≤ 18 → AllDigits 10 (take i bs) → digits_value 10 (take i bs) < 10 ^ 17
+number-step bs i lt few all =
+    let short : length (take i bs) ≤ 17 = omega (arith, lt, few, length-take i bs) in
+    digits_value_short numerals (take i bs) 17 (numerals.from (take i bs) all) short
+
+pub number-small : (bs : List ℕ) → length bs ≤ 18 → AllDigits 10 bs → digits_value 10 bs < 2 ^ 63
+number-small bs few all =
+    let low : digits_value 10 bs < 10 ^ 18 = digits_value_short numerals bs 18 (numerals.from bs all) few in
+    omega (arith, low)
+
+pub numeral-true : (bs : List ℕ) → 0 < length bs → AllDigits 10 bs → is_numeral bs ≡ true
+numeral-true bs some all = is_numeral-true bs (numerals.from bs all) some
+
+pub some-from : (n : ℕ) → (n == 0) ≡ false → 0 < n
+some-from zero h = cc h
+some-from (suc n) h = omega arith
+
+-- no sign is a digit
+first-digit : (bs : List ℕ) → is_numeral bs ≡ true → (get_or bs 0 0 ≡ 43 → ⊥) × (get_or bs 0 0 ≡ 45 → ⊥)
+first-digit [] h = cc h
+first-digit (c ∷ ds) h =
+    let digit = (and-parts (is_ascii_digit c) (all_ascii_digits ds) h).0 in
+    (λ e. cc (rw e at digit), λ e. cc (rw e at digit))
+
+pub int_of-plain : (bs : List ℕ) → is_numeral bs ≡ true → digits_value 10 bs < 2 ^ 63 → int_of bs ≡ Some (pos (digits_value 10 bs))
+int_of-plain bs h small =
+    let signs = first-digit bs h in
+    rw (ne_eqb _ _ signs.1, ne_eqb _ _ signs.0, h, lt_true _ _ small) refl
+
+pub plain-some : (bs : List ℕ) (r : Option ℤ) → IfSome r (λ n. is_numeral bs ≡ true) → IfSome r (λ n. n ≡ pos (digits_value 10 bs)) → IfSome r (λ n. digits_value 10 bs < 2 ^ 63) → IfSome r (λ n. int_of bs ≡ Some n)
+plain-some bs None digits value small = tt
+plain-some bs (Some n) digits value small = int_of-plain bs digits small ∙ ap Some (sym value)
+
+-- a sign that stands first, and digits after it
+pub int_of-minus : (bs : List ℕ) → (get_or bs 0 0 == 45) ≡ true → is_numeral (drop 1 bs) ≡ true → digits_value 10 (drop 1 bs) < 2 ^ 63 → int_of bs ≡ Some (neg_ℤ (pos (digits_value 10 (drop 1 bs))))
+int_of-minus bs e h small = rw (e, h, le_true (digits_value 10 (drop 1 bs)) (2 ^ 63) (omega (arith, small))) refl
+
+negated : (v : ℕ) → v < 2 ^ 63 → to_z w64 (of_z w64 (neg_ℤ (pos v))) ≡ neg_ℤ (pos v)
+negated zero small = to_z-of_z w64 (pos 0) (omega arith)
+negated (suc k) small = to_z-of_z w64 (neg_ℤ (pos (suc k))) (omega (arith, small))
+
+pub value-negated : (v : ℕ) (z : ℤ) → z ≡ pos v → v < 2 ^ 63 → to_z w64 (of_z w64 (pos 0 -ℤ to_z w64 (of_z w64 z))) ≡ neg_ℤ (pos v)
+value-negated v z e small =
+    ap (λ x. to_z w64 (of_z w64 (pos 0 -ℤ to_z w64 (of_z w64 x)))) e
+    ∙ ap (λ x. to_z w64 (of_z w64 (pos 0 -ℤ x))) (to_z-of_z w64 (pos v) (omega (arith, small)))
+    ∙ ap (λ x. to_z w64 (of_z w64 x)) (+ℤ_idl (neg_ℤ (pos v)))
+    ∙ negated v small

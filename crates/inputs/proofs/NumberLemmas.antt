@@ -1,11 +1,12 @@
 -- Places beside the numbers that are their keys.
-use Rattle.std.proofs.Common.{◌≡◌, ◌∙◌, ◌+◌, ◌<◌, ℕ, true, false, List, [], ◌∷◌, length, map, get_or, Ordering, Less, Equal, Greater, is_lt, refl, sym, ap, arith}
+use Rattle.std.proofs.Common.{◌≡◌, ◌∙◌, ◌+◌, ◌-◌, ◌<◌, ◌≤◌, ℕ, true, false, List, [], ◌∷◌, length, map, get_or, Ordering, Less, Equal, Greater, is_lt, refl, sym, ap, arith, inl, inr}
 use Rattle.std.specs.Cmp.{IsStrictWeakOrder}
 use Rattle.std.specs.List.{All, range_with_len}
 use Rattle.std.specs.List.Sorted.{IsPermutation, IsSorted}
-use Rattle.std.specs.Ordering.{nat_cmp, ordering_then}
+use Rattle.std.specs.Ordering.{int_cmp, is_eq, nat_cmp, ordering_reverse, ordering_then}
 use Rattle.std.proofs.lemmas.Cmp.{int_cmp_total, nat_cmp_total, on_total, then_total}
-use Rattle.std.proofs.lemmas.List.{get_or-map, length-map, map-id}
+use Rattle.std.proofs.lemmas.Bool.{cases_eq}
+use Rattle.std.proofs.lemmas.List.{get_or-map, get_or_default, length-map, map-id}
 use Rattle.std.proofs.lemmas.List.FromFn.{length-map-range_with_len, get_or-map-range_with_len}
 use Rattle.std.proofs.lemmas.List.Sorted.{ranks_by, All-permutation, IsPermutation-map}
 use Rattle.std.proofs.lemmas.Option.{slice_get-get_or}
@@ -19,11 +20,41 @@ use Rattle.blocks.specs.Column.{Column}
 use Rattle.stable.specs.Column.{all_may_stand}
 use Rattle.stable.specs.Rows.{cell_at, row_at}
 use Rattle.stable.proofs.CallerLemmas.{stands_at}
-use Rattle.inputs.specs.Filling.{keyed_at, keyed_cmp, number_cmp, number_in, place_cmp}
+use Rattle.inputs.specs.Filling.{keyed_at, keyed_cmp, key_number_cmp, number_cmp, number_in, place_cmp, row_in, AreApart, AreDistinct, AreKeysApart}
+use Rattle.inputs.specs.Input.{same_key}
 use Rattle.inputs.specs.declared.ascent.Keyed.{Keyed}
+use Rattle.inputs.proofs.AscentLemmas.{rows_at-get}
 
 pub keyed_cmp_weak : IsStrictWeakOrder (λ a b. is_lt (keyed_cmp a b))
 keyed_cmp_weak = ranks_by (then_total (on_total (λ (k : Keyed). k.key) int_cmp_total) (on_total (λ (k : Keyed). k.place) nat_cmp_total)) (λ (k : Keyed). k)
+
+pub key_number_cmp_weak : IsStrictWeakOrder (λ a b. is_lt (key_number_cmp a b))
+key_number_cmp_weak = ranks_by (on_total (λ (k : Keyed). k.key) int_cmp_total) (λ (k : Keyed). k)
+
+then-false : (o p q : Ordering) → p ≡ ordering_reverse o → is_lt o ≡ false → is_eq p ≡ false → is_lt (ordering_then o q) ≡ false
+then-false Less p q e h g = cc h
+then-false Equal p q e h g = cc (rw e at g)
+then-false Greater p q e h g = refl
+
+-- where no two have one number, their order is that of the numbers
+pub keys-sorted : (keyed : List Keyed) → IsSorted key_number_cmp keyed → AreKeysApart keyed → IsSorted keyed_cmp keyed
+keys-sorted keyed up apart j d low lt =
+    let a = get_or keyed j d in
+    let b = get_or keyed (j + 1) d in
+    then-false (int_cmp b.key a.key) (int_cmp a.key b.key) (nat_cmp b.place a.place) (int_cmp_total.antisymm a.key b.key) (up j d low lt) (apart j d lt)
+
+-- one neighbour more
+pub apart-step : (keyed : List Keyed) (i : ℕ) (e : Keyed) → 1 ≤ i → i < length keyed → is_eq (int_cmp (get_or keyed (i - 1) e).key (get_or keyed i e).key) ≡ false
+    → ((k : ℕ) (d : Keyed) → k + 1 < i → is_eq (int_cmp (get_or keyed k d).key (get_or keyed (k + 1) d).key) ≡ false)
+    → (k : ℕ) (d : Keyed) → k + 1 < i + 1 → is_eq (int_cmp (get_or keyed k d).key (get_or keyed (k + 1) d).key) ≡ false
+apart-step keyed i e some within here so k d lt = elim (cases_eq (k + 1) i) [
+  | inl at ↦
+      let before : i - 1 ≡ k = omega (arith, at) in
+      (λ t. is_eq (int_cmp (get_or_default keyed k d e (omega (arith, at, within)) t).key (get_or_default keyed (k + 1) d e (omega (arith, at, within)) t).key))
+      ∙ (λ t. is_eq (int_cmp (get_or keyed (sym before t) e).key (get_or keyed (at t) e).key))
+      ∙ here
+  | inr n ↦ so k d (omega (arith, n, lt))
+]
 
 -- a value of a column of numbers is its number
 is_number : (v : Value) → has_type column.Int v ≡ true → v ≡ Int (number_in v)
@@ -71,6 +102,21 @@ module _ (c : Column) (count : ℕ) (int : c.ty ≡ column.Int) (filled : length
         ∙ (λ i. is_lt (keyed_cmp (sym is_b.0 i) (sym is_a.0 i)))
         ∙ up j e low within
 
+    pub apart-places : AreKeysApart keyed → AreApart c (map (λ k. k.place) keyed)
+    apart-places apart j lt =
+        let within : j + 1 < length keyed = omega (arith, lt, length-map keyed (λ (k : Keyed). k.place)) in
+        let e : Keyed = keyed_at c 0 in
+        let a = get_or keyed j e in
+        let b = get_or keyed (j + 1) e in
+        let is_a = all-of j e (omega (arith, within)) in
+        let is_b = all-of (j + 1) e within in
+        let at_a = get_or-map (λ (k : Keyed). k.place) keyed j e 0 (omega (arith, within)) in
+        let at_b = get_or-map (λ (k : Keyed). k.place) keyed (j + 1) e 0 within in
+        (λ i. is_eq (value_cmp (cell_at (at_a i) c) (cell_at (at_b i) c)))
+        ∙ (λ i. is_eq (value_cmp (cell-number a.place is_a.1 i) (cell-number b.place is_b.1 i)))
+        ∙ (λ i. is_eq (int_cmp (sym is_a.0 i).key (sym is_b.0 i).key))
+        ∙ apart j e within
+
 pub places-moved : (c : Column) (count : ℕ) (keyed : List Keyed) → IsPermutation (map (keyed_at c) (range_with_len 0 count)) keyed → IsPermutation (range_with_len 0 count) (map (λ k. k.place) keyed)
 places-moved c count keyed moved =
     let places = λ (k : Keyed). k.place in
@@ -91,3 +137,15 @@ place_cmp-one columns c a b lt is =
 
 pub sorted-one : (columns : List Column) (c : Column) (places : List ℕ) → 0 < length columns → c ≡ get_or columns 0 c → IsSorted (number_cmp c) places → IsSorted (place_cmp 1 columns) places
 sorted-one columns c places lt is up j d low within = ap is_lt (place_cmp-one columns c (get_or places (j + 1) d) (get_or places j d) lt is) ∙ up j d low within
+
+same_key-one : (columns : List Column) (c : Column) (a b : ℕ) → 0 < length columns → c ≡ get_or columns 0 c → same_key 1 (row_in columns a) (row_in columns b) ≡ is_eq (value_cmp (cell_at a c) (cell_at b c))
+same_key-one columns c a b lt is =
+    (λ i. is_eq (key_cmp (key-one columns a c lt i) (key-one columns b c lt i)))
+    ∙ (λ i. is_eq (key_cmp (cell_at a (sym is i) ∷ []) (cell_at b (sym is i) ∷ [])))
+    ∙ ap is_eq (then_Equal (value_cmp (cell_at a c) (cell_at b c)))
+
+pub distinct-one : (columns : List Column) (c : Column) (places : List ℕ) → 0 < length columns → c ≡ get_or columns 0 c → AreApart c places → AreDistinct 1 columns places
+distinct-one columns c places lt is apart k d within =
+    (λ i. same_key 1 (rows_at-get columns places k d (omega (arith, within)) i) (rows_at-get columns places (k + 1) d within i))
+    ∙ same_key-one columns c (get_or places k 0) (get_or places (k + 1) 0) lt is
+    ∙ apart k within

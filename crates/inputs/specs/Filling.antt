@@ -1,7 +1,7 @@
 -- Columns that are filled record by record, and their rows in an order.
-use Rattle.std.specs.Prelude.{◌≡◌, ℕ, ℤ, pos, ◌+◌, ◌≤◌, List, [], ◌∷◌, ◌++◌, Ok, length, map}
+use Rattle.std.specs.Prelude.{◌≡◌, ℕ, ℤ, pos, ◌+◌, ◌<◌, ◌≤◌, false, None, List, [], ◌∷◌, ◌++◌, Ok, length, map, slice_index_or}
 use Rattle.std.specs.List.{range_with_len}
-use Rattle.std.specs.Ordering.{int_cmp, nat_cmp, ordering_then}
+use Rattle.std.specs.Ordering.{int_cmp, is_eq, nat_cmp, ordering_then}
 use Rattle.std.specs.declared.cmp.Ordering.{Ordering}
 use Rattle.values.specs.Orders.{key_cmp, value_cmp}
 use Rattle.values.specs.Shape.{key_of}
@@ -13,6 +13,7 @@ use Rattle.values.specs.declared.value.Value.TheVariants.{Int, Text, Bool as Tru
 use Rattle.blocks.specs.Column.{Column}
 use Rattle.stable.specs.Rows.{cell_at, row_at}
 use Rattle.inputs.specs.Input.{row_of}
+use Rattle.inputs.specs.Order.{IsLeastRepeat}
 use Rattle.inputs.specs.Reading.{Fields}
 use Rattle.inputs.specs.declared.ascent.Keyed.{Keyed}
 use Rattle.inputs.specs.declared.order.Numbered.{Numbered}
@@ -50,10 +51,6 @@ rows_in count columns = map (row_in columns) (range_with_len 0 count)
 
 -- ---- orders
 
--- the values of a column at these places
-abbrev pub column_in_order : List ℕ → Column → Column
-column_in_order places c = record { ty = c.ty; values = map (λ place. cell_at place c) places }
-
 -- how two places stand, by their rows' keys and then by themselves
 abbrev pub place_cmp : ℕ → List Column → ℕ → ℕ → Ordering
 place_cmp key_cols columns a b =
@@ -73,6 +70,24 @@ keyed_at c place = record { key = number_in (cell_at place c); place = place }
 abbrev pub keyed_cmp : Keyed → Keyed → Ordering
 keyed_cmp a b = ordering_then (int_cmp a.key b.key) (nat_cmp a.place b.place)
 
+-- by the numbers alone
+abbrev pub key_number_cmp : Keyed → Keyed → Ordering
+key_number_cmp a b = int_cmp a.key b.key
+
+-- no two neighbours have one number
+abbrev pub AreKeysApart : List Keyed → Type 0
+AreKeysApart keyed =
+    (k : ℕ) (d : Keyed) → k + 1 < length keyed → is_eq (int_cmp (slice_index_or keyed k d).key (slice_index_or keyed (k + 1) d).key) ≡ false
+
 -- how two places stand, by their values in this column and then by themselves
 abbrev pub number_cmp : Column → ℕ → ℕ → Ordering
 number_cmp c a b = ordering_then (value_cmp (cell_at a c) (cell_at b c)) (nat_cmp a b)
+
+-- no two neighbours have one value in this column
+abbrev pub AreApart : Column → List ℕ → Type 0
+AreApart c places =
+    (k : ℕ) → k + 1 < length places → is_eq (value_cmp (cell_at (slice_index_or places k 0) c) (cell_at (slice_index_or places (k + 1) 0) c)) ≡ false
+
+-- no row has the key of the one before it
+abbrev pub AreDistinct : ℕ → List Column → List ℕ → Type 0
+AreDistinct key_cols columns places = IsLeastRepeat key_cols (map (row_in columns) places) (length places) None

@@ -1,6 +1,6 @@
 //! The rows of columns in ascending key, and the first record whose key an earlier one has. Places count from 0, and the
 //! row at place 0 is that of record 2.
-ghost use Rattle.std.specs.Prelude.{◌≡◌, ◌≢◌, ◌<◌, ◌≤◌, ◌+◌, ◌^◌, IfOk, IfErr, IsTrue, None, ℕ, map, length};
+ghost use Rattle.std.specs.Prelude.{◌≡◌, ◌≢◌, ◌<◌, ◌≤◌, ◌+◌, ◌^◌, IfOk, IfErr, OnOk, IsTrue, None, ℕ, map, length};
 ghost use Rattle.std.specs.List.{All, range_with_len};
 ghost use Rattle.std.specs.List.Sorted.{IsPermutation, IsSorted};
 ghost use Rattle.std.specs.declared.cmp.Ordering.TheVariants.{Less};
@@ -8,8 +8,8 @@ ghost use Rattle.values.specs.Lent.{value_of};
 ghost use Rattle.values.specs.Orders.{key_cmp};
 ghost use Rattle.values.specs.Shape.{key_of};
 ghost use Rattle.values.specs.declared.limits.TheConstants.{MAX_ROWS};
-ghost use Rattle.stable.specs.Rows.{cell_at, row_at, rows_of};
-ghost use Rattle.inputs.specs.Filling.{column_in_order, keyed_at, number_cmp, place_cmp, row_in, rows_in, types_in};
+ghost use Rattle.stable.specs.Rows.{cell_at, gathered, row_at, rows_of};
+ghost use Rattle.inputs.specs.Filling.{keyed_at, keyed_cmp, number_cmp, AreApart, AreDistinct, AreKeysApart, place_cmp, row_in, rows_in, types_in};
 ghost use Rattle.inputs.specs.Input.{first_repeat, same_key, IsAscending};
 ghost use Rattle.inputs.specs.Order.{lower_repeat, IsLeastRepeat, IsRepeatFault};
 
@@ -24,6 +24,14 @@ use values::{ColumnType, NoMemory, ValueRef};
 pub(crate) struct Keyed {
     key: i64,
     place: u32,
+}
+
+/// The places of rows, by their keys.
+#[derive(Drop)]
+struct KeyOrder {
+    places: Vec<u32>,
+    /// Whether it is known that no two rows have one key.
+    apart: bool,
 }
 
 /// The columns of so many rows, with the rows in ascending key.
@@ -70,10 +78,10 @@ fn sorted_by_key(
     ensures filled { IfOk result (λ sorted. All (λ c. length c.values ≡ count) sorted.items) }
     ensures err { IfErr result (λ fault. fault ≢ TableFault.NoMemory → IsRepeatFault key_cols (rows_in count columns.now) fault) }
 {
-    let places = places_by_key(alloc, columns, key_cols, count)?;
-    match least_repeat(columns, key_cols, places.as_slice()) {
+    let order = places_by_key(alloc, columns, key_cols, count)?;
+    match repeat_in(columns, key_cols, &order) {
         Some(number) => Err(TableFault::RepeatedKey(number)),
-        None => Ok(columns_in_order(alloc, columns, places.as_slice())?),
+        None => Ok(columns_in_order(alloc, columns, order.places.as_slice())?),
     }
 }
 
@@ -105,6 +113,7 @@ fn compare_keys(columns: &[Column], key_cols: usize, i: usize, j: usize) -> Orde
 }
 
 /// The value of a column at a place, and false past the last.
+#[inline(always)]
 fn cell_at(column: &Column, place: usize) -> ValueRef<'_>
     ensures { value_of result ≡ cell_at place column.now }
 {
@@ -121,12 +130,13 @@ fn places_by_key(
     columns: &[Column],
     key_cols: usize,
     count: usize,
-) -> Result<Vec<u32>, NoMemory>
+) -> Result<KeyOrder, NoMemory>
     requires key { key_cols ≤ length columns.now }
     requires few { count ≤ MAX_ROWS }
     requires filled { All (λ c. length c.values ≡ count) columns.now }
-    ensures each_once { IfOk result (λ places. IsPermutation (range_with_len 0 count) places.items) }
-    ensures sorted { IfOk result (λ places. IsSorted (place_cmp key_cols columns.now) places.items) }
+    ensures each_once { IfOk result (λ order. IsPermutation (range_with_len 0 count) order.places.items) }
+    ensures sorted { IfOk result (λ order. IsSorted (place_cmp key_cols columns.now) order.places.items) }
+    ensures apart { IfOk result (λ order. IsTrue order.apart → AreDistinct key_cols columns.now order.places.items) }
 {
     if key_cols == 1 {
         let column = &columns[0];
@@ -134,7 +144,11 @@ fn places_by_key(
             return places_by_number(alloc, column, count);
         }
     }
-    places_by_cells(alloc, columns, key_cols, count)
+    let places = places_by_cells(alloc, columns, key_cols, count)?;
+    Ok(KeyOrder {
+        places,
+        apart: false,
+    })
 }
 
 /// The same, by comparing through the columns.
@@ -157,20 +171,48 @@ fn places_by_cells(
 }
 
 /// The same where the key is one number, which stands beside its place as long as they are sorted.
-fn places_by_number(alloc: Global, column: &Column, count: usize) -> Result<Vec<u32>, NoMemory>
+fn places_by_number(alloc: Global, column: &Column, count: usize) -> Result<KeyOrder, NoMemory>
     requires int { column.now.ty ≡ ColumnType.Int }
     requires few { count ≤ MAX_ROWS }
     requires filled { length column.now.values ≡ count }
-    ensures each_once { IfOk result (λ places. IsPermutation (range_with_len 0 count) places.items) }
-    ensures sorted { IfOk result (λ places. IsSorted (number_cmp column.now) places.items) }
+    ensures each_once { IfOk result (λ order. IsPermutation (range_with_len 0 count) order.places.items) }
+    ensures sorted { IfOk result (λ order. IsSorted (number_cmp column.now) order.places.items) }
+    ensures apart { IfOk result (λ order. IsTrue order.apart → AreApart column.now order.places.items) }
 {
     // Every value is a number, since each value of a column is of its type.
     let known = column.len();
     prove!(known == count);
     let mut keyed = keyed_places(alloc, column, count)?;
-    keyed.sort_by(|a, b| a.key.cmp(&b.key).then(a.place.cmp(&b.place)))?;
+    let apart = sort_keyed(&mut keyed)?;
     let places = places_alone(alloc, keyed.as_slice())?;
-    Ok(places)
+    Ok(KeyOrder { places, apart })
+}
+
+/// Sorts places by their numbers, and those of one number in turn. Says whether no two have one number: then a sort by
+/// the numbers alone, which is faster, did it.
+fn sort_keyed(keyed: &mut Vec<Keyed>) -> Result<bool, NoMemory>
+    ensures each_once { OnOk result (IsPermutation keyed.old.items keyed.new.items) }
+    ensures sorted { OnOk result (IsSorted keyed_cmp keyed.new.items) }
+    ensures apart { IfOk result (λ apart. IsTrue apart → AreKeysApart keyed.new.items) }
+{
+    keyed.sort_unstable_by(|a, b| a.key.cmp(&b.key));
+    if are_keys_apart(keyed.as_slice()) {
+        return Ok(true);
+    }
+    keyed.sort_by(|a, b| a.key.cmp(&b.key).then(a.place.cmp(&b.place)))?;
+    Ok(false)
+}
+
+/// Whether no two neighbours have one number.
+fn are_keys_apart(keyed: &[Keyed]) -> bool
+    ensures { IsTrue result → AreKeysApart keyed.now }
+{
+    for i in 1..keyed.len() {
+        if keyed[i - 1].key.cmp(&keyed[i].key).is_eq() {
+            return false;
+        }
+    }
+    true
 }
 
 /// Each of so many places, with its number.
@@ -219,7 +261,19 @@ fn places_in_turn(alloc: Global, count: usize) -> Result<Vec<u32>, NoMemory>
     Ok(places)
 }
 
-/// Of the rows that have the key of the row before them in this order, the least number of a record.
+/// Of the rows that have the key of another before them in this order, the least number of a record.
+fn repeat_in(columns: &[Column], key_cols: usize, order: &KeyOrder) -> Option<u64>
+    requires key { key_cols ≤ length columns.now }
+    requires apart { IsTrue order.now.apart → AreDistinct key_cols columns.now order.now.places.items }
+    ensures { IsLeastRepeat key_cols (map (row_in columns.now) order.now.places.items) (length order.now.places.items) result }
+{
+    if order.apart {
+        return None;
+    }
+    least_repeat(columns, key_cols, order.places.as_slice())
+}
+
+/// The same, found by comparing each with the one behind it.
 fn least_repeat(columns: &[Column], key_cols: usize, places: &[u32]) -> Option<u64>
     requires { key_cols ≤ length columns.now }
     ensures { IsLeastRepeat key_cols (map (row_in columns.now) places.now) (length places.now) result }
@@ -261,27 +315,11 @@ fn columns_in_order(
 ) -> Result<Vec<Column>, NoMemory>
     requires few { length places.now ≤ MAX_ROWS }
     requires within { All (λ c. All (λ place. place < length c.values) places.now) columns.now }
-    ensures { IfOk result (λ sorted. sorted.items ≡ map (column_in_order places.now) columns.now) }
+    ensures { IfOk result (λ sorted. sorted.items ≡ map (gathered places.now) columns.now) }
 {
     let mut sorted = Vec::with_capacity(alloc, columns.len())?;
     for column in columns {
-        sorted.push(column_in_order(alloc, column, places)?)?;
-    }
-    Ok(sorted)
-}
-
-/// One of them.
-fn column_in_order(alloc: Global, column: &Column, places: &[u32]) -> Result<Column, NoMemory>
-    requires few { length places.now ≤ MAX_ROWS }
-    requires within { All (λ place. place < length column.now.values) places.now }
-    ensures { IfOk result (λ sorted. sorted ≡ column_in_order places.now column.now) }
-{
-    let count = column.len();
-    let mut sorted = Column::new(alloc, column.column_type());
-    for place in places {
-        let at = *place as usize;
-        prove!(at < count);
-        sorted.push(column.get(at))?;
+        sorted.push(column.gather(places)?)?;
     }
     Ok(sorted)
 }

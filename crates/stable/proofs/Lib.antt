@@ -1,6 +1,7 @@
 mod ExtendLemmas
 mod BelowLemmas
 mod FaultLemmas
+mod GatherLemmas
 mod ColumnLemmas
 mod ColumnsLemmas
 mod PushLemmas

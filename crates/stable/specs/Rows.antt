@@ -17,6 +17,10 @@ use Rattle.stable.specs.Stable.{Stable, IsStable}
 abbrev pub cell_at : ℕ → Column → Value
 cell_at i c = get_or c.values i (Truth false)
 
+-- the values of a column at these places
+abbrev pub gathered : List ℕ → Column → Column
+gathered places c = record { ty = c.ty; values = map (λ place. cell_at place c) places }
+
 -- the row number `i`: that value of each column
 abbrev pub row_at : List Column → ℕ → Row
 row_at columns i = map (cell_at i) columns

@@ -1,9 +1,11 @@
 //! One column of a table, in blocks of 1,024 values.
 ghost use Rattle.std.specs.Prelude.{◌≡◌, ℕ, ◌<◌, ◌≤◌, ◌+◌, ◌*◌, ◌%◌, ◌^◌, ◌++◌, ◌∷◌, [], length, take, drop, Some, slice_get, IfOk, OnOk, OnErr, IsTrue, IsFalse};
+ghost use Rattle.std.specs.List.{All};
 ghost use Rattle.values.specs.declared.limits.TheConstants.{MAX_BLOCK_VALUES};
 ghost use Rattle.values.specs.Lent.{value_of};
 ghost use Rattle.values.specs.Shape.{has_type, is_too_long};
 ghost use Rattle.stable.specs.Column.{IsInBlocks, all_blocks, all_may_stand, block_at, joined};
+ghost use Rattle.stable.specs.Rows.{gathered};
 
 use blocks::Block;
 use std::alloc::Global;
@@ -52,6 +54,7 @@ impl Column {
     /// # Errors
     ///
     /// `NoMemory` where a growth is refused: the column is as it was.
+    #[inline(always)]
     pub fn push(&mut self, value: ValueRef<'_>) -> Result<(), NoMemory>
         requires room { length self.old.values < 2 ^ 63 }
         requires typed { IsTrue (has_type self.old.ty (value_of value)) }
@@ -111,6 +114,28 @@ impl Column {
         Ok(())
     }
 
+    /// The values at these places, in this order, as a column of their own. Values go from one block into another, block
+    /// by block.
+    ///
+    /// # Errors
+    ///
+    /// `NoMemory` where a growth is refused.
+    pub fn gather(&self, places: &[u32]) -> Result<Column, NoMemory>
+        requires few { length places.now < 2 ^ 63 }
+        requires within { All (λ place. place < length self.now.values) places.now }
+        ensures { IfOk result (λ column. column ≡ gathered places.now self.now) }
+    {
+        let mut gathered = Column::new(self.alloc, self.ty);
+        for number in 0..places.len().div_ceil(MAX_BLOCK_VALUES) {
+            let from = MAX_BLOCK_VALUES * number;
+            let to = places.len().min(from + MAX_BLOCK_VALUES);
+            let part = &places[from..to];
+            let block = Block::gather(self.alloc, self.ty, self.blocks.as_slice(), part)?;
+            gathered.push_block(block)?;
+        }
+        Ok(gathered)
+    }
+
     /// The type of the values.
     pub fn column_type(&self) -> ColumnType
         ensures { result ≡ self.now.ty }
@@ -127,6 +152,7 @@ impl Column {
     }
 
     /// The value number `i`, lent, in constant time.
+    #[inline(always)]
     pub fn get(&self, i: usize) -> ValueRef<'_>
         requires { i < length self.now.values }
         ensures { slice_get self.now.values i ≡ Some (value_of result) }
@@ -144,6 +170,7 @@ impl Column {
 }
 
 /// Puts a value into the last of the blocks of so many values, or into a new one where that is full.
+#[inline(always)]
 fn add_value(
     alloc: Global,
     ty: ColumnType,

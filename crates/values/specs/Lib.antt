@@ -1,3 +1,4 @@
 pub mod Lent
 pub mod Orders
 pub mod Shape
+pub mod Shown

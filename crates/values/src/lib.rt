@@ -11,8 +11,6 @@ mod fault;
 pub mod limits;
 mod row;
 mod schema;
-#[cfg(test)]
-mod tests;
 mod text;
 mod value;
 

@@ -11,7 +11,7 @@ pub returns : goal.returns
 returns c =
     let bs = c.args.bytes.now in
     let same = c.in-Ok.ensures.cases.0 in
-    let no_plus : (get_or bs 0 0 == 43) ≡ false = sym c.begins_with_plus.ensures ∙ c.if-begins_with_plus.false in
+    let no_plus : (get_or bs 0 0 == 43) ≡ false = sym c.begins_with.ensures ∙ c.if-begins_with.false in
     let other : get_or bs 0 0 ≢ 43 = λ e. clash (sym (eq-eqb (get_or bs 0 0) 43 e) ∙ no_plus) in
     c.ok.ensures.value ∙ sym (position_of-parse bs c.parse.result (rw same at c.parse.ensures.value.0) other)
   where

@@ -1,12 +1,11 @@
-use Rattle.std.proofs.Common.{◌≡◌, None, List, length, sym, ap, subst, ◌∙◌, arith}
+use Rattle.std.proofs.Common.{◌≡◌, None, List, length, sym, ap, subst, ◌∙◌}
 use Rattle.std.specs.List.{All}
 use Rattle.values.specs.Shape.{Columns, list_fault}
 use Rattle.values.specs.declared.row.Row.{Row}
 use Rattle.values.specs.declared.value.ColumnType.{ColumnType}
-use Rattle.stable.specs.Rows.{first_columns}
 use Rattle.stable.proofs.FaultLemmas.{no_build_fault}
 use Rattle.stable.proofs.StableLemmas.{all_shaped}
-use Rattle.stable.proofs.WholeLemmas.{AreWhole, all_typed, all_even, all_rows, all_stable}
+use Rattle.stable.proofs.WholeLemmas.{all_whole, all_typed, all_even, all_rows, all_stable}
 use Rattle.stable.proofs.table.StableTable.of_rows.Goals as goal
 
 pub columns_of-requires : goal.columns_of-requires
@@ -19,10 +18,8 @@ of_columns-requires-clause-typed c =
     let schema = c.args.schema in
     let rows = c.args.rows.now in
     let columns = c.in_ok-columns.columns.items in
-    let lawful = c.schema.invariant in
-    let types = ap (λ (s : Columns). length s.types) c.schema.view_is in
-    let filled = c.in_ok-columns.ensures ∙ ap (λ (types : List ColumnType). first_columns types rows (length types)) c.types.ensures in
-    let all : AreWhole schema rows columns = record { stable = c.requires; some = omega (arith, lawful.keyed, lawful.key_within, types); filled = filled } in
+    let same = ap (λ (s : Columns). length s.types) c.schema.view_is in
+    let all = all_whole schema _ c.types.result.now rows columns c.schema.invariant same c.types.ensures c.requires c.in_ok-columns.ensures in
     all_typed schema rows columns all
 
 pub of_columns-requires-clause-even : goal.of_columns-requires-clause-even
@@ -30,10 +27,8 @@ of_columns-requires-clause-even c =
     let schema = c.args.schema in
     let rows = c.args.rows.now in
     let columns = c.in_ok-columns.columns.items in
-    let lawful = c.schema.invariant in
-    let types = ap (λ (s : Columns). length s.types) c.schema.view_is in
-    let filled = c.in_ok-columns.ensures ∙ ap (λ (types : List ColumnType). first_columns types rows (length types)) c.types.ensures in
-    let all : AreWhole schema rows columns = record { stable = c.requires; some = omega (arith, lawful.keyed, lawful.key_within, types); filled = filled } in
+    let same = ap (λ (s : Columns). length s.types) c.schema.view_is in
+    let all = all_whole schema _ c.types.result.now rows columns c.schema.invariant same c.types.ensures c.requires c.in_ok-columns.ensures in
     all_even schema rows columns all
 
 pub of_columns-requires-clause-table : goal.of_columns-requires-clause-table
@@ -41,10 +36,8 @@ of_columns-requires-clause-table c =
     let schema = c.args.schema in
     let rows = c.args.rows.now in
     let columns = c.in_ok-columns.columns.items in
-    let lawful = c.schema.invariant in
-    let types = ap (λ (s : Columns). length s.types) c.schema.view_is in
-    let filled = c.in_ok-columns.ensures ∙ ap (λ (types : List ColumnType). first_columns types rows (length types)) c.types.ensures in
-    let all : AreWhole schema rows columns = record { stable = c.requires; some = omega (arith, lawful.keyed, lawful.key_within, types); filled = filled } in
+    let same = ap (λ (s : Columns). length s.types) c.schema.view_is in
+    let all = all_whole schema _ c.types.result.now rows columns c.schema.invariant same c.types.ensures c.requires c.in_ok-columns.ensures in
     all_stable schema rows columns all
 
 pub returns : goal.returns
@@ -52,8 +45,6 @@ returns c =
     let schema = c.args.schema in
     let rows = c.args.rows.now in
     let columns = c.in_ok-columns.columns.items in
-    let lawful = c.schema.invariant in
-    let types = ap (λ (s : Columns). length s.types) c.schema.view_is in
-    let filled = c.in_ok-columns.ensures ∙ ap (λ (types : List ColumnType). first_columns types rows (length types)) c.types.ensures in
-    let all : AreWhole schema rows columns = record { stable = c.requires; some = omega (arith, lawful.keyed, lawful.key_within, types); filled = filled } in
+    let same = ap (λ (s : Columns). length s.types) c.schema.view_is in
+    let all = all_whole schema _ c.types.result.now rows columns c.schema.invariant same c.types.ensures c.requires c.in_ok-columns.ensures in
     c.of_columns.ensures ∙ ap (λ (rs : List Row). record { schema = schema; rows = rs }) (all_rows schema rows columns all)

@@ -1,6 +1,6 @@
 use Rattle.std.proofs.Common.{◌∙◌, sym}
 use Rattle.inputs.proofs.CellLemmas.{int_of-no_text, int_of-result_ok}
-use Rattle.inputs.proofs.cell.read_int.Goals as goal
+use Rattle.inputs.proofs.cell.parsed_int.Goals as goal
 
 pub returns-in-Err : goal.returns-in-Err
 returns-in-Err c = let cases = rw c.in-Err.is at c.from_utf8.ensures.cases in sym (int_of-no_text _ cases.0)
