@@ -1,5 +1,5 @@
 -- The place of a search, among the entries of a leaf and of children.
-use Rattle.std.proofs.Common.{Global, ◌≡◌, ℕ, zero, suc, ◌+◌, ◌<◌, ◌≤◌, ◌⊎◌, inl, inr, Bool, true, false, List, [], ◌∷◌, ◌++◌, length, take, drop, get_or, nat_cmp, Ordering, Less, Equal, Greater, is_gt, refl, ap, sym, ◌∙◌, subst, arith, length-append}
+use Rattle.std.proofs.Common.{Global, ◌≡◌, ℕ, zero, suc, ◌+◌, ◌<◌, ◌≤◌, inl, inr, Bool, true, false, List, length, take, drop, get_or, nat_cmp, Ordering, Less, Equal, Greater, is_gt, refl, ap, sym, ◌∙◌, arith, length-append}
 use Rattle.std.specs.Ordering.{ordering_then}
 use Rattle.std.specs.Cmp.{ranked}
 use Rattle.std.proofs.lemmas.Bool.{cases_lt}
@@ -12,7 +12,7 @@ use Rattle.counted.specs.declared.node.Child.{Child}
 use Rattle.counted.specs.Edits.{values_of}
 use Rattle.counted.specs.Search.{stands_before, IsBoundary}
 use Rattle.counted.specs.Shapes.{items_of, all_items, AreChildren}
-use Rattle.counted.proofs.Places.{split_items, items_from, items-more, child_fits, child_some}
+use Rattle.counted.proofs.Places.{split_items, items-more, child_fits, child_some}
 
 cmp-greater : (x y : ℕ) → y < x → nat_cmp x y ≡ Greater
 cmp-greater x y h =
@@ -49,7 +49,7 @@ before_eq cmp sid e h = ap (λ r. is_gt (ordering_then r (cmp e.change))) (cmp-e
 
 -- ---- children
 
-true_false : (b : Bool) → b ≡ true → b ≡ false → ⊥
+pub true_false : (b : Bool) → b ≡ true → b ≡ false → ⊥
 true_false b p q = cc
 
 pub boundary_low : (test : Entry → Bool) (children : List Child) (i : ℕ) (d : Child) (m : ℕ) → i < length children → 1 ≤ length (items_of (get_or children i d)) → ((e : Entry) → 1 ≤ i → test (get_or (items_of (get_or children i d)) 0 e) ≡ true) → IsBoundary test (items_of (get_or children i d)) m → (j : ℕ) (e : Entry) → j + 1 ≡ length (all_items (take i children)) + m → test (get_or (all_items children) j e) ≡ true

@@ -1,4 +1,7 @@
 mod Boundaries
+mod BulkLemmas
+mod GapSteps
+mod Heads
 mod Leaves
 mod Places
 mod Runs

@@ -1,8 +1,8 @@
 -- Children, and the places of their entries.
-use Rattle.std.proofs.Common.{Vec, Global, ◌≡◌, ℕ, zero, suc, ◌+◌, ◌*◌, ◌-◌, ◌^◌, ◌<◌, ◌≤◌, ◌⊎◌, inl, inr, List, [], ◌∷◌, ◌++◌, length, take, drop, get_or, refl, ap, sym, ◌∙◌, subst, arith, append_assoc, length-append, length-take, length-drop, add-one}
-use Rattle.std.specs.Prelude.{ℤ, pos, ◌+ℤ◌, ◌≤ℤ◌}
-use Rattle.std.specs.List.{All, flat_map}
-use Rattle.std.specs.Prelude.{Result, Ok, Err, IfOk}
+use Rattle.std.proofs.Common.{Vec, Global, ◌≡◌, ℕ, zero, suc, ◌+◌, ◌*◌, ◌^◌, ◌<◌, ◌≤◌, inl, inr, List, [], ◌∷◌, ◌++◌, length, take, drop, get_or, refl, ap, sym, ◌∙◌, subst, arith, append_assoc, length-append, length-take, length-drop, ◌-◌}
+use Rattle.std.specs.Prelude.{pos, ◌+ℤ◌}
+use Rattle.std.specs.List.{All}
+use Rattle.std.specs.Prelude.{Result, Ok, Err, IfOk, Some, slice_get}
 use Rattle.std.specs.declared.alloc.AllocError.{AllocError}
 use Rattle.std.proofs.lemmas.Int.{ints}
 use Rattle.std.proofs.lemmas.List.{append-nil, take_more, drop_more, drop_all, take-append-drop}
@@ -170,6 +170,7 @@ same_is_child depth c x same h = record {
   count = same.count ∙ h.count ∙ sym (ap (λ v. length v.items) same.node);
   net = same.net ∙ h.net ∙ sym (ap (λ v. total v.items) same.node);
   first = same.first ∙ h.first ∙ sym (ap (λ v. first_sid v.items) same.node);
+  head = ap (λ v. slice_get v.items 0) same.node ∙ h.head ∙ ap Some (sym same.head);
 }
 
 -- ---- depths and numbers of entries
@@ -313,3 +314,11 @@ child_fits children i d lt =
     let here = ap length (items_from children i d lt) ∙ length-append (items_of (get_or children i d)) (all_items (drop (i + 1) children)) in
     let all = ap length (split_items i children) ∙ length-append (all_items (take i children)) (all_items (drop i children)) in
     omega arith
+
+pub deep_law : (b : Body) (v : View) → view_of b ≡ v → IsBalanced b → 2 ≤ v.depth → 2 ≤ v.width → 2 * 8 ^ (v.depth - 1) ≤ length v.items
+deep_law (Leaf entries) v is h deep wide = let e = ap (λ (w : View). w.depth) is in absurd (omega arith)
+deep_law (Inner children) v is h deep wide =
+    let P : View → Type 0 = λ w. 2 ≤ w.width → 2 * 8 ^ (w.depth - 1) ≤ length w.items in
+    let less : depth_of children.items ≡ suc (depth_of children.items) - 1 = omega arith in
+    let Q : ℕ → Type 0 = λ n. 2 * 8 ^ n ≤ length (all_items children.items) in
+    subst P is (λ many. subst Q less (many_at_root children.items h many)) wide

@@ -1,18 +1,16 @@
 -- The steps of a walk to a position, over the entries of a leaf and over children.
-use Rattle.std.proofs.Common.{Global, ◌≡◌, ℕ, zero, suc, ◌+◌, ◌<◌, ◌≤◌, ◌^◌, ◌⊎◌, inl, inr, List, [], ◌∷◌, ◌++◌, length, take, drop, get_or, refl, ap, sym, ◌∙◌, subst, arith, length-append}
-use Rattle.std.specs.Prelude.{ℤ, pos, ◌+ℤ◌, ◌≤ℤ◌, ◌<ℤ◌, Bool, true, false}
+use Rattle.std.proofs.Common.{Global, ◌≡◌, ℕ, zero, suc, ◌+◌, ◌<◌, ◌≤◌, ◌^◌, inl, inr, List, [], ◌∷◌, ◌++◌, length, take, drop, get_or, refl, ap, sym, subst, arith}
+use Rattle.std.specs.Prelude.{ℤ, pos, ◌+ℤ◌, ◌≤ℤ◌, ◌<ℤ◌, Bool, false}
 use Rattle.std.proofs.lemmas.Int.{ints}
 use Rattle.std.proofs.lemmas.Bool.{cases_lt}
-use Rattle.std.proofs.lemmas.List.{drop_more, drop_all, take-append-drop}
-use Rattle.std.specs.List.{AllByRecursion}
+use Rattle.std.proofs.lemmas.List.{drop_more, drop_all}
 use Rattle.std.specs.declared.sync.Arc.{Arc}
 use Rattle.model.specs.declared.entry.Entry.{Entry}
 use Rattle.model.specs.declared.entry.Change.{Change}
-use Rattle.model.specs.declared.entry.Change.TheVariants.{Ins, Del, Mod}
 use Rattle.counted.specs.declared.node.Child.{Child}
 use Rattle.counted.specs.Edits.{values_of}
 use Rattle.counted.specs.Shapes.{items_of, all_items, AreChildren}
-use Rattle.counted.specs.Sums.{weight_of, total, first_sid, next_sid, IsOrdered}
+use Rattle.counted.specs.Sums.{weight_of, total, first_sid, IsOrdered}
 use Rattle.counted.specs.Spots.{Passes, Stops, IsSpot, ArePlaced}
 use Rattle.counted.proofs.Places.{split_items, items_from, first_from, some_from, ordered_from}
 use Rattle.counted.proofs.Spots.{EndsBy, spot-left, spot-right}

@@ -1,5 +1,5 @@
 -- Each child has one level less.
-use Rattle.std.specs.Prelude.{◌≡◌, ℕ, zero, suc, ◌+◌, ◌≤◌, ◌<◌, max, List, [], ◌∷◌, length}
+use Rattle.std.specs.Prelude.{ℕ, suc, ◌≤◌, max, List, [], ◌∷◌}
 use Rattle.std.specs.List.{All}
 use Rattle.std.proofs.Common.{arith}
 use Rattle.std.proofs.lemmas.List.Elements.{All-head, All-tail}
@@ -8,7 +8,7 @@ use Rattle.counted.specs.declared.node.Body.{Body}
 use Rattle.counted.specs.declared.node.Body.TheVariants.{Leaf, Inner}
 use Rattle.counted.specs.declared.node.Child.{Child}
 use Rattle.counted.specs.declared.node.Node.TheDeep.{deep-Body, deep-Child}
-use Rattle.counted.specs.Shapes.{view_of, depth_of, IsChild, AreChildren, IsBalanced}
+use Rattle.counted.specs.Shapes.{view_of, depth_of, IsChild, IsBalanced}
 
 pub most_le : (depth : ℕ) (children : List Child) → All (IsChild depth) children → most deep-Child children ≤ suc depth
 most_le depth [] h = omega arith

@@ -32,6 +32,7 @@ pub record IsSameChild (c x : Child) : Type 0 where
   pub count : x.count ≡ c.count
   pub net : x.net ≡ c.net
   pub first : x.first ≡ c.first
+  pub head : x.head.value ≡ c.head.value
   pub node : x.node.value ≡ c.node.value
 
 -- the counts are those of the node's entries, which are many

@@ -1,4 +1,5 @@
 pub mod Edits
+pub mod Gaps
 pub mod Grown
 pub mod Falls
 pub mod Roots

@@ -1,5 +1,5 @@
 -- The shape of a node.
-use Rattle.std.specs.Prelude.{◌≡◌, ℕ, suc, ◌+◌, ◌^◌, ◌≤◌, List, [], ◌∷◌, ◌++◌, length}
+use Rattle.std.specs.Prelude.{◌≡◌, ℕ, suc, ◌^◌, ◌≤◌, Some, List, [], ◌∷◌, length, slice_get}
 use Rattle.std.specs.List.{All, flat_map}
 use Rattle.model.specs.declared.entry.Entry.{Entry}
 use Rattle.counted.specs.Edits.{values_of}
@@ -34,6 +34,7 @@ pub record IsChild (depth : ℕ) (c : Child) : Type 0 where
   pub count : c.count ≡ length c.node.value.items
   pub net : c.net ≡ total c.node.value.items
   pub first : c.first ≡ first_sid c.node.value.items
+  pub head : slice_get c.node.value.items 0 ≡ Some c.head.value
 
 -- all children stand at one depth
 pub record AreChildren (children : List Child) : Type 0 where

@@ -1,10 +1,12 @@
 //! The children of a node, read by what is kept of each.
-ghost use Rattle.std.specs.Prelude.{◌≡◌, ◌+◌, ◌^◌, ◌<◌, ◌≤◌, ◌+ℤ◌, length, slice_index_or, take};
+ghost use Rattle.std.specs.Prelude.{◌≡◌, ◌+◌, ◌^◌, ◌<◌, ◌≤◌, ◌+ℤ◌, length, slice_get, slice_index_or, take, drop};
+ghost use Rattle.std.specs.Option.{option_copied};
 ghost use Rattle.counted.specs.declared.node.Child.{Child};
 ghost use Rattle.counted.specs.Shapes.{AreChildren, all_items, items_of};
 ghost use Rattle.counted.specs.Sums.{total, shift_before, IsOrdered};
 
 use crate::node::Child;
+use model::Entry;
 
 /// How many entries the children have.
 pub(crate) fn count_of(children: &[Child]) -> usize
@@ -32,18 +34,34 @@ pub(crate) fn net_of(children: &[Child]) -> i64
     net
 }
 
-/// What the entries of the children before an index add.
-pub(crate) fn net_before(children: &[Child], index: usize) -> i64
+/// How many entries the children before an index have, and what those add.
+pub(crate) fn sums_before(children: &[Child], index: usize) -> (usize, i64)
     requires children { AreChildren children.now }
     requires within { index < length children.now }
     requires few { length (all_items children.now) < 2 ^ 62 }
-    ensures { result ≡ total (all_items (take index children.now)) }
+    ensures count { result.0 ≡ length (all_items (take index children.now)) }
+    ensures net { result.1 ≡ total (all_items (take index children.now)) }
 {
+    let mut count = 0;
     let mut net = 0;
-    for i in 0..index {
-        net += children[i].net;
+    for child in &children[..index] {
+        count += child.count;
+        net += child.net;
     }
-    net
+    (count, net)
+}
+
+/// The first entry after those of a child, where another child follows.
+pub(crate) fn entry_after(children: &[Child], index: usize) -> Option<&Entry>
+    requires children { AreChildren children.now }
+    requires within { index < length children.now }
+    ensures { option_copied result ≡ slice_get (all_items (drop (index + 1) children.now)) 0 }
+{
+    if index + 1 < children.len() {
+        Some(&children[index + 1].head)
+    } else {
+        None
+    }
 }
 
 /// The child at which so many entries end, and how many of them are its own: none only where there is none in all.

@@ -1,5 +1,6 @@
 //! What a node grows to, and what is kept of it.
-ghost use Rattle.std.specs.Prelude.{◌≡◌, ◌+◌, ◌-◌, ◌^◌, ◌<◌, ◌≤◌, ◌++◌, length, take, drop, ℕ, IfOk, OnOk};
+ghost use Rattle.std.specs.Prelude.{◌≡◌, ◌+◌, ◌-◌, ◌^◌, ◌<◌, ◌≤◌, ◌++◌, length, take, drop, slice_get, Some, ℕ, IfOk, OnOk};
+ghost use Rattle.std.specs.Arc.{arc_value};
 ghost use Rattle.std.specs.List.{All};
 ghost use Rattle.counted.specs.Edits.{values_of};
 ghost use Rattle.counted.specs.Grown.{IsGrown, grown_items, grown_width, AreGrown, IsSameChild, AreCounts};
@@ -47,6 +48,17 @@ impl Node {
             },
         }
     }
+
+    /// Its first entry.
+    fn head(&self) -> &Arc<Entry, Global>
+        requires full { 8 ≤ self.now.width }
+        ensures { slice_get self.now.items 0 ≡ Some (arc_value result.now) }
+    {
+        match &self.body {
+            Body::Leaf(entries) => &entries[0],
+            Body::Inner(children) => &children[0].head,
+        }
+    }
 }
 
 impl Child {
@@ -58,10 +70,12 @@ impl Child {
         ensures items { IfOk result (λ c. items_of c ≡ node.items) }
     {
         let counts = node.counts();
+        let head = Arc::try_clone(node.head())?;
         Ok(Child {
             count: counts.count,
             net: counts.net,
             first: counts.first,
+            head,
             node: Arc::new(alloc, node)?,
         })
     }
@@ -74,6 +88,7 @@ impl Child {
             count: self.count,
             net: self.net,
             first: self.first,
+            head: Arc::try_clone(&self.head)?,
             node: Arc::try_clone(&self.node)?,
         })
     }

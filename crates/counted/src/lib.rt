@@ -1,9 +1,11 @@
 //! A counted tree of entries: nodes are shared, and a writing call copies the path that it changes.
 #![tactic(auto)]
 
+mod bulk;
 mod children;
 mod edit;
 mod entry;
+mod gap;
 mod grown;
 mod iter;
 mod leaf;
@@ -14,8 +16,9 @@ mod steps;
 mod tree;
 
 pub use entry::weight;
+pub use gap::Gap;
 pub use iter::Iter;
-pub use search::Probe;
+pub use search::{Boundary, Probe};
 pub use spot::Spot;
 pub use steps::Steps;
 pub use tree::CountedTree;

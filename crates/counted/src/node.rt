@@ -5,7 +5,7 @@ ghost use Rattle.counted.specs.Shapes.{view_of, IsBalanced};
 ghost use Rattle.counted.specs.Sums.{total, shift_before, IsOrdered};
 
 use crate::Steps;
-use crate::children::{child_at, child_below, child_of, count_of, net_before, net_of};
+use crate::children::{child_below, child_of, count_of, net_of};
 use crate::leaf::{shift_in, total_of};
 use model::Entry;
 use std::alloc::Global;
@@ -27,13 +27,15 @@ pub(crate) enum Body {
     Inner(Vec<Child>),
 }
 
-/// A child, with its number of entries, its inserts minus deletes, and its first entry's SID.
+/// A child, with its number of entries, its inserts minus deletes, its first entry's SID and that entry, so that a search
+/// looks at no child that it does not go into.
 #[cycle(node)]
 #[derive(Drop)]
 pub(crate) struct Child {
     pub(crate) count: usize,
     pub(crate) net: i64,
     pub(crate) first: u64,
+    pub(crate) head: Arc<Entry, Global>,
     pub(crate) node: Arc<Node, Global>,
 }
 
@@ -105,27 +107,13 @@ impl Node {
         requires few { length self.now.items < 2 ^ 62 }
         ensures shift { result ≡ shift_before sid self.now.items }
         ensures steps { steps.new ≡ steps.old + self.now.depth }
+        ensures many { 2 ≤ self.now.depth → 2 ≤ self.now.width → 2 * 8 ^ (self.now.depth - 1) ≤ length self.now.items }
     {
         match self.read(steps) {
             Body::Leaf(entries) => shift_in(entries, sid),
             Body::Inner(children) => {
                 let (index, shift) = child_below(children, sid);
                 shift + children[index].node.shift_before(sid, steps)
-            }
-        }
-    }
-
-    /// What the entries before an index add.
-    pub(crate) fn total_before(&self, at: usize) -> i64
-        requires within { at ≤ length self.now.items }
-        requires few { length self.now.items < 2 ^ 62 }
-        ensures { result ≡ total (take at self.now.items) }
-    {
-        match &self.body {
-            Body::Leaf(entries) => total_of(&entries[..at]),
-            Body::Inner(children) => {
-                let (index, rest) = child_at(children, at);
-                net_before(children, index) + children[index].node.total_before(rest)
             }
         }
     }
@@ -150,6 +138,7 @@ impl Node {
         ensures view { view_of result.now ≡ self.now }
         ensures balanced { IsBalanced result.now }
         ensures steps { steps.new ≡ steps.old + 1 }
+        ensures many { 2 ≤ self.now.depth → 2 ≤ self.now.width → 2 * 8 ^ (self.now.depth - 1) ≤ length self.now.items }
     {
         steps.tick();
         &self.body

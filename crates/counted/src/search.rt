@@ -1,5 +1,7 @@
 //! Search by SID, and at one SID by what stands there.
-ghost use Rattle.std.specs.Prelude.{◌≡◌, ◌+◌, ◌^◌, ◌<◌, ◌≤◌, true, false, length, slice_index_or, take};
+ghost use Rattle.std.specs.Prelude.{◌≡◌, ◌+◌, ◌-◌, ◌*◌, ◌^◌, ◌<◌, ◌≤◌, true, false, Some, None, pos, length, slice_get, slice_index_or, take};
+ghost use Rattle.std.specs.Arc.{arc_value};
+ghost use Rattle.std.specs.Option.{option_copied};
 ghost use Rattle.model.specs.declared.entry.Change.{Change};
 ghost use Rattle.model.specs.declared.entry.Entry.{Entry};
 ghost use Rattle.std.proofs.Common.{Ordering};
@@ -7,13 +9,17 @@ ghost use Rattle.counted.specs.declared.node.Child.{Child};
 ghost use Rattle.counted.specs.Edits.{values_of};
 ghost use Rattle.counted.specs.Search.{stands_before, IsBoundary};
 ghost use Rattle.counted.specs.Shapes.{AreChildren, all_items, items_of};
-ghost use Rattle.counted.specs.Sums.{first_sid};
+ghost use Rattle.counted.specs.Sums.{total};
 
+use crate::Steps;
+use crate::children::{entry_after, sums_before};
+use crate::leaf::total_of;
 use crate::node::{Body, Child, Node};
 use model::{Change, Entry};
 use std::alloc::Global;
 use std::cmp::Ordering;
 use std::sync::Arc;
+use std::sync::ledger::Ledger;
 
 /// What is looked for at a SID.
 pub trait Probe {
@@ -24,19 +30,98 @@ pub trait Probe {
         ensures { result ≡ stand self.now change.now };
 }
 
+/// Where something stands among entries: how many stand before it, what those add, and the entry that follows them.
+#[derive(Clone, Copy)]
+pub struct Boundary<'a> {
+    pub index: usize,
+    pub shift: i64,
+    pub entry: Option<&'a Entry>,
+}
+
 impl Node {
-    /// How many entries stand before what is looked for at the SID.
-    pub(crate) fn place_of<P: Probe>(&self, sid: u64, probe: &P) -> usize
+    /// Where what is looked for at the SID stands.
+    pub(crate) fn place_of<P: Probe, L: Ledger>(
+        &self,
+        sid: u64,
+        probe: &P,
+        steps: &mut Steps<L>,
+    ) -> Boundary<'_>
         requires few { length self.now.items < 2 ^ 62 }
-        ensures { IsBoundary (stands_before (P.stand probe.now) sid) self.now.items result }
+        ensures boundary { IsBoundary (stands_before (P.stand probe.now) sid) self.now.items result.index }
+        ensures shift { result.shift ≡ total (take result.index self.now.items) }
+        ensures entry { option_copied result.entry ≡ slice_get self.now.items result.index }
+        ensures steps { steps.new ≡ steps.old + self.now.depth }
+        ensures many { 2 ≤ self.now.depth → 2 ≤ self.now.width → 2 * 8 ^ (self.now.depth - 1) ≤ length self.now.items }
     {
-        match &self.body {
-            Body::Leaf(entries) => place_in(entries, sid, probe),
+        match self.read(steps) {
+            Body::Leaf(entries) => in_leaf(entries, place_in(entries, sid, probe)),
             Body::Inner(children) => {
                 let index = child_before(children, sid, probe);
-                count_before(children, index) + children[index].node.place_of(sid, probe)
+                let found = children[index].node.place_of(sid, probe, steps);
+                among(children, index, found)
             }
         }
+    }
+}
+
+impl<'a> Boundary<'a> {
+    /// The place before all entries where there are none, which takes a step too.
+    pub(crate) fn first<L: Ledger>(steps: &mut Steps<L>) -> Boundary<'a>
+        ensures index { result.index ≡ 0 }
+        ensures shift { result.shift ≡ pos 0 }
+        ensures entry { option_copied result.entry ≡ None }
+        ensures steps { steps.new ≡ steps.old + 1 }
+    {
+        steps.tick();
+        Boundary {
+            index: 0,
+            shift: 0,
+            entry: None,
+        }
+    }
+}
+
+/// A place among the entries of a leaf.
+pub(crate) fn in_leaf(entries: &[Arc<Entry, Global>], index: usize) -> Boundary<'_>
+    requires within { index ≤ length entries.now }
+    requires few { length entries.now < 2 ^ 62 }
+    ensures index { result.index ≡ index }
+    ensures shift { result.shift ≡ total (take index (values_of entries.now)) }
+    ensures entry { option_copied result.entry ≡ slice_get (values_of entries.now) index }
+{
+    let entry = if index < entries.len() {
+        Some(&*entries[index])
+    } else {
+        None
+    };
+    Boundary {
+        index,
+        shift: total_of(&entries[..index]),
+        entry,
+    }
+}
+
+/// A place among the entries of the children, where it lies in one of them.
+pub(crate) fn among<'a>(children: &'a [Child], index: usize, found: Boundary<'a>) -> Boundary<'a>
+    requires children { AreChildren children.now }
+    requires few { length (all_items children.now) < 2 ^ 62 }
+    requires child { index < length children.now }
+    requires within { (d : Child) → found.index ≤ length (items_of (slice_index_or children.now index d)) }
+    requires shift { (d : Child) → found.shift ≡ total (take found.index (items_of (slice_index_or children.now index d))) }
+    requires entry { (d : Child) → option_copied found.entry ≡ slice_get (items_of (slice_index_or children.now index d)) found.index }
+    ensures index { result.index ≡ length (all_items (take index children.now)) + found.entry.index }
+    ensures shift { result.shift ≡ total (take result.index (all_items children.now)) }
+    ensures entry { option_copied result.entry ≡ slice_get (all_items children.now) result.index }
+{
+    let (count, net) = sums_before(children, index);
+    let entry = match found.entry {
+        Some(entry) => Some(entry),
+        None => entry_after(children, index),
+    };
+    Boundary {
+        index: count + found.index,
+        shift: net + found.shift,
+        entry,
     }
 }
 
@@ -62,8 +147,8 @@ fn child_before<P: Probe>(children: &[Child], sid: u64, probe: &P) -> usize
 
 /// Whether the first entry of a child stands before what is looked for at the SID.
 fn begins_before<P: Probe>(child: &Child, sid: u64, probe: &P) -> bool
-    requires some { 1 ≤ length (items_of child.now) }
-    requires first { child.now.first ≡ first_sid (items_of child.now) }
+    requires first { child.now.first ≡ (arc_value child.now.head).sid }
+    requires head { slice_get (items_of child.now) 0 ≡ Some (arc_value child.now.head) }
     ensures { (e : Entry) → stands_before (P.stand probe.now) sid (slice_index_or (items_of child.now) 0 e) ≡ result }
 {
     if child.first < sid {
@@ -72,7 +157,7 @@ fn begins_before<P: Probe>(child: &Child, sid: u64, probe: &P) -> bool
     if sid < child.first {
         return false;
     }
-    is_before(&child.node.leaf_from(0)[0], sid, probe)
+    is_before(&child.head, sid, probe)
 }
 
 /// Whether the entry stands before what is looked for at the SID.
@@ -86,20 +171,6 @@ fn is_before<P: Probe>(entry: &Entry, sid: u64, probe: &P) -> bool
         return false;
     }
     probe.compare(&entry.change).is_gt()
-}
-
-/// How many entries the children before an index have.
-fn count_before(children: &[Child], index: usize) -> usize
-    requires children { AreChildren children.now }
-    requires within { index < length children.now }
-    requires few { length (all_items children.now) < 2 ^ 62 }
-    ensures { result ≡ length (all_items (take index children.now)) }
-{
-    let mut count = 0;
-    for i in 0..index {
-        count += children[i].count;
-    }
-    count
 }
 
 /// How many entries of a leaf stand before what is looked for at the SID.

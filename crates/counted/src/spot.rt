@@ -1,5 +1,5 @@
 //! What stands at a position of the image above.
-ghost use Rattle.std.specs.Prelude.{◌≡◌, ◌+◌, ◌^◌, ◌<◌, ◌≤◌, ◌+ℤ◌, ◌≤ℤ◌, ◌<ℤ◌, pos, ℕ, ℤ, Bool, true, false, length, slice_index_or, take, drop};
+ghost use Rattle.std.specs.Prelude.{◌≡◌, ◌+◌, ◌-◌, ◌*◌, ◌^◌, ◌<◌, ◌≤◌, ◌+ℤ◌, ◌≤ℤ◌, ◌<ℤ◌, pos, ℕ, ℤ, Bool, true, false, length, slice_index_or, take, drop};
 ghost use Rattle.counted.specs.declared.node.Child.{Child};
 ghost use Rattle.counted.specs.Edits.{values_of};
 ghost use Rattle.counted.specs.Shapes.{AreChildren, all_items, items_of};
@@ -31,6 +31,7 @@ impl Node {
         requires below { pos (length self.now.items) ≤ℤ (shift +ℤ pos (2 ^ 61)) }
         ensures spot { IsSpot rid shift self.now.items result.index result.shift result.inserted }
         ensures steps { steps.new ≡ steps.old + self.now.depth }
+        ensures many { 2 ≤ self.now.depth → 2 ≤ self.now.width → 2 * 8 ^ (self.now.depth - 1) ≤ length self.now.items }
     {
         match self.read(steps) {
             Body::Leaf(entries) => spot_in(entries, rid, shift),
@@ -121,7 +122,7 @@ fn begins_by(children: &[Child], index: usize, up: i64, rid: i64) -> bool
 }
 
 /// The row of what stands `up` above the rows below.
-fn row_above(sid: u64, up: i64) -> i64
+pub(crate) fn row_above(sid: u64, up: i64) -> i64
     requires small { sid < 2 ^ 32 }
     requires above { up ≤ℤ pos (2 ^ 61) }
     requires below { pos 0 ≤ℤ (up +ℤ pos (2 ^ 61)) }

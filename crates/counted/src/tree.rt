@@ -4,14 +4,17 @@ ghost use Rattle.std.specs.Arc.{arc_value};
 ghost use Rattle.std.specs.List.{insert, remove};
 ghost use Rattle.counted.specs.Edits.{values_of, put_items, edited};
 ghost use Rattle.std.specs.Option.{option_copied};
+ghost use Rattle.counted.specs.Gaps.{IsGap};
 ghost use Rattle.counted.specs.Search.{stands_before, IsBoundary};
 ghost use Rattle.counted.specs.Spots.{IsSpot, ArePlaced};
 ghost use Rattle.counted.specs.Sums.{total, shift_before, IsOrdered};
 ghost use Rattle.counted.specs.Trees.{IsRoot};
 
 use crate::Steps;
+use crate::bulk::root_over;
+use crate::gap::Gap;
 use crate::node::Node;
-use crate::search::Probe;
+use crate::search::{Boundary, Probe};
 use crate::spot::Spot;
 use model::Entry;
 use std::alloc::{AllocError, Global};
@@ -81,6 +84,7 @@ impl CountedTree {
         requires ordered { IsOrdered self.now.entries }
         ensures shift { result ≡ shift_before sid self.now.entries }
         ensures steps { steps.new ≡ steps.old + self.now.depth }
+        ensures many { 2 ≤ self.now.depth → 2 * 8 ^ (self.now.depth - 1) ≤ length self.now.entries }
     {
         match &self.root {
             None => {
@@ -98,6 +102,7 @@ impl CountedTree {
         requires placed { ArePlaced self.now.entries }
         ensures spot { IsSpot (pos rid) (pos 0) self.now.entries result.index result.shift result.inserted }
         ensures steps { steps.new ≡ steps.old + self.now.depth }
+        ensures many { 2 ≤ self.now.depth → 2 * 8 ^ (self.now.depth - 1) ≤ length self.now.entries }
     {
         match &self.root {
             None => {
@@ -112,35 +117,6 @@ impl CountedTree {
         }
     }
 
-    /// What the entries below the SID add, where nobody counts nodes.
-    pub fn shift(&self, sid: u64) -> i64
-        requires ordered { IsOrdered self.now.entries }
-        ensures { result ≡ shift_before sid self.now.entries }
-    {
-        shift_uncounted::<Brand>(self, sid, Blank::new(1))
-    }
-
-    /// Where a position lies among the entries, where nobody counts nodes.
-    pub fn spot(&self, rid: u64) -> Spot
-        requires rid { rid < 2 ^ 63 }
-        requires ordered { IsOrdered self.now.entries }
-        requires placed { ArePlaced self.now.entries }
-        ensures { IsSpot (pos rid) (pos 0) self.now.entries result.index result.shift result.inserted }
-    {
-        spot_uncounted::<Brand>(self, rid, Blank::new(1))
-    }
-
-    /// What the entries before an index add.
-    pub fn total_before(&self, at: usize) -> i64
-        requires { at ≤ length self.now.entries }
-        ensures { result ≡ total (take at self.now.entries) }
-    {
-        match &self.root {
-            None => 0,
-            Some(root) => root.total_before(at),
-        }
-    }
-
     /// The entry at an index that there is. It takes no memory.
     pub fn get(&self, at: usize) -> &Entry
         requires { at < length self.now.entries }
@@ -149,27 +125,75 @@ impl CountedTree {
         &self.leaf_from(at)[0]
     }
 
-    /// How many entries stand before what is looked for at the SID.
-    pub fn place_of<P: Probe>(&self, sid: u64, probe: &P) -> usize
-        ensures { IsBoundary (stands_before (P.stand probe.now) sid) self.now.entries result }
+    /// Where something comes to stand at a position; the rows below are thought to go on without end.
+    pub fn find_gap<G: Gap, L: Ledger>(
+        &self,
+        rid: u64,
+        gap: &G,
+        steps: &mut Steps<L>,
+    ) -> Boundary<'_>
+        requires rid { rid < 2 ^ 63 }
+        requires placed { ArePlaced self.now.entries }
+        ensures gap { IsGap (G.after gap.now) (pos rid) (pos 0) self.now.entries result.index }
+        ensures shift { result.shift ≡ total (take result.index self.now.entries) }
+        ensures entry { option_copied result.entry ≡ slice_get self.now.entries result.index }
+        ensures steps { steps.new ≡ steps.old + self.now.depth }
     {
         match &self.root {
-            None => 0,
-            Some(root) => root.place_of(sid, probe),
+            None => Boundary::first(steps),
+            Some(root) => root.find_gap(rid as i64, 0, gap, steps),
         }
     }
 
-    /// A tree of these entries.
+    /// Where something comes to stand at a position, where nobody counts nodes.
+    pub fn gap<G: Gap>(&self, rid: u64, gap: &G) -> Boundary<'_>
+        requires rid { rid < 2 ^ 63 }
+        requires placed { ArePlaced self.now.entries }
+        ensures gap { IsGap (G.after gap.now) (pos rid) (pos 0) self.now.entries result.index }
+        ensures shift { result.shift ≡ total (take result.index self.now.entries) }
+        ensures entry { option_copied result.entry ≡ slice_get self.now.entries result.index }
+    {
+        gap_uncounted::<G, Brand>(self, rid, gap, Blank::new(1))
+    }
+
+    /// Where what is looked for at the SID stands.
+    pub fn place_of<P: Probe, L: Ledger>(
+        &self,
+        sid: u64,
+        probe: &P,
+        steps: &mut Steps<L>,
+    ) -> Boundary<'_>
+        ensures boundary { IsBoundary (stands_before (P.stand probe.now) sid) self.now.entries result.index }
+        ensures shift { result.shift ≡ total (take result.index self.now.entries) }
+        ensures entry { option_copied result.entry ≡ slice_get self.now.entries result.index }
+        ensures steps { steps.new ≡ steps.old + self.now.depth }
+        ensures many { 2 ≤ self.now.depth → 2 * 8 ^ (self.now.depth - 1) ≤ length self.now.entries }
+    {
+        match &self.root {
+            None => Boundary::first(steps),
+            Some(root) => root.place_of(sid, probe, steps),
+        }
+    }
+
+    /// Where what is looked for at the SID stands, where nobody counts nodes.
+    pub fn place<P: Probe>(&self, sid: u64, probe: &P) -> Boundary<'_>
+        ensures boundary { IsBoundary (stands_before (P.stand probe.now) sid) self.now.entries result.index }
+        ensures shift { result.shift ≡ total (take result.index self.now.entries) }
+        ensures entry { option_copied result.entry ≡ slice_get self.now.entries result.index }
+    {
+        place_uncounted::<P, Brand>(self, sid, probe, Blank::new(1))
+    }
+
+    /// A tree of these entries, none of which is copied.
     pub fn from_sorted(alloc: Global, entries: Vec<Entry>) -> Result<CountedTree, AllocError>
         requires { length entries.items < 2 ^ 60 }
         ensures { IfOk result (λ t. t.entries ≡ entries.items) }
     {
-        let mut rest = entries;
-        let mut tree = CountedTree::new();
-        while let Some(entry) = rest.pop() {
-            tree.insert(alloc, 0, entry)?;
+        if entries.is_empty() {
+            return Ok(CountedTree::new());
         }
-        Ok(tree)
+        let root = root_over(alloc, entries)?;
+        Ok(CountedTree::of_root(Arc::new(alloc, root)?))
     }
 
     /// The entry at an index. It takes no memory.
@@ -298,28 +322,40 @@ impl CountedTree {
     }
 }
 
-/// What the entries below the SID add, by a count that is let go.
-fn shift_uncounted<L: Ledger>(tree: &CountedTree, sid: u64, blank: Blank) -> i64
+/// Where what is looked for at the SID stands, by a count that is let go.
+fn place_uncounted<'a, P: Probe, L: Ledger>(
+    tree: &'a CountedTree,
+    sid: u64,
+    probe: &P,
+    blank: Blank,
+) -> Boundary<'a>
     requires name { blank.name ≡ L.name }
     requires parts { blank.parts ≡ L.parts }
     requires some { 0 < L.parts }
-    requires ordered { IsOrdered tree.now.entries }
-    ensures { result ≡ shift_before sid tree.now.entries }
+    ensures boundary { IsBoundary (stands_before (P.stand probe.now) sid) tree.now.entries result.index }
+    ensures shift { result.shift ≡ total (take result.index tree.now.entries) }
+    ensures entry { option_copied result.entry ≡ slice_get tree.now.entries result.index }
 {
     let mut steps = Steps::<L>::new(blank);
-    tree.shift_before(sid, &mut steps)
+    tree.place_of(sid, probe, &mut steps)
 }
 
-/// Where a position lies among the entries, by a count that is let go.
-fn spot_uncounted<L: Ledger>(tree: &CountedTree, rid: u64, blank: Blank) -> Spot
+/// Where something comes to stand at a position, by a count that is let go.
+fn gap_uncounted<'a, G: Gap, L: Ledger>(
+    tree: &'a CountedTree,
+    rid: u64,
+    gap: &G,
+    blank: Blank,
+) -> Boundary<'a>
     requires name { blank.name ≡ L.name }
     requires parts { blank.parts ≡ L.parts }
     requires some { 0 < L.parts }
     requires rid { rid < 2 ^ 63 }
-    requires ordered { IsOrdered tree.now.entries }
     requires placed { ArePlaced tree.now.entries }
-    ensures { IsSpot (pos rid) (pos 0) tree.now.entries result.index result.shift result.inserted }
+    ensures gap { IsGap (G.after gap.now) (pos rid) (pos 0) tree.now.entries result.index }
+    ensures shift { result.shift ≡ total (take result.index tree.now.entries) }
+    ensures entry { option_copied result.entry ≡ slice_get tree.now.entries result.index }
 {
     let mut steps = Steps::<L>::new(blank);
-    tree.find_rid(rid, &mut steps)
+    tree.find_gap(rid, gap, &mut steps)
 }

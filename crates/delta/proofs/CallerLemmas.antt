@@ -8,4 +8,4 @@ pub use Rattle.delta.proofs.LengthLemmas.{length-put_del, length-put_ins, length
 pub use Rattle.delta.proofs.OrderLemmas.{entry_cmp-trans, ordered_right}
 pub use Rattle.delta.proofs.SearchLemmas.{is_true}
 pub use Rattle.delta.proofs.KeyPlaceLemmas.{fitting, high_all, low_all, own, rank_is, sorted_effects, sorted_table, split_is}
-pub use Rattle.delta.proofs.RowCountLemmas.{counted, few}
+pub use Rattle.delta.proofs.RowCountLemmas.{counted, few, insert_count-any, inserts_few, rows_after}

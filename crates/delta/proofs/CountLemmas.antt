@@ -58,12 +58,6 @@ pub counts-le : (es : List Entry) → insert_count es + delete_count es ≤ leng
 counts-le [] = omega arith
 counts-le (e ∷ es) = omega (arith, worth_le e.change, insert_count-cons e es, delete_count-cons e es, counts-le es)
 
--- one entry more, counted from the left
-pub insert_count-take : (es : List Entry) (i : ℕ) (e : Entry) → i < length es → e ≡ get_or es i e → insert_count (take (i + 1) es) ≡ insert_count (take i es) + insert_worth e.change
-insert_count-take es i e lt is =
-    let next = ap insert_count (take_more es i e lt) ∙ insert_count-append (take i es) (get_or es i e ∷ []) in
-    omega (arith, next, insert_count-cons (get_or es i e) [], ap (λ (x : Entry). insert_worth x.change) is)
-
 pub delete_count-take : (es : List Entry) (i : ℕ) (e : Entry) → i < length es → e ≡ get_or es i e → delete_count (take (i + 1) es) ≡ delete_count (take i es) + delete_worth e.change
 delete_count-take es i e lt is =
     let next = ap delete_count (take_more es i e lt) ∙ delete_count-append (take i es) (get_or es i e ∷ []) in

@@ -1,6 +1,6 @@
 -- What is known of a lawful list of entries, in the words of the counted tree.
-use Rattle.std.proofs.Common.{◌≡◌, ℕ, zero, suc, ◌+◌, ◌-◌, ◌<◌, ◌≤◌, ◌^◌, Bool, true, false, cond, T, List, [], ◌∷◌, ◌++◌, length, take, drop, filter, get_or, set, nat_cmp, Ordering, Less, Equal, Greater, is_lt, refl, sym, ap, ◌∙◌, subst, arith}
-use Rattle.std.specs.Prelude.{ℤ, pos, ◌+ℤ◌, ◌-ℤ◌, nat_lt, Some, None, slice_get}
+use Rattle.std.proofs.Common.{◌≡◌, ℕ, zero, suc, ◌+◌, ◌<◌, ◌≤◌, ◌^◌, Bool, true, false, cond, T, List, [], ◌∷◌, ◌++◌, length, take, drop, filter, get_or, set, nat_cmp, Less, Equal, Greater, is_lt, refl, sym, ap, arith}
+use Rattle.std.specs.Prelude.{pos, ◌+ℤ◌, ◌-ℤ◌, nat_lt, Some, None, slice_get}
 use Rattle.std.specs.Ordering.{ordering_then}
 use Rattle.std.specs.Cmp.{ranked}
 use Rattle.std.specs.List.{list_all, All, AllByRecursion}
@@ -10,16 +10,14 @@ use Rattle.std.proofs.lemmas.List.Elements.{recursion_from_All}
 use Rattle.model.specs.declared.entry.Entry.{Entry}
 use Rattle.model.specs.declared.entry.Change.{Change}
 use Rattle.model.specs.declared.entry.Change.TheVariants.{Ins, Del, Mod}
-use Rattle.model.specs.Entries.{change_cmp, entry_cmp, are_ordered, IsLawful}
+use Rattle.model.specs.Entries.{change_cmp, entry_cmp, are_ordered}
 use Rattle.model.specs.Places.{insert_count, delete_count}
 use Rattle.model.proofs.CallerLemmas.{first, second, less}
 use Rattle.counted.specs.Search.{IsBoundary}
 use Rattle.counted.specs.Spots.{ArePlaced}
 use Rattle.counted.specs.Sums.{weight_of, total, next_sid, IsOrdered}
 use Rattle.counted.specs.Sums as sums
-use Rattle.delta.specs.Lookups.{total_of}
 use Rattle.delta.specs.Search.{IsSplit}
-use Rattle.delta.specs.Positions.{shift_before}
 use Rattle.delta.proofs.CountLemmas.{insert_worth, delete_worth, insert_count-cons, delete_count-cons}
 use Rattle.delta.proofs.SearchLemmas.{split_at}
 

@@ -1,11 +1,8 @@
 -- The walk to the gap where an insert stands, and the place of a change.
-use Rattle.std.proofs.Common.{◌≡◌, ℕ, zero, suc, ◌+◌, ◌-◌, ◌<◌, ◌≤◌, Bool, true, false, cond, ◌&&◌, ◌||◌, T, List, [], ◌∷◌, length, take, drop, get_or, drop-cons, nat_cmp, Ordering, Less, Equal, Greater, is_lt, is_gt, refl, sym, ap, ◌∙◌, subst, arith}
-use Rattle.std.specs.Prelude.{◌==◌, nat_lt, nat_le}
+use Rattle.std.proofs.Common.{◌≡◌, ℕ, ◌+◌, ◌-◌, ◌≤◌, true, false, cond, T, List, ◌∷◌, take, nat_cmp, Ordering, Less, Equal, Greater, is_gt, refl, ap, arith}
+use Rattle.std.specs.Prelude.{nat_le}
 use Rattle.std.specs.Ordering.{ordering_then}
-use Rattle.std.specs.List.{list_all}
 use Rattle.std.proofs.lemmas.Bool.Decides.{nat_tests}
-use Rattle.values.specs.Orders.{key_cmp}
-use Rattle.values.specs.Shape.{key_of}
 use Rattle.values.specs.declared.row.Key.{Key}
 use Rattle.model.specs.declared.entry.Entry.{Entry}
 use Rattle.model.specs.declared.entry.Change.{Change}
@@ -14,7 +11,7 @@ use Rattle.model.specs.Entries.{change_cmp, are_ordered}
 use Rattle.model.specs.Folding.{added_by, gone_by}
 use Rattle.model.specs.Places.{delete_count}
 use Rattle.delta.specs.Search.{stands_before, IsSplit}
-use Rattle.delta.specs.Positions.{deletes_below, is_passed, gap_from}
+use Rattle.delta.specs.Positions.{is_passed, gap_from}
 use Rattle.delta.proofs.CountLemmas.{insert_worth, delete_worth}
 use Rattle.delta.proofs.ChangesLemmas.{all_from}
 use Rattle.delta.proofs.PositionsLemmas.{ascends, deletes_to}
@@ -31,32 +28,7 @@ gone_is (Ins row) = refl
 gone_is (Del key) = refl
 gone_is (Mod col value) = refl
 
-pub added-le : (c : Change) → added_by c ≤ 1
-added-le (Ins row) = omega arith
-added-le (Del key) = omega arith
-added-le (Mod col value) = omega arith
-
-pub gone-le : (c : Change) → gone_by c ≤ 1
-gone-le (Ins row) = omega arith
-gone-le (Del key) = omega arith
-gone-le (Mod col value) = omega arith
-
 -- ---- one step of the walk
-
--- what is passed stands no later, and an insert before
-pub passed_le : (key : Key) (next row : ℕ) (c : Change) → is_passed key next row c ≡ true → next + added_by c ≤ row
-passed_le key next row (Ins r) h = by (nat_lt next row || ((next == row) && false)) h refl
-  where
-    by : (b : Bool) → b ≡ true → (nat_lt next row || ((next == row) && false)) ≡ b → next + 1 ≤ row
-    by b e f = grind (arith, nat_tests)
-passed_le key next row (Del gone) h = below (is_lt (key_cmp gone key)) h
-  where
-    below : (d : Bool) → (nat_lt next row || ((next == row) && d)) ≡ true → next + 0 ≤ row
-    below d e = grind (arith, nat_tests)
-passed_le key next row (Mod col value) h = by (nat_lt next row || ((next == row) && false)) h refl
-  where
-    by : (b : Bool) → b ≡ true → (nat_lt next row || ((next == row) && false)) ≡ b → next + 0 ≤ row
-    by b e f = grind (arith, nat_tests)
 
 -- the walk goes past an entry that is passed
 pub gap-passes : (rid : ℕ) (key : Key) (a d : ℕ) (e : Entry) (es : List Entry) → is_passed key (e.sid + a) (rid + d) e.change ≡ true → gap_from rid key a d (e ∷ es) ≡ gap_from rid key (a + added_by e.change) (d + gone_by e.change) es
@@ -65,18 +37,6 @@ gap-passes rid key a d e es h = ap (λ b. cond b (gap_from rid key (a + added_by
 -- and ends at another
 pub gap-ends : (rid : ℕ) (key : Key) (a d : ℕ) (e : Entry) (es : List Entry) → is_passed key (e.sid + a) (rid + d) e.change ≡ false → gap_from rid key a d (e ∷ es) ≡ (rid + d) - a
 gap-ends rid key a d e es h = ap (λ b. cond b (gap_from rid key (a + added_by e.change) (d + gone_by e.change) es) ((rid + d) - a)) h
-
-pub gap_step : (rid : ℕ) (key : Key) (i a d : ℕ) (es : List Entry) (x : Entry) → i < length es → x ≡ get_or es i x → is_passed key (x.sid + a) (rid + d) x.change ≡ true → gap_from rid key a d (drop i es) ≡ gap_from rid key (a + added_by x.change) (d + gone_by x.change) (drop (i + 1) es)
-gap_step rid key i a d es x lt is h =
-    let more : suc i ≡ i + 1 = omega arith in
-    let cut : drop i es ≡ x ∷ drop (i + 1) es = drop-cons es i x lt ∙ (λ k. sym is k ∷ drop (more k) es) in
-    ap (gap_from rid key a d) cut ∙ gap-passes rid key a d x (drop (i + 1) es) h
-
-pub gap_end : (rid : ℕ) (key : Key) (i a d : ℕ) (es : List Entry) (x : Entry) → i < length es → x ≡ get_or es i x → is_passed key (x.sid + a) (rid + d) x.change ≡ false → gap_from rid key a d (drop i es) ≡ (rid + d) - a
-gap_end rid key i a d es x lt is h =
-    let more : suc i ≡ i + 1 = omega arith in
-    let cut : drop i es ≡ x ∷ drop (i + 1) es = drop-cons es i x lt ∙ (λ k. sym is k ∷ drop (more k) es) in
-    ap (gap_from rid key a d) cut ∙ gap-ends rid key a d x (drop (i + 1) es) h
 
 -- ---- before a change
 

@@ -73,24 +73,28 @@ module _ (key_cols : ℕ) where
       (all_stand_after key_cols sid (Mod col value) (modify_cmp col) (modify_cmp-same key_cols sid col value) (take n es) split.before)
       (subst (λ ys. T (list_all (λ y. is_lt (entry_cmp key_cols e y)) ys)) (drop-drop k n es) after))
 
-  pub IsLawful-take_ins : (sid : ℕ) (key : Key) (es : List Entry) (n : ℕ) → IsLawful key_cols es → HasInsert key_cols sid key es n → IsLawful key_cols (take_ins key_cols sid key es)
-  IsLawful-take_ins sid key es n h found =
-      let count : length (remove es n) ≤ 2 ^ 40 = omega (arith, length-append (take n es) (drop (suc n) es), length-take n es, length-drop (suc n) es, h.counted, found.short) in
-      let law : IsLawful key_cols (remove es n) = record {
+  pub IsLawful-remove : (es : List Entry) (n : ℕ) → IsLawful key_cols es → n < length es → IsLawful key_cols (remove es n)
+  IsLawful-remove es n h short =
+      let count : length (remove es n) ≤ 2 ^ 40 = omega (arith, length-append (take n es) (drop (suc n) es), length-take n es, length-drop (suc n) es, h.counted) in
+      record {
         ordered = is_true _ (ordered-remove key_cols es n (T_from_true _ h.ordered));
         placed = All-append (λ x. x.sid < 2 ^ 32) (take n es) (drop (suc n) es) (All-take (λ x. x.sid < 2 ^ 32) n es h.placed) (All-drop (λ x. x.sid < 2 ^ 32) (suc n) es h.placed);
         counted = count;
-      } in
-      subst (IsLawful key_cols) (sym found.taken) law
+      }
 
-  pub IsLawful-set_ins : (sid : ℕ) (key : Key) (col : ℕ) (value : Value) (es : List Entry) (n : ℕ) → IsLawful key_cols es → HasInsert key_cols sid key es n → key_cols ≤ col → IsLawful key_cols (set_ins key_cols sid key col value es)
-  IsLawful-set_ins sid key col value es n h found outside =
+  pub IsLawful-take_ins : (sid : ℕ) (key : Key) (es : List Entry) (n : ℕ) → IsLawful key_cols es → HasInsert key_cols sid key es n → IsLawful key_cols (take_ins key_cols sid key es)
+  IsLawful-take_ins sid key es n h found = subst (IsLawful key_cols) (sym found.taken) (IsLawful-remove es n h found.short)
+
+  pub IsLawful-set : (col : ℕ) (value : Value) (es : List Entry) (n : ℕ) → IsLawful key_cols es → n < length es → key_cols ≤ col → IsLawful key_cols (set es n (entry_at (get_or es n nothing).sid (change_with_cell col value (get_or es n nothing).change)))
+  IsLawful-set col value es n h short outside =
       let y = get_or es n nothing in
       let e = entry_at y.sid (change_with_cell col value y.change) in
       let count : length (set es n e) ≤ 2 ^ 40 = omega (arith, length-set es n e, h.counted) in
-      let law : IsLawful key_cols (set es n e) = record {
-        ordered = is_true _ (ordered-changed key_cols col value outside es n found.short (T_from_true _ h.ordered));
-        placed = All-set (λ x. x.sid < 2 ^ 32) es n e (h.placed n nothing found.short) h.placed;
+      record {
+        ordered = is_true _ (ordered-changed key_cols col value outside es n short (T_from_true _ h.ordered));
+        placed = All-set (λ x. x.sid < 2 ^ 32) es n e (h.placed n nothing short) h.placed;
         counted = count;
-      } in
-      subst (IsLawful key_cols) (sym (found.with_cell col value)) law
+      }
+
+  pub IsLawful-set_ins : (sid : ℕ) (key : Key) (col : ℕ) (value : Value) (es : List Entry) (n : ℕ) → IsLawful key_cols es → HasInsert key_cols sid key es n → key_cols ≤ col → IsLawful key_cols (set_ins key_cols sid key col value es)
+  IsLawful-set_ins sid key col value es n h found outside = subst (IsLawful key_cols) (sym (found.with_cell col value)) (IsLawful-set col value es n h found.short outside)

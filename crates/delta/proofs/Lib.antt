@@ -8,6 +8,7 @@ mod LookupLemmas
 mod RangesLemmas
 mod PositionsLemmas
 mod GapLemmas
+mod GapWalkLemmas
 mod LengthLemmas
 mod LawsLemmas
 mod CountedLemmas

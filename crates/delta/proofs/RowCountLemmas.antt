@@ -215,3 +215,28 @@ few schema t x lawful h =
     let rows = rows_changed t x t_sorted x_sorted fit in
     let moved = length-table_with t x t_sorted x_sorted fit in
     omega (arith, entries, rows, moved, deletes_few x)
+
+-- inserts are no more than the rows of the image
+pub inserts_few : (schema : Columns) (t : Table) (x : Effects) → AreOver schema t x →
+    insert_count (canonical_entries t x) ≤ length (table_with t x)
+inserts_few schema t x h =
+    let keyed = T_from_true (are_keyed_effects schema.key_cols x) h.effects_are.keyed in
+    let table = T_from_true (is_keyed_table schema.key_cols t) h.table.keyed in
+    let fit = T_from_true (all_fit t x) h.fit in
+    let x_sorted = first (is_sorted key_cmp x) _ keyed in
+    let t_sorted = first (is_sorted key_cmp t) _ table in
+    let rows = rows_changed t x t_sorted x_sorted fit in
+    let moved = length-table_with t x t_sorted x_sorted fit in
+    omega (arith, rows, moved, deletes_few x, insert_count-canonical_entries t x)
+
+-- and as many over any table
+pub insert_count-any : (t u : Table) (x : Effects) → insert_count (canonical_entries t x) ≡ insert_count (canonical_entries u x)
+insert_count-any t u x = insert_count-canonical_entries t x ∙ sym (insert_count-canonical_entries u x)
+
+-- the rows after effects, by the counts of their entries
+pub rows_after : (schema : Columns) (t : Table) (x : Effects) → AreOver schema t x →
+    delete_count (canonical_entries t x) + length (table_with t x) ≡ insert_count (canonical_entries t x) + length t
+rows_after schema t x h =
+    let keyed = T_from_true (are_keyed_effects schema.key_cols x) h.effects_are.keyed in
+    let table = T_from_true (is_keyed_table schema.key_cols t) h.table.keyed in
+    counted t x (first (is_sorted key_cmp t) _ table) (first (is_sorted key_cmp x) _ keyed) (T_from_true (all_fit t x) h.fit)

@@ -4,3 +4,4 @@ pub mod Search
 pub mod Positions
 pub mod Changes
 pub mod Laws
+pub mod Depth

@@ -1,5 +1,5 @@
 -- Where a change stands among entries in order.
-use Rattle.std.specs.Prelude.{ℕ, ◌≤◌, Bool, not, T, List, length, take, drop}
+use Rattle.std.specs.Prelude.{◌≡◌, ℕ, ◌≤◌, Bool, not, T, List, length, take, drop}
 use Rattle.std.proofs.Common.{Ordering, Less, Equal, Greater}
 use Rattle.std.specs.Ordering.{nat_cmp, is_gt, ordering_then}
 use Rattle.std.specs.List.{list_all}
@@ -9,6 +9,7 @@ use Rattle.values.specs.declared.row.Key.{Key}
 use Rattle.model.specs.declared.entry.Entry.{Entry}
 use Rattle.model.specs.declared.entry.Change.{Change}
 use Rattle.model.specs.declared.entry.Change.TheVariants.{Ins, Del, Mod}
+use Rattle.model.specs.Entries.{change_cmp}
 
 -- how what stands before all at a SID stands to a change there
 abbrev pub first_cmp : Change → Ordering
@@ -45,3 +46,8 @@ pub record IsSplit (test : Entry → Bool) (entries : List Entry) (n : ℕ) : Ty
   pub within : n ≤ length entries
   pub before : T (list_all test (take n entries))
   pub after : T (list_all (λ e. not (test e)) (drop n entries))
+
+module _ (key_cols : ℕ) where
+  -- what stands past a change stands past those before it
+  abbrev pub IsClosed : (Change → Ordering) → Type 0
+  IsClosed cmp = (x y : Change) → change_cmp key_cols x y ≡ Less → cmp y ≡ Greater → cmp x ≡ Greater

@@ -1,5 +1,8 @@
 //! The changes of a tree: an insert, a delete or a modify that comes, changes or goes.
-ghost use Rattle.std.specs.Prelude.{◌≡◌, cond, ◌<◌, ◌≤◌, ◌^◌, IsFalse, IsNone, IsSome, IsSomeAnd, OnOk, OnErr, IfOk, drop, length};
+ghost use Rattle.std.specs.Prelude.{◌≡◌, cond, ◌<◌, ◌≤◌, ◌^◌, IsFalse, IsNone, IsSome, IsSomeAnd, Some, OnOk, OnErr, IfOk, drop, length, set, slice_get};
+ghost use Rattle.std.specs.Option.{option_copied};
+ghost use Rattle.std.specs.List.{remove};
+ghost use Rattle.model.specs.declared.entry.Entry.{Entry};
 ghost use Rattle.values.specs.Shape.{key_of};
 ghost use Rattle.model.specs.Entries.{entry_at};
 ghost use Rattle.model.specs.Edits.{change_with_cell, put_ins, put_del, put_mod, take_ins, set_ins};
@@ -7,6 +10,7 @@ ghost use Rattle.delta.specs.Lookups.{has_delete, inserted_row};
 ghost use Rattle.delta.specs.Changes.{is_modify_at, modify_count, has_cell};
 
 use crate::tree::{DeltaTree, copy_entry};
+use counted::Boundary;
 use model::{Change, Entry};
 use values::{Key, NoMemory, Row, Value};
 
@@ -62,8 +66,9 @@ impl DeltaTree {
         ensures ok { OnOk result (self.new ≡ record self.old { entries = put_mod self.old.key_cols sid col value self.old.entries }) }
         ensures err { OnErr result (self.new ≡ self.old) }
     {
-        let index = self.index_of_modify(sid, col);
-        let end = index + self.modifies_at(index, sid, col);
+        let place = self.place_of_modify(sid, col);
+        let index = place.index;
+        let end = index + self.modifies_at(place, sid, col);
         let change = Change::Mod(col, value);
         self.tree
             .replace_run(self.alloc, index, end, Entry { sid, change })?;
@@ -85,6 +90,37 @@ impl DeltaTree {
         Ok(())
     }
 
+    /// Takes the entry at an index away, as one does with the insert that a search has found there.
+    ///
+    /// # Errors
+    ///
+    /// `NoMemory` where a growth is refused, for the nodes on the way to it are made anew: the tree is as it was.
+    pub fn take_at(&mut self, at: usize) -> Result<(), NoMemory>
+        requires { at < length self.old.entries }
+        ensures ok { OnOk result (self.new ≡ record self.old { entries = remove self.old.entries at }) }
+        ensures err { OnErr result (self.new ≡ self.old) }
+    {
+        self.tree.remove(self.alloc, at)?;
+        Ok(())
+    }
+
+    /// Puts another value into a cell of the row that the entry at an index inserts, as a search has found it there.
+    ///
+    /// # Errors
+    ///
+    /// `NoMemory` where a growth is refused, for the nodes on the way to it are made anew: the tree is as it was.
+    pub fn set_at(&mut self, at: usize, col: usize, value: Value) -> Result<(), NoMemory>
+        requires within { at < length self.old.entries }
+        requires there { (e : Entry) → slice_get self.old.entries at ≡ Some e → has_cell col e.change }
+        requires outside_key { self.old.key_cols ≤ col }
+        ensures ok { OnOk result ((e : Entry) → slice_get self.old.entries at ≡ Some e → self.new ≡ record self.old { entries = set self.old.entries at (entry_at e.sid (change_with_cell col value e.change)) }) }
+        ensures err { OnErr result (self.new ≡ self.old) }
+    {
+        let entry = with_cell(self.tree.get(at), col, value)?;
+        self.tree.replace_run(self.alloc, at, at + 1, entry)?;
+        Ok(())
+    }
+
     /// Puts another value into a cell of the row that is inserted with this key at the SID.
     ///
     /// # Errors
@@ -102,11 +138,12 @@ impl DeltaTree {
         Ok(())
     }
 
-    /// How many of the entries from `index` on are the modify of this column at the SID: one or none.
-    fn modifies_at(&self, index: usize, sid: u64, col: usize) -> usize
-        ensures { result ≡ modify_count sid col (drop index self.now.entries) }
+    /// How many of the entries from a place on are the modify of this column at the SID: one or none.
+    fn modifies_at(&self, place: Boundary<'_>, sid: u64, col: usize) -> usize
+        requires { option_copied place.entry ≡ slice_get self.now.entries place.index }
+        ensures { result ≡ modify_count sid col (drop place.entry.index self.now.entries) }
     {
-        match self.tree.entry(index) {
+        match place.entry {
             Some(entry) => modify_worth(entry, sid, col),
             None => 0,
         }

@@ -1,5 +1,5 @@
 //! What stands at a SID, found by binary search.
-ghost use Rattle.std.specs.Prelude.{◌≡◌};
+ghost use Rattle.std.specs.Prelude.{◌≡◌, slice_get};
 ghost use Rattle.std.specs.Option.{option_copied};
 ghost use Rattle.delta.specs.Lookups.{has_delete, inserted_row};
 ghost use Rattle.delta.specs.Changes.{row_at, is_delete_at};
@@ -7,6 +7,7 @@ ghost use Rattle.delta.specs.Search.{insert_cmp, stands_before, IsSplit};
 
 use crate::sorted::compare_insert;
 use crate::tree::DeltaTree;
+use counted::Boundary;
 use model::{Change, Entry};
 use values::{Row, Value};
 
@@ -15,23 +16,31 @@ impl DeltaTree {
     pub fn find_insert(&self, sid: u64, key: &[Value]) -> Option<&Row>
         ensures { option_copied result ≡ inserted_row self.now.key_cols sid key.now self.now.entries }
     {
-        self.insert_at_index(self.index_of_insert(sid, key), sid, key)
+        self.insert_at(self.place_of_insert(sid, key), sid, key)
     }
 
-    /// The same, where the search for the key has given its index.
-    pub(crate) fn insert_at_index(&self, index: usize, sid: u64, key: &[Value]) -> Option<&Row>
-        requires { IsSplit (stands_before (insert_cmp self.now.key_cols key.now) sid) self.now.entries index }
+    /// The same, where the search for the key has given its place.
+    pub(crate) fn insert_at<'a>(
+        &self,
+        place: Boundary<'a>,
+        sid: u64,
+        key: &[Value],
+    ) -> Option<&'a Row>
+        requires split { IsSplit (stands_before (insert_cmp self.now.key_cols key.now) sid) self.now.entries place.index }
+        requires entry { option_copied place.entry ≡ slice_get self.now.entries place.index }
         ensures { option_copied result ≡ inserted_row self.now.key_cols sid key.now self.now.entries }
     {
-        let entry = self.tree.entry(index)?;
-        inserted_at(self.key_cols, entry, sid, key)
+        match place.entry {
+            Some(entry) => inserted_at(self.key_cols, entry, sid, key),
+            None => None,
+        }
     }
 
     /// Whether the base row at the SID is deleted. It takes no memory.
     pub fn has_delete(&self, sid: u64) -> bool
         ensures { result ≡ has_delete sid self.now.entries }
     {
-        match self.tree.entry(self.base_index(sid)) {
+        match self.place_of_base(sid).entry {
             Some(entry) => is_delete_at(entry, sid),
             None => false,
         }

@@ -7,11 +7,14 @@ ghost use Rattle.model.specs.Folding.{added_by, gone_by};
 ghost use Rattle.model.specs.Places.{rid_of_insert};
 ghost use Rattle.delta.specs.Lookups.{inserted_row};
 ghost use Rattle.delta.specs.Positions.{shift_before, IsAtRid, deletes_below, deletes_ascend, is_passed, gap_from};
+ghost use Rattle.delta.specs.Depth.{CountsEachLevel};
 ghost use Rattle.delta.specs.Search.{insert_cmp, stands_before, IsSplit};
 
 use crate::tree::DeltaTree;
-use counted::CountedTree;
+use counted::{Gap, Steps};
 use model::Change;
+use std::marker::Brand;
+use std::sync::ledger::{Blank, Ledger};
 use values::{Row, Value};
 
 /// Where the row at a position of the image comes from.
@@ -43,25 +46,48 @@ pub struct ChangeIndex {
     pub rid: u64,
 }
 
+/// A row to come, which stands after the deletes of smaller keys.
+#[derive(Drop)]
+struct RowOf<'a> {
+    key: &'a [Value],
+}
+
+impl<'a> Gap for RowOf<'a> {
+    ghost after = { λ p. deletes_below p.key.now };
+
+    fn is_after(&self, change: &Change) -> bool {
+        deletes_below(self.key, change)
+    }
+}
+
 impl DeltaTree {
-    /// The inserts less the deletes of the entries at SIDs below this one: how far they move what stands there. One
-    /// descent; it takes no memory.
-    pub fn shift_before(&self, sid: u64) -> i64
-        ensures { result ≡ shift_before sid self.now.entries }
+    /// The inserts less the deletes of the entries at SIDs below this one: how far they move what stands there. It reads
+    /// one node on each level, and takes no memory.
+    pub fn shift_before<L: Ledger>(&self, sid: u64, steps: &mut Steps<L>) -> i64
+        ensures shift { result ≡ shift_before sid self.now.entries }
+        ensures steps { CountsEachLevel (length self.now.entries) steps.old steps.new }
     {
-        self.tree.shift(sid)
+        self.tree.shift_before(sid, steps)
     }
 
-    /// Where the row at a position of the image comes from; the base is thought to go on without end. One descent; it
-    /// takes no memory.
-    pub fn find_rid(&self, rid: u64) -> Place
+    /// The same, where nobody counts nodes.
+    pub fn shift_at(&self, sid: u64) -> i64
+        ensures { result ≡ shift_before sid self.now.entries }
+    {
+        shift_uncounted::<Brand>(self, sid, Blank::new(1))
+    }
+
+    /// Where the row at a position of the image comes from; the base is thought to go on without end. It reads one node on
+    /// each level, and takes no memory.
+    pub fn find_rid<L: Ledger>(&self, rid: u64, steps: &mut Steps<L>) -> Place
         requires { rid < 2 ^ 63 }
         ensures at { IsAtRid self.now.entries rid result }
 
         // No other place has the position.
         ensures only { (place : Place) → IsAtRid self.now.entries rid place → place ≡ result }
+        ensures steps { CountsEachLevel (length self.now.entries) steps.old steps.new }
     {
-        let spot = self.tree.spot(rid);
+        let spot = self.tree.find_rid(rid, steps);
         if spot.inserted {
             Place::Inserted(spot.index)
         } else {
@@ -69,91 +95,84 @@ impl DeltaTree {
         }
     }
 
-    /// Where the insert of a key stands at a SID, or would stand, and the position of its row. A descent for the index,
-    /// one for what the entries before it add, and one for the entry; it takes no memory.
+    /// The same, where nobody counts nodes.
+    pub fn find_row(&self, rid: u64) -> Place
+        requires { rid < 2 ^ 63 }
+        ensures at { IsAtRid self.now.entries rid result }
+
+        // No other place has the position.
+        ensures only { (place : Place) → IsAtRid self.now.entries rid place → place ≡ result }
+    {
+        find_uncounted::<Brand>(self, rid, Blank::new(1))
+    }
+
+    /// Where the insert of a key stands at a SID, or would stand, and the position of its row. One descent; it takes no
+    /// memory.
     pub fn find_key(&self, sid: u64, key: &[Value]) -> KeyIndex
         requires { sid < 2 ^ 63 }
         ensures split { IsSplit (stands_before (insert_cmp self.now.key_cols key.now) sid) self.now.entries result.index }
         ensures rid { result.rid ≡ rid_of_insert (take result.index self.now.entries) sid }
         ensures found { result.found ≡ is_some (inserted_row self.now.key_cols sid key.now self.now.entries) }
     {
-        let index = self.index_of_insert(sid, key);
-        let shift = self.tree.total_before(index);
+        let place = self.place_of_insert(sid, key);
         KeyIndex {
-            index,
-            rid: moved(sid, shift),
-            found: self.insert_at_index(index, sid, key).is_some(),
+            index: place.index,
+            rid: moved(sid, place.shift),
+            found: self.insert_at(place, sid, key).is_some(),
         }
     }
 
     /// Where a change stands at a SID, or would stand, and the position of its row: behind the inserts there, or of an
-    /// insert behind those of smaller keys. A descent for the index, and one for what the entries before it add; it takes
-    /// no memory.
+    /// insert behind those of smaller keys. One descent; it takes no memory.
     pub fn find_change(&self, sid: u64, change: &Change) -> ChangeIndex
         requires { sid < 2 ^ 63 }
         ensures split { IsSplit (stands_before (change_cmp self.now.key_cols change.now) sid) self.now.entries result.index }
         ensures rid { result.rid ≡ rid_of_insert (take result.index self.now.entries) sid }
     {
-        let index = self.index_of_change(sid, change);
-        let shift = self.tree.total_before(index);
+        let place = self.place_of_change(sid, change);
         ChangeIndex {
-            index,
-            rid: moved(sid, shift),
-        }
-    }
-
-    /// How many entries stand before the change at the SID.
-    fn index_of_change(&self, sid: u64, change: &Change) -> usize
-        ensures { IsSplit (stands_before (change_cmp self.now.key_cols change.now) sid) self.now.entries result }
-    {
-        match change {
-            Change::Ins(row) => self.index_of_insert(sid, row.key(self.key_cols)),
-            Change::Del(_) => self.base_index(sid),
-            Change::Mod(col, _) => self.index_of_modify(sid, *col),
+            index: place.index,
+            rid: moved(sid, place.shift),
         }
     }
 
     /// The SID at which an insert of the row stands whose row comes to a position of the image: past the deletes, among
-    /// those just before the row that stands there, of smaller keys. Goes over the entries from the first up to that
-    /// one. It takes no memory.
+    /// those just before the row that stands there, of smaller keys. One descent; it takes no memory.
     pub fn find_gap(&self, rid: u64, row: &Row) -> u64
         requires rid { rid < 2 ^ 63 }
 
-        // So that a search may halve among the deletes just before a row.
+        // So that those of smaller keys stand first among the deletes just before a row.
         requires ascending { IsTrue (deletes_ascend self.now.entries) }
         ensures { result ≡ gap_from rid (key_of self.now.key_cols row.now) 0 0 self.now.entries }
     {
-        gap_of_rid(&self.tree, rid, row.key(self.key_cols))
+        let key = row.key(self.key_cols);
+        let place = self.tree.gap(rid, &RowOf { key });
+        moved(rid, -place.shift)
     }
 }
 
-/// The SID of the gap at the position, by a walk over the entries.
-fn gap_of_rid(tree: &CountedTree, rid: u64, key: &[Value]) -> u64
+/// What the entries below the SID add, by a count that is let go.
+fn shift_uncounted<L: Ledger>(tree: &DeltaTree, sid: u64, blank: Blank) -> i64
+    requires name { blank.name ≡ L.name }
+    requires parts { blank.parts ≡ L.parts }
+    requires some { 0 < L.parts }
+    ensures { result ≡ shift_before sid tree.now.entries }
+{
+    let mut steps = Steps::<L>::new(blank);
+    tree.shift_before(sid, &mut steps)
+}
+
+/// Where the row at a position comes from, by a count that is let go.
+fn find_uncounted<L: Ledger>(tree: &DeltaTree, rid: u64, blank: Blank) -> Place
+    requires name { blank.name ≡ L.name }
+    requires parts { blank.parts ≡ L.parts }
+    requires some { 0 < L.parts }
     requires rid { rid < 2 ^ 63 }
-    requires placed { All (λ e. e.sid < 2 ^ 32) tree.now.entries }
-    requires counted { length tree.now.entries ≤ 2 ^ 40 }
-    ensures { result ≡ gap_from rid key.now 0 0 tree.now.entries }
+    ensures at { IsAtRid tree.now.entries rid result }
+    ensures only { (place : Place) → IsAtRid tree.now.entries rid place → place ≡ result }
 {
-    let mut inserts = 0;
-    let mut deletes = 0;
-    for at in 0..tree.len() {
-        let entry = tree.get(at);
-        let row = rid + deletes;
-        let next = entry.sid + inserts;
-        if !is_passed(key, next, row, &entry.change) {
-            return row - inserts;
-        }
-        inserts += added_by(&entry.change);
-        deletes += gone_by(&entry.change);
-    }
-    rid + deletes - inserts
-}
-
-/// Whether a change that stands at `next` is passed on the way to an insert of the key before what stands at `row`.
-fn is_passed(key: &[Value], next: u64, row: u64, change: &Change) -> bool
-    ensures { result ≡ is_passed key.now next row change.now }
-{
-    next < row || (next == row && deletes_below(key, change))
+    let mut steps = Steps::<L>::new(blank);
+    tree.find_rid(rid, &mut steps)
 }
 
 /// Whether the change deletes a row of a smaller key.
@@ -163,26 +182,6 @@ fn deletes_below(key: &[Value], change: &Change) -> bool
     match change {
         Change::Del(gone) => gone.cells().cmp(key).is_lt(),
         _ => false,
-    }
-}
-
-/// How many rows the change adds.
-fn added_by(change: &Change) -> u64
-    ensures { result ≡ added_by change.now }
-{
-    match change {
-        Change::Ins(_) => 1,
-        _ => 0,
-    }
-}
-
-/// How many rows the change takes away.
-fn gone_by(change: &Change) -> u64
-    ensures { result ≡ gone_by change.now }
-{
-    match change {
-        Change::Del(_) => 1,
-        _ => 0,
     }
 }
 

@@ -1,9 +1,12 @@
 //! Binary search in the entries of a tree: by SID, and among those of one SID by what the change is.
-ghost use Rattle.std.specs.Prelude.{◌≡◌};
-ghost use Rattle.delta.specs.Search.{first_cmp, insert_cmp, base_cmp, modify_cmp, past_cmp, stands_before, IsSplit};
+ghost use Rattle.std.specs.Prelude.{◌≡◌, slice_get, take};
+ghost use Rattle.std.specs.Option.{option_copied};
+ghost use Rattle.model.specs.Entries.{change_cmp, IsLawful};
+ghost use Rattle.counted.specs.Sums.{total};
+ghost use Rattle.delta.specs.Search.{first_cmp, insert_cmp, base_cmp, modify_cmp, past_cmp, stands_before, IsClosed, IsSplit};
 
 use crate::tree::DeltaTree;
-use counted::Probe;
+use counted::{Boundary, Probe};
 use model::Change;
 use std::cmp::Ordering;
 use values::Value;
@@ -71,18 +74,32 @@ impl Probe for Past {
 }
 
 impl DeltaTree {
+    /// Where what is looked for at the SID stands, what the entries before it add, and the entry there. One descent.
+    fn place<P: Probe>(&self, sid: u64, probe: &P) -> Boundary<'_>
+        requires { IsClosed self.now.key_cols (P.stand probe.now) }
+        ensures split { IsSplit (stands_before (P.stand probe.now) sid) self.now.entries result.index }
+        ensures shift { result.shift ≡ total (take result.index self.now.entries) }
+        ensures entry { option_copied result.entry ≡ slice_get self.now.entries result.index }
+        ensures lawful { IsLawful self.now.key_cols self.now.entries }
+    {
+        self.tree.place(sid, probe)
+    }
+
     /// How many entries stand at SIDs below this one.
     pub(crate) fn index_of_sid(&self, sid: u64) -> usize
         ensures { IsSplit (stands_before first_cmp sid) self.now.entries result }
     {
-        self.tree.place_of(sid, &First)
+        self.place(sid, &First).index
     }
 
-    /// How many entries stand before the inserts of this key, or a greater one, at the SID.
-    pub(crate) fn index_of_insert(&self, sid: u64, key: &[Value]) -> usize
-        ensures { IsSplit (stands_before (insert_cmp self.now.key_cols key.now) sid) self.now.entries result }
+    /// Where the inserts of this key, or a greater one, stand at the SID.
+    pub(crate) fn place_of_insert(&self, sid: u64, key: &[Value]) -> Boundary<'_>
+        ensures split { IsSplit (stands_before (insert_cmp self.now.key_cols key.now) sid) self.now.entries result.index }
+        ensures shift { result.shift ≡ total (take result.index self.now.entries) }
+        ensures entry { option_copied result.entry ≡ slice_get self.now.entries result.index }
+        ensures lawful { IsLawful self.now.key_cols self.now.entries }
     {
-        self.tree.place_of(
+        self.place(
             sid,
             &InsertOf {
                 key_cols: self.key_cols,
@@ -91,26 +108,60 @@ impl DeltaTree {
         )
     }
 
+    /// How many entries stand before the inserts of this key, or a greater one, at the SID.
+    pub(crate) fn index_of_insert(&self, sid: u64, key: &[Value]) -> usize
+        ensures { IsSplit (stands_before (insert_cmp self.now.key_cols key.now) sid) self.now.entries result }
+    {
+        self.place_of_insert(sid, key).index
+    }
+
+    /// Where what becomes of the base row at the SID stands: its delete or its modifies, past the inserts there.
+    pub(crate) fn place_of_base(&self, sid: u64) -> Boundary<'_>
+        ensures split { IsSplit (stands_before base_cmp sid) self.now.entries result.index }
+        ensures shift { result.shift ≡ total (take result.index self.now.entries) }
+        ensures entry { option_copied result.entry ≡ slice_get self.now.entries result.index }
+        ensures lawful { IsLawful self.now.key_cols self.now.entries }
+    {
+        self.place(sid, &BaseRow)
+    }
+
     /// How many entries stand before what becomes of the base row at the SID: before its delete or its modifies, and past
     /// the inserts there. Found by binary search; it takes no memory.
     pub fn base_index(&self, sid: u64) -> usize
         ensures { IsSplit (stands_before base_cmp sid) self.now.entries result }
     {
-        self.tree.place_of(sid, &BaseRow)
+        self.place_of_base(sid).index
     }
 
     /// How many entries stand at SIDs up to this one.
     pub(crate) fn index_past(&self, sid: u64) -> usize
         ensures { IsSplit (stands_before past_cmp sid) self.now.entries result }
     {
-        self.tree.place_of(sid, &Past)
+        self.place(sid, &Past).index
     }
 
-    /// How many entries stand before the modifies of this column, or a greater one, at the SID.
-    pub(crate) fn index_of_modify(&self, sid: u64, col: usize) -> usize
-        ensures { IsSplit (stands_before (modify_cmp col) sid) self.now.entries result }
+    /// Where the modifies of this column, or a greater one, stand at the SID.
+    pub(crate) fn place_of_modify(&self, sid: u64, col: usize) -> Boundary<'_>
+        ensures split { IsSplit (stands_before (modify_cmp col) sid) self.now.entries result.index }
+        ensures shift { result.shift ≡ total (take result.index self.now.entries) }
+        ensures entry { option_copied result.entry ≡ slice_get self.now.entries result.index }
+        ensures lawful { IsLawful self.now.key_cols self.now.entries }
     {
-        self.tree.place_of(sid, &ModifyOf { col })
+        self.place(sid, &ModifyOf { col })
+    }
+
+    /// Where a change stands at the SID, or would stand.
+    pub(crate) fn place_of_change(&self, sid: u64, change: &Change) -> Boundary<'_>
+        ensures split { IsSplit (stands_before (change_cmp self.now.key_cols change.now) sid) self.now.entries result.index }
+        ensures shift { result.shift ≡ total (take result.index self.now.entries) }
+        ensures entry { option_copied result.entry ≡ slice_get self.now.entries result.index }
+        ensures lawful { IsLawful self.now.key_cols self.now.entries }
+    {
+        match change {
+            Change::Ins(row) => self.place_of_insert(sid, row.key(self.key_cols)),
+            Change::Del(_) => self.place_of_base(sid),
+            Change::Mod(col, _) => self.place_of_modify(sid, *col),
+        }
     }
 }
 

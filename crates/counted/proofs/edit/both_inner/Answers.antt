@@ -1,7 +1,6 @@
-use Rattle.std.proofs.Common.{ℕ, List, sym, subst}
+use Rattle.std.proofs.Common.{ℕ, sym, subst}
 use Rattle.std.specs.List.{All}
 use Rattle.std.proofs.lemmas.List.Elements.{All-nil}
-use Rattle.counted.specs.declared.node.Child.{Child}
 use Rattle.counted.specs.Shapes.{IsChild, depth_of}
 use Rattle.counted.proofs.edit.both_inner.Goals as goal
 

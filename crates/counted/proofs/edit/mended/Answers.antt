@@ -1,5 +1,4 @@
-use Rattle.std.proofs.Common.{ℕ, ◌≡◌, ◌+◌, ◌-◌, ◌<◌, ◌++◌, length, ap, ◌∙◌, arith, length-append}
-use Rattle.counted.specs.Shapes.{items_of}
+use Rattle.std.proofs.Common.{◌-◌, ◌<◌, length, ap, arith, length-append}
 use Rattle.counted.proofs.Places.{child_few, grown_length}
 use Rattle.counted.proofs.edit.mended.Goals as goal
 

@@ -1,4 +1,4 @@
-use Rattle.std.proofs.Common.{◌+◌, ◌/◌, length, take, drop, refl, arith, length-take, length-drop}
+use Rattle.std.proofs.Common.{◌/◌, refl, arith, length-take, length-drop}
 use Rattle.counted.proofs.Leaves.{values-split}
 use Rattle.counted.proofs.grown.grown_leaf.Goals as goal
 

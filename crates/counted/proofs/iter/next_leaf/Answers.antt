@@ -1,4 +1,4 @@
-use Rattle.std.proofs.Common.{◌≡◌, ◌+◌, ◌≤◌, length, arith}
+use Rattle.std.proofs.Common.{arith}
 use Rattle.counted.proofs.Leaves.{leaf_front}
 use Rattle.counted.proofs.iter.next_leaf.Goals as goal
 

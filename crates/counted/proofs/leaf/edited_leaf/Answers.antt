@@ -1,5 +1,5 @@
-use Rattle.std.proofs.Common.{◌≡◌, ◌+◌, ◌-◌, ◌++◌, length, take, drop, ap, ◌∙◌}
-use Rattle.counted.specs.Edits.{values_of, put_items, edited}
+use Rattle.std.proofs.Common.{◌+◌, ◌-◌, ◌++◌, length, take, drop, ap, ◌∙◌}
+use Rattle.counted.specs.Edits.{values_of, put_items}
 use Rattle.counted.proofs.Leaves.{leaf_edited}
 use Rattle.counted.proofs.leaf.edited_leaf.Goals as goal
 

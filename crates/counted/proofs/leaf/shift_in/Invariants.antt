@@ -1,5 +1,4 @@
-use Rattle.std.proofs.Common.{◌≡◌, drop, take}
-use Rattle.std.specs.Prelude.{◌+ℤ◌}
+use Rattle.std.proofs.Common.{◌≡◌, take}
 use Rattle.counted.specs.Edits.{values_of}
 use Rattle.counted.specs.Sums.{shift_before}
 use Rattle.counted.proofs.leaf.shift_in.Given as goal

@@ -1,11 +1,15 @@
-use Rattle.std.proofs.Common.{◌≡◌, ◌+◌, ◌-◌, ◌/◌, ◌<◌, ◌≤◌, length, get_or, ap, arith}
-use Rattle.counted.specs.Shapes.{items_of}
-use Rattle.counted.proofs.Places.{child_some}
+use Rattle.std.proofs.Common.{◌≡◌, ◌+◌, ◌-◌, ◌/◌, ◌<◌, length, subst, sym, ◌∙◌, arith}
+use Rattle.counted.specs.Shapes.{IsChild}
+use Rattle.counted.specs.declared.node.Child.{Child}
+use Rattle.counted.proofs.Heads.{first_sid-get}
 use Rattle.counted.proofs.search.child_before.Goals as goal
 
-pub begins_before-requires-clause-some : goal.begins_before-requires-clause-some
-begins_before-requires-clause-some g c =
+child_is : (depth : _) (c x : Child) → x ≡ c → IsChild depth c → IsChild depth x
+child_is depth c x e h = subst (IsChild depth) (sym e) h
+
+pub begins_before-requires : goal.begins_before-requires
+begins_before-requires g c =
     let m = c.loop-low.low + (c.loop-low.high - c.loop-low.low) / 2 in
     let lt : m < length c.args.children.now = omega arith in
-    let some = child_some _ _ (c.requires.children.each m c.index-children-middle.result lt) in
-    omega (arith, ap (λ x. length (items_of x)) c.index-children-middle.is)
+    let is = child_is _ _ _ c.index-children-middle.is (c.requires.children.each m c.index-children-middle.result lt) in
+    record { first = is.first ∙ first_sid-get _ _ is.head; head = is.head }

@@ -1,4 +1,4 @@
-use Rattle.std.proofs.Common.{◌≡◌, ◌+◌, ◌-◌, ◌<◌, ◌≤◌, true, false, length, get_or}
+use Rattle.std.proofs.Common.{◌≡◌, ◌-◌, ◌<◌, ◌≤◌, true, false, length, get_or}
 use Rattle.model.specs.declared.entry.Entry.{Entry}
 use Rattle.counted.specs.declared.node.Child.{Child}
 use Rattle.counted.specs.Search.{stands_before}

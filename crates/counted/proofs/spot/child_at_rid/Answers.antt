@@ -1,11 +1,10 @@
-use Rattle.std.proofs.Common.{◌≡◌, ℕ, zero, suc, ◌+◌, ◌<◌, ◌≤◌, ◌^◌, length, take, drop, get_or, ap, ◌∙◌, sym, refl, subst, arith, length-append}
-use Rattle.std.specs.Prelude.{ℤ, pos, ◌+ℤ◌, ◌≤ℤ◌, ◌<ℤ◌, Bool, true, false}
+use Rattle.std.proofs.Common.{◌+◌, ◌<◌, length, take, drop, get_or, ap, ◌∙◌, refl, arith, length-append}
 use Rattle.std.proofs.lemmas.Int.{ints}
 use Rattle.std.proofs.lemmas.List.{get_or_default}
 use Rattle.counted.specs.declared.node.Child.{Child}
-use Rattle.counted.specs.Shapes.{items_of, all_items}
+use Rattle.counted.specs.Shapes.{all_items}
 use Rattle.counted.proofs.Totals.{total_within}
-use Rattle.counted.proofs.Places.{items_from, split_items, total_items-more, count-more, count_within}
+use Rattle.counted.proofs.Places.{split_items, total_items-more, count-more, count_within}
 use Rattle.counted.proofs.SpotSteps.{children_pass, children_stop, spot_same}
 use Rattle.counted.proofs.spot.child_at_rid.Goals as goal
 

@@ -1,5 +1,5 @@
-use Rattle.std.proofs.Common.{Global, ◌≡◌, ℕ, zero, suc, ◌+◌, ◌<◌, ◌≤◌, ◌^◌, length, take, drop, get_or, ap, ◌∙◌, sym, refl, subst, arith, length-take}
-use Rattle.std.specs.Prelude.{ℤ, pos, ◌+ℤ◌, ◌≤ℤ◌, ◌<ℤ◌, Bool, true, false}
+use Rattle.std.proofs.Common.{Global, zero, suc, ◌+◌, take, ap, ◌∙◌, refl, arith, length-take}
+use Rattle.std.specs.Prelude.{◌<ℤ◌, true, false}
 use Rattle.std.proofs.lemmas.Int.{ints}
 use Rattle.std.specs.declared.sync.Arc.{Arc}
 use Rattle.model.specs.declared.entry.Entry.{Entry}

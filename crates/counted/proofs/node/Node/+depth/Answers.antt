@@ -1,5 +1,5 @@
-use Rattle.std.proofs.Common.{◌+◌, ◌<◌, ap, ◌∙◌, arith, length}
-use Rattle.counted.specs.Shapes.{items_of, depth_of}
+use Rattle.std.proofs.Common.{◌<◌, ap, ◌∙◌, arith, length}
+use Rattle.counted.specs.Shapes.{depth_of}
 use Rattle.counted.proofs.Places.{at_inner, child_few, below_power}
 use Rattle.counted.proofs.node.Node.+depth.Goals as goal
 

@@ -1,10 +1,7 @@
-use Rattle.std.proofs.Common.{ℕ, List, refl, ◌≡◌, ◌+◌, ◌-◌, ◌<◌, ◌≤◌, ◌++◌, length, get_or, take, drop, subst, ap, sym, ◌∙◌, arith, rules, length-append}
-use Rattle.std.specs.List.{All}
+use Rattle.std.proofs.Common.{List, refl, ◌≡◌, ◌+◌, ◌-◌, ◌≤◌, ◌++◌, length, take, drop, subst, ap, sym, ◌∙◌, arith, rules}
 use Rattle.model.specs.declared.entry.Entry.{Entry}
-use Rattle.counted.specs.declared.node.Child.{Child}
 use Rattle.counted.specs.Edits.{values_of, put_items, edited}
-use Rattle.counted.specs.Grown.{grown_items, AreGrown}
-use Rattle.counted.specs.Shapes.{items_of, all_items, depth_of, IsChild, AreChildren}
+use Rattle.counted.specs.Shapes.{items_of, all_items, depth_of, AreChildren}
 use Rattle.counted.proofs.Leaves.{put_items-le, gone_within}
 use Rattle.counted.proofs.Totals.{length-values}
 use Rattle.counted.proofs.Places.{at_inner, at_leaf, child_few, depth_all, deep_children, edited_in_child, length-edited, grown_is, grown_length, grown_result_same, regrown}

@@ -1,9 +1,7 @@
-use Rattle.std.proofs.Common.{ℕ, List, ◌≡◌, ◌+◌, ◌-◌, ◌<◌, ◌≤◌, ◌++◌, length, take, drop, get_or, subst, ap, sym, ◌∙◌, arith, length-append, length-drop}
-use Rattle.std.specs.declared.sync.Arc.{Arc}
-use Rattle.std.proofs.Common.{Global}
+use Rattle.std.proofs.Common.{List, ◌≡◌, ◌+◌, ◌-◌, ◌≤◌, ◌++◌, length, take, drop, get_or, subst, ap, sym, ◌∙◌, arith, length-append, length-drop}
 use Rattle.model.specs.declared.entry.Entry.{Entry}
 use Rattle.counted.specs.Edits.{values_of}
-use Rattle.counted.specs.Shapes.{items_of, all_items}
+use Rattle.counted.specs.Shapes.{items_of}
 use Rattle.counted.proofs.Totals.{length-values}
 use Rattle.counted.proofs.Places.{at_inner, at_leaf, drop_in_child}
 use Rattle.counted.proofs.Leaves.{leaf_rest}

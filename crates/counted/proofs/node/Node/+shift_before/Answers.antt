@@ -1,4 +1,4 @@
-use Rattle.std.proofs.Common.{◌≡◌, ◌+◌, ◌<◌, ◌≤◌, length, get_or, subst, ap, sym, ◌∙◌, arith, rules}
+use Rattle.std.proofs.Common.{length, subst, ap, sym, ◌∙◌, arith, rules}
 use Rattle.std.proofs.lemmas.Int.{ints}
 use Rattle.counted.specs.Sums.{shift_before, IsOrdered}
 use Rattle.counted.specs.Shapes.{items_of}

@@ -1,4 +1,4 @@
-use Rattle.std.proofs.Common.{◌+◌, ◌≡◌, ◌++◌, ap, ◌∙◌, arith, length, length-append}
+use Rattle.std.proofs.Common.{ap, arith, length, length-append}
 use Rattle.counted.specs.Edits.{put_items}
 use Rattle.counted.specs.Grown.{grown_items}
 use Rattle.counted.proofs.Leaves.{put_items-le}

@@ -1,9 +1,6 @@
-use Rattle.std.proofs.Common.{ℕ, List, ◌≡◌, ◌+◌, ◌≤◌, ◌++◌, length, refl, ap, sym, ◌∙◌, subst, arith, length-append}
-use Rattle.std.specs.List.{All}
-use Rattle.model.specs.declared.entry.Entry.{Entry}
-use Rattle.counted.specs.declared.node.Child.{Child}
+use Rattle.std.proofs.Common.{◌≡◌, ◌+◌, ◌≤◌, ◌++◌, length, refl, ap, sym, ◌∙◌, subst, arith, length-append}
 use Rattle.counted.specs.Edits.{values_of}
-use Rattle.counted.specs.Shapes.{IsChild, AreChildren, all_items, depth_of}
+use Rattle.counted.specs.Shapes.{AreChildren, all_items, depth_of}
 use Rattle.counted.proofs.Totals.{length-values}
 use Rattle.counted.proofs.Places.{at_inner, at_leaf, deep_children, regrown, depth_all, grown_result_same}
 use Rattle.counted.proofs.node.Node.joined.Goals as goal

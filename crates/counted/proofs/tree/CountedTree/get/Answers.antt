@@ -1,4 +1,4 @@
-use Rattle.std.proofs.Common.{Global, ◌≡◌, ap, ◌∙◌}
+use Rattle.std.proofs.Common.{Global, ap, ◌∙◌}
 use Rattle.std.specs.declared.sync.Arc.{Arc}
 use Rattle.model.specs.declared.entry.Entry.{Entry}
 use Rattle.counted.proofs.Leaves.{entry_at}

@@ -1,4 +1,4 @@
-use Rattle.std.proofs.Common.{◌≡◌, ◌+◌, ◌<◌, ◌≤◌, [], ◌∷◌, ◌++◌, take, drop, ap, ◌∙◌, arith, length}
+use Rattle.std.proofs.Common.{◌+◌, [], ap, ◌∙◌, arith}
 use Rattle.counted.specs.Edits.{edited}
 use Rattle.counted.proofs.Runs.{run_step}
 use Rattle.counted.proofs.tree.CountedTree.replace_run.Goals as goal

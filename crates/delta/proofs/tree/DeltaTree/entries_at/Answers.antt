@@ -1,5 +1,4 @@
-use Rattle.std.proofs.Common.{◌≡◌, ◌+◌, ◌-◌, ◌≤◌, List, length, take, drop, ap, ◌∙◌, arith}
-use Rattle.model.specs.declared.entry.Entry.{Entry}
+use Rattle.std.proofs.Common.{◌-◌, length, take, drop, ap, ◌∙◌, arith}
 use Rattle.delta.specs.Tree.{Tree}
 use Rattle.delta.proofs.RangesLemmas.{first-le-past, filter-at}
 use Rattle.delta.proofs.tree.DeltaTree.entries_at.Goals as goal

@@ -1,14 +1,11 @@
-use Rattle.std.proofs.Common.{◌≡◌, ℕ, ◌++◌, List, filter, take, drop, sym, ap, ◌∙◌, subst, arith}
+use Rattle.std.proofs.Common.{◌≡◌, ℕ, List, sym, ap, ◌∙◌, subst}
 use Rattle.model.specs.declared.entry.Entry.{Entry}
 use Rattle.model.specs.declared.entry.Change.TheVariants.{Del}
 use Rattle.model.specs.Entries.{entry_at, IsLawful}
 use Rattle.model.specs.Edits.{put_del}
-use Rattle.model.specs.Places.{insert_count, delete_count}
 use Rattle.delta.specs.Tree.{Tree}
 use Rattle.delta.specs.Changes.{with_run}
-use Rattle.delta.proofs.CountLemmas.{insert_worth, delete_worth, counts-le}
-use Rattle.delta.proofs.ChangesLemmas.{is_kept, base-le-past, filter-kept, put_del-split}
-use Rattle.delta.proofs.ChangeCountLemmas.{counts_inserts, counts_deletes, count-delete}
+use Rattle.delta.proofs.ChangesLemmas.{base-le-past, put_del-split}
 use Rattle.delta.proofs.LawfulLemmas.{IsLawful-put_del}
 use Rattle.delta.proofs.tree.DeltaTree.put_del.Goals as goal
 

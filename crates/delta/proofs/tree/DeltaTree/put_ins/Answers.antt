@@ -1,17 +1,14 @@
-use Rattle.std.proofs.Common.{◌≡◌, ℕ, List, sym, ap, ◌∙◌, subst, arith}
+use Rattle.std.proofs.Common.{◌≡◌, ℕ, List, sym, ap, ◌∙◌, subst}
 use Rattle.values.specs.Shape.{key_of}
 use Rattle.values.specs.declared.row.Key.{Key}
 use Rattle.model.specs.declared.entry.Entry.{Entry}
 use Rattle.model.specs.declared.entry.Change.TheVariants.{Ins}
 use Rattle.model.specs.Entries.{entry_at, IsLawful}
 use Rattle.model.specs.Edits.{put_ins}
-use Rattle.model.specs.Places.{insert_count, delete_count}
 use Rattle.delta.specs.Tree.{Tree}
 use Rattle.delta.specs.Search.{insert_cmp, stands_before, IsSplit}
 use Rattle.delta.specs.Changes.{with_run}
-use Rattle.delta.proofs.CountLemmas.{insert_worth, delete_worth, counts-le}
 use Rattle.delta.proofs.ChangesLemmas.{put_ins-split}
-use Rattle.delta.proofs.ChangeCountLemmas.{counts_inserts, counts_deletes, count-insert}
 use Rattle.delta.proofs.LawfulLemmas.{IsLawful-put_ins}
 use Rattle.delta.proofs.tree.DeltaTree.put_ins.Goals as goal
 

@@ -2,12 +2,9 @@ use Rattle.std.proofs.Common.{◌≡◌, ℕ, Option, ◌<◌, ◌+◌, refl, Li
 use Rattle.model.specs.declared.entry.Entry.{Entry}
 use Rattle.model.specs.Entries.{entry_at, IsLawful}
 use Rattle.model.specs.Edits.{change_with_cell, set_ins}
-use Rattle.model.specs.Places.{insert_count, delete_count}
 use Rattle.delta.specs.Tree.{Tree}
 use Rattle.delta.specs.Changes.{has_cell}
-use Rattle.delta.proofs.CountLemmas.{insert_worth, delete_worth}
 use Rattle.delta.proofs.ChangesLemmas.{nothing, found_in, some_of, cell_of}
-use Rattle.delta.proofs.ChangeCountLemmas.{counts_inserts, counts_deletes, count-set}
 use Rattle.std.specs.Prelude.{IsSomeAnd}
 use Rattle.values.specs.declared.row.Row.{Row}
 use Rattle.delta.proofs.CountedLemmas.{some_get, run_is_set}

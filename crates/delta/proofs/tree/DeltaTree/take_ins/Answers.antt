@@ -2,11 +2,8 @@ use Rattle.std.proofs.Common.{◌≡◌, ℕ, List, length, get_or, remove, sym,
 use Rattle.model.specs.declared.entry.Entry.{Entry}
 use Rattle.model.specs.Entries.{IsLawful}
 use Rattle.model.specs.Edits.{take_ins}
-use Rattle.model.specs.Places.{insert_count, delete_count}
 use Rattle.delta.specs.Tree.{Tree}
-use Rattle.delta.proofs.CountLemmas.{insert_worth, delete_worth}
 use Rattle.delta.proofs.ChangesLemmas.{nothing, found_in}
-use Rattle.delta.proofs.ChangeCountLemmas.{counts_inserts, counts_deletes, count-remove, insert_is, no_delete_is}
 use Rattle.delta.proofs.LawfulLemmas.{IsLawful-take_ins}
 use Rattle.delta.proofs.tree.DeltaTree.take_ins.Goals as goal
 
