@@ -10,7 +10,8 @@ use Rattle.values.specs.Orders.{key_cmp, key_cmp_total, key_cmp-IsAntisymmetric}
 use Rattle.values.specs.Shape.{key_of}
 use Rattle.values.specs.declared.row.Row.{Row}
 use Rattle.values.specs.declared.row.Key.{Key}
-use Rattle.model.specs.declared.clash.ConflictRule.TheVariants.{ByColumn}
+use Rattle.model.specs.declared.clash.ConflictRule.{ConflictRule}
+use Rattle.model.specs.declared.clash.ConflictRule.TheVariants.{ByColumn, ByRow}
 use Rattle.model.specs.declared.clash.ClashKind.{ClashKind}
 use Rattle.model.specs.declared.clash.ClashKind.TheVariants.{InsertInsert, ModifyModify}
 use Rattle.model.specs.declared.entry.Entry.{Entry}
@@ -24,28 +25,31 @@ use Rattle.model.specs.Entries.{entry_at, entries_of, canonical_entries, change_
 use Rattle.model.specs.Places.{insert_count, delete_count, rid_of_insert}
 use Rattle.model.specs.Rebasing.{or_clash, clash_of_changes, clash_of_entries, clash_with, stands_first, inserts_before, deletes_before, rebased_entry}
 use Rattle.model.proofs.CallerLemmas.{first, second, both, less, turn_less, turn_greater}
-use Rattle.delta.specs.Search.{stands_before, IsSplit}
+use Rattle.delta.specs.Search.{base_cmp, stands_before, IsSplit}
 use Rattle.delta.proofs.CallerLemmas.{insert_count-cons, delete_count-cons, insert_worth, delete_worth, entry_cmp-trans, ordered_right, split_is}
-use Rattle.layers.specs.Serialization.{clash_with_head}
+use Rattle.layers.specs.Serialization.{row_cmp, clash_cmp, clash_with_head}
 
 -- ---- the first entry that is left
 
-pub clash_head : (key_cols i j : ℕ) (x y : Entry) (es : List Entry) → slice_get es j ≡ Some y → or_clash i j (clash_of_entries ByColumn key_cols x y) None ≡ clash_with_head key_cols i x j (drop j es)
-clash_head key_cols i j x y es is = by j es is
-  where
-    by : (n : ℕ) (zs : List Entry) → slice_get zs n ≡ Some y → or_clash i j (clash_of_entries ByColumn key_cols x y) None ≡ clash_with_head key_cols i x j (drop n zs)
-    by n [] p = cc
-    by zero (z ∷ zs) p = let same : y ≡ z = cc in ap (λ (e : Entry). or_clash i j (clash_of_entries ByColumn key_cols x e) None) same
-    by (suc n) (z ∷ zs) p = by n zs p
+module _ (rule : ConflictRule) (key_cols i j : ℕ) (x : Entry) where
+  pub clash_head : (y : Entry) (es : List Entry) → slice_get es j ≡ Some y →
+      or_clash i j (clash_of_entries rule key_cols x y) None ≡ clash_with_head rule key_cols i x j (drop j es)
+  clash_head y es is = by j es is
+    where
+      by : (n : ℕ) (zs : List Entry) → slice_get zs n ≡ Some y →
+          or_clash i j (clash_of_entries rule key_cols x y) None ≡ clash_with_head rule key_cols i x j (drop n zs)
+      by n [] p = cc
+      by zero (z ∷ zs) p = let same : y ≡ z = cc in ap (λ (e : Entry). or_clash i j (clash_of_entries rule key_cols x e) None) same
+      by (suc n) (z ∷ zs) p = by n zs p
 
-pub clash_none : (key_cols i j : ℕ) (x : Entry) (es : List Entry) → slice_get es j ≡ None → None ≡ clash_with_head key_cols i x j (drop j es)
-clash_none key_cols i j x es is = by j es is
-  where
-    by : (n : ℕ) (zs : List Entry) → slice_get zs n ≡ None → None ≡ clash_with_head key_cols i x j (drop n zs)
-    by zero [] p = refl
-    by (suc n) [] p = refl
-    by zero (z ∷ zs) p = cc
-    by (suc n) (z ∷ zs) p = by n zs p
+  pub clash_none : (es : List Entry) → slice_get es j ≡ None → None ≡ clash_with_head rule key_cols i x j (drop j es)
+  clash_none es is = by j es is
+    where
+      by : (n : ℕ) (zs : List Entry) → slice_get zs n ≡ None → None ≡ clash_with_head rule key_cols i x j (drop n zs)
+      by zero [] p = refl
+      by (suc n) [] p = refl
+      by zero (z ∷ zs) p = cc
+      by (suc n) (z ∷ zs) p = by n zs p
 
 -- ---- the position of an entry in the image of the tree
 
@@ -151,122 +155,201 @@ module _ (key_cols : ℕ) where
   abbrev pub agrees : Entry → Entry → Bool
   agrees x y = agree_at (x.sid == y.sid) x.change y.change
 
-  -- changes that don't tie don't clash
-  unclashed : (here : Bool) (c d : Change) → T (agree_at here c d) → (here ≡ true → change_cmp key_cols c d ≡ Equal → ⊥) → clash_of_changes ByColumn key_cols here c d ≡ None
-  unclashed here (Ins row) (Ins other) a f = by (eq_by_cmp key_cmp (key_of key_cols row) (key_of key_cols other)) refl a
-    where
-      by : (b : Bool) → eq_by_cmp key_cmp (key_of key_cols row) (key_of key_cols other) ≡ b → T (cond b here true) → clash_of_changes ByColumn key_cols here (Ins row) (Ins other) ≡ None
-      by true e h = absurd (f (is_true here h) (equal (key_cmp (key_of key_cols row) (key_of key_cols other)) e))
-      by false e h = ap (λ b. cond b (Some InsertInsert) None) e
-  unclashed here (Ins row) (Del key) a f = refl
-  unclashed here (Ins row) (Mod col value) a f = refl
-  unclashed here (Del key) (Ins row) a f = refl
-  unclashed true (Del key) (Del other) a f = absurd (f refl refl)
-  unclashed false (Del key) (Del other) a f = refl
-  unclashed true (Del key) (Mod col value) a f = absurd (f refl refl)
-  unclashed false (Del key) (Mod col value) a f = refl
-  unclashed here (Mod col value) (Ins row) a f = refl
-  unclashed true (Mod col value) (Del key) a f = absurd (f refl refl)
-  unclashed false (Mod col value) (Del key) a f = refl
-  unclashed false (Mod col value) (Mod other w) a f = refl
-  unclashed true (Mod col value) (Mod other w) a f = by (col == other) refl
-    where
-      by : (b : Bool) → (col == other) ≡ b → cond b (Some ModifyModify) None ≡ None
-      by true e = absurd (f refl (ap (nat_cmp col) (sym (eqb-true col other e)) ∙ tied_itself nat_cmp_total col))
-      by false e = refl
+  module _ (rule : ConflictRule) where
+    -- how entries stand to one another, so that those tie that can clash
+    abbrev clash_order : Entry → Entry → Ordering
+    clash_order x y = ordering_then (nat_cmp x.sid y.sid) (clash_cmp key_cols rule x.change y.change)
 
-  -- and those that do, at one SID, clash
-  tied_clash : (c d : Change) → change_cmp key_cols c d ≡ Equal → is_some (clash_of_changes ByColumn key_cols true c d) ≡ true
-  tied_clash (Ins row) (Ins other) e = ap (λ r. is_some (cond (is_eq r) (Some InsertInsert) None)) e
-  tied_clash (Ins row) (Del key) e = cc
-  tied_clash (Ins row) (Mod col value) e = cc
-  tied_clash (Del key) (Ins row) e = cc
-  tied_clash (Del key) (Del other) e = refl
-  tied_clash (Del key) (Mod col value) e = refl
-  tied_clash (Mod col value) (Ins row) e = cc
-  tied_clash (Mod col value) (Del key) e = refl
-  tied_clash (Mod col value) (Mod other w) e =
-      let same : col ≡ other = ranked col other Equal (sym e) in
-      ap (λ b. is_some (cond b (Some ModifyModify) None)) (number_is col other same)
-
-  module _ (x : Entry) where
-    unclashed_entry : (y : Entry) → T (agrees x y) → (entry_cmp key_cols x y ≡ Equal → ⊥) → clash_of_entries ByColumn key_cols x y ≡ None
-    unclashed_entry y a f =
-        unclashed (x.sid == y.sid) x.change y.change a
-        (λ here tie. f (ap (λ n. ordering_then (nat_cmp x.sid n) (change_cmp key_cols x.change y.change)) (sym (eqb-true x.sid y.sid here)) ∙ ap (λ r. ordering_then r (change_cmp key_cols x.change y.change)) (tied_itself nat_cmp_total x.sid) ∙ tie))
-
-    tied_entry : (y : Entry) → entry_cmp key_cols x y ≡ Equal → is_some (clash_of_entries ByColumn key_cols x y) ≡ true
-    tied_entry y e = by (nat_cmp x.sid y.sid) refl e
+    -- changes that don't tie don't clash
+    unclashed : (here : Bool) (c d : Change) → T (agree_at here c d) → (here ≡ true → clash_cmp key_cols rule c d ≡ Equal → ⊥) →
+        clash_of_changes rule key_cols here c d ≡ None
+    unclashed here (Ins row) (Ins other) a f = by (eq_by_cmp key_cmp (key_of key_cols row) (key_of key_cols other)) refl a
       where
-        by : (r : Ordering) → nat_cmp x.sid y.sid ≡ r → ordering_then r (change_cmp key_cols x.change y.change) ≡ Equal → is_some (clash_of_entries ByColumn key_cols x y) ≡ true
-        by Less q g = cc
-        by Equal q g =
-            let same : x.sid ≡ y.sid = ranked x.sid y.sid Equal (sym q) in
-            ap (λ b. is_some (clash_of_changes ByColumn key_cols b x.change y.change)) (number_is x.sid y.sid same) ∙ tied_clash x.change y.change g
-        by Greater q g = cc
+        ties : (r : ConflictRule) → key_cmp (key_of key_cols row) (key_of key_cols other) ≡ Equal → clash_cmp key_cols r (Ins row) (Ins other) ≡ Equal
+        ties ByColumn e = e
+        ties ByRow e = e
 
-    -- an entry that isn't before it, and doesn't clash, is past it
-    past_it : (y : Entry) → T (not (is_gt (entry_cmp key_cols x y))) → clash_of_entries ByColumn key_cols x y ≡ None → entry_cmp key_cols x y ≡ Less
-    past_it y n none = by (entry_cmp key_cols x y) refl n
+        by : (b : Bool) → eq_by_cmp key_cmp (key_of key_cols row) (key_of key_cols other) ≡ b → T (cond b here true) →
+            clash_of_changes rule key_cols here (Ins row) (Ins other) ≡ None
+        by true e h = absurd (f (is_true here h) (ties rule (equal (key_cmp (key_of key_cols row) (key_of key_cols other)) e)))
+        by false e h = ap (λ b. cond b (Some InsertInsert) None) e
+    unclashed here (Ins row) (Del key) a f = refl
+    unclashed here (Ins row) (Mod col value) a f = refl
+    unclashed here (Del key) (Ins row) a f = refl
+    unclashed true (Del key) (Del other) a f = absurd (f refl (by rule))
       where
-        by : (r : Ordering) → entry_cmp key_cols x y ≡ r → T (not (is_gt r)) → r ≡ Less
-        by Less q g = refl
-        by Equal q g = let some = sym (tied_entry y q) ∙ ap is_some none in cc
-        by Greater q g = absurd g
-
-    none_past : (y : Entry) (zs : List Entry) (i j : ℕ) → entry_cmp key_cols x y ≡ Less → T (list_all (λ z. is_lt (entry_cmp key_cols y z)) zs) → T (list_all (agrees x) zs) → clash_with ByColumn key_cols i x j zs ≡ None
-    none_past y [] i j lt h a = refl
-    none_past y (z ∷ zs) i j lt h a =
-        let less_z = entry_cmp-trans key_cols x y z lt (less _ (first (is_lt (entry_cmp key_cols y z)) _ h)) in
-        ap (λ k. or_clash i j k (clash_with ByColumn key_cols i x (suc j) zs)) (unclashed_entry z (first (agrees x z) _ a) (λ e. absurd_less less_z e))
-        ∙ none_past y zs i (suc j) lt (second (is_lt (entry_cmp key_cols y z)) _ h) (second (agrees x z) _ a)
+        by : (r : ConflictRule) → clash_cmp key_cols r (Del key) (Del other) ≡ Equal
+        by ByColumn = refl
+        by ByRow = refl
+    unclashed false (Del key) (Del other) a f = refl
+    unclashed true (Del key) (Mod col value) a f = absurd (f refl (by rule))
       where
-        absurd_less : {r : Ordering} → r ≡ Less → r ≡ Equal → ⊥
-        absurd_less p q = cc
-
-    abbrev stands_off : Entry → Bool
-    stands_off y = stands_before (change_cmp key_cols x.change) x.sid y
-
-    skips : (xs ys : List Entry) (i j : ℕ) → T (list_all stands_off xs) → T (list_all (agrees x) xs) → clash_with ByColumn key_cols i x j (xs ++ ys) ≡ clash_with ByColumn key_cols i x (j + length xs) ys
-    skips [] ys i j h a = let none : j ≡ j + 0 = omega arith in ap (λ n. clash_with ByColumn key_cols i x n ys) none
-    skips (y ∷ xs) ys i j h a =
-        let next : suc j + length xs ≡ j + suc (length xs) = omega arith in
-        ap (λ k. or_clash i j k (clash_with ByColumn key_cols i x (suc j) (xs ++ ys))) (unclashed_entry y (first (agrees x y) _ a) (off (entry_cmp key_cols x y) (first (stands_off y) _ h)))
-        ∙ skips xs ys i (suc j) (second (stands_off y) _ h) (second (agrees x y) _ a)
-        ∙ ap (λ n. clash_with ByColumn key_cols i x n ys) next
+        by : (r : ConflictRule) → clash_cmp key_cols r (Del key) (Mod col value) ≡ Equal
+        by ByColumn = refl
+        by ByRow = refl
+    unclashed false (Del key) (Mod col value) a f = refl
+    unclashed here (Mod col value) (Ins row) a f = refl
+    unclashed true (Mod col value) (Del key) a f = absurd (f refl (by rule))
       where
-        off : (r : Ordering) → T (is_gt r) → r ≡ Equal → ⊥
-        off Less g e = g
-        off Equal g e = g
-        off Greater g e = cc
-
-    at_head : (ys : List Entry) (i j : ℕ) → T (are_ordered key_cols ys) → T (list_all (λ y. not (stands_off y)) ys) → T (list_all (agrees x) ys) → clash_with ByColumn key_cols i x j ys ≡ clash_with_head key_cols i x j ys
-    at_head [] i j o h a = refl
-    at_head (y ∷ ys) i j o h a = by (clash_of_entries ByColumn key_cols x y) refl
+        by : (r : ConflictRule) → clash_cmp key_cols r (Mod col value) (Del key) ≡ Equal
+        by ByColumn = refl
+        by ByRow = refl
+    unclashed false (Mod col value) (Del key) a f = refl
+    unclashed false (Mod col value) (Mod other w) a f = refl
+    unclashed true (Mod col value) (Mod other w) a f = by rule f
       where
-        by : (k : Option ClashKind) → clash_of_entries ByColumn key_cols x y ≡ k → or_clash i j k (clash_with ByColumn key_cols i x (suc j) ys) ≡ or_clash i j k None
-        by (Some kind) e = refl
-        by None e =
-            none_past y ys i (suc j) (past_it y (first (not (stands_off y)) _ h) e) (first (list_all (λ z. is_lt (entry_cmp key_cols y z)) ys) (are_ordered key_cols ys) o) (second (agrees x y) _ a)
+        shared : (b : Bool) → (col == other) ≡ b → ((nat_cmp col other ≡ Equal) → ⊥) → cond b (Some ModifyModify) None ≡ None
+        shared true e g = absurd (g (ap (nat_cmp col) (sym (eqb-true col other e)) ∙ tied_itself nat_cmp_total col))
+        shared false e g = refl
 
-    all_first : (p : Entry → Bool) (n : ℕ) (es : List Entry) → T (list_all p es) → T (list_all p (take n es))
-    all_first p zero es h = tt
-    all_first p (suc n) [] h = tt
-    all_first p (suc n) (e ∷ es) h = both (p e) _ (first (p e) _ h) (all_first p n es (second (p e) _ h))
+        by : (r : ConflictRule) → (true ≡ true → clash_cmp key_cols r (Mod col value) (Mod other w) ≡ Equal → ⊥) →
+            clash_of_changes r key_cols true (Mod col value) (Mod other w) ≡ None
+        by ByColumn g = shared (col == other) refl (g refl)
+        by ByRow g = absurd (g refl refl)
 
-    all_rest : (p : Entry → Bool) (n : ℕ) (es : List Entry) → T (list_all p es) → T (list_all p (drop n es))
-    all_rest p zero es h = h
-    all_rest p (suc n) [] h = tt
-    all_rest p (suc n) (e ∷ es) h = all_rest p n es (second (p e) _ h)
+    -- and those that do, at one SID, clash
+    tied_clash : (r : ConflictRule) (c d : Change) → clash_cmp key_cols r c d ≡ Equal → is_some (clash_of_changes r key_cols true c d) ≡ true
+    tied_clash ByColumn (Ins row) (Ins other) e = ap (λ r. is_some (cond (is_eq r) (Some InsertInsert) None)) e
+    tied_clash ByRow (Ins row) (Ins other) e = ap (λ r. is_some (cond (is_eq r) (Some InsertInsert) None)) e
+    tied_clash ByColumn (Ins row) (Del key) e = cc
+    tied_clash ByRow (Ins row) (Del key) e = cc
+    tied_clash ByColumn (Ins row) (Mod col value) e = cc
+    tied_clash ByRow (Ins row) (Mod col value) e = cc
+    tied_clash ByColumn (Del key) (Ins row) e = cc
+    tied_clash ByRow (Del key) (Ins row) e = cc
+    tied_clash r (Del key) (Del other) e = refl
+    tied_clash r (Del key) (Mod col value) e = refl
+    tied_clash ByColumn (Mod col value) (Ins row) e = cc
+    tied_clash ByRow (Mod col value) (Ins row) e = cc
+    tied_clash r (Mod col value) (Del key) e = refl
+    tied_clash ByColumn (Mod col value) (Mod other w) e =
+        let same : col ≡ other = ranked col other Equal (sym e) in
+        ap (λ b. is_some (cond b (Some ModifyModify) None)) (number_is col other same)
+    tied_clash ByRow (Mod col value) (Mod other w) e = refl
 
-    -- the first clash is that with the entry at the change's place, or there is none
-    pub clash_place : (es : List Entry) (n i : ℕ) → T (are_ordered key_cols es) → IsSplit stands_off es n → T (list_all (agrees x) es) → clash_with ByColumn key_cols i x 0 es ≡ clash_with_head key_cols i x n (drop n es)
-    clash_place es n i o split a =
-        let count : 0 + length (take n es) ≡ n = omega (arith, length-take n es, split.within) in
-        ap (clash_with ByColumn key_cols i x 0) (sym (take-append-drop n es))
-        ∙ skips (take n es) (drop n es) i 0 split.before (all_first (agrees x) n es a)
-        ∙ ap (λ m. clash_with ByColumn key_cols i x m (drop n es)) count
-        ∙ at_head (drop n es) i n (ordered_right key_cols (take n es) (drop n es) (subst (λ zs. T (are_ordered key_cols zs)) (sym (take-append-drop n es)) o)) split.after (all_rest (agrees x) n es a)
+    -- an entry past one that is past it is past it too
+    row_cmp-trans : (c : Change) (n : ℕ) (y z : Entry) → ordering_then (nat_cmp n y.sid) (row_cmp key_cols c y.change) ≡ Less →
+        entry_cmp key_cols y z ≡ Less → ordering_then (nat_cmp n z.sid) (row_cmp key_cols c z.change) ≡ Less
+    row_cmp-trans (Ins row) n y z p q = entry_cmp-trans key_cols (entry_at n (Ins row)) y z p q
+    row_cmp-trans (Del key) n y z p q = entry_cmp-trans key_cols (entry_at n (Del key)) y z p q
+    row_cmp-trans (Mod col value) n y z p q = by (nat_cmp n y.sid) refl p
+      where
+        never : (d : Change) → base_cmp d ≡ Less → ⊥
+        never (Ins row) e = cc
+        never (Del key) e = cc
+        never (Mod other w) e = cc
+
+        past : (r : Ordering) → nat_cmp y.sid z.sid ≡ r → nat_cmp n y.sid ≡ Less →
+            ordering_then r (change_cmp key_cols y.change z.change) ≡ Less → nat_cmp n z.sid ≡ Less
+        past Less s e h = nat_cmp_total.trans n y.sid z.sid e s
+        past Equal s e h = ap (nat_cmp n) (sym (ranked y.sid z.sid Equal (sym s))) ∙ e
+        past Greater s e h = cc
+
+        by : (r : Ordering) → nat_cmp n y.sid ≡ r → ordering_then r (base_cmp y.change) ≡ Less →
+            ordering_then (nat_cmp n z.sid) (base_cmp z.change) ≡ Less
+        by Less e h = ap (λ r. ordering_then r (base_cmp z.change)) (past (nat_cmp y.sid z.sid) refl e q)
+        by Equal e h = absurd (never y.change h)
+        by Greater e h = cc
+
+    clash_order-trans : (x y z : Entry) → clash_order x y ≡ Less → entry_cmp key_cols y z ≡ Less → clash_order x z ≡ Less
+    clash_order-trans x y z p q = by rule p
+      where
+        by : (r : ConflictRule) → ordering_then (nat_cmp x.sid y.sid) (clash_cmp key_cols r x.change y.change) ≡ Less →
+            ordering_then (nat_cmp x.sid z.sid) (clash_cmp key_cols r x.change z.change) ≡ Less
+        by ByColumn h = entry_cmp-trans key_cols x y z h q
+        by ByRow h = row_cmp-trans x.change x.sid y z h q
+
+    module _ (x : Entry) where
+      unclashed_entry : (y : Entry) → T (agrees x y) → (clash_order x y ≡ Equal → ⊥) → clash_of_entries rule key_cols x y ≡ None
+      unclashed_entry y a f =
+          unclashed (x.sid == y.sid) x.change y.change a
+          (λ here tie.
+          let cmp = clash_cmp key_cols rule x.change y.change in
+          f (ap (λ n. ordering_then (nat_cmp x.sid n) cmp) (sym (eqb-true x.sid y.sid here)) ∙ ap (λ r. ordering_then r cmp) (tied_itself nat_cmp_total x.sid) ∙ tie))
+
+      tied_entry : (y : Entry) → clash_order x y ≡ Equal → is_some (clash_of_entries rule key_cols x y) ≡ true
+      tied_entry y e = by (nat_cmp x.sid y.sid) refl e
+        where
+          by : (r : Ordering) → nat_cmp x.sid y.sid ≡ r → ordering_then r (clash_cmp key_cols rule x.change y.change) ≡ Equal →
+              is_some (clash_of_entries rule key_cols x y) ≡ true
+          by Less q g = cc
+          by Equal q g =
+              let same : x.sid ≡ y.sid = ranked x.sid y.sid Equal (sym q) in
+              ap (λ b. is_some (clash_of_changes rule key_cols b x.change y.change)) (number_is x.sid y.sid same) ∙ tied_clash rule x.change y.change g
+          by Greater q g = cc
+
+      -- an entry that isn't before it, and doesn't clash, is past it
+      past_it : (y : Entry) → T (not (is_gt (clash_order x y))) → clash_of_entries rule key_cols x y ≡ None → clash_order x y ≡ Less
+      past_it y n none = by (clash_order x y) refl n
+        where
+          by : (r : Ordering) → clash_order x y ≡ r → T (not (is_gt r)) → r ≡ Less
+          by Less q g = refl
+          by Equal q g = let some = sym (tied_entry y q) ∙ ap is_some none in cc
+          by Greater q g = absurd g
+
+      none_past : (y : Entry) (zs : List Entry) (i j : ℕ) → clash_order x y ≡ Less → T (list_all (λ z. is_lt (entry_cmp key_cols y z)) zs) →
+          T (list_all (agrees x) zs) → clash_with rule key_cols i x j zs ≡ None
+      none_past y [] i j lt h a = refl
+      none_past y (z ∷ zs) i j lt h a =
+          let less_z = clash_order-trans x y z lt (less _ (first (is_lt (entry_cmp key_cols y z)) _ h)) in
+          let none = unclashed_entry z (first (agrees x z) _ a) (λ e. absurd_less less_z e) in
+          ap (λ k. or_clash i j k (clash_with rule key_cols i x (suc j) zs)) none
+          ∙ none_past y zs i (suc j) lt (second (is_lt (entry_cmp key_cols y z)) _ h) (second (agrees x z) _ a)
+        where
+          absurd_less : {r : Ordering} → r ≡ Less → r ≡ Equal → ⊥
+          absurd_less p q = cc
+
+      abbrev stands_off : Entry → Bool
+      stands_off y = stands_before (clash_cmp key_cols rule x.change) x.sid y
+
+      skips : (xs ys : List Entry) (i j : ℕ) → T (list_all stands_off xs) → T (list_all (agrees x) xs) →
+          clash_with rule key_cols i x j (xs ++ ys) ≡ clash_with rule key_cols i x (j + length xs) ys
+      skips [] ys i j h a = let none : j ≡ j + 0 = omega arith in ap (λ n. clash_with rule key_cols i x n ys) none
+      skips (y ∷ xs) ys i j h a =
+          let next : suc j + length xs ≡ j + suc (length xs) = omega arith in
+          let none = unclashed_entry y (first (agrees x y) _ a) (off (clash_order x y) (first (stands_off y) _ h)) in
+          ap (λ k. or_clash i j k (clash_with rule key_cols i x (suc j) (xs ++ ys))) none
+          ∙ skips xs ys i (suc j) (second (stands_off y) _ h) (second (agrees x y) _ a)
+          ∙ ap (λ n. clash_with rule key_cols i x n ys) next
+        where
+          off : (r : Ordering) → T (is_gt r) → r ≡ Equal → ⊥
+          off Less g e = g
+          off Equal g e = g
+          off Greater g e = cc
+
+      at_head : (ys : List Entry) (i j : ℕ) → T (are_ordered key_cols ys) → T (list_all (λ y. not (stands_off y)) ys) →
+          T (list_all (agrees x) ys) → clash_with rule key_cols i x j ys ≡ clash_with_head rule key_cols i x j ys
+      at_head [] i j o h a = refl
+      at_head (y ∷ ys) i j o h a = by (clash_of_entries rule key_cols x y) refl
+        where
+          by : (k : Option ClashKind) → clash_of_entries rule key_cols x y ≡ k →
+              or_clash i j k (clash_with rule key_cols i x (suc j) ys) ≡ or_clash i j k None
+          by (Some kind) e = refl
+          by None e =
+              let past = past_it y (first (not (stands_off y)) _ h) e in
+              let after = first (list_all (λ z. is_lt (entry_cmp key_cols y z)) ys) (are_ordered key_cols ys) o in
+              none_past y ys i (suc j) past after (second (agrees x y) _ a)
+
+      all_first : (p : Entry → Bool) (n : ℕ) (es : List Entry) → T (list_all p es) → T (list_all p (take n es))
+      all_first p zero es h = tt
+      all_first p (suc n) [] h = tt
+      all_first p (suc n) (e ∷ es) h = both (p e) _ (first (p e) _ h) (all_first p n es (second (p e) _ h))
+
+      all_rest : (p : Entry → Bool) (n : ℕ) (es : List Entry) → T (list_all p es) → T (list_all p (drop n es))
+      all_rest p zero es h = h
+      all_rest p (suc n) [] h = tt
+      all_rest p (suc n) (e ∷ es) h = all_rest p n es (second (p e) _ h)
+
+      -- the first clash is that with the entry at the change's place, or there is none
+      pub clash_place : (es : List Entry) (n i : ℕ) → T (are_ordered key_cols es) → IsSplit stands_off es n → T (list_all (agrees x) es) →
+          clash_with rule key_cols i x 0 es ≡ clash_with_head rule key_cols i x n (drop n es)
+      clash_place es n i o split a =
+          let count : 0 + length (take n es) ≡ n = omega (arith, length-take n es, split.within) in
+          let order = ordered_right key_cols (take n es) (drop n es) (subst (λ zs. T (are_ordered key_cols zs)) (sym (take-append-drop n es)) o) in
+          ap (clash_with rule key_cols i x 0) (sym (take-append-drop n es))
+          ∙ skips (take n es) (drop n es) i 0 split.before (all_first (agrees x) n es a)
+          ∙ ap (λ m. clash_with rule key_cols i x m (drop n es)) count
+          ∙ at_head (drop n es) i n order split.after (all_rest (agrees x) n es a)
 
   -- ---- entries over one table agree
 

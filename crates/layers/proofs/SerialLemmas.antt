@@ -8,7 +8,7 @@ use Rattle.std.proofs.lemmas.List.Elements.{All-weaker}
 use Rattle.std.proofs.lemmas.Option.{slice_get_within, get_or_from_slice_get, slice_get_read}
 use Rattle.values.specs.Orders.{key_cmp}
 use Rattle.values.specs.Shape.{Columns}
-use Rattle.model.specs.declared.clash.ConflictRule.TheVariants.{ByColumn}
+use Rattle.model.specs.declared.clash.ConflictRule.{ConflictRule}
 use Rattle.model.specs.declared.clash.Clash.{Clash}
 use Rattle.model.specs.declared.entry.Entry.{Entry}
 use Rattle.model.specs.declared.entry.Change.{Change}
@@ -16,14 +16,14 @@ use Rattle.model.specs.Maps.{is_sorted}
 use Rattle.model.specs.Table.{Table, is_keyed_table}
 use Rattle.model.specs.Effects.{Effects, is_keyed_effect, are_keyed_effects, all_fit, table_with}
 use Rattle.model.specs.Clashes.{conflicts, Conflicts}
-use Rattle.model.specs.Entries.{entry_at, canonical_entries, change_cmp, are_ordered, IsLawful}
+use Rattle.model.specs.Entries.{entry_at, canonical_entries, are_ordered, IsLawful}
 use Rattle.model.specs.Places.{insert_count}
 use Rattle.model.specs.Rebasing.{or_else, clash_with, first_clash, first_clash_from, rebased_entry, rebased_entries, IsLeastClash}
 use Rattle.model.proofs.CallerLemmas.{first, second, canonical_entries-placed, first_clash-least, finds, rebases, ordered}
 use Rattle.delta.specs.Search.{stands_before, IsSplit}
 use Rattle.delta.specs.Tree.{Tree}
 use Rattle.layers.specs.Over.{IsTreeOf, AreAligned}
-use Rattle.layers.specs.Serialization.{clash_with_head, rebased_tree}
+use Rattle.layers.specs.Serialization.{clash_cmp, clash_with_head, rebased_tree}
 use Rattle.delta.proofs.CallerLemmas.{counted, few}
 use Rattle.layers.proofs.ClashLemmas.{is_ranked, agree_all, ranked-canonical_entries, clash_place}
 
@@ -55,18 +55,18 @@ holds_at p (suc n) (z ∷ es) e h is = holds_at p n es e (second (p z) _ h) is
 -- ---- one entry more
 
 -- an entry that clashes with none leaves the clash to the next ones
-pub clear_next : (key_cols n : ℕ) (xs ys : List Entry) (e : Entry) → slice_get xs n ≡ Some e → clash_with ByColumn key_cols n e 0 ys ≡ None → first_clash_from ByColumn key_cols n (drop n xs) ys ≡ first_clash_from ByColumn key_cols (n + 1) (drop (n + 1) xs) ys
-clear_next key_cols n xs ys e at none =
+pub clear_next : (rule : ConflictRule) (key_cols n : ℕ) (xs ys : List Entry) (e : Entry) → slice_get xs n ≡ Some e → clash_with rule key_cols n e 0 ys ≡ None → first_clash_from rule key_cols n (drop n xs) ys ≡ first_clash_from rule key_cols (n + 1) (drop (n + 1) xs) ys
+clear_next rule key_cols n xs ys e at none =
     let next : suc n ≡ n + 1 = omega arith in
-    ap (λ zs. first_clash_from ByColumn key_cols n zs ys) (head_drop n xs e at)
-    ∙ ap (λ c. or_else c (first_clash_from ByColumn key_cols (suc n) (drop (n + 1) xs) ys)) none
-    ∙ ap (λ m. first_clash_from ByColumn key_cols m (drop (n + 1) xs) ys) next
+    ap (λ zs. first_clash_from rule key_cols n zs ys) (head_drop n xs e at)
+    ∙ ap (λ c. or_else c (first_clash_from rule key_cols (suc n) (drop (n + 1) xs) ys)) none
+    ∙ ap (λ m. first_clash_from rule key_cols m (drop (n + 1) xs) ys) next
 
 -- and one that clashes is the first
-pub clash_here : (key_cols n : ℕ) (xs ys : List Entry) (e : Entry) (clash : Clash) → slice_get xs n ≡ Some e → clash_with ByColumn key_cols n e 0 ys ≡ Some clash → first_clash_from ByColumn key_cols n (drop n xs) ys ≡ Some clash
-clash_here key_cols n xs ys e clash at some =
-    ap (λ zs. first_clash_from ByColumn key_cols n zs ys) (head_drop n xs e at)
-    ∙ ap (λ c. or_else c (first_clash_from ByColumn key_cols (suc n) (drop (n + 1) xs) ys)) some
+pub clash_here : (rule : ConflictRule) (key_cols n : ℕ) (xs ys : List Entry) (e : Entry) (clash : Clash) → slice_get xs n ≡ Some e → clash_with rule key_cols n e 0 ys ≡ Some clash → first_clash_from rule key_cols n (drop n xs) ys ≡ Some clash
+clash_here rule key_cols n xs ys e clash at some =
+    ap (λ zs. first_clash_from rule key_cols n zs ys) (head_drop n xs e at)
+    ∙ ap (λ c. or_else c (first_clash_from rule key_cols (suc n) (drop (n + 1) xs) ys)) some
 
 -- the entries so far with one more, made consecutive
 pub moved_next : (key_cols n sid : ℕ) (xs ys out : List Entry) (e : Entry) (change : Change) → slice_get xs n ≡ Some e → sid ≡ (rebased_entry key_cols ys e).sid → change ≡ e.change → out ≡ map (rebased_entry key_cols ys) (take n xs) → out ++ entry_at sid change ∷ [] ≡ map (rebased_entry key_cols ys) (take (n + 1) xs)
@@ -105,7 +105,7 @@ module _ (schema : Columns) (t : Table) (x : Effects) (tree : Tree) (h : IsTreeO
       let same = ap (λ (r : Tree). insert_count r.entries) h.tree_is in
       omega (arith, moved, same, h.few, rows)
 
-module _ (x y : Tree) (w : AreAligned x y) where
+module _ (rule : ConflictRule) (x y : Tree) (w : AreAligned x y) where
   cols_x : x.key_cols ≡ w.schema.key_cols
   cols_x = ap (λ (r : Tree). r.key_cols) w.x_is.tree_is
 
@@ -128,7 +128,7 @@ module _ (x y : Tree) (w : AreAligned x y) where
       omega (arith, bound, w.small.rows)
 
   -- the first clash of an entry is that at its place
-  pub clash_is : (n : ℕ) (e : Entry) (p : ℕ) → slice_get x.entries n ≡ Some e → IsSplit (stands_before (change_cmp y.key_cols e.change) e.sid) y.entries p → clash_with ByColumn y.key_cols n e 0 y.entries ≡ clash_with_head y.key_cols n e p (drop p y.entries)
+  pub clash_is : (n : ℕ) (e : Entry) (p : ℕ) → slice_get x.entries n ≡ Some e → IsSplit (stands_before (clash_cmp y.key_cols rule e.change) e.sid) y.entries p → clash_with rule y.key_cols n e 0 y.entries ≡ clash_with_head rule y.key_cols n e p (drop p y.entries)
   clash_is n e p at split =
       let here = sym (ap (λ (es : List Entry). slice_get es n) list_x) ∙ at in
       let kc = w.schema.key_cols in
@@ -136,33 +136,33 @@ module _ (x y : Tree) (w : AreAligned x y) where
       let y_ranked = ranked-canonical_entries kc w.t w.y (each w.schema w.t w.y y w.y_is w.small.rows) in
       let agree = agree_all kc w.t e (canonical_entries w.t w.y) (holds_at (is_ranked kc w.t) n (canonical_entries w.t w.x) e x_ranked here) y_ranked in
       let order = passes (are_ordered kc (canonical_entries w.t w.y)) (ordered w.schema w.t w.y w.y_is.over).ordered in
-      let P = λ (r : Tree). IsSplit (stands_before (change_cmp r.key_cols e.change) e.sid) r.entries p → clash_with ByColumn r.key_cols n e 0 r.entries ≡ clash_with_head r.key_cols n e p (drop p r.entries) in
-      subst P (sym w.y_is.tree_is) (λ s. clash_place kc e (canonical_entries w.t w.y) p n order s agree) split
+      let P = λ (r : Tree). IsSplit (stands_before (clash_cmp r.key_cols rule e.change) e.sid) r.entries p → clash_with rule r.key_cols n e 0 r.entries ≡ clash_with_head rule r.key_cols n e p (drop p r.entries) in
+      subst P (sym w.y_is.tree_is) (λ s. clash_place kc rule e (canonical_entries w.t w.y) p n order s agree) split
 
   -- the first clash of all, in the words of the effects
-  found_is : first_clash ByColumn y.key_cols x.entries y.entries ≡ first_clash ByColumn w.schema.key_cols (canonical_entries w.t w.x) (canonical_entries w.t w.y)
-  found_is i = first_clash ByColumn (cols_y i) (list_x i) (list_y i)
+  found_is : first_clash rule y.key_cols x.entries y.entries ≡ first_clash rule w.schema.key_cols (canonical_entries w.t w.x) (canonical_entries w.t w.y)
+  found_is i = first_clash rule (cols_y i) (list_x i) (list_y i)
 
-  pub conflicting : (clash : Clash) → first_clash ByColumn y.key_cols x.entries y.entries ≡ Some clash → Conflicts ByColumn w.x w.y × IsLeastClash ByColumn w.schema.key_cols x.entries y.entries clash
+  pub conflicting : (clash : Clash) → first_clash rule y.key_cols x.entries y.entries ≡ Some clash → Conflicts rule w.x w.y × IsLeastClash rule w.schema.key_cols x.entries y.entries clash
   conflicting clash found =
-      let some = sym (finds w.schema ByColumn w.t w.x w.y w.x_is.over w.y_is.over) ∙ ap is_some (sym found_is ∙ found) in
-      let here : first_clash ByColumn w.schema.key_cols x.entries y.entries ≡ Some clash = ap (λ (k : ℕ). first_clash ByColumn k x.entries y.entries) (sym cols_y) ∙ found in
-      (some, subst (λ (o : Option Clash). IfSome o (IsLeastClash ByColumn w.schema.key_cols x.entries y.entries)) here (first_clash-least w.schema.key_cols ByColumn x.entries y.entries).least)
+      let some = sym (finds w.schema rule w.t w.x w.y w.x_is.over w.y_is.over) ∙ ap is_some (sym found_is ∙ found) in
+      let here : first_clash rule w.schema.key_cols x.entries y.entries ≡ Some clash = ap (λ (k : ℕ). first_clash rule k x.entries y.entries) (sym cols_y) ∙ found in
+      (some, subst (λ (o : Option Clash). IfSome o (IsLeastClash rule w.schema.key_cols x.entries y.entries)) here (first_clash-least w.schema.key_cols rule x.entries y.entries).least)
 
-  pub unconflicting : first_clash ByColumn y.key_cols x.entries y.entries ≡ None → conflicts ByColumn w.x w.y ≡ false
-  unconflicting none = sym (finds w.schema ByColumn w.t w.x w.y w.x_is.over w.y_is.over) ∙ ap is_some (sym found_is ∙ none)
+  pub unconflicting : first_clash rule y.key_cols x.entries y.entries ≡ None → conflicts rule w.x w.y ≡ false
+  unconflicting none = sym (finds w.schema rule w.t w.x w.y w.x_is.over w.y_is.over) ∙ ap is_some (sym found_is ∙ none)
 
-  pub rebased_list : first_clash ByColumn y.key_cols x.entries y.entries ≡ None → rebased_entries y.key_cols y.entries x.entries ≡ canonical_entries (table_with w.t w.y) w.x
+  pub rebased_list : first_clash rule y.key_cols x.entries y.entries ≡ None → rebased_entries y.key_cols y.entries x.entries ≡ canonical_entries (table_with w.t w.y) w.x
   rebased_list none =
       (λ i. rebased_entries (cols_y i) (list_y i) (list_x i))
-      ∙ (rebases w.schema ByColumn w.t w.x w.y w.x_is.over w.y_is.over (unconflicting none)).1
+      ∙ (rebases w.schema rule w.t w.x w.y w.x_is.over w.y_is.over (unconflicting none)).1
 
-  pub rebased_is : (tree : Tree) (out : List Entry) → first_clash ByColumn y.key_cols x.entries y.entries ≡ None → out ≡ rebased_entries y.key_cols y.entries x.entries → tree ≡ record { key_cols = x.key_cols; entries = out } → tree ≡ rebased_tree x y w
+  pub rebased_is : (tree : Tree) (out : List Entry) → first_clash rule y.key_cols x.entries y.entries ≡ None → out ≡ rebased_entries y.key_cols y.entries x.entries → tree ≡ record { key_cols = x.key_cols; entries = out } → tree ≡ rebased_tree x y w
   rebased_is tree out none is tree_is = tree_is ∙ (λ i. record { key_cols = cols_x i; entries = (is ∙ rebased_list none) i })
 
-  pub lawful : (out : List Entry) → first_clash ByColumn y.key_cols x.entries y.entries ≡ None → out ≡ rebased_entries y.key_cols y.entries x.entries → IsLawful x.key_cols out
+  pub lawful : (out : List Entry) → first_clash rule y.key_cols x.entries y.entries ≡ None → out ≡ rebased_entries y.key_cols y.entries x.entries → IsLawful x.key_cols out
   lawful out none is =
-      let over = (rebases w.schema ByColumn w.t w.x w.y w.x_is.over w.y_is.over (unconflicting none)).0 in
+      let over = (rebases w.schema rule w.t w.x w.y w.x_is.over w.y_is.over (unconflicting none)).0 in
       let after = table_with w.t w.y in
       let entries = ordered w.schema after w.x over in
       let rows = rows_after w.schema w.t w.y y w.y_is w.small.rows in

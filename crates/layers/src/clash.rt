@@ -1,22 +1,48 @@
 //! Two entries over one image that can't both be kept.
-ghost use Rattle.std.specs.Prelude.{◌≡◌, ◌==◌, None, drop};
+ghost use Rattle.std.specs.Prelude.{◌≡◌, None, drop};
 ghost use Rattle.std.specs.Ordering.{eq_by_cmp};
 ghost use Rattle.values.specs.Orders.{key_cmp};
 ghost use Rattle.values.specs.Shape.{key_of};
-ghost use Rattle.model.specs.declared.clash.ConflictRule.TheVariants.{ByColumn};
-ghost use Rattle.model.specs.Rebasing.{clash_of_entries, clash_of_changes, or_clash};
-ghost use Rattle.layers.specs.Serialization.{clash_with_head};
+ghost use Rattle.delta.specs.Search.{stands_before, IsSplit};
+ghost use Rattle.model.specs.Entries.{change_cmp};
+ghost use Rattle.model.specs.Rebasing.{clash_of_entries, clash_of_changes, columns_clash, or_clash};
+ghost use Rattle.layers.specs.Serialization.{clash_cmp, clash_with_head};
 
 use delta::{Change, DeltaTree, Entry};
-use model::{Clash, ClashKind};
+use model::{Clash, ClashKind, ConflictRule};
 use values::Row;
 
+/// The index of the first entry of the tree that the entry can clash with, if there is one; its own is `index`.
+pub(crate) fn index_of_clash(
+    rule: ConflictRule,
+    entry: &Entry,
+    other: &DeltaTree,
+    index: usize,
+) -> usize
+    requires { IsSplit (stands_before (change_cmp other.now.key_cols entry.now.change) entry.now.sid) other.now.entries index }
+    ensures { IsSplit (stands_before (clash_cmp other.now.key_cols rule entry.now.change) entry.now.sid) other.now.entries result }
+{
+    match (rule, &entry.change) {
+        (ConflictRule::ByRow, Change::Mod(_, _)) => other.base_index(entry.sid),
+        _ => index,
+    }
+}
+
 /// The clash of the entry, which has the index `i` in its tree, with that at `j` in the other one.
-pub(crate) fn clash_at(i: usize, entry: &Entry, other: &DeltaTree, j: usize) -> Option<Clash>
-    ensures { result ≡ clash_with_head other.now.key_cols i entry.now j (drop j other.now.entries) }
+pub(crate) fn clash_at(
+    rule: ConflictRule,
+    i: usize,
+    entry: &Entry,
+    other: &DeltaTree,
+    j: usize,
+) -> Option<Clash>
+    ensures { result ≡ clash_with_head rule other.now.key_cols i entry.now j (drop j other.now.entries) }
 {
     match other.entry(j) {
-        Some(found) => clash_of_kind(i, j, clash_of_entries(other.key_cols(), entry, found)),
+        Some(found) => {
+            let kind = clash_of_entries(rule, other.key_cols(), entry, found);
+            clash_of_kind(i, j, kind)
+        }
         None => None,
     }
 }
@@ -32,15 +58,21 @@ fn clash_of_kind(i: usize, j: usize, kind: Option<ClashKind>) -> Option<Clash>
 }
 
 /// How two entries clash.
-fn clash_of_entries(key_cols: usize, x: &Entry, y: &Entry) -> Option<ClashKind>
-    ensures { result ≡ clash_of_entries ByColumn key_cols x.now y.now }
+fn clash_of_entries(rule: ConflictRule, key_cols: usize, x: &Entry, y: &Entry) -> Option<ClashKind>
+    ensures { result ≡ clash_of_entries rule key_cols x.now y.now }
 {
-    clash_of_changes(key_cols, x.sid == y.sid, &x.change, &y.change)
+    clash_of_changes(rule, key_cols, x.sid == y.sid, &x.change, &y.change)
 }
 
 /// How two changes clash, where they stand at one SID or not.
-fn clash_of_changes(key_cols: usize, here: bool, x: &Change, y: &Change) -> Option<ClashKind>
-    ensures { result ≡ clash_of_changes ByColumn key_cols here x.now y.now }
+fn clash_of_changes(
+    rule: ConflictRule,
+    key_cols: usize,
+    here: bool,
+    x: &Change,
+    y: &Change,
+) -> Option<ClashKind>
+    ensures { result ≡ clash_of_changes rule key_cols here x.now y.now }
 {
     match x {
         Change::Ins(row) => match y {
@@ -57,8 +89,20 @@ fn clash_of_changes(key_cols: usize, here: bool, x: &Change, y: &Change) -> Opti
         Change::Mod(col, _) => match y {
             Change::Ins(_) => None,
             Change::Del(_) => here.then_some(ClashKind::DeleteModify),
-            Change::Mod(other, _) => (here && col == other).then_some(ClashKind::ModifyModify),
+            Change::Mod(other, _) => (here && columns_clash(rule, *col, *other)).then_some(
+                ClashKind::ModifyModify,
+            ),
         },
+    }
+}
+
+/// Whether modifies of these two columns of one row clash.
+fn columns_clash(rule: ConflictRule, col: usize, other: usize) -> bool
+    ensures { result ≡ columns_clash rule col other }
+{
+    match rule {
+        ConflictRule::ByColumn => col == other,
+        ConflictRule::ByRow => true,
     }
 }
 

@@ -12,6 +12,6 @@ mod entry;
 mod propagation;
 mod rebase;
 
-pub use model::{Clash, ClashKind};
+pub use model::{Clash, ClashKind, ConflictRule};
 pub use propagation::propagate;
 pub use rebase::{Serialized, serialize};

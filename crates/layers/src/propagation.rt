@@ -39,14 +39,14 @@ fn fold_entry(tree: &mut DeltaTree, entry: &Entry) -> Result<(), NoMemory>
             let sid = tree.find_gap(entry.sid, row);
             tree.put_ins(sid, row.copy()?)
         }
-        Change::Del(key) => match tree.find_rid(entry.sid) {
+        Change::Del(key) => match tree.find_row(entry.sid) {
             Place::Inserted(index) => {
                 let sid = entry_of(tree, index).sid;
                 tree.take_ins(sid, key)
             }
             Place::Base(sid) => tree.put_del(sid, key.copy()?),
         },
-        Change::Mod(col, value) => match tree.find_rid(entry.sid) {
+        Change::Mod(col, value) => match tree.find_row(entry.sid) {
             Place::Inserted(index) => {
                 let inserted = entry_of(tree, index);
                 let sid = inserted.sid;

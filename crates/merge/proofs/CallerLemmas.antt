@@ -1,2 +1,3 @@
 -- What the crates above cite of this one, in one place. Declares nothing.
 pub use Rattle.merge.proofs.StackLemmas.{layer_rows, merges, over-canonical_entries}
+pub use Rattle.merge.proofs.CursorLemmas.{drop-at}

@@ -1,7 +1,9 @@
 -- The steps of a cursor.
-use Rattle.std.proofs.Common.{◌≡◌, ℕ, zero, suc, ◌+◌, ◌<◌, ◌≤◌, ◌^◌, Bool, true, false, cond, ◌&&◌, T, Some, None, List, [], ◌∷◌, ◌++◌, map, length, filter, take, drop, is_lt, refl, sym, ap, ◌∙◌, subst, arith, take-append-drop}
+use Rattle.std.proofs.Common.{◌≡◌, ℕ, zero, suc, ◌+◌, ◌<◌, ◌≤◌, ◌^◌, Bool, true, false, cond, ◌&&◌, T, Option, Some, None, Bor, List, [], ◌∷◌, ◌++◌, map, length, filter, take, drop, is_lt, refl, sym, ap, ◌∙◌, subst, arith, take-append-drop}
 use Rattle.std.specs.Prelude.{◌==◌, nat_lt, nat_le, ◌||◌, slice_get}
 use Rattle.std.specs.List.{list_all}
+use Rattle.std.specs.Iterator.{YieldsFirstRef}
+use Rattle.std.specs.Option.{option_copied}
 use Rattle.std.proofs.lemmas.Bool.Decides.{nat_tests}
 use Rattle.std.proofs.lemmas.List.{take_more}
 use Rattle.std.proofs.lemmas.Option.{get_or_from_slice_get, slice_get_within}
@@ -15,8 +17,7 @@ use Rattle.model.specs.Merging.{changes_at, merged_rows_from}
 use Rattle.model.proofs.CallerLemmas.{both, first, second, changes_at_other, merged_rows_from_insert, merged_rows_from_delete}
 use Rattle.merge.specs.Level.{stands_within, IsOver}
 use Rattle.merge.specs.View.{modified_cells, cells_at}
-use Rattle.merge.specs.Cursor.{entries_left, is_past, IsCursor, entries_past, starts_with_delete, DeletesNext, InsertsNext}
-use Rattle.merge.specs.declared.cursor.Cursor.{Cursor}
+use Rattle.merge.specs.Cursor.{TreeCursor, entries_left, is_past, IsCursor, entries_past, starts_with_delete, DeletesNext, InsertsNext}
 use Rattle.merge.proofs.LevelLemmas.{le_of, all_from, all_from-after, after_delete}
 
 pub same_of : (a b : ℕ) → (a == b) ≡ true → a ≡ b
@@ -58,6 +59,31 @@ drop-none [] zero is = refl
 drop-none [] (suc n) is = refl
 drop-none (x ∷ xs) zero is = cc
 drop-none (x ∷ xs) (suc n) is = drop-none xs n is
+
+drop-nothing : {X : Type 0} (xs : List X) (n : ℕ) → drop n xs ≡ [] → drop (n + 1) xs ≡ []
+drop-nothing xs zero is = ap (drop 1) is
+drop-nothing [] (suc n) is = let e : suc n + 1 ≡ suc (n + 1) = omega arith in ap (λ m. drop m []) e
+drop-nothing (x ∷ xs) (suc n) is = let e : suc n + 1 ≡ suc (n + 1) = omega arith in ap (λ m. drop m (x ∷ xs)) e ∙ drop-nothing xs n is
+
+get-nothing : {X : Type 0} (xs : List X) (n : ℕ) → drop n xs ≡ [] → slice_get xs n ≡ None
+get-nothing [] zero is = refl
+get-nothing [] (suc n) is = refl
+get-nothing (x ∷ xs) zero is = cc
+get-nothing (x ∷ xs) (suc n) is = get-nothing xs n is
+
+-- an iterator over the elements from an index on gives the one at it, and goes on after it
+pub next_is : (es : List Entry) (n : ℕ) (s t : List Entry) (r : Option (Bor Entry)) → s ≡ drop n es → YieldsFirstRef {A = Entry} (λ xs. xs) s r t →
+    (option_copied r ≡ slice_get es n) × (t ≡ drop (n + 1) es)
+next_is es n s t None is gives =
+    let none : drop n es ≡ [] = sym is ∙ gives.0 in
+    (sym (get-nothing es n none), gives.1 ∙ sym (drop-nothing es n none))
+next_is es n s t (Some x) is gives =
+    let here : drop n es ≡ x.now ∷ t = sym is ∙ gives in
+    let at = slice_get-drop es n x.now t here in
+    (sym at, rest_is (sym here ∙ drop-at es n x.now at))
+  where
+    rest_is : {x : Entry} {xs ys : List Entry} → x ∷ xs ≡ x ∷ ys → xs ≡ ys
+    rest_is e = cc
 
 all-append : {X : Type 0} (p : X → Bool) (xs ys : List X) → T (list_all p xs) → T (list_all p ys) → T (list_all p (xs ++ ys))
 all-append p [] ys h k = k
@@ -163,9 +189,9 @@ cells-past sid (x ∷ xs) ys h = by (x.sid == sid) refl x.change refl ∙ cells-
     by true e (Del key) k = absurd (none (Del key) k (same_of x.sid sid e) refl)
     by true e (Mod col value) k = absurd (none (Mod col value) k (same_of x.sid sid e) refl)
 
-pub cells_at-left : (c : Cursor) → T (list_all (is_past c.sid) (take c.index c.tree.now.entries)) → cells_at c.sid c.tree.now.entries ≡ cells_at c.sid (entries_left c)
+pub cells_at-left : (c : TreeCursor) → T (list_all (is_past c.sid) (take c.index c.tree.entries)) → cells_at c.sid c.tree.entries ≡ cells_at c.sid (entries_left c)
 cells_at-left c h =
-    ap (cells_at c.sid) (sym (take-append-drop c.index c.tree.now.entries)) ∙ cells-past c.sid (take c.index c.tree.now.entries) (entries_left c) h
+    ap (cells_at c.sid) (sym (take-append-drop c.index c.tree.entries)) ∙ cells-past c.sid (take c.index c.tree.entries) (entries_left c) h
 
 -- ---- entries over rows
 
@@ -192,17 +218,17 @@ module _ (key_cols : ℕ) where
 
 -- ---- the steps
 
-module _ (c : Cursor) where
+module _ (c : TreeCursor) where
   abbrev es : List Entry
-  es = c.tree.now.entries
+  es = c.tree.entries
 
   abbrev kc : ℕ
-  kc = c.tree.now.key_cols
+  kc = c.tree.key_cols
 
   -- past an insert
-  pub inserts_next : (row : Row) (new : Cursor) → slice_get es c.index ≡ Some (entry_at c.sid (Ins row)) → new ≡ record c { index = c.index + 1 } → InsertsNext row c new
+  pub inserts_next : (row : Row) (new : TreeCursor) → slice_get es c.index ≡ Some (entry_at c.sid (Ins row)) → new ≡ record c { index = c.index + 1 } → InsertsNext row c new
   inserts_next row new is next =
-      let n : Cursor = record c { index = c.index + 1 } in
+      let n : TreeCursor = record c { index = c.index + 1 } in
       let left : entries_left c ≡ entry_at c.sid (Ins row) ∷ entries_left n = drop-at es c.index (entry_at c.sid (Ins row)) is in
       subst (λ x. InsertsNext row c x) (sym next) (record {
         rows = λ base. ap (merged_rows_from c.sid base) left ∙ merged_rows_from_insert c.sid row base (entries_left n);
@@ -215,10 +241,10 @@ module _ (c : Cursor) where
       })
 
   -- past the delete of the next base row
-  pub deletes_next : (key : Key) (new : Cursor) → slice_get es c.index ≡ Some (entry_at c.sid (Del key)) → new ≡ record c { index = c.index + 1; sid = c.sid + 1 } → DeletesNext c new
+  pub deletes_next : (key : Key) (new : TreeCursor) → slice_get es c.index ≡ Some (entry_at c.sid (Del key)) → new ≡ record c { index = c.index + 1; sid = c.sid + 1 } → DeletesNext c new
   deletes_next key new is next =
       let x : Entry = entry_at c.sid (Del key) in
-      let n : Cursor = record c { index = c.index + 1; sid = c.sid + 1 } in
+      let n : TreeCursor = record c { index = c.index + 1; sid = c.sid + 1 } in
       let left : entries_left c ≡ x ∷ entries_left n = drop-at es c.index x is in
       let later : c.sid < c.sid + 1 = omega arith in
       let step : c.sid + 1 ≡ suc c.sid = omega arith in
@@ -246,7 +272,7 @@ module _ (c : Cursor) where
       })
 
   -- that is what the test says
-  pub deletes_test : (new : Cursor) → starts_with_delete c.sid (entries_left c) ≡ true → new ≡ record c { index = c.index + 1; sid = c.sid + 1 } → DeletesNext c new
+  pub deletes_test : (new : TreeCursor) → starts_with_delete c.sid (entries_left c) ≡ true → new ≡ record c { index = c.index + 1; sid = c.sid + 1 } → DeletesNext c new
   deletes_test new test next = by (entries_left c) refl test
     where
       at_change : (x : Entry) (rest : List Entry) → entries_left c ≡ x ∷ rest → x.sid ≡ c.sid → (d : Change) → x.change ≡ d → is_delete d ≡ true → DeletesNext c new
@@ -279,7 +305,7 @@ pub entries_past-none : (sid n : ℕ) (es : List Entry) → slice_get es n ≡ N
 entries_past-none sid n es is = ap (entries_past sid) (drop-none es n is) ∙ sym (drop-none es n is)
 
 -- the entries that are left stand at the cursor or past it
-pub cursor-le : (c : Cursor) (count : ℕ) (x : Entry) → IsCursor count c → slice_get c.tree.now.entries c.index ≡ Some x → c.sid ≤ x.sid
+pub cursor-le : (c : TreeCursor) (count : ℕ) (x : Entry) → IsCursor count c → slice_get c.tree.entries c.index ≡ Some x → c.sid ≤ x.sid
 cursor-le c count x h is =
-    let w = subst (λ xs. T (list_all (stands_within c.sid (c.sid + count)) xs)) (drop-at c.tree.now.entries c.index x is) h.over.within in
+    let w = subst (λ xs. T (list_all (stands_within c.sid (c.sid + count)) xs)) (drop-at c.tree.entries c.index x is) h.over.within in
     le_of c.sid x.sid (first (nat_le c.sid x.sid) _ (first (stands_within c.sid (c.sid + count) x) _ w))

@@ -8,12 +8,11 @@ use Rattle.stable.specs.Stable.{Stable}
 use Rattle.model.specs.Entries.{IsLawful}
 use Rattle.merge.specs.Image.{Stack, stack_of, read_rows, write_rows, image_rows}
 use Rattle.merge.specs.Level.{IsOver, AreLevels, AreKept}
-use Rattle.merge.specs.Cursor.{rows_left, IsCursor, IsCursorAt}
-use Rattle.merge.specs.declared.cursor.Cursor.{Cursor}
+use Rattle.merge.specs.Cursor.{TreeCursor, rows_left, IsCursor, IsCursorAt}
 use Rattle.merge.proofs.StackLemmas.{are_levels}
 
 -- what the call that places a cursor promises
-abbrev pub Places : Tree → ℕ → Cursor → Type 0
+abbrev pub Places : Tree → ℕ → TreeCursor → Type 0
 Places tree rid c = (base : List Row) → IsOver tree.key_cols 0 (length base) tree.entries → IsLawful tree.key_cols tree.entries → length base < 2 ^ 62 → rid ≤ length (merged_rows base tree.entries) → IsCursorAt base rid c
 
 module _ (stable : Stable) (read write trans : Tree) (len : ℕ) (h : AreKept stable read write trans len) where
@@ -23,23 +22,23 @@ module _ (stable : Stable) (read write trans : Tree) (len : ℕ) (h : AreKept st
   levels : AreLevels s
   levels = are_levels stable read write trans h.stacked
 
-  pub trans_at : (rid : ℕ) (c : Cursor) → rid ≤ length (image_rows s) → Places trans rid c → IsCursorAt (write_rows s) rid c
+  pub trans_at : (rid : ℕ) (c : TreeCursor) → rid ≤ length (image_rows s) → Places trans rid c → IsCursorAt (write_rows s) rid c
   trans_at rid c low places =
       let small : length (write_rows s) < 2 ^ 62 = omega (arith, h.write_few) in
       places (write_rows s) (subst (λ n. IsOver n 0 (length (write_rows s)) trans.entries) (sym h.stacked.upper.key_cols) levels.upper) h.trans_lawful small low
 
-  pub write_at : (rid : ℕ) (c : Cursor) → rid ≤ length (write_rows s) → Places write rid c → IsCursorAt (read_rows s) rid c
+  pub write_at : (rid : ℕ) (c : TreeCursor) → rid ≤ length (write_rows s) → Places write rid c → IsCursorAt (read_rows s) rid c
   write_at rid c low places =
       let small : length (read_rows s) < 2 ^ 62 = omega (arith, h.read_few) in
       places (read_rows s) (subst (λ n. IsOver n 0 (length (read_rows s)) write.entries) (sym h.stacked.middle.key_cols) levels.middle) h.write_lawful small low
 
-  pub read_at : (rid : ℕ) (c : Cursor) → rid ≤ length (read_rows s) → Places read rid c → IsCursorAt stable.rows rid c
+  pub read_at : (rid : ℕ) (c : TreeCursor) → rid ≤ length (read_rows s) → Places read rid c → IsCursorAt stable.rows rid c
   read_at rid c low places =
       let small : length stable.rows < 2 ^ 62 = omega (arith, h.few) in
       places stable.rows (subst (λ n. IsOver n 0 (length stable.rows) read.entries) (sym h.stacked.lower.key_cols) levels.lower) h.read_lawful small low
 
 -- what is left under each layer
-module _ (rows : List Row) (read write trans : List Entry) (r w t : Cursor) (rid : ℕ) (hr : IsCursorAt rows w.sid r) (hw : IsCursorAt (merged_rows rows read) t.sid w) (ht : IsCursorAt (merged_rows (merged_rows rows read) write) rid t) (r_is : r.tree.now.entries ≡ read) (w_is : w.tree.now.entries ≡ write) (t_is : t.tree.now.entries ≡ trans) where
+module _ (rows : List Row) (read write trans : List Entry) (r w t : TreeCursor) (rid : ℕ) (hr : IsCursorAt rows w.sid r) (hw : IsCursorAt (merged_rows rows read) t.sid w) (ht : IsCursorAt (merged_rows (merged_rows rows read) write) rid t) (r_is : r.tree.entries ≡ read) (w_is : w.tree.entries ≡ write) (t_is : t.tree.entries ≡ trans) where
   read_is : rows_left r (drop r.sid rows) ≡ drop w.sid (merged_rows rows read)
   read_is = hr.rows ∙ ap (λ (es : List Entry). drop w.sid (merged_rows rows es)) r_is
 

@@ -16,8 +16,7 @@ use Rattle.model.proofs.CallerLemmas.{both, first, second}
 use Rattle.delta.specs.Search.{base_cmp, stands_before, IsSplit}
 use Rattle.delta.proofs.CallerLemmas.{insert_worth, delete_worth, insert_count-cons, delete_count-cons, insert_count-append, delete_count-append, ordered_right}
 use Rattle.merge.specs.Level.{stands_within, IsOver}
-use Rattle.merge.specs.Cursor.{is_past, IsCursorAt}
-use Rattle.merge.specs.declared.cursor.Cursor.{Cursor}
+use Rattle.merge.specs.Cursor.{TreeCursor, is_past, IsCursorAt}
 use Rattle.merge.proofs.LevelLemmas.{le_of, of_le, all_from, all_from-ordered, sid_first}
 use Rattle.merge.proofs.ReachLemmas.{is_passed, IsReached, reached, length-merged_rows}
 use Rattle.merge.proofs.CursorLemmas.{lt_of, of_lt, drop-at, over_from}
@@ -57,12 +56,12 @@ drop_passed (x ∷ xs) ys zero is = absurd (omega arith)
 drop_passed (x ∷ xs) ys (suc n) is = let shorter : length xs ≡ n = omega arith in drop_passed xs ys n shorter
 
 -- the cursor past entries that come before the base row at its SID, where no other does
-module _ (base : List Row) (c : Cursor) (over : IsOver c.tree.now.key_cols 0 (length base) c.tree.now.entries) (lawful : IsLawful c.tree.now.key_cols c.tree.now.entries) (small : length base < 2 ^ 62) (within : c.sid ≤ length base) (passed : T (list_all (is_passed 0 c.sid) (take c.index c.tree.now.entries))) (far : T (all_from c.sid (drop c.index c.tree.now.entries))) where
+module _ (base : List Row) (c : TreeCursor) (over : IsOver c.tree.key_cols 0 (length base) c.tree.entries) (lawful : IsLawful c.tree.key_cols c.tree.entries) (small : length base < 2 ^ 62) (within : c.sid ≤ length base) (passed : T (list_all (is_passed 0 c.sid) (take c.index c.tree.entries))) (far : T (all_from c.sid (drop c.index c.tree.entries))) where
   abbrev es : List Entry
-  es = c.tree.now.entries
+  es = c.tree.entries
 
   abbrev kc : ℕ
-  kc = c.tree.now.key_cols
+  kc = c.tree.key_cols
 
   whole : take c.index es ++ drop c.index es ≡ es
   whole = take-append-drop c.index es
@@ -120,19 +119,19 @@ module _ (key_cols sid : ℕ) (row : Row) where
       (before_insert xs ys (second (list_all (λ y. is_lt (entry_cmp key_cols x y)) (xs ++ entry_at sid (Ins row) ∷ ys)) _ h))
 
 -- the cursor at an insert stands at its position
-module _ (base : List Row) (c : Cursor) (rid : ℕ) (over : IsOver c.tree.now.key_cols 0 (length base) c.tree.now.entries) (lawful : IsLawful c.tree.now.key_cols c.tree.now.entries) (small : length base < 2 ^ 62) where
+module _ (base : List Row) (c : TreeCursor) (rid : ℕ) (over : IsOver c.tree.key_cols 0 (length base) c.tree.entries) (lawful : IsLawful c.tree.key_cols c.tree.entries) (small : length base < 2 ^ 62) where
   abbrev list : List Entry
-  list = c.tree.now.entries
+  list = c.tree.entries
 
   inserted_here : (row : Row) → slice_get list c.index ≡ Some (entry_at c.sid (Ins row)) → rid_of_insert (take c.index list) c.sid ≡ rid → IsCursorAt base rid c
   inserted_here row is at =
       let x : Entry = entry_at c.sid (Ins row) in
       let later : List Entry = drop (c.index + 1) list in
       let left : drop c.index list ≡ x ∷ later = drop-at list c.index x is in
-      let ordered : T (are_ordered c.tree.now.key_cols (take c.index list ++ x ∷ later)) = subst (λ xs. T (are_ordered c.tree.now.key_cols xs)) (sym (take-append-drop c.index list) ∙ ap (λ ys. take c.index list ++ ys) left) over.ordered in
-      let passed = before_insert c.tree.now.key_cols c.sid row (take c.index list) later ordered in
+      let ordered : T (are_ordered c.tree.key_cols (take c.index list ++ x ∷ later)) = subst (λ xs. T (are_ordered c.tree.key_cols xs)) (sym (take-append-drop c.index list) ∙ ap (λ ys. take c.index list ++ ys) left) over.ordered in
+      let passed = before_insert c.tree.key_cols c.sid row (take c.index list) later ordered in
       let own : c.sid ≤ c.sid = omega arith in
-      let far = subst (λ ys. T (all_from c.sid ys)) (sym left) (all_from-ordered c.tree.now.key_cols c.sid x later (ordered_right c.tree.now.key_cols (take c.index list) (x ∷ later) ordered) own) in
+      let far = subst (λ ys. T (all_from c.sid ys)) (sym left) (all_from-ordered c.tree.key_cols c.sid x later (ordered_right c.tree.key_cols (take c.index list) (x ∷ later) ordered) own) in
       let w = subst (λ ys. T (list_all (stands_within 0 (length base)) ys)) left (within_drop 0 (length base) c.index list over.within) in
       let within = le_of c.sid (length base) (second (nat_le 0 c.sid) _ (first (stands_within 0 (length base) x) _ w)) in
       let few = passed_count base c over lawful small within passed far in
@@ -296,9 +295,9 @@ none_far end s (e ∷ es) lt w h =
     by (Mod col value) t far = let l = lt_of e.sid end t in omega arith
 
 -- the cursor at a base row stands at its position
-module _ (base : List Row) (c : Cursor) (rid : ℕ) (over : IsOver c.tree.now.key_cols 0 (length base) c.tree.now.entries) (lawful : IsLawful c.tree.now.key_cols c.tree.now.entries) (small : length base < 2 ^ 62) (low : rid ≤ length (merged_rows base c.tree.now.entries)) (split : IsSplit (stands_before base_cmp c.sid) c.tree.now.entries c.index) (at : rid_of_base c.tree.now.entries c.sid ≡ rid) where
+module _ (base : List Row) (c : TreeCursor) (rid : ℕ) (over : IsOver c.tree.key_cols 0 (length base) c.tree.entries) (lawful : IsLawful c.tree.key_cols c.tree.entries) (small : length base < 2 ^ 62) (low : rid ≤ length (merged_rows base c.tree.entries)) (split : IsSplit (stands_before base_cmp c.sid) c.tree.entries c.index) (at : rid_of_base c.tree.entries c.sid ≡ rid) where
   abbrev all : List Entry
-  all = c.tree.now.entries
+  all = c.tree.entries
 
   passed : T (list_all (is_passed 0 c.sid) (take c.index all))
   passed = stands_passed c.sid (take c.index all) split.before
@@ -318,7 +317,7 @@ module _ (base : List Row) (c : Cursor) (rid : ℕ) (over : IsOver c.tree.now.ke
       let past : length base < c.sid = omega arith in
       let none = none_far (length base) c.sid (drop c.index all) past (within_drop 0 (length base) c.index all over.within) far in
       let same : take c.index all ≡ all = sym (append_none (take c.index all)) ∙ ap (λ ys. take c.index all ++ ys) (sym none) ∙ take-append-drop c.index all in
-      omega (arith, low, at, inserts, deletes, ap insert_count same, ap delete_count same, length-merged_rows c.tree.now.key_cols base all over)
+      omega (arith, low, at, inserts, deletes, ap insert_count same, ap delete_count same, length-merged_rows c.tree.key_cols base all over)
     where
       append_none : (xs : List Entry) → xs ++ [] ≡ xs
       append_none [] = refl

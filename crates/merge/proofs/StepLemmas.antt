@@ -17,8 +17,7 @@ use Rattle.model.specs.Merging.{changes_at, inserted_rows, left_of, merged_rows_
 use Rattle.model.proofs.CallerLemmas.{both, first, second, merged_rows_from_past, merged_rows_from_nothing}
 use Rattle.merge.specs.Level.{stands_within, IsOver}
 use Rattle.merge.specs.View.{modified_cells, cells_at}
-use Rattle.merge.specs.Cursor.{entries_left, is_past, IsCursor, rows_left, entries_past, DeletesNone, ModifiesNext, KeepsNext}
-use Rattle.merge.specs.declared.cursor.Cursor.{Cursor}
+use Rattle.merge.specs.Cursor.{TreeCursor, entries_left, is_past, IsCursor, rows_left, entries_past, DeletesNone, ModifiesNext, KeepsNext}
 use Rattle.merge.proofs.LevelLemmas.{le_of, all_from, all_from-weaken, all_from-ordered, merged_rows_from-gap}
 use Rattle.merge.proofs.CursorLemmas.{same_of, same_itself, lt_of, drop-at, drop-none, cells_at-left, past-weaken, over_from, over_tail, starts-same}
 
@@ -119,12 +118,12 @@ pub no_insert : (x : Entry) → ((key : Key) × (x.change ≡ Del key)) ⊎ ((co
 no_insert x (inl k) row is = let other = k.1 in cc
 no_insert x (inr k) row is = let other = k.2 in cc
 
-module _ (c : Cursor) where
+module _ (c : TreeCursor) where
   abbrev es : List Entry
-  es = c.tree.now.entries
+  es = c.tree.entries
 
   abbrev kc : ℕ
-  kc = c.tree.now.key_cols
+  kc = c.tree.key_cols
 
   -- past the modifies of the next base row
   module _ (x : Entry) (is : slice_get es c.index ≡ Some x) (here : x.sid ≡ c.sid) (kept : DeletesNone c) (other : (row : Row) → x.change ≡ Ins row → ⊥) where
@@ -157,7 +156,7 @@ module _ (c : Cursor) where
         let lt = lt_of c.sid (c.sid + count) (second (nat_le c.sid c.sid) (nat_lt c.sid (c.sid + count)) (first (stands_within c.sid (c.sid + count) (entry_at c.sid (Mod col value))) _ w)) in
         omega arith
 
-    pub modifies_next : (new : Cursor) (place : ℕ) → drop place es ≡ entries_past c.sid (entries_left c) → (T (list_all (is_past (suc c.sid)) (take c.index es)) → T (list_all (is_past (suc c.sid)) (take place es))) → new ≡ record c { index = place; sid = c.sid + 1 } → ModifiesNext c.sid c new
+    pub modifies_next : (new : TreeCursor) (place : ℕ) → drop place es ≡ entries_past c.sid (entries_left c) → (T (list_all (is_past (suc c.sid)) (take c.index es)) → T (list_all (is_past (suc c.sid)) (take place es))) → new ≡ record c { index = place; sid = c.sid + 1 } → ModifiesNext c.sid c new
     modifies_next new place further past next =
         let step : c.sid + 1 ≡ suc c.sid = omega arith in
         let low : c.sid ≤ suc c.sid = omega arith in
@@ -186,7 +185,7 @@ drop-length-append : {X : Type 0} (xs ys : List X) → drop (length xs) (xs ++ y
 drop-length-append [] ys = refl
 drop-length-append (x ∷ xs) ys = drop-length-append xs ys
 
-module _ (c : Cursor) (n most : ℕ) (few : n ≤ most) (some : 0 < most → 0 < n) (far : T (all_from (c.sid + n) (entries_left c))) (within : (base : List Row) → IsCursor (length base) c → most ≤ length (rows_left c base) → n ≤ length base) where
+module _ (c : TreeCursor) (n most : ℕ) (few : n ≤ most) (some : 0 < most → 0 < n) (far : T (all_from (c.sid + n) (entries_left c))) (within : (base : List Row) → IsCursor (length base) c → most ≤ length (rows_left c base) → n ≤ length base) where
   pub keeps_next : KeepsNext most n c
   keeps_next = record {
     few = few;
@@ -204,32 +203,32 @@ module _ (c : Cursor) (n most : ℕ) (few : n ≤ most) (some : 0 < most → 0 <
         let stop : c.sid + (k + count) ≡ c.sid + k + count = omega arith in
         record {
           lawful = h.lawful;
-          past = past-weaken c.sid (c.sid + k) (take c.index c.tree.now.entries) low h.past;
+          past = past-weaken c.sid (c.sid + k) (take c.index c.tree.entries) low h.past;
           few = omega (arith, h.few);
-          over = over_from c.tree.now.key_cols c.sid (c.sid + k) (c.sid + (k + count)) (c.sid + k + count) (entries_left c) stop (all_from-weaken (c.sid + k) (c.sid + n) (entries_left c) near far) h.over;
+          over = over_from c.tree.key_cols c.sid (c.sid + k) (c.sid + (k + count)) (c.sid + k + count) (entries_left c) stop (all_from-weaken (c.sid + k) (c.sid + n) (entries_left c) near far) h.over;
         };
   }
 
-module _ (c : Cursor) where
+module _ (c : TreeCursor) where
   -- with no entry left all rows stand
-  pub keeps_all : (most : ℕ) → slice_get c.tree.now.entries c.index ≡ None → KeepsNext most most c
+  pub keeps_all : (most : ℕ) → slice_get c.tree.entries c.index ≡ None → KeepsNext most most c
   keeps_all most is =
-      let left : entries_left c ≡ [] = drop-none c.tree.now.entries c.index is in
+      let left : entries_left c ≡ [] = drop-none c.tree.entries c.index is in
       keeps_next c most most (omega arith) (λ h. h) (subst (λ xs. T (all_from (c.sid + most) xs)) (sym left) tt)
       (λ base h le. let same = ap length (ap (merged_rows_from c.sid base) left ∙ merged_rows_from_nothing c.sid base) in omega (arith, same, le))
 
   -- before the next entry they do
-  pub keeps_some : (most : ℕ) (x : Entry) (count : ℕ) → IsCursor count c → slice_get c.tree.now.entries c.index ≡ Some x → c.sid < x.sid → KeepsNext most (min most (x.sid - c.sid)) c
+  pub keeps_some : (most : ℕ) (x : Entry) (count : ℕ) → IsCursor count c → slice_get c.tree.entries c.index ≡ Some x → c.sid < x.sid → KeepsNext most (min most (x.sid - c.sid)) c
   keeps_some most x count cursor is lt =
-      let rest = drop (c.index + 1) c.tree.now.entries in
-      let left : entries_left c ≡ x ∷ rest = drop-at c.tree.now.entries c.index x is in
+      let rest = drop (c.index + 1) c.tree.entries in
+      let left : entries_left c ≡ x ∷ rest = drop-at c.tree.entries c.index x is in
       let n : ℕ = min most (x.sid - c.sid) in
       let near : c.sid + n ≤ x.sid = grind arith in
       keeps_next c n most (grind arith) (λ h. grind arith)
-      (subst (λ xs. T (all_from (c.sid + n) xs)) (sym left) (all_from-ordered c.tree.now.key_cols (c.sid + n) x rest (subst (λ xs. T (are_ordered c.tree.now.key_cols xs)) left cursor.over.ordered) near))
+      (subst (λ xs. T (all_from (c.sid + n) xs)) (sym left) (all_from-ordered c.tree.key_cols (c.sid + n) x rest (subst (λ xs. T (are_ordered c.tree.key_cols xs)) left cursor.over.ordered) near))
       (λ base h le. let top = at_end base x.change refl (subst (λ xs. T (list_all (stands_within c.sid (c.sid + length base)) xs)) left h.over.within) in omega arith)
     where
-      at_end : (base : List Row) (d : Change) → x.change ≡ d → T (list_all (stands_within c.sid (c.sid + length base)) (x ∷ drop (c.index + 1) c.tree.now.entries)) → x.sid ≤ c.sid + length base
+      at_end : (base : List Row) (d : Change) → x.change ≡ d → T (list_all (stands_within c.sid (c.sid + length base)) (x ∷ drop (c.index + 1) c.tree.entries)) → x.sid ≤ c.sid + length base
       at_end base d k h = by x.change (second (nat_le c.sid x.sid) _ (first (stands_within c.sid (c.sid + length base) x) _ h))
         where
           by : (d : Change) → T (cond (is_insert d) (nat_le x.sid (c.sid + length base)) (nat_lt x.sid (c.sid + length base))) → x.sid ≤ c.sid + length base

@@ -6,35 +6,41 @@ use Rattle.model.specs.declared.entry.Entry.{Entry}
 use Rattle.model.specs.Effects.{set_cells}
 use Rattle.model.specs.Entries.{is_insert, is_delete, IsLawful}
 use Rattle.model.specs.Merging.{merged_rows, merged_rows_from}
+use Rattle.delta.specs.Tree.{Tree}
 use Rattle.merge.specs.Level.{IsOver}
 use Rattle.merge.specs.View.{cells_at}
-use Rattle.merge.specs.declared.cursor.Cursor.{Cursor}
 use Rattle.merge.specs.declared.cursor.Step.{Step}
 use Rattle.merge.specs.declared.cursor.Step.TheVariants.{Inserted, Modified, Kept}
 
+-- how many entries of a tree are passed, and the base row that is next
+pub record TreeCursor : Type 0 where
+  pub tree : Tree
+  pub index : ℕ
+  pub sid : ℕ
+
 -- the entries that are left
-abbrev pub entries_left : Cursor → List Entry
-entries_left c = drop c.index c.tree.now.entries
+abbrev pub entries_left : TreeCursor → List Entry
+entries_left c = drop c.index c.tree.entries
 
 -- whether an entry is past at the SID: below it, or an insert
 abbrev pub is_past : ℕ → Entry → Bool
 is_past sid e = nat_lt e.sid sid || is_insert e.change
 
 -- a cursor over so many base rows that are left
-pub record IsCursor (count : ℕ) (c : Cursor) : Type 0 where
-  pub lawful : IsLawful c.tree.now.key_cols c.tree.now.entries
-  pub past : T (list_all (is_past c.sid) (take c.index c.tree.now.entries))
-  pub over : IsOver c.tree.now.key_cols c.sid (c.sid + count) (entries_left c)
+pub record IsCursor (count : ℕ) (c : TreeCursor) : Type 0 where
+  pub lawful : IsLawful c.tree.key_cols c.tree.entries
+  pub past : T (list_all (is_past c.sid) (take c.index c.tree.entries))
+  pub over : IsOver c.tree.key_cols c.sid (c.sid + count) (entries_left c)
   pub few : c.sid + count < 2 ^ 62
 
 -- what is left of the image, over the base rows that are left
-abbrev pub rows_left : Cursor → List Row → List Row
+abbrev pub rows_left : TreeCursor → List Row → List Row
 rows_left c base = merged_rows_from c.sid base (entries_left c)
 
 -- the cursor stands at a position of the image of its tree over the rows
-pub record IsCursorAt (base : List Row) (rid : ℕ) (c : Cursor) : Type 0 where
+pub record IsCursorAt (base : List Row) (rid : ℕ) (c : TreeCursor) : Type 0 where
   pub within : c.sid ≤ length base
-  pub rows : rows_left c (drop c.sid base) ≡ drop rid (merged_rows base c.tree.now.entries)
+  pub rows : rows_left c (drop c.sid base) ≡ drop rid (merged_rows base c.tree.entries)
   pub cursor : IsCursor (length (drop c.sid base)) c
 
 -- the entries from the first on that isn't at the SID
@@ -45,7 +51,7 @@ entries_past sid (e ∷ entries) = cond (e.sid == sid) (entries_past sid entries
 -- ---- steps
 
 -- past the delete of the next base row
-pub record DeletesNext (old new : Cursor) : Type 0 where
+pub record DeletesNext (old new : TreeCursor) : Type 0 where
   pub some : (count : ℕ) → IsCursor count old → 0 < count
   pub rows : (row : Row) (base : List Row) → IsCursor (suc (length base)) old → rows_left old (row ∷ base) ≡ rows_left new base
   pub cursor : (count : ℕ) → IsCursor (suc count) old → IsCursor count new
@@ -56,26 +62,26 @@ starts_with_delete sid [] = false
 starts_with_delete sid (e ∷ entries) = (e.sid == sid) && is_delete e.change
 
 -- no delete of the next base row is next
-abbrev pub DeletesNone : Cursor → Type 0
+abbrev pub DeletesNone : TreeCursor → Type 0
 DeletesNone c = starts_with_delete c.sid (entries_left c) ≡ false
 
 -- past an insert
-pub record InsertsNext (inserted : Row) (old new : Cursor) : Type 0 where
+pub record InsertsNext (inserted : Row) (old new : TreeCursor) : Type 0 where
   pub rows : (base : List Row) → rows_left old base ≡ inserted ∷ rows_left new base
   pub cursor : (count : ℕ) → IsCursor count old → IsCursor count new
 
 -- past the modifies of the next base row
-pub record ModifiesNext (sid : ℕ) (old new : Cursor) : Type 0 where
+pub record ModifiesNext (sid : ℕ) (old new : TreeCursor) : Type 0 where
   pub some : (count : ℕ) → IsCursor count old → 0 < count
-  pub rows : (row : Row) (base : List Row) → IsCursor (suc (length base)) old → rows_left old (row ∷ base) ≡ set_cells (cells_at sid old.tree.now.entries) row ∷ rows_left new base
+  pub rows : (row : Row) (base : List Row) → IsCursor (suc (length base)) old → rows_left old (row ∷ base) ≡ set_cells (cells_at sid old.tree.entries) row ∷ rows_left new base
   pub cursor : (count : ℕ) → IsCursor (suc count) old → IsCursor count new
 
 -- a cursor further on, with no entry between
-abbrev pub moved : ℕ → Cursor → Cursor
+abbrev pub moved : ℕ → TreeCursor → TreeCursor
 moved n c = record c { sid = c.sid + n }
 
 -- so many base rows stand as they are, or fewer where no more than `most` of the image are wanted
-pub record KeepsNext (most n : ℕ) (c : Cursor) : Type 0 where
+pub record KeepsNext (most n : ℕ) (c : TreeCursor) : Type 0 where
   pub few : n ≤ most
   pub some : 0 < most → 0 < n
   pub within : (base : List Row) → IsCursor (length base) c → most ≤ length (rows_left c base) → n ≤ length base
@@ -83,7 +89,7 @@ pub record KeepsNext (most n : ℕ) (c : Cursor) : Type 0 where
   pub cursor : (k count : ℕ) → k ≤ n → IsCursor (k + count) c → IsCursor count (moved k c)
 
 -- what a step passes
-abbrev pub StepGives : ℕ → Cursor → Step → Cursor → Type 0
+abbrev pub StepGives : ℕ → TreeCursor → Step → TreeCursor → Type 0
 StepGives most old (Inserted row) new = InsertsNext row.now old new
 StepGives most old (Modified sid) new = ModifiesNext sid old new
 StepGives most old (Kept n) new = KeepsNext most n old × (new ≡ old)

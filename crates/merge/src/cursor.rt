@@ -1,5 +1,6 @@
 //! How far a walk over the image of one tree has come.
-ghost use Rattle.std.specs.Prelude.{◌≡◌, ℕ, List, suc, ◌+◌, ◌<◌, ◌≤◌, ◌^◌, T, true, false, drop, length, take};
+ghost use Rattle.std.specs.Prelude.{◌≡◌, ℕ, List, suc, ◌+◌, ◌<◌, ◌≤◌, ◌^◌, T, true, false, drop, length, slice_get, take};
+ghost use Rattle.std.specs.Option.{option_copied};
 ghost use Rattle.model.specs.Merging.{merged_rows};
 ghost use Rattle.model.specs.Entries.{IsLawful, is_delete};
 ghost use Rattle.std.specs.List.{list_all};
@@ -7,15 +8,33 @@ ghost use Rattle.values.specs.declared.row.Row.{Row as Cells};
 ghost use Rattle.merge.specs.Level.{IsOver};
 ghost use Rattle.merge.specs.Cursor.{DeletesNext, DeletesNone, IsCursor, IsCursorAt, StepGives, entries_left, entries_past, is_past, moved, starts_with_delete};
 
-use delta::{Change, DeltaTree, Place};
+use delta::{Change, DeltaTree, Entry, Iter, Place};
+use std::marker::Model;
 use values::Row;
 
-/// An index among the entries of a tree, and the base row that is next.
+/// A walk over the entries of a tree and the base rows between them. It reads each entry once, in order.
 #[derive(Drop)]
 pub(crate) struct Cursor<'a> {
     tree: &'a DeltaTree,
+    /// How many entries are passed.
     index: usize,
+    /// The base row that is next.
     sid: u64,
+    /// The entry that is next, and those after it.
+    next: Option<&'a Entry>,
+    rest: Iter<'a>,
+}
+
+impl<'a> Model for Cursor<'a> {
+    ghost use Rattle.std.specs.Prelude.{◌≡◌, ◌+◌, slice_get, drop};
+    ghost use Rattle.std.specs.Option.{option_copied};
+    ghost use Rattle.merge.specs.Cursor.{TreeCursor};
+
+    ghost Value = { TreeCursor };
+
+    ghost view = { λ c. record { tree = c.tree.now; index = c.index; sid = c.sid } };
+
+    ghost invariant = { λ c. (option_copied c.next ≡ slice_get c.tree.now.entries c.index) × (c.rest ≡ drop (c.index + 1) c.tree.now.entries) };
 }
 
 /// What comes next in the image of a tree.
@@ -32,26 +51,37 @@ impl<'a> Cursor<'a> {
     /// The cursor at a position of the image.
     pub(crate) fn at(tree: &'a DeltaTree, rid: u64) -> Cursor<'a>
         requires few { rid < 2 ^ 63 }
-        ensures tree { result.tree ≡ tree.entry }
+        ensures tree { result.tree ≡ tree.now }
         ensures at { (base : List Cells) → IsOver tree.now.key_cols 0 (length base) tree.now.entries → IsLawful tree.now.key_cols tree.now.entries → length base < 2 ^ 62 → rid ≤ length (merged_rows base tree.now.entries) → IsCursorAt base rid result }
     {
-        match tree.find_rid(rid) {
-            Place::Inserted(index) => Cursor {
-                tree,
-                index,
-                sid: tree.entry(index).unwrap().sid,
-            },
-            Place::Base(sid) => Cursor {
-                tree,
-                index: tree.base_index(sid),
-                sid,
-            },
+        match tree.find_row(rid) {
+            Place::Inserted(index) => {
+                let (next, rest) = entries_from(tree, index);
+                Cursor {
+                    tree,
+                    index,
+                    sid: next.unwrap().sid,
+                    next,
+                    rest,
+                }
+            }
+            Place::Base(sid) => {
+                let index = tree.base_index(sid);
+                let (next, rest) = entries_from(tree, index);
+                Cursor {
+                    tree,
+                    index,
+                    sid,
+                    next,
+                    rest,
+                }
+            }
         }
     }
 
     /// The tree.
     pub(crate) fn tree(&self) -> &'a DeltaTree
-        ensures { result ≡ self.now.tree }
+        ensures { result.now ≡ self.now.tree }
     {
         self.tree
     }
@@ -63,18 +93,25 @@ impl<'a> Cursor<'a> {
         self.sid
     }
 
+    /// The next entry.
+    fn next_entry(&self) -> Option<&'a Entry>
+        ensures { option_copied result ≡ slice_get self.now.tree.entries self.now.index }
+    {
+        self.next
+    }
+
     /// Goes past a delete of the next base row, if it stands here; tells whether it did.
     pub(crate) fn skip_delete(&mut self) -> bool
         requires { (count : ℕ) × IsCursor count self.old }
         ensures tree { self.new.tree ≡ self.old.tree }
         ensures skipped { result ≡ true → DeletesNext self.old self.new }
         ensures none { result ≡ false → (self.new ≡ self.old) × DeletesNone self.old }
-        ensures nearer { result ≡ true → self.old.index < length self.old.tree.now.entries × (self.new.index ≡ self.old.index + 1) }
+        ensures nearer { result ≡ true → self.old.index < length self.old.tree.entries × (self.new.index ≡ self.old.index + 1) }
     {
         let is_deleted = self.stands_at_delete();
         if is_deleted {
-            self.index += 1;
-            self.sid += 1;
+            self.advance();
+            self.pass(1);
         }
         is_deleted
     }
@@ -83,8 +120,8 @@ impl<'a> Cursor<'a> {
     fn stands_at_delete(&self) -> bool
         ensures { result ≡ starts_with_delete self.now.sid (entries_left self.now) }
     {
-        match self.tree.entry(self.index) {
-            Some(entry) => entry.sid == self.sid && is_delete(&entry.change),
+        match self.next_entry() {
+            Some(entry) => entry.sid == self.sid() && is_delete(&entry.change),
             None => false,
         }
     }
@@ -97,20 +134,21 @@ impl<'a> Cursor<'a> {
         ensures tree { self.new.tree ≡ self.old.tree }
         ensures step { StepGives most self.old result self.new }
     {
-        match self.tree.entry(self.index) {
+        match self.next_entry() {
             None => Step::Kept(most),
             Some(entry) => {
-                if entry.sid > self.sid {
-                    return Step::Kept(most.min(entry.sid - self.sid));
+                let sid = self.sid();
+                if entry.sid > sid {
+                    return Step::Kept(most.min(entry.sid - sid));
                 }
                 match &entry.change {
                     Change::Ins(row) => {
-                        self.index += 1;
+                        self.advance();
                         Step::Inserted(row)
                     }
                     Change::Del(_) | Change::Mod(..) => {
-                        self.index = past_sid(self.tree, self.index, self.sid);
-                        self.sid += 1;
+                        self.pass_row_entries();
+                        self.pass(1);
                         Step::Modified(entry.sid as u32)
                     }
                 }
@@ -125,22 +163,43 @@ impl<'a> Cursor<'a> {
     {
         self.sid += count;
     }
+
+    /// Goes past the entries that are left at the SID of the next base row.
+    fn pass_row_entries(&mut self)
+        requires { IsLawful self.old.tree.key_cols self.old.tree.entries }
+        ensures tree { self.new.tree ≡ self.old.tree }
+        ensures sid { self.new.sid ≡ self.old.sid }
+        ensures rest { entries_left self.new ≡ entries_past self.old.sid (entries_left self.old) }
+        ensures past { T (list_all (is_past (suc self.old.sid)) (take self.old.index self.old.tree.entries)) → T (list_all (is_past (suc self.old.sid)) (take self.new.index self.old.tree.entries)) }
+    {
+        while let Some(entry) = self.next_entry() {
+            if entry.sid != self.sid() {
+                break;
+            }
+            self.advance();
+        }
+    }
+
+    /// Goes past the next entry.
+    fn advance(&mut self)
+        requires lawful { IsLawful self.old.tree.key_cols self.old.tree.entries }
+        requires some { self.old.index < length self.old.tree.entries }
+        ensures { self.new ≡ record self.old { index = self.old.index + 1 } }
+    {
+        self.index += 1;
+        self.next = self.rest.next();
+    }
 }
 
-/// The first index from this one on whose entry isn't at the SID.
-fn past_sid(tree: &DeltaTree, index: usize, sid: u64) -> usize
-    requires { IsLawful tree.now.key_cols tree.now.entries }
-    ensures rest { drop result tree.now.entries ≡ entries_past sid (drop index tree.now.entries) }
-    ensures past { T (list_all (is_past (suc sid)) (take index tree.now.entries)) → T (list_all (is_past (suc sid)) (take result tree.now.entries)) }
+/// The entry at an index of the tree, and those after it.
+fn entries_from(tree: &DeltaTree, index: usize) -> (Option<&Entry>, Iter<'_>)
+    requires { index ≤ length tree.now.entries }
+    ensures next { option_copied result.0 ≡ slice_get tree.now.entries index }
+    ensures rest { result.1 ≡ drop (index + 1) tree.now.entries }
 {
-    let mut at = index;
-    while let Some(entry) = tree.entry(at) {
-        if entry.sid != sid {
-            break;
-        }
-        at += 1;
-    }
-    at
+    let mut rest = tree.iter_from(index);
+    let next = rest.next();
+    (next, rest)
 }
 
 /// Whether the change is a delete.

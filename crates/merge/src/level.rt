@@ -123,7 +123,7 @@ impl<'a, B: Rows<'a> + Drop> Rows<'a> for Level<'a, B> {
 pub(crate) type Image<'a> = Level<'a, Level<'a, Level<'a, StableRows<'a>>>>;
 
 /// How many rows the image of a tree over so many rows has.
-pub(crate) fn grown(count: u64, tree: &DeltaTree) -> u64
+pub fn grown(count: u64, tree: &DeltaTree) -> u64
     requires few { count < 2 ^ 62 }
     requires enough { delete_count tree.now.entries ≤ count + insert_count tree.now.entries }
     ensures sum { result + delete_count tree.now.entries ≡ count + insert_count tree.now.entries }

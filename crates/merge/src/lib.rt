@@ -16,6 +16,7 @@ mod table;
 mod view;
 
 pub use layers::Layers;
+pub use level::grown;
 pub use scan::{MergeScan, Stretches};
 pub use stretch::{StableStretch, Stretch};
 pub use view::RowView;

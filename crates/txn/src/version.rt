@@ -67,6 +67,14 @@ impl Base {
     {
         self.layers(&self.none).len()
     }
+
+    /// The layers with no transaction on top.
+    fn image(&self) -> Layers<'_>
+        ensures schema { result.schema ≡ self.now.stable.schema }
+        ensures rows { image_rows result ≡ rows_of (lower_table self.now) }
+    {
+        self.layers(&self.none)
+    }
 }
 
 /// A table, and how many commits made it. Its layers are behind one `Arc`, so that a copy takes one owner more.
@@ -163,6 +171,14 @@ impl Version {
         ensures { result ≡ length self.now.table }
     {
         self.base.len()
+    }
+
+    /// The layers of the table, whose image is its rows. Takes no memory.
+    pub fn image(&self) -> Layers<'_>
+        ensures schema { result.schema ≡ self.now.schema }
+        ensures rows { image_rows result ≡ rows_of self.now.table }
+    {
+        self.base.image()
     }
 
     /// The table's layers with a transaction's tree on top.

@@ -22,11 +22,11 @@ find_gap-sid-requires-clause-rid c = small_rid c.args.tree.now c.args.entry.now 
 pub find_gap-sid-requires-clause-ascending : goal.find_gap-sid-requires-clause-ascending
 find_gap-sid-requires-clause-ascending c = ascending c.args.tree.now c.args.entry.now c.requires
 
-pub find_rid-requires : goal.find_rid-requires
-find_rid-requires c = small_rid c.args.tree.now c.args.entry.now c.requires
+pub find_row-requires : goal.find_row-requires
+find_row-requires c = small_rid c.args.tree.now c.args.entry.now c.requires
 
-pub find_rid-requires-in-Mod : goal.find_rid-requires-in-Mod
-find_rid-requires-in-Mod c = small_rid c.args.tree.now c.args.entry.now c.requires
+pub find_row-requires-in-Mod : goal.find_row-requires-in-Mod
+find_row-requires-in-Mod c = small_rid c.args.tree.now c.args.entry.now c.requires
 
 pub put_ins-requires-clause-sid : goal.put_ins-requires-clause-sid
 put_ins-requires-clause-sid c =
@@ -72,7 +72,7 @@ entry_of-requires c =
     let e = c.args.entry.now in
     let key = c.in-Del.key in
     let w = with_change t e (Del key) c.in-Del.is c.requires in
-    let only = λ (place : Place) (at : IsAtRid t.entries e.sid place). c.find_rid.ensures.only place at ∙ c.in-Inserted.is in
+    let only = λ (place : Place) (at : IsAtRid t.entries e.sid place). c.find_row.ensures.only place at ∙ c.in-Inserted.is in
     taken_within t e.sid key w c.in-Inserted.index only
 
 pub take_ins-requires : goal.take_ins-requires
@@ -81,7 +81,7 @@ take_ins-requires c =
     let e = c.args.entry.now in
     let key = c.in-Del.key in
     let w = with_change t e (Del key) c.in-Del.is c.requires in
-    let only = λ (place : Place) (at : IsAtRid t.entries e.sid place). c.find_rid.ensures.only place at ∙ c.in-Inserted.is in
+    let only = λ (place : Place) (at : IsAtRid t.entries e.sid place). c.find_row.ensures.only place at ∙ c.in-Inserted.is in
     take_there t e.sid key w c.in-Inserted.index c.entry_of.result.now only c.entry_of.ensures
 
 pub returns-in-Inserted : goal.returns-in-Inserted
@@ -90,7 +90,7 @@ returns-in-Inserted c =
     let e = c.args.entry.now in
     let key = c.in-Del.key in
     let w = with_change t e (Del key) c.in-Del.is c.requires in
-    let only = λ (place : Place) (at : IsAtRid t.entries e.sid place). c.find_rid.ensures.only place at ∙ c.in-Inserted.is in
+    let only = λ (place : Place) (at : IsAtRid t.entries e.sid place). c.find_row.ensures.only place at ∙ c.in-Inserted.is in
     record {
       ok = on_ok_weaker c.take_ins.result (λ new_is. told t e.sid e.change (Del key) c.in-Del.is (λ (d : Change) (v : IsNext t (entry_at e.sid d)). c.take_ins.new.self ≡ next_tree t (entry_at e.sid d) v)
           (λ v. take_next t e.sid key v c.in-Inserted.index c.entry_of.result.now only c.entry_of.ensures c.take_ins.new.self new_is)) c.take_ins.ensures.ok;
@@ -102,7 +102,7 @@ put_del-requires-clause-sid c =
     let e = c.args.entry.now in
     let key = c.in-Del.key in
     let w = with_change t e (Del key) c.in-Del.is c.requires in
-    let only = λ (place : Place) (at : IsAtRid t.entries e.sid place). c.find_rid.ensures.only place at ∙ c.in-Base.is in
+    let only = λ (place : Place) (at : IsAtRid t.entries e.sid place). c.find_row.ensures.only place at ∙ c.in-Base.is in
     delete_small t e.sid key w c.in-Base.sid only
 
 pub put_del-requires-clause-free : goal.put_del-requires-clause-free
@@ -111,7 +111,7 @@ put_del-requires-clause-free c =
     let e = c.args.entry.now in
     let key = c.in-Del.key in
     let w = with_change t e (Del key) c.in-Del.is c.requires in
-    let only = λ (place : Place) (at : IsAtRid t.entries e.sid place). c.find_rid.ensures.only place at ∙ c.in-Base.is in
+    let only = λ (place : Place) (at : IsAtRid t.entries e.sid place). c.find_row.ensures.only place at ∙ c.in-Base.is in
     delete_free t e.sid key w c.in-Base.sid only
 
 pub put_del-requires-clause-room : goal.put_del-requires-clause-room
@@ -120,7 +120,7 @@ put_del-requires-clause-room c =
     let e = c.args.entry.now in
     let key = c.in-Del.key in
     let w = with_change t e (Del key) c.in-Del.is c.requires in
-    let only = λ (place : Place) (at : IsAtRid t.entries e.sid place). c.find_rid.ensures.only place at ∙ c.in-Base.is in
+    let only = λ (place : Place) (at : IsAtRid t.entries e.sid place). c.find_row.ensures.only place at ∙ c.in-Base.is in
     let copied : c.in_ok-copy-in-Base.field-0 ≡ key = c.in_ok-copy-in-Base.ensures in
     subst (λ (k : Key). length (put_del t.key_cols c.in-Base.sid k t.entries) ≤ 2 ^ 40) (sym copied) (delete_room t e.sid key w c.in-Base.sid only)
 
@@ -130,7 +130,7 @@ returns-in_ok-copy-in-Base c =
     let e = c.args.entry.now in
     let key = c.in-Del.key in
     let w = with_change t e (Del key) c.in-Del.is c.requires in
-    let only = λ (place : Place) (at : IsAtRid t.entries e.sid place). c.find_rid.ensures.only place at ∙ c.in-Base.is in
+    let only = λ (place : Place) (at : IsAtRid t.entries e.sid place). c.find_row.ensures.only place at ∙ c.in-Base.is in
     let copied : c.in_ok-copy-in-Base.field-0 ≡ key = c.in_ok-copy-in-Base.ensures in
     record {
       ok = on_ok_weaker c.put_del.result (λ new_is. told t e.sid e.change (Del key) c.in-Del.is (λ (d : Change) (v : IsNext t (entry_at e.sid d)). c.put_del.new.self ≡ next_tree t (entry_at e.sid d) v)
@@ -144,8 +144,8 @@ entry_of-inserted-requires c =
     let col = c.in-Mod.col in
     let value = c.in-Mod.value in
     let w = with_change t e (Mod col value) c.in-Mod.is c.requires in
-    let only = λ (place : Place) (at : IsAtRid t.entries e.sid place). c.find_rid-in-Mod.ensures.only place at ∙ c.in-Inserted-find_rid.is in
-    (is_insert_there t e.sid col value w c.in-Inserted-find_rid.index only).0
+    let only = λ (place : Place) (at : IsAtRid t.entries e.sid place). c.find_row-in-Mod.ensures.only place at ∙ c.in-Inserted-find_row.is in
+    (is_insert_there t e.sid col value w c.in-Inserted-find_row.index only).0
 
 pub key_of_insert-requires : goal.key_of_insert-requires
 key_of_insert-requires c =
@@ -154,8 +154,8 @@ key_of_insert-requires c =
     let col = c.in-Mod.col in
     let value = c.in-Mod.value in
     let w = with_change t e (Mod col value) c.in-Mod.is c.requires in
-    let only = λ (place : Place) (at : IsAtRid t.entries e.sid place). c.find_rid-in-Mod.ensures.only place at ∙ c.in-Inserted-find_rid.is in
-    (is_insert_there t e.sid col value w c.in-Inserted-find_rid.index only).1 c.entry_of-inserted.result.now c.entry_of-inserted.ensures
+    let only = λ (place : Place) (at : IsAtRid t.entries e.sid place). c.find_row-in-Mod.ensures.only place at ∙ c.in-Inserted-find_row.is in
+    (is_insert_there t e.sid col value w c.in-Inserted-find_row.index only).1 c.entry_of-inserted.result.now c.entry_of-inserted.ensures
 
 pub set_ins-requires-clause-there : goal.set_ins-requires-clause-there
 set_ins-requires-clause-there c =
@@ -164,10 +164,10 @@ set_ins-requires-clause-there c =
     let col = c.in-Mod.col in
     let value = c.in-Mod.value in
     let w = with_change t e (Mod col value) c.in-Mod.is c.requires in
-    let only = λ (place : Place) (at : IsAtRid t.entries e.sid place). c.find_rid-in-Mod.ensures.only place at ∙ c.in-Inserted-find_rid.is in
-    let k = c.in_ok-key-in-Inserted-find_rid.key in
-    let key_is = subst (λ (n : ℕ). IsKeyOfInsert n k c.entry_of-inserted.result.now.change) c.key_cols.ensures c.in_ok-key-in-Inserted-find_rid.ensures in
-    set_there t e.sid col value w c.in-Inserted-find_rid.index c.entry_of-inserted.result.now k only c.entry_of-inserted.ensures key_is
+    let only = λ (place : Place) (at : IsAtRid t.entries e.sid place). c.find_row-in-Mod.ensures.only place at ∙ c.in-Inserted-find_row.is in
+    let k = c.in_ok-key-in-Inserted-find_row.key in
+    let key_is = subst (λ (n : ℕ). IsKeyOfInsert n k c.entry_of-inserted.result.now.change) c.key_cols.ensures c.in_ok-key-in-Inserted-find_row.ensures in
+    set_there t e.sid col value w c.in-Inserted-find_row.index c.entry_of-inserted.result.now k only c.entry_of-inserted.ensures key_is
 
 pub set_ins-requires-clause-outside_key : goal.set_ins-requires-clause-outside_key
 set_ins-requires-clause-outside_key c =
@@ -176,25 +176,25 @@ set_ins-requires-clause-outside_key c =
     let col = c.in-Mod.col in
     let value = c.in-Mod.value in
     let w = with_change t e (Mod col value) c.in-Mod.is c.requires in
-    let only = λ (place : Place) (at : IsAtRid t.entries e.sid place). c.find_rid-in-Mod.ensures.only place at ∙ c.in-Inserted-find_rid.is in
-    let k = c.in_ok-key-in-Inserted-find_rid.key in
-    let key_is = subst (λ (n : ℕ). IsKeyOfInsert n k c.entry_of-inserted.result.now.change) c.key_cols.ensures c.in_ok-key-in-Inserted-find_rid.ensures in
-    set_outside t e.sid col value w c.in-Inserted-find_rid.index c.entry_of-inserted.result.now k only c.entry_of-inserted.ensures key_is
+    let only = λ (place : Place) (at : IsAtRid t.entries e.sid place). c.find_row-in-Mod.ensures.only place at ∙ c.in-Inserted-find_row.is in
+    let k = c.in_ok-key-in-Inserted-find_row.key in
+    let key_is = subst (λ (n : ℕ). IsKeyOfInsert n k c.entry_of-inserted.result.now.change) c.key_cols.ensures c.in_ok-key-in-Inserted-find_row.ensures in
+    set_outside t e.sid col value w c.in-Inserted-find_row.index c.entry_of-inserted.result.now k only c.entry_of-inserted.ensures key_is
 
-pub returns-in_ok-copy-in-Inserted-find_rid : goal.returns-in_ok-copy-in-Inserted-find_rid
-returns-in_ok-copy-in-Inserted-find_rid c =
+pub returns-in_ok-copy-in-Inserted-find_row : goal.returns-in_ok-copy-in-Inserted-find_row
+returns-in_ok-copy-in-Inserted-find_row c =
     let t = c.args.tree.now in
     let e = c.args.entry.now in
     let col = c.in-Mod.col in
     let value = c.in-Mod.value in
     let w = with_change t e (Mod col value) c.in-Mod.is c.requires in
-    let only = λ (place : Place) (at : IsAtRid t.entries e.sid place). c.find_rid-in-Mod.ensures.only place at ∙ c.in-Inserted-find_rid.is in
-    let k = c.in_ok-key-in-Inserted-find_rid.key in
-    let key_is = subst (λ (n : ℕ). IsKeyOfInsert n k c.entry_of-inserted.result.now.change) c.key_cols.ensures c.in_ok-key-in-Inserted-find_rid.ensures in
-    let copied : c.in_ok-copy-in-Inserted-find_rid.field-0 ≡ value = c.in_ok-copy-in-Inserted-find_rid.ensures.same in
+    let only = λ (place : Place) (at : IsAtRid t.entries e.sid place). c.find_row-in-Mod.ensures.only place at ∙ c.in-Inserted-find_row.is in
+    let k = c.in_ok-key-in-Inserted-find_row.key in
+    let key_is = subst (λ (n : ℕ). IsKeyOfInsert n k c.entry_of-inserted.result.now.change) c.key_cols.ensures c.in_ok-key-in-Inserted-find_row.ensures in
+    let copied : c.in_ok-copy-in-Inserted-find_row.field-0 ≡ value = c.in_ok-copy-in-Inserted-find_row.ensures.same in
     record {
       ok = on_ok_weaker c.set_ins.result (λ new_is. told t e.sid e.change (Mod col value) c.in-Mod.is (λ (d : Change) (v : IsNext t (entry_at e.sid d)). c.set_ins.new.self ≡ next_tree t (entry_at e.sid d) v)
-          (λ v. set_next t e.sid col value v c.in-Inserted-find_rid.index c.entry_of-inserted.result.now k only c.entry_of-inserted.ensures key_is c.set_ins.new.self (new_is ∙ ap (λ (x : Value). record t { entries = set_ins t.key_cols c.entry_of-inserted.result.now.sid k col x t.entries }) copied))) c.set_ins.ensures.ok;
+          (λ v. set_next t e.sid col value v c.in-Inserted-find_row.index c.entry_of-inserted.result.now k only c.entry_of-inserted.ensures key_is c.set_ins.new.self (new_is ∙ ap (λ (x : Value). record t { entries = set_ins t.key_cols c.entry_of-inserted.result.now.sid k col x t.entries }) copied))) c.set_ins.ensures.ok;
     }
 
 pub put_mod-requires-clause-sid : goal.put_mod-requires-clause-sid
@@ -204,8 +204,8 @@ put_mod-requires-clause-sid c =
     let col = c.in-Mod.col in
     let value = c.in-Mod.value in
     let w = with_change t e (Mod col value) c.in-Mod.is c.requires in
-    let only = λ (place : Place) (at : IsAtRid t.entries e.sid place). c.find_rid-in-Mod.ensures.only place at ∙ c.in-Base-find_rid.is in
-    modify_small t e.sid col value w c.in-Base-find_rid.sid only
+    let only = λ (place : Place) (at : IsAtRid t.entries e.sid place). c.find_row-in-Mod.ensures.only place at ∙ c.in-Base-find_row.is in
+    modify_small t e.sid col value w c.in-Base-find_row.sid only
 
 pub put_mod-requires-clause-free : goal.put_mod-requires-clause-free
 put_mod-requires-clause-free c =
@@ -214,8 +214,8 @@ put_mod-requires-clause-free c =
     let col = c.in-Mod.col in
     let value = c.in-Mod.value in
     let w = with_change t e (Mod col value) c.in-Mod.is c.requires in
-    let only = λ (place : Place) (at : IsAtRid t.entries e.sid place). c.find_rid-in-Mod.ensures.only place at ∙ c.in-Base-find_rid.is in
-    modify_free t e.sid col value w c.in-Base-find_rid.sid only
+    let only = λ (place : Place) (at : IsAtRid t.entries e.sid place). c.find_row-in-Mod.ensures.only place at ∙ c.in-Base-find_row.is in
+    modify_free t e.sid col value w c.in-Base-find_row.sid only
 
 pub put_mod-requires-clause-room : goal.put_mod-requires-clause-room
 put_mod-requires-clause-room c =
@@ -224,20 +224,20 @@ put_mod-requires-clause-room c =
     let col = c.in-Mod.col in
     let value = c.in-Mod.value in
     let w = with_change t e (Mod col value) c.in-Mod.is c.requires in
-    let only = λ (place : Place) (at : IsAtRid t.entries e.sid place). c.find_rid-in-Mod.ensures.only place at ∙ c.in-Base-find_rid.is in
-    let copied : c.in_ok-copy-in-Base-find_rid.field-0 ≡ value = c.in_ok-copy-in-Base-find_rid.ensures.same in
-    subst (λ (x : Value). length (put_mod t.key_cols c.in-Base-find_rid.sid col x t.entries) ≤ 2 ^ 40) (sym copied) (modify_room t e.sid col value w c.in-Base-find_rid.sid only)
+    let only = λ (place : Place) (at : IsAtRid t.entries e.sid place). c.find_row-in-Mod.ensures.only place at ∙ c.in-Base-find_row.is in
+    let copied : c.in_ok-copy-in-Base-find_row.field-0 ≡ value = c.in_ok-copy-in-Base-find_row.ensures.same in
+    subst (λ (x : Value). length (put_mod t.key_cols c.in-Base-find_row.sid col x t.entries) ≤ 2 ^ 40) (sym copied) (modify_room t e.sid col value w c.in-Base-find_row.sid only)
 
-pub returns-in_ok-copy-in-Base-find_rid : goal.returns-in_ok-copy-in-Base-find_rid
-returns-in_ok-copy-in-Base-find_rid c =
+pub returns-in_ok-copy-in-Base-find_row : goal.returns-in_ok-copy-in-Base-find_row
+returns-in_ok-copy-in-Base-find_row c =
     let t = c.args.tree.now in
     let e = c.args.entry.now in
     let col = c.in-Mod.col in
     let value = c.in-Mod.value in
     let w = with_change t e (Mod col value) c.in-Mod.is c.requires in
-    let only = λ (place : Place) (at : IsAtRid t.entries e.sid place). c.find_rid-in-Mod.ensures.only place at ∙ c.in-Base-find_rid.is in
-    let copied : c.in_ok-copy-in-Base-find_rid.field-0 ≡ value = c.in_ok-copy-in-Base-find_rid.ensures.same in
+    let only = λ (place : Place) (at : IsAtRid t.entries e.sid place). c.find_row-in-Mod.ensures.only place at ∙ c.in-Base-find_row.is in
+    let copied : c.in_ok-copy-in-Base-find_row.field-0 ≡ value = c.in_ok-copy-in-Base-find_row.ensures.same in
     record {
       ok = on_ok_weaker c.put_mod.result (λ new_is. told t e.sid e.change (Mod col value) c.in-Mod.is (λ (d : Change) (v : IsNext t (entry_at e.sid d)). c.put_mod.new.self ≡ next_tree t (entry_at e.sid d) v)
-          (λ v. modify_next t e.sid col value v c.in-Base-find_rid.sid only c.put_mod.new.self (new_is ∙ ap (λ (x : Value). record t { entries = put_mod t.key_cols c.in-Base-find_rid.sid col x t.entries }) copied))) c.put_mod.ensures.ok;
+          (λ v. modify_next t e.sid col value v c.in-Base-find_row.sid only c.put_mod.new.self (new_is ∙ ap (λ (x : Value). record t { entries = put_mod t.key_cols c.in-Base-find_row.sid col x t.entries }) copied))) c.put_mod.ensures.ok;
     }

@@ -1,5 +1,4 @@
 use Rattle.std.proofs.Common.{◌≡◌, ℕ, ◌≤◌, List, map, length, sym, ap, ◌∙◌, subst, arith}
-use Rattle.model.specs.declared.clash.ConflictRule.TheVariants.{ByColumn}
 use Rattle.model.specs.declared.entry.Entry.{Entry}
 use Rattle.model.specs.Entries.{IsLawful}
 use Rattle.model.specs.Rebasing.{first_clash_from, rebased_entry}
@@ -9,7 +8,7 @@ use Rattle.layers.proofs.SerialLemmas.{clear_next, clash_here, moved_next, none_
 use Rattle.layers.proofs.rebase.serialize.Goals as goal
 
 pub find_change-found-requires : goal.find_change-found-requires
-find_change-found-requires c = small_sid c.args.x.now c.args.y.now c.requires c.loop-index.index c.entry_of-entry.result.now c.entry_of-entry.ensures
+find_change-found-requires c = small_sid c.args.rule c.args.x.now c.args.y.now c.requires c.loop-index.index c.entry_of-entry.result.now c.entry_of-entry.ensures
 
 pub returns-in-Some : goal.returns-in-Some
 returns-in-Some c =
@@ -17,11 +16,11 @@ returns-in-Some c =
     let y = c.args.y.now in
     let n = c.loop-index.index in
     let e = c.entry_of-entry.result.now in
-    let p = c.find_change-found.result.index in
+    let p = c.index_of_clash-place.result in
     let at = c.entry_of-entry.ensures in
-    let own = clash_is x y c.requires n e p at c.find_change-found.ensures.split ∙ sym c.clash_at.ensures ∙ c.in-Some.is in
-    let found = c.loop-index.invariant.clear ∙ clash_here y.key_cols n x.entries y.entries e c.in-Some.clash at own in
-    λ (w : AreAligned x y). conflicting x y w c.in-Some.clash found
+    let own = clash_is c.args.rule x y c.requires n e p at c.index_of_clash-place.ensures ∙ sym c.clash_at.ensures ∙ c.in-Some.is in
+    let found = c.loop-index.invariant.clear ∙ clash_here c.args.rule y.key_cols n x.entries y.entries e c.in-Some.clash at own in
+    λ (w : AreAligned x y). conflicting c.args.rule x y w c.in-Some.clash found
 
 pub loop-index-preserved : goal.loop-index-preserved
 loop-index-preserved c =
@@ -29,14 +28,14 @@ loop-index-preserved c =
     let y = c.args.y.now in
     let n = c.loop-index.index in
     let e = c.entry_of-entry.result.now in
-    let p = c.find_change-found.result.index in
+    let p = c.index_of_clash-place.result in
     let at = c.entry_of-entry.ensures in
-    let own = clash_is x y c.requires n e p at c.find_change-found.ensures.split ∙ sym c.clash_at.ensures ∙ c.in_default.is in
-    let sid = c.find_change-found.ensures.rid ∙ rebased_place y.key_cols e y.entries p c.find_change-found.ensures.split in
+    let own = clash_is c.args.rule x y c.requires n e p at c.index_of_clash-place.ensures ∙ sym c.clash_at.ensures ∙ c.in_default.is in
+    let sid = c.find_change-found.ensures.rid ∙ rebased_place y.key_cols e y.entries c.find_change-found.result.index c.find_change-found.ensures.split in
     let copied : c.in_ok-copy_change.field-0 ≡ e.change = c.in_ok-copy_change.ensures in
     record {
       moved = c.in_ok-push.ensures.items ∙ moved_next y.key_cols n c.find_change-found.result.rid x.entries y.entries c.loop-index.entries.items e c.in_ok-copy_change.field-0 at sid copied c.loop-index.invariant.moved;
-      clear = c.loop-index.invariant.clear ∙ clear_next y.key_cols n x.entries y.entries e at own;
+      clear = c.loop-index.invariant.clear ∙ clear_next c.args.rule y.key_cols n x.entries y.entries e at own;
     }
 
 pub from_sorted-requires : goal.from_sorted-requires
@@ -45,9 +44,9 @@ from_sorted-requires c =
     let y = c.args.y.now in
     let n = c.loop-index.index in
     let end : length x.entries ≤ n = omega (arith, c.len-index-end.ensures, c.loop-index-test.false) in
-    let none = c.loop-index.invariant.clear ∙ ap (λ (es : List Entry). first_clash_from ByColumn y.key_cols n es y.entries) (none_left n x.entries end) in
+    let none = c.loop-index.invariant.clear ∙ ap (λ (es : List Entry). first_clash_from c.args.rule y.key_cols n es y.entries) (none_left n x.entries end) in
     let all = c.loop-index.invariant.moved ∙ ap (map (rebased_entry y.key_cols y.entries)) (all_taken n x.entries end) in
-    subst (λ (k : ℕ). IsLawful k c.loop-index.entries.items) (sym c.key_cols.ensures) (lawful x y c.requires c.loop-index.entries.items none all)
+    subst (λ (k : ℕ). IsLawful k c.loop-index.entries.items) (sym c.key_cols.ensures) (lawful c.args.rule x y c.requires c.loop-index.entries.items none all)
 
 pub returns : goal.returns
 returns c =
@@ -56,7 +55,7 @@ returns c =
     let n = c.loop-index.index in
     let out = c.loop-index.entries.items in
     let end : length x.entries ≤ n = omega (arith, c.len-index-end.ensures, c.loop-index-test.false) in
-    let none = c.loop-index.invariant.clear ∙ ap (λ (es : List Entry). first_clash_from ByColumn y.key_cols n es y.entries) (none_left n x.entries end) in
+    let none = c.loop-index.invariant.clear ∙ ap (λ (es : List Entry). first_clash_from c.args.rule y.key_cols n es y.entries) (none_left n x.entries end) in
     let all = c.loop-index.invariant.moved ∙ ap (map (rebased_entry y.key_cols y.entries)) (all_taken n x.entries end) in
     let tree_is : c.in_ok-from_sorted.field-0 ≡ record { key_cols = x.key_cols; entries = out } = c.in_ok-from_sorted.ensures ∙ (λ i. record { key_cols = c.key_cols.ensures i; entries = out }) in
-    λ (w : AreAligned x y). (unconflicting x y w none, rebased_is x y w c.in_ok-from_sorted.field-0 out none all tree_is)
+    λ (w : AreAligned x y). (unconflicting c.args.rule x y w none, rebased_is c.args.rule x y w c.in_ok-from_sorted.field-0 out none all tree_is)

@@ -1,5 +1,4 @@
 use Rattle.std.proofs.Common.{◌≡◌, map, take, drop}
-use Rattle.model.specs.declared.clash.ConflictRule.TheVariants.{ByColumn}
 use Rattle.model.specs.Rebasing.{first_clash, first_clash_from, rebased_entry}
 use Rattle.layers.proofs.rebase.serialize.Given as goal
 
@@ -7,5 +6,5 @@ use Rattle.layers.proofs.rebase.serialize.Given as goal
 abbrev pub invariant-loop-index : goal.invariant-loop-index
 invariant-loop-index l = record {
   moved : l.entries.items ≡ map (rebased_entry l.y.key_cols l.y.entries) (take l.index l.x.entries);
-  clear : first_clash ByColumn l.y.key_cols l.x.entries l.y.entries ≡ first_clash_from ByColumn l.y.key_cols l.index (drop l.index l.x.entries) l.y.entries;
+  clear : first_clash l.rule l.y.key_cols l.x.entries l.y.entries ≡ first_clash_from l.rule l.y.key_cols l.index (drop l.index l.x.entries) l.y.entries;
 }

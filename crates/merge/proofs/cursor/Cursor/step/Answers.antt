@@ -1,52 +1,56 @@
-use Rattle.std.proofs.Common.{◌≡◌, ◌∙◌, ◌+◌, Some, sym, refl, ap, subst, arith}
+use Rattle.std.proofs.Common.{◌≡◌, ◌∙◌, ◌+◌, ◌-◌, ◌<◌, Some, min, drop, sym, refl, ap, subst, arith}
 use Rattle.std.specs.Option.{option_copied}
+use Rattle.std.proofs.lemmas.Option.{slice_get_within}
 use Rattle.model.specs.Entries.{entry_at}
+use Rattle.delta.specs.Tree.{Tree}
 use Rattle.merge.specs.Cursor.{KeepsNext, ModifiesNext}
-use Rattle.merge.proofs.CursorLemmas.{inserts_next, placed_at, place_fits, cursor-le}
+use Rattle.merge.proofs.CursorLemmas.{inserts_next, placed_at, cursor-le}
 use Rattle.merge.proofs.StepLemmas.{no_insert, modifies_next, keeps_all, keeps_some}
 use Rattle.merge.proofs.cursor.Cursor.step.Goals as goal
 
 pub returns-in-None-clause-step : goal.returns-in-None-clause-step
-returns-in-None-clause-step c = (keeps_all c.args.self.now c.args.most (sym c.entry.ensures ∙ ap option_copied c.in-None.is), refl)
+returns-in-None-clause-step c = (keeps_all c.args.self.now c.args.most (sym c.next_entry.ensures ∙ ap option_copied c.in-None.is), refl)
 
-pub returns-then-entry-self-clause-step : goal.returns-then-entry-self-clause-step
-returns-then-entry-self-clause-step c =
-    let at = sym c.entry.ensures ∙ ap option_copied c.in-Some.is in
-    (subst (λ n. KeepsNext c.args.most n c.args.self.now) (sym c.min.ensures) (keeps_some c.args.self.now c.args.most c.in-Some.entry.now c.requires.is.0 c.requires.is.1 at c.if-entry-self.true), refl)
-
-pub overflow_add-self : goal.overflow_add-self
-overflow_add-self c =
+pub returns-then-entry-sid-clause-step : goal.returns-then-entry-sid-clause-step
+returns-then-entry-sid-clause-step c =
     let old = c.args.self.now in
-    let at = sym c.entry.ensures ∙ ap option_copied c.in-Some.is in
-    omega (arith, place_fits old.tree.now.key_cols old.tree.now.entries old.index c.in-Some.entry.now c.requires.is.1.lawful at)
+    let x = c.in-Some.entry.now in
+    let at = sym c.next_entry.ensures ∙ ap option_copied c.in-Some.is in
+    let above : old.sid < x.sid = omega (arith, c.if-entry-sid.true, c.sid-sid.ensures) in
+    let count = c.min.ensures ∙ ap (λ n. min c.args.most (x.sid - n)) c.sid-sid.ensures in
+    (subst (λ n. KeepsNext c.args.most n old) (sym count) (keeps_some old c.args.most x c.requires.is.0 c.requires.is.1 at above), refl)
 
-pub overflow_add-self-in-Del : goal.overflow_add-self-in-Del
-overflow_add-self-in-Del c =
+pub advance-requires-clause-some : goal.advance-requires-clause-some
+advance-requires-clause-some c =
     let old = c.args.self.now in
-    let at = sym c.entry.ensures ∙ ap option_copied c.in-Some.is in
-    omega (arith, placed_at old.tree.now.key_cols old.tree.now.entries old.index c.in-Some.entry.now c.requires.is.1.lawful at, cursor-le old c.requires.is.0 c.in-Some.entry.now c.requires.is.1 at)
+    slice_get_within old.tree.entries old.index c.in-Some.entry.now (sym c.next_entry.ensures ∙ ap option_copied c.in-Some.is)
 
 pub overflow_cast-result : goal.overflow_cast-result
 overflow_cast-result c =
     let old = c.args.self.now in
-    let at = sym c.entry.ensures ∙ ap option_copied c.in-Some.is in
-    omega (arith, placed_at old.tree.now.key_cols old.tree.now.entries old.index c.in-Some.entry.now c.requires.is.1.lawful at)
+    let at = sym c.next_entry.ensures ∙ ap option_copied c.in-Some.is in
+    omega (arith, placed_at old.tree.key_cols old.tree.entries old.index c.in-Some.entry.now c.requires.is.1.lawful at)
 
 pub returns-in-Ins-clause-step : goal.returns-in-Ins-clause-step
 returns-in-Ins-clause-step c =
     let old = c.args.self.now in
     let x = c.in-Some.entry.now in
-    let at = sym c.entry.ensures ∙ ap option_copied c.in-Some.is in
+    let at = sym c.next_entry.ensures ∙ ap option_copied c.in-Some.is in
     let low = cursor-le old c.requires.is.0 x c.requires.is.1 at in
-    let here : x.sid ≡ old.sid = omega (arith, c.if-entry-self.false, low) in
-    inserts_next old c.in-Ins.row _ (at ∙ (λ i. Some (entry_at (here i) (c.in-Ins.is i)))) refl
+    let here : x.sid ≡ old.sid = omega (arith, c.if-entry-sid.false, c.sid-sid.ensures, low) in
+    inserts_next old c.in-Ins.row c.advance.new.self (at ∙ (λ i. Some (entry_at (here i) (c.in-Ins.is i)))) c.advance.ensures
 
 pub returns-in-Del-clause-step : goal.returns-in-Del-clause-step
 returns-in-Del-clause-step c =
     let old = c.args.self.now in
     let x = c.in-Some.entry.now in
-    let at = sym c.entry.ensures ∙ ap option_copied c.in-Some.is in
+    let at = sym c.next_entry.ensures ∙ ap option_copied c.in-Some.is in
     let low = cursor-le old c.requires.is.0 x c.requires.is.1 at in
-    let here : x.sid ≡ old.sid = omega (arith, c.if-entry-self.false, low) in
-    let new = record old { index = c.past_sid-self.result; sid = old.sid + 1 } in
-    subst (λ n. ModifiesNext n old new) (sym here) (modifies_next old x at here c.requires.undeleted (no_insert x c.in-Del.is) new c.past_sid-self.result c.past_sid-self.ensures.rest c.past_sid-self.ensures.past refl)
+    let here : x.sid ≡ old.sid = omega (arith, c.if-entry-sid.false, c.sid-sid.ensures, low) in
+    let row = c.pass_row_entries.new.self in
+    let passed = c.pass_row_entries.ensures in
+    let rest = ap (λ (t : Tree). drop row.index t.entries) (sym passed.tree) ∙ passed.rest in
+    let next : c.pass.new.self ≡ record old { index = row.index; sid = old.sid + 1 } =
+    c.pass.ensures ∙ (λ i. record { tree = passed.tree i; index = row.index; sid = passed.sid i + 1 }) in
+    subst (λ n. ModifiesNext n old c.pass.new.self) (sym here)
+    (modifies_next old x at here c.requires.undeleted (no_insert x c.in-Del.is) c.pass.new.self row.index rest passed.past next)

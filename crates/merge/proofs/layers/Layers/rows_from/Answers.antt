@@ -31,9 +31,9 @@ returns-clause-rows c =
     let r = read_at l.stable.now l.read.now l.write.now l.trans.now l.len c.self.invariant c.sid-2.result c.at-read.result w_low c.at-read.ensures.at in
     let r_here = subst (λ n. IsCursorAt l.stable.now.rows n c.at-read.result) c.sid-2.ensures r in
     let w_here = subst (λ n. IsCursorAt (read_rows (stack_of l.stable.now l.read.now l.write.now l.trans.now)) n c.at-write.result) c.sid.ensures w in
-    let r_is = ap (λ x. x.now.entries) c.at-read.ensures.tree in
-    let w_is = ap (λ x. x.now.entries) c.at-write.ensures.tree in
-    let t_is = ap (λ x. x.now.entries) c.at-trans.ensures.tree in
+    let r_is = ap (λ x. x.entries) c.at-read.ensures.tree in
+    let w_is = ap (λ x. x.entries) c.at-write.ensures.tree in
+    let t_is = ap (λ x. x.entries) c.at-trans.ensures.tree in
     ap (λ n. rows_left c.at-trans.result (rows_left c.at-write.result (rows_left c.at-read.result (drop n l.stable.now.rows)))) c.sid-3.ensures
     ∙ image_is l.stable.now.rows l.read.now.entries l.write.now.entries l.trans.now.entries c.at-read.result c.at-write.result c.at-trans.result c.args.rid r_here w_here t r_is w_is t_is
     ∙ ap (λ (s : Stack). drop c.args.rid (image_rows s)) c.self.view_is
@@ -49,9 +49,9 @@ returns-clause-cursors c =
     let r = read_at l.stable.now l.read.now l.write.now l.trans.now l.len c.self.invariant c.sid-2.result c.at-read.result w_low c.at-read.ensures.at in
     let r_here = subst (λ n. IsCursorAt l.stable.now.rows n c.at-read.result) c.sid-2.ensures r in
     let w_here = subst (λ n. IsCursorAt (read_rows (stack_of l.stable.now l.read.now l.write.now l.trans.now)) n c.at-write.result) c.sid.ensures w in
-    let r_is = ap (λ x. x.now.entries) c.at-read.ensures.tree in
-    let w_is = ap (λ x. x.now.entries) c.at-write.ensures.tree in
-    let t_is = ap (λ x. x.now.entries) c.at-trans.ensures.tree in
+    let r_is = ap (λ x. x.entries) c.at-read.ensures.tree in
+    let w_is = ap (λ x. x.entries) c.at-write.ensures.tree in
+    let t_is = ap (λ x. x.entries) c.at-trans.ensures.tree in
     let here = sym c.sid-3.ensures in
     record {
       few = c.self.invariant.few;

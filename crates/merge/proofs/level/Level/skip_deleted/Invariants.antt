@@ -12,4 +12,4 @@ invariant-loop-self g l =
     × IsCursor (length (g.B.Rows.rows l.self.below)) l.self.cursor
 
 abbrev pub decreases-loop-self : goal.decreases-loop-self
-decreases-loop-self g l = length l.self.cursor.tree.now.entries - l.self.cursor.index
+decreases-loop-self g l = length l.self.cursor.tree.entries - l.self.cursor.index

@@ -1,6 +1,5 @@
 use Rattle.std.proofs.Common.{◌≡◌, ◌∙◌, ◌≤◌, suc, length, sym, ap, subst, arith, length-append}
-use Rattle.merge.specs.Cursor.{IsCursor, rows_left}
-use Rattle.merge.specs.declared.cursor.Cursor.{Cursor}
+use Rattle.merge.specs.Cursor.{TreeCursor, IsCursor, rows_left}
 use Rattle.merge.specs.View.{layer_number}
 use Rattle.merge.specs.Stretches.{stretch_rows}
 use Rattle.merge.proofs.level.LevelRows.next_stretch.Goals as goal
@@ -10,7 +9,7 @@ pub pass-requires : goal.pass-requires
 pass-requires g c =
     let skipped = c.skip_deleted.new.self in
     let below = g.B.Rows.rows skipped.below in
-    let same = ap (λ (x : Cursor). x.sid) c.in-Kept.ensures.step.1 in
+    let same = ap (λ (x : TreeCursor). x.sid) c.in-Kept.ensures.step.1 in
     let left = ap length c.skip_deleted.ensures.rows in
     let most : c.args.most ≤ length (rows_left skipped.cursor below) = omega (arith, left, c.requires.most) in
     let within = c.in-Kept.ensures.step.0.within below c.skip_deleted.ensures.cursor most in
