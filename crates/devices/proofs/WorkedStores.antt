@@ -12,7 +12,7 @@ use Rattle.devices.specs.Stored.{Image, stored_image}
 abbrev one_int : Columns
 one_int = record { names = (105 ∷ 100 ∷ []) ∷ []; types = column.Int ∷ []; key_cols = 1 }
 
--- the row 10 under generation 1
+-- the row of the number ten, under generation 1
 abbrev row_ten : Image
 row_ten = record { generation = 1; table = record { schema = one_int; rows = (Int (pos 10) ∷ []) ∷ [] } }
 

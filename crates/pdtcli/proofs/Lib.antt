@@ -1,4 +1,3 @@
-mod ManagedLemmas
 pub mod RunLemmas
 mod ToldLemmas
 mod OutputLemmas

@@ -1,10 +1,10 @@
 -- What an opening's answer says of its first fault, and what is so of a refusal that is passed up.
 use Rattle.std.proofs.Common.{◌≡◌, ℕ, Option, Some, None, Result, Ok, Err, sym, refl, subst}
 use Rattle.std.specs.Prelude.{IfErr, IsErrAnd, IsOkUnless, MatchOption, unwrap_or}
-use Rattle.pdtcli.specs.Managed.{Managed, fault_of_opening}
+use Rattle.manager.specs.Managed.{Managed, fault_of_opening}
 use Rattle.pdtcli.specs.Program.{File, Inputs, AreInputs, AreOpened}
-use Rattle.pdtcli.specs.declared.plain.manager.OpenFault.{OpenFault}
-use Rattle.pdtcli.specs.declared.plain.manager.OpenFault.TheVariants.{NoMemory}
+use Rattle.manager.specs.declared.fault.OpenFault.{OpenFault}
+use Rattle.manager.specs.declared.fault.OpenFault.TheVariants.{NoMemory}
 use Rattle.pdtcli.specs.declared.program.TheConstants.{RECENT_COMMITS}
 
 -- a refusal is for the first fault, or for want of memory where there is none

@@ -1,5 +1,5 @@
 -- A run goes on by one call, and each open transaction stays one of the manager.
-use Rattle.std.proofs.Common.{◌≡◌, ℕ, ◌-◌, ◌≤◌, Option, Some, None, List, [], ◌∷◌, ◌++◌, length, get_or, set, refl, sym, ap, ◌∙◌, subst, append_assoc, arith}
+use Rattle.std.proofs.Common.{◌≡◌, ℕ, ◌+◌, ◌-◌, ◌≤◌, Option, Some, None, List, [], ◌∷◌, ◌++◌, length, get_or, set, refl, sym, ap, ◌∙◌, subst, append_assoc, arith}
 use Rattle.std.specs.Prelude.{IfSome}
 use Rattle.std.proofs.lemmas.List.{take-append-le, append-nil, length-append, length-set}
 use Rattle.std.proofs.lemmas.List.Elements.{All-set}
@@ -17,10 +17,10 @@ use Rattle.pdtcli.specs.declared.reply.Reply.{Reply}
 use Rattle.pdtcli.specs.declared.reply.Reply.TheVariants.{Begun, AlreadyOpen, NotOpen, Wrote, KeyColumn, TextTooLong, Row as Shown, Missing, NoRow, Place, Rows, End, Decided, Aborted, NoMemory}
 use Rattle.pdtcli.specs.declared.reply.ReplyLine.{ReplyLine}
 use Rattle.txn.specs.Txn.{Transaction}
-use Rattle.pdtcli.specs.Managed.{Managed, start_of, commits_in, IsDecided, IsOwn, begun_at, record_of, with_record}
+use Rattle.manager.specs.Managed.{Managed, commits_in, IsDecided, IsOwn, begun_at, record_of, with_record}
 use Rattle.pdtcli.specs.Run.{Side, SideStep, BeginStep, OpenWriteStep, OpenCommitStep, State, Step, IsRun}
 use Rattle.pdtcli.specs.Ready.{IsReady}
-use Rattle.pdtcli.proofs.ManagedLemmas.{newest_whole, commits_from-append}
+use Rattle.manager.proofs.CallerLemmas.{newest_whole, commits_from-append}
 
 -- ---- a step keeps the transactions of the manager
 
@@ -37,21 +37,21 @@ own_later m r txn commits are (Committed n) x is h =
     let longer = are ∙ is in
     let grown = length-append (commits_in m) (x ∷ []) in
     let more = subst (λ (cs : List Effects). length (commits_in m) ≤ length cs) (sym longer) (omega (arith, grown)) in
-    let before = take-append-le (txn.begin - 0) (commits_in m) (x ∷ []) (omega (arith, h.begun)) in
+    let before = take-append-le (txn.begin - m.start.base) (commits_in m) (x ∷ []) (omega (arith, h.begun)) in
     record {
       schema = h.schema;
       limit = h.limit;
       begun = omega (arith, h.begun, more);
-      snapshot = h.snapshot ∙ ap (table_with_all m.opening) (sym before) ∙ ap (λ (cs : List Effects). table_after (start_of m) cs txn.begin) (sym longer);
+      snapshot = λ above. h.snapshot above ∙ ap (table_with_all m.start.table) (sym before) ∙ ap (λ (cs : List Effects). table_after m.start cs txn.begin) (sym longer);
     }
-own_later m r txn commits are (Conflict n) x is h = subst (λ (cs : List Effects). (txn.begin ≤ length cs) × (txn.table ≡ table_after (start_of m) cs txn.begin) → IsOwn (with_record m r) txn) (are ∙ is) (λ k. record { schema = h.schema; limit = h.limit; begun = k.0; snapshot = k.1 }) (h.begun, h.snapshot)
-own_later m r txn commits are (TooOld n) x is h = subst (λ (cs : List Effects). (txn.begin ≤ length cs) × (txn.table ≡ table_after (start_of m) cs txn.begin) → IsOwn (with_record m r) txn) (are ∙ is) (λ k. record { schema = h.schema; limit = h.limit; begun = k.0; snapshot = k.1 }) (h.begun, h.snapshot)
-own_later m r txn commits are (Full n) x is h = subst (λ (cs : List Effects). (txn.begin ≤ length cs) × (txn.table ≡ table_after (start_of m) cs txn.begin) → IsOwn (with_record m r) txn) (are ∙ is) (λ k. record { schema = h.schema; limit = h.limit; begun = k.0; snapshot = k.1 }) (h.begun, h.snapshot)
+own_later m r txn commits are (Conflict n) x is h = subst (λ (cs : List Effects). (txn.begin ≤ m.start.base + length cs) × (m.start.base ≤ txn.begin → txn.table ≡ table_after m.start cs txn.begin) → IsOwn (with_record m r) txn) (are ∙ is) (λ k. record { schema = h.schema; limit = h.limit; begun = k.0; snapshot = k.1 }) (h.begun, h.snapshot)
+own_later m r txn commits are (TooOld n) x is h = subst (λ (cs : List Effects). (txn.begin ≤ m.start.base + length cs) × (m.start.base ≤ txn.begin → txn.table ≡ table_after m.start cs txn.begin) → IsOwn (with_record m r) txn) (are ∙ is) (λ k. record { schema = h.schema; limit = h.limit; begun = k.0; snapshot = k.1 }) (h.begun, h.snapshot)
+own_later m r txn commits are (Full n) x is h = subst (λ (cs : List Effects). (txn.begin ≤ m.start.base + length cs) × (m.start.base ≤ txn.begin → txn.table ≡ table_after m.start cs txn.begin) → IsOwn (with_record m r) txn) (are ∙ is) (λ k. record { schema = h.schema; limit = h.limit; begun = k.0; snapshot = k.1 }) (h.begun, h.snapshot)
 
 keeps_record : (m : Managed) (r : Record) → Keeps m (with_record m r)
 keeps_record m r = record {
   schema = refl;
-  own = λ txn h. own_later m r txn (commits_in (with_record m r)) refl r.reply (effects_of_record m.schema (start_of m) (commits_in m) r) (commits_from-append m.schema (start_of m) [] m.history r) h;
+  own = λ txn h. own_later m r txn (commits_in (with_record m r)) refl r.reply (effects_of_record m.schema m.start (commits_in m) r) (commits_from-append m.schema m.start [] m.history r) h;
 }
 
 -- a decided commit keeps the other transactions of the manager
@@ -70,7 +70,7 @@ side_with : (old : Side) (own : Option Transaction) → IfSome own (IsOwn old.ma
 side_with old own h new is = subst (SideKeeps old) (sym is) (record { keeps = keeps_same old.manager old.manager refl; own = h })
 
 begun_own : (m : Managed) (client : ℕ) → IsOwn m (begun_at m client)
-begun_own m client = record { schema = refl; limit = refl; begun = omega arith; snapshot = sym (newest_whole m) }
+begun_own m client = record { schema = refl; limit = refl; begun = omega arith; snapshot = λ above. sym (newest_whole m) }
 
 begin_keeps : (client : ℕ) (old new : Side) (reply : Reply) → IfSome old.own (IsOwn old.manager) → BeginStep client old reply new → SideKeeps old new
 begin_keeps client old new Begun own h = side_with old (Some (begun_at old.manager client)) (begun_own old.manager client) new h.1

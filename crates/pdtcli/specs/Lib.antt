@@ -1,7 +1,5 @@
-pub mod Managed
 pub mod Outcome
 pub mod Output
-pub mod Prepared
 pub mod Program
 pub mod Reads
 pub mod Ready

@@ -1,7 +1,7 @@
 -- What a run leaves.
 use Rattle.std.specs.Prelude.{ℕ, List}
 use Rattle.pdtcli.specs.declared.reply.ReplyLine.{ReplyLine}
-use Rattle.pdtcli.specs.Managed.{Managed}
+use Rattle.manager.specs.Managed.{Managed}
 
 pub record Left : Type 0 where
   -- the clients' names

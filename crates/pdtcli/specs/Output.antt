@@ -8,7 +8,7 @@ use Rattle.values.specs.Shape.{Columns}
 use Rattle.values.specs.declared.row.Row.{Row}
 use Rattle.values.specs.declared.value.ColumnType.{ColumnType}
 use Rattle.model.specs.Table.{rows_of}
-use Rattle.pdtcli.specs.Managed.{newest_table}
+use Rattle.manager.specs.Managed.{newest_table}
 use Rattle.pdtcli.specs.Outcome.{Left}
 use Rattle.inputs.specs.Header.{kind_word}
 use Rattle.inputs.specs.Reading.{Fields}

@@ -3,6 +3,7 @@
 use Rattle.std.specs.Prelude.{◌≡◌, ◌≢◌, ℕ, Option, None, Result, Ok, Err, List, [], IsOkAnd, length, replicate, unwrap_or}
 use Rattle.std.proofs.Common.{Bor}
 use Rattle.values.specs.Shape.{Columns}
+use Rattle.model.specs.declared.clash.ConflictRule.TheVariants.{ByColumn}
 use Rattle.stable.specs.Stable.{Stable}
 use Rattle.txn.specs.Txn.{Transaction}
 use Rattle.inputs.specs.Input.{IsTableOf, IsFaultOf}
@@ -12,10 +13,10 @@ use Rattle.inputs.specs.declared.fault.ScriptFault.{ScriptFault}
 use Rattle.inputs.specs.declared.fault.ScriptFault.TheVariants as script_fault
 use Rattle.inputs.specs.declared.fault.TableFault.{TableFault}
 use Rattle.inputs.specs.declared.fault.TableFault.TheVariants as table_fault
-use Rattle.pdtcli.specs.Managed.{fault_of_opening, managed_at}
+use Rattle.manager.specs.Managed.{fault_of_opening, opened}
 use Rattle.pdtcli.specs.Outcome.{Left}
 use Rattle.pdtcli.specs.Run.{IsRun}
-use Rattle.pdtcli.specs.declared.plain.manager.OpenFault.TheVariants as open_fault
+use Rattle.manager.specs.declared.fault.OpenFault.TheVariants as open_fault
 use Rattle.pdtcli.specs.declared.program.FileFault.{FileFault}
 use Rattle.pdtcli.specs.declared.program.FileFault.TheVariants as file
 use Rattle.pdtcli.specs.declared.program.TheConstants.{RECENT_COMMITS}
@@ -62,7 +63,7 @@ pub record IsRunOf (table script : File) (limit : ℕ) (left : Left) : Type 0 wh
   pub transactions : List (Option Transaction)
   pub begun : AreOpened table script limit inputs
   pub clients : left.clients ≡ inputs.clients
-  pub run : IsRun (record { manager = managed_at inputs.stable limit RECENT_COMMITS []; transactions = replicate (length inputs.clients) None }) inputs.calls left.lines (record { manager = left.manager; transactions = transactions })
+  pub run : IsRun (record { manager = opened inputs.stable limit RECENT_COMMITS ByColumn; transactions = replicate (length inputs.clients) None }) inputs.calls left.lines (record { manager = left.manager; transactions = transactions })
 
 -- ---- refusals
 

@@ -3,7 +3,7 @@ use Rattle.std.specs.Prelude.{◌≡◌, ℕ, IfSome, Option, List, length}
 use Rattle.std.specs.List.{All}
 use Rattle.values.specs.Shape.{Columns}
 use Rattle.txn.specs.Txn.{Transaction}
-use Rattle.pdtcli.specs.Managed.{Managed, IsOwn}
+use Rattle.manager.specs.Managed.{Managed, IsOwn}
 
 pub record IsReady (schema : Columns) (count : ℕ) (manager : Managed) (transactions : List (Option Transaction)) : Type 0 where
   pub schema_is : manager.schema ≡ schema

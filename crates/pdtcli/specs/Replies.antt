@@ -1,11 +1,12 @@
 -- The fields of reply lines: the client, the verb, the reply's word and its values where it has some.
 use Rattle.std.specs.Prelude.{ℕ, List, [], ◌∷◌, slice_get, unwrap_or, codes, decimal}
+use Rattle.values.specs.Shown.{truth_text}
 use Rattle.model.specs.declared.write.WriteReply.{WriteReply}
 use Rattle.model.specs.declared.write.WriteReply.TheVariants as write_reply
 use Rattle.model.specs.declared.write.CommitReply.{CommitReply}
 use Rattle.model.specs.declared.write.CommitReply.TheVariants as commit_reply
 use Rattle.inputs.specs.Reading.{Fields}
-use Rattle.pdtcli.specs.Shown.{row_fields, truth_text}
+use Rattle.pdtcli.specs.Shown.{row_fields}
 use Rattle.pdtcli.specs.declared.reply.Reply.{Reply}
 use Rattle.pdtcli.specs.declared.reply.Reply.TheVariants as reply
 use Rattle.pdtcli.specs.declared.reply.ReplyLine.{ReplyLine}

@@ -18,7 +18,7 @@ use Rattle.inputs.specs.declared.verb.Verb.{Verb}
 use Rattle.inputs.specs.declared.verb.Verb.TheVariants as verb
 use Rattle.txn.specs.Txn.{Transaction, with_write, answer_to}
 use Rattle.pdtcli.specs.Reads.{ReadStep}
-use Rattle.pdtcli.specs.Managed.{Managed, begun_at, reply_due, record_of, with_record}
+use Rattle.manager.specs.Managed.{Managed, begun_at, reply_due, record_of, with_record}
 
 -- ---- one client's side
 

@@ -5,14 +5,14 @@ ghost use Rattle.pdtcli.specs.Reads.{ReadStep};
 ghost use Rattle.pdtcli.specs.declared.reply.Reply.TheVariants as reply;
 ghost use Rattle.inputs.specs.Typed.{is_typed_call, is_typed_read, is_typed_write};
 ghost use Rattle.txn.specs.Txn.{IsAnswered};
-ghost use Rattle.pdtcli.specs.Managed.{Managed, IsOwn};
+ghost use Rattle.manager.specs.Managed.{Managed, IsOwn};
 ghost use Rattle.pdtcli.specs.Run.{IsServed, shown_lines, BeginStep, WriteStep, OpenWriteStep, CommitStep, AbortStep};
 ghost use Rattle.pdtcli.specs.Told.{IsCause, IsTold, IsToldAs};
 
-use crate::plain::Manager;
 use crate::reads::read_in;
 use crate::reply::{Reply, ReplyLine};
 use inputs::{Call, ClientCall, Read};
+use manager::Manager;
 use model::{Write, WriteReply};
 use std::marker::Model;
 use txn::{Txn, WriteFault};

@@ -1,9 +1,10 @@
 //! The records of an image: the header, whose cells name the columns as a table's header does, and the rows.
 ghost use Rattle.std.specs.Prelude.{◌≡◌, ◌<◌, ◌++◌, ◌∷◌, [], OnOk, IfOk, get_or, length};
 ghost use Rattle.values.specs.Lent.{value_of};
+ghost use Rattle.values.specs.Shown.{cell_text};
 ghost use Rattle.csv.specs.Records.{fields_of, partial_of};
 ghost use Rattle.pdtcli.specs.Output.{header_fields};
-ghost use Rattle.pdtcli.specs.Shown.{cell_text, row_fields};
+ghost use Rattle.pdtcli.specs.Shown.{row_fields};
 
 use csv::ByteRecord;
 use inputs::kind_word;

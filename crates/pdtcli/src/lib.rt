@@ -6,7 +6,7 @@
 //! refusal is of the first part that is refused, by its own first fault.
 //!
 //! *What it stands on.* `values` for schemas, rows and limits, `model` for tables, writes and histories, `stable` for the
-//! table, `txn` for transactions, `oracle` for effects by key, `inputs` for what the program is given, `csv` for
+//! table, `txn` for transactions, `manager` for commits, `inputs` for what the program is given, `csv` for
 //! records, `itoa` for numbers, and `thiserror` for what a fault shows.
 #![tactic(auto)]
 
@@ -14,7 +14,6 @@ mod caller;
 mod image;
 mod outcome;
 mod output;
-mod plain;
 mod program;
 mod reads;
 mod refusal;
@@ -25,9 +24,9 @@ pub use inputs::{
     Call, ClientCall, Script, ScriptFault, Settings, TableFault, Verb, load_table, read_script,
     read_table, read_words,
 };
+pub use manager::{Manager, OpenFault};
 pub use outcome::Outcome;
 pub use output::{ShowFault, show};
-pub use plain::{Manager, OpenFault};
 pub use program::{FileFault, run_texts, status_of};
 pub use refusal::Refusal;
 pub use reply::{Reply, ReplyLine};

@@ -1,8 +1,8 @@
 //! What a run leaves: the reply lines of its calls, the manager, and how many commits each client was answered.
 ghost use Rattle.std.specs.Prelude.{◌≡◌};
 
-use crate::plain::Manager;
 use crate::reply::ReplyLine;
+use manager::Manager;
 use std::marker::Model;
 use values::Text;
 

@@ -65,10 +65,10 @@ pub fn show<W: Write>(alloc: Global, outcome: &Outcome, out: &mut W) -> Result<u
     ensures bytes { OnOk result (Appends (W.contents out.old) (W.contents out.new) (shown outcome.now)) }
     ensures status { IfOk result (λ status. status ≡ exit_status outcome.now.lines) }
 {
-    let newest = outcome.manager().newest();
+    let newest = outcome.manager().newest().to_table(alloc)?;
     show_lines(alloc, outcome.clients(), outcome.lines(), out)?;
     show_header(alloc, newest.schema(), out)?;
-    show_rows(alloc, newest, out)?;
+    show_rows(alloc, &newest, out)?;
     Ok(status_of(outcome.lines()))
 }
 

@@ -8,10 +8,11 @@ ghost use Rattle.pdtcli.specs.Program.{bytes_of, status_of, HasScript, HasTable,
 ghost use Rattle.pdtcli.specs.Refusals.{is_output};
 
 use crate::output::show;
-use crate::plain::Manager;
 use crate::refusal::Refusal;
 use crate::serial::run_serial;
 use inputs::{Script, ScriptFault, TableFault, load_table, read_script};
+use manager::Manager;
+use model::ConflictRule;
 use stable::StableTable;
 use std::alloc::Global;
 use std::io::Write;
@@ -55,7 +56,7 @@ pub fn run_texts<W: Write>(
 {
     let stable = table_of(alloc, table)?;
     let calls = script_of(alloc, stable.schema(), script)?;
-    let manager = Manager::open(alloc, stable, RECENT_COMMITS, limit)?;
+    let manager = Manager::open(alloc, stable, RECENT_COMMITS, limit, ConflictRule::ByColumn)?;
     let outcome = match run_serial(alloc, manager, &calls) {
         Ok(outcome) => outcome,
         Err(fault) => return Err(Refusal::Run(fault)),

@@ -5,8 +5,8 @@ ghost use Rattle.pdtcli.specs.Refusals.{part_text, refusal_text};
 ghost use Rattle.pdtcli.specs.declared.refusal.Refusal.TheVariants as parts;
 
 use crate::output::ShowFault;
-use crate::plain::OpenFault;
 use inputs::{ScriptFault, TableFault};
+use manager::OpenFault;
 use std::error::Error;
 use std::fmt;
 use values::NoMemory;

@@ -1,8 +1,9 @@
 //! What a script's calls are answered, and the fields of the reply lines: the one place where a reply becomes text.
 ghost use Rattle.std.specs.Prelude.{◌≡◌, ◌++◌, ◌∷◌, [], OnOk, codes, decimal};
+ghost use Rattle.values.specs.Shown.{truth_text};
 ghost use Rattle.csv.specs.Records.{fields_of, partial_of};
 ghost use Rattle.pdtcli.specs.Replies.{client_name, commit_fields, line_fields, reply_fields, write_fields};
-ghost use Rattle.pdtcli.specs.Shown.{row_fields, truth_text};
+ghost use Rattle.pdtcli.specs.Shown.{row_fields};
 
 use crate::image::push_cell;
 use csv::ByteRecord;

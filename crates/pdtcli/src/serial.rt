@@ -6,9 +6,9 @@ ghost use Rattle.pdtcli.specs.Run.{IsRun, line_of, verb_of_call, verb_of_read, v
 
 use crate::caller::Caller;
 use crate::outcome::Outcome;
-use crate::plain::Manager;
 use crate::reply::{Reply, ReplyLine};
 use inputs::{Call, ClientCall, Read, Script, Verb};
+use manager::Manager;
 use model::Write;
 use std::alloc::Global;
 use values::{NoMemory, copy_texts};

@@ -3,6 +3,7 @@
 #![tactic(auto)]
 
 use model::CommitReply;
+use model::ConflictRule::ByColumn;
 use pdtcli::{Manager, load_table};
 use values::limits::MAX_ROWS;
 use values::{Key, NoMemory, Value};
@@ -11,7 +12,7 @@ const TABLE: &[u8] = b"id:int:key,name:text,qty:int\n10,Ann,1\n20,Bob,2\n";
 
 fn main(rt: HostRuntime) -> anyhow::Result<()> {
     let alloc = rt.alloc();
-    let mut manager = Manager::open(alloc, load_table(alloc, TABLE)?, 64, MAX_ROWS)?;
+    let mut manager = Manager::open(alloc, load_table(alloc, TABLE)?, 64, MAX_ROWS, ByColumn)?;
 
     let key = Key::new(vec![in alloc; Value::Int(10)]?);
     let mut txn = manager.begin(0)?; // client 0, over the newest table
@@ -22,10 +23,10 @@ fn main(rt: HostRuntime) -> anyhow::Result<()> {
         Err((txn, NoMemory)) => txn.abort(), // nothing has changed
     }
 
-    let newest = manager.newest(); // rows in key order, kept by columns
-    for sid in 0..newest.len() {
-        for col in 0..newest.schema().width() {
-            print!(rt; "{:?} ", newest.value(sid, col))?; // lent, in constant time
+    let newest = manager.newest(); // the layers of the newest table, lent
+    for row in newest.scan(0, newest.len()) {
+        for col in 0..row.width() {
+            print!(rt; "{:?} ", row.value(col))?; // merged by position, no key is read
         }
         println!(rt; "")?;
     }

@@ -5,7 +5,7 @@ use Rattle.csv.specs.Records.{fields_of}
 use Rattle.values.specs.Lent.{value_of}
 use Rattle.values.specs.declared.row.Row.{Row}
 use Rattle.stable.proofs.CallerLemmas.{stable_width}
-use Rattle.pdtcli.specs.Shown.{cell_text}
+use Rattle.values.specs.Shown.{cell_text}
 use Rattle.inputs.specs.Reading.{Fields}
 use Rattle.pdtcli.proofs.image.push_row.Goals as goal
 

@@ -1,6 +1,6 @@
 use Rattle.std.proofs.Common.{◌≡◌, ◌++◌, [], map, take, get_or}
 use Rattle.csv.specs.Records.{fields_of, partial_of}
-use Rattle.pdtcli.specs.Shown.{cell_text}
+use Rattle.values.specs.Shown.{cell_text}
 use Rattle.pdtcli.proofs.image.push_row.Given as goal
 
 -- a field for each cell so far

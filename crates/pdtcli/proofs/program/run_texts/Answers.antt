@@ -1,5 +1,5 @@
 use Rattle.std.proofs.Common.{ap, sym, ◌∙◌}
-use Rattle.pdtcli.specs.Managed.{Managed, fault_of_opening}
+use Rattle.manager.specs.Managed.{Managed, fault_of_opening}
 use Rattle.pdtcli.specs.Program.{bytes_of, Inputs, AreInputs}
 use Rattle.pdtcli.specs.declared.program.TheConstants.{RECENT_COMMITS}
 use Rattle.pdtcli.specs.declared.refusal.Refusal.TheVariants.{Open, Output}

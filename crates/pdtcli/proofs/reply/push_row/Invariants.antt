@@ -1,6 +1,6 @@
 use Rattle.std.proofs.Common.{◌≡◌, ◌++◌, ◌∷◌, [], codes, map, take}
 use Rattle.csv.specs.Records.{fields_of, partial_of}
-use Rattle.pdtcli.specs.Shown.{cell_text}
+use Rattle.values.specs.Shown.{cell_text}
 use Rattle.pdtcli.proofs.reply.push_row.Given as goal
 
 -- the word, and a field for each cell so far

@@ -6,7 +6,7 @@ use Rattle.values.specs.declared.row.Row.{Row}
 use Rattle.inputs.specs.declared.call.ClientCall.{ClientCall}
 use Rattle.pdtcli.specs.declared.reply.ReplyLine.{ReplyLine}
 use Rattle.txn.specs.Txn.{Transaction}
-use Rattle.pdtcli.specs.Managed.{IsOwn}
+use Rattle.manager.specs.Managed.{IsOwn}
 use Rattle.pdtcli.specs.Run.{IsRun, Side, SideStep, State, Step, joined, line_of, lines_of, shown_lines}
 use Rattle.pdtcli.proofs.RunLemmas.{ready_again, IsRun-more}
 use Rattle.pdtcli.proofs.serial.run_serial.Goals as goal

@@ -1,0 +1,2 @@
+-- What the crates above cite of this one, in one place. Declares nothing.
+pub use Rattle.manager.proofs.HistoryLemmas.{commits_from-append, newest_whole}

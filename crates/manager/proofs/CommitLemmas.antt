@@ -1,0 +1,60 @@
+-- What a manager holds after a commit.
+use Rattle.std.proofs.Common.{◌≡◌, ℕ, suc, ◌+◌, ◌<◌, ◌≤◌, ◌^◌, List, [], ◌∷◌, ◌++◌, length, refl, sym, ap, ◌∙◌, subst, arith}
+use Rattle.std.specs.Prelude.{nat_lt}
+use Rattle.std.specs.List.{list_any}
+use Rattle.std.proofs.lemmas.List.{length-append}
+use Rattle.circular_buffer.specs.Buffer.{keep_last}
+use Rattle.model.specs.declared.write.CommitReply.{CommitReply}
+use Rattle.model.specs.declared.write.CommitReply.TheVariants.{Committed}
+use Rattle.model.specs.Effects.{Effects, AreOver, table_with}
+use Rattle.model.specs.Clashes.{conflicts}
+use Rattle.model.specs.History.{table_with_all}
+use Rattle.delta.specs.Tree.{Tree}
+use Rattle.delta.proofs.CallerLemmas.{rows_after}
+use Rattle.txn.specs.Txn.{Transaction, IsTransaction, effects_of}
+use Rattle.txn.specs.Version.{Lower, TableVersion, version_of}
+use Rattle.manager.specs.declared.commit.Grant.{Grant}
+use Rattle.manager.specs.Managed.{Managed, newest_table, newest_number, newest_version, IsOwn, is_too_old, commits_in, commits_since, reply_due, record_of, with_record}
+use Rattle.manager.specs.Kept.{HoldsNewest, commit_trees, kept_trees}
+use Rattle.manager.specs.Prepared.{LeavesTable, IsGrant, layers_of}
+use Rattle.manager.proofs.HistoryLemmas.{granted_when, next_managed, refused_commits, granted_commits, table_with_all-one}
+use Rattle.manager.proofs.KeptLemmas.{kept_next}
+
+module _ (m : Managed) (l : Lower) (newest : TableVersion) (kept : List Tree) (h : HoldsNewest m l newest kept) (txn : Transaction) (k : IsTransaction txn) (own : IsOwn m txn) (few : m.made < 2 ^ 62) where
+  -- a commit that leaves the table
+  pub refused_holds : (reply : CommitReply) → reply ≡ reply_due m txn → LeavesTable reply → HoldsNewest (with_record m (record_of txn reply)) l newest kept
+  refused_holds reply due leaves_it =
+      let same = sym (refused_commits m h.lawful txn k own reply due leaves_it) in
+      record {
+        lawful = next_managed m h.lawful txn k own reply due few;
+        folded = h.folded;
+        newest_is = h.newest_is ∙ (λ i. record { schema = m.schema; table = table_with_all m.start.table (same i); number = m.start.base + length (same i) });
+        layers_are = h.layers_are ∙ (λ i. version_of l (m.start.base + length (same i)));
+        kept_are = h.kept_are ∙ (λ i. keep_last m.start.recent (commit_trees m.schema m.start.table (same i)));
+      }
+
+  -- and one that is granted
+  pub granted_holds : (grant : Grant) → Committed (suc (newest_number m)) ≡ reply_due m txn → IsGrant m (effects_of txn) grant →
+      HoldsNewest (with_record m (record_of txn (Committed (suc (newest_number m))))) (layers_of grant.held) grant.version (keep_last m.start.recent (kept ++ grant.tree ∷ []))
+  granted_holds grant due is =
+      let x = effects_of txn in
+      let clash = list_any (conflicts m.start.rule x) (commits_since m txn) in
+      let full = nat_lt m.start.limit (length (table_with (newest_table m) x)) in
+      let tests = granted_when (is_too_old m txn) clash full (newest_number m) (suc (newest_number m)) due in
+      let more = sym (granted_commits m h.lawful txn k own (Committed (suc (newest_number m))) due (suc (newest_number m)) refl tests.0) in
+      let one = length-append (commits_in m) (x ∷ []) in
+      let number : suc (newest_number m) ≡ m.start.base + length (commits_in m ++ x ∷ []) = omega (arith, one) in
+      let table = sym (table_with_all-one m.start.table (commits_in m) x) in
+      record {
+        lawful = next_managed m h.lawful txn k own (Committed (suc (newest_number m))) due few;
+        folded = is.folded;
+        newest_is =
+            is.version_is
+            ∙ (λ i. record { schema = m.schema; table = table i; number = number i })
+            ∙ (λ i. record { schema = m.schema; table = table_with_all m.start.table (more i); number = m.start.base + length (more i) });
+        layers_are = is.layers_are ∙ ap (version_of (layers_of grant.held)) (number ∙ (λ i. m.start.base + length (more i)));
+        kept_are =
+            ap (λ (ts : List Tree). keep_last m.start.recent (ts ++ grant.tree ∷ [])) h.kept_are
+            ∙ kept_next m.schema m.start.table (commits_in m) m.start.recent x grant.tree is.tree_is
+            ∙ (λ i. keep_last m.start.recent (commit_trees m.schema m.start.table (more i)));
+      }

@@ -1,0 +1,68 @@
+-- The trees that a manager keeps of the last commits.
+use Rattle.std.proofs.Common.{◌≡◌, ℕ, zero, suc, ◌+◌, ◌-◌, ◌<◌, ◌≤◌, List, [], ◌∷◌, ◌++◌, length, take, drop, refl, sym, ap, ◌∙◌, subst, arith}
+use Rattle.std.proofs.lemmas.List.{drop-drop, length-append, length-drop}
+use Rattle.circular_buffer.specs.Buffer.{keep_last}
+use Rattle.values.specs.Shape.{Columns}
+use Rattle.model.specs.Table.{Table}
+use Rattle.model.specs.Effects.{Effects, table_with}
+use Rattle.model.specs.History.{table_with_all}
+use Rattle.delta.specs.Tree.{Tree}
+use Rattle.layers.specs.Over.{tree_of}
+use Rattle.manager.specs.Kept.{commit_trees}
+
+module _ (schema : Columns) where
+  pub length-commit_trees : (t : Table) (commits : List Effects) → length (commit_trees schema t commits) ≡ length commits
+  length-commit_trees t [] = refl
+  length-commit_trees t (x ∷ commits) = ap suc (length-commit_trees (table_with t x) commits)
+
+  -- the trees after the first j commits
+  drop-commit_trees : (t : Table) (commits : List Effects) (j : ℕ) →
+      drop j (commit_trees schema t commits) ≡ commit_trees schema (table_with_all t (take j commits)) (drop j commits)
+  drop-commit_trees t commits zero = refl
+  drop-commit_trees t [] (suc j) = refl
+  drop-commit_trees t (x ∷ commits) (suc j) = drop-commit_trees (table_with t x) commits j
+
+  -- one commit more is one tree more
+  commit_trees-append : (t : Table) (commits : List Effects) (x : Effects) →
+      commit_trees schema t (commits ++ x ∷ []) ≡ commit_trees schema t commits ++ tree_of schema (table_with_all t commits) x ∷ []
+  commit_trees-append t [] x = refl
+  commit_trees-append t (y ∷ commits) x = ap (λ ts. tree_of schema t y ∷ ts) (commit_trees-append (table_with t y) commits x)
+
+  -- the kept trees from an index on are those of the commits after the first j
+  pub kept_since : (t : Table) (commits : List Effects) (recent j first : ℕ) → j ≤ length commits → length commits - j ≤ recent →
+      first + (length commits - j) ≡ length (keep_last recent (commit_trees schema t commits)) →
+      drop first (keep_last recent (commit_trees schema t commits)) ≡ commit_trees schema (table_with_all t (take j commits)) (drop j commits)
+  kept_since t commits recent j first within few is =
+      let trees = commit_trees schema t commits in
+      let count = length-commit_trees t commits in
+      let kept = length-drop (length trees - recent) trees in
+      let at : (length trees - recent) + first ≡ j = omega (arith, count, kept, is, within, few) in
+      drop-drop first (length trees - recent) trees ∙ ap (λ n. drop n trees) at ∙ drop-commit_trees t commits j
+
+drop-within : {A : Type 0} (xs ys : List A) (n : ℕ) → n ≤ length xs → drop n (xs ++ ys) ≡ drop n xs ++ ys
+drop-within xs ys zero h = refl
+drop-within [] ys (suc n) h = absurd (omega arith)
+drop-within (x ∷ xs) ys (suc n) h = drop-within xs ys n (omega arith)
+
+-- the last of what is kept with one more are the last of all with one more
+keep_last-again : {A : Type 0} (recent : ℕ) (xs : List A) (x : A) → keep_last recent (keep_last recent xs ++ x ∷ []) ≡ keep_last recent (xs ++ x ∷ [])
+keep_last-again recent xs x =
+    let n = length xs - recent in
+    let kept = drop n xs in
+    let within : n ≤ length xs = omega arith in
+    let count = length-drop n xs in
+    let more = length-append kept (x ∷ []) in
+    let all = length-append xs (x ∷ []) in
+    let at : n + (length (kept ++ x ∷ []) - recent) ≡ length (xs ++ x ∷ []) - recent = omega (arith, count, more, all) in
+    ap (λ (ys : List _). drop (length (kept ++ x ∷ []) - recent) ys) (sym (drop-within xs (x ∷ []) n within))
+    ∙ drop-drop (length (kept ++ x ∷ []) - recent) n (xs ++ x ∷ [])
+    ∙ ap (λ k. drop k (xs ++ x ∷ [])) at
+
+-- after one commit more the kept trees have its own
+pub kept_next : (schema : Columns) (t : Table) (commits : List Effects) (recent : ℕ) (x : Effects) (tree : Tree) →
+    tree ≡ tree_of schema (table_with_all t commits) x →
+    keep_last recent (keep_last recent (commit_trees schema t commits) ++ tree ∷ []) ≡ keep_last recent (commit_trees schema t (commits ++ x ∷ []))
+kept_next schema t commits recent x tree is =
+    keep_last-again recent (commit_trees schema t commits) tree
+    ∙ ap (λ (u : Tree). keep_last recent (commit_trees schema t commits ++ u ∷ [])) is
+    ∙ ap (keep_last recent) (sym (commit_trees-append schema t commits x))

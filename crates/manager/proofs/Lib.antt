@@ -1,0 +1,7 @@
+mod PassingLemmas
+mod HistoryLemmas
+mod KeptLemmas
+mod GrantLemmas
+mod OwnLemmas
+mod CommitLemmas
+pub mod CallerLemmas

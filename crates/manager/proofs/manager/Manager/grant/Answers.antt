@@ -1,0 +1,78 @@
+use Rattle.std.proofs.Common.{◌≡◌, ◌+◌, ◌≤◌, suc, ap, sym, ◌∙◌, subst, arith}
+use Rattle.delta.specs.Tree.{Tree}
+use Rattle.layers.specs.Over.{AreConsecutive}
+use Rattle.layers.specs.Propagation.{composed_tree}
+use Rattle.txn.specs.Version.{Lower, AreLower, TableVersion, version_of}
+use Rattle.manager.specs.Managed.{Managed, newest_number}
+use Rattle.manager.specs.Kept.{AreFolded, HoldsNewest}
+use Rattle.manager.specs.Prepared.{MayGrant}
+use Rattle.manager.proofs.HistoryLemmas.{number_fits}
+use Rattle.manager.proofs.GrantLemmas.{consecutive, folded_in, next_folded, next_version}
+use Rattle.manager.proofs.manager.Manager.grant.Goals as goal
+
+pub propagate-requires : goal.propagate-requires
+propagate-requires c =
+    let i = c.self.inside in
+    let l : Lower = record { stable = i.held.stable.value; read = i.held.read.value; write = i.held.write.value } in
+    let m = c.args.self.now in
+    let w = c.requires in
+    let h : HoldsNewest m l i.newest i.kept.items = subst (λ (v : Managed). HoldsNewest v l i.newest i.kept.items) c.self.view_is c.self.invariant.0 in
+    subst (λ (t : Tree). AreConsecutive t c.args.tree) (sym c.deref.ensures) (consecutive m l i.newest i.kept.items h w.x w.over w.room c.args.tree w.tree_is)
+
+pub overflow_add-number : goal.overflow_add-number
+overflow_add-number c =
+    let i = c.self.inside in
+    let l : Lower = record { stable = i.held.stable.value; read = i.held.read.value; write = i.held.write.value } in
+    let m = c.args.self.now in
+    let h : HoldsNewest m l i.newest i.kept.items = subst (λ (v : Managed). HoldsNewest v l i.newest i.kept.items) c.self.view_is c.self.invariant.0 in
+    let number : i.newest.number ≡ newest_number m = ap (λ (v : TableVersion). v.number) h.newest_is in
+    let fits = number_fits m h.lawful in
+    let few = h.lawful.few in
+    omega (arith, number, fits, few, c.number.ensures)
+
+pub stacked-requires : goal.stacked-requires
+stacked-requires c =
+    let i = c.self.inside in
+    let l : Lower = record { stable = i.held.stable.value; read = i.held.read.value; write = i.held.write.value } in
+    let m = c.args.self.now in
+    let w = c.requires in
+    let h : HoldsNewest m l i.newest i.kept.items = subst (λ (v : Managed). HoldsNewest v l i.newest i.kept.items) c.self.view_is c.self.invariant.0 in
+    let two = consecutive m l i.newest i.kept.items h w.x w.over w.room c.args.tree w.tree_is in
+    let written = folded_in c.deref.result.now l.write c.args.tree c.in_ok-propagate.field-0 c.deref.ensures c.in_ok-propagate.ensures two in
+    let write : c.in_ok-write.write.value ≡ composed_tree l.write c.args.tree two = c.in_ok-write.ensures.ok ∙ written in
+    let next = next_folded m l i.newest i.kept.items h w.x w.over w.room c.args.tree w.tree_is c.in_ok-write.write.value write in
+    subst AreLower (sym (λ j. record {
+      stable = (c.in_ok-clone.ensures.cases ∙ c.in_ok-stable.ensures.cases) j;
+      read = (c.in_ok-clone-2.ensures.cases ∙ c.in_ok-read.ensures.cases) j;
+      write = c.in_ok-clone-3.ensures.cases j;
+    })) next.lower
+
+pub returns : goal.returns
+returns c =
+    let i = c.self.inside in
+    let l : Lower = record { stable = i.held.stable.value; read = i.held.read.value; write = i.held.write.value } in
+    let m = c.args.self.now in
+    λ (w : MayGrant m c.args.tree).
+    let h : HoldsNewest m l i.newest i.kept.items = subst (λ (v : Managed). HoldsNewest v l i.newest i.kept.items) c.self.view_is c.self.invariant.0 in
+    let two = consecutive m l i.newest i.kept.items h w.x w.over w.room c.args.tree w.tree_is in
+    let written = folded_in c.deref.result.now l.write c.args.tree c.in_ok-propagate.field-0 c.deref.ensures c.in_ok-propagate.ensures two in
+    let write : c.in_ok-write.write.value ≡ composed_tree l.write c.args.tree two = c.in_ok-write.ensures.ok ∙ written in
+    let next = next_folded m l i.newest i.kept.items h w.x w.over w.room c.args.tree w.tree_is c.in_ok-write.write.value write in
+    let held : ◌≡◌ {A = Lower} (record { stable = c.in_ok-stable.stable.value; read = c.in_ok-read.read.value; write = c.in_ok-write.write.value }) (record l { write = c.in_ok-write.write.value }) =
+    λ j. record { stable = c.in_ok-stable.ensures.cases j; read = c.in_ok-read.ensures.cases j; write = c.in_ok-write.write.value } in
+    let cloned : ◌≡◌ {A = Lower} (record { stable = c.in_ok-clone.field-0.value; read = c.in_ok-clone-2.field-0.value; write = c.in_ok-clone-3.field-0.value }) (record l { write = c.in_ok-write.write.value }) =
+    λ j. record {
+      stable = (c.in_ok-clone.ensures.cases ∙ c.in_ok-stable.ensures.cases) j;
+      read = (c.in_ok-clone-2.ensures.cases ∙ c.in_ok-read.ensures.cases) j;
+      write = c.in_ok-clone-3.ensures.cases j;
+    } in
+    let number : c.number.result + 1 ≡ suc (newest_number m) =
+    let same : i.newest.number ≡ newest_number m = ap (λ (v : TableVersion). v.number) h.newest_is in
+    omega (arith, same, c.number.ensures) in
+    let version = c.in_ok-version.ensures ∙ (λ j. version_of (cloned j) (number j)) in
+    record {
+      tree_is = w.tree_is;
+      folded = subst AreFolded (sym held) next;
+      version_is = version ∙ next_version m l i.newest i.kept.items h w.x w.over w.room c.args.tree w.tree_is c.in_ok-write.write.value write (suc (newest_number m));
+      layers_are = version ∙ sym (ap (λ (e : Lower). version_of e (suc (newest_number m))) held);
+    }

@@ -1,0 +1,94 @@
+use Rattle.std.proofs.Common.{◌≡◌, ◌+◌, ◌<◌, ◌≤◌, false, Some, length, sym, ap, ◌∙◌, subst, arith}
+use Rattle.std.specs.List.{list_any}
+use Rattle.model.specs.declared.write.CommitReply.TheVariants as reply
+use Rattle.model.specs.Clashes.{conflicts}
+use Rattle.model.specs.Effects.{AreOver, table_with}
+use Rattle.model.specs.Table.{Table}
+use Rattle.txn.specs.Txn.{effects_of}
+use Rattle.txn.specs.Version.{Lower, TableVersion}
+use Rattle.manager.specs.Managed.{Managed, newest_table, newest_number, commits_since, is_too_old}
+use Rattle.manager.specs.Kept.{HoldsNewest}
+use Rattle.manager.specs.Prepared.{IsPassed, MayGrant}
+use Rattle.manager.proofs.HistoryLemmas.{newest_within, over_newest}
+use Rattle.manager.proofs.GrantLemmas.{limited}
+use Rattle.manager.proofs.OwnLemmas.{full_due, committed_due, rows_counted}
+use Rattle.manager.proofs.manager.Manager.prepare.Goals as goal
+
+pub grown-requires-clause-few : goal.grown-requires-clause-few
+grown-requires-clause-few c =
+    let i = c.self.inside in
+    let l : Lower = record { stable = i.held.stable.value; read = i.held.read.value; write = i.held.write.value } in
+    let m = c.args.self.now in
+    let h : HoldsNewest m l i.newest i.kept.items = subst (λ (v : Managed). HoldsNewest v l i.newest i.kept.items) c.self.view_is c.self.invariant.0 in
+    let rows : length i.newest.table ≡ length (newest_table m) = ap (λ (v : TableVersion). length v.table) h.newest_is in
+    let most = limited m (length (newest_table m)) h.lawful (newest_within m h.lawful) in
+    omega (arith, c.len.ensures, rows, most)
+
+pub grown-requires-clause-enough : goal.grown-requires-clause-enough
+grown-requires-clause-enough c =
+    let i = c.self.inside in
+    let l : Lower = record { stable = i.held.stable.value; read = i.held.read.value; write = i.held.write.value } in
+    let m = c.args.self.now in
+    let txn = c.args.txn.now in
+    let h : HoldsNewest m l i.newest i.kept.items = subst (λ (v : Managed). HoldsNewest v l i.newest i.kept.items) c.self.view_is c.self.invariant.0 in
+    let recent : is_too_old m txn ≡ false = sym c.is_too_old.ensures.old ∙ c.if-is_too_old.false in
+    let passed = subst (IsPassed m txn) c.in-Some.is c.in_ok-tree.ensures in
+    let over = over_newest m txn c.requires.own recent h.lawful c.is_too_old.ensures.lawful passed.0 in
+    let rows : length i.newest.table ≡ length (newest_table m) = ap (λ (v : TableVersion). length v.table) h.newest_is in
+    omega (arith, c.len.ensures, rows, rows_counted m (effects_of txn) c.in-Some.tree over passed.1)
+
+pub returns-then-grown-self-clause-prepared : goal.returns-then-grown-self-clause-prepared
+returns-then-grown-self-clause-prepared c =
+    let i = c.self.inside in
+    let l : Lower = record { stable = i.held.stable.value; read = i.held.read.value; write = i.held.write.value } in
+    let m = c.args.self.now in
+    let txn = c.args.txn.now in
+    let h : HoldsNewest m l i.newest i.kept.items = subst (λ (v : Managed). HoldsNewest v l i.newest i.kept.items) c.self.view_is c.self.invariant.0 in
+    let recent : is_too_old m txn ≡ false = sym c.is_too_old.ensures.old ∙ c.if-is_too_old.false in
+    let passed = subst (IsPassed m txn) c.in-Some.is c.in_ok-tree.ensures in
+    let over = over_newest m txn c.requires.own recent h.lawful c.is_too_old.ensures.lawful passed.0 in
+    let rows : length i.newest.table ≡ length (newest_table m) = ap (λ (v : TableVersion). length v.table) h.newest_is in
+    let limit : i.rules.row_limit ≡ m.start.limit = ap (λ (v : Managed). v.start.limit) c.self.view_is in
+    let counted = rows_counted m (effects_of txn) c.in-Some.tree over passed.1 in
+    let past : m.start.limit < length (table_with (newest_table m) (effects_of txn)) =
+    omega (arith, c.len.ensures, rows, limit, counted, c.grown.ensures.sum, c.if-grown-self.true) in
+    let number : c.number-count.result ≡ newest_number m = c.number-count.ensures ∙ ap (λ (v : TableVersion). v.number) h.newest_is in
+    (ap reply.Full number ∙ full_due m txn recent passed.0 past, tt)
+
+pub grant-requires : goal.grant-requires
+grant-requires c =
+    let i = c.self.inside in
+    let l : Lower = record { stable = i.held.stable.value; read = i.held.read.value; write = i.held.write.value } in
+    let m = c.args.self.now in
+    let txn = c.args.txn.now in
+    let h : HoldsNewest m l i.newest i.kept.items = subst (λ (v : Managed). HoldsNewest v l i.newest i.kept.items) c.self.view_is c.self.invariant.0 in
+    let recent : is_too_old m txn ≡ false = sym c.is_too_old.ensures.old ∙ c.if-is_too_old.false in
+    let passed = subst (IsPassed m txn) c.in-Some.is c.in_ok-tree.ensures in
+    let over = over_newest m txn c.requires.own recent h.lawful c.is_too_old.ensures.lawful passed.0 in
+    let rows : length i.newest.table ≡ length (newest_table m) = ap (λ (v : TableVersion). length v.table) h.newest_is in
+    let limit : i.rules.row_limit ≡ m.start.limit = ap (λ (v : Managed). v.start.limit) c.self.view_is in
+    let counted = rows_counted m (effects_of txn) c.in-Some.tree over passed.1 in
+    record {
+      x = effects_of txn;
+      over = over;
+      tree_is = passed.1;
+      room = omega (arith, c.len.ensures, rows, limit, counted, c.grown.ensures.sum, c.if-grown-self.false);
+    }
+
+pub returns-clause-prepared : goal.returns-clause-prepared
+returns-clause-prepared c =
+    let i = c.self.inside in
+    let l : Lower = record { stable = i.held.stable.value; read = i.held.read.value; write = i.held.write.value } in
+    let m = c.args.self.now in
+    let txn = c.args.txn.now in
+    let h : HoldsNewest m l i.newest i.kept.items = subst (λ (v : Managed). HoldsNewest v l i.newest i.kept.items) c.self.view_is c.self.invariant.0 in
+    let recent : is_too_old m txn ≡ false = sym c.is_too_old.ensures.old ∙ c.if-is_too_old.false in
+    let passed = subst (IsPassed m txn) c.in-Some.is c.in_ok-tree.ensures in
+    let over = over_newest m txn c.requires.own recent h.lawful c.is_too_old.ensures.lawful passed.0 in
+    let rows : length i.newest.table ≡ length (newest_table m) = ap (λ (v : TableVersion). length v.table) h.newest_is in
+    let limit : i.rules.row_limit ≡ m.start.limit = ap (λ (v : Managed). v.start.limit) c.self.view_is in
+    let counted = rows_counted m (effects_of txn) c.in-Some.tree over passed.1 in
+    let room : length (table_with (newest_table m) (effects_of txn)) ≤ m.start.limit =
+    omega (arith, c.len.ensures, rows, limit, counted, c.grown.ensures.sum, c.if-grown-self.false) in
+    let w : MayGrant m c.in-Some.tree = record { x = effects_of txn; over = over; tree_is = passed.1; room = room } in
+    (committed_due m txn recent passed.0 room, c.in_ok-grant.ensures w)

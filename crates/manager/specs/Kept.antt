@@ -1,0 +1,33 @@
+-- What a manager holds beside its history: the layers of the newest table, and the trees of the last commits.
+use Rattle.std.specs.Prelude.{◌≡◌, ℕ, ◌≤◌, List, [], ◌∷◌, length}
+use Rattle.circular_buffer.specs.Buffer.{keep_last}
+use Rattle.values.specs.Shape.{Columns}
+use Rattle.values.specs.declared.limits.TheConstants.{MAX_ROWS}
+use Rattle.model.specs.Table.{Table}
+use Rattle.model.specs.Effects.{Effects, table_with}
+use Rattle.delta.specs.Tree.{Tree}
+use Rattle.layers.specs.Over.{tree_of}
+use Rattle.stable.specs.Stable.{table_in}
+use Rattle.txn.specs.Version.{Lower, AreLower, TableVersion, version_of}
+use Rattle.manager.specs.Managed.{Managed, IsManaged, commits_in, newest_number, newest_version}
+
+-- the tree of each commit, over the table that it found
+abbrev pub commit_trees : Columns → Table → List Effects → List Tree
+commit_trees schema t [] = []
+commit_trees schema t (x ∷ commits) = tree_of schema t x ∷ commit_trees schema (table_with t x) commits
+
+-- the trees of the last commits, as many as a transaction may come after
+abbrev pub kept_trees : Managed → List Tree
+kept_trees m = keep_last m.start.recent (commit_trees m.schema m.start.table (commits_in m))
+
+-- layers whose table under the Read-PDT is one that was the newest
+pub record AreFolded (l : Lower) : Type 0 where
+  pub lower : AreLower l
+  pub few : length (table_with (table_in l.stable) lower.lower.effects) ≤ MAX_ROWS
+
+pub record HoldsNewest (m : Managed) (l : Lower) (newest : TableVersion) (kept : List Tree) : Type 0 where
+  pub lawful : IsManaged m
+  pub folded : AreFolded l
+  pub newest_is : newest ≡ newest_version m
+  pub layers_are : newest ≡ version_of l (newest_number m)
+  pub kept_are : kept ≡ kept_trees m

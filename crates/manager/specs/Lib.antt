@@ -1,0 +1,4 @@
+pub mod Managed
+pub mod Kept
+pub mod Passing
+pub mod Prepared

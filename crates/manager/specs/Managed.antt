@@ -1,0 +1,110 @@
+-- What a manager stands for: where its history starts, the history, and how many records it made.
+use Rattle.std.specs.Prelude.{◌≡◌, ℕ, suc, ◌+◌, ◌-◌, ◌≤◌, ◌^◌, ◌==◌, nat_lt, Bool, ◌||◌, cond, Option, Some, None, List, [], ◌∷◌, ◌++◌, length, drop}
+use Rattle.values.specs.Shape.{Columns, IsSchema}
+use Rattle.values.specs.declared.limits.TheConstants.{MAX_ROWS, MAX_RECENT_COMMITS}
+use Rattle.model.specs.declared.write.CommitReply.{CommitReply}
+use Rattle.model.specs.declared.clash.ConflictRule.{ConflictRule}
+use Rattle.model.specs.Table.{Table, IsTable}
+use Rattle.model.specs.Effects.{Effects}
+use Rattle.model.specs.History.{Start, Record, IsLegal, commits_of, table_after, table_with_all, due_reply}
+use Rattle.stable.specs.Stable.{Stable, table_in}
+use Rattle.txn.specs.Txn.{Transaction, effects_of}
+use Rattle.txn.specs.Version.{TableVersion}
+use Rattle.manager.specs.declared.fault.OpenFault.{OpenFault}
+use Rattle.manager.specs.declared.fault.OpenFault.TheVariants.{BadLimit, TooManyRows}
+
+pub record Managed : Type 0 where
+  pub schema : Columns
+  pub start : Start
+  pub history : List Record
+  -- how many records it made since its opening
+  pub made : ℕ
+
+-- the start of a history over a version
+abbrev pub start_at : TableVersion → ℕ → ℕ → ConflictRule → Start
+start_at v limit recent rule = record { table = v.table; base = v.number; limit = limit; recent = recent; rule = rule }
+
+-- the manager whose history starts over a version
+abbrev pub managed_at : TableVersion → ℕ → ℕ → ConflictRule → List Record → ℕ → Managed
+managed_at v limit recent rule history made =
+    record { schema = v.schema; start = start_at v limit recent rule; history = history; made = made }
+
+-- the manager of a stable table that has just been opened: its numbers count from 0
+abbrev pub opened : Stable → ℕ → ℕ → ConflictRule → Managed
+opened s limit recent rule = managed_at (record { schema = s.schema; table = table_in s; number = 0 }) limit recent rule [] 0
+
+-- the effects that were committed since the start, in order
+abbrev pub commits_in : Managed → List Effects
+commits_in m = commits_of m.schema m.start m.history
+
+-- the table after all of them, and its number
+abbrev pub newest_table : Managed → Table
+newest_table m = table_with_all m.start.table (commits_in m)
+
+abbrev pub newest_number : Managed → ℕ
+newest_number m = m.start.base + length (commits_in m)
+
+abbrev pub newest_version : Managed → TableVersion
+newest_version m = record { schema = m.schema; table = newest_table m; number = newest_number m }
+
+-- what each manager keeps: its history is legal
+pub record IsManaged (m : Managed) : Type 0 where
+  pub lawful : IsSchema m.schema
+  pub table : IsTable m.schema m.start.table
+  pub within : length m.start.table ≤ m.start.limit
+  pub limited : m.start.limit ≤ MAX_ROWS
+  pub legal : IsLegal m.schema m.start m.history
+  pub counted : m.start.base + length m.history ≤ m.made
+  pub few : m.made ≤ 2 ^ 62
+
+-- a transaction is of the manager: it began at one of its numbers, from the base on over the table of that number
+pub record IsOwn (m : Managed) (txn : Transaction) : Type 0 where
+  pub schema : txn.schema ≡ m.schema
+  pub limit : txn.limit ≡ m.start.limit
+  pub begun : txn.begin ≤ newest_number m
+  pub snapshot : m.start.base ≤ txn.begin → txn.table ≡ table_after m.start (commits_in m) txn.begin
+
+-- whether its commit comes too late
+abbrev pub is_too_old : Managed → Transaction → Bool
+is_too_old m txn = nat_lt txn.begin m.start.base || nat_lt m.start.recent (newest_number m - txn.begin)
+
+-- the commits since it began
+abbrev pub commits_since : Managed → Transaction → List Effects
+commits_since m txn = drop (txn.begin - m.start.base) (commits_in m)
+
+-- the reply that is due to its commit
+abbrev pub reply_due : Managed → Transaction → CommitReply
+reply_due m txn = due_reply m.start (commits_in m) txn.begin (effects_of txn)
+
+-- its record, with the reply to its commit
+abbrev pub record_of : Transaction → CommitReply → Record
+record_of txn reply = record { client = txn.client; begin = txn.begin; writes = txn.writes; reply = reply }
+
+-- whether a limit is outside its range
+abbrev pub is_bad_limit : ℕ → ℕ → Bool
+is_bad_limit recent limit = (recent == 0) || nat_lt MAX_RECENT_COMMITS recent || (limit == 0) || nat_lt MAX_ROWS limit
+
+-- why a table isn't opened
+abbrev pub fault_of_opening : Stable → ℕ → ℕ → Option OpenFault
+fault_of_opening s recent limit =
+    cond (is_bad_limit recent limit) (Some BadLimit) (cond (nat_lt limit (length s.rows)) (Some TooManyRows) None)
+
+-- the manager with one record more
+abbrev pub with_record : Managed → Record → Managed
+with_record m r = record m { history = m.history ++ r ∷ []; made = suc m.made }
+
+-- a transaction that has just begun: at all commits, over the newest table
+abbrev pub begun_at : Managed → ℕ → Transaction
+begun_at m client = record {
+  schema = m.schema;
+  limit = m.start.limit;
+  client = client;
+  begin = newest_number m;
+  table = newest_table m;
+  writes = [];
+}
+
+-- a commit is decided: it gets the reply that is due, and its record joins the history
+pub record IsDecided (old : Managed) (txn : Transaction) (reply : CommitReply) (new : Managed) : Type 0 where
+  pub due : reply ≡ reply_due old txn
+  pub kept : new ≡ with_record old (record_of txn reply)

@@ -1,0 +1,45 @@
+//! Why a table isn't opened.
+ghost use Rattle.std.specs.Prelude.{◌≡◌};
+ghost use Rattle.manager.specs.declared.fault.OpenFault.TheVariants as open_fault;
+
+use std::alloc::{AllocError, AllocFailed};
+use thiserror::Error;
+use values::NoMemory;
+
+/// Why a table isn't opened.
+#[derive(Clone, Copy, Debug, PartialEq, Eq, Error)]
+pub enum OpenFault {
+    /// The row limit isn't 1 to 2,147,483,647, or the recent commits aren't 1 to 65,536.
+    #[error("BadLimit")]
+    BadLimit,
+    /// The table has more rows than the row limit.
+    #[error("TooManyRows")]
+    TooManyRows,
+    /// A growth was refused.
+    #[error("NoMemory")]
+    NoMemory,
+}
+
+impl<T: Drop> From<AllocFailed<T>> for OpenFault {
+    ghost from_gives = { λ _ fault. fault ≡ open_fault.NoMemory };
+
+    fn from(_: AllocFailed<T>) -> OpenFault {
+        OpenFault::NoMemory
+    }
+}
+
+impl From<AllocError> for OpenFault {
+    ghost from_gives = { λ _ fault. fault ≡ open_fault.NoMemory };
+
+    fn from(_: AllocError) -> OpenFault {
+        OpenFault::NoMemory
+    }
+}
+
+impl From<NoMemory> for OpenFault {
+    ghost from_gives = { λ _ fault. fault ≡ open_fault.NoMemory };
+
+    fn from(_: NoMemory) -> OpenFault {
+        OpenFault::NoMemory
+    }
+}

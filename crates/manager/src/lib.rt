@@ -1,0 +1,16 @@
+//! The manager: it decides commits by position, and keeps the newest version and the history.
+//!
+//! *What a contract sees.* A manager is where its history starts (the table then, its number, the limits and the
+//! conflict rule), the history, and how many records it made. The newest table is a function of these.
+//!
+//! *What it stands on.* `txn` for versions and transactions, `layers` for trees made consecutive and folded, `delta` for
+//! trees, `model` for histories, `circular_buffer` for the trees of the last commits. No key of a row is compared.
+#![tactic(auto)]
+
+mod commit;
+mod fault;
+mod manager;
+mod passing;
+
+pub use fault::OpenFault;
+pub use manager::Manager;

@@ -1,0 +1,187 @@
+//! The manager's type: what it is opened with, what it holds, and what it lends.
+ghost use Rattle.std.specs.Prelude.{◌≡◌, ◌≤◌, length, IfOk, IsOkUnless, MatchOption, Err};
+ghost use Rattle.manager.specs.declared.fault.OpenFault.{OpenFault};
+ghost use Rattle.manager.specs.Managed.{is_bad_limit};
+ghost use Rattle.merge.specs.Image.{image_rows};
+ghost use Rattle.model.specs.Table.{rows_of};
+ghost use Rattle.values.specs.declared.limits.TheConstants.{MAX_ROWS};
+
+use crate::fault::OpenFault;
+use circular_buffer::HeapCircularBuffer;
+use delta::DeltaTree;
+use merge::Layers;
+use model::{ConflictRule, Record};
+use stable::StableTable;
+use std::alloc::Global;
+use std::marker::Model;
+use std::snapshot::Snapshot;
+use std::sync::Arc;
+use txn::{Txn, Version};
+use values::NoMemory;
+use values::limits::{MAX_RECENT_COMMITS, MAX_ROWS};
+
+/// The limits and the rule that a manager is opened with.
+#[derive(Clone, Copy)]
+pub(crate) struct Rules {
+    /// How many rows a table may have.
+    pub(crate) row_limit: u64,
+    /// How many commits may come between a transaction's begin and its commit.
+    pub(crate) recent: usize,
+    /// Which modifies of one row conflict.
+    pub(crate) conflicts: ConflictRule,
+}
+
+/// A stable table under its Read- and its Write-PDT.
+#[derive(Drop)]
+pub struct Held {
+    pub(crate) stable: Arc<StableTable>,
+    pub(crate) read: Arc<DeltaTree>,
+    pub(crate) write: Arc<DeltaTree>,
+}
+
+/// The newest version of a table, and the history of the transactions that asked to commit.
+#[derive(Drop)]
+pub struct Manager {
+    /// The version at which the history starts, for clauses alone.
+    pub(crate) opening: Snapshot<Version>,
+    /// The number of that version.
+    pub(crate) base: u64,
+    pub(crate) rules: Rules,
+    pub(crate) history: Vec<Record>,
+    /// How many records were made since the opening.
+    pub(crate) made: u64,
+    /// The layers of the newest version.
+    pub(crate) held: Held,
+    pub(crate) newest: Version,
+    /// The trees of the last commits, each over the table that its commit found.
+    pub(crate) kept: HeapCircularBuffer<DeltaTree>,
+    pub(crate) alloc: Global,
+}
+
+impl Model for Manager {
+    ghost use Rattle.std.specs.Prelude.{◌≡◌};
+    ghost use Rattle.manager.specs.Managed.{Managed, managed_at};
+    ghost use Rattle.manager.specs.Kept.{HoldsNewest};
+
+    ghost Value = { Managed };
+
+    ghost view = { λ m. managed_at m.opening.value m.rules.row_limit m.rules.recent m.rules.conflicts m.history.items m.made };
+
+    ghost invariant = { λ m. HoldsNewest (managed_at m.opening.value m.rules.row_limit m.rules.recent m.rules.conflicts m.history.items m.made)
+        (record { stable = m.held.stable.value; read = m.held.read.value; write = m.held.write.value }) m.newest m.kept.items
+        × (m.kept.capacity ≡ m.rules.recent) × (m.base ≡ m.opening.value.number) };
+}
+
+impl Manager {
+    ghost use Rattle.manager.specs.Managed.{opened, fault_of_opening, begun_at, newest_table, newest_version, IsManaged};
+
+    /// A manager of this table, whose numbers of commits count from 0, under a limit of its rows and of the commits that
+    /// may come between a transaction's begin and its commit, and a rule of what conflicts.
+    ///
+    /// # Errors
+    ///
+    /// `BadLimit` where the row limit isn't 1 to 2,147,483,647 or the recent commits aren't 1 to 65,536, then
+    /// `TooManyRows` where the table has more rows than the limit, then `NoMemory` where a growth is refused.
+    pub fn open(
+        alloc: Global,
+        table: StableTable,
+        recent: usize,
+        row_limit: u64,
+        conflicts: ConflictRule,
+    ) -> Result<Manager, OpenFault>
+        ensures ok { IfOk result (λ manager. manager ≡ opened table row_limit recent conflicts) }
+        ensures fault { MatchOption (fault_of_opening table recent row_limit) (IsOkUnless result OpenFault.NoMemory) (λ fault. result ≡ Err fault) }
+    {
+        if is_bad_limit(recent, row_limit) {
+            return Err(OpenFault::BadLimit);
+        }
+        if table.len() > row_limit {
+            return Err(OpenFault::TooManyRows);
+        }
+        let key_cols = table.schema().key_cols();
+        let stable = Arc::new(alloc, table)?;
+        let read = Arc::new(alloc, DeltaTree::new(alloc, key_cols))?;
+        let write = Arc::new(alloc, DeltaTree::new(alloc, key_cols))?;
+        let newest = Version::stacked(alloc, stable.clone()?, read.clone()?, write.clone()?, 0)?;
+        Ok(Manager {
+            opening: Snapshot::of(&newest),
+            base: 0,
+            rules: Rules {
+                row_limit,
+                recent,
+                conflicts,
+            },
+            history: Vec::new(alloc),
+            made: 0,
+            held: Held {
+                stable,
+                read,
+                write,
+            },
+            newest,
+            kept: HeapCircularBuffer::with_capacity(alloc, recent)?,
+            alloc,
+        })
+    }
+
+    /// A transaction of the client over the newest table. Takes the same time whatever the table and its layers hold.
+    ///
+    /// # Errors
+    ///
+    /// `NoMemory` where a growth, or a share of the version, is refused.
+    pub fn begin(&self, client: u32) -> Result<Txn, NoMemory>
+        ensures { IfOk result (λ txn. txn ≡ begun_at self.now client) }
+    {
+        Txn::open(
+            self.alloc,
+            self.newest.copy()?,
+            client,
+            self.rules.row_limit,
+        )
+    }
+
+    /// The history: each transaction that asked to commit, in the order of the commits.
+    pub fn history(&self) -> &[Record]
+        ensures records { result.now ≡ self.now.history }
+        ensures lawful { IsManaged self.now }
+    {
+        self.history.as_slice()
+    }
+
+    /// The layers of the newest table, whose image is its rows. Takes no memory.
+    pub fn newest(&self) -> Layers<'_>
+        ensures schema { result.schema ≡ self.now.schema }
+        ensures rows { image_rows result ≡ rows_of (newest_table self.now) }
+        ensures few { length (image_rows result) ≤ MAX_ROWS }
+    {
+        self.newest.image()
+    }
+
+    /// The newest version. Takes no memory.
+    pub fn version(&self) -> &Version
+        ensures { result.now ≡ newest_version self.now }
+    {
+        &self.newest
+    }
+
+    /// The number at which the history starts: how many commits came before it.
+    pub fn base(&self) -> u64
+        ensures { result ≡ self.now.start.base }
+    {
+        self.base
+    }
+
+    /// How many rows a table may have.
+    pub fn row_limit(&self) -> u64
+        ensures { result ≡ self.now.start.limit }
+    {
+        self.rules.row_limit
+    }
+}
+
+/// Whether a limit is outside its range.
+fn is_bad_limit(recent: usize, row_limit: u64) -> bool
+    ensures { result ≡ is_bad_limit recent row_limit }
+{
+    recent == 0 || recent > MAX_RECENT_COMMITS || row_limit == 0 || row_limit > MAX_ROWS
+}
