@@ -1,12 +1,12 @@
 //! Two transactions of one manager: which of their commits are granted, and what the history keeps of them.
 ghost use Rattle.std.specs.Prelude.{IfOk};
 ghost use Rattle.txn.specs.Txn.{Transaction};
-ghost use Rattle.pdtcli.specs.Managed.{Managed, IsOwn};
+ghost use Rattle.manager.specs.Managed.{Managed, IsOwn};
 
 mod openings;
 
 use fixtures::{ItemWrite, base_table, key, write_of};
-use model::{CommitReply, Write, WriteReply};
+use model::{CommitReply, ConflictRule, Write, WriteReply};
 use pdtcli::{Manager, Txn, WriteFault};
 use std::alloc::Global;
 use std::test::Fail;
@@ -16,7 +16,13 @@ use values::{NoMemory, Value, ValueRef};
 
 /// A manager of the base table.
 fn opened(alloc: Global, recent: usize, limit: u64) -> Result<Manager, Fail> {
-    Ok(Manager::open(alloc, base_table(alloc)?, recent, limit)?)
+    Ok(Manager::open(
+        alloc,
+        base_table(alloc)?,
+        recent,
+        limit,
+        ConflictRule::ByColumn,
+    )?)
 }
 
 /// Two transactions over the newest table, of the clients 0 and 1.
@@ -72,10 +78,10 @@ fn quantity_of(found: Option<RowView<'_>>) -> i64 {
 
 /// The numbers of the first and the last column of the newest table, row by row.
 fn numbers(alloc: Global, manager: &Manager) -> Result<String, Fail> {
-    let table = manager.newest();
+    let newest = manager.newest();
     let mut text = String::new(alloc);
-    for sid in 0..table.len() {
-        let row = table.row(alloc, sid)?;
+    for view in newest.scan(0, newest.len()) {
+        let row = view.copy(alloc)?;
         if let [Value::Int(id), _, Value::Int(quantity)] = row.cells() {
             text.push_str(format!(in alloc; "{id} {quantity};")?.as_str())?;
         }

@@ -10,4 +10,5 @@ mod good_scripts;
 mod good_tables;
 mod limits;
 mod shown;
+mod shuffled_tables;
 mod words;

@@ -1,6 +1,7 @@
 //! What no clause says: that the calls succeed, and that the definitions are the ones that were meant. Each test runs
 //! transactions over one small table and compares with what a person expects. That a refused growth is answered by
 //! `NoMemory`, and by nothing else, shows under `rt try --test --fail-alloc 1..`: each `?` then ends its test.
+use crate::assertions::{assert_holds, assert_text};
 use CommitReply::{Committed, Conflict, Full, TooOld};
 use ConflictRule::{ByColumn, ByRow};
 use Reply::{Begun, Decided, Wrote};
@@ -235,8 +236,11 @@ impl Trial {
     }
 }
 
+/// A client, its call, and the reply.
+type Asked = (usize, Call, Reply);
+
 /// That the calls get these replies.
-fn answers(rt: &impl Abort, trial: &mut Trial, calls: &[(usize, Call, Reply)]) -> Result<(), Fail> {
+fn answers(rt: &impl Abort, trial: &mut Trial, calls: &[Asked]) -> Result<(), NoMemory> {
     for (name, call, reply) in calls {
         let given = trial.answer(*name, *call)?;
         assert_eq!(rt; given, *reply, "client {name} {call:?}");
@@ -245,16 +249,23 @@ fn answers(rt: &impl Abort, trial: &mut Trial, calls: &[(usize, Call, Reply)]) -
 }
 
 /// That the calls get these replies and leave this image, and that their history is legal.
-fn runs(
+fn runs(rt: &impl Abort, mut trial: Trial, calls: &[Asked], image: &str) -> Result<(), Fail> {
+    answers(rt, &mut trial, calls)?;
+    assert_text(rt, trial.image()?.as_str(), image, "the image");
+    assert!(rt; trial.is_legal(&[])?);
+    Ok(())
+}
+
+/// That they do so by either rule.
+fn runs_by_either_rule(
     rt: &impl Abort,
-    mut trial: Trial,
-    calls: &[(usize, Call, Reply)],
+    alloc: Global,
+    calls: &[Asked],
     image: &str,
 ) -> Result<(), Fail> {
-    answers(rt, &mut trial, calls)?;
-    assert_eq!(rt; trial.image()?.as_str(), image);
-    let older = Vec::new(trial.alloc);
-    assert!(rt; trial.is_legal(older.as_slice())?);
+    for rule in [ByColumn, ByRow] {
+        runs(rt, Trial::new(alloc, AMPLE, RECENT, rule)?, calls, image)?;
+    }
     Ok(())
 }
 
@@ -266,85 +277,93 @@ const C: usize = 2;
 
 #[test]
 fn refused_writes_leave_the_image(rt: HostRuntime) -> Result<(), Fail> {
-    let trial = Trial::new(rt.alloc(), AMPLE, RECENT, ByColumn)?;
-    let calls = [
+    const CALLS: [Asked; 3] = [
         (A, Call::Insert(20, "Bob", 2), Wrote(Duplicate)),
         (A, Call::Delete(25), Wrote(Missing)),
         (A, Call::Commit, Decided(Committed(1))),
     ];
-    runs(&rt, trial, calls.as_slice(), "10,Ann,1 20,Bob,2 30,Cid,3")
+    runs(
+        &rt,
+        Trial::new(rt.alloc(), AMPLE, RECENT, ByColumn)?,
+        &CALLS,
+        "10,Ann,1 20,Bob,2 30,Cid,3",
+    )
 }
 
 #[test]
 fn an_insert_changed_and_deleted_leaves_no_entry(rt: HostRuntime) -> Result<(), Fail> {
-    let trial = Trial::new(rt.alloc(), AMPLE, RECENT, ByColumn)?;
-    let calls = [
+    const CALLS: [Asked; 4] = [
         (A, Call::Insert(25, "Dee", 4), Wrote(Done)),
         (A, Call::SetQuantity(25, 5), Wrote(Done)),
         (A, Call::Delete(25), Wrote(Done)),
         (A, Call::Commit, Decided(Committed(1))),
     ];
-    runs(&rt, trial, calls.as_slice(), "10,Ann,1 20,Bob,2 30,Cid,3")
+    runs(
+        &rt,
+        Trial::new(rt.alloc(), AMPLE, RECENT, ByColumn)?,
+        &CALLS,
+        "10,Ann,1 20,Bob,2 30,Cid,3",
+    )
 }
 
 #[test]
 fn a_replaced_row_conflicts_with_a_modify(rt: HostRuntime) -> Result<(), Fail> {
-    let calls = [
+    const CALLS: [Asked; 5] = [
         (A, Call::Delete(20), Wrote(Done)),
         (A, Call::Insert(20, "Bea", 9), Wrote(Done)),
         (B, Call::SetQuantity(20, 7), Wrote(Done)),
         (A, Call::Commit, Decided(Committed(1))),
         (B, Call::Commit, Decided(Conflict(1))),
     ];
-    for rule in [ByColumn, ByRow] {
-        let trial = Trial::new(rt.alloc(), AMPLE, RECENT, rule)?;
-        runs(&rt, trial, calls.as_slice(), "10,Ann,1 20,Bea,9 30,Cid,3")?;
-    }
-    Ok(())
+    runs_by_either_rule(&rt, rt.alloc(), &CALLS, "10,Ann,1 20,Bea,9 30,Cid,3")
 }
 
 #[test]
 fn modifies_of_two_columns_both_commit(rt: HostRuntime) -> Result<(), Fail> {
-    let trial = Trial::new(rt.alloc(), AMPLE, RECENT, ByColumn)?;
-    let calls = [
+    const CALLS: [Asked; 4] = [
         (A, Call::SetName(20, "Bea"), Wrote(Done)),
         (B, Call::SetQuantity(20, 7), Wrote(Done)),
         (A, Call::Commit, Decided(Committed(1))),
         (B, Call::Commit, Decided(Committed(2))),
     ];
-    runs(&rt, trial, calls.as_slice(), "10,Ann,1 20,Bea,7 30,Cid,3")
+    runs(
+        &rt,
+        Trial::new(rt.alloc(), AMPLE, RECENT, ByColumn)?,
+        &CALLS,
+        "10,Ann,1 20,Bea,7 30,Cid,3",
+    )
 }
 
 #[test]
 fn modifies_of_two_columns_conflict_by_row(rt: HostRuntime) -> Result<(), Fail> {
-    let trial = Trial::new(rt.alloc(), AMPLE, RECENT, ByRow)?;
-    let calls = [
+    const CALLS: [Asked; 4] = [
         (A, Call::SetName(20, "Bea"), Wrote(Done)),
         (B, Call::SetQuantity(20, 7), Wrote(Done)),
         (A, Call::Commit, Decided(Committed(1))),
         (B, Call::Commit, Decided(Conflict(1))),
     ];
-    runs(&rt, trial, calls.as_slice(), "10,Ann,1 20,Bea,2 30,Cid,3")
+    runs(
+        &rt,
+        Trial::new(rt.alloc(), AMPLE, RECENT, ByRow)?,
+        &CALLS,
+        "10,Ann,1 20,Bea,2 30,Cid,3",
+    )
 }
 
 #[test]
 fn same_value_modifies_conflict(rt: HostRuntime) -> Result<(), Fail> {
-    let calls = [
+    const CALLS: [Asked; 4] = [
         (A, Call::SetQuantity(20, 2), Wrote(Done)),
         (B, Call::SetQuantity(20, 2), Wrote(Done)),
         (A, Call::Commit, Decided(Committed(1))),
         (B, Call::Commit, Decided(Conflict(1))),
     ];
-    for rule in [ByColumn, ByRow] {
-        let trial = Trial::new(rt.alloc(), AMPLE, RECENT, rule)?;
-        runs(&rt, trial, calls.as_slice(), "10,Ann,1 20,Bob,2 30,Cid,3")?;
-    }
-    Ok(())
+    runs_by_either_rule(&rt, rt.alloc(), &CALLS, "10,Ann,1 20,Bob,2 30,Cid,3")
 }
 
 #[test]
 fn only_inserts_of_one_key_conflict(rt: HostRuntime) -> Result<(), Fail> {
-    let calls = [
+    const CALLS: [Asked; 6] = [
         (A, Call::Insert(25, "Dee", 4), Wrote(Done)),
         (B, Call::Insert(25, "Eve", 5), Wrote(Done)),
         (C, Call::Insert(26, "Flo", 6), Wrote(Done)),
@@ -352,22 +371,17 @@ fn only_inserts_of_one_key_conflict(rt: HostRuntime) -> Result<(), Fail> {
         (B, Call::Commit, Decided(Conflict(1))),
         (C, Call::Commit, Decided(Committed(2))),
     ];
-    for rule in [ByColumn, ByRow] {
-        let trial = Trial::new(rt.alloc(), AMPLE, RECENT, rule)?;
-        runs(
-            &rt,
-            trial,
-            calls.as_slice(),
-            "10,Ann,1 20,Bob,2 25,Dee,4 26,Flo,6 30,Cid,3",
-        )?;
-    }
-    Ok(())
+    runs_by_either_rule(
+        &rt,
+        rt.alloc(),
+        &CALLS,
+        "10,Ann,1 20,Bob,2 25,Dee,4 26,Flo,6 30,Cid,3",
+    )
 }
 
 #[test]
 fn a_commit_undone_by_another_still_conflicts(rt: HostRuntime) -> Result<(), Fail> {
-    let trial = Trial::new(rt.alloc(), AMPLE, RECENT, ByColumn)?;
-    let calls = [
+    const CALLS: [Asked; 7] = [
         (B, Call::Insert(25, "Dee", 4), Wrote(Done)),
         (B, Call::Commit, Decided(Committed(1))),
         (C, Call::Begin, Begun),
@@ -376,28 +390,28 @@ fn a_commit_undone_by_another_still_conflicts(rt: HostRuntime) -> Result<(), Fai
         (A, Call::Insert(25, "Eve", 5), Wrote(Done)),
         (A, Call::Commit, Decided(Conflict(2))),
     ];
-    runs(&rt, trial, calls.as_slice(), "10,Ann,1 20,Bob,2 30,Cid,3")
+    runs(
+        &rt,
+        Trial::new(rt.alloc(), AMPLE, RECENT, ByColumn)?,
+        &CALLS,
+        "10,Ann,1 20,Bob,2 30,Cid,3",
+    )
 }
 
 #[test]
 fn write_skew_commits(rt: HostRuntime) -> Result<(), Fail> {
-    let calls = [
+    const CALLS: [Asked; 4] = [
         (A, Call::SetQuantity(20, 0), Wrote(Done)),
         (B, Call::SetQuantity(10, 0), Wrote(Done)),
         (A, Call::Commit, Decided(Committed(1))),
         (B, Call::Commit, Decided(Committed(2))),
     ];
-    for rule in [ByColumn, ByRow] {
-        let trial = Trial::new(rt.alloc(), AMPLE, RECENT, rule)?;
-        runs(&rt, trial, calls.as_slice(), "10,Ann,0 20,Bob,0 30,Cid,3")?;
-    }
-    Ok(())
+    runs_by_either_rule(&rt, rt.alloc(), &CALLS, "10,Ann,0 20,Bob,0 30,Cid,3")
 }
 
 #[test]
 fn an_old_begin_is_decided_or_too_old(rt: HostRuntime) -> Result<(), Fail> {
-    let trial = Trial::new(rt.alloc(), AMPLE, 2, ByColumn)?;
-    let calls = [
+    const CALLS: [Asked; 6] = [
         (B, Call::Commit, Decided(Committed(1))),
         (B, Call::Begin, Begun),
         (B, Call::Commit, Decided(Committed(2))),
@@ -405,13 +419,17 @@ fn an_old_begin_is_decided_or_too_old(rt: HostRuntime) -> Result<(), Fail> {
         (A, Call::Commit, Decided(Committed(3))),
         (C, Call::Commit, Decided(TooOld(3))),
     ];
-    runs(&rt, trial, calls.as_slice(), "10,Ann,1 20,Bob,2 30,Cid,9")
+    runs(
+        &rt,
+        Trial::new(rt.alloc(), AMPLE, 2, ByColumn)?,
+        &CALLS,
+        "10,Ann,1 20,Bob,2 30,Cid,9",
+    )
 }
 
 #[test]
 fn the_row_limit_holds_in_and_across_transactions(rt: HostRuntime) -> Result<(), Fail> {
-    let trial = Trial::new(rt.alloc(), 4, RECENT, ByColumn)?;
-    let calls = [
+    const CALLS: [Asked; 5] = [
         (A, Call::Insert(40, "Dee", 4), Wrote(Done)),
         (A, Call::Insert(41, "Eve", 5), Wrote(WriteReply::Full)),
         (B, Call::Insert(50, "Flo", 6), Wrote(Done)),
@@ -420,26 +438,20 @@ fn the_row_limit_holds_in_and_across_transactions(rt: HostRuntime) -> Result<(),
     ];
     runs(
         &rt,
-        trial,
-        calls.as_slice(),
+        Trial::new(rt.alloc(), 4, RECENT, ByColumn)?,
+        &CALLS,
         "10,Ann,1 20,Bob,2 30,Cid,3 40,Dee,4",
     )
 }
 
-#[test]
-fn numbers_go_on_after_a_cut(rt: HostRuntime) -> Result<(), Fail> {
-    let alloc = rt.alloc();
-    let mut trial = Trial::new(alloc, AMPLE, RECENT, ByColumn)?;
-    let before = [
+/// A trial that is cut after one commit, with the calls before and after it.
+fn cut_trial(rt: &impl Abort, alloc: Global) -> Result<Trial, NoMemory> {
+    const BEFORE: [Asked; 3] = [
         (B, Call::Insert(25, "Dee", 4), Wrote(Done)),
         (B, Call::Commit, Decided(Committed(1))),
         (C, Call::Begin, Begun),
     ];
-    answers(&rt, &mut trial, before.as_slice())?;
-    let mut older = Vec::new(alloc);
-    assert!(rt; trial.is_legal(older.as_slice())?);
-    trial.cut(Start::new(trial.newest()?, 1, AMPLE, RECENT, ByColumn));
-    let after = [
+    const AFTER: [Asked; 6] = [
         (C, Call::SetQuantity(30, 9), Wrote(Done)),
         (C, Call::Commit, Decided(Committed(2))),
         (A, Call::SetQuantity(10, 9), Wrote(Done)),
@@ -447,29 +459,55 @@ fn numbers_go_on_after_a_cut(rt: HostRuntime) -> Result<(), Fail> {
         (B, Call::Begin, Begun),
         (B, Call::Commit, Decided(Committed(3))),
     ];
-    answers(&rt, &mut trial, after.as_slice())?;
-    assert_eq!(rt;
-        trial.image()?.as_str(),
-        "10,Ann,1 20,Bob,2 25,Dee,4 30,Cid,9"
+    let mut trial = Trial::new(alloc, AMPLE, RECENT, ByColumn)?;
+    answers(rt, &mut trial, &BEFORE)?;
+    assert!(rt; trial.is_legal(&[])?);
+    trial.cut(Start::new(trial.newest()?, 1, AMPLE, RECENT, ByColumn));
+    answers(rt, &mut trial, &AFTER)?;
+    Ok(trial)
+}
+
+/// Whether its history is legal where this table is the one older table.
+fn is_legal_over(trial: &Trial, table: OrderedTable) -> Result<bool, NoMemory> {
+    let mut older = Vec::new(trial.alloc);
+    older.push(table)?;
+    trial.is_legal(older.as_slice())
+}
+
+#[test]
+fn numbers_go_on_after_a_cut(rt: HostRuntime) -> Result<(), Fail> {
+    let alloc = rt.alloc();
+    let trial = cut_trial(&rt, alloc)?;
+    let image = trial.image()?;
+    assert_text(
+        &rt,
+        image.as_str(),
+        "10,Ann,1 20,Bob,2 25,Dee,4 30,Cid,9",
+        "the image",
     );
-    assert_eq!(rt; trial.history.len(), 3);
+    assert!(rt; trial.history.len() == 3);
     // A began at the base table, which the cut took away.
-    assert!(rt; !trial.is_legal(older.as_slice())?);
-    older.push(base(alloc)?)?;
-    assert!(rt; trial.is_legal(older.as_slice())?);
-    let mut other = Vec::new(alloc);
-    other.push(OrderedTable::new(alloc))?;
-    assert!(rt; !trial.is_legal(other.as_slice())?);
+    assert!(rt; !trial.is_legal(&[])?);
+    assert!(rt; is_legal_over(&trial, base(alloc)?)?);
+    assert!(rt; !is_legal_over(&trial, OrderedTable::new(alloc))?);
     Ok(())
+}
+
+/// Whether a history of one record is legal from the start, over these older tables.
+fn is_legal_alone(
+    alloc: Global,
+    start: &Start,
+    older: &[OrderedTable],
+    entry: Record,
+) -> Result<bool, NoMemory> {
+    let mut history = Vec::new(alloc);
+    history.push(entry)?;
+    is_legal(alloc, 1, start, older, history.as_slice())
 }
 
 #[test]
 fn a_history_after_a_cut_counts_from_its_base(rt: HostRuntime) -> Result<(), Fail> {
-    let alloc = rt.alloc();
-    let start = Start::new(base(alloc)?, 5, AMPLE, RECENT, ByColumn);
-    let mut older = Vec::new(alloc);
-    older.push(OrderedTable::new(alloc))?;
-    for (label, begin, commit, legal) in [
+    const CASES: [(&str, u64, CommitReply, bool); 6] = [
         ("at the base", 5, Committed(6), true),
         ("numbers from nothing", 5, Committed(1), false),
         ("a begin from nothing", 0, Committed(6), false),
@@ -481,21 +519,34 @@ fn a_history_after_a_cut_counts_from_its_base(rt: HostRuntime) -> Result<(), Fai
             false,
         ),
         ("a begin that was not there", 6, Committed(6), false),
-    ] {
-        let mut history = Vec::new(alloc);
-        history.push(Record::new(0, begin, Vec::new(alloc), commit))?;
-        let answer = is_legal(alloc, 1, &start, older.as_slice(), history.as_slice())?;
-        assert_eq!(rt; answer, legal, "{label}");
+    ];
+    let alloc = rt.alloc();
+    let start = Start::new(base(alloc)?, 5, AMPLE, RECENT, ByColumn);
+    let mut older = Vec::new(alloc);
+    older.push(OrderedTable::new(alloc))?;
+    for (label, begin, commit, legal) in &CASES {
+        let entry = Record::new(0, *begin, Vec::new(alloc), *commit);
+        let answer = is_legal_alone(alloc, &start, older.as_slice(), entry)?;
+        assert_holds(&rt, answer == *legal, *label);
     }
     Ok(())
 }
 
+/// The record of one delete of the row 20, with these answers.
+fn answered_delete(
+    alloc: Global,
+    begin: u64,
+    reply: WriteReply,
+    commit: CommitReply,
+) -> Result<Record, NoMemory> {
+    let mut writes = Vec::new(alloc);
+    writes.push((Write::Delete(key(alloc, 20)?), reply))?;
+    Ok(Record::new(7, begin, writes, commit))
+}
+
 #[test]
 fn a_history_with_another_answer_is_not_legal(rt: HostRuntime) -> Result<(), Fail> {
-    let alloc = rt.alloc();
-    let start = Start::new(base(alloc)?, 0, AMPLE, RECENT, ByColumn);
-    let older = Vec::new(alloc);
-    for (label, begin, reply, commit, legal) in [
+    const CASES: [(&str, u64, WriteReply, CommitReply, bool); 5] = [
         ("as it was", 0, Done, Committed(1), true),
         (
             "another reply to the write",
@@ -507,16 +558,19 @@ fn a_history_with_another_answer_is_not_legal(rt: HostRuntime) -> Result<(), Fai
         ("another reply to the commit", 0, Done, Conflict(0), false),
         ("another number", 0, Done, Committed(2), false),
         ("a begin that was not there", 1, Done, Committed(1), false),
-    ] {
-        let mut writes = Vec::new(alloc);
-        writes.push((Write::Delete(key(alloc, 20)?), reply))?;
-        let mut history = Vec::new(alloc);
-        let entry = Record::new(7, begin, writes, commit);
-        assert_eq!(rt; (entry.client(), entry.begin()), (7, begin));
-        assert_eq!(rt; (entry.writes().len(), entry.reply()), (1, commit));
-        history.push(entry)?;
-        let answer = is_legal(alloc, 1, &start, older.as_slice(), history.as_slice())?;
-        assert_eq!(rt; answer, legal, "{label}");
+    ];
+    let alloc = rt.alloc();
+    let start = Start::new(base(alloc)?, 0, AMPLE, RECENT, ByColumn);
+    for (label, begin, reply, commit, legal) in &CASES {
+        let entry = answered_delete(alloc, *begin, *reply, *commit)?;
+        assert_holds(&rt, entry.client() == 7 && entry.begin() == *begin, *label);
+        assert_holds(
+            &rt,
+            entry.writes().len() == 1 && entry.reply() == *commit,
+            *label,
+        );
+        let answer = is_legal_alone(alloc, &start, &[], entry)?;
+        assert_holds(&rt, answer == *legal, *label);
     }
     Ok(())
 }
@@ -534,59 +588,101 @@ fn effects_of(alloc: Global, table: &OrderedTable, calls: &[Call]) -> Result<Eff
     Ok(effects)
 }
 
-#[test]
-fn entries_stand_in_order_and_merge(rt: HostRuntime) -> Result<(), Fail> {
-    let alloc = rt.alloc();
-    let table = base(alloc)?;
-    let first = [
+/// What two transactions do to the base table, the second after the first.
+fn two_in_turn(alloc: Global, table: &OrderedTable) -> Result<Effects, NoMemory> {
+    const FIRST: [Call; 3] = [
         Call::Delete(20),
         Call::Insert(20, "Bea", 9),
         Call::Insert(35, "Dee", 4),
     ];
-    let first = effects_of(alloc, &table, first.as_slice())?;
-    let later = [
+    const LATER: [Call; 3] = [
         Call::Delete(10),
         Call::SetName(30, "Eve"),
         Call::SetQuantity(35, 5),
     ];
-    let later = effects_of(alloc, &table.with(&first)?, later.as_slice())?;
-    let both = first.composed(&later)?;
-    let entries = canonical_entries(alloc, &table, &both)?;
-    let shown = shown_entries(alloc, entries.as_slice())?;
-    assert_eq!(rt;
-        shown.as_str(),
-        "0:-10 1:+20,Bea,9 1:-20 2:1=Eve 3:+35,Dee,5"
-    );
-    let merged = merged_rows(alloc, table.rows()?.as_slice(), entries.as_slice())?;
+    let first = effects_of(alloc, table, &FIRST)?;
+    let later = effects_of(alloc, &table.with(&first)?, &LATER)?;
+    first.composed(&later)
+}
+
+/// That these entries merge into the rows of the base table.
+fn assert_merged(
+    rt: &impl Abort,
+    alloc: Global,
+    table: &OrderedTable,
+    entries: &[Entry],
+    want: &str,
+) -> Result<(), NoMemory> {
+    let merged = merged_rows(alloc, table.rows()?.as_slice(), entries)?;
     let shown = shown_rows(alloc, merged.as_slice())?;
-    assert_eq!(rt; shown.as_str(), "20,Bea,9 30,Eve,3 35,Dee,5");
+    assert_text(rt, shown.as_str(), want, "the rows");
     Ok(())
 }
 
 #[test]
-fn tables_and_effects_are_read(rt: HostRuntime) -> Result<(), Fail> {
+fn entries_stand_in_order_and_merge(rt: HostRuntime) -> Result<(), Fail> {
+    let alloc = rt.alloc();
+    let table = base(alloc)?;
+    let both = two_in_turn(alloc, &table)?;
+    let entries = canonical_entries(alloc, &table, &both)?;
+    let shown = shown_entries(alloc, entries.as_slice())?;
+    assert_text(
+        &rt,
+        shown.as_str(),
+        "0:-10 1:+20,Bea,9 1:-20 2:1=Eve 3:+35,Dee,5",
+        "the entries",
+    );
+    assert_merged(
+        &rt,
+        alloc,
+        &table,
+        entries.as_slice(),
+        "20,Bea,9 30,Eve,3 35,Dee,5",
+    )?;
+    Ok(())
+}
+
+#[test]
+fn a_table_is_read(rt: HostRuntime) -> Result<(), Fail> {
     let alloc = rt.alloc();
     let table = base(alloc)?;
     let bound = key(alloc, 25)?;
-    assert_eq!(rt;
-        (
-            table.len(),
-            table.rank(&bound),
-            table.row_at(&bound).is_some()
-        ),
-        (3, 2, false)
-    );
-    let mut effects = effects_of(alloc, &table, [Call::Insert(25, "Dee", 4)].as_slice())?;
-    assert!(rt; table.all_fit(&effects));
-    assert!(rt; !table.with(&effects)?.all_fit(&effects));
+    assert!(rt; table.len() == 3);
+    assert!(rt; table.rank(&bound) == 2);
+    assert!(rt; table.row_at(&bound).is_none());
+    assert!(rt; OrderedTable::new(alloc).copy()?.len() == 0);
+    Ok(())
+}
+
+/// That the effects fit the table and not the one after them, and conflict with themselves.
+fn assert_fits(rt: &impl Abort, table: &OrderedTable, effects: &Effects) -> Result<(), NoMemory> {
+    assert!(rt; table.all_fit(effects));
+    assert!(rt; !table.with(effects)?.all_fit(effects));
     assert!(rt; effects.conflicts(ByColumn, &effects.copy()?));
-    assert!(rt; effects.get(&bound).is_some());
+    Ok(())
+}
+
+/// That the row 25 is put in by the effects, and isn't once its effect is taken out.
+fn assert_put_in(
+    rt: &impl Abort,
+    alloc: Global,
+    table: &OrderedTable,
+    mut effects: Effects,
+) -> Result<(), NoMemory> {
+    let bound = key(alloc, 25)?;
     let again = Write::Insert(item(alloc, 25, "Eve", 5)?);
-    assert_eq!(rt; table.reply_to(1, AMPLE, &effects, &again)?, Duplicate);
+    assert!(rt; effects.get(&bound).is_some());
+    assert!(rt; table.reply_to(1, AMPLE, &effects, &again)? == Duplicate);
     effects.store(bound, None)?;
-    assert_eq!(rt;
-        (effects.len(), OrderedTable::new(alloc).copy()?.len()),
-        (0, 0)
-    );
+    assert!(rt; effects.len() == 0);
+    Ok(())
+}
+
+#[test]
+fn effects_are_read(rt: HostRuntime) -> Result<(), Fail> {
+    let table = base(rt.alloc())?;
+    let effects = effects_of(rt.alloc(), &table, &[Call::Insert(25, "Dee", 4)])?;
+    assert_fits(&rt, &table, &effects)?;
+    assert_put_in(&rt, rt.alloc(), &table, effects)?;
     Ok(())
 }

@@ -1,23 +1,21 @@
-//! The tests of tables, trees, folds, images, transactions and devices, from answers that a person worked out and beside
-//! the slow program of `oracle`.
+//! The tests of schemas, blocks, tables, trees, devices and the slow program of `oracle`, from answers that a person worked
+//! out. None of them needs a transaction: those that do stand in `snapshots`.
 //!
 //! That a refused growth is answered shows under `rt try --test --fail-alloc N`, for N from 1 on: each test ends well,
 //! or with the error of the growth.
 #![tactic(auto)]
 
 #[cfg(test)]
-mod folds;
+mod assertions;
 #[cfg(test)]
 mod histories;
 #[cfg(test)]
-mod images;
+mod payloads;
 #[cfg(test)]
-mod shown;
+mod shapes;
 #[cfg(test)]
 mod stores;
 #[cfg(test)]
 mod tables;
-#[cfg(test)]
-mod transactions;
 #[cfg(test)]
 mod trees;

@@ -7,10 +7,12 @@ mod faults;
 mod keys;
 mod kinds;
 
+use crate::assertions::assert_count;
 use blocks::Block;
 use fixtures::{key, row_with, schema};
-use stable::StableTable;
+use stable::{Column, StableTable};
 use std::alloc::Global;
+use std::process::Abort;
 use std::test::Fail;
 use values::{ColumnType, NoMemory, Row, Schema, Value, ValueRef};
 
@@ -42,51 +44,77 @@ fn number(value: ValueRef<'_>) -> i64 {
     }
 }
 
+/// The table of so many even numbers.
+fn even_table(alloc: Global, count: u16) -> Result<StableTable, Fail> {
+    Ok(StableTable::build(alloc, numbered(alloc)?, even_rows(alloc, count)?)?)
+}
+
+/// That a table of so many rows has them, all of them below a greater key.
+fn assert_edge(rt: &impl Abort, alloc: Global, label: &str, count: u16) -> Result<(), Fail> {
+    let table = even_table(alloc, count)?;
+    let past = key(alloc, 5_000)?;
+    assert_count(rt, table.len(), u64::from(count), label);
+    assert_count(rt, table.rank(&past), u64::from(count), label);
+    Ok(())
+}
+
 #[test]
 fn tables_at_the_edges_of_a_block(rt: HostRuntime) -> Result<(), Fail> {
-    let cases: [(&str, u16); 5] = [
+    const CASES: [(&str, u16); 5] = [
         ("no row", 0),
         ("one row", 1),
         ("a full block", 1_024),
         ("a second block of one", 1_025),
         ("two full blocks", 2_048),
     ];
-    for (label, count) in cases {
-        let alloc = rt.alloc();
-        let table = StableTable::build(alloc, numbered(alloc)?, even_rows(alloc, count)?)?;
-        assert_eq!(rt; table.len(), u64::from(count), "at {label}");
-        assert_eq!(rt;
-            table.rank(&key(alloc, 5_000)?),
-            u64::from(count),
-            "past the last at {label}"
-        );
+    for (label, count) in &CASES {
+        assert_edge(&rt, rt.alloc(), *label, *count)?;
     }
     Ok(())
 }
 
+/// The number at a place of the first column, or -1 where none stands.
+fn number_at(table: &StableTable, sid: u64) -> i64 {
+    if sid < table.len() && table.schema().width() > 0 {
+        number(table.value(sid, 0))
+    } else {
+        -1
+    }
+}
+
 #[test]
 fn the_second_block_begins_at_1024(rt: HostRuntime) -> Result<(), Fail> {
-    let alloc = rt.alloc();
-    let table = StableTable::build(alloc, numbered(alloc)?, even_rows(alloc, 1_025)?)?;
-    if table.len() == 1_025 && table.schema().width() == 2 {
-        assert_eq!(rt; number(table.value(1_023, 0)), 2_046);
-        assert_eq!(rt; number(table.value(1_024, 0)), 2_048);
-    }
-    assert_eq!(rt; table.len(), 1_025);
-    assert_eq!(rt; table.schema().width(), 2);
+    let table = even_table(rt.alloc(), 1_025)?;
+    assert!(rt; table.len() == 1_025);
+    assert!(rt; table.schema().width() == 2);
+    assert!(rt; number_at(&table, 1_023) == 2_046);
+    assert!(rt; number_at(&table, 1_024) == 2_048);
+    Ok(())
+}
+
+/// That the row at a place is of this number and true.
+fn assert_row(
+    rt: &impl Abort,
+    alloc: Global,
+    table: &StableTable,
+    sid: u64,
+    id: i64,
+) -> Result<(), NoMemory> {
+    assert!(rt; sid < table.len());
+    let row = table.row(alloc, sid)?;
+    let cells = row.cells();
+    assert!(rt; cells.len() == 2, "at {sid}");
+    assert!(rt; cells[0] == Value::Int(id), "at {sid}");
+    assert!(rt; cells[1] == Value::Bool(true), "at {sid}");
     Ok(())
 }
 
 #[test]
 fn a_row_is_copied_cell_by_cell(rt: HostRuntime) -> Result<(), Fail> {
-    let alloc = rt.alloc();
-    let table = StableTable::build(alloc, numbered(alloc)?, even_rows(alloc, 1_025)?)?;
+    let table = even_table(rt.alloc(), 1_025)?;
     assert!(rt; table.len() == 1_025);
-    for (sid, id) in [(0, 0), (1_023, 2_046), (1_024, 2_048)] {
-        let row = table.row(alloc, sid)?;
-        assert!(rt; row.cells().len() == 2, "at {sid}");
-        assert!(rt; row.cells()[0] == Value::Int(id), "at {sid}");
-        assert!(rt; row.cells()[1] == Value::Bool(true), "at {sid}");
+    for (sid, id) in &[(0, 0), (1_023, 2_046), (1_024, 2_048)] {
+        assert_row(&rt, rt.alloc(), &table, *sid, *id)?;
     }
     Ok(())
 }
@@ -100,28 +128,37 @@ fn first_and_length(block: &Block) -> (i64, usize) {
     (number(block.get(0)), count)
 }
 
+/// That the column of numbers has a block of 1,024 and one of a number more.
+fn assert_blocks(rt: &impl Abort, ids: &Column) {
+    assert!(rt; ids.len() == 1_025);
+    assert!(rt; first_and_length(ids.block(0)) == (0, 1_024));
+    assert!(rt; first_and_length(ids.block(1)) == (2_048, 1));
+}
+
 #[test]
 fn a_column_is_lent_block_by_block(rt: HostRuntime) -> Result<(), Fail> {
-    let alloc = rt.alloc();
-    let table = StableTable::build(alloc, numbered(alloc)?, even_rows(alloc, 1_025)?)?;
-    assert_eq!(rt; table.schema().width(), 2);
-    if table.schema().width() == 2 {
-        let ids = table.column(0);
-        assert_eq!(rt; ids.len(), 1_025);
-        if ids.len() == 1_025 {
-            assert_eq!(rt; first_and_length(ids.block(0)), (0, 1_024));
-            assert_eq!(rt; first_and_length(ids.block(1)), (2_048, 1));
-        }
-        assert_eq!(rt; table.column(1).column_type() == ColumnType::Bool, true);
-    }
+    let table = even_table(rt.alloc(), 1_025)?;
+    assert!(rt; table.schema().width() == 2);
+    assert_blocks(&rt, table.column(0));
+    assert!(rt; table.column(1).column_type() == ColumnType::Bool);
+    Ok(())
+}
+
+/// That the key of a number has its rank.
+fn assert_rank(
+    rt: &impl Abort,
+    alloc: Global,
+    table: &StableTable,
+    (label, id, rank): (&str, i64, u64),
+) -> Result<(), NoMemory> {
+    let key = key(alloc, id)?;
+    assert_count(rt, table.rank(&key), rank, label);
     Ok(())
 }
 
 #[test]
 fn ranks_of_numbers(rt: HostRuntime) -> Result<(), Fail> {
-    let alloc = rt.alloc();
-    let table = StableTable::build(alloc, numbered(alloc)?, even_rows(alloc, 1_025)?)?;
-    let cases: [(&str, i64, u64); 7] = [
+    const CASES: [(&str, i64, u64); 7] = [
         ("below all", -1, 0),
         ("at the first", 0, 0),
         ("between the first two", 1, 1),
@@ -130,8 +167,9 @@ fn ranks_of_numbers(rt: HostRuntime) -> Result<(), Fail> {
         ("at the last", 2_048, 1_024),
         ("above all", 2_049, 1_025),
     ];
-    for (label, id, rank) in cases {
-        assert_eq!(rt; table.rank(&key(alloc, id)?), rank, "{label}");
+    let table = even_table(rt.alloc(), 1_025)?;
+    for case in &CASES {
+        assert_rank(&rt, rt.alloc(), &table, *case)?;
     }
     Ok(())
 }

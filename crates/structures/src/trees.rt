@@ -9,12 +9,13 @@ ghost use Rattle.std.specs.Prelude.{◌≡◌, ◌<◌, IsTrue, IfOk, IfSome, Is
 ghost use Rattle.values.specs.Shape.{key_of};
 ghost use Rattle.delta.specs.Lookups.{inserted_row};
 
+mod bulk;
 mod depths;
 mod places;
 
-use crate::shown::entries_text;
+use crate::assertions::assert_text;
 use delta::DeltaTree;
-use fixtures::{Step, item, key};
+use fixtures::{Step, entries_text, item, key};
 use std::alloc::Global;
 use std::process::Abort;
 use std::test::Fail;
@@ -133,9 +134,9 @@ fn changed(
         let answer = change(rt, alloc, &mut tree, *step)?;
         let text = entries_text(alloc, tree.iter())?;
         match answer {
-            Ok(()) => assert_eq!(rt; text.as_str(), *after),
+            Ok(()) => assert_text(rt, text.as_str(), *after, "after a change"),
             Err(NoMemory) => {
-                assert_eq!(rt; text.as_str(), before, "refused before {after}");
+                assert_text(rt, text.as_str(), before, "a change that is refused");
                 return Ok(None);
             }
         }
@@ -239,38 +240,56 @@ fn a_replaced_row_is_an_insert_and_a_delete_at_one_sid(rt: HostRuntime) -> Resul
 }
 
 #[test]
-fn a_tree_says_what_is_in_it(rt: HostRuntime) -> Result<(), Fail> {
-    let alloc = rt.alloc();
-    let empty = DeltaTree::new(alloc, 1);
+fn a_tree_with_no_entries_says_so(rt: HostRuntime) -> Result<(), Fail> {
+    let empty = DeltaTree::new(rt.alloc(), 1);
     assert!(rt; empty.is_empty());
-    assert_eq!(rt; empty.len(), 0);
-    assert_eq!(rt; empty.total(), 0);
+    assert!(rt; empty.len() == 0);
+    assert!(rt; empty.total() == 0);
     assert!(rt; empty.iter().next().is_none());
-    const CASES: [(Step, &str); 4] = [
+    Ok(())
+}
+
+/// That an insert of the key is there at the SID, or isn't.
+fn assert_insert(
+    rt: &impl Abort,
+    alloc: Global,
+    tree: &DeltaTree,
+    (sid, id, there): (u64, i64, bool),
+) -> Result<(), NoMemory> {
+    let key = key(alloc, id)?;
+    let found = tree.find_insert(sid, key.cells()).is_some();
+    assert!(rt; found == there, "of {id} at {sid}");
+    Ok(())
+}
+
+#[test]
+fn a_tree_says_what_is_in_it(rt: HostRuntime) -> Result<(), Fail> {
+    const STEPS: [(Step, &str); 4] = [
         (Step::Delete(1, 20), "1-20"),
         (Step::Modify(2, 2, ValueRef::Int(7)), "1-20 2:2=7"),
         (Step::Delete(0, 10), "0-10 1-20 2:2=7"),
         (Step::Insert(1, 20, "Bea", 8), "0-10 1+20,Bea,8 1-20 2:2=7"),
     ];
-    let Some(tree) = changed(&rt, alloc, CASES.as_slice())? else {
-        return Ok(());
-    };
-    assert!(rt; !tree.is_empty());
-    assert_eq!(rt; tree.len(), 4);
-    assert_eq!(rt; tree.total(), -1);
-    for (sid, deleted) in [(0, true), (1, true), (2, false), (3, false)] {
-        assert_eq!(rt; tree.has_delete(sid), deleted, "at {sid}");
-    }
-    for (sid, id, there) in [
+    const DELETES: [(u64, bool); 4] = [(0, true), (1, true), (2, false), (3, false)];
+    const INSERTS: [(u64, i64, bool); 6] = [
         (1, 20, true),
         (1, 15, false),
         (1, 25, false),
         (0, 20, false),
         (2, 20, false),
         (0, 10, false),
-    ] {
-        let found = tree.find_insert(sid, key(alloc, id)?.cells());
-        assert_eq!(rt; found.is_some(), there, "of {id} at {sid}");
+    ];
+    let Some(tree) = changed(&rt, rt.alloc(), &STEPS)? else {
+        return Ok(());
+    };
+    assert!(rt; !tree.is_empty());
+    assert!(rt; tree.len() == 4);
+    assert!(rt; tree.total() == -1);
+    for (sid, deleted) in &DELETES {
+        assert!(rt; tree.has_delete(*sid) == *deleted, "at {sid}");
+    }
+    for case in &INSERTS {
+        assert_insert(&rt, rt.alloc(), &tree, *case)?;
     }
     Ok(())
 }

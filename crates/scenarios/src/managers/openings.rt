@@ -1,5 +1,6 @@
 //! What a manager refuses to open.
 use fixtures::base_table;
+use model::ConflictRule;
 use pdtcli::{Manager, OpenFault};
 use std::test::Fail;
 
@@ -17,7 +18,14 @@ fn an_opening_is_refused_by_its_limits(rt: HostRuntime) -> Result<(), Fail> {
         ),
         ("a row too many", 64, 2, OpenFault::TooManyRows),
     ] {
-        let found = Manager::open(rt.alloc(), base_table(rt.alloc())?, recent, limit).err();
+        let found = Manager::open(
+            rt.alloc(),
+            base_table(rt.alloc())?,
+            recent,
+            limit,
+            ConflictRule::ByColumn,
+        )
+        .err();
         assert!(&rt; found == Some(want), "at {label}");
     }
     Ok(())

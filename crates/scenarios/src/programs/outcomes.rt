@@ -1,6 +1,6 @@
 //! What a run hands on: its clients, its lines, its manager and how many commits were decided.
 use fixtures::base_table;
-use model::{CommitReply, Write, WriteReply};
+use model::{CommitReply, ConflictRule, Write, WriteReply};
 use pdtcli::{Manager, Outcome, Reply, ReplyLine, read_script, run_serial, show};
 use std::alloc::Global;
 use std::test::Fail;
@@ -11,7 +11,7 @@ use values::limits::MAX_ROWS;
 fn outcome_of(alloc: Global, script: &[u8]) -> Result<Outcome, Fail> {
     let table = base_table(alloc)?;
     let calls = read_script(alloc, table.schema(), script)?;
-    let manager = Manager::open(alloc, table, 64, MAX_ROWS)?;
+    let manager = Manager::open(alloc, table, 64, MAX_ROWS, ConflictRule::ByColumn)?;
     Ok(run_serial(alloc, manager, &calls)?)
 }
 
@@ -80,8 +80,11 @@ fn commits_that_are_decided_are_counted(rt: HostRuntime) -> Result<(), Fail> {
     assert_eq!(&rt; outcome.manager().history().len(), 2);
     let newest = outcome.manager().newest();
     assert_eq!(&rt; newest.len(), 2);
-    for (sid, id) in [10, 30].iter().enumerate() {
-        let row = newest.row(rt.alloc(), sid as u64)?;
+    for (rid, id) in [10, 30].iter().enumerate() {
+        let row = match newest.row_at(rid as u64) {
+            Some(view) => view.copy(rt.alloc())?,
+            None => return Err(Fail::new("no row")),
+        };
         assert!(&rt; row.cells().first() == Some(&Value::Int(*id)));
     }
     let mut out = Vec::new(rt.alloc());

@@ -1,6 +1,7 @@
 //! Each fault of building, and which of several comes first.
 
 use super::{numbered, numbered_row};
+use crate::assertions::assert_text;
 use fixtures::row_with;
 use stable::{BuildFault, StableTable};
 use std::alloc::Global;
@@ -17,10 +18,10 @@ fn cells(alloc: Global, id: i64, is_whole: bool) -> Result<Row, NoMemory> {
 }
 
 /// What building of three rows comes to: the fault, or `Ok`.
-fn built(alloc: Global, cases: [(i64, bool); 3]) -> Result<String, Fail> {
+fn built(alloc: Global, cases: &[(i64, bool)]) -> Result<String, Fail> {
     let mut rows = Vec::new(alloc);
     for (id, is_whole) in cases {
-        rows.push(cells(alloc, id, is_whole)?)?;
+        rows.push(cells(alloc, *id, *is_whole)?)?;
     }
     match StableTable::build(alloc, numbered(alloc)?, rows) {
         Ok(_) => Ok(String::from_str(alloc, "Ok")?),
@@ -31,7 +32,7 @@ fn built(alloc: Global, cases: [(i64, bool); 3]) -> Result<String, Fail> {
 
 #[test]
 fn rows_that_make_no_table_are_refused(rt: HostRuntime) -> Result<(), Fail> {
-    let cases: [(&str, [(i64, bool); 3], &str); 6] = [
+    const CASES: [(&str, [(i64, bool); 3], &str); 6] = [
         ("ascending", [(1, true), (2, true), (3, true)], "Ok"),
         (
             "equal keys",
@@ -59,8 +60,9 @@ fn rows_that_make_no_table_are_refused(rt: HostRuntime) -> Result<(), Fail> {
             "NotAscending 1",
         ),
     ];
-    for (label, rows, becomes) in cases {
-        assert_eq!(rt; built(rt.alloc(), rows)?.as_str(), becomes, "at {label}");
+    for (label, rows, becomes) in &CASES {
+        let found = built(rt.alloc(), rows)?;
+        assert_text(&rt, found.as_str(), *becomes, *label);
     }
     Ok(())
 }

@@ -1,10 +1,17 @@
 //! The rank of keys of one text, of one truth, of a text and a truth, of three columns and of four.
-
+use ValueRef::{Bool, Int, Text};
 use fixtures::{key_with, row_with, schema};
 use stable::StableTable;
 use std::alloc::Global;
+use std::process::Abort;
 use std::test::Fail;
-use values::{ColumnType, Schema, Value, ValueRef};
+use values::{ColumnType, NoMemory, Schema, ValueRef};
+
+/// The cells of a row or of a key.
+type Cells = &'static [ValueRef<'static>];
+
+/// What a key is, its cells, its rank, and whether it is there.
+type Case = (&'static str, Cells, u64, bool);
 
 /// The schema of columns of these types, all of which are the key.
 fn keyed(alloc: Global, types: &[ColumnType]) -> Result<Schema, Fail> {
@@ -15,137 +22,169 @@ fn keyed(alloc: Global, types: &[ColumnType]) -> Result<Schema, Fail> {
     schema(alloc, cols.as_slice(), types.len())
 }
 
-/// A text and a truth.
-fn pair(name: &str, last: bool) -> [ValueRef<'_>; 2] {
-    [ValueRef::Text(name), ValueRef::Bool(last)]
+/// The table of these rows, all of whose columns are the key.
+fn table_of(alloc: Global, types: &[ColumnType], named: &[Cells]) -> Result<StableTable, Fail> {
+    let mut rows = Vec::new(alloc);
+    for cells in named {
+        rows.push(row_with(alloc, *cells)?)?;
+    }
+    Ok(StableTable::build(alloc, keyed(alloc, types)?, rows)?)
 }
 
-/// A number, a text and a truth.
-fn three(first: i64, name: &str, truth: bool) -> [ValueRef<'_>; 3] {
-    [
-        ValueRef::Int(first),
-        ValueRef::Text(name),
-        ValueRef::Bool(truth),
-    ]
+/// That each key has its rank, and is there or isn't.
+fn assert_ranks(
+    rt: &impl Abort,
+    alloc: Global,
+    table: &StableTable,
+    cases: &[Case],
+) -> Result<(), NoMemory> {
+    for (label, cells, rank, there) in cases {
+        let key = key_with(alloc, *cells)?;
+        assert!(rt; table.rank(&key) == *rank, "{label}");
+        assert!(rt; table.locate(key.cells()) == (*rank, *there), "{label}");
+    }
+    Ok(())
 }
 
-/// A number, a text and a truth, and a number after them.
-fn four(first: i64, name: &str, truth: bool, last: i64) -> [ValueRef<'_>; 4] {
-    [
-        ValueRef::Int(first),
-        ValueRef::Text(name),
-        ValueRef::Bool(truth),
-        ValueRef::Int(last),
-    ]
+/// That the keys of a table of these rows have their ranks.
+fn ranks(
+    rt: &impl Abort,
+    alloc: Global,
+    types: &[ColumnType],
+    rows: &[Cells],
+    cases: &[Case],
+) -> Result<(), Fail> {
+    let table = table_of(alloc, types, rows)?;
+    assert_ranks(rt, alloc, &table, cases)?;
+    Ok(())
 }
-
-const PAIR: [ColumnType; 2] = [ColumnType::Text, ColumnType::Bool];
-
-const FOUR: [ColumnType; 4] = [
-    ColumnType::Int,
-    ColumnType::Text,
-    ColumnType::Bool,
-    ColumnType::Int,
-];
 
 #[test]
 fn ranks_of_texts(rt: HostRuntime) -> Result<(), Fail> {
-    let alloc = rt.alloc();
-    let mut rows = Vec::new(alloc);
-    for name in ["", "Ann", "Bob", "Zoë"] {
-        rows.push(row_with(alloc, &[ValueRef::Text(name)])?)?;
-    }
-    let table = StableTable::build(alloc, keyed(alloc, &[ColumnType::Text])?, rows)?;
-    let cases: [(&str, u64, bool); 6] = [
-        ("", 0, true),
-        ("A", 1, false),
-        ("Ann", 1, true),
-        ("Anna", 2, false),
-        ("Zoë", 3, true),
-        ("Zoz", 3, false),
+    const ROWS: [Cells; 4] = [&[Text("")], &[Text("Ann")], &[Text("Bob")], &[Text("Zoë")]];
+    const CASES: [Case; 6] = [
+        ("no character", &[Text("")], 0, true),
+        ("A", &[Text("A")], 1, false),
+        ("Ann", &[Text("Ann")], 1, true),
+        ("Anna", &[Text("Anna")], 2, false),
+        ("Zoë", &[Text("Zoë")], 3, true),
+        ("Zoz", &[Text("Zoz")], 3, false),
     ];
-    for (name, rank, there) in cases {
-        let key = key_with(alloc, &[ValueRef::Text(name)])?;
-        assert!(&rt; table.locate(key.cells()) == (rank, there), "at {name}");
-    }
-    Ok(())
+    ranks(&rt, rt.alloc(), &[ColumnType::Text], &ROWS, &CASES)
 }
 
 #[test]
 fn ranks_of_truths(rt: HostRuntime) -> Result<(), Fail> {
-    let alloc = rt.alloc();
-    let mut rows = Vec::new(alloc);
-    rows.push(row_with(alloc, &[ValueRef::Bool(true)])?)?;
-    let table = StableTable::build(alloc, keyed(alloc, &[ColumnType::Bool])?, rows)?;
-    assert!(&rt; table.locate(&[Value::Bool(false)]) == (0, false));
-    assert!(&rt; table.locate(&[Value::Bool(true)]) == (0, true));
-    Ok(())
+    const ROWS: [Cells; 1] = [&[Bool(true)]];
+    const CASES: [Case; 2] = [
+        ("false", &[Bool(false)], 0, false),
+        ("true", &[Bool(true)], 0, true),
+    ];
+    ranks(&rt, rt.alloc(), &[ColumnType::Bool], &ROWS, &CASES)
 }
 
 #[test]
 fn ranks_of_pairs(rt: HostRuntime) -> Result<(), Fail> {
-    let alloc = rt.alloc();
-    let mut rows = Vec::new(alloc);
-    rows.push(row_with(alloc, &pair("a", false))?)?;
-    rows.push(row_with(alloc, &pair("a", true))?)?;
-    rows.push(row_with(alloc, &pair("b", true))?)?;
-    let table = StableTable::build(alloc, keyed(alloc, &PAIR)?, rows)?;
-    let cases: [(&str, &str, bool, u64); 6] = [
-        ("below all", "", true, 0),
-        ("at the first", "a", false, 0),
-        ("at the second", "a", true, 1),
-        ("between two names", "aa", false, 2),
-        ("below the last by its truth", "b", false, 2),
-        ("above all", "c", false, 3),
+    const TYPES: [ColumnType; 2] = [ColumnType::Text, ColumnType::Bool];
+    const ROWS: [Cells; 3] = [
+        &[Text("a"), Bool(false)],
+        &[Text("a"), Bool(true)],
+        &[Text("b"), Bool(true)],
     ];
-    for (label, name, last, rank) in cases {
-        let key = key_with(alloc, &pair(name, last))?;
-        assert_eq!(rt; table.rank(&key), rank, "{label}");
-    }
-    Ok(())
+    const CASES: [Case; 6] = [
+        ("below all", &[Text(""), Bool(true)], 0, false),
+        ("at the first", &[Text("a"), Bool(false)], 0, true),
+        ("at the second", &[Text("a"), Bool(true)], 1, true),
+        ("between two names", &[Text("aa"), Bool(false)], 2, false),
+        (
+            "below the last by its truth",
+            &[Text("b"), Bool(false)],
+            2,
+            false,
+        ),
+        ("above all", &[Text("c"), Bool(false)], 3, false),
+    ];
+    ranks(&rt, rt.alloc(), &TYPES, &ROWS, &CASES)
 }
 
 #[test]
 fn ranks_of_three_cells(rt: HostRuntime) -> Result<(), Fail> {
-    let alloc = rt.alloc();
-    let mut rows = Vec::new(alloc);
-    rows.push(row_with(alloc, &three(1, "a", true))?)?;
-    rows.push(row_with(alloc, &three(1, "b", false))?)?;
-    rows.push(row_with(alloc, &three(2, "a", false))?)?;
-    let table = StableTable::build(alloc, keyed(alloc, &FOUR[..3])?, rows)?;
-    let cases: [(&str, i64, &str, bool, u64); 5] = [
-        ("below all", 0, "z", true, 0),
-        ("below by the truth", 1, "a", false, 0),
-        ("between by the text", 1, "aa", false, 1),
-        ("at the last", 2, "a", false, 2),
-        ("above all", 2, "a", true, 3),
+    const TYPES: [ColumnType; 3] = [ColumnType::Int, ColumnType::Text, ColumnType::Bool];
+    const ROWS: [Cells; 3] = [
+        &[Int(1), Text("a"), Bool(true)],
+        &[Int(1), Text("b"), Bool(false)],
+        &[Int(2), Text("a"), Bool(false)],
     ];
-    for (label, first, name, truth, rank) in cases {
-        let key = key_with(alloc, &three(first, name, truth))?;
-        assert_eq!(&rt; table.rank(&key), rank, "{label}");
-    }
-    Ok(())
+    const CASES: [Case; 5] = [
+        ("below all", &[Int(0), Text("z"), Bool(true)], 0, false),
+        (
+            "below by the truth",
+            &[Int(1), Text("a"), Bool(false)],
+            0,
+            false,
+        ),
+        (
+            "between by the text",
+            &[Int(1), Text("aa"), Bool(false)],
+            1,
+            false,
+        ),
+        ("at the last", &[Int(2), Text("a"), Bool(false)], 2, true),
+        ("above all", &[Int(2), Text("a"), Bool(true)], 3, false),
+    ];
+    ranks(&rt, rt.alloc(), &TYPES, &ROWS, &CASES)
 }
 
 #[test]
 fn ranks_of_four_cells(rt: HostRuntime) -> Result<(), Fail> {
-    let alloc = rt.alloc();
-    let mut rows = Vec::new(alloc);
-    rows.push(row_with(alloc, &four(1, "a", false, 5))?)?;
-    rows.push(row_with(alloc, &four(1, "a", true, -5))?)?;
-    rows.push(row_with(alloc, &four(1, "a", true, 0))?)?;
-    let table = StableTable::build(alloc, keyed(alloc, &FOUR)?, rows)?;
-    let cases: [(&str, bool, i64, u64); 6] = [
-        ("below all by the last cell", false, 4, 0),
-        ("at the first", false, 5, 0),
-        ("between by the truth", false, 6, 1),
-        ("below the second", true, -6, 1),
-        ("between the last two", true, -1, 2),
-        ("above all", true, 1, 3),
+    const TYPES: [ColumnType; 4] = [
+        ColumnType::Int,
+        ColumnType::Text,
+        ColumnType::Bool,
+        ColumnType::Int,
     ];
-    for (label, truth, last, rank) in cases {
-        let key = key_with(alloc, &four(1, "a", truth, last))?;
-        assert_eq!(&rt; table.rank(&key), rank, "{label}");
-    }
-    Ok(())
+    const ROWS: [Cells; 3] = [
+        &[Int(1), Text("a"), Bool(false), Int(5)],
+        &[Int(1), Text("a"), Bool(true), Int(-5)],
+        &[Int(1), Text("a"), Bool(true), Int(0)],
+    ];
+    const CASES: [Case; 6] = [
+        (
+            "below all by the last cell",
+            &[Int(1), Text("a"), Bool(false), Int(4)],
+            0,
+            false,
+        ),
+        (
+            "at the first",
+            &[Int(1), Text("a"), Bool(false), Int(5)],
+            0,
+            true,
+        ),
+        (
+            "between by the truth",
+            &[Int(1), Text("a"), Bool(false), Int(6)],
+            1,
+            false,
+        ),
+        (
+            "below the second",
+            &[Int(1), Text("a"), Bool(true), Int(-6)],
+            1,
+            false,
+        ),
+        (
+            "between the last two",
+            &[Int(1), Text("a"), Bool(true), Int(-1)],
+            2,
+            false,
+        ),
+        (
+            "above all",
+            &[Int(1), Text("a"), Bool(true), Int(1)],
+            3,
+            false,
+        ),
+    ];
+    ranks(&rt, rt.alloc(), &TYPES, &ROWS, &CASES)
 }

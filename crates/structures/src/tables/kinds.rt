@@ -13,10 +13,10 @@ fn a_value_stands_after_the_others(rt: HostRuntime) -> Result<(), Fail> {
     column.push(ValueRef::Int(7))?;
     column.push(ValueRef::Int(5))?;
     if column.len() == 2 {
-        assert_eq!(&rt; number(column.get(0)), 7);
-        assert_eq!(&rt; number(column.get(1)), 5);
+        assert!(&rt; number(column.get(0)) == 7);
+        assert!(&rt; number(column.get(1)) == 5);
     }
-    assert_eq!(&rt; column.len(), 2);
+    assert!(&rt; column.len() == 2);
     assert!(&rt; column.column_type() == ColumnType::Int);
     Ok(())
 }
@@ -29,9 +29,9 @@ fn a_block_is_taken_whole(rt: HostRuntime) -> Result<(), Fail> {
     let mut column = Column::new(rt.alloc(), ColumnType::Int);
     column.push_block(block)?;
     if column.len() == 2 {
-        assert_eq!(&rt; number(column.get(1)), 9);
+        assert!(&rt; number(column.get(1)) == 9);
     }
-    assert_eq!(&rt; column.len(), 2);
+    assert!(&rt; column.len() == 2);
     Ok(())
 }
 

@@ -30,10 +30,10 @@ fn depths(rt: &(impl Abort + AllocGlobal), count: u32, depth: usize) -> Result<(
     }
     assert!(rt; all.len() < 1000);
     let made = CountedTree::from_sorted(alloc, all)?;
-    assert_eq!(rt; up.depth(), depth);
-    assert_eq!(rt; down.depth(), depth);
-    assert_eq!(rt; made.depth(), depth);
-    assert_eq!(rt; made.len(), count as usize);
+    assert!(rt; up.depth() == depth);
+    assert!(rt; down.depth() == depth);
+    assert!(rt; made.depth() == depth);
+    assert!(rt; made.len() == count as usize);
     let kept = up.copy()?;
     for _ in 0..count {
         let len = up.len();
@@ -41,11 +41,11 @@ fn depths(rt: &(impl Abort + AllocGlobal), count: u32, depth: usize) -> Result<(
         assert!(rt; len < 1000);
         up.remove(alloc, 0)?;
     }
-    assert_eq!(rt; up.len(), 0);
-    assert_eq!(rt; up.depth(), 1);
-    assert_eq!(rt; up.total(), 0);
-    assert_eq!(rt; kept.len(), count as usize);
-    assert_eq!(rt; kept.depth(), depth);
+    assert!(rt; up.len() == 0);
+    assert!(rt; up.depth() == 1);
+    assert!(rt; up.total() == 0);
+    assert!(rt; kept.len() == count as usize);
+    assert!(rt; kept.depth() == depth);
     Ok(())
 }
 

@@ -3,10 +3,11 @@
 ghost use Rattle.std.specs.Prelude.{◌≡◌};
 
 use super::changed;
-use crate::shown::entries_text;
+use crate::assertions::{assert_text, assert_text_at};
 use delta::{DeltaTree, KeyIndex, Place};
-use fixtures::{Step, copy_entry, key};
+use fixtures::{Step, copy_entry, entries_text, key};
 use std::alloc::Global;
+use std::process::Abort;
 use std::test::Fail;
 use values::{NoMemory, ValueRef};
 
@@ -67,109 +68,177 @@ fn a_tree_with_no_entries_has_none_anywhere(rt: HostRuntime) -> Result<(), Fail>
     assert!(rt; tree.entries_at(0).next().is_none());
     assert!(rt; tree.iter_from(0).next().is_none());
     assert!(rt; tree.entry(0).is_none());
-    assert_eq!(rt; tree.base_index(3), 0);
+    assert!(rt; tree.base_index(3) == 0);
     assert!(rt; tree.copy()?.is_empty());
     assert!(rt; made_again(rt.alloc(), &tree)?.is_empty());
     Ok(())
 }
 
+/// That the entries at a SID are these.
+fn assert_entries_at(
+    rt: &impl Abort,
+    alloc: Global,
+    tree: &DeltaTree,
+    sid: u64,
+    want: &str,
+) -> Result<(), NoMemory> {
+    let text = entries_text(alloc, tree.entries_at(sid))?;
+    assert_text_at(rt, text.as_str(), want, sid);
+    Ok(())
+}
+
 #[test]
 fn the_entries_at_a_sid_are_found(rt: HostRuntime) -> Result<(), Fail> {
-    let alloc = rt.alloc();
-    let Some(tree) = changed(&rt, alloc, MIXED.as_slice())? else {
-        return Ok(());
-    };
-    for (sid, there) in [
+    const CASES: [(u64, &str); 5] = [
         (0, ""),
         (1, "1+20,Bea,8 1-20"),
         (2, "2:1=Cy 2:2=7"),
         (3, "3+40,Gus,9"),
         (4, ""),
-    ] {
-        let text = entries_text(alloc, tree.entries_at(sid))?;
-        assert_eq!(rt; text.as_str(), there, "at {sid}");
+    ];
+    let Some(tree) = changed(&rt, rt.alloc(), MIXED.as_slice())? else {
+        return Ok(());
+    };
+    for (sid, want) in &CASES {
+        assert_entries_at(&rt, rt.alloc(), &tree, *sid, *want)?;
     }
+    Ok(())
+}
+
+/// That the entries from a place on are these.
+fn assert_entries_from(
+    rt: &impl Abort,
+    alloc: Global,
+    tree: &DeltaTree,
+    index: usize,
+    want: &str,
+) -> Result<(), NoMemory> {
+    assert!(rt; index <= tree.len());
+    let text = entries_text(alloc, tree.iter_from(index))?;
+    assert_text_at(rt, text.as_str(), want, index as u64);
     Ok(())
 }
 
 #[test]
 fn the_entries_from_a_place_on_follow_those_before_it(rt: HostRuntime) -> Result<(), Fail> {
-    let alloc = rt.alloc();
-    let Some(tree) = changed(&rt, alloc, MIXED.as_slice())? else {
-        return Ok(());
-    };
-    for (index, rest) in [
+    const CASES: [(usize, &str); 4] = [
         (0, "1+20,Bea,8 1-20 2:1=Cy 2:2=7 3+40,Gus,9"),
         (1, "1-20 2:1=Cy 2:2=7 3+40,Gus,9"),
         (4, "3+40,Gus,9"),
         (5, ""),
-    ] {
-        assert!(rt; index <= tree.len());
-        let text = entries_text(alloc, tree.iter_from(index))?;
-        assert_eq!(rt; text.as_str(), rest, "from {index}");
+    ];
+    let Some(tree) = changed(&rt, rt.alloc(), MIXED.as_slice())? else {
+        return Ok(());
+    };
+    for (index, want) in &CASES {
+        assert_entries_from(&rt, rt.alloc(), &tree, *index, *want)?;
     }
-    for (index, sid) in [
+    Ok(())
+}
+
+#[test]
+fn an_entry_is_found_by_its_place(rt: HostRuntime) -> Result<(), Fail> {
+    const CASES: [(usize, Option<u64>); 6] = [
         (0, Some(1)),
         (1, Some(1)),
         (2, Some(2)),
         (3, Some(2)),
         (4, Some(3)),
         (5, None),
-    ] {
-        let found = tree.entry(index).map(|entry| entry.sid);
-        assert_eq!(rt; found, sid, "at {index}");
+    ];
+    let Some(tree) = changed(&rt, rt.alloc(), MIXED.as_slice())? else {
+        return Ok(());
+    };
+    for (index, sid) in &CASES {
+        assert!(rt;
+            tree.entry(*index).map(|entry| entry.sid) == *sid,
+            "at {index}"
+        );
     }
     Ok(())
 }
 
 #[test]
 fn a_base_rows_changes_stand_past_the_inserts_at_its_sid(rt: HostRuntime) -> Result<(), Fail> {
+    const CASES: [(u64, usize); 5] = [(0, 0), (1, 1), (2, 2), (3, 5), (4, 5)];
     let Some(tree) = changed(&rt, rt.alloc(), MIXED.as_slice())? else {
         return Ok(());
     };
-    for (sid, index) in [(0, 0), (1, 1), (2, 2), (3, 5), (4, 5)] {
-        assert_eq!(rt; tree.base_index(sid), index, "at {sid}");
+    for (sid, index) in &CASES {
+        assert!(rt; tree.base_index(*sid) == *index, "at {sid}");
     }
+    Ok(())
+}
+
+/// That a tree has the mixed entries.
+fn assert_mixed(
+    rt: &impl Abort,
+    alloc: Global,
+    tree: &DeltaTree,
+    label: &str,
+) -> Result<(), NoMemory> {
+    const ALL: &str = "1+20,Bea,8 1-20 2:1=Cy 2:2=7 3+40,Gus,9";
+    let text = entries_text(alloc, tree.iter())?;
+    assert_text(rt, text.as_str(), ALL, label);
+    assert!(rt; tree.len() == 5, "{label}");
+    assert!(rt; tree.total() == 1, "{label}");
     Ok(())
 }
 
 #[test]
 fn a_copy_and_a_tree_made_again_have_the_same_entries(rt: HostRuntime) -> Result<(), Fail> {
-    const ALL: &str = "1+20,Bea,8 1-20 2:1=Cy 2:2=7 3+40,Gus,9";
     let alloc = rt.alloc();
     let Some(tree) = changed(&rt, alloc, MIXED.as_slice())? else {
         return Ok(());
     };
-    for (label, other) in [
-        ("copied", tree.copy()?),
-        ("made again", made_again(alloc, &tree)?),
-    ] {
-        let text = entries_text(alloc, other.iter())?;
-        assert_eq!(rt; text.as_str(), ALL, "{label}");
-        assert_eq!(rt; other.len(), 5, "{label}");
-        assert_eq!(rt; other.total(), 1, "{label}");
-    }
+    assert_mixed(&rt, alloc, &tree.copy()?, "copied")?;
+    assert_mixed(&rt, alloc, &made_again(alloc, &tree)?, "made again")?;
+    Ok(())
+}
+
+/// That a tree finds a key at a SID so.
+fn assert_key(
+    rt: &impl Abort,
+    alloc: Global,
+    tree: &DeltaTree,
+    label: &str,
+    (sid, id, index, rid, found): KeyCase,
+) -> Result<(), NoMemory> {
+    assert!(rt; sid <= MOST);
+    let key = key(alloc, id)?;
+    let there = KeyIndex { index, rid, found };
+    assert!(rt;
+        tree.find_key(sid, key.cells()) == there,
+        "{label}: {id} at {sid}"
+    );
     Ok(())
 }
 
 #[test]
 fn a_tree_with_no_entries_moves_nothing(rt: HostRuntime) -> Result<(), Fail> {
-    let alloc = rt.alloc();
-    let tree = DeltaTree::new(alloc, 1);
+    let tree = DeltaTree::new(rt.alloc(), 1);
     for at in [0, 7, MOST] {
         assert!(rt; at <= MOST);
-        assert_eq!(rt; tree.shift_before(at), 0, "at {at}");
-        assert_eq!(rt; tree.find_rid(at), Place::Base(at), "at {at}");
-        let there = KeyIndex {
-            index: 0,
-            rid: at,
-            found: false,
-        };
-        assert_eq!(rt;
-            tree.find_key(at, key(alloc, 15)?.cells()),
-            there,
-            "at {at}"
-        );
+        assert!(rt; tree.shift_at(at) == 0, "at {at}");
+        assert!(rt; tree.find_row(at) == Place::Base(at), "at {at}");
+        assert_key(&rt, rt.alloc(), &tree, "no entries", (at, 15, 0, at, false))?;
+    }
+    Ok(())
+}
+
+/// That a tree of these changes moves what stands at each SID so far.
+fn assert_shifts(
+    rt: &impl Abort,
+    alloc: Global,
+    label: &str,
+    steps: &[(Step, &str)],
+    cases: &[(u64, i64)],
+) -> Result<(), Fail> {
+    let Some(tree) = changed(rt, alloc, steps)? else {
+        return Ok(());
+    };
+    for (sid, shift) in cases {
+        assert!(rt; tree.shift_at(*sid) == *shift, "{label} at {sid}");
     }
     Ok(())
 }
@@ -179,17 +248,25 @@ fn entries_move_what_stands_at_greater_sids(rt: HostRuntime) -> Result<(), Fail>
     const READ_SHIFTS: [(u64, i64); 6] = [(0, 0), (1, 0), (2, 1), (3, 0), (4, 0), (MOST, 0)];
     const WRITE_SHIFTS: [(u64, i64); 6] = [(0, 0), (1, 0), (2, 0), (3, 0), (4, 1), (MOST, 1)];
     const TRANS_SHIFTS: [(u64, i64); 6] = [(0, 0), (1, -1), (3, -1), (4, -1), (5, 0), (MOST, 0)];
-    for (label, steps, cases) in [
-        ("read", READ, READ_SHIFTS),
-        ("write", WRITE, WRITE_SHIFTS),
-        ("trans", TRANS, TRANS_SHIFTS),
-    ] {
-        let Some(tree) = changed(&rt, rt.alloc(), steps.as_slice())? else {
-            return Ok(());
-        };
-        for (sid, shift) in cases {
-            assert_eq!(rt; tree.shift_before(sid), shift, "{label} at {sid}");
-        }
+    assert_shifts(&rt, rt.alloc(), "read", &READ, &READ_SHIFTS)?;
+    assert_shifts(&rt, rt.alloc(), "write", &WRITE, &WRITE_SHIFTS)?;
+    assert_shifts(&rt, rt.alloc(), "trans", &TRANS, &TRANS_SHIFTS)
+}
+
+/// That a tree of these changes has at each position what stands there.
+fn assert_places(
+    rt: &impl Abort,
+    alloc: Global,
+    label: &str,
+    steps: &[(Step, &str)],
+    cases: &[(u64, Place)],
+) -> Result<(), Fail> {
+    let Some(tree) = changed(rt, alloc, steps)? else {
+        return Ok(());
+    };
+    for (rid, place) in cases {
+        assert!(rt; *rid <= MOST);
+        assert!(rt; tree.find_row(*rid) == *place, "{label} at {rid}");
     }
     Ok(())
 }
@@ -220,18 +297,24 @@ fn each_position_has_its_place(rt: HostRuntime) -> Result<(), Fail> {
         (4, Place::Base(4)),
         (MOST, Place::Base(MOST)),
     ];
-    for (label, steps, cases) in [
-        ("read", READ, READ_PLACES),
-        ("write", WRITE, WRITE_PLACES),
-        ("trans", TRANS, TRANS_PLACES),
-    ] {
-        let Some(tree) = changed(&rt, rt.alloc(), steps.as_slice())? else {
-            return Ok(());
-        };
-        for (rid, index) in cases {
-            assert!(rt; rid <= MOST);
-            assert_eq!(rt; tree.find_rid(rid), index, "{label} at {rid}");
-        }
+    assert_places(&rt, rt.alloc(), "read", &READ, &READ_PLACES)?;
+    assert_places(&rt, rt.alloc(), "write", &WRITE, &WRITE_PLACES)?;
+    assert_places(&rt, rt.alloc(), "trans", &TRANS, &TRANS_PLACES)
+}
+
+/// That a tree of these changes finds each key so.
+fn assert_keys(
+    rt: &impl Abort,
+    alloc: Global,
+    label: &str,
+    steps: &[(Step, &str)],
+    cases: &[KeyCase],
+) -> Result<(), Fail> {
+    let Some(tree) = changed(rt, alloc, steps)? else {
+        return Ok(());
+    };
+    for case in cases {
+        assert_key(rt, alloc, &tree, label, *case)?;
     }
     Ok(())
 }
@@ -262,24 +345,7 @@ fn a_key_has_its_place_among_the_inserts_at_a_sid(rt: HostRuntime) -> Result<(),
         (4, 35, 1, 3, true),
         (4, 40, 2, 4, false),
     ];
-    let alloc = rt.alloc();
-    for (label, steps, cases) in [
-        ("read", READ, READ_KEYS),
-        ("write", WRITE, WRITE_KEYS),
-        ("trans", TRANS, TRANS_KEYS),
-    ] {
-        let Some(tree) = changed(&rt, alloc, steps.as_slice())? else {
-            return Ok(());
-        };
-        for (sid, id, index, rid, found) in cases {
-            assert!(rt; sid <= MOST);
-            let there = KeyIndex { index, rid, found };
-            assert_eq!(rt;
-                tree.find_key(sid, key(alloc, id)?.cells()),
-                there,
-                "{label}: {id} at {sid}"
-            );
-        }
-    }
-    Ok(())
+    assert_keys(&rt, rt.alloc(), "read", &READ, &READ_KEYS)?;
+    assert_keys(&rt, rt.alloc(), "write", &WRITE, &WRITE_KEYS)?;
+    assert_keys(&rt, rt.alloc(), "trans", &TRANS, &TRANS_KEYS)
 }

@@ -1,0 +1,284 @@
+//! Each kind of write, where a growth is refused in it: nothing changes, and the same write succeeds when it is made
+//! again.
+//!
+//! One growth of a run is refused under `rt try --test --fail-alloc N`, for N from 1 on. Where it is one of a write, the
+//! test ends well; where it is one of what the test makes for itself, the test ends with that error. What a transaction
+//! shows is compared cell by cell and takes no memory.
+use super::{answer, opened};
+use fixtures::{Item, base_table, item, key};
+use model::{Change, Write};
+use std::alloc::Global;
+use std::process::Abort;
+use std::test::Fail;
+use txn::{RowView, Txn, WriteFault, WriteReply};
+use values::{Key, NoMemory, Text, Value, ValueRef};
+
+/// A change of a tree as a test names it.
+#[derive(Clone, Copy)]
+enum Kind {
+    Inserts(Item),
+    Deletes(i64),
+    Modifies(usize, ValueRef<'static>),
+}
+
+/// What a transaction shows.
+#[derive(Clone, Copy)]
+struct Shown {
+    entries: &'static [(u64, Kind)],
+    rows: &'static [Item],
+}
+
+const ANN: Item = (10, "Ann", 1);
+
+const BOB: Item = (20, "Bob", 2);
+
+const BEN: Item = (20, "Ben", 2);
+
+const CID: Item = (30, "Cid", 3);
+
+const DEE: Item = (25, "Dee", 4);
+
+const DOT: Item = (25, "Dot", 4);
+
+const NEW_NAME: ValueRef<'static> = ValueRef::Text("Ben");
+
+/// The replies of the writes here, in turn.
+const REPLIES: [WriteReply; 8] = [
+    WriteReply::Done,
+    WriteReply::Duplicate,
+    WriteReply::Done,
+    WriteReply::Done,
+    WriteReply::Done,
+    WriteReply::Done,
+    WriteReply::Done,
+    WriteReply::Missing,
+];
+
+/// The first row deleted.
+const FIRST: (u64, Kind) = (0, Kind::Deletes(10));
+
+/// The second row with another name.
+const RENAMED: (u64, Kind) = (1, Kind::Modifies(1, NEW_NAME));
+
+/// A row put in before the third, and that row with another name.
+const INSERTED: (u64, Kind) = (2, Kind::Inserts(DEE));
+
+const CHANGED: (u64, Kind) = (2, Kind::Inserts(DOT));
+
+/// The third row deleted.
+const LAST: (u64, Kind) = (2, Kind::Deletes(30));
+
+/// What is shown before the first of these writes, and after each.
+const STATES: [Shown; 9] = [
+    Shown {
+        entries: &[],
+        rows: &[ANN, BOB, CID],
+    },
+    Shown {
+        entries: &[INSERTED],
+        rows: &[ANN, BOB, DEE, CID],
+    },
+    Shown {
+        entries: &[INSERTED],
+        rows: &[ANN, BOB, DEE, CID],
+    },
+    Shown {
+        entries: &[FIRST, INSERTED],
+        rows: &[BOB, DEE, CID],
+    },
+    Shown {
+        entries: &[FIRST, RENAMED, INSERTED],
+        rows: &[BEN, DEE, CID],
+    },
+    Shown {
+        entries: &[FIRST, RENAMED, CHANGED],
+        rows: &[BEN, DOT, CID],
+    },
+    Shown {
+        entries: &[FIRST, RENAMED, CHANGED, LAST],
+        rows: &[BEN, DOT],
+    },
+    Shown {
+        entries: &[FIRST, RENAMED, LAST],
+        rows: &[BEN],
+    },
+    Shown {
+        entries: &[FIRST, RENAMED, LAST],
+        rows: &[BEN],
+    },
+];
+
+/// The keys that a test asks for: those of all rows that are ever there, and one that never is.
+const IDS: [i64; 5] = [10, 20, 25, 30, 99];
+
+fn is_row(view: &RowView<'_>, row: Item) -> bool {
+    view.width() == 3
+        && view.value(0) == ValueRef::Int(row.0)
+        && view.value(1) == ValueRef::Text(row.1)
+        && view.value(2) == ValueRef::Int(row.2)
+}
+
+fn are_cells(cells: &[Value], row: Item) -> bool {
+    cells.len() == 3
+        && cells[0].as_ref() == ValueRef::Int(row.0)
+        && cells[1].as_ref() == ValueRef::Text(row.1)
+        && cells[2].as_ref() == ValueRef::Int(row.2)
+}
+
+fn is_change(change: &Change, kind: Kind) -> bool {
+    match (change, kind) {
+        (Change::Ins(row), Kind::Inserts(named)) => are_cells(row.cells(), named),
+        (Change::Del(key), Kind::Deletes(id)) => {
+            key.cells().len() == 1 && key.cells()[0].as_ref() == ValueRef::Int(id)
+        }
+        (Change::Mod(col, value), Kind::Modifies(other, wanted)) => {
+            *col == other && value.as_ref() == wanted
+        }
+        _ => false,
+    }
+}
+
+/// Whether these are the entries of its tree.
+fn has_entries(txn: &Txn, entries: &[(u64, Kind)]) -> bool {
+    txn.tree().len() == entries.len()
+        && txn.tree().iter().zip(entries.iter()).all(|(entry, (sid, kind))| entry.sid == *sid
+            && is_change(&entry.change, *kind))
+}
+
+/// Whether so many writes are recorded, each with its reply.
+fn has_replies(txn: &Txn, count: usize) -> bool {
+    txn.writes().len() == count
+        && txn
+            .writes()
+            .iter()
+            .zip(REPLIES.iter())
+            .all(|(write, reply)| write.1 == *reply)
+}
+
+/// Whether a scan of all and each row by its place give these rows.
+fn has_rows(txn: &Txn, rows: &[Item]) -> bool {
+    let mut place = 0_usize;
+    for view in txn.scan(0, u64::MAX) {
+        match rows.get(place) {
+            Some(row) if is_row(&view, *row) => place = place.wrapping_add(1),
+            _ => return false,
+        }
+    }
+    place == rows.len() && txn.len() == place as u64
+}
+
+/// Whether the row of the key is that of the number among these rows, or isn't there in both.
+fn has_row(txn: &Txn, key: &Key, id: i64, rows: &[Item]) -> bool {
+    match (txn.get(key), rows.iter().find(|row| row.0 == id)) {
+        (Some(view), Some(row)) => is_row(&view, *row),
+        (None, None) => true,
+        _ => false,
+    }
+}
+
+/// Whether the transaction shows this after so many writes, and nothing else.
+fn is_shown(txn: &Txn, keys: &[Key], count: usize, want: &Shown) -> bool {
+    has_replies(txn, count)
+        && has_entries(txn, want.entries)
+        && has_rows(txn, want.rows)
+        && keys
+            .iter()
+            .zip(IDS.iter())
+            .all(|(key, id)| has_row(txn, key, *id, want.rows))
+}
+
+/// Makes a write, and where a growth is refused makes it again: nothing has changed then. So many were made before it.
+fn make(
+    rt: &impl Abort,
+    txn: &mut Txn,
+    keys: &[Key],
+    count: usize,
+    (write, again): (Write, Write),
+    (before, after): (&Shown, &Shown),
+) {
+    let reply = match answer(txn, write) {
+        Err(WriteFault::NoMemory) => {
+            assert!(rt;
+                is_shown(txn, keys, count, before),
+                "write {count} is refused"
+            );
+            answer(txn, again)
+        }
+        answered => answered,
+    };
+    let is_due = matches!((reply, REPLIES.get(count)), (Ok(found), Some(due)) if found == *due);
+    assert!(rt; is_due, "the reply to write {count}");
+    assert!(rt;
+        is_shown(txn, keys, count.wrapping_add(1), after),
+        "after write {count}"
+    );
+}
+
+fn inserted(alloc: Global, row: Item) -> Result<Write, NoMemory> {
+    Ok(Write::Insert(item(alloc, row.0, row.1, row.2)?))
+}
+
+fn deleted(alloc: Global, id: i64) -> Result<Write, NoMemory> {
+    Ok(Write::Delete(key(alloc, id)?))
+}
+
+/// Another name for the row of a key.
+fn renamed(alloc: Global, id: i64, name: &str) -> Result<Write, NoMemory> {
+    let name = Text::new(String::from_str(alloc, name)?);
+    Ok(Write::Set(key(alloc, id)?, 1, Value::Text(name)))
+}
+
+/// The writes here: an insert, one of a key that is there, deletes and sets of rows of the version and of the
+/// transaction's own, and last a delete of a key that is gone.
+fn planned(alloc: Global, number: usize) -> Result<Write, NoMemory> {
+    match number {
+        0 => inserted(alloc, DEE),
+        1 => inserted(alloc, BEN),
+        2 => deleted(alloc, 10),
+        3 => renamed(alloc, 20, "Ben"),
+        4 => renamed(alloc, 25, "Dot"),
+        5 => deleted(alloc, 30),
+        _ => deleted(alloc, 25),
+    }
+}
+
+/// Each of those writes twice.
+fn planned_twice(alloc: Global) -> Result<Vec<(Write, Write)>, NoMemory> {
+    let mut writes = Vec::new(alloc);
+    for number in 0..REPLIES.len() {
+        writes.push((planned(alloc, number)?, planned(alloc, number)?))?;
+    }
+    Ok(writes)
+}
+
+/// The keys that are asked for.
+fn all_keys(alloc: Global) -> Result<Vec<Key>, NoMemory> {
+    let mut keys = Vec::new(alloc);
+    for id in &IDS {
+        keys.push(key(alloc, *id)?)?;
+    }
+    Ok(keys)
+}
+
+/// Makes the writes in turn, and looks at what is shown before and after each.
+fn make_all(rt: &impl Abort, txn: &mut Txn, keys: &[Key], writes: Vec<(Write, Write)>) {
+    let steps = STATES.iter().zip(STATES.iter().skip(1));
+    for (count, (made, around)) in writes.into_iter().zip(steps).enumerate() {
+        make(rt, txn, keys, count, made, around);
+    }
+}
+
+#[test]
+fn a_refused_growth_changes_nothing_and_the_write_succeeds_again(
+    rt: HostRuntime,
+) -> Result<(), Fail> {
+    let alloc = rt.alloc();
+    let keys = all_keys(alloc)?;
+    let writes = planned_twice(alloc)?;
+    let mut txn = opened(&rt, alloc, base_table(alloc)?)?;
+    make_all(&rt, &mut txn, keys.as_slice(), writes);
+    let parts = txn.into_parts();
+    assert!(&rt; parts.writes.len() == 8);
+    assert!(&rt; parts.tree.len() == 3);
+    Ok(())
+}

@@ -1,0 +1,23 @@
+//! What a test looks at, each in a function of its own, so that a test stays short: its proof costs more than in proportion
+//! to its length.
+use std::process::Abort;
+
+/// That the text is the one wanted.
+pub(crate) fn assert_text(rt: &impl Abort, found: &str, want: &str, at: &str) {
+    assert_eq!(rt; found, want, "{at}");
+}
+
+/// That the text is the one wanted, at a place.
+pub(crate) fn assert_text_at(rt: &impl Abort, found: &str, want: &str, place: u64) {
+    assert_eq!(rt; found, want, "at {place}");
+}
+
+/// That there are so many.
+pub(crate) fn assert_count(rt: &impl Abort, found: u64, want: u64, at: &str) {
+    assert_eq!(rt; found, want, "{at}");
+}
+
+/// That it holds.
+pub(crate) fn assert_holds(rt: &impl Abort, holds: bool, at: &str) {
+    assert!(rt; holds, "{at}");
+}
