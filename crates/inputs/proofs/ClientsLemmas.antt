@@ -15,7 +15,7 @@ use Rattle.inputs.specs.Script.{with_client, call_of, calls_of, with_clients, sc
 use Rattle.inputs.specs.declared.call.Call.{Call}
 use Rattle.inputs.specs.declared.call.ClientCall.{ClientCall}
 use Rattle.inputs.specs.declared.fault.ScriptFault.{ScriptFault}
-use Rattle.inputs.specs.declared.client.TheConstants.{MAX_SCRIPT_CLIENTS}
+use Rattle.values.specs.declared.limits.TheConstants.{MAX_CLIENTS}
 use Rattle.inputs.proofs.CellLemmas.{lt_true, lt_false, le_true, le_false}
 use Rattle.inputs.proofs.ReadLemmas.{then_cons-parts}
 
@@ -52,8 +52,8 @@ clients_with-longer name clients = elim (cases_lt (number_of name clients) (leng
       rw (lt_false (number_of name clients) (length clients) l) (omega (arith, longer))
 ]
 
-clients_with-few : (name : List ℕ) (clients : List (List ℕ)) → number_of name clients < MAX_SCRIPT_CLIENTS → length clients ≤ MAX_SCRIPT_CLIENTS
-    → length (clients_with name clients) ≤ MAX_SCRIPT_CLIENTS
+clients_with-few : (name : List ℕ) (clients : List (List ℕ)) → number_of name clients < MAX_CLIENTS → length clients ≤ MAX_CLIENTS
+    → length (clients_with name clients) ≤ MAX_CLIENTS
 clients_with-few name clients below few = elim (cases_lt (number_of name clients) (length clients)) [
   | inl l ↦ rw (lt_true (number_of name clients) (length clients) l) few
   | inr l ↦
@@ -75,12 +75,12 @@ clients_of-longer clients (fields ∷ records) =
 -- ---- one record
 
 client_of-parts : (clients : List (List ℕ)) (number : ℕ) (name : List ℕ) (rest : Fields) (client : ℕ) → client_of clients number (name ∷ rest) ≡ Ok client
-    → (number_of name clients ≡ client) × (number_of name clients < MAX_SCRIPT_CLIENTS)
+    → (number_of name clients ≡ client) × (number_of name clients < MAX_CLIENTS)
 client_of-parts clients number name rest client e = elim (cases_Bool (is_client name)) [
   | inr f ↦ cc (rw f at e)
-  | inl t ↦ elim (cases_lt (number_of name clients) MAX_SCRIPT_CLIENTS) [
-    | inl l ↦ (cc (rw (t, le_false MAX_SCRIPT_CLIENTS (number_of name clients) l) at e), l)
-    | inr l ↦ cc (rw (t, le_true MAX_SCRIPT_CLIENTS (number_of name clients) l) at e)
+  | inl t ↦ elim (cases_lt (number_of name clients) MAX_CLIENTS) [
+    | inl l ↦ (cc (rw (t, le_false MAX_CLIENTS (number_of name clients) l) at e), l)
+    | inr l ↦ cc (rw (t, le_true MAX_CLIENTS (number_of name clients) l) at e)
   ]
 ]
 
@@ -91,8 +91,8 @@ client_of-below clients number (name ∷ rest) client e =
     let below = clients_with-below name clients in
     omega (arith, parts.0, below)
 
-client_of-few : (clients : List (List ℕ)) (number : ℕ) (fields : Fields) (client : ℕ) → client_of clients number fields ≡ Ok client → length clients ≤ MAX_SCRIPT_CLIENTS
-    → length (clients_after clients fields) ≤ MAX_SCRIPT_CLIENTS
+client_of-few : (clients : List (List ℕ)) (number : ℕ) (fields : Fields) (client : ℕ) → client_of clients number fields ≡ Ok client → length clients ≤ MAX_CLIENTS
+    → length (clients_after clients fields) ≤ MAX_CLIENTS
 client_of-few clients number [] client e few = few
 client_of-few clients number (name ∷ rest) client e few = clients_with-few name clients (client_of-parts clients number name rest client e).1 few
 
@@ -124,7 +124,7 @@ calls_of-below schema clients number (fields ∷ records) calls e =
     (calls_of-below schema (clients_after clients fields) (suc number) records parts.1 parts.3))
 
 pub calls_of-few : (schema : Columns) (clients : List (List ℕ)) (number : ℕ) (records : List Fields) (calls : List ClientCall) → calls_of schema clients number records ≡ Ok calls
-    → length clients ≤ MAX_SCRIPT_CLIENTS → length (clients_of clients records) ≤ MAX_SCRIPT_CLIENTS
+    → length clients ≤ MAX_CLIENTS → length (clients_of clients records) ≤ MAX_CLIENTS
 calls_of-few schema clients number [] calls e few = few
 calls_of-few schema clients number (fields ∷ records) calls e few =
     let parts = then_cons-parts (call_of schema clients number fields) (calls_of schema (clients_after clients fields) (suc number) records) calls e in
@@ -149,7 +149,7 @@ script_of-below schema records clients calls e =
     let parts = script_of-parts schema records clients calls e in
     rw parts.0 at (calls_of-below schema [] 1 records calls parts.1)
 
-pub script_of-few : (schema : Columns) (records : List Fields) (clients : List (List ℕ)) (calls : List ClientCall) → script_of schema records ≡ Ok (clients, calls) → length clients ≤ MAX_SCRIPT_CLIENTS
+pub script_of-few : (schema : Columns) (records : List Fields) (clients : List (List ℕ)) (calls : List ClientCall) → script_of schema records ≡ Ok (clients, calls) → length clients ≤ MAX_CLIENTS
 script_of-few schema records clients calls e =
     let parts = script_of-parts schema records clients calls e in
     rw parts.0 at (calls_of-few schema [] 1 records calls parts.1 (omega arith))

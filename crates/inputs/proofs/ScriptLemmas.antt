@@ -14,6 +14,7 @@ use Rattle.values.specs.declared.value.Value.{Value}
 use Rattle.inputs.specs.Cells.{value_of, prepend, place_from}
 use Rattle.inputs.specs.Reading.{Fields, AreRecordsOf, IsReading}
 use Rattle.inputs.specs.Calls.{verb_of, arguments_of, values_of, set_cell, set_column, typed_call, asked}
+use Rattle.values.specs.declared.limits.TheConstants.{MAX_CLIENTS}
 use Rattle.inputs.specs.Clients.{number_of, is_client, client_of, clients_after, clients_of}
 use Rattle.inputs.specs.Script.{call_of, calls_of, script_of}
 use Rattle.inputs.specs.declared.call.ClientCall.{ClientCall}
@@ -53,11 +54,11 @@ module _ (clients : List (List ℕ)) (number : ℕ) (fields rest : Fields) (name
   pub client_of-bad : is_client name ≡ false → client_of clients number fields ≡ Err (BadClient number)
   client_of-bad h = rw (e, h) refl
 
-  pub client_of-too_many : is_client name ≡ true → 1 ≤ number_of name clients → client_of clients number fields ≡ Err (TooManyClients number)
-  client_of-too_many h m = rw (e, h, le_true 1 (number_of name clients) m) refl
+  pub client_of-too_many : is_client name ≡ true → MAX_CLIENTS ≤ number_of name clients → client_of clients number fields ≡ Err (TooManyClients number)
+  client_of-too_many h m = rw (e, h, le_true MAX_CLIENTS (number_of name clients) m) refl
 
-  pub client_of-ok : is_client name ≡ true → number_of name clients < 1 → client_of clients number fields ≡ Ok (number_of name clients)
-  client_of-ok h m = rw (e, h, le_false 1 (number_of name clients) m) refl
+  pub client_of-ok : is_client name ≡ true → number_of name clients < MAX_CLIENTS → client_of clients number fields ≡ Ok (number_of name clients)
+  client_of-ok h m = rw (e, h, le_false MAX_CLIENTS (number_of name clients) m) refl
 
   pub clients_after-known : number_of name clients < length clients → clients_after clients fields ≡ clients
   clients_after-known h = rw (e, lt_true (number_of name clients) (length clients) h) refl

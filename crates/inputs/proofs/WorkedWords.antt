@@ -3,6 +3,11 @@ use Rattle.std.proofs.Common.{◌≡◌, ◌∷◌, [], List, Some, None, true, 
 use Rattle.clap.specs.Words.{Text, takes}
 use Rattle.clap.proofs.OnLiterals.{clap_on_literals}
 use Rattle.inputs.specs.Words.{usage, word_for}
+use Rattle.inputs.specs.declared.words.TheConstants.{RECENT_COMMITS}
+
+-- how many recent commits are kept where nothing is said
+recent_commits : RECENT_COMMITS ≡ 64
+recent_commits = refl
 
 -- `pdt run t.csv s.csv`, and the same with `--limit 4`
 abbrev run_words : List Text
@@ -45,3 +50,25 @@ word_for-limit = refl
 word_for-no_limit : word_for run_words (codes "limit") ≡ None
 unfolding clap_on_literals
 word_for-no_limit = refl
+
+-- `pdt run t.csv s.csv --recent 2 --conflicts row`
+abbrev option_words : Text → List Text
+option_words recent =
+    codes "pdt" ∷ codes "run" ∷ codes "t.csv" ∷ codes "s.csv" ∷ codes "--recent" ∷ recent ∷ codes "--conflicts" ∷ codes "row" ∷ []
+
+takes-options : takes usage (option_words (codes "2")) ≡ true
+unfolding clap_on_literals
+takes-options = refl
+
+-- of the recent commits 65,536 are the most
+takes-recent_past : takes usage (option_words (codes "65537")) ≡ false
+unfolding clap_on_literals
+takes-recent_past = refl
+
+word_for-recent : word_for (option_words (codes "2")) (codes "recent") ≡ Some (codes "2")
+unfolding clap_on_literals
+word_for-recent = refl
+
+word_for-conflicts : word_for (option_words (codes "2")) (codes "conflicts") ≡ Some (codes "row")
+unfolding clap_on_literals
+word_for-conflicts = refl

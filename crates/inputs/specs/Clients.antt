@@ -6,8 +6,7 @@ use Rattle.inputs.specs.Cells.{place_from}
 use Rattle.inputs.specs.Reading.{Fields}
 use Rattle.inputs.specs.declared.fault.ScriptFault.{ScriptFault}
 use Rattle.inputs.specs.declared.fault.ScriptFault.TheVariants.{BadClient, TooManyClients}
-use Rattle.values.specs.declared.limits.TheConstants.{MAX_CLIENT_BYTES}
-use Rattle.inputs.specs.declared.client.TheConstants.{MAX_SCRIPT_CLIENTS}
+use Rattle.values.specs.declared.limits.TheConstants.{MAX_CLIENT_BYTES, MAX_CLIENTS}
 
 abbrev pub is_client_byte : ℕ → Bool
 is_client_byte c = is_ascii_alphanumeric c || c == 45 || c == 95
@@ -39,5 +38,5 @@ abbrev pub client_of : List (List ℕ) → ℕ → Fields → Result ℕ ScriptF
 client_of clients number [] = Err (BadClient number)
 client_of clients number (name ∷ rest) =
     cond (is_client name)
-    (cond (nat_le MAX_SCRIPT_CLIENTS (number_of name clients)) (Err (TooManyClients number)) (Ok (number_of name clients)))
+    (cond (nat_le MAX_CLIENTS (number_of name clients)) (Err (TooManyClients number)) (Ok (number_of name clients)))
     (Err (BadClient number))

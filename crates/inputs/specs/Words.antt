@@ -6,23 +6,33 @@ use Rattle.clap.specs.Simple.{on_top}
 use Rattle.clap.specs.Words.{App, Row, Rule, Text, first_of, new_app, new_rule, subcommand_of, takes, with_rule, with_subcommand}
 use Rattle.clap.specs.declared.builder.ArgAction.TheVariants.{Set}
 use Rattle.clap.specs.declared.builder.value_parser.ValueParser.TheVariants.{Unsigned}
-use Rattle.values.specs.declared.limits.TheConstants.{MAX_ROWS}
+use Rattle.values.specs.declared.limits.TheConstants.{MAX_RECENT_COMMITS, MAX_ROWS}
+use Rattle.model.specs.declared.clash.ConflictRule.{ConflictRule}
+use Rattle.model.specs.declared.clash.ConflictRule.TheVariants.{ByColumn, ByRow}
+use Rattle.inputs.specs.declared.words.TheConstants.{RECENT_COMMITS}
 use Rattle.inputs.specs.declared.words.Settings.{Settings}
 use Rattle.inputs.specs.declared.words.Settings.TheVariants.{Run}
 
--- ---- the usage: `pdt run TABLE SCRIPT [--limit N]`
+-- ---- the usage: `pdt run TABLE SCRIPT [--recent N] [--limit N] [--conflicts column|row]`
 
 -- a word that has to be there, by its place
 abbrev pub placed_rule : Text → Rule
 placed_rule id = record (new_rule id) { value_names = 1; required = true; action = Some Set }
 
--- `--limit N`, with N from 1 to the largest number of rows
-abbrev pub limit_rule : Rule
-limit_rule = record (new_rule (codes "limit")) { long = Some (codes "limit"); value_names = 1; action = Some Set; parser = Some (Unsigned 1 MAX_ROWS) }
+-- an option with a value
+abbrev pub option_rule : Text → Rule
+option_rule id = record (new_rule id) { long = Some id; value_names = 1; action = Some Set }
 
--- `run`, whose first word is the table and whose second is the script
+-- an option whose value is a number from 1 to the largest
+abbrev pub number_rule : Text → ℕ → Rule
+number_rule id largest = record (option_rule id) { parser = Some (Unsigned 1 largest) }
+
+-- `run`, whose first word is the table and whose second is the script. What the settings are says which words are rules
 abbrev pub run_usage : App
-run_usage = with_rule (with_rule (with_rule (new_app (codes "run")) (placed_rule (codes "table"))) (placed_rule (codes "script"))) limit_rule
+run_usage =
+    let placed = with_rule (with_rule (new_app (codes "run")) (placed_rule (codes "table"))) (placed_rule (codes "script")) in
+    let counted = with_rule (with_rule placed (number_rule (codes "recent") MAX_RECENT_COMMITS)) (number_rule (codes "limit") MAX_ROWS) in
+    with_rule counted (option_rule (codes "conflicts"))
 
 -- the program, of which `run` is the one command
 abbrev pub usage : App
@@ -38,19 +48,28 @@ word_for words = word_in (option_map (λ p. p.1) (subcommand_of usage words))
 
 -- ---- settings
 
--- the limit that a word writes, or the largest where there is none
-abbrev pub IsLimitOf : Option Text → ℕ → Type 0
-IsLimitOf None limit = limit ≡ MAX_ROWS
-IsLimitOf (Some word) limit = IsNumeral 10 (without_leading_plus word) × (limit ≡ digits_value 10 (without_leading_plus word))
+-- the number that a word writes, or the usual one where there is none
+abbrev pub IsNumberOf : ℕ → Option Text → ℕ → Type 0
+IsNumberOf usual None number = number ≡ usual
+IsNumberOf usual (Some word) number = IsNumeral 10 (without_leading_plus word) × (number ≡ digits_value 10 (without_leading_plus word))
+
+-- the conflict rule that a word names, or by column where there is none
+abbrev pub IsRuleOf : Option Text → ConflictRule → Type 0
+IsRuleOf None rule = rule ≡ ByColumn
+IsRuleOf (Some word) ByColumn = word ≡ codes "column"
+IsRuleOf (Some word) ByRow = word ≡ codes "row"
 
 -- the settings are of the words for each argument
 abbrev pub AreOf : (Text → Option Text) → Settings → Type 0
-AreOf word_of (Run table script limit) =
-    (word_of (codes "table") ≡ Some table.now) × (word_of (codes "script") ≡ Some script.now) × IsLimitOf (word_of (codes "limit")) limit
+AreOf word_of (Run table script recent limit conflicts) =
+    (word_of (codes "table") ≡ Some table.now) × (word_of (codes "script") ≡ Some script.now)
+    × IsNumberOf RECENT_COMMITS (word_of (codes "recent")) recent × IsNumberOf MAX_ROWS (word_of (codes "limit")) limit
+    × IsRuleOf (word_of (codes "conflicts")) conflicts
 
 -- the numbers are within their limits
 abbrev pub IsWithinLimits : Settings → Type 0
-IsWithinLimits (Run table script limit) = (1 ≤ limit) × (limit ≤ MAX_ROWS)
+IsWithinLimits (Run table script recent limit conflicts) =
+    (1 ≤ recent) × (recent ≤ MAX_RECENT_COMMITS) × (1 ≤ limit) × (limit ≤ MAX_ROWS)
 
 -- the crate `clap` takes the words by the usage, and they say these settings
 pub record AreAsked (words : List Text) (settings : Settings) : Type 0 where

@@ -9,10 +9,7 @@ use crate::fault::ScriptFault;
 use csv::ByteRecord;
 use std::alloc::Global;
 use values::Text;
-use values::limits::MAX_CLIENT_BYTES;
-
-/// How many clients a script may have, as long as one transaction is run at a time.
-pub(crate) const MAX_SCRIPT_CLIENTS: usize = 1;
+use values::limits::{MAX_CLIENT_BYTES, MAX_CLIENTS};
 
 /// The number of the client that the record names, one above those there are where it is new.
 pub(crate) fn read_client(
@@ -31,7 +28,7 @@ pub(crate) fn read_client(
         return Err(ScriptFault::BadClient(number));
     }
     let client = find_client(clients, name);
-    if client >= MAX_SCRIPT_CLIENTS {
+    if client >= MAX_CLIENTS as usize {
         return Err(ScriptFault::TooManyClients(number));
     }
     Ok(client as u32)

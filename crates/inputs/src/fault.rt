@@ -52,7 +52,7 @@ pub enum ScriptFault {
     /// This record's first field is not a client: 1 to 32 ASCII letters, digits, `-` or `_`.
     #[error("BadClient {0}")]
     BadClient(u64),
-    /// This record names one client more than there may be.
+    /// This record names the 65th client.
     #[error("TooManyClients {0}")]
     TooManyClients(u64),
     /// This record has no verb, or not as many arguments as its verb wants.

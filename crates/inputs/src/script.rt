@@ -3,12 +3,13 @@ ghost use Rattle.std.specs.Prelude.{◌≡◌, ◌≢◌, ◌≤◌, length, IfO
 ghost use Rattle.std.specs.List.{list_all};
 ghost use Rattle.std.specs.Str.{is_utf8};
 ghost use Rattle.csv.specs.Records.{fields_of};
+ghost use Rattle.values.specs.declared.limits.TheConstants.{MAX_CLIENTS};
 ghost use Rattle.inputs.specs.Typed.{IsTyped};
 ghost use Rattle.inputs.specs.Script.{call_of, IsScriptOf, IsScriptFaultOf};
 
 use crate::arguments::read_asked;
 use crate::call::ClientCall;
-use crate::client::{MAX_SCRIPT_CLIENTS, add_client, read_client};
+use crate::client::{add_client, read_client};
 use crate::fault::ScriptFault;
 use crate::reading::{next_record, records_of};
 use csv::ByteRecord;
@@ -69,7 +70,7 @@ impl Script {
 pub fn read_script(alloc: Global, schema: &Schema, text: &[u8]) -> Result<Script, ScriptFault>
     ensures ok { IfOk result (λ script. IsScriptOf schema.now text.now script.clients script.calls) }
     ensures under { IfOk result (λ script. script.schema ≡ schema.now) }
-    ensures few { IfOk result (λ script. length script.clients ≤ MAX_SCRIPT_CLIENTS) }
+    ensures few { IfOk result (λ script. length script.clients ≤ MAX_CLIENTS) }
     ensures err { IfErr result (λ fault. fault ≢ ScriptFault.NoMemory → IsScriptFaultOf schema.now text.now fault) }
 {
     let under = schema.copy()?;

@@ -1,14 +1,40 @@
 //! The words of the command line.
-ghost use Rattle.std.specs.Prelude.{◌≡◌, ◌≤◌, [], IfErr, IfOk, IfSome, IsNone, map, option_map};
-ghost use Rattle.clap.specs.Words.{app_of, fault_of, first_value, found_of, kind_of, subcommand_rows_of};
+ghost use Rattle.std.specs.Prelude.{◌≡◌, ◌≤◌, ℕ, false, [], IfErr, IfOk, IfSome, IsNone, map, option_map};
+ghost use Rattle.clap.specs.Words.{app_of, fault_of, first_value, found_of, kind_of, rule_of, subcommand_rows_of};
 ghost use Rattle.clap.specs.declared.error.kind.ErrorKind.TheVariants.{OutOfMemory};
-ghost use Rattle.inputs.specs.Words.{usage, word_for, word_in, AreAsked, AreOf, IsWithinLimits};
+ghost use Rattle.model.specs.declared.clash.ConflictRule.{ConflictRule as Rule};
+ghost use Rattle.inputs.specs.Words.{number_rule, option_rule, placed_rule, usage, word_for, word_in, AreAsked, AreOf, IsNumberOf, IsRuleOf, IsWithinLimits};
 ghost use Rattle.inputs.specs.declared.words.Settings.{Settings as Asked};
 
+use clap::builder::ValueParser;
 use clap::error::ErrorKind;
 use clap::{Arg, ArgAction, ArgMatches, Command, Error};
+use model::ConflictRule;
 use std::alloc::Global;
-use values::limits::MAX_ROWS;
+use values::limits::{MAX_RECENT_COMMITS, MAX_ROWS};
+
+/// How many recent commits a run keeps where nothing is said.
+const RECENT_COMMITS: u64 = 64;
+
+const ABOUT: &str =
+    "Runs transactions over a table, with Positional Delta Trees under snapshot isolation";
+
+const RUN_ABOUT: &str =
+    "Runs a script over a table, and prints each reply and then the newest table";
+
+const TABLE_HELP: &str =
+    "The table, as CSV: a header such as id:int:key,name:text, then a record for each row";
+
+const SCRIPT_HELP: &str =
+    "The script, as CSV: a client and its call in each record, such as a,insert,25,Dee,4";
+
+const RECENT_HELP: &str =
+    "How many commits may come between a transaction's begin and its commit, 1 to 65536";
+
+const LIMIT_HELP: &str = "The most rows that the table may have, 1 to 2147483647";
+
+const CONFLICTS_HELP: &str =
+    "Which modifies of one row conflict: column, those of one column, or row, all";
 
 /// What the program is asked to do.
 #[derive(Drop)]
@@ -19,8 +45,12 @@ pub enum Settings<'a> {
         table: &'a str,
         /// The script's file.
         script: &'a str,
+        /// How many commits may come between a transaction's begin and its commit, 1 to 65,536; 64 where nothing is said.
+        recent: usize,
         /// The most rows that the table may have, 1 to 2,147,483,647; that many where nothing is said.
         limit: u64,
+        /// Which modifies of one row conflict; those of one column where nothing is said.
+        conflicts: ConflictRule,
     },
 }
 
@@ -28,8 +58,9 @@ pub enum Settings<'a> {
 ///
 /// # Errors
 ///
-/// `clap`'s error, with its text, where the words are not of the usage `pdt run TABLE SCRIPT [--limit N]`, where N is
-/// out of its range, where help is asked for, and where a growth is refused.
+/// `clap`'s error, with its text, where the words are not of the usage
+/// `pdt run TABLE SCRIPT [--recent N] [--limit N] [--conflicts column|row]`, where an N is out of its range, where help
+/// is asked for, and where a growth is refused.
 pub fn read_words<'a>(alloc: Global, words: &'a [&'a str]) -> Result<Settings<'a>, Error>
     ensures said { IfOk result (λ settings. AreOf (word_for (map (λ word. word.now) words.now)) settings) }
     ensures within { IfOk result (λ settings. IsWithinLimits settings) }
@@ -41,7 +72,10 @@ pub fn read_words<'a>(alloc: Global, words: &'a [&'a str]) -> Result<Settings<'a
     let given = command_settings(&matches);
     match given {
         Some(settings) => Ok(settings),
-        None => Err(command.error(ErrorKind::ValueValidation, "the words name no run")?),
+        None => Err(command.error(
+            ErrorKind::ValueValidation,
+            "the conflict rule is column or row",
+        )?),
     }
 }
 
@@ -63,18 +97,44 @@ fn run_settings<'a>(run: &ArgMatches<'a>) -> Option<Settings<'a>>
 {
     let table = run.get_str("table")?;
     let script = run.get_str("script")?;
-    let limit = match run.get_str("limit") {
-        Some(word) => word.parse::<u64>().ok()?,
-        None => MAX_ROWS,
-    };
-    if limit < 1 || limit > MAX_ROWS {
-        return None;
-    }
+    let most = MAX_RECENT_COMMITS as u64;
+    let recent = number_in(run.get_str("recent"), RECENT_COMMITS, most)? as usize;
+    let limit = number_in(run.get_str("limit"), MAX_ROWS, MAX_ROWS)?;
+    let conflicts = rule_in(run.get_str("conflicts"))?;
     Some(Settings::Run {
         table,
         script,
+        recent,
         limit,
+        conflicts,
     })
+}
+
+/// The number that a word writes, or the usual one where there is no word; none where it isn't 1 to the largest.
+fn number_in(word: Option<&str>, usual: u64, largest: u64) -> Option<u64>
+    requires least { 1 ≤ usual }
+    requires most { usual ≤ largest }
+    ensures said { IfSome result (IsNumberOf usual (option_map (λ w. w.now) word.entry)) }
+    ensures within { IfSome result (λ number. (1 ≤ number) × (number ≤ largest)) }
+    ensures none { IsNone result → (number : ℕ) → IsNumberOf usual (option_map (λ w. w.now) word.entry) number → 1 ≤ number → number ≤ largest → ⊥ }
+{
+    let number = match word {
+        Some(word) => word.parse::<u64>().ok()?,
+        None => usual,
+    };
+    (1 <= number && number <= largest).then_some(number)
+}
+
+/// The conflict rule that a word names, by column where there is no word; none where it names none.
+fn rule_in(word: Option<&str>) -> Option<ConflictRule>
+    ensures said { IfSome result (IsRuleOf (option_map (λ w. w.now) word.entry)) }
+    ensures none { IsNone result → (rule : Rule) → IsRuleOf (option_map (λ w. w.now) word.entry) rule → ⊥ }
+{
+    match word {
+        None | Some("column") => Some(ConflictRule::ByColumn),
+        Some("row") => Some(ConflictRule::ByRow),
+        Some(_) => None,
+    }
 }
 
 /// The command line that the program has.
@@ -82,35 +142,54 @@ fn program<'a>(alloc: Global) -> Result<Command<'a>, Error>
     ensures ok { IfOk result (λ command. app_of command ≡ usage) }
     ensures err { IfErr result (λ error. kind_of error ≡ OutOfMemory) }
 {
-    let table = Arg::new(alloc, "table")
-        .help(
-            "The table, as CSV: a header such as id:int:key,name:text, then a record for each row",
-        )
-        .value_name("TABLE")
-        .required(true)
-        .action(ArgAction::Set);
-    let script = Arg::new(alloc, "script")
-        .help("The script, as CSV: a client and its call in each record, such as a,insert,25,Dee,4")
-        .value_name("SCRIPT")
-        .required(true)
-        .action(ArgAction::Set);
-    let limit = Arg::new(alloc, "limit")
-        .help("The most rows that the table may have, 1 to 2147483647")
-        .long("limit")
-        .value_name("N")
-        .action(ArgAction::Set)
-        .value_parser(clap::value_parser!(u64).range(1..=MAX_ROWS as i64));
+    let table = file(alloc, "table", "TABLE", TABLE_HELP);
+    let script = file(alloc, "script", "SCRIPT", SCRIPT_HELP);
+    let recent = number(alloc, "recent", RECENT_HELP, MAX_RECENT_COMMITS as u64);
+    let limit = number(alloc, "limit", LIMIT_HELP, MAX_ROWS);
+    let conflicts = option(alloc, "conflicts", "RULE", CONFLICTS_HELP);
     let run = Command::new(alloc, "run")
-        .about("Runs a script over a table, and prints each reply and then the newest table")
+        .about(RUN_ABOUT)
         .arg(table)?
         .arg(script)?
-        .arg(limit)?;
+        .arg(recent)?
+        .arg(limit)?
+        .arg(conflicts)?;
     Ok(
         Command::new(alloc, "pdt")
-            .about(
-                "Runs transactions over a table, with Positional Delta Trees under snapshot isolation",
-            )
+            .about(ABOUT)
             .subcommand_required(true)
             .subcommand(run)?,
     )
+}
+
+/// A file that has to be named, by its place.
+fn file<'a>(alloc: Global, id: &'a str, shown: &'a str, help: &'a str) -> Arg<'a>
+    ensures rule { rule_of result ≡ placed_rule id.entry.now }
+    ensures local { result.global ≡ false }
+{
+    Arg::new(alloc, id)
+        .help(help)
+        .value_name(shown)
+        .required(true)
+        .action(ArgAction::Set)
+}
+
+/// An option with a number from 1 to the largest.
+fn number<'a>(alloc: Global, id: &'a str, help: &'a str, largest: u64) -> Arg<'a>
+    ensures rule { rule_of result ≡ number_rule id.entry.now largest }
+    ensures local { result.global ≡ false }
+{
+    option(alloc, id, "N", help).value_parser(ValueParser::unsigned(1, largest))
+}
+
+/// An option with a value.
+fn option<'a>(alloc: Global, id: &'a str, shown: &'a str, help: &'a str) -> Arg<'a>
+    ensures rule { rule_of result ≡ option_rule id.entry.now }
+    ensures local { result.global ≡ false }
+{
+    Arg::new(alloc, id)
+        .help(help)
+        .long(id)
+        .value_name(shown)
+        .action(ArgAction::Set)
 }

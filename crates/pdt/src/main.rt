@@ -1,7 +1,7 @@
 //! The program: takes the words, reads the files, prints what the run leaves, and ends with its status.
 #![tactic(auto)]
 
-use pdtcli::{FileFault, Settings, read_words, run_texts, status_of};
+use pdtcli::{FileFault, OpenOptions, Settings, read_words, run_texts, status_of};
 use std::process::ExitCode;
 use std::rt::{Env, Files};
 use std::{env, fs, io};
@@ -32,9 +32,18 @@ fn answered<R: Env + Files + AllocGlobal + Print + Eprint>(rt: &R) -> io::Result
             Settings::Run {
                 table,
                 script,
+                recent,
                 limit,
+                conflicts,
             },
-        ) => Ok(run(rt, table, script, limit)),
+        ) => {
+            let options = OpenOptions {
+                recent,
+                limit,
+                conflicts,
+            };
+            Ok(run(rt, table, script, options))
+        }
         Err(fault) => {
             rt.eprint(&fault)?;
             Ok(MISUSED)
@@ -47,7 +56,7 @@ fn run<R: Files + AllocGlobal + Print + Eprint>(
     rt: &R,
     table: &str,
     script: &str,
-    limit: u64,
+    options: OpenOptions,
 ) -> u8 {
     let table = fs::read(rt, table);
     let script = fs::read(rt, script);
@@ -56,7 +65,7 @@ fn run<R: Files + AllocGlobal + Print + Eprint>(
         rt.alloc(),
         bytes_of(&table),
         bytes_of(&script),
-        limit,
+        options,
         &mut out,
     );
     if let Err(refusal) = &answer {

@@ -3,5 +3,4 @@ mod ToldLemmas
 mod OutputLemmas
 mod ProgramLemmas
 mod ReadsLemmas
-mod WorkedLimits
 pub mod CallerLemmas

@@ -3,7 +3,6 @@
 use Rattle.std.specs.Prelude.{◌≡◌, ◌≢◌, ℕ, Option, None, Result, Ok, Err, List, [], IsOkAnd, length, replicate, unwrap_or}
 use Rattle.std.proofs.Common.{Bor}
 use Rattle.values.specs.Shape.{Columns}
-use Rattle.model.specs.declared.clash.ConflictRule.TheVariants.{ByColumn}
 use Rattle.stable.specs.Stable.{Stable}
 use Rattle.txn.specs.Txn.{Transaction}
 use Rattle.inputs.specs.Input.{IsTableOf, IsFaultOf}
@@ -15,11 +14,11 @@ use Rattle.inputs.specs.declared.fault.TableFault.{TableFault}
 use Rattle.inputs.specs.declared.fault.TableFault.TheVariants as table_fault
 use Rattle.manager.specs.Managed.{fault_of_opening, opened}
 use Rattle.pdtcli.specs.Outcome.{Left}
-use Rattle.pdtcli.specs.Run.{IsRun}
+use Rattle.pdtcli.specs.Run.{IsRun, State}
 use Rattle.manager.specs.declared.fault.OpenFault.TheVariants as open_fault
 use Rattle.pdtcli.specs.declared.program.FileFault.{FileFault}
 use Rattle.pdtcli.specs.declared.program.FileFault.TheVariants as file
-use Rattle.pdtcli.specs.declared.program.TheConstants.{RECENT_COMMITS}
+use Rattle.pdtcli.specs.declared.program.OpenOptions.{OpenOptions}
 use Rattle.pdtcli.specs.declared.refusal.Refusal.{Refusal}
 use Rattle.pdtcli.specs.declared.refusal.Refusal.TheVariants.{UnreadableTable, Table, UnreadableScript, Script, Open, Run, Output}
 
@@ -50,20 +49,27 @@ pub record AreInputs (table script : File) (inputs : Inputs) : Type 0 where
   pub table_read : HasTable table inputs.stable
   pub script_read : HasScript inputs.stable.schema script inputs.clients inputs.calls
 
--- they are read, and the table may be opened under the limit
-pub record AreOpened (table script : File) (limit : ℕ) (inputs : Inputs) : Type 0 where
+-- they are read, and the table may be opened so
+pub record AreOpened (table script : File) (options : OpenOptions) (inputs : Inputs) : Type 0 where
   pub read : AreInputs table script inputs
-  pub fits : fault_of_opening inputs.stable RECENT_COMMITS limit ≡ None
+  pub fits : fault_of_opening inputs.stable options.recent options.limit ≡ None
 
 -- ---- the run
 
+-- the table opened so, and no transaction open
+abbrev pub start_of : OpenOptions → Inputs → State
+start_of options inputs = record {
+  manager = opened inputs.stable options.limit options.recent options.conflicts;
+  transactions = replicate (length inputs.clients) None;
+}
+
 -- this is left of a run of the script's calls over the table, from no transaction open on
-pub record IsRunOf (table script : File) (limit : ℕ) (left : Left) : Type 0 where
+pub record IsRunOf (table script : File) (options : OpenOptions) (left : Left) : Type 0 where
   pub inputs : Inputs
   pub transactions : List (Option Transaction)
-  pub begun : AreOpened table script limit inputs
+  pub begun : AreOpened table script options inputs
   pub clients : left.clients ≡ inputs.clients
-  pub run : IsRun (record { manager = opened inputs.stable limit RECENT_COMMITS ByColumn; transactions = replicate (length inputs.clients) None }) inputs.calls left.lines (record { manager = left.manager; transactions = transactions })
+  pub run : IsRun (start_of options inputs) inputs.calls left.lines (record { manager = left.manager; transactions = transactions })
 
 -- ---- refusals
 
@@ -89,17 +95,17 @@ IsScriptRefusal schema script (Script fault) = IsScriptFault schema script fault
 IsScriptRefusal schema script refusal = ⊥
 
 -- the first part that is refused, with its fault; the parts before it are not refused
-abbrev pub IsRefusalOf : File → File → ℕ → Refusal → Type 0
-IsRefusalOf table script limit UnreadableTable = IsTableRefusal table UnreadableTable
-IsRefusalOf table script limit (Table fault) = IsTableRefusal table (Table fault)
-IsRefusalOf table script limit UnreadableScript =
+abbrev pub IsRefusalOf : File → File → OpenOptions → Refusal → Type 0
+IsRefusalOf table script options UnreadableTable = IsTableRefusal table UnreadableTable
+IsRefusalOf table script options (Table fault) = IsTableRefusal table (Table fault)
+IsRefusalOf table script options UnreadableScript =
     (stable : Stable) × HasTable table stable × IsScriptRefusal stable.schema script UnreadableScript
-IsRefusalOf table script limit (Script fault) =
+IsRefusalOf table script options (Script fault) =
     (stable : Stable) × HasTable table stable × IsScriptRefusal stable.schema script (Script fault)
-IsRefusalOf table script limit (Open fault) =
-    (inputs : Inputs) × AreInputs table script inputs × (fault ≡ unwrap_or (fault_of_opening inputs.stable RECENT_COMMITS limit) open_fault.NoMemory)
-IsRefusalOf table script limit (Run fault) = (inputs : Inputs) × AreOpened table script limit inputs
-IsRefusalOf table script limit (Output fault) = (left : Left) × IsRunOf table script limit left
+IsRefusalOf table script options (Open fault) =
+    (inputs : Inputs) × AreInputs table script inputs × (fault ≡ unwrap_or (fault_of_opening inputs.stable options.recent options.limit) open_fault.NoMemory)
+IsRefusalOf table script options (Run fault) = (inputs : Inputs) × AreOpened table script options inputs
+IsRefusalOf table script options (Output fault) = (left : Left) × IsRunOf table script options left
 
 -- ---- the status
 

@@ -27,7 +27,7 @@ pub use inputs::{
 pub use manager::{Manager, OpenFault};
 pub use outcome::Outcome;
 pub use output::{ShowFault, show};
-pub use program::{FileFault, run_texts, status_of};
+pub use program::{FileFault, OpenOptions, run_texts, status_of};
 pub use refusal::Refusal;
 pub use reply::{Reply, ReplyLine};
 pub use serial::run_serial;

@@ -18,8 +18,16 @@ use std::alloc::Global;
 use std::io::Write;
 use values::Schema;
 
-/// How many recent commits a run keeps.
-const RECENT_COMMITS: usize = 64;
+/// What a table is opened with.
+#[derive(Clone, Copy, Debug, PartialEq, Eq)]
+pub struct OpenOptions {
+    /// How many commits may come between a transaction's begin and its commit, 1 to 65,536.
+    pub recent: usize,
+    /// The most rows that a table may have, 1 to 2,147,483,647.
+    pub limit: u64,
+    /// Which modifies of one row conflict.
+    pub conflicts: ConflictRule,
+}
 
 /// The status where an input is refused, or the output.
 const REFUSED: u8 = 1;
@@ -34,7 +42,7 @@ pub enum FileFault {
 }
 
 /// Runs a script over a table, each given as the bytes of its file or as why they aren't there, writes what the run
-/// leaves, and answers the program's exit status. The table may have at most `limit` rows, 1 to 2,147,483,647.
+/// leaves, and answers the program's exit status.
 ///
 /// # Errors
 ///
@@ -44,19 +52,24 @@ pub fn run_texts<W: Write>(
     alloc: Global,
     table: Result<&[u8], FileFault>,
     script: Result<&[u8], FileFault>,
-    limit: u64,
+    options: OpenOptions,
     out: &mut W,
 ) -> Result<u8, Refusal>
     ensures shown { IfOk result (λ status. (left : Left)
-        × IsRunOf (bytes_of table.entry) (bytes_of script.entry) limit left
+        × IsRunOf (bytes_of table.entry) (bytes_of script.entry) options left
         × Appends (W.contents out.old) (W.contents out.new) (shown left)
         × (status ≡ exit_status left.lines)) }
-    ensures refused { IfErr result (IsRefusalOf (bytes_of table.entry) (bytes_of script.entry) limit) }
+    ensures refused { IfErr result (IsRefusalOf (bytes_of table.entry) (bytes_of script.entry) options) }
     ensures silent { IfErr result (λ refusal. is_output refusal ≡ false → out.new ≡ out.old) }
 {
     let stable = table_of(alloc, table)?;
     let calls = script_of(alloc, stable.schema(), script)?;
-    let manager = Manager::open(alloc, stable, RECENT_COMMITS, limit, ConflictRule::ByColumn)?;
+    let OpenOptions {
+        recent,
+        limit,
+        conflicts,
+    } = options;
+    let manager = Manager::open(alloc, stable, recent, limit, conflicts)?;
     let outcome = match run_serial(alloc, manager, &calls) {
         Ok(outcome) => outcome,
         Err(fault) => return Err(Refusal::Run(fault)),

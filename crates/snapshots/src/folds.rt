@@ -151,77 +151,78 @@ fn assert_fold(
     Ok(())
 }
 
+const FOLDS: [Fold; 8] = [
+    (
+        &[ItemWrite::Delete(20)],
+        &[
+            ItemWrite::Insert(15, "Flo", 5),
+            ItemWrite::Insert(25, "Dee", 4),
+        ],
+        "1+15,Flo,5 1+25,Dee,4",
+        "1+15,Flo,5 1-20 2+25,Dee,4",
+    ),
+    (
+        &[ItemWrite::Delete(20)],
+        &[ItemWrite::Insert(20, "Bea", 9)],
+        "1+20,Bea,9",
+        "1+20,Bea,9 1-20",
+    ),
+    (
+        &[ItemWrite::Insert(25, "Dee", 4)],
+        &[ItemWrite::Set(25, 5)],
+        "2:2=5",
+        "2+25,Dee,5",
+    ),
+    (
+        &[ItemWrite::Insert(25, "Dee", 4)],
+        &[ItemWrite::Delete(25)],
+        "2-25",
+        "",
+    ),
+    (
+        &[ItemWrite::Set(20, 9)],
+        &[ItemWrite::Delete(20)],
+        "1-20",
+        "1-20",
+    ),
+    (
+        &[ItemWrite::Name(20, "Bea"), ItemWrite::Set(20, 9)],
+        &[ItemWrite::Set(20, 4)],
+        "1:2=4",
+        "1:1=Bea 1:2=4",
+    ),
+    (
+        &[ItemWrite::Insert(5, "Eve", 0), ItemWrite::Delete(30)],
+        &[
+            ItemWrite::Delete(10),
+            ItemWrite::Insert(10, "Abe", 8),
+            ItemWrite::Name(20, "Bea"),
+            ItemWrite::Set(20, 6),
+            ItemWrite::Insert(35, "Gus", 7),
+        ],
+        "1+10,Abe,8 1-10 2:1=Bea 2:2=6 3+35,Gus,7",
+        "0+5,Eve,0 0+10,Abe,8 0-10 1:1=Bea 1:2=6 2-30 3+35,Gus,7",
+    ),
+    (
+        &[
+            ItemWrite::Delete(10),
+            ItemWrite::Delete(20),
+            ItemWrite::Delete(30),
+        ],
+        &[
+            ItemWrite::Insert(5, "Eve", 0),
+            ItemWrite::Insert(20, "Bea", 9),
+            ItemWrite::Insert(25, "Dee", 4),
+            ItemWrite::Insert(35, "Gus", 7),
+        ],
+        "0+5,Eve,0 0+20,Bea,9 0+25,Dee,4 0+35,Gus,7",
+        "0+5,Eve,0 0-10 1+20,Bea,9 1-20 2+25,Dee,4 2-30 3+35,Gus,7",
+    ),
+];
+
 #[test]
 fn upper_trees_fold_into_lower_ones(rt: HostRuntime) -> Result<(), Fail> {
-    const CASES: [Fold; 8] = [
-        (
-            &[ItemWrite::Delete(20)],
-            &[
-                ItemWrite::Insert(15, "Flo", 5),
-                ItemWrite::Insert(25, "Dee", 4),
-            ],
-            "1+15,Flo,5 1+25,Dee,4",
-            "1+15,Flo,5 1-20 2+25,Dee,4",
-        ),
-        (
-            &[ItemWrite::Delete(20)],
-            &[ItemWrite::Insert(20, "Bea", 9)],
-            "1+20,Bea,9",
-            "1+20,Bea,9 1-20",
-        ),
-        (
-            &[ItemWrite::Insert(25, "Dee", 4)],
-            &[ItemWrite::Set(25, 5)],
-            "2:2=5",
-            "2+25,Dee,5",
-        ),
-        (
-            &[ItemWrite::Insert(25, "Dee", 4)],
-            &[ItemWrite::Delete(25)],
-            "2-25",
-            "",
-        ),
-        (
-            &[ItemWrite::Set(20, 9)],
-            &[ItemWrite::Delete(20)],
-            "1-20",
-            "1-20",
-        ),
-        (
-            &[ItemWrite::Name(20, "Bea"), ItemWrite::Set(20, 9)],
-            &[ItemWrite::Set(20, 4)],
-            "1:2=4",
-            "1:1=Bea 1:2=4",
-        ),
-        (
-            &[ItemWrite::Insert(5, "Eve", 0), ItemWrite::Delete(30)],
-            &[
-                ItemWrite::Delete(10),
-                ItemWrite::Insert(10, "Abe", 8),
-                ItemWrite::Name(20, "Bea"),
-                ItemWrite::Set(20, 6),
-                ItemWrite::Insert(35, "Gus", 7),
-            ],
-            "1+10,Abe,8 1-10 2:1=Bea 2:2=6 3+35,Gus,7",
-            "0+5,Eve,0 0+10,Abe,8 0-10 1:1=Bea 1:2=6 2-30 3+35,Gus,7",
-        ),
-        (
-            &[
-                ItemWrite::Delete(10),
-                ItemWrite::Delete(20),
-                ItemWrite::Delete(30),
-            ],
-            &[
-                ItemWrite::Insert(5, "Eve", 0),
-                ItemWrite::Insert(20, "Bea", 9),
-                ItemWrite::Insert(25, "Dee", 4),
-                ItemWrite::Insert(35, "Gus", 7),
-            ],
-            "0+5,Eve,0 0+20,Bea,9 0+25,Dee,4 0+35,Gus,7",
-            "0+5,Eve,0 0-10 1+20,Bea,9 1-20 2+25,Dee,4 2-30 3+35,Gus,7",
-        ),
-    ];
-    for case in &CASES {
+    for case in &FOLDS {
         assert_fold(&rt, rt.alloc(), *case)?;
     }
     Ok(())

@@ -197,7 +197,7 @@ fn assert_range(
     Ok(())
 }
 
-/// The rows 15, 20, 30 and 35 of three layers over the base table.
+/// Three layers over the base table, whose image has the keys 15, 20, 30 and 35.
 fn three_layers(alloc: Global) -> Result<Stack, Fail>
     ensures { IfOk result (λ made. AreStacked made.stable made.read made.write made.trans) }
 {

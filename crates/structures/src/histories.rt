@@ -532,7 +532,7 @@ fn a_history_after_a_cut_counts_from_its_base(rt: HostRuntime) -> Result<(), Fai
     Ok(())
 }
 
-/// The record of one delete of the row 20, with these answers.
+/// The record of one delete of Bob, with these answers.
 fn answered_delete(
     alloc: Global,
     begin: u64,
@@ -662,7 +662,7 @@ fn assert_fits(rt: &impl Abort, table: &OrderedTable, effects: &Effects) -> Resu
     Ok(())
 }
 
-/// That the row 25 is put in by the effects, and isn't once its effect is taken out.
+/// That the row of key 25 is put in by the effects, and isn't once its effect is taken out.
 fn assert_put_in(
     rt: &impl Abort,
     alloc: Global,

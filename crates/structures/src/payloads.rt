@@ -111,59 +111,60 @@ fn payloads_are_read_or_refused(rt: HostRuntime) -> Result<(), Fail> {
     Ok(())
 }
 
+const FAULTS: [Case; 12] = [
+    ("no number", ColumnType::Int, 1, &[], "Short 0"),
+    (
+        "7 bytes of a number",
+        ColumnType::Int,
+        1,
+        &[0; 7],
+        "Short 0",
+    ),
+    ("the second number", ColumnType::Int, 3, &[0; 15], "Short 8"),
+    ("a number too many", ColumnType::Int, 1, &[0; 16], "Long 8"),
+    ("bytes of no number", ColumnType::Int, 0, &[0], "Long 0"),
+    (
+        "one byte of a length",
+        ColumnType::Text,
+        2,
+        &[0, 0, 0],
+        "Short 2",
+    ),
+    (
+        "too long before too short",
+        ColumnType::Text,
+        1,
+        &[0x10, 0x01],
+        "TextTooLong 0",
+    ),
+    (
+        "too short before no UTF-8",
+        ColumnType::Text,
+        2,
+        &[0, 1, 0x61, 0, 2, 0xff],
+        "Short 3",
+    ),
+    (
+        "half of a character",
+        ColumnType::Text,
+        2,
+        &[0, 1, 0x61, 0, 1, 0xc3],
+        "BadText 1",
+    ),
+    ("no truth", ColumnType::Bool, 1, &[], "Short 0"),
+    (
+        "a byte too many before padding",
+        ColumnType::Bool,
+        3,
+        &[0xa1, 0],
+        "Long 1",
+    ),
+    ("bytes of no truth", ColumnType::Bool, 0, &[0], "Long 0"),
+];
+
 #[test]
 fn the_first_fault_of_a_payload_is_named(rt: HostRuntime) -> Result<(), Fail> {
-    const CASES: [Case; 12] = [
-        ("no number", ColumnType::Int, 1, &[], "Short 0"),
-        (
-            "7 bytes of a number",
-            ColumnType::Int,
-            1,
-            &[0; 7],
-            "Short 0",
-        ),
-        ("the second number", ColumnType::Int, 3, &[0; 15], "Short 8"),
-        ("a number too many", ColumnType::Int, 1, &[0; 16], "Long 8"),
-        ("bytes of no number", ColumnType::Int, 0, &[0], "Long 0"),
-        (
-            "one byte of a length",
-            ColumnType::Text,
-            2,
-            &[0, 0, 0],
-            "Short 2",
-        ),
-        (
-            "too long before too short",
-            ColumnType::Text,
-            1,
-            &[0x10, 0x01],
-            "TextTooLong 0",
-        ),
-        (
-            "too short before no UTF-8",
-            ColumnType::Text,
-            2,
-            &[0, 1, 0x61, 0, 2, 0xff],
-            "Short 3",
-        ),
-        (
-            "half of a character",
-            ColumnType::Text,
-            2,
-            &[0, 1, 0x61, 0, 1, 0xc3],
-            "BadText 1",
-        ),
-        ("no truth", ColumnType::Bool, 1, &[], "Short 0"),
-        (
-            "a byte too many before padding",
-            ColumnType::Bool,
-            3,
-            &[0xa1, 0],
-            "Long 1",
-        ),
-        ("bytes of no truth", ColumnType::Bool, 0, &[0], "Long 0"),
-    ];
-    for case in &CASES {
+    for case in &FAULTS {
         assert_read(&rt, rt.alloc(), *case)?;
     }
     Ok(())

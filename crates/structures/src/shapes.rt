@@ -107,61 +107,62 @@ fn assert_columns(
     Ok(())
 }
 
+const COLUMN_FAULTS: [ColumnsCase; 15] = [
+    ("no columns", "", 1, Some(SchemaFault::NoColumns)),
+    ("no columns and no key", "", 0, Some(SchemaFault::NoColumns)),
+    ("33 columns", TOO_WIDE, 1, Some(SchemaFault::TooManyColumns)),
+    (
+        "33 columns, no key",
+        TOO_WIDE,
+        0,
+        Some(SchemaFault::TooManyColumns),
+    ),
+    ("no key", "a\n", 0, Some(SchemaFault::BadKeyCount)),
+    ("5 key columns", WIDEST, 5, Some(SchemaFault::BadKeyCount)),
+    (
+        "a key above the columns",
+        "a\nb\n",
+        3,
+        Some(SchemaFault::BadKeyCount),
+    ),
+    (
+        "a bad key, a name twice",
+        "a\na\n",
+        3,
+        Some(SchemaFault::BadKeyCount),
+    ),
+    (
+        "a name thrice",
+        "a\na\na\n",
+        1,
+        Some(SchemaFault::RepeatedName(1)),
+    ),
+    (
+        "the first name twice",
+        "a\nb\na\n",
+        1,
+        Some(SchemaFault::RepeatedName(2)),
+    ),
+    (
+        "two names twice",
+        "a\nb\nb\na\n",
+        1,
+        Some(SchemaFault::RepeatedName(2)),
+    ),
+    (
+        "the empty name twice",
+        "\na\n\n",
+        2,
+        Some(SchemaFault::RepeatedName(2)),
+    ),
+    ("32 columns, 4 key columns", WIDEST, 4, None),
+    ("one column of no name", "\n", 1, None),
+    ("nothing but the key, names in two cases", "a\nA\n", 2, None),
+];
+
 #[test]
 fn the_first_fault_of_columns_is_named(rt: HostRuntime) -> Result<(), Fail> {
-    const CASES: [ColumnsCase; 15] = [
-        ("no columns", "", 1, Some(SchemaFault::NoColumns)),
-        ("no columns and no key", "", 0, Some(SchemaFault::NoColumns)),
-        ("33 columns", TOO_WIDE, 1, Some(SchemaFault::TooManyColumns)),
-        (
-            "33 columns, no key",
-            TOO_WIDE,
-            0,
-            Some(SchemaFault::TooManyColumns),
-        ),
-        ("no key", "a\n", 0, Some(SchemaFault::BadKeyCount)),
-        ("5 key columns", WIDEST, 5, Some(SchemaFault::BadKeyCount)),
-        (
-            "a key above the columns",
-            "a\nb\n",
-            3,
-            Some(SchemaFault::BadKeyCount),
-        ),
-        (
-            "a bad key, a name twice",
-            "a\na\n",
-            3,
-            Some(SchemaFault::BadKeyCount),
-        ),
-        (
-            "a name thrice",
-            "a\na\na\n",
-            1,
-            Some(SchemaFault::RepeatedName(1)),
-        ),
-        (
-            "the first name twice",
-            "a\nb\na\n",
-            1,
-            Some(SchemaFault::RepeatedName(2)),
-        ),
-        (
-            "two names twice",
-            "a\nb\nb\na\n",
-            1,
-            Some(SchemaFault::RepeatedName(2)),
-        ),
-        (
-            "the empty name twice",
-            "\na\n\n",
-            2,
-            Some(SchemaFault::RepeatedName(2)),
-        ),
-        ("32 columns, 4 key columns", WIDEST, 4, None),
-        ("one column of no name", "\n", 1, None),
-        ("nothing but the key, names in two cases", "a\nA\n", 2, None),
-    ];
-    for case in &CASES {
+    for case in &COLUMN_FAULTS {
         assert_columns(&rt, rt.alloc(), *case)?;
     }
     Ok(())

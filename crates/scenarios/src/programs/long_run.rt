@@ -1,8 +1,8 @@
 //! A run over a table of ten thousand rows by a script of ten thousand calls.
+use super::USUAL;
 use pdtcli::run_texts;
 use std::alloc::Global;
 use std::test::Fail;
-use values::limits::MAX_ROWS;
 
 const COUNT: u64 = 10_000;
 
@@ -34,7 +34,7 @@ fn ten_thousand_calls_over_ten_thousand_rows(rt: HostRuntime) -> Result<(), Fail
         rt.alloc(),
         Ok(table.as_str().as_bytes()),
         Ok(script.as_str().as_bytes()),
-        MAX_ROWS,
+        USUAL,
         &mut out,
     )?;
     assert_eq!(&rt; status, 0);

@@ -1,5 +1,5 @@
 //! The first part that is refused, of a table, a script, a limit and an output.
-use super::BASE_TEXT;
+use super::{BASE_TEXT, USUAL, limited};
 use pdtcli::{FileFault, OpenFault, Refusal, ScriptFault, ShowFault, TableFault, run_texts};
 use std::io;
 use std::io::Write;
@@ -84,7 +84,7 @@ fn the_first_part_that_is_refused_is_told(rt: HostRuntime) -> Result<(), Fail> {
         ),
     ] {
         let mut out = Vec::new(rt.alloc());
-        let found = run_texts(rt.alloc(), table, script, limit, &mut out);
+        let found = run_texts(rt.alloc(), table, script, limited(limit), &mut out);
         assert!(&rt; found == Err(want), "at {label}");
         assert!(&rt; out.is_empty(), "at {label}");
     }
@@ -111,7 +111,7 @@ fn an_output_that_is_refused_is_told(rt: HostRuntime) {
         rt.alloc(),
         Ok(BASE_TEXT),
         Ok(b"a,begin\n"),
-        MAX_ROWS,
+        USUAL,
         &mut Closed,
     );
     assert!(&rt; found == Err(Refusal::Output(ShowFault::Write)));

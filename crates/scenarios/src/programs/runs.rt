@@ -1,5 +1,5 @@
 //! Whole runs over the base table, from the bytes that come in to those that go out.
-use super::{BASE_TEXT, assert_limited, assert_run};
+use super::{BASE_TEXT, assert_run};
 use std::alloc::Global;
 use std::test::Fail;
 
@@ -101,20 +101,6 @@ fn a_second_transaction_sees_the_first(rt: HostRuntime) -> Result<(), Fail> {
         BASE_TEXT,
         b"a,begin\na,delete,20\na,insert,20,Bea,9\na,set,20,qty,8\na,commit\na,begin\na,insert,20,Bob,2\na,set,20,name,Bet\na,set,30,qty,4\na,set,30,qty,5\na,delete,10\na,commit\n",
         "a,begin,Begun\na,delete,Done\na,insert,Done\na,set,Done\na,commit,Committed,1\na,begin,Begun\na,insert,Duplicate\na,set,Done\na,set,Done\na,set,Done\na,delete,Done\na,commit,Committed,2\n\nid:int:key,name:text,qty:int\n20,Bet,8\n30,Cid,5\n",
-    )
-}
-
-#[test]
-fn the_row_limit_holds_in_a_transaction(rt: HostRuntime) -> Result<(), Fail> {
-    assert_limited(
-        &rt,
-        rt.alloc(),
-        (
-            BASE_TEXT,
-            b"a,begin\na,insert,40,Flo,4\na,insert,41,Gus,5\na,commit\n",
-            4,
-        ),
-        "a,begin,Begun\na,insert,Done\na,insert,Full\na,commit,Committed,1\n\nid:int:key,name:text,qty:int\n10,Ann,1\n20,Bob,2\n30,Cid,3\n40,Flo,4\n",
     )
 }
 

@@ -1,10 +1,9 @@
 //! A writer that takes some bytes and then refuses.
-use super::BASE_TEXT;
+use super::{BASE_TEXT, USUAL};
 use pdtcli::{Refusal, ShowFault, run_texts};
 use std::io;
 use std::io::Write;
 use std::test::Fail;
-use values::limits::MAX_ROWS;
 
 /// Takes so many bytes, a few at a time, and refuses the next one.
 #[derive(Drop)]
@@ -47,7 +46,7 @@ fn rows_are_refused_in_mid_stream(rt: HostRuntime) -> Result<(), Fail> {
             rt.alloc(),
             Ok(table.as_str().as_bytes()),
             Ok(b""),
-            MAX_ROWS,
+            USUAL,
             &mut out,
         );
         assert!(&rt; found == want, "at room for {room}");
@@ -58,12 +57,6 @@ fn rows_are_refused_in_mid_stream(rt: HostRuntime) -> Result<(), Fail> {
 #[test]
 fn a_line_is_refused(rt: HostRuntime) {
     let mut out = Brimming { room: 5 };
-    let found = run_texts(
-        rt.alloc(),
-        Ok(BASE_TEXT),
-        Ok(b"a,begin\n"),
-        MAX_ROWS,
-        &mut out,
-    );
+    let found = run_texts(rt.alloc(), Ok(BASE_TEXT), Ok(b"a,begin\n"), USUAL, &mut out);
     assert!(&rt; found == Err(Refusal::Output(ShowFault::Write)));
 }

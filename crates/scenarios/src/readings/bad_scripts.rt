@@ -3,6 +3,7 @@ use crate::readings::good_scripts::base_schema;
 use inputs::{ScriptFault, read_script};
 use std::alloc::Global;
 use std::process::Abort;
+use std::test::Fail;
 use values::Schema;
 
 /// Fails where the text is not refused by this fault.
@@ -18,7 +19,7 @@ fn assert_refused(
     assert_eq!(rt; found, Some(want), "at {label}");
 }
 
-const CLIENTS: [(&str, &[u8], ScriptFault); 7] = [
+const CLIENTS: [(&str, &[u8], ScriptFault); 5] = [
     (
         "a blank in a client",
         b"a b,begin\n",
@@ -39,16 +40,6 @@ const CLIENTS: [(&str, &[u8], ScriptFault); 7] = [
         "a client before the verb",
         b"a,begin\na b\n",
         ScriptFault::BadClient(2),
-    ),
-    (
-        "the second client",
-        b"a,begin\nb,begin\n",
-        ScriptFault::TooManyClients(2),
-    ),
-    (
-        "too many before the verb",
-        b"a,begin\nb,jump\n",
-        ScriptFault::TooManyClients(2),
     ),
 ];
 
@@ -165,6 +156,37 @@ fn clients_are_refused(rt: HostRuntime) {
     for (label, text, want) in CLIENTS {
         assert_refused(&rt, rt.alloc(), &schema, label, text, want);
     }
+}
+
+/// A begin of each of 64 clients, and then this line.
+fn after_64_clients(alloc: Global, line: &str) -> Result<String, Fail> {
+    let mut text = String::new(alloc);
+    for client in 0..64_u8 {
+        text.push_str(format!(in alloc; "c{client},begin\n")?.as_str())?;
+    }
+    text.push_str(line)?;
+    Ok(text)
+}
+
+#[test]
+fn a_65th_client_is_refused(rt: HostRuntime) -> Result<(), Fail> {
+    let schema = base_schema(&rt, rt.alloc());
+    for (label, line) in [("a begin", "d,begin\n"), ("no verb of ours", "d,jump\n")] {
+        let text = after_64_clients(rt.alloc(), line)?;
+        let want = ScriptFault::TooManyClients(65);
+        assert_refused(
+            &rt,
+            rt.alloc(),
+            &schema,
+            label,
+            text.as_str().as_bytes(),
+            want,
+        );
+    }
+    let text = after_64_clients(rt.alloc(), "c63,abort\n")?;
+    let read = read_script(rt.alloc(), &schema, text.as_str().as_bytes())?;
+    assert_eq!(&rt; read.clients().len(), 64);
+    Ok(())
 }
 
 #[test]

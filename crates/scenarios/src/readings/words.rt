@@ -1,24 +1,28 @@
 //! Command lines.
 use clap::error::ErrorKind;
 use inputs::{Settings, read_words};
+use model::ConflictRule;
+use model::ConflictRule::{ByColumn, ByRow};
 use std::alloc::Global;
 use std::process::Abort;
 
-/// Fails where the words do not run `s.csv` over `t.csv` within this limit.
-fn assert_run(rt: &impl Abort, alloc: Global, label: &str, words: &[&str], want: u64) {
+/// The recent commits, the row limit and the conflict rule of a run.
+type Options = (usize, u64, ConflictRule);
+
+/// Fails where the words do not run `s.csv` over `t.csv` with these options.
+fn assert_run(rt: &impl Abort, alloc: Global, label: &str, words: &[&str], want: Options) {
     match read_words(alloc, words) {
         Ok(
             Settings::Run {
                 table,
                 script,
+                recent,
                 limit,
+                conflicts,
             },
         ) => {
-            assert_eq!(rt;
-                (table, script, limit),
-                ("t.csv", "s.csv", want),
-                "at {label}"
-            );
+            assert_eq!(rt; (table, script), ("t.csv", "s.csv"), "at {label}");
+            assert!(rt; (recent, limit, conflicts) == want, "at {label}");
         }
         Err(_) => assert!(rt; false, "refused at {label}"),
     }
@@ -32,31 +36,61 @@ fn assert_refused(rt: &impl Abort, alloc: Global, label: &str, words: &[&str], w
     }
 }
 
-const RUNS: [(&str, &[&str], u64); 5] = [
-    ("no limit", &["pdt", "run", "t.csv", "s.csv"], 2147483647),
+const RUNS: [(&str, &[&str], Options); 8] = [
+    (
+        "no option",
+        &["pdt", "run", "t.csv", "s.csv"],
+        (64, 2147483647, ByColumn),
+    ),
     (
         "a limit",
         &["pdt", "run", "t.csv", "s.csv", "--limit", "4"],
-        4,
+        (64, 4, ByColumn),
     ),
     (
         "a limit first",
         &["pdt", "run", "--limit=4", "t.csv", "s.csv"],
-        4,
+        (64, 4, ByColumn),
     ),
     (
         "the least",
         &["pdt", "run", "t.csv", "s.csv", "--limit", "1"],
-        1,
+        (64, 1, ByColumn),
     ),
     (
         "the largest",
         &["pdt", "run", "t.csv", "s.csv", "--limit", "2147483647"],
-        2147483647,
+        (64, 2147483647, ByColumn),
+    ),
+    (
+        "recent commits",
+        &["pdt", "run", "--recent", "65536", "t.csv", "s.csv"],
+        (65536, 2147483647, ByColumn),
+    ),
+    (
+        "conflicts by row",
+        &["pdt", "run", "--conflicts=row", "t.csv", "s.csv"],
+        (64, 2147483647, ByRow),
+    ),
+    (
+        "all options",
+        &[
+            "pdt",
+            "run",
+            "t.csv",
+            "s.csv",
+            "--recent",
+            "1",
+            "--limit",
+            "9",
+            "--conflicts",
+            "column",
+        ],
+        (1, 9, ByColumn),
     ),
 ];
 
-const LIMITS: [(&str, &[&str], ErrorKind); 4] = [
+const LIMITS: [(&str, &[&str], ErrorKind); 7] = [
     (
         "none",
         &["pdt", "run", "t.csv", "s.csv", "--limit", "0"],
@@ -70,6 +104,21 @@ const LIMITS: [(&str, &[&str], ErrorKind); 4] = [
     (
         "no number",
         &["pdt", "run", "t.csv", "s.csv", "--limit", "x"],
+        ErrorKind::ValueValidation,
+    ),
+    (
+        "no recent commits",
+        &["pdt", "run", "t.csv", "s.csv", "--recent", "0"],
+        ErrorKind::ValueValidation,
+    ),
+    (
+        "more recent commits than are kept",
+        &["pdt", "run", "t.csv", "s.csv", "--recent", "65537"],
+        ErrorKind::ValueValidation,
+    ),
+    (
+        "an unknown rule",
+        &["pdt", "run", "t.csv", "s.csv", "--conflicts", "cell"],
         ErrorKind::ValueValidation,
     ),
     (
@@ -116,7 +165,7 @@ fn a_run_is_read(rt: HostRuntime) {
 }
 
 #[test]
-fn a_limit_out_of_its_range_is_refused(rt: HostRuntime) {
+fn an_option_out_of_its_range_is_refused(rt: HostRuntime) {
     for (label, words, want) in LIMITS {
         assert_refused(&rt, rt.alloc(), label, words, want);
     }

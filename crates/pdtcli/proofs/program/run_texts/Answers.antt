@@ -1,7 +1,6 @@
 use Rattle.std.proofs.Common.{ap, sym, ◌∙◌}
 use Rattle.manager.specs.Managed.{Managed, fault_of_opening}
 use Rattle.pdtcli.specs.Program.{bytes_of, Inputs, AreInputs}
-use Rattle.pdtcli.specs.declared.program.TheConstants.{RECENT_COMMITS}
 use Rattle.pdtcli.specs.declared.refusal.Refusal.TheVariants.{Open, Output}
 use Rattle.pdtcli.proofs.ProgramLemmas.{refused_for, opened, passed_up}
 use Rattle.pdtcli.proofs.program.run_texts.Goals as goal
@@ -14,14 +13,18 @@ pub returns-in_err-manager-clause-refused : goal.returns-in_err-manager-clause-r
 returns-in_err-manager-clause-refused g c =
     let inputs : Inputs = record { stable = c.in_ok-stable.stable; clients = c.in_ok-calls.calls.clients; calls = c.in_ok-calls.calls.calls } in
     let read : AreInputs (bytes_of c.args.table) (bytes_of c.args.script) inputs = record { table_read = c.in_ok-stable.ensures.ok; script_read = rw c.schema.ensures.columns at c.in_ok-calls.ensures.ok } in
-    passed_up c.from_residual-in_err-manager.result (Open c.in_err-manager.field-0.0) _ c.from_residual-in_err-manager.ensures.1
-    (inputs, read, refused_for (fault_of_opening c.in_ok-stable.stable RECENT_COMMITS c.args.limit) c.in_err-manager.field-0.0 c.in_err-manager.ensures.fault)
+    passed_up c.from_residual-in_err-manager.result (Open c.in_err-manager.field-0.0) _ c.from_residual-in_err-manager.ensures.1 (
+      inputs,
+      read,
+      refused_for (fault_of_opening c.in_ok-stable.stable c.args.options.recent c.args.options.limit) c.in_err-manager.field-0.0
+          c.in_err-manager.ensures.fault,
+    )
 
 pub returns-in-Err-clause-refused : goal.returns-in-Err-clause-refused
 returns-in-Err-clause-refused g c =
     let inputs : Inputs = record { stable = c.in_ok-stable.stable; clients = c.in_ok-calls.calls.clients; calls = c.in_ok-calls.calls.calls } in
     let read : AreInputs (bytes_of c.args.table) (bytes_of c.args.script) inputs = record { table_read = c.in_ok-stable.ensures.ok; script_read = rw c.schema.ensures.columns at c.in_ok-calls.ensures.ok } in
-    (inputs, opened (bytes_of c.args.table) (bytes_of c.args.script) c.args.limit inputs c.in_ok-manager.manager read c.in_ok-manager.ensures.fault)
+    (inputs, opened (bytes_of c.args.table) (bytes_of c.args.script) c.args.options inputs c.in_ok-manager.manager read c.in_ok-manager.ensures.fault)
 
 pub returns-in_err-show-clause-refused : goal.returns-in_err-show-clause-refused
 returns-in_err-show-clause-refused g c =
@@ -33,7 +36,7 @@ returns-in_err-show-clause-refused g c =
       record {
         inputs = inputs;
         transactions = run.0;
-        begun = opened (bytes_of c.args.table) (bytes_of c.args.script) c.args.limit inputs c.in_ok-manager.manager read c.in_ok-manager.ensures.fault;
+        begun = opened (bytes_of c.args.table) (bytes_of c.args.script) c.args.options inputs c.in_ok-manager.manager read c.in_ok-manager.ensures.fault;
         clients = c.in-Ok.ensures.clients;
         run = run.1;
       },
@@ -48,7 +51,7 @@ returns-clause-shown g c =
       record {
         inputs = inputs;
         transactions = run.0;
-        begun = opened (bytes_of c.args.table) (bytes_of c.args.script) c.args.limit inputs c.in_ok-manager.manager read c.in_ok-manager.ensures.fault;
+        begun = opened (bytes_of c.args.table) (bytes_of c.args.script) c.args.options inputs c.in_ok-manager.manager read c.in_ok-manager.ensures.fault;
         clients = c.in-Ok.ensures.clients;
         run = run.1;
       },

@@ -1,0 +1,12 @@
+use Rattle.std.proofs.Common.{◌≡◌, Some, ap, true}
+use Rattle.clap.specs.Words.{Rule}
+use Rattle.clap.specs.declared.builder.ArgAction.TheVariants.{Set}
+use Rattle.inputs.proofs.words.file.Goals as goal
+
+pub returns-clause-rule : goal.returns-clause-rule
+returns-clause-rule c =
+    rw (c.action.ensures, c.required.ensures, c.value_name.ensures, c.help.ensures)
+    (ap (λ (r : Rule). record r { value_names = 1; required = true; action = Some Set }) c.new.ensures.rule)
+
+pub returns-clause-local : goal.returns-clause-local
+returns-clause-local c = rw (c.action.ensures, c.required.ensures, c.value_name.ensures, c.help.ensures) c.new.ensures.optional.1
