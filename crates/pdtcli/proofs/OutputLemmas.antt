@@ -32,13 +32,6 @@ lines_text-more start clients lines line =
     ∙ ap (λ (z : List ℕ). start ++ z)
     (ap (λ (z : List ℕ). lines_text clients lines ++ z) (sym (append-nil (record_text (line_fields clients line)))) ∙ sym (lines_text-append clients lines (line ∷ [])))
 
--- one row more
-pub rows_text-more : (start : List ℕ) (rows : List Row) (row : Row) → (start ++ rows_text rows) ++ record_text (row_fields row) ≡ start ++ rows_text (rows ++ row ∷ [])
-rows_text-more start rows row =
-    append_assoc start (rows_text rows) (record_text (row_fields row))
-    ∙ ap (λ (z : List ℕ). start ++ z)
-    (ap (λ (z : List ℕ). rows_text rows ++ z) (sym (append-nil (record_text (row_fields row)))) ∙ sym (rows_text-append rows (row ∷ [])))
-
 -- what a writer with these known bytes holds after more
 pub appended : (a b : Option (List ℕ)) (xs ys : List ℕ) → a ≡ Some xs → Appends a b ys → b ≡ Some (xs ++ ys)
 appended None b xs ys e h = cc e

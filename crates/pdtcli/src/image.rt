@@ -1,15 +1,16 @@
 //! The records of an image: the header, whose cells name the columns as a table's header does, and the rows.
-ghost use Rattle.std.specs.Prelude.{◌≡◌, ◌<◌, ◌++◌, ◌∷◌, [], OnOk, IfOk, get_or, length};
+ghost use Rattle.std.specs.Prelude.{◌≡◌, ◌++◌, ◌∷◌, [], OnOk, IfOk};
 ghost use Rattle.values.specs.Lent.{value_of};
 ghost use Rattle.values.specs.Shown.{cell_text};
 ghost use Rattle.csv.specs.Records.{fields_of, partial_of};
+ghost use Rattle.merge.specs.View.{row_of};
 ghost use Rattle.pdtcli.specs.Output.{header_fields};
 ghost use Rattle.pdtcli.specs.Shown.{row_fields};
 
 use csv::ByteRecord;
 use inputs::kind_word;
 use itoa::Buffer;
-use stable::StableTable;
+use merge::RowView;
 use std::alloc::Global;
 use values::{NoMemory, Schema, ValueRef};
 
@@ -41,19 +42,14 @@ fn header_cell(alloc: Global, name: &str, kind: &str) -> Result<Vec<u8>, NoMemor
     Ok(cell)
 }
 
-/// Adds a field for each cell of a row of the table.
-pub(crate) fn push_row(
-    fields: &mut ByteRecord,
-    table: &StableTable,
-    sid: u64,
-) -> Result<(), NoMemory>
-    requires row { sid < length table.now.rows }
+/// Adds a field for each cell of a row.
+pub(crate) fn push_row(fields: &mut ByteRecord, row: &RowView<'_>) -> Result<(), NoMemory>
     requires whole { partial_of fields.old ≡ [] }
-    ensures fields { OnOk result (fields_of fields.new ≡ fields_of fields.old ++ row_fields (get_or table.now.rows sid [])) }
+    ensures fields { OnOk result (fields_of fields.new ≡ fields_of fields.old ++ row_fields (row_of row.now)) }
     ensures whole { OnOk result (partial_of fields.new ≡ []) }
 {
-    for col in 0..table.schema().width() {
-        push_cell(fields, table.value(sid, col))?;
+    for col in 0..row.width() {
+        push_cell(fields, row.value(col))?;
     }
     Ok(())
 }

@@ -1,10 +1,12 @@
 //! The output of a run: its reply lines, an empty line, and the newest image with its header.
 //!
-//! Text is made of a few hundred records and handed on before more is made, so that the memory that it takes does not
-//! grow with the table.
-ghost use Rattle.std.specs.Prelude.{◌≡◌, ◌≤◌, ◌-◌, ◌++◌, ◌∷◌, [], ℕ, List, Some, OnOk, IfOk, length, take, drop};
+//! The image is walked as its layers lend it, row by row. Text is made of a few hundred records and handed on before more
+//! is made, so that the memory that it takes does not grow with the table.
+ghost use Rattle.std.specs.Prelude.{◌≡◌, ◌≤◌, ◌++◌, ◌∷◌, [], ℕ, List, Some, OnOk, IfOk, length};
 ghost use Rattle.std.specs.Io.KnownBytes.{Appends};
 ghost use Rattle.csv.specs.Records.{fields_of};
+ghost use Rattle.values.specs.declared.limits.TheConstants.{MAX_ROWS};
+ghost use Rattle.merge.specs.Image.{image_rows};
 ghost use Rattle.pdtcli.specs.Output.{IsWritten, exit_status, image_text, is_no_memory, lines_text, record_text, rows_text, shown};
 ghost use Rattle.pdtcli.specs.Refusals.{show_fault_text};
 ghost use Rattle.pdtcli.specs.declared.output.ShowFault.TheVariants as show_fault;
@@ -13,7 +15,7 @@ use crate::image::{push_header, push_row};
 use crate::outcome::Outcome;
 use crate::reply::{Reply, ReplyLine, push_line};
 use csv::{ByteRecord, Writer, WriterBuilder};
-use stable::StableTable;
+use merge::{Layers, MergeScan};
 use std::alloc::Global;
 use std::error::Error;
 use std::fmt;
@@ -65,7 +67,7 @@ pub fn show<W: Write>(alloc: Global, outcome: &Outcome, out: &mut W) -> Result<u
     ensures bytes { OnOk result (Appends (W.contents out.old) (W.contents out.new) (shown outcome.now)) }
     ensures status { IfOk result (λ status. status ≡ exit_status outcome.now.lines) }
 {
-    let newest = outcome.manager().newest().to_table(alloc)?;
+    let newest = outcome.manager().newest();
     show_lines(alloc, outcome.clients(), outcome.lines(), out)?;
     show_header(alloc, newest.schema(), out)?;
     show_rows(alloc, &newest, out)?;
@@ -117,17 +119,18 @@ fn show_header<W: Write>(alloc: Global, schema: &Schema, out: &mut W) -> Result<
     send(&mut text, out)
 }
 
-/// Writes the rows.
-fn show_rows<W: Write>(alloc: Global, table: &StableTable, out: &mut W) -> Result<(), ShowFault>
-    ensures { OnOk result (Appends (W.contents out.old) (W.contents out.new) (rows_text table.now.rows)) }
+/// Writes the rows of the image, from as many scans as there are texts of them.
+fn show_rows<W: Write>(alloc: Global, newest: &Layers<'_>, out: &mut W) -> Result<(), ShowFault>
+    requires { length (image_rows newest.now) ≤ MAX_ROWS }
+    ensures { OnOk result (Appends (W.contents out.old) (W.contents out.new) (rows_text (image_rows newest.now))) }
 {
-    let count = table.len();
+    let count = newest.len();
     let mut fields = ByteRecord::new(alloc);
     let mut text = Vec::new(alloc);
     let mut shown = 0;
     while shown < count {
         let next = count.min(shown + RECORDS_AT_ONCE as u64);
-        text = rows_after(&mut fields, table, shown, next, text)?;
+        text = rows_after(&mut fields, newest.scan(shown, next), text)?;
         send(&mut text, out)?;
         shown = next;
     }
@@ -163,22 +166,18 @@ fn header_text(alloc: Global, schema: &Schema) -> Result<Vec<u8>, NoMemory>
     text_of(writer)
 }
 
-/// The text, and after it the rows from one place up to another. The record is used again for each row.
+/// The text, and after it the rows. The record is used again for each row.
 fn rows_after(
     fields: &mut ByteRecord,
-    table: &StableTable,
-    from: u64,
-    to: u64,
+    rows: MergeScan<'_>,
     text: Vec<u8>,
 ) -> Result<Vec<u8>, NoMemory>
-    requires ordered { from ≤ to }
-    requires within { to ≤ length table.now.rows }
-    ensures { IfOk result (λ longer. longer.items ≡ text.items ++ rows_text (take (to - from) (drop from table.now.rows))) }
+    ensures { IfOk result (λ longer. longer.items ≡ text.items ++ rows_text rows.entry) }
 {
     let mut writer = records_after(text);
-    for sid in from..to {
+    for view in rows {
         fields.clear();
-        push_row(fields, table, sid)?;
+        push_row(fields, &view)?;
         put(&mut writer, fields)?;
     }
     text_of(writer)

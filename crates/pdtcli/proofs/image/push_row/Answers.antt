@@ -1,17 +1,17 @@
-use Rattle.std.proofs.Common.{◌≡◌, ◌++◌, ◌∷◌, ◌+◌, [], map, take, get_or, length, sym, ap, ◌∙◌, append_assoc, arith}
+use Rattle.std.proofs.Common.{◌≡◌, ◌++◌, ◌∷◌, ◌+◌, [], map, take, sym, ap, ◌∙◌, append_assoc, arith}
 use Rattle.std.proofs.lemmas.List.{take_more, take_all, map-append}
 use Rattle.std.proofs.lemmas.Option.{get_or_from_slice_get, slice_get_within}
 use Rattle.csv.specs.Records.{fields_of}
 use Rattle.values.specs.Lent.{value_of}
-use Rattle.values.specs.declared.row.Row.{Row}
-use Rattle.stable.proofs.CallerLemmas.{stable_width}
 use Rattle.values.specs.Shown.{cell_text}
+use Rattle.values.specs.declared.row.Row.{Row}
+use Rattle.merge.specs.View.{row_of}
 use Rattle.inputs.specs.Reading.{Fields}
 use Rattle.pdtcli.proofs.image.push_row.Goals as goal
 
 pub loop-col-preserved : goal.loop-col-preserved
 loop-col-preserved c =
-    let row : Row = get_or c.args.table.now.rows c.args.sid [] in
+    let row : Row = row_of c.args.row.now in
     let col = c.loop-col.col in
     let v = value_of c.value.result in
     let before : Fields = fields_of c.args.fields.now in
@@ -27,7 +27,6 @@ loop-col-preserved c =
 
 pub returns-clause-fields : goal.returns-clause-fields
 returns-clause-fields c =
-    let row : Row = get_or c.args.table.now.rows c.args.sid [] in
-    let wide = stable_width c.args.table.now c.schema.ensures.lawful c.args.sid [] c.requires.row in
-    let all = take_all c.loop-col.col row (omega (arith, wide, c.width-col-end.ensures.columns, ap (λ s. length s.types) c.schema.ensures.columns, c.loop-col-test.false)) in
+    let row : Row = row_of c.args.row.now in
+    let all = take_all c.loop-col.col row (omega (arith, c.width-col-end.ensures, c.loop-col-test.false)) in
     c.loop-col.invariant.added ∙ ap (λ (r : Row). fields_of c.args.fields.now ++ map cell_text r) all

@@ -1,7 +1,11 @@
-use Rattle.std.proofs.Common.{◌++◌, ◌-◌, take, drop}
+use Rattle.std.proofs.Common.{◌≡◌, ◌++◌, ℕ, List}
 use Rattle.pdtcli.specs.Output.{IsWritten, rows_text}
 use Rattle.pdtcli.proofs.output.rows_after.Given as goal
 
--- the rows so far are written
-abbrev pub invariant-loop-sid : goal.invariant-loop-sid
-invariant-loop-sid l = IsWritten l.writer (l.fn.text.items ++ rows_text (take (l.sid - l.from) (drop l.from l.table.rows)))
+-- what is written, and the text of the rows that are left, is the text of all
+abbrev pub invariant-loop-view : goal.invariant-loop-view
+invariant-loop-view l = record {
+  can_next : (goal.iterator-loop-view).can_next l.view-iterator;
+  finite : (goal.iterator-loop-view).is_finite l.view-iterator;
+  written : (done : List ℕ) × IsWritten l.writer done × (done ++ rows_text l.view-iterator ≡ l.fn.text.items ++ rows_text l.fn.rows);
+}
