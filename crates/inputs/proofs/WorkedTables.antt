@@ -19,6 +19,8 @@ verb_of-verb_word verb.Len = refl
 verb_of-verb_word verb.Scan = refl
 verb_of-verb_word verb.Commit = refl
 verb_of-verb_word verb.Abort = refl
+verb_of-verb_word verb.Fold = refl
+verb_of-verb_word verb.Cut = refl
 
 kind_of-kind_word : (type : ColumnType) (is_key : Bool) → kind_of (kind_word type is_key) ≡ Some (type, is_key)
 kind_of-kind_word column.Int false = refl

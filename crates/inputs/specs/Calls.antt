@@ -8,7 +8,7 @@ use Rattle.model.specs.declared.write.Write.TheVariants.{Insert, Delete, Set}
 use Rattle.inputs.specs.Cells.{value_of, position_of, or_else, then_cons, place_from}
 use Rattle.inputs.specs.Reading.{Fields}
 use Rattle.inputs.specs.declared.call.Call.{Call}
-use Rattle.inputs.specs.declared.call.Call.TheVariants.{Begin, Write, Read, Commit, Abort}
+use Rattle.inputs.specs.declared.call.Call.TheVariants.{Begin, Write, Read, Commit, Abort, Fold, Cut}
 use Rattle.inputs.specs.declared.call.Read.TheVariants.{Get, At, Rank, Len, Scan}
 use Rattle.inputs.specs.declared.fault.ScriptFault.{ScriptFault}
 use Rattle.inputs.specs.declared.fault.ScriptFault.TheVariants.{BadCount, BadVerb, BadArgument}
@@ -29,6 +29,8 @@ verb_word verb.Len = codes "len"
 verb_word verb.Scan = codes "scan"
 verb_word verb.Commit = codes "commit"
 verb_word verb.Abort = codes "abort"
+verb_word verb.Fold = codes "fold"
+verb_word verb.Cut = codes "cut"
 
 -- the verb whose word this is
 abbrev pub verb_of : List ℕ → Option Verb
@@ -47,6 +49,8 @@ arguments_of schema verb.Len = 0
 arguments_of schema verb.Scan = 2
 arguments_of schema verb.Commit = 0
 arguments_of schema verb.Abort = 0
+arguments_of schema verb.Fold = 0
+arguments_of schema verb.Cut = 0
 
 abbrev pub key_types : Columns → List ColumnType
 key_types schema = take schema.key_cols schema.types
@@ -128,6 +132,8 @@ typed_call schema number verb.Len fields = Ok (Read Len)
 typed_call schema number verb.Scan fields = scan_call number (drop 2 fields)
 typed_call schema number verb.Commit fields = Ok Commit
 typed_call schema number verb.Abort fields = Ok Abort
+typed_call schema number verb.Fold fields = Ok Fold
+typed_call schema number verb.Cut fields = Ok Cut
 
 abbrev pub verb_call : Columns → ℕ → Fields → Option Verb → Result Call ScriptFault
 verb_call schema number fields None = Err (BadVerb number)

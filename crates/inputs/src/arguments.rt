@@ -80,6 +80,8 @@ fn read_typed(
         }
         Verb::Commit => Ok(Call::Commit),
         Verb::Abort => Ok(Call::Abort),
+        Verb::Fold => Ok(Call::Fold),
+        Verb::Cut => Ok(Call::Cut),
     }
 }
 

@@ -15,6 +15,10 @@ pub enum Call {
     Commit,
     /// Ends the open transaction and leaves no record of it.
     Abort,
+    /// Folds the Write-PDT into the Read-PDT.
+    Fold,
+    /// Hands the history out, and starts another at the newest version.
+    Cut,
 }
 
 /// What is read of an image. Positions count from 0.

@@ -18,10 +18,12 @@ pub enum Verb {
     Scan,
     Commit,
     Abort,
+    Fold,
+    Cut,
 }
 
 /// Every verb, once.
-const VERBS: [Verb; 11] = [
+const VERBS: [Verb; 13] = [
     Verb::Begin,
     Verb::Insert,
     Verb::Delete,
@@ -33,6 +35,8 @@ const VERBS: [Verb; 11] = [
     Verb::Scan,
     Verb::Commit,
     Verb::Abort,
+    Verb::Fold,
+    Verb::Cut,
 ];
 
 impl Verb {
@@ -52,6 +56,8 @@ impl Verb {
             Verb::Scan => "scan",
             Verb::Commit => "commit",
             Verb::Abort => "abort",
+            Verb::Fold => "fold",
+            Verb::Cut => "cut",
         }
     }
 }
@@ -72,7 +78,7 @@ pub(crate) fn count_arguments(schema: &Schema, verb: Verb) -> usize
     ensures few { result ≤ 34 }
 {
     match verb {
-        Verb::Begin | Verb::Len | Verb::Commit | Verb::Abort => 0,
+        Verb::Begin | Verb::Len | Verb::Commit | Verb::Abort | Verb::Fold | Verb::Cut => 0,
         Verb::At => 1,
         Verb::Scan => 2,
         Verb::Insert => schema.width(),
