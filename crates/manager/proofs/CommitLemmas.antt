@@ -1,22 +1,22 @@
 -- What a manager holds after a commit.
-use Rattle.std.proofs.Common.{◌≡◌, ℕ, suc, ◌+◌, ◌<◌, ◌≤◌, ◌^◌, List, [], ◌∷◌, ◌++◌, length, refl, sym, ap, ◌∙◌, subst, arith}
+use Rattle.std.proofs.Common.{◌≡◌, suc, ◌+◌, ◌<◌, ◌^◌, List, [], ◌∷◌, ◌++◌, length, refl, sym, ap, ◌∙◌, arith}
 use Rattle.std.specs.Prelude.{nat_lt}
 use Rattle.std.specs.List.{list_any}
 use Rattle.std.proofs.lemmas.List.{length-append}
 use Rattle.circular_buffer.specs.Buffer.{keep_last}
 use Rattle.model.specs.declared.write.CommitReply.{CommitReply}
 use Rattle.model.specs.declared.write.CommitReply.TheVariants.{Committed}
-use Rattle.model.specs.Effects.{Effects, AreOver, table_with}
+use Rattle.model.specs.Effects.{table_with}
 use Rattle.model.specs.Clashes.{conflicts}
 use Rattle.model.specs.History.{table_with_all}
 use Rattle.delta.specs.Tree.{Tree}
-use Rattle.delta.proofs.CallerLemmas.{rows_after}
 use Rattle.txn.specs.Txn.{Transaction, IsTransaction, effects_of}
 use Rattle.txn.specs.Version.{Lower, TableVersion, version_of}
 use Rattle.manager.specs.declared.commit.Grant.{Grant}
-use Rattle.manager.specs.Managed.{Managed, newest_table, newest_number, newest_version, IsOwn, is_too_old, commits_in, commits_since, reply_due, record_of, with_record}
-use Rattle.manager.specs.Kept.{HoldsNewest, commit_trees, kept_trees}
-use Rattle.manager.specs.Prepared.{LeavesTable, IsGrant, layers_of}
+use Rattle.manager.specs.Managed.{Managed, newest_table, newest_number, IsOwn, is_too_old, commits_in, commits_since, reply_due, record_of, with_record}
+use Rattle.manager.specs.Kept.{HoldsNewest, commit_trees}
+use Rattle.manager.specs.Prepared.{LeavesTable, IsGrant}
+use Rattle.manager.specs.Held.{layers_of}
 use Rattle.manager.proofs.HistoryLemmas.{granted_when, next_managed, refused_commits, granted_commits, table_with_all-one}
 use Rattle.manager.proofs.KeptLemmas.{kept_next}
 

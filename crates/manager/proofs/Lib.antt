@@ -2,6 +2,7 @@ mod PassingLemmas
 mod HistoryLemmas
 mod KeptLemmas
 mod GrantLemmas
+mod FoldLemmas
 mod OwnLemmas
 mod CommitLemmas
 pub mod CallerLemmas

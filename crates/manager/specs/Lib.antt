@@ -1,4 +1,6 @@
 pub mod Managed
 pub mod Kept
+pub mod Held
+pub mod Layered
 pub mod Passing
 pub mod Prepared

@@ -7,18 +7,14 @@ use Rattle.model.specs.Clashes.{conflicts}
 use Rattle.delta.specs.Tree.{Tree}
 use Rattle.layers.specs.Over.{tree_of}
 use Rattle.txn.specs.Txn.{Transaction, effects_of}
-use Rattle.txn.specs.Version.{Lower, version_of}
+use Rattle.txn.specs.Version.{version_of}
 use Rattle.model.specs.Effects.{Effects, AreOver, table_with}
-use Rattle.manager.specs.declared.manager.Held.{Held}
 use Rattle.manager.specs.declared.commit.Grant.{Grant}
 use Rattle.manager.specs.declared.commit.Prepared.{Prepared}
 use Rattle.manager.specs.declared.commit.Prepared.TheVariants.{Refused, Granted}
 use Rattle.manager.specs.Managed.{Managed, commits_since, newest_table, newest_number, reply_due}
 use Rattle.manager.specs.Kept.{AreFolded}
-
--- the layers behind their owners
-abbrev pub layers_of : Held → Lower
-layers_of held = record { stable = held.stable.value; read = held.read.value; write = held.write.value }
+use Rattle.manager.specs.Held.{layers_of}
 
 -- whether a reply leaves the table
 abbrev pub LeavesTable : CommitReply → Type 0

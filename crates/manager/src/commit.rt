@@ -127,22 +127,15 @@ impl Manager {
         ensures { IfOk result (λ grant. (w : MayGrant self.now tree) → IsGrant self.now w.x grant) }
     {
         let write = Arc::new(self.alloc, propagate(&self.held.write, &tree)?)?;
-        let stable = self.held.stable.clone()?;
-        let read = self.held.read.clone()?;
-        let version = Version::stacked(
-            self.alloc,
-            stable.clone()?,
-            read.clone()?,
-            write.clone()?,
-            self.newest.number() + 1,
-        )?;
+        let held = Held {
+            stable: self.held.stable.clone()?,
+            read: self.held.read.clone()?,
+            write,
+        };
+        let version = held.version(self.alloc, self.newest.number() + 1)?;
         Ok(Grant {
             tree,
-            held: Held {
-                stable,
-                read,
-                write,
-            },
+            held,
             version,
         })
     }

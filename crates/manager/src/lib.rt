@@ -9,8 +9,10 @@
 
 mod commit;
 mod fault;
+mod fold;
 mod manager;
 mod passing;
 
 pub use fault::OpenFault;
+pub use fold::Folded;
 pub use manager::Manager;

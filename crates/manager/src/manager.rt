@@ -4,6 +4,7 @@ ghost use Rattle.manager.specs.declared.fault.OpenFault.{OpenFault};
 ghost use Rattle.manager.specs.Managed.{is_bad_limit};
 ghost use Rattle.merge.specs.Image.{image_rows};
 ghost use Rattle.model.specs.Table.{rows_of};
+ghost use Rattle.txn.specs.Version.{AreLower, version_of};
 ghost use Rattle.values.specs.declared.limits.TheConstants.{MAX_ROWS};
 
 use crate::fault::OpenFault;
@@ -37,6 +38,24 @@ pub struct Held {
     pub(crate) stable: Arc<StableTable>,
     pub(crate) read: Arc<DeltaTree>,
     pub(crate) write: Arc<DeltaTree>,
+}
+
+impl Held {
+    ghost use Rattle.manager.specs.Held.{layers_of};
+
+    /// The version over these layers, which so many commits made.
+    pub(crate) fn version(&self, alloc: Global, number: u64) -> Result<Version, NoMemory>
+        requires { AreLower (layers_of self.now) }
+        ensures { IfOk result (λ version. version ≡ version_of (layers_of self.now) number) }
+    {
+        Version::stacked(
+            alloc,
+            self.stable.clone()?,
+            self.read.clone()?,
+            self.write.clone()?,
+            number,
+        )
+    }
 }
 
 /// The newest version of a table, and the history of the transactions that asked to commit.
@@ -102,7 +121,12 @@ impl Manager {
         let stable = Arc::new(alloc, table)?;
         let read = Arc::new(alloc, DeltaTree::new(alloc, key_cols))?;
         let write = Arc::new(alloc, DeltaTree::new(alloc, key_cols))?;
-        let newest = Version::stacked(alloc, stable.clone()?, read.clone()?, write.clone()?, 0)?;
+        let held = Held {
+            stable,
+            read,
+            write,
+        };
+        let newest = held.version(alloc, 0)?;
         Ok(Manager {
             opening: Snapshot::of(&newest),
             base: 0,
@@ -113,11 +137,7 @@ impl Manager {
             },
             history: Vec::new(alloc),
             made: 0,
-            held: Held {
-                stable,
-                read,
-                write,
-            },
+            held,
             newest,
             kept: HeapCircularBuffer::with_capacity(alloc, recent)?,
             alloc,

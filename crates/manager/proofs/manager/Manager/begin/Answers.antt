@@ -1,5 +1,4 @@
-use Rattle.std.proofs.Common.{◌≡◌, ◌≤◌, length, ap, ◌∙◌, arith}
-use Rattle.model.specs.Table.{Table}
+use Rattle.std.proofs.Common.{◌≡◌, length, ap, ◌∙◌, arith}
 use Rattle.txn.specs.Version.{TableVersion}
 use Rattle.manager.specs.Managed.{managed_at, newest_table}
 use Rattle.manager.proofs.HistoryLemmas.{newest_within}

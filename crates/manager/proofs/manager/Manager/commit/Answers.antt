@@ -1,6 +1,5 @@
 use Rattle.std.proofs.Common.{◌≡◌, ℕ, suc, ◌+◌, ◌<◌, ◌^◌, List, [], ◌∷◌, ◌++◌, ap, sym, ◌∙◌, subst, arith}
 use Rattle.circular_buffer.specs.Buffer.{Buffer, keep_last}
-use Rattle.model.specs.declared.write.CommitReply.{CommitReply}
 use Rattle.model.specs.declared.write.CommitReply.TheVariants.{Committed}
 use Rattle.model.specs.History.{Record}
 use Rattle.delta.specs.Tree.{Tree}
@@ -9,7 +8,8 @@ use Rattle.manager.specs.declared.commit.Prepared.{Prepared}
 use Rattle.manager.specs.declared.commit.Prepared.TheVariants.{Refused, Granted}
 use Rattle.manager.specs.Managed.{Managed, managed_at, newest_number, IsOwn, record_of}
 use Rattle.manager.specs.Kept.{HoldsNewest}
-use Rattle.manager.specs.Prepared.{IsPrepared, layers_of}
+use Rattle.manager.specs.Prepared.{IsPrepared}
+use Rattle.manager.specs.Held.{layers_of}
 use Rattle.manager.proofs.CommitLemmas.{refused_holds, granted_holds}
 use Rattle.manager.proofs.manager.Manager.commit.Goals as goal
 

@@ -1,12 +1,9 @@
-use Rattle.std.proofs.Common.{◌≡◌, ◌+◌, ◌<◌, ◌≤◌, false, Some, length, sym, ap, ◌∙◌, subst, arith}
-use Rattle.std.specs.List.{list_any}
+use Rattle.std.proofs.Common.{◌≡◌, ◌<◌, ◌≤◌, false, length, sym, ap, ◌∙◌, subst, arith}
 use Rattle.model.specs.declared.write.CommitReply.TheVariants as reply
-use Rattle.model.specs.Clashes.{conflicts}
-use Rattle.model.specs.Effects.{AreOver, table_with}
-use Rattle.model.specs.Table.{Table}
+use Rattle.model.specs.Effects.{table_with}
 use Rattle.txn.specs.Txn.{effects_of}
 use Rattle.txn.specs.Version.{Lower, TableVersion}
-use Rattle.manager.specs.Managed.{Managed, newest_table, newest_number, commits_since, is_too_old}
+use Rattle.manager.specs.Managed.{Managed, newest_table, newest_number, is_too_old}
 use Rattle.manager.specs.Kept.{HoldsNewest}
 use Rattle.manager.specs.Prepared.{IsPassed, MayGrant}
 use Rattle.manager.proofs.HistoryLemmas.{newest_within, over_newest}
