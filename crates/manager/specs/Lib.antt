@@ -1,3 +1,4 @@
+pub mod History
 pub mod Managed
 pub mod Kept
 pub mod Held
