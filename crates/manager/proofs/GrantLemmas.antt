@@ -105,7 +105,7 @@ module _ (m : Managed) (l : Lower) (newest : TableVersion) (kept : List Tree) (h
 
 -- ---- a manager that has just been opened
 
-drop-none : {A : Type 0} (n : ℕ) → drop {A = A} n [] ≡ []
+pub drop-none : {A : Type 0} (n : ℕ) → drop {A = A} n [] ≡ []
 drop-none zero = refl
 drop-none (suc n) = refl
 

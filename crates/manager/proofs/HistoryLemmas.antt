@@ -23,7 +23,7 @@ pub take_length : {A : Type 0} (xs : List A) → take (length xs) xs ≡ xs
 take_length [] = refl
 take_length (x ∷ xs) = ap (λ ys. x ∷ ys) (take_length xs)
 
-take_nothing : {A : Type 0} (n : ℕ) → take {A = A} n [] ≡ []
+pub take_nothing : {A : Type 0} (n : ℕ) → take {A = A} n [] ≡ []
 take_nothing zero = refl
 take_nothing (suc n) = refl
 

@@ -3,6 +3,7 @@ mod HistoryLemmas
 mod KeptLemmas
 mod GrantLemmas
 mod FoldLemmas
+mod CutLemmas
 mod OwnLemmas
 mod CommitLemmas
 pub mod CallerLemmas

@@ -10,7 +10,7 @@ use Rattle.model.specs.History.{Start, Record, IsLegal, commits_of, table_after,
 use Rattle.stable.specs.Stable.{Stable, table_in}
 use Rattle.txn.specs.Txn.{Transaction, effects_of}
 use Rattle.txn.specs.Version.{TableVersion}
-use Rattle.manager.specs.History.{Recorded, recorded_at}
+use Rattle.manager.specs.History.{Recorded, recorded_at, start_at}
 use Rattle.manager.specs.declared.fault.OpenFault.{OpenFault}
 use Rattle.manager.specs.declared.fault.OpenFault.TheVariants.{BadLimit, TooManyRows}
 
@@ -92,6 +92,10 @@ fault_of_opening s recent limit =
 -- the manager with one record more
 abbrev pub with_record : Managed → Record → Managed
 with_record m r = record m { history = m.history ++ r ∷ []; made = suc m.made }
+
+-- the manager after a cut: its history starts at the newest version
+abbrev pub cut_of : Managed → Managed
+cut_of m = record m { start = start_at (newest_version m) m.start.limit m.start.recent m.start.rule; history = [] }
 
 -- a transaction that has just begun: at all commits, over the newest table
 abbrev pub begun_at : Managed → ℕ → Transaction

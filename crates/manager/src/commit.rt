@@ -154,7 +154,11 @@ impl Manager {
         self.history.enter(txn.into_record(reply));
         self.made += 1;
         if let Some(grant) = grant {
-            let Grant { tree, held, version } = grant;
+            let Grant {
+                tree,
+                held,
+                version,
+            } = grant;
             self.kept.push_back(tree);
             self.held = held;
             self.newest = version;

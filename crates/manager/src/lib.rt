@@ -8,6 +8,7 @@
 #![tactic(auto)]
 
 mod commit;
+mod cut;
 mod fault;
 mod fold;
 mod history;

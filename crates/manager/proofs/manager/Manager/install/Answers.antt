@@ -4,7 +4,6 @@ use Rattle.model.specs.declared.write.CommitReply.{CommitReply}
 use Rattle.model.specs.declared.write.CommitReply.TheVariants.{Committed}
 use Rattle.model.specs.History.{Record, IsLegal}
 use Rattle.delta.specs.Tree.{Tree}
-use Rattle.txn.specs.Txn.{Transaction}
 use Rattle.txn.specs.Version.{Lower}
 use Rattle.manager.specs.History.{Recorded}
 use Rattle.manager.specs.Held.{layers_of}
