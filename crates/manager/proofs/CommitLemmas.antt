@@ -1,22 +1,20 @@
 -- What a manager holds after a commit.
-use Rattle.std.proofs.Common.{◌≡◌, ℕ, suc, ◌+◌, ◌<◌, ◌≤◌, ◌^◌, List, [], ◌∷◌, ◌++◌, length, refl, sym, ap, ◌∙◌, subst, arith}
+use Rattle.std.proofs.Common.{◌≡◌, suc, ◌+◌, ◌<◌, ◌^◌, List, [], ◌∷◌, ◌++◌, length, refl, sym, ap, ◌∙◌, arith}
 use Rattle.std.specs.Prelude.{nat_lt}
 use Rattle.std.specs.List.{list_any}
 use Rattle.std.proofs.lemmas.List.{length-append}
 use Rattle.circular_buffer.specs.Buffer.{keep_last}
 use Rattle.model.specs.declared.write.CommitReply.{CommitReply}
 use Rattle.model.specs.declared.write.CommitReply.TheVariants.{Committed}
-use Rattle.model.specs.Effects.{Effects, AreOver, table_with}
+use Rattle.model.specs.Effects.{table_with}
 use Rattle.model.specs.Clashes.{conflicts}
 use Rattle.model.specs.History.{table_with_all}
 use Rattle.delta.specs.Tree.{Tree}
-use Rattle.delta.proofs.CallerLemmas.{rows_after}
 use Rattle.txn.specs.Txn.{Transaction, IsTransaction, effects_of}
 use Rattle.txn.specs.Version.{Lower, TableVersion, version_of}
-use Rattle.manager.specs.declared.commit.Grant.{Grant}
-use Rattle.manager.specs.Managed.{Managed, newest_table, newest_number, newest_version, IsOwn, is_too_old, commits_in, commits_since, reply_due, record_of, with_record}
-use Rattle.manager.specs.Kept.{HoldsNewest, commit_trees, kept_trees}
-use Rattle.manager.specs.Prepared.{LeavesTable, IsGrant, layers_of}
+use Rattle.manager.specs.Managed.{Managed, newest_table, newest_number, IsOwn, is_too_old, commits_in, commits_since, reply_due, record_of, with_record}
+use Rattle.manager.specs.Kept.{HoldsNewest, commit_trees}
+use Rattle.manager.specs.Prepared.{LeavesTable, Granted, IsGrant}
 use Rattle.manager.proofs.HistoryLemmas.{granted_when, next_managed, refused_commits, granted_commits, table_with_all-one}
 use Rattle.manager.proofs.KeptLemmas.{kept_next}
 
@@ -34,8 +32,8 @@ module _ (m : Managed) (l : Lower) (newest : TableVersion) (kept : List Tree) (h
       }
 
   -- and one that is granted
-  pub granted_holds : (grant : Grant) → Committed (suc (newest_number m)) ≡ reply_due m txn → IsGrant m (effects_of txn) grant →
-      HoldsNewest (with_record m (record_of txn (Committed (suc (newest_number m))))) (layers_of grant.held) grant.version (keep_last m.start.recent (kept ++ grant.tree ∷ []))
+  pub granted_holds : (grant : Granted) → Committed (suc (newest_number m)) ≡ reply_due m txn → IsGrant m (effects_of txn) grant →
+      HoldsNewest (with_record m (record_of txn (Committed (suc (newest_number m))))) grant.layers grant.version (keep_last m.start.recent (kept ++ grant.tree ∷ []))
   granted_holds grant due is =
       let x = effects_of txn in
       let clash = list_any (conflicts m.start.rule x) (commits_since m txn) in
@@ -52,7 +50,7 @@ module _ (m : Managed) (l : Lower) (newest : TableVersion) (kept : List Tree) (h
             is.version_is
             ∙ (λ i. record { schema = m.schema; table = table i; number = number i })
             ∙ (λ i. record { schema = m.schema; table = table_with_all m.start.table (more i); number = m.start.base + length (more i) });
-        layers_are = is.layers_are ∙ ap (version_of (layers_of grant.held)) (number ∙ (λ i. m.start.base + length (more i)));
+        layers_are = is.layers_are ∙ ap (version_of grant.layers) (number ∙ (λ i. m.start.base + length (more i)));
         kept_are =
             ap (λ (ts : List Tree). keep_last m.start.recent (ts ++ grant.tree ∷ [])) h.kept_are
             ∙ kept_next m.schema m.start.table (commits_in m) m.start.recent x grant.tree is.tree_is

@@ -9,7 +9,6 @@ use Rattle.model.specs.declared.clash.ConflictRule.{ConflictRule}
 use Rattle.model.specs.Table.{Table}
 use Rattle.model.specs.Effects.{Effects, AreOver, table_with}
 use Rattle.model.specs.Composition.{composed_effects}
-use Rattle.model.specs.Entries.{canonical_entries}
 use Rattle.model.specs.Places.{insert_count}
 use Rattle.model.proofs.CallerLemmas.{composes}
 use Rattle.delta.specs.Tree.{Tree}
@@ -19,7 +18,7 @@ use Rattle.layers.specs.Propagation.{composed_tree}
 use Rattle.stable.specs.Stable.{Stable, IsStable, table_in}
 use Rattle.txn.specs.Version.{Lower, TableVersion, lower_table, version_of, version_at, empty_tree}
 use Rattle.txn.proofs.CallerLemmas.{alone, lower_table_is, no_layer, version_of-alone}
-use Rattle.manager.specs.Managed.{Managed, newest_table, newest_number, newest_version, opened, is_bad_limit, IsManaged}
+use Rattle.manager.specs.Managed.{Managed, newest_table, opened, is_bad_limit, IsManaged}
 use Rattle.manager.specs.Kept.{AreFolded, HoldsNewest}
 use Rattle.manager.proofs.HistoryLemmas.{newest_within}
 
@@ -94,6 +93,7 @@ module _ (m : Managed) (l : Lower) (newest : TableVersion) (kept : List Tree) (h
             entries = ap (λ (t : Tree). t.entries) write_is;
           };
         };
+        stable_few = h.folded.stable_few;
         few = h.folded.few;
       }
 
@@ -105,7 +105,7 @@ module _ (m : Managed) (l : Lower) (newest : TableVersion) (kept : List Tree) (h
 
 -- ---- a manager that has just been opened
 
-drop-none : {A : Type 0} (n : ℕ) → drop {A = A} n [] ≡ []
+pub drop-none : {A : Type 0} (n : ℕ) → drop {A = A} n [] ≡ []
 drop-none zero = refl
 drop-none (suc n) = refl
 
@@ -137,6 +137,7 @@ opened_holds s limit recent rule h lawful within most =
       };
       folded = record {
         lower = record { lower = no_layer s.schema (table_in s) h.table; middle = no_layer s.schema (table_in s) h.table };
+        stable_few = few;
         few = omega (arith, rows, few);
       };
       newest_is = λ i. record { schema = s.schema; table = table_in s; number = none i };

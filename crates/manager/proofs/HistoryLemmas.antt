@@ -12,7 +12,7 @@ use Rattle.model.specs.Effects.{Effects, AreOver, table_with}
 use Rattle.model.specs.Clashes.{conflicts}
 use Rattle.model.specs.Writes.{write_fits_schema, replies_to, effects_after_all}
 use Rattle.model.specs.Laws.{AreCommits}
-use Rattle.model.specs.History.{Start, Record, table_with_all, table_after, due_reply, commits_with, commits_after, commits_from, effects_of_record, IsSnapshot, IsLegalRecord, IsLegalFrom}
+use Rattle.model.specs.History.{Start, Record, table_with_all, table_after, due_reply, commits_with, commits_after, commits_from, effects_of_record, IsLegalRecord, IsLegalFrom}
 use Rattle.model.proofs.CallerLemmas.{fits_newest, commits_fit, length-table_after, due_reply-cut, AreCommits-drop, table_with_all-drop}
 use Rattle.txn.specs.Txn.{Transaction, effects_of, asked_of, IsTransaction}
 use Rattle.txn.proofs.CallerLemmas.{over}
@@ -23,7 +23,7 @@ pub take_length : {A : Type 0} (xs : List A) → take (length xs) xs ≡ xs
 take_length [] = refl
 take_length (x ∷ xs) = ap (λ ys. x ∷ ys) (take_length xs)
 
-take_nothing : {A : Type 0} (n : ℕ) → take {A = A} n [] ≡ []
+pub take_nothing : {A : Type 0} (n : ℕ) → take {A = A} n [] ≡ []
 take_nothing zero = refl
 take_nothing (suc n) = refl
 

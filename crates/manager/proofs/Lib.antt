@@ -2,6 +2,8 @@ mod PassingLemmas
 mod HistoryLemmas
 mod KeptLemmas
 mod GrantLemmas
+mod FoldLemmas
+mod CutLemmas
 mod OwnLemmas
 mod CommitLemmas
 pub mod CallerLemmas

@@ -1,6 +1,6 @@
 -- A tree on its way through the trees of commits.
-use Rattle.std.proofs.Common.{◌≡◌, ℕ, zero, suc, ◌+◌, ◌<◌, ◌≤◌, Bool, true, false, ◌||◌, Option, Some, None, List, [], ◌∷◌, length, take, drop, refl, sym, ap, ◌∙◌, subst, arith}
-use Rattle.std.specs.Prelude.{IsTrue, slice_get}
+use Rattle.std.proofs.Common.{◌≡◌, ℕ, zero, suc, ◌+◌, ◌≤◌, Bool, true, false, ◌||◌, Some, List, [], ◌∷◌, length, take, drop, refl, sym, ap, ◌∙◌, subst, arith}
+use Rattle.std.specs.Prelude.{slice_get}
 use Rattle.std.specs.List.{list_any}
 use Rattle.values.specs.Shape.{Columns, IsSchema}
 use Rattle.model.specs.declared.clash.ConflictRule.{ConflictRule}
@@ -15,12 +15,9 @@ use Rattle.model.proofs.CallerLemmas.{rebases}
 use Rattle.delta.specs.Tree.{Tree}
 use Rattle.delta.proofs.CallerLemmas.{insert_count-any, inserts_few}
 use Rattle.layers.specs.Over.{tree_of, AreAligned}
-use Rattle.layers.specs.Serialization.{IsSerialized, rebased_tree}
-use Rattle.layers.specs.declared.rebase.Serialized.{Serialized}
-use Rattle.layers.specs.declared.rebase.Serialized.TheVariants as answer
 use Rattle.merge.proofs.CallerLemmas.{drop-at}
 use Rattle.manager.specs.Kept.{commit_trees}
-use Rattle.manager.specs.Passing.{MayPass, IsThrough}
+use Rattle.manager.specs.Passing.{MayPass}
 
 module _ (rule : ConflictRule) (schema : Columns) (x : Effects) (all : List Effects) (newest : Table) where
   -- the tree is consecutive to all commits but the rest, with none of which it conflicts

@@ -1,5 +1,5 @@
 -- What a manager holds beside its history: the layers of the newest table, and the trees of the last commits.
-use Rattle.std.specs.Prelude.{◌≡◌, ℕ, ◌≤◌, List, [], ◌∷◌, length}
+use Rattle.std.specs.Prelude.{◌≡◌, ◌≤◌, List, [], ◌∷◌, length}
 use Rattle.circular_buffer.specs.Buffer.{keep_last}
 use Rattle.values.specs.Shape.{Columns}
 use Rattle.values.specs.declared.limits.TheConstants.{MAX_ROWS}
@@ -23,6 +23,7 @@ kept_trees m = keep_last m.start.recent (commit_trees m.schema m.start.table (co
 -- layers whose table under the Read-PDT is one that was the newest
 pub record AreFolded (l : Lower) : Type 0 where
   pub lower : AreLower l
+  pub stable_few : length l.stable.rows ≤ MAX_ROWS
   pub few : length (table_with (table_in l.stable) lower.lower.effects) ≤ MAX_ROWS
 
 pub record HoldsNewest (m : Managed) (l : Lower) (newest : TableVersion) (kept : List Tree) : Type 0 where

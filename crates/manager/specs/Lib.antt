@@ -1,4 +1,7 @@
+pub mod History
 pub mod Managed
 pub mod Kept
+pub mod Held
+pub mod Layered
 pub mod Passing
 pub mod Prepared

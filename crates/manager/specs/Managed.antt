@@ -10,6 +10,7 @@ use Rattle.model.specs.History.{Start, Record, IsLegal, commits_of, table_after,
 use Rattle.stable.specs.Stable.{Stable, table_in}
 use Rattle.txn.specs.Txn.{Transaction, effects_of}
 use Rattle.txn.specs.Version.{TableVersion}
+use Rattle.manager.specs.History.{Recorded, recorded_at, start_at}
 use Rattle.manager.specs.declared.fault.OpenFault.{OpenFault}
 use Rattle.manager.specs.declared.fault.OpenFault.TheVariants.{BadLimit, TooManyRows}
 
@@ -20,18 +21,17 @@ pub record Managed : Type 0 where
   -- how many records it made since its opening
   pub made : ℕ
 
--- the start of a history over a version
-abbrev pub start_at : TableVersion → ℕ → ℕ → ConflictRule → Start
-start_at v limit recent rule = record { table = v.table; base = v.number; limit = limit; recent = recent; rule = rule }
+-- the manager of a history that made so many records
+abbrev pub managed_of : Recorded → ℕ → Managed
+managed_of h made = record { schema = h.schema; start = h.start; history = h.records; made = made }
 
--- the manager whose history starts over a version
-abbrev pub managed_at : TableVersion → ℕ → ℕ → ConflictRule → List Record → ℕ → Managed
-managed_at v limit recent rule history made =
-    record { schema = v.schema; start = start_at v limit recent rule; history = history; made = made }
+-- the history of a manager
+abbrev pub history_of : Managed → Recorded
+history_of m = record { schema = m.schema; start = m.start; records = m.history }
 
 -- the manager of a stable table that has just been opened: its numbers count from 0
 abbrev pub opened : Stable → ℕ → ℕ → ConflictRule → Managed
-opened s limit recent rule = managed_at (record { schema = s.schema; table = table_in s; number = 0 }) limit recent rule [] 0
+opened s limit recent rule = managed_of (recorded_at (record { schema = s.schema; table = table_in s; number = 0 }) limit recent rule []) 0
 
 -- the effects that were committed since the start, in order
 abbrev pub commits_in : Managed → List Effects
@@ -92,6 +92,10 @@ fault_of_opening s recent limit =
 -- the manager with one record more
 abbrev pub with_record : Managed → Record → Managed
 with_record m r = record m { history = m.history ++ r ∷ []; made = suc m.made }
+
+-- the manager after a cut: its history starts at the newest version
+abbrev pub cut_of : Managed → Managed
+cut_of m = record m { start = start_at (newest_version m) m.start.limit m.start.recent m.start.rule; history = [] }
 
 -- a transaction that has just begun: at all commits, over the newest table
 abbrev pub begun_at : Managed → ℕ → Transaction

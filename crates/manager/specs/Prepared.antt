@@ -1,24 +1,31 @@
 -- What a commit has made before anything changes.
-use Rattle.std.specs.Prelude.{◌≡◌, ◌≤◌, suc, true, false, Option, Some, None, length}
+use Rattle.std.specs.Prelude.{◌≡◌, ◌≤◌, ◌<◌, ◌^◌, suc, true, false, Option, Some, None, option_map, length}
 use Rattle.std.specs.List.{list_any}
 use Rattle.model.specs.declared.write.CommitReply.{CommitReply}
 use Rattle.model.specs.declared.write.CommitReply.TheVariants.{Committed, Conflict, TooOld, Full}
 use Rattle.model.specs.Clashes.{conflicts}
+use Rattle.model.specs.Effects.{Effects, AreOver, table_with}
 use Rattle.delta.specs.Tree.{Tree}
 use Rattle.layers.specs.Over.{tree_of}
 use Rattle.txn.specs.Txn.{Transaction, effects_of}
-use Rattle.txn.specs.Version.{Lower, version_of}
-use Rattle.model.specs.Effects.{Effects, AreOver, table_with}
-use Rattle.manager.specs.declared.manager.Held.{Held}
-use Rattle.manager.specs.declared.commit.Grant.{Grant}
-use Rattle.manager.specs.declared.commit.Prepared.{Prepared}
-use Rattle.manager.specs.declared.commit.Prepared.TheVariants.{Refused, Granted}
+use Rattle.txn.specs.Version.{Lower, TableVersion, version_of}
 use Rattle.manager.specs.Managed.{Managed, commits_since, newest_table, newest_number, reply_due}
 use Rattle.manager.specs.Kept.{AreFolded}
 
--- the layers behind their owners
-abbrev pub layers_of : Held → Lower
-layers_of held = record { stable = held.stable.value; read = held.read.value; write = held.write.value }
+-- the version after a commit, its layers, and the commit's tree over the table that it found
+pub record Granted : Type 0 where
+  pub tree : Tree
+  pub layers : Lower
+  pub version : TableVersion
+
+-- the reply to a commit, and what it installs
+pub record Prepared : Type 0 where
+  pub reply : CommitReply
+  pub granted : Option Granted
+
+-- the version that it installs
+abbrev pub version_in : Prepared → Option TableVersion
+version_in p = option_map (λ g. g.version) p.granted
 
 -- whether a reply leaves the table
 abbrev pub LeavesTable : CommitReply → Type 0
@@ -41,13 +48,19 @@ pub record MayGrant (m : Managed) (tree : Tree) : Type 0 where
   pub room : length (table_with (newest_table m) x) ≤ m.start.limit
 
 -- the version after a commit of effects, its layers, and the effects' tree over the table that the commit found
-pub record IsGrant (m : Managed) (x : Effects) (grant : Grant) : Type 0 where
-  pub tree_is : grant.tree ≡ tree_of m.schema (newest_table m) x
-  pub folded : AreFolded (layers_of grant.held)
-  pub version_is : grant.version ≡ record { schema = m.schema; table = table_with (newest_table m) x; number = suc (newest_number m) }
-  pub layers_are : grant.version ≡ version_of (layers_of grant.held) (suc (newest_number m))
+pub record IsGrant (m : Managed) (x : Effects) (granted : Granted) : Type 0 where
+  pub tree_is : granted.tree ≡ tree_of m.schema (newest_table m) x
+  pub folded : AreFolded granted.layers
+  pub version_is : granted.version ≡ record { schema = m.schema; table = table_with (newest_table m) x; number = suc (newest_number m) }
+  pub layers_are : granted.version ≡ version_of granted.layers (suc (newest_number m))
+
+-- what is installed with a reply: the next version where the transaction is committed, or nothing
+abbrev pub IsInstalled : Managed → Transaction → CommitReply → Option Granted → Type 0
+IsInstalled m txn reply None = LeavesTable reply
+IsInstalled m txn reply (Some granted) = (reply ≡ Committed (suc (newest_number m))) × IsGrant m (effects_of txn) granted
 
 -- what the commit of the transaction does
-abbrev pub IsPrepared : Managed → Transaction → Prepared → Type 0
-IsPrepared m txn (Refused reply) = (reply ≡ reply_due m txn) × LeavesTable reply
-IsPrepared m txn (Granted grant) = (Committed (suc (newest_number m)) ≡ reply_due m txn) × IsGrant m (effects_of txn) grant
+pub record IsPrepared (m : Managed) (txn : Transaction) (p : Prepared) : Type 0 where
+  pub few : m.made < 2 ^ 62
+  pub due : p.reply ≡ reply_due m txn
+  pub installed : IsInstalled m txn p.reply p.granted

@@ -1,15 +1,16 @@
 //! The commit of a transaction: decided by position against the trees of the commits since it began, and folded into
 //! the Write-PDT.
-ghost use Rattle.std.specs.Prelude.{◌≡◌, ◌<◌, ◌^◌, IsFalse, IfOk, IfErr};
+ghost use Rattle.std.specs.Prelude.{◌≡◌, ◌<◌, ◌^◌, IsFalse, IsTrue, IfOk, IfErr, IsOk};
+ghost use Rattle.std.specs.Option.{option_copied};
 ghost use Rattle.txn.specs.Txn.{IsTransaction};
-ghost use Rattle.manager.specs.Managed.{record_of};
 
 use crate::manager::{Held, Manager};
 use crate::passing::passed_through;
 use delta::DeltaTree;
 use layers::propagate;
 use merge::grown;
-use model::{CommitReply, Record};
+use model::CommitReply;
+use std::marker::Model;
 use std::sync::Arc;
 use txn::{Txn, Version};
 use values::NoMemory;
@@ -17,22 +18,75 @@ use values::NoMemory;
 /// How many records a manager makes at most.
 const MAX_RECORDS: u64 = 1 << 62;
 
-/// What a commit will do, made before anything changes.
+/// What the commit of a transaction will do, made before anything changes.
 #[derive(Drop)]
-pub(crate) enum Prepared {
-    /// It is answered so, and leaves the table.
-    Refused(CommitReply),
-    /// It is committed.
-    Granted(Grant),
+pub struct Prepared {
+    reply: CommitReply,
+    /// Nothing where the reply leaves the table.
+    grant: Option<Grant>,
+}
+
+impl Model for Prepared {
+    ghost use Rattle.manager.specs.Prepared.{Prepared as Deciding};
+
+    ghost Value = { Deciding };
+
+    ghost view = { λ p. record { reply = p.reply; granted = p.grant } };
 }
 
 /// The version after a commit.
 #[derive(Drop)]
-pub(crate) struct Grant {
+struct Grant {
     /// The commit's tree, over the table that it found.
-    pub(crate) tree: DeltaTree,
-    pub(crate) held: Held,
-    pub(crate) version: Version,
+    tree: DeltaTree,
+    held: Held,
+    version: Version,
+}
+
+impl Model for Grant {
+    ghost use Rattle.manager.specs.Prepared.{Granted};
+
+    ghost Value = { Granted };
+
+    ghost use Rattle.manager.specs.Held.{layers_of};
+
+    ghost view = { λ g. record { tree = g.tree; layers = layers_of g.held; version = g.version } };
+}
+
+impl Prepared {
+    ghost use Rattle.manager.specs.Prepared.{version_in};
+
+    /// The reply that `install` will give. Takes no memory.
+    pub fn reply(&self) -> CommitReply
+        ensures { result ≡ self.now.reply }
+    {
+        self.reply
+    }
+
+    /// The version that will then be the newest, where the transaction is committed. Takes no memory.
+    pub fn version(&self) -> Option<&Version>
+        ensures { option_copied result ≡ version_in self.now }
+    {
+        match &self.grant {
+            Some(grant) => Some(grant.version()),
+            None => None,
+        }
+    }
+
+    /// A reply that leaves the table.
+    fn refused(reply: CommitReply) -> Prepared
+        ensures { result ≡ record { reply = reply; granted = None } }
+    {
+        Prepared { reply, grant: None }
+    }
+}
+
+impl Grant {
+    fn version(&self) -> &Version
+        ensures { result.now ≡ self.now.version }
+    {
+        &self.version
+    }
 }
 
 impl Manager {
@@ -41,7 +95,7 @@ impl Manager {
 
     /// Decides a transaction against the commits since it began, and adds its record: too old, in conflict with one of
     /// them, past the row limit, or committed. Its time grows with its own writes and with those commits, and with the
-    /// table only as the logarithm.
+    /// table only as the logarithm. A transaction that is too old takes no memory.
     ///
     /// # Errors
     ///
@@ -51,51 +105,65 @@ impl Manager {
         requires own { IsOwn self.old txn }
         ensures ok { IfOk result (λ reply. IsDecided self.old txn reply self.new) }
         ensures err { IfErr result (λ e. (self.new ≡ self.old) × (e.0 ≡ txn)) }
+        ensures old { IsTrue (is_too_old self.old txn) → self.old.made < 2 ^ 62 → IsOk result }
     {
-        let prepared = match self.prepare(&txn) {
-            Ok(prepared) => prepared,
-            Err(fault) => return Err((txn, fault)),
-        };
-        if self.history.try_reserve(1).is_err() {
-            return Err((txn, NoMemory));
-        }
-        self.made += 1;
-        match prepared {
-            Prepared::Refused(reply) => {
-                self.history.push_reserved(record_with(txn, reply));
-                Ok(reply)
-            }
-            Prepared::Granted(grant) => {
-                let reply = CommitReply::Committed(grant.version.number());
-                self.history.push_reserved(record_with(txn, reply));
-                self.kept.push_back(grant.tree);
-                self.held = grant.held;
-                self.newest = grant.version;
-                Ok(reply)
-            }
+        match self.prepare(&txn) {
+            Ok(prepared) => Ok(self.install(txn, prepared)),
+            Err(fault) => Err((txn, fault)),
         }
     }
 
-    /// What the commit of a transaction will do.
-    fn prepare(&self, txn: &Txn) -> Result<Prepared, NoMemory>
+    /// What the commit of a transaction will do: all that it needs is made, and nothing changes. It costs what the commit
+    /// does.
+    ///
+    /// # Errors
+    ///
+    /// `NoMemory` where a growth is refused, or where the manager has made 2^62 records.
+    pub fn prepare(&self, txn: &Txn) -> Result<Prepared, NoMemory>
         requires own { IsOwn self.now txn.now }
         ensures prepared { IfOk result (λ prepared. IsPrepared self.now txn.now prepared) }
-        ensures few { IfOk result (λ prepared. self.now.made < 2 ^ 62) }
+        ensures old { IsTrue (is_too_old self.now txn.now) → self.now.made < 2 ^ 62 → IsOk result }
     {
         if self.made >= MAX_RECORDS {
             return Err(NoMemory);
         }
         let count = self.newest.number();
         if self.is_too_old(txn) {
-            return Ok(Prepared::Refused(CommitReply::TooOld(count)));
+            return Ok(Prepared::refused(CommitReply::TooOld(count)));
         }
         let Some(tree) = self.passed(txn)? else {
-            return Ok(Prepared::Refused(CommitReply::Conflict(count)));
+            return Ok(Prepared::refused(CommitReply::Conflict(count)));
         };
-        if grown(self.newest.len(), &tree) > self.rules.row_limit {
-            return Ok(Prepared::Refused(CommitReply::Full(count)));
+        if grown(self.newest.len(), &tree) > self.row_limit() {
+            return Ok(Prepared::refused(CommitReply::Full(count)));
         }
-        Ok(Prepared::Granted(self.grant(tree)?))
+        let grant = self.grant(tree)?;
+        Ok(Prepared {
+            reply: CommitReply::Committed(grant.version().number()),
+            grant: Some(grant),
+        })
+    }
+
+    /// Does what was prepared for this transaction while the history was as it is, and adds its record. Takes no memory.
+    pub fn install(&mut self, txn: Txn, prepared: Prepared) -> CommitReply
+        requires own { IsOwn self.old txn }
+        requires prepared { IsPrepared self.old txn prepared }
+        ensures { IsDecided self.old txn result self.new }
+    {
+        let Prepared { reply, grant } = prepared;
+        self.history.enter(txn.into_record(reply));
+        self.made += 1;
+        if let Some(grant) = grant {
+            let Grant {
+                tree,
+                held,
+                version,
+            } = grant;
+            self.kept.push_back(tree);
+            self.held = held;
+            self.newest = version;
+        }
+        reply
     }
 
     /// Whether the commit of a transaction comes too late.
@@ -105,7 +173,7 @@ impl Manager {
         ensures lawful { IsTransaction txn.now }
     {
         let begin = txn.begin();
-        begin < self.base || (self.rules.recent as u64) < self.newest.number() - begin
+        begin < self.base() || (self.history.rules().recent as u64) < self.newest.number() - begin
     }
 
     /// The tree of a transaction made consecutive to the commits since it began, one at a time in their order, or none
@@ -118,7 +186,8 @@ impl Manager {
         let since = (self.newest.number() - txn.begin()) as usize;
         let first = self.kept.len() - since;
         let tree = txn.tree().copy()?;
-        passed_through(self.alloc, tree, &self.kept, first, self.rules.conflicts)
+        let conflicts = self.history.rules().conflicts;
+        passed_through(self.alloc, tree, &self.kept, first, conflicts)
     }
 
     /// The version with the tree of a transaction folded into the Write-PDT.
@@ -127,32 +196,16 @@ impl Manager {
         ensures { IfOk result (λ grant. (w : MayGrant self.now tree) → IsGrant self.now w.x grant) }
     {
         let write = Arc::new(self.alloc, propagate(&self.held.write, &tree)?)?;
-        let stable = self.held.stable.clone()?;
-        let read = self.held.read.clone()?;
-        let version = Version::stacked(
-            self.alloc,
-            stable.clone()?,
-            read.clone()?,
-            write.clone()?,
-            self.newest.number() + 1,
-        )?;
+        let held = Held {
+            stable: self.held.stable.clone()?,
+            read: self.held.read.clone()?,
+            write,
+        };
+        let version = held.version(self.alloc, self.newest.number() + 1)?;
         Ok(Grant {
             tree,
-            held: Held {
-                stable,
-                read,
-                write,
-            },
+            held,
             version,
         })
     }
-}
-
-/// The record of a transaction, with the reply to its commit. Takes no memory.
-fn record_with(txn: Txn, reply: CommitReply) -> Record
-    ensures entry { result ≡ record_of txn reply }
-    ensures lawful { IsTransaction txn }
-{
-    let parts = txn.into_parts();
-    Record::new(parts.client, parts.begin, parts.writes, reply)
 }

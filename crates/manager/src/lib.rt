@@ -8,9 +8,15 @@
 #![tactic(auto)]
 
 mod commit;
+mod cut;
 mod fault;
+mod fold;
+mod history;
 mod manager;
 mod passing;
 
+pub use commit::Prepared;
 pub use fault::OpenFault;
+pub use fold::Folded;
+pub use history::History;
 pub use manager::Manager;

@@ -4,32 +4,22 @@ ghost use Rattle.manager.specs.declared.fault.OpenFault.{OpenFault};
 ghost use Rattle.manager.specs.Managed.{is_bad_limit};
 ghost use Rattle.merge.specs.Image.{image_rows};
 ghost use Rattle.model.specs.Table.{rows_of};
+ghost use Rattle.txn.specs.Version.{AreLower, version_of};
 ghost use Rattle.values.specs.declared.limits.TheConstants.{MAX_ROWS};
 
 use crate::fault::OpenFault;
+use crate::history::{History, Rules};
 use circular_buffer::HeapCircularBuffer;
 use delta::DeltaTree;
 use merge::Layers;
-use model::{ConflictRule, Record};
+use model::ConflictRule;
 use stable::StableTable;
 use std::alloc::Global;
 use std::marker::Model;
-use std::snapshot::Snapshot;
 use std::sync::Arc;
 use txn::{Txn, Version};
 use values::NoMemory;
 use values::limits::{MAX_RECENT_COMMITS, MAX_ROWS};
-
-/// The limits and the rule that a manager is opened with.
-#[derive(Clone, Copy)]
-pub(crate) struct Rules {
-    /// How many rows a table may have.
-    pub(crate) row_limit: u64,
-    /// How many commits may come between a transaction's begin and its commit.
-    pub(crate) recent: usize,
-    /// Which modifies of one row conflict.
-    pub(crate) conflicts: ConflictRule,
-}
 
 /// A stable table under its Read- and its Write-PDT.
 #[derive(Drop)]
@@ -39,15 +29,28 @@ pub struct Held {
     pub(crate) write: Arc<DeltaTree>,
 }
 
+impl Held {
+    ghost use Rattle.manager.specs.Held.{layers_of};
+
+    /// The version over these layers, which so many commits made.
+    pub(crate) fn version(&self, alloc: Global, number: u64) -> Result<Version, NoMemory>
+        requires { AreLower (layers_of self.now) }
+        ensures { IfOk result (λ version. version ≡ version_of (layers_of self.now) number) }
+    {
+        Version::stacked(
+            alloc,
+            self.stable.clone()?,
+            self.read.clone()?,
+            self.write.clone()?,
+            number,
+        )
+    }
+}
+
 /// The newest version of a table, and the history of the transactions that asked to commit.
 #[derive(Drop)]
 pub struct Manager {
-    /// The version at which the history starts, for clauses alone.
-    pub(crate) opening: Snapshot<Version>,
-    /// The number of that version.
-    pub(crate) base: u64,
-    pub(crate) rules: Rules,
-    pub(crate) history: Vec<Record>,
+    pub(crate) history: History,
     /// How many records were made since the opening.
     pub(crate) made: u64,
     /// The layers of the newest version.
@@ -60,20 +63,20 @@ pub struct Manager {
 
 impl Model for Manager {
     ghost use Rattle.std.specs.Prelude.{◌≡◌};
-    ghost use Rattle.manager.specs.Managed.{Managed, managed_at};
+    ghost use Rattle.manager.specs.Managed.{Managed, managed_of};
     ghost use Rattle.manager.specs.Kept.{HoldsNewest};
 
     ghost Value = { Managed };
 
-    ghost view = { λ m. managed_at m.opening.value m.rules.row_limit m.rules.recent m.rules.conflicts m.history.items m.made };
+    ghost view = { λ m. managed_of m.history m.made };
 
-    ghost invariant = { λ m. HoldsNewest (managed_at m.opening.value m.rules.row_limit m.rules.recent m.rules.conflicts m.history.items m.made)
+    ghost invariant = { λ m. HoldsNewest (managed_of m.history m.made)
         (record { stable = m.held.stable.value; read = m.held.read.value; write = m.held.write.value }) m.newest m.kept.items
-        × (m.kept.capacity ≡ m.rules.recent) × (m.base ≡ m.opening.value.number) };
+        × (m.kept.capacity ≡ m.history.start.recent) };
 }
 
 impl Manager {
-    ghost use Rattle.manager.specs.Managed.{opened, fault_of_opening, begun_at, newest_table, newest_version, IsManaged};
+    ghost use Rattle.manager.specs.Managed.{opened, fault_of_opening, begun_at, newest_table, newest_version, history_of, IsManaged};
 
     /// A manager of this table, whose numbers of commits count from 0, under a limit of its rows and of the commits that
     /// may come between a transaction's begin and its commit, and a rule of what conflicts.
@@ -102,22 +105,21 @@ impl Manager {
         let stable = Arc::new(alloc, table)?;
         let read = Arc::new(alloc, DeltaTree::new(alloc, key_cols))?;
         let write = Arc::new(alloc, DeltaTree::new(alloc, key_cols))?;
-        let newest = Version::stacked(alloc, stable.clone()?, read.clone()?, write.clone()?, 0)?;
+        let held = Held {
+            stable,
+            read,
+            write,
+        };
+        let newest = held.version(alloc, 0)?;
+        let rules = Rules {
+            row_limit,
+            recent,
+            conflicts,
+        };
         Ok(Manager {
-            opening: Snapshot::of(&newest),
-            base: 0,
-            rules: Rules {
-                row_limit,
-                recent,
-                conflicts,
-            },
-            history: Vec::new(alloc),
+            history: History::new(alloc, &newest, rules),
             made: 0,
-            held: Held {
-                stable,
-                read,
-                write,
-            },
+            held,
             newest,
             kept: HeapCircularBuffer::with_capacity(alloc, recent)?,
             alloc,
@@ -136,16 +138,16 @@ impl Manager {
             self.alloc,
             self.newest.copy()?,
             client,
-            self.rules.row_limit,
+            self.history.rules().row_limit,
         )
     }
 
-    /// The history: each transaction that asked to commit, in the order of the commits.
-    pub fn history(&self) -> &[Record]
-        ensures records { result.now ≡ self.now.history }
+    /// The history: each transaction that asked to commit since its start, in the order of the commits. Takes no memory.
+    pub fn history(&self) -> &History
+        ensures history { result.now ≡ history_of self.now }
         ensures lawful { IsManaged self.now }
     {
-        self.history.as_slice()
+        &self.history
     }
 
     /// The layers of the newest table, whose image is its rows. Takes no memory.
@@ -168,14 +170,14 @@ impl Manager {
     pub fn base(&self) -> u64
         ensures { result ≡ self.now.start.base }
     {
-        self.base
+        self.history.base()
     }
 
     /// How many rows a table may have.
     pub fn row_limit(&self) -> u64
         ensures { result ≡ self.now.start.limit }
     {
-        self.rules.row_limit
+        self.history.rules().row_limit
     }
 }
 

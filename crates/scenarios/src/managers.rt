@@ -126,7 +126,7 @@ fn a_row_that_both_delete_conflicts(rt: HostRuntime) -> Result<(), Fail> {
     assert!(&rt; first == Some(CommitReply::Committed(1)));
     assert!(&rt; second == Some(CommitReply::Conflict(1)));
     assert_eq!(&rt; numbers(alloc, &manager)?.as_str(), "10 1;30 3;");
-    let history = manager.history();
+    let history = manager.history().records();
     assert_eq!(&rt; history.len(), 2);
     for (client, (record, want)) in history
         .iter()
@@ -164,7 +164,11 @@ fn two_commits_since_the_begin_are_too_many_where_one_is_kept(rt: HostRuntime) -
     assert!(&rt; second == Some(CommitReply::Committed(2)));
     assert!(&rt; third == Some(CommitReply::TooOld(2)));
     assert_eq!(&rt; numbers(alloc, &manager)?.as_str(), "10 1;20 2;30 3;");
-    let begins = manager.history().iter().map(|record| record.begin());
+    let begins = manager
+        .history()
+        .records()
+        .iter()
+        .map(|record| record.begin());
     assert!(&rt; begins.eq([0_u64, 1, 0].iter().copied()));
     Ok(())
 }

@@ -11,6 +11,7 @@
 
 mod fault;
 mod parts;
+mod place;
 mod reads;
 mod transaction;
 mod version;

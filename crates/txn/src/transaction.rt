@@ -1,5 +1,5 @@
 //! A client's writes over a version of the table, kept as a delta tree (Héman et al. 2010, "Trans-PDT").
-ghost use Rattle.std.specs.Prelude.{◌≡◌, ◌≤◌, [], IsTrue, IfOk, OnErr, IsOkUnless, MatchOption, Err, length};
+ghost use Rattle.std.specs.Prelude.{◌≡◌, ◌≤◌, [], ◌∷◌, IsTrue, IfOk, OnErr, IsOkUnless, MatchOption, Err, length};
 ghost use Rattle.values.specs.Shape.{row_fault, key_fault, cell_fault, or_fault};
 ghost use Rattle.values.specs.declared.limits.TheConstants.{MAX_ROWS};
 ghost use Rattle.model.specs.declared.write.Write.TheVariants as asked;
@@ -11,12 +11,14 @@ ghost use Rattle.txn.specs.declared.fault.WriteFault.TheVariants as write_fault;
 
 use crate::fault::WriteFault;
 use crate::parts::Parts;
+use crate::place::RecordPlace;
 use crate::version::Version;
 use crate::writes::{Found, FoundRow, edit};
 use delta::DeltaTree;
 use merge::Layers;
-use model::{Write, WriteReply, key_of_write, reply_where};
+use model::{CommitReply, Record, Write, WriteReply, key_of_write, reply_where};
 use std::alloc::Global;
+use std::collections::LinkedList;
 use std::marker::Model;
 use values::{Key, NoMemory, Row, Schema, Value};
 
@@ -29,6 +31,8 @@ pub struct Txn {
     tree: DeltaTree,
     /// Each with the reply that was due.
     writes: Vec<(Write, WriteReply)>,
+    /// Where its record will stand, should it commit.
+    place: RecordPlace,
 }
 
 impl Model for Txn {
@@ -68,6 +72,7 @@ impl Txn {
             row_limit,
             tree: DeltaTree::new(alloc, key_cols),
             writes: Vec::new(alloc),
+            place: RecordPlace::new(alloc)?,
         })
     }
 
@@ -122,6 +127,7 @@ impl Txn {
             row_limit: _,
             tree,
             writes,
+            place: _place,
         } = self;
         Parts {
             client,
@@ -129,6 +135,22 @@ impl Txn {
             tree,
             writes,
         }
+    }
+
+    /// Its record, with the reply to its commit, in the place that was made when it began. Takes no memory.
+    pub fn into_record(self, reply: CommitReply) -> LinkedList<Record>
+        ensures entry { result ≡ record { client = self.client; begin = self.begin; writes = self.writes; reply = reply } ∷ [] }
+        ensures lawful { IsTransaction self }
+    {
+        let Txn {
+            client,
+            version,
+            row_limit: _,
+            tree: _tree,
+            writes,
+            place,
+        } = self;
+        place.with(Record::new(client, version.number(), writes, reply))
     }
 
     /// Inserts a row.
@@ -235,6 +257,7 @@ impl Txn {
             row_limit: _,
             tree: _tree,
             writes: _writes,
+            place: _place,
         } = self;
     }
 }

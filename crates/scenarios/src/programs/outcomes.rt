@@ -47,7 +47,7 @@ fn the_record_of_two_refused_writes_holds_both(rt: HostRuntime) -> Result<(), Fa
         _ => false,
     };
     assert!(&rt; told);
-    let history = outcome.manager().history();
+    let history = outcome.manager().history().records();
     assert_eq!(&rt; history.len(), 1);
     for record in history {
         assert_eq!(&rt; record.client(), 0);
@@ -77,7 +77,7 @@ fn commits_that_are_decided_are_counted(rt: HostRuntime) -> Result<(), Fail> {
     }
     assert_eq!(&rt; outcome.lines().len(), 10);
     assert!(&rt; outcome.counts() == [2_u64].as_slice());
-    assert_eq!(&rt; outcome.manager().history().len(), 2);
+    assert_eq!(&rt; outcome.manager().history().records().len(), 2);
     let newest = outcome.manager().newest();
     assert_eq!(&rt; newest.len(), 2);
     for (rid, id) in [10, 30].iter().enumerate() {

@@ -1,9 +1,7 @@
-use Rattle.std.proofs.Common.{◌≡◌, ◌≤◌, ◌+◌, ◌<◌, Some, None, true, false, length, drop, sym, ap, ◌∙◌, subst, arith}
+use Rattle.std.proofs.Common.{◌≡◌, ◌≤◌, Some, length, drop, sym, ap, ◌∙◌, subst, arith}
 use Rattle.std.specs.Prelude.{slice_get}
 use Rattle.std.specs.Option.{option_copied}
-use Rattle.model.specs.Clashes.{conflicts}
 use Rattle.layers.specs.Serialization.{IsSerialized}
-use Rattle.layers.specs.declared.rebase.Serialized.TheVariants as answer
 use Rattle.manager.specs.Passing.{MayPass}
 use Rattle.manager.proofs.PassingLemmas.{begins, met, aligned, stopped, goes_on, ended, nothing_past}
 use Rattle.manager.proofs.passing.passed_through.Goals as goal

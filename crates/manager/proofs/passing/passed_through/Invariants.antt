@@ -1,4 +1,4 @@
-use Rattle.std.proofs.Common.{◌-◌, drop, length}
+use Rattle.std.proofs.Common.{drop}
 use Rattle.model.specs.History.{table_with_all}
 use Rattle.manager.specs.Passing.{MayPass}
 use Rattle.manager.proofs.PassingLemmas.{IsOnItsWay}

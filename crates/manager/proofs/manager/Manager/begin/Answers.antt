@@ -1,7 +1,6 @@
-use Rattle.std.proofs.Common.{◌≡◌, ◌≤◌, length, ap, ◌∙◌, arith}
-use Rattle.model.specs.Table.{Table}
+use Rattle.std.proofs.Common.{◌≡◌, length, ap, ◌∙◌, arith}
 use Rattle.txn.specs.Version.{TableVersion}
-use Rattle.manager.specs.Managed.{managed_at, newest_table}
+use Rattle.manager.specs.Managed.{managed_of, newest_table}
 use Rattle.manager.proofs.HistoryLemmas.{newest_within}
 use Rattle.manager.proofs.manager.Manager.begin.Goals as goal
 
@@ -9,7 +8,7 @@ pub open-requires-clause-within : goal.open-requires-clause-within
 open-requires-clause-within c =
     let i = c.self.inside in
     let h = c.self.invariant.0 in
-    let m = managed_at i.opening.value i.rules.row_limit i.rules.recent i.rules.conflicts i.history.items i.made in
+    let m = managed_of i.history i.made in
     let within = newest_within m h.lawful in
     let same : length c.in_ok-copy.field-0.table ≡ length (newest_table m) = ap (λ (v : TableVersion). length v.table) (c.in_ok-copy.ensures ∙ h.newest_is) in
     omega (arith, within, same)

@@ -1,4 +1,4 @@
-use Rattle.std.proofs.Common.{◌≡◌, ◌+◌, ◌≤◌, suc, ap, sym, ◌∙◌, subst, arith}
+use Rattle.std.proofs.Common.{◌≡◌, ◌+◌, suc, ap, sym, ◌∙◌, subst, arith}
 use Rattle.delta.specs.Tree.{Tree}
 use Rattle.layers.specs.Over.{AreConsecutive}
 use Rattle.layers.specs.Propagation.{composed_tree}
@@ -30,8 +30,8 @@ overflow_add-number c =
     let few = h.lawful.few in
     omega (arith, number, fits, few, c.number.ensures)
 
-pub stacked-requires : goal.stacked-requires
-stacked-requires c =
+pub version-requires : goal.version-requires
+version-requires c =
     let i = c.self.inside in
     let l : Lower = record { stable = i.held.stable.value; read = i.held.read.value; write = i.held.write.value } in
     let m = c.args.self.now in
@@ -42,9 +42,9 @@ stacked-requires c =
     let write : c.in_ok-write.write.value ≡ composed_tree l.write c.args.tree two = c.in_ok-write.ensures.ok ∙ written in
     let next = next_folded m l i.newest i.kept.items h w.x w.over w.room c.args.tree w.tree_is c.in_ok-write.write.value write in
     subst AreLower (sym (λ j. record {
-      stable = (c.in_ok-clone.ensures.cases ∙ c.in_ok-stable.ensures.cases) j;
-      read = (c.in_ok-clone-2.ensures.cases ∙ c.in_ok-read.ensures.cases) j;
-      write = c.in_ok-clone-3.ensures.cases j;
+      stable = c.in_ok-clone.ensures.cases j;
+      read = c.in_ok-clone-2.ensures.cases j;
+      write = c.in_ok-write.write.value;
     })) next.lower
 
 pub returns : goal.returns
@@ -58,18 +58,12 @@ returns c =
     let written = folded_in c.deref.result.now l.write c.args.tree c.in_ok-propagate.field-0 c.deref.ensures c.in_ok-propagate.ensures two in
     let write : c.in_ok-write.write.value ≡ composed_tree l.write c.args.tree two = c.in_ok-write.ensures.ok ∙ written in
     let next = next_folded m l i.newest i.kept.items h w.x w.over w.room c.args.tree w.tree_is c.in_ok-write.write.value write in
-    let held : ◌≡◌ {A = Lower} (record { stable = c.in_ok-stable.stable.value; read = c.in_ok-read.read.value; write = c.in_ok-write.write.value }) (record l { write = c.in_ok-write.write.value }) =
-    λ j. record { stable = c.in_ok-stable.ensures.cases j; read = c.in_ok-read.ensures.cases j; write = c.in_ok-write.write.value } in
-    let cloned : ◌≡◌ {A = Lower} (record { stable = c.in_ok-clone.field-0.value; read = c.in_ok-clone-2.field-0.value; write = c.in_ok-clone-3.field-0.value }) (record l { write = c.in_ok-write.write.value }) =
-    λ j. record {
-      stable = (c.in_ok-clone.ensures.cases ∙ c.in_ok-stable.ensures.cases) j;
-      read = (c.in_ok-clone-2.ensures.cases ∙ c.in_ok-read.ensures.cases) j;
-      write = c.in_ok-clone-3.ensures.cases j;
-    } in
+    let held : ◌≡◌ {A = Lower} (record { stable = c.in_ok-clone.field-0.value; read = c.in_ok-clone-2.field-0.value; write = c.in_ok-write.write.value }) (record l { write = c.in_ok-write.write.value }) =
+    λ j. record { stable = c.in_ok-clone.ensures.cases j; read = c.in_ok-clone-2.ensures.cases j; write = c.in_ok-write.write.value } in
     let number : c.number.result + 1 ≡ suc (newest_number m) =
     let same : i.newest.number ≡ newest_number m = ap (λ (v : TableVersion). v.number) h.newest_is in
     omega (arith, same, c.number.ensures) in
-    let version = c.in_ok-version.ensures ∙ (λ j. version_of (cloned j) (number j)) in
+    let version = c.in_ok-version.ensures ∙ (λ j. version_of (held j) (number j)) in
     record {
       tree_is = w.tree_is;
       folded = subst AreFolded (sym held) next;

@@ -1,10 +1,10 @@
-use Rattle.std.proofs.Common.{◌≡◌, ◌≤◌, List, ap, sym, ◌∙◌, subst, length, arith}
+use Rattle.std.proofs.Common.{◌≡◌, List, ap, ◌∙◌, length, arith}
 use Rattle.std.proofs.lemmas.List.{length-map}
 use Rattle.values.specs.declared.row.Row.{Row}
 use Rattle.model.specs.Table.{rows_of}
 use Rattle.merge.specs.Image.{image_rows}
 use Rattle.txn.specs.Version.{TableVersion}
-use Rattle.manager.specs.Managed.{Managed, managed_at, newest_table, newest_version}
+use Rattle.manager.specs.Managed.{Managed, managed_of, newest_table, newest_version}
 use Rattle.manager.proofs.GrantLemmas.{limited}
 use Rattle.manager.proofs.HistoryLemmas.{newest_within}
 use Rattle.manager.proofs.manager.Manager.newest.Goals as goal
@@ -21,7 +21,7 @@ pub returns-clause-few : goal.returns-clause-few
 returns-clause-few c =
     let i = c.self.inside in
     let h = c.self.invariant.0 in
-    let m = managed_at i.opening.value i.rules.row_limit i.rules.recent i.rules.conflicts i.history.items i.made in
+    let m = managed_of i.history i.made in
     let rows : length (image_rows c.image.result) ≡ length (rows_of (newest_table m)) = ap (λ (rs : List Row). length rs) (c.image.ensures.rows ∙ ap (λ (v : TableVersion). rows_of v.table) h.newest_is) in
     let count : length (rows_of (newest_table m)) ≡ length (newest_table m) = length-map _ _ in
     let most = limited m (length (newest_table m)) h.lawful (newest_within m h.lawful) in

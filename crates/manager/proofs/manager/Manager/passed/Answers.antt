@@ -1,4 +1,4 @@
-use Rattle.std.proofs.Common.{◌≡◌, ◌-◌, ◌≤◌, length, drop, ap, sym, ◌∙◌, subst, arith}
+use Rattle.std.proofs.Common.{◌≡◌, ◌-◌, length, drop, ap, sym, ◌∙◌, subst, arith}
 use Rattle.std.specs.Prelude.{IfOk}
 use Rattle.model.specs.declared.clash.ConflictRule.{ConflictRule}
 use Rattle.txn.specs.Version.{Lower, TableVersion}
@@ -28,7 +28,7 @@ passed_through-requires c =
     let number : i.newest.number ≡ newest_number m = ap (λ (v : TableVersion). v.number) h.newest_is in
     let first : c.len.result - (c.number.result - c.begin.result) ≡ length i.kept.items - (newest_number m - txn.begin) =
     omega (arith, number, c.number.ensures, c.begin.ensures.number, c.len.ensures.len) in
-    let rule : i.rules.conflicts ≡ m.start.rule = ap (λ (v : Managed). v.start.rule) c.self.view_is in
+    let rule : c.rules-conflicts.result.conflicts ≡ m.start.rule = c.rules-conflicts.ensures.conflicts ∙ ap (λ (v : Managed). v.start.rule) c.self.view_is in
     subst (λ (r : ConflictRule). MayPass r (drop (c.len.result - (c.number.result - c.begin.result)) i.kept.items) c.in_ok-tree.tree) (sym rule)
     (may_pass m l i.newest i.kept.items h txn c.requires.own c.requires.recent c.begin.ensures.lawful _ first c.in_ok-tree.tree (c.in_ok-tree.ensures ∙ c.tree.ensures))
 
@@ -43,7 +43,7 @@ returns c =
     let n = c.len.result - (c.number.result - c.begin.result) in
     let first : n ≡ length i.kept.items - (newest_number m - txn.begin) =
     omega (arith, number, c.number.ensures, c.begin.ensures.number, c.len.ensures.len) in
-    let rule : i.rules.conflicts ≡ m.start.rule = ap (λ (v : Managed). v.start.rule) c.self.view_is in
+    let rule : c.rules-conflicts.result.conflicts ≡ m.start.rule = c.rules-conflicts.ensures.conflicts ∙ ap (λ (v : Managed). v.start.rule) c.self.view_is in
     let own_tree = c.in_ok-tree.ensures ∙ c.tree.ensures in
     let w = may_pass m l i.newest i.kept.items h txn c.requires.own c.requires.recent c.begin.ensures.lawful n first c.in_ok-tree.tree own_tree in
     let P = λ (r : ConflictRule). IfOk c.passed_through.result (λ passed. (v : MayPass r (drop n i.kept.items) c.in_ok-tree.tree) → IsThrough r (drop n i.kept.items) c.in_ok-tree.tree v passed) in

@@ -1,0 +1,85 @@
+//! The fold: the Write-PDT goes into the Read-PDT, and no table changes.
+ghost use Rattle.std.specs.Prelude.{◌≡◌, IfOk};
+
+use crate::manager::{Held, Manager};
+use delta::DeltaTree;
+use layers::propagate;
+use std::marker::Model;
+use std::sync::Arc;
+use txn::Version;
+use values::NoMemory;
+
+/// The newest version with its Write-PDT folded into its Read-PDT, made before anything changes.
+#[derive(Drop)]
+pub struct Folded {
+    held: Held,
+    version: Version,
+}
+
+impl Model for Folded {
+    ghost use Rattle.manager.specs.Layered.{Layered};
+
+    ghost Value = { Layered };
+
+    ghost use Rattle.manager.specs.Held.{layers_of};
+
+    ghost view = { λ f. record { layers = layers_of f.held; version = f.version } };
+}
+
+impl Folded {
+    /// The version that the fold will install: the newest one, under other layers. Takes no memory.
+    pub fn version(&self) -> &Version
+        ensures { result.now ≡ self.now.version }
+    {
+        &self.version
+    }
+}
+
+impl Manager {
+    ghost use Rattle.manager.specs.Layered.{IsFolded};
+
+    /// Folds the Write-PDT into the Read-PDT (Héman et al. 2010, "Propagate"), and leaves an empty Write-PDT: commits
+    /// after it are folded into a smaller tree. Neither the table nor an open transaction changes. Takes a copy of the
+    /// Read-PDT, and a descent in it for each entry of the Write-PDT.
+    ///
+    /// # Errors
+    ///
+    /// `NoMemory` where a growth is refused: the layers stay as they were.
+    pub fn fold(&mut self) -> Result<(), NoMemory>
+        ensures kept { self.new ≡ self.old }
+    {
+        let folded = self.prepare_fold()?;
+        self.install_fold(folded);
+        Ok(())
+    }
+
+    /// What a fold will install. Changes nothing; takes the time and the memory of the fold.
+    ///
+    /// # Errors
+    ///
+    /// `NoMemory` where a growth is refused.
+    pub fn prepare_fold(&self) -> Result<Folded, NoMemory>
+        ensures { IfOk result (λ folded. IsFolded self.now folded) }
+    {
+        let read = Arc::new(self.alloc, propagate(&self.held.read, &self.held.write)?)?;
+        let none = DeltaTree::new(self.alloc, self.held.write.key_cols());
+        let write = Arc::new(self.alloc, none)?;
+        let held = Held {
+            stable: self.held.stable.clone()?,
+            read,
+            write,
+        };
+        let version = held.version(self.alloc, self.newest.number())?;
+        Ok(Folded { held, version })
+    }
+
+    /// Installs a fold that was prepared while the history was as it is. Takes no memory, and no time but for what goes.
+    pub fn install_fold(&mut self, folded: Folded)
+        requires prepared { IsFolded self.old folded }
+        ensures kept { self.new ≡ self.old }
+    {
+        let Folded { held, version } = folded;
+        self.held = held;
+        self.newest = version;
+    }
+}

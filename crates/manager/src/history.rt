@@ -1,0 +1,98 @@
+//! The history: each transaction that asked to commit, in the order of the commits.
+ghost use Rattle.std.specs.Prelude.{◌≡◌, ◌+◌, ◌<◌, ◌^◌, ◌++◌, [], length};
+ghost use Rattle.model.specs.History.{IsLegal};
+ghost use Rattle.manager.specs.History.{start_at};
+
+use model::{ConflictRule, Record};
+use std::alloc::Global;
+use std::collections::LinkedList;
+use std::marker::Model;
+use std::snapshot::Snapshot;
+use txn::Version;
+
+/// The limits and the rule that a manager is opened with.
+#[derive(Clone, Copy)]
+pub(crate) struct Rules {
+    /// How many rows a table may have.
+    pub(crate) row_limit: u64,
+    /// How many commits may come between a transaction's begin and its commit.
+    pub(crate) recent: usize,
+    /// Which modifies of one row conflict.
+    pub(crate) conflicts: ConflictRule,
+}
+
+/// The records of the transactions that asked to commit since a start, in the order of their commits. Contracts see the
+/// start beside them, and that they are legal from it on. A long one is dropped link by link, without recursion.
+#[derive(Drop)]
+pub struct History {
+    /// The version at which it starts, for clauses alone.
+    opening: Snapshot<Version>,
+    /// The number of that version.
+    base: u64,
+    /// By what its records were decided.
+    rules: Rules,
+    records: LinkedList<Record>,
+}
+
+impl Model for History {
+    ghost use Rattle.std.specs.Prelude.{◌≡◌};
+    ghost use Rattle.model.specs.History.{IsLegal};
+    ghost use Rattle.manager.specs.History.{Recorded, recorded_at, start_at};
+
+    ghost Value = { Recorded };
+
+    ghost view = { λ h. recorded_at h.opening.value h.rules.row_limit h.rules.recent h.rules.conflicts h.records };
+
+    ghost invariant = { λ h. IsLegal h.opening.value.schema (start_at h.opening.value h.rules.row_limit h.rules.recent h.rules.conflicts) h.records
+        × (h.base ≡ h.opening.value.number) };
+}
+
+impl History {
+    ghost use Rattle.manager.specs.History.{recorded_at};
+
+    /// A history that starts at the version, with no records. Takes no memory.
+    pub(crate) fn new(alloc: Global, opening: &Version, rules: Rules) -> History
+        ensures { result ≡ recorded_at opening.now rules.row_limit rules.recent rules.conflicts [] }
+    {
+        History {
+            opening: Snapshot::of(opening),
+            base: opening.number(),
+            rules,
+            records: LinkedList::new(alloc),
+        }
+    }
+
+    /// Adds records that are legal after those before them. Takes no memory, and the same time however many there are.
+    pub(crate) fn enter(&mut self, links: LinkedList<Record>)
+        requires legal { IsLegal self.old.schema self.old.start (self.old.records ++ links) }
+        requires few { length self.old.records + length links < 2 ^ 63 }
+        ensures { self.new ≡ record self.old { records = self.old.records ++ links } }
+    {
+        let mut links = links;
+        self.records.append(&mut links).unwrap();
+    }
+
+    /// The number of commits before its start.
+    pub fn base(&self) -> u64
+        ensures { result ≡ self.now.start.base }
+    {
+        self.base
+    }
+
+    /// Its records, which are legal from its start on.
+    pub fn records(&self) -> &LinkedList<Record>
+        ensures records { result.now ≡ self.now.records }
+        ensures legal { IsLegal self.now.schema self.now.start self.now.records }
+    {
+        &self.records
+    }
+
+    /// By what its records were decided.
+    pub(crate) fn rules(&self) -> Rules
+        ensures limit { result.row_limit ≡ self.now.start.limit }
+        ensures recent { result.recent ≡ self.now.start.recent }
+        ensures conflicts { result.conflicts ≡ self.now.start.rule }
+    {
+        self.rules
+    }
+}
