@@ -173,6 +173,13 @@ impl Manager {
         self.history.base()
     }
 
+    /// How many records it made since its opening, those that a cut has handed out among them.
+    pub fn made(&self) -> u64
+        ensures { result ≡ self.now.made }
+    {
+        self.made
+    }
+
     /// How many rows a table may have.
     pub fn row_limit(&self) -> u64
         ensures { result ≡ self.now.start.limit }

@@ -14,22 +14,24 @@ use Rattle.inputs.specs.declared.call.Call.{Call}
 use Rattle.inputs.specs.declared.call.Call.TheVariants as call
 use Rattle.inputs.specs.declared.call.ClientCall.{ClientCall}
 use Rattle.pdtcli.specs.declared.reply.Reply.{Reply}
-use Rattle.pdtcli.specs.declared.reply.Reply.TheVariants.{Begun, AlreadyOpen, NotOpen, Wrote, KeyColumn, TextTooLong, Row as Shown, Missing, NoRow, Place, Rows, End, Decided, Aborted, NoMemory}
+use Rattle.pdtcli.specs.declared.reply.Reply.TheVariants.{Begun, AlreadyOpen, NotOpen, Wrote, KeyColumn, TextTooLong, Row as Shown, Missing, NoRow, Place, Rows, End, Decided, Aborted, Folded, Cut, NoMemory}
 use Rattle.pdtcli.specs.declared.reply.ReplyLine.{ReplyLine}
 use Rattle.txn.specs.Txn.{Transaction}
-use Rattle.manager.specs.Managed.{Managed, commits_in, IsDecided, IsOwn, begun_at, record_of, with_record}
-use Rattle.pdtcli.specs.Run.{Side, SideStep, BeginStep, OpenWriteStep, OpenCommitStep, State, Step, IsRun}
+use Rattle.manager.specs.Managed.{Managed, commits_in, IsDecided, IsOwn, begun_at, record_of, with_record, cut_of}
+use Rattle.pdtcli.specs.Run.{Side, SideStep, BeginStep, OpenWriteStep, OpenCommitStep, FoldStep, CutStep, State, Step, IsRun}
 use Rattle.pdtcli.specs.Ready.{IsReady}
-use Rattle.manager.proofs.CallerLemmas.{newest_whole, commits_from-append}
+use Rattle.manager.proofs.CallerLemmas.{newest_whole, commits_from-append, IsOwn-cut_of}
 
 -- ---- a step keeps the transactions of the manager
 
 record Keeps (old new : Managed) : Type 0 where
   schema : new.schema ≡ old.schema
   own : (txn : Transaction) → IsOwn old txn → IsOwn new txn
+  -- no record comes into a history that wasn't made
+  made : old.made + length new.history ≤ length old.history + new.made
 
 keeps_same : (old new : Managed) → new ≡ old → Keeps old new
-keeps_same old new is = subst (Keeps old) (sym is) (record { schema = refl; own = λ txn h. h })
+keeps_same old new is = subst (Keeps old) (sym is) (record { schema = refl; own = λ txn h. h; made = omega arith })
 
 -- a commit leaves the tables before it
 own_later : (m : Managed) (r : Record) (txn : Transaction) (commits : List Effects) → commits_in (with_record m r) ≡ commits → (reply : CommitReply) → (x : Effects) → commits ≡ commits_with (commits_in m) x reply → IsOwn m txn → IsOwn (with_record m r) txn
@@ -52,7 +54,11 @@ keeps_record : (m : Managed) (r : Record) → Keeps m (with_record m r)
 keeps_record m r = record {
   schema = refl;
   own = λ txn h. own_later m r txn (commits_in (with_record m r)) refl r.reply (effects_of_record m.schema m.start (commits_in m) r) (commits_from-append m.schema m.start [] m.history r) h;
+  made = omega (arith, length-append m.history (r ∷ []));
 }
+
+keeps_cut : (m : Managed) → Keeps m (cut_of m)
+keeps_cut m = record { schema = refl; own = λ txn h. IsOwn-cut_of m txn h; made = omega arith }
 
 -- a decided commit keeps the other transactions of the manager
 pub own_decided : (m : Managed) (txn : Transaction) (reply : CommitReply) (new : Managed) → IsDecided m txn reply new → (other : Transaction) → IsOwn m other → IsOwn new other
@@ -88,6 +94,8 @@ begin_keeps client old new NoRow own h = absurd h
 begin_keeps client old new (Place below there) own h = absurd h
 begin_keeps client old new (Rows count) own h = absurd h
 begin_keeps client old new (End count) own h = absurd h
+begin_keeps client old new Folded own h = absurd h
+begin_keeps client old new (Cut count) own h = absurd h
 
 write_keeps : (txn : Transaction) (write : Write) (old new : Side) (reply : Reply) → IsOwn old.manager txn → IfSome old.own (IsOwn old.manager) → OpenWriteStep txn write old reply new → SideKeeps old new
 write_keeps txn write old new (Wrote r) mine own h = side_with old (Some _) (record { schema = mine.schema; limit = mine.limit; begun = mine.begun; snapshot = mine.snapshot }) new h.2
@@ -105,6 +113,8 @@ write_keeps txn write old new NoRow mine own h = absurd h
 write_keeps txn write old new (Place below there) mine own h = absurd h
 write_keeps txn write old new (Rows count) mine own h = absurd h
 write_keeps txn write old new (End count) mine own h = absurd h
+write_keeps txn write old new Folded mine own h = absurd h
+write_keeps txn write old new (Cut count) mine own h = absurd h
 
 commit_keeps : (txn : Transaction) (old new : Side) (reply : Reply) → IfSome old.own (IsOwn old.manager) → OpenCommitStep txn old reply new → SideKeeps old new
 commit_keeps txn old new (Decided r) own h = subst (SideKeeps old) (sym h.1) (record { keeps = keeps_record old.manager _; own = tt })
@@ -122,6 +132,50 @@ commit_keeps txn old new NoRow own h = absurd h
 commit_keeps txn old new (Place below there) own h = absurd h
 commit_keeps txn old new (Rows count) own h = absurd h
 commit_keeps txn old new (End count) own h = absurd h
+commit_keeps txn old new Folded own h = absurd h
+commit_keeps txn old new (Cut count) own h = absurd h
+
+fold_keeps : (old new : Side) (reply : Reply) → IfSome old.own (IsOwn old.manager) → FoldStep old reply new → SideKeeps old new
+fold_keeps old new Begun own h = absurd h
+fold_keeps old new AlreadyOpen own h = absurd h
+fold_keeps old new NotOpen own h = absurd h
+fold_keeps old new (Wrote r) own h = absurd h
+fold_keeps old new KeyColumn own h = absurd h
+fold_keeps old new (TextTooLong n) own h = absurd h
+fold_keeps old new (Decided r) own h = absurd h
+fold_keeps old new Aborted own h = absurd h
+fold_keeps old new (Shown row) own h = absurd h
+fold_keeps old new Missing own h = absurd h
+fold_keeps old new NoRow own h = absurd h
+fold_keeps old new (Place below there) own h = absurd h
+fold_keeps old new (Rows count) own h = absurd h
+fold_keeps old new (End count) own h = absurd h
+fold_keeps old new Folded own h = side_same old new own h
+fold_keeps old new (Cut count) own h = absurd h
+fold_keeps old new NoMemory own h = side_same old new own h
+
+cut_own : (m : Managed) (own : Option Transaction) → IfSome own (IsOwn m) → IfSome own (IsOwn (cut_of m))
+cut_own m None h = tt
+cut_own m (Some txn) h = IsOwn-cut_of m txn h
+
+cut_keeps : (old new : Side) (reply : Reply) → IfSome old.own (IsOwn old.manager) → CutStep old reply new → SideKeeps old new
+cut_keeps old new Begun own h = absurd h
+cut_keeps old new AlreadyOpen own h = absurd h
+cut_keeps old new NotOpen own h = absurd h
+cut_keeps old new (Wrote r) own h = absurd h
+cut_keeps old new KeyColumn own h = absurd h
+cut_keeps old new (TextTooLong n) own h = absurd h
+cut_keeps old new (Decided r) own h = absurd h
+cut_keeps old new Aborted own h = absurd h
+cut_keeps old new (Shown row) own h = absurd h
+cut_keeps old new Missing own h = absurd h
+cut_keeps old new NoRow own h = absurd h
+cut_keeps old new (Place below there) own h = absurd h
+cut_keeps old new (Rows count) own h = absurd h
+cut_keeps old new (End count) own h = absurd h
+cut_keeps old new Folded own h = absurd h
+cut_keeps old new (Cut count) own h = subst (SideKeeps old) (sym h.1) (record { keeps = keeps_cut old.manager; own = cut_own old.manager old.own own })
+cut_keeps old new NoMemory own h = absurd h
 
 -- by the transaction that is open
 step_keeps : (client : ℕ) (asked : Call) (m : Managed) (mine : Option Transaction) (new : Side) (rows : List Row) (reply : Reply) → IfSome mine (IsOwn m) → SideStep client asked (record { manager = m; own = mine }) rows reply new → SideKeeps (record { manager = m; own = mine }) new
@@ -133,6 +187,8 @@ step_keeps client call.Commit m None new rows reply own h = side_same _ new own 
 step_keeps client call.Commit m (Some txn) new rows reply own h = commit_keeps txn _ new reply own h.1
 step_keeps client call.Abort m None new rows reply own h = side_same _ new own h.1.1
 step_keeps client call.Abort m (Some txn) new rows reply own h = side_with _ None tt new h.1.1
+step_keeps client call.Fold m mine new rows reply own h = fold_keeps _ new reply own h.1
+step_keeps client call.Cut m mine new rows reply own h = cut_keeps _ new reply own h.1
 
 if_some : (old new : Managed) → Keeps old new → (own : Option Transaction) → IfSome own (IsOwn old) → IfSome own (IsOwn new)
 if_some old new keeps None h = tt
@@ -148,6 +204,15 @@ ready_again schema count m transactions h client asked mine new rows reply own s
       many = length-set transactions client new.own ∙ h.many;
       own = All-set (λ mine. IfSome mine (IsOwn new.manager)) transactions client new.own kept.own (λ k d lt. if_some m new.manager kept.keeps (get_or transactions k d) (h.own k d lt));
     }
+
+-- and no record has come into the history that wasn't made
+pub made_again : (first m : Managed) (client : ℕ) (asked : Call) (mine : Option Transaction) (new : Side) (rows : List Row) (reply : Reply)
+    → IfSome mine (IsOwn m) → first.made + length m.history ≤ length first.history + m.made
+    → SideStep client asked (record { manager = m; own = mine }) rows reply new
+    → first.made + length new.manager.history ≤ length first.history + new.manager.made
+made_again first m client asked mine new rows reply own before step =
+    let kept = (step_keeps client asked m mine new rows reply own step).keeps.made in
+    omega (arith, before, kept)
 
 -- ---- a run goes on
 

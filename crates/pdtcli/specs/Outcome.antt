@@ -11,3 +11,5 @@ pub record Left : Type 0 where
   pub manager : Managed
   -- for each client, how many of its commits were decided
   pub counts : List ℕ
+  -- how many records the run's cuts handed out
+  pub handed : ℕ

@@ -45,6 +45,8 @@ reply_fields (reply.Rows count) = codes "Rows" ∷ decimal count ∷ []
 reply_fields (reply.End count) = codes "End" ∷ decimal count ∷ []
 reply_fields (reply.Decided answer) = commit_fields answer
 reply_fields reply.Aborted = codes "Aborted" ∷ []
+reply_fields reply.Folded = codes "Done" ∷ []
+reply_fields (reply.Cut count) = codes "Done" ∷ decimal count ∷ []
 reply_fields reply.NoMemory = codes "NoMemory" ∷ []
 
 -- the fields of a reply line, where the clients have these names

@@ -1,5 +1,5 @@
 -- A serial run: what each call may be answered, and what it leaves.
-use Rattle.std.specs.Prelude.{◌≡◌, ℕ, ◌==◌, Bool, true, false, ◌&&◌, Option, Some, None, IsNone, IsSome, List, [], ◌∷◌, ◌++◌, map, filter, length, slice_get, slice_set}
+use Rattle.std.specs.Prelude.{◌≡◌, ℕ, ◌+◌, ◌==◌, Bool, true, false, ◌&&◌, Option, Some, None, IsNone, IsSome, List, [], ◌∷◌, ◌++◌, map, filter, length, slice_get, slice_set}
 use Rattle.values.specs.Shape.{Columns, row_fault, key_fault, cell_fault, or_fault}
 use Rattle.values.specs.declared.fault.ShapeFault.{ShapeFault}
 use Rattle.values.specs.declared.fault.ShapeFault.TheVariants as shape
@@ -12,13 +12,13 @@ use Rattle.inputs.specs.declared.call.Read.{Read}
 use Rattle.inputs.specs.declared.call.Read.TheVariants.{Get, At, Rank, Len, Scan}
 use Rattle.inputs.specs.declared.call.ClientCall.{ClientCall}
 use Rattle.pdtcli.specs.declared.reply.Reply.{Reply}
-use Rattle.pdtcli.specs.declared.reply.Reply.TheVariants.{Begun, AlreadyOpen, NotOpen, Wrote, KeyColumn, TextTooLong, Row as Shown, Decided, Aborted, NoMemory}
+use Rattle.pdtcli.specs.declared.reply.Reply.TheVariants.{Begun, AlreadyOpen, NotOpen, Wrote, KeyColumn, TextTooLong, Row as Shown, Decided, Aborted, Folded, Cut, NoMemory}
 use Rattle.pdtcli.specs.declared.reply.ReplyLine.{ReplyLine}
 use Rattle.inputs.specs.declared.verb.Verb.{Verb}
 use Rattle.inputs.specs.declared.verb.Verb.TheVariants as verb
 use Rattle.txn.specs.Txn.{Transaction, with_write, answer_to}
 use Rattle.pdtcli.specs.Reads.{ReadStep}
-use Rattle.manager.specs.Managed.{Managed, begun_at, reply_due, record_of, with_record}
+use Rattle.manager.specs.Managed.{Managed, begun_at, reply_due, record_of, with_record, cut_of}
 
 -- ---- one client's side
 
@@ -68,6 +68,17 @@ abbrev pub AbortStep : Option Transaction → Side → Reply → Side → Type 0
 AbortStep None old reply new = (reply ≡ NotOpen) × (new ≡ old)
 AbortStep (Some txn) old reply new = (reply ≡ Aborted) × (new ≡ record old { own = None })
 
+-- a fold changes no table and no history
+abbrev pub FoldStep : Side → Reply → Side → Type 0
+FoldStep old Folded new = new ≡ old
+FoldStep old NoMemory new = new ≡ old
+FoldStep old reply new = ⊥
+
+-- a cut hands out the history, and tells how many records it has
+abbrev pub CutStep : Side → Reply → Side → Type 0
+CutStep old (Cut count) new = (count ≡ length old.manager.history) × (new ≡ record old { manager = cut_of old.manager })
+CutStep old reply new = ⊥
+
 -- the client's call may show these rows, be answered so, and leave this
 abbrev pub SideStep : ℕ → Call → Side → List Row → Reply → Side → Type 0
 SideStep client call.Begin old rows reply new = (rows ≡ []) × BeginStep client old reply new
@@ -75,6 +86,8 @@ SideStep client (call.Write write) old rows reply new = (rows ≡ []) × WriteSt
 SideStep client (call.Read read) old rows reply new = ReadStep old.own read rows reply × (new ≡ old)
 SideStep client call.Commit old rows reply new = (rows ≡ []) × CommitStep old.own old reply new
 SideStep client call.Abort old rows reply new = (rows ≡ []) × AbortStep old.own old reply new
+SideStep client call.Fold old rows reply new = (rows ≡ []) × FoldStep old reply new
+SideStep client call.Cut old rows reply new = (rows ≡ []) × CutStep old reply new
 
 -- ---- all clients
 
@@ -114,6 +127,8 @@ verb_of_call (call.Write write) = verb_of_write write
 verb_of_call (call.Read read) = verb_of_read read
 verb_of_call call.Commit = verb.Commit
 verb_of_call call.Abort = verb.Abort
+verb_of_call call.Fold = verb.Fold
+verb_of_call call.Cut = verb.Cut
 
 -- the line of a call's reply
 abbrev pub line_of : ClientCall → Reply → ReplyLine
@@ -150,6 +165,11 @@ IsRun old (asked ∷ calls) lines new = (mid : State) × (these : List ReplyLine
 abbrev pub is_decided : Reply → Bool
 is_decided (Decided reply) = true
 is_decided reply = false
+
+-- between two states of the manager so many records were handed out: those that it had and those that it made, but for those
+-- that it still has
+abbrev pub AreHanded : Managed → Managed → ℕ → Type 0
+AreHanded old new count = count + length new.history + old.made ≡ length old.history + new.made
 
 -- how many of the client's commits were decided
 abbrev pub decided_count : List ReplyLine → ℕ → ℕ

@@ -1,12 +1,12 @@
 //! One client's side of a run: the transaction that it has open, and the reply to each of its calls.
-ghost use Rattle.std.specs.Prelude.{◌≡◌, ◌≤◌, ◌+◌, ◌++◌, List, Some, None, IfOk, IfErr, OnErr, IsTrue, IfSome, vec_len, vec_capacity};
+ghost use Rattle.std.specs.Prelude.{◌≡◌, ◌≤◌, ◌+◌, ◌++◌, List, Option, Some, None, IfOk, IfErr, OnErr, IsTrue, IfSome, vec_len, vec_capacity};
 ghost use Rattle.values.specs.declared.row.Row.{Row};
 ghost use Rattle.pdtcli.specs.Reads.{ReadStep};
 ghost use Rattle.pdtcli.specs.declared.reply.Reply.TheVariants as reply;
 ghost use Rattle.inputs.specs.Typed.{is_typed_call, is_typed_read, is_typed_write};
-ghost use Rattle.txn.specs.Txn.{IsAnswered};
+ghost use Rattle.txn.specs.Txn.{IsAnswered, Transaction};
 ghost use Rattle.manager.specs.Managed.{Managed, IsOwn};
-ghost use Rattle.pdtcli.specs.Run.{IsServed, shown_lines, BeginStep, WriteStep, OpenWriteStep, CommitStep, AbortStep};
+ghost use Rattle.pdtcli.specs.Run.{IsServed, shown_lines, BeginStep, WriteStep, OpenWriteStep, CommitStep, AbortStep, FoldStep, CutStep};
 ghost use Rattle.pdtcli.specs.Told.{IsCause, IsTold, IsToldAs};
 
 use crate::reads::read_in;
@@ -70,6 +70,8 @@ impl Caller {
             Call::Read(read) => self.read(asked, read, lines, left),
             Call::Commit => self.commit(manager),
             Call::Abort => self.abort(),
+            Call::Fold => fold(manager),
+            Call::Cut => cut(manager),
         }
     }
 
@@ -156,6 +158,23 @@ impl Caller {
         txn.abort();
         Reply::Aborted
     }
+}
+
+/// Folds the Write-PDT into the Read-PDT.
+fn fold(manager: &mut Manager) -> Reply
+    ensures { (own : Option Transaction) → FoldStep (record { manager = manager.old; own = own }) result (record { manager = manager.new; own = own }) }
+{
+    match manager.fold() {
+        Ok(()) => Reply::Folded,
+        Err(NoMemory) => Reply::NoMemory,
+    }
+}
+
+/// Cuts the history, and drops what it hands out.
+fn cut(manager: &mut Manager) -> Reply
+    ensures { (own : Option Transaction) → CutStep (record { manager = manager.old; own = own }) result (record { manager = manager.new; own = own }) }
+{
+    Reply::Cut(manager.cut().records().len() as u64)
 }
 
 /// The reply to a write in a transaction.

@@ -1,4 +1,5 @@
-//! What a run leaves: the reply lines of its calls, the manager, and how many commits each client was answered.
+//! What a run leaves: the reply lines of its calls, the manager, how many commits each client was answered, and how many
+//! records were handed out.
 ghost use Rattle.std.specs.Prelude.{◌≡◌};
 
 use crate::reply::ReplyLine;
@@ -15,6 +16,8 @@ pub struct Outcome {
     manager: Manager,
     /// For each client, how many of its commits were decided.
     counts: Vec<u64>,
+    /// How many records the cuts of the run handed out.
+    handed: u64,
 }
 
 impl Model for Outcome {
@@ -22,7 +25,7 @@ impl Model for Outcome {
 
     ghost Value = { Left };
 
-    ghost view = { λ o. record { clients = o.clients.items; lines = o.lines.items; manager = o.manager; counts = o.counts.items } };
+    ghost view = { λ o. record { clients = o.clients.items; lines = o.lines.items; manager = o.manager; counts = o.counts.items; handed = o.handed } };
 }
 
 impl Outcome {
@@ -32,14 +35,16 @@ impl Outcome {
         lines: Vec<ReplyLine>,
         manager: Manager,
         counts: Vec<u64>,
+        handed: u64,
     ) -> Outcome
-        ensures { result ≡ record { clients = clients.items; lines = lines.items; manager = manager; counts = counts.items } }
+        ensures { result ≡ record { clients = clients.items; lines = lines.items; manager = manager; counts = counts.items; handed = handed } }
     {
         Outcome {
             clients,
             lines,
             manager,
             counts,
+            handed,
         }
     }
 
@@ -62,6 +67,13 @@ impl Outcome {
         ensures { result.now ≡ self.now.manager }
     {
         &self.manager
+    }
+
+    /// How many records the cuts of the run handed out, those of the manager that was handed in among them.
+    pub fn handed(&self) -> u64
+        ensures { result ≡ self.now.handed }
+    {
+        self.handed
     }
 
     /// For each client, how many of its commits were decided: Committed, Conflict, TooOld or Full.

@@ -43,6 +43,10 @@ pub enum Reply {
     Decided(CommitReply),
     /// The transaction has ended and leaves no record.
     Aborted,
+    /// The Write-PDT is folded into the Read-PDT.
+    Folded,
+    /// How many records a cut has handed out.
+    Cut(u64),
     /// A growth was refused, and nothing has changed.
     NoMemory,
 }
@@ -104,6 +108,8 @@ fn push_reply(fields: &mut ByteRecord, reply: &Reply) -> Result<(), NoMemory>
         Reply::End(count) => push_counted(fields, "End", *count),
         Reply::Decided(answer) => push_decided(fields, *answer),
         Reply::Aborted => push_word(fields, "Aborted"),
+        Reply::Folded => push_word(fields, "Done"),
+        Reply::Cut(count) => push_counted(fields, "Done", *count),
         Reply::NoMemory => push_word(fields, "NoMemory"),
     }
 }

@@ -1,8 +1,8 @@
 //! A run of a script's calls, one after the other.
-ghost use Rattle.std.specs.Prelude.{◌≡◌, ◌≤◌, replicate, None, Option, List, [], IfOk, length, map, vec_capacity};
+ghost use Rattle.std.specs.Prelude.{◌≡◌, ◌≤◌, ◌+◌, replicate, None, Option, List, [], IfOk, length, map, vec_capacity};
 ghost use Rattle.std.specs.List.{range_with_len};
 ghost use Rattle.txn.specs.Txn.{Transaction};
-ghost use Rattle.pdtcli.specs.Run.{IsRun, line_of, verb_of_call, verb_of_read, verb_of_write, decided_count, is_decided};
+ghost use Rattle.pdtcli.specs.Run.{IsRun, line_of, verb_of_call, verb_of_read, verb_of_write, decided_count, is_decided, AreHanded};
 
 use crate::caller::Caller;
 use crate::outcome::Outcome;
@@ -27,8 +27,10 @@ pub fn run_serial(alloc: Global, manager: Manager, script: &Script) -> Result<Ou
         script.now.calls outcome.lines (record { manager = outcome.manager; transactions = transactions })) }
     ensures clients { IfOk result (λ outcome. outcome.clients ≡ script.now.clients) }
     ensures counts { IfOk result (λ outcome. outcome.counts ≡ map (decided_count outcome.lines) (range_with_len 0 (length script.now.clients))) }
+    ensures handed { IfOk result (λ outcome. AreHanded manager outcome.manager outcome.handed) }
 {
     let mut manager = manager;
+    let handed_before = handed_out(&manager);
     let count = script.clients().len();
     let names = copy_texts(alloc, script.clients())?;
     let calls = script.calls();
@@ -42,7 +44,15 @@ pub fn run_serial(alloc: Global, manager: Manager, script: &Script) -> Result<Ou
         left -= 1;
     }
     let counts = count_decided(counts, lines.as_slice(), count);
-    Ok(Outcome::new(names, lines, manager, counts))
+    let handed = handed_out(&manager) - handed_before;
+    Ok(Outcome::new(names, lines, manager, counts, handed))
+}
+
+/// How many records the manager's cuts have handed out.
+fn handed_out(manager: &Manager) -> u64
+    ensures count { result + length manager.now.history ≡ manager.now.made }
+{
+    manager.made() - manager.history().records().len() as u64
 }
 
 /// The clients, none of which has a transaction open.
@@ -111,5 +121,7 @@ fn verb_of_call(call: &Call) -> Verb
         Call::Read(Read::Scan(_, _)) => Verb::Scan,
         Call::Commit => Verb::Commit,
         Call::Abort => Verb::Abort,
+        Call::Fold => Verb::Fold,
+        Call::Cut => Verb::Cut,
     }
 }

@@ -21,8 +21,11 @@ fn assert_run(rt: &impl Abort, alloc: Global, label: &str, words: &[&str], want:
                 conflicts,
             },
         ) => {
-            assert_eq!(rt; (table, script), ("t.csv", "s.csv"), "at {label}");
-            assert!(rt; (recent, limit, conflicts) == want, "at {label}");
+            assert_eq!(rt;
+                (table, script, (recent, limit, conflicts)),
+                ("t.csv", "s.csv", want),
+                "at {label}"
+            );
         }
         Err(_) => assert!(rt; false, "refused at {label}"),
     }

@@ -8,7 +8,7 @@ use Rattle.pdtcli.specs.declared.reply.ReplyLine.{ReplyLine}
 use Rattle.txn.specs.Txn.{Transaction}
 use Rattle.manager.specs.Managed.{IsOwn}
 use Rattle.pdtcli.specs.Run.{IsRun, Side, SideStep, State, Step, joined, line_of, lines_of, shown_lines}
-use Rattle.pdtcli.proofs.RunLemmas.{ready_again, IsRun-more}
+use Rattle.pdtcli.proofs.RunLemmas.{ready_again, made_again, IsRun-more}
 use Rattle.pdtcli.proofs.serial.run_serial.Goals as goal
 
 pub loop-asked-preserved : goal.loop-asked-preserved
@@ -55,5 +55,6 @@ loop-asked-preserved c =
       ready = ready_again c.args.manager.schema (length c.args.script.now.clients) m callers c.loop-asked.invariant.ready asked.client asked.call mine after rows reply own step;
       left = omega (arith, c.loop-asked.invariant.left, inside);
       room = omega (arith, c.push_reserved.ensures.len, c.push_reserved.ensures.capacity, c.serve-reply.ensures.room, c.loop-asked.invariant.left, inside);
+      made = made_again c.args.manager m asked.client asked.call mine after rows reply own c.loop-asked.invariant.made step;
       counts = c.loop-asked.invariant.counts;
     }

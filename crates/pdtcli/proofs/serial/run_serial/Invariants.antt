@@ -11,5 +11,6 @@ invariant-loop-asked l = record {
   ready : IsReady l.fn.manager.schema (length l.script.clients) l.manager l.callers.items;
   left : l.asked-index + l.left ≡ length l.script.calls;
   room : vec_len l.lines + l.left ≤ vec_capacity l.lines;
+  made : l.fn.manager.made + length l.manager.history ≤ length l.fn.manager.history + l.manager.made;
   counts : (l.counts.items ≡ []) × (l.count ≤ vec_capacity l.counts);
 }
