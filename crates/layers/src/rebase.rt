@@ -4,8 +4,8 @@ ghost use Rattle.layers.specs.Over.{AreAligned};
 ghost use Rattle.layers.specs.Serialization.{IsSerialized};
 
 use crate::clash::{clash_at, index_of_clash};
-use crate::entry::{copy_change, entry_of};
-use delta::{DeltaTree, Entry};
+use crate::entry::entry_of;
+use delta::DeltaTree;
 use model::{Clash, ConflictRule};
 use std::alloc::Global;
 use values::NoMemory;
@@ -21,7 +21,7 @@ pub enum Serialized {
 
 /// The tree `x` made consecutive to `y`, which is over the same image, or the clash with the least index in `x`, then in
 /// `y` (Héman et al. 2010, "Serialize"): for each entry of `x` one look-up in `y`, and for a modify by row one more. The
-/// rule says which modifies clash.
+/// rule says which modifies clash. The trees share their rows.
 ///
 /// # Errors
 ///
@@ -38,15 +38,12 @@ pub fn serialize(
     let mut entries = Vec::with_capacity(alloc, x.len())?;
     for index in 0..x.len() {
         let entry = entry_of(x, index);
-        let found = y.find_change(entry.sid, &entry.change);
+        let found = y.find_change(entry.sid(), entry.change());
         let place = index_of_clash(rule, entry, y, found.index);
         if let Some(clash) = clash_at(rule, index, entry, y, place) {
             return Ok(Serialized::Conflict(clash));
         }
-        entries.push(Entry {
-            sid: found.rid,
-            change: copy_change(&entry.change)?,
-        })?;
+        entries.push(entry.with_sid(found.rid)?)?;
     }
-    Ok(Serialized::Tree(DeltaTree::from_sorted(alloc, x.key_cols(), entries)?))
+    Ok(Serialized::Tree(DeltaTree::from_shared(alloc, x.key_cols(), entries)?))
 }
