@@ -36,7 +36,7 @@ head_drop (suc n) (z ∷ es) e is =
     let next : suc (n + 1) ≡ suc n + 1 = omega arith in
     head_drop n es e is ∙ ap (λ m. e ∷ drop m (z ∷ es)) next
 
-next_take : (n : ℕ) (es : List Entry) (e : Entry) → slice_get es n ≡ Some e → take (n + 1) es ≡ take n es ++ e ∷ []
+pub next_take : (n : ℕ) (es : List Entry) (e : Entry) → slice_get es n ≡ Some e → take (n + 1) es ≡ take n es ++ e ∷ []
 next_take n [] e is = cc
 next_take zero (z ∷ es) e is =
     let same : z ≡ e = cc in
@@ -74,6 +74,12 @@ moved_next key_cols n sid xs ys out e at sid_is is =
     (λ i. is i ++ entry_at (sid_is i) e.change ∷ [])
     ∙ sym (map-append (rebased_entry key_cols ys) (take n xs) (e ∷ []))
     ∙ ap (map (rebased_entry key_cols ys)) (sym (next_take n xs e at))
+
+-- and one that stays where it is, left as it is
+pub same_next : (key_cols n sid : ℕ) (xs ys : List Entry) (e : Entry) → slice_get xs n ≡ Some e → sid ≡ (rebased_entry key_cols ys e).sid → sid ≡ e.sid
+    → take n xs ≡ map (rebased_entry key_cols ys) (take n xs) → take (n + 1) xs ≡ map (rebased_entry key_cols ys) (take (n + 1) xs)
+same_next key_cols n sid xs ys e at sid_is stays is =
+    next_take n xs e at ∙ ap (λ (s : ℕ). take n xs ++ entry_at s e.change ∷ []) (sym stays) ∙ moved_next key_cols n sid xs ys (take n xs) e at sid_is is
 
 pub none_left : (n : ℕ) (es : List Entry) → length es ≤ n → drop n es ≡ []
 none_left zero [] h = refl

@@ -25,6 +25,22 @@ returns-in-Some c =
     let found = c.loop-index.invariant.clear ∙ clash_here c.args.rule y.key_cols n x.entries y.entries e c.in-Some.clash at own in
     λ (w : AreAligned x y). conflicting c.args.rule x y w c.in-Some.clash found
 
+pub loop-index-init : goal.loop-index-init
+loop-index-init c = record {
+  moved = c.in_ok-entries.ensures ∙ c.kept_count-kept.ensures.same;
+  clear = c.kept_count-kept.ensures.clear;
+}
+
+pub returns-then-kept-len : goal.returns-then-kept-len
+returns-then-kept-len c =
+    let x = c.args.x.now in
+    let y = c.args.y.now in
+    let n = c.kept_count-kept.result in
+    let end : length x.entries ≤ n = omega (arith, c.if-kept-len.true, c.len.ensures) in
+    let none = c.kept_count-kept.ensures.clear ∙ ap (λ (es : List Entry). first_clash_from c.args.rule y.key_cols n es y.entries) (none_left n x.entries end) in
+    let all = sym (all_taken n x.entries end) ∙ c.kept_count-kept.ensures.same ∙ ap (map (rebased_entry y.key_cols y.entries)) (all_taken n x.entries end) in
+    λ (w : AreAligned x y). (unconflicting c.args.rule x y w none, rebased_is c.args.rule x y w c.in_ok-copy.field-0 x.entries none all c.in_ok-copy.ensures)
+
 pub loop-index-preserved : goal.loop-index-preserved
 loop-index-preserved c =
     let x = c.args.x.now in
