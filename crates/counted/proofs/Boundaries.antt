@@ -1,15 +1,13 @@
 -- The place of a search, among the entries of a leaf and of children.
-use Rattle.std.proofs.Common.{Global, ◌≡◌, ℕ, zero, suc, ◌+◌, ◌<◌, ◌≤◌, inl, inr, Bool, true, false, List, length, take, drop, get_or, nat_cmp, Ordering, Less, Equal, Greater, is_gt, refl, ap, sym, ◌∙◌, arith, length-append}
+use Rattle.std.proofs.Common.{◌≡◌, ℕ, zero, suc, ◌+◌, ◌<◌, ◌≤◌, inl, inr, Bool, true, false, List, length, take, drop, get_or, nat_cmp, Ordering, Less, Equal, Greater, is_gt, refl, ap, sym, ◌∙◌, arith, length-append}
 use Rattle.std.specs.Ordering.{ordering_then}
 use Rattle.std.specs.Cmp.{ranked}
 use Rattle.std.proofs.lemmas.Bool.{cases_lt}
-use Rattle.std.proofs.lemmas.List.{get_or-map, drop_all}
+use Rattle.std.proofs.lemmas.List.{drop_all}
 use Rattle.std.proofs.lemmas.List.Concat.{get_or-flat_map}
-use Rattle.std.specs.declared.sync.Arc.{Arc}
 use Rattle.model.specs.declared.entry.Entry.{Entry}
 use Rattle.model.specs.declared.entry.Change.{Change}
 use Rattle.counted.specs.declared.node.Child.{Child}
-use Rattle.counted.specs.Edits.{values_of}
 use Rattle.counted.specs.Search.{stands_before, IsBoundary}
 use Rattle.counted.specs.Shapes.{items_of, all_items, AreChildren}
 use Rattle.counted.proofs.Places.{split_items, items-more, child_fits, child_some}
@@ -85,9 +83,3 @@ boundary_in_child test children i d m h lt low high b =
       low = boundary_low test children i d m lt (child_some _ _ (h.each i d lt)) low b;
       high = boundary_high test children i d m lt (λ j less. child_some _ _ (h.each j d less)) high b;
     }
-
-pub leaf_low : (test : Entry → Bool) (xs : List (Arc Entry Global)) (m : ℕ) (a : Arc Entry Global) (d : Entry) → m < length xs → test (get_or xs m a).value ≡ true → test (get_or (values_of xs) m d) ≡ true
-leaf_low test xs m a d lt h = ap test (get_or-map (λ (e : Arc Entry Global). e.value) xs m a d lt) ∙ h
-
-pub leaf_high : (test : Entry → Bool) (xs : List (Arc Entry Global)) (m : ℕ) (a : Arc Entry Global) (d : Entry) → m < length xs → test (get_or xs m a).value ≡ false → test (get_or (values_of xs) m d) ≡ false
-leaf_high test xs m a d lt h = ap test (get_or-map (λ (e : Arc Entry Global). e.value) xs m a d lt) ∙ h

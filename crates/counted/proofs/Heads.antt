@@ -1,13 +1,9 @@
 -- The first entries of children, and the entry at a place where lists meet.
-use Rattle.std.proofs.Common.{Global, ◌≡◌, ℕ, zero, suc, ◌+◌, ◌<◌, ◌≤◌, List, [], ◌∷◌, ◌++◌, length, take, drop, get_or, refl, ap, ◌∙◌, arith}
+use Rattle.std.proofs.Common.{◌≡◌, ℕ, zero, suc, ◌+◌, ◌<◌, ◌≤◌, List, [], ◌∷◌, ◌++◌, length, take, drop, get_or, refl, ap, ◌∙◌, arith}
 use Rattle.std.specs.Prelude.{Some, None, slice_get}
-use Rattle.std.proofs.lemmas.Option.{get_or_from_slice_get}
-use Rattle.std.specs.declared.sync.Arc.{Arc}
 use Rattle.model.specs.declared.entry.Entry.{Entry}
 use Rattle.counted.specs.declared.node.Child.{Child}
-use Rattle.counted.specs.Edits.{values_of}
 use Rattle.counted.specs.Shapes.{items_of, all_items, AreChildren}
-use Rattle.counted.specs.Sums.{first_sid}
 use Rattle.counted.proofs.Places.{items_from, split_items}
 
 pub get-front : (xs ys : List Entry) (m : ℕ) (x : Entry) → slice_get xs m ≡ Some x → slice_get (xs ++ ys) m ≡ Some x
@@ -28,19 +24,15 @@ get-past [] ys m k is = ap (slice_get ys) (let e : k ≡ m = omega arith in e)
 get-past (x ∷ xs) ys m zero is = absurd (omega arith)
 get-past (x ∷ xs) ys m (suc k) is = get-past xs ys m k (omega arith)
 
-pub first_sid-get : (es : List Entry) (x : Entry) → slice_get es 0 ≡ Some x → first_sid es ≡ x.sid
-first_sid-get [] x e = cc
-first_sid-get (y ∷ es) x e = ap (λ (z : Entry). z.sid) (get_or_from_slice_get (y ∷ es) 0 x x e)
-
-pub leaf_head : (xs : List (Arc Entry Global)) (d : Arc Entry Global) → 1 ≤ length xs → slice_get (values_of xs) 0 ≡ Some (get_or xs 0 d).value
+pub leaf_head : (xs : List Entry) (d : Entry) → 1 ≤ length xs → slice_get xs 0 ≡ Some (get_or xs 0 d)
 leaf_head [] d some = absurd (omega arith)
 leaf_head (x ∷ xs) d some = refl
 
 -- the first entry from a child on
-pub head_from : (children : List Child) (i : ℕ) (d : Child) → AreChildren children → i < length children → slice_get (all_items (drop i children)) 0 ≡ Some (get_or children i d).head.value
+pub head_from : (children : List Child) (i : ℕ) (d : Child) → AreChildren children → i < length children → slice_get (all_items (drop i children)) 0 ≡ Some (get_or children i d).head
 head_from children i d h lt =
     let c = get_or children i d in
-    ap (λ (es : List Entry). slice_get es 0) (items_from children i d lt) ∙ get-front (items_of c) (all_items (drop (i + 1) children)) 0 c.head.value (h.each i d lt).head
+    ap (λ (es : List Entry). slice_get es 0) (items_from children i d lt) ∙ get-front (items_of c) (all_items (drop (i + 1) children)) 0 c.head (h.each i d lt).head
 
 -- an entry among those of the children, by its place in one of them
 in_child : (children : List Child) (i : ℕ) (d : Child) (m k : ℕ) → i < length children → k ≡ length (all_items (take i children)) + m → slice_get (all_items children) k ≡ slice_get (items_of (get_or children i d) ++ all_items (drop (i + 1) children)) m

@@ -1,43 +1,27 @@
--- The entries of leaves, as they are shared and as values.
-use Rattle.std.proofs.Common.{Global, ◌≡◌, ℕ, zero, suc, ◌+◌, ◌-◌, ◌≤◌, List, [], ◌∷◌, ◌++◌, length, take, drop, refl, ap, sym, ◌∙◌, arith, append_assoc, length-drop}
-use Rattle.std.proofs.lemmas.List.{append-nil, take_rest, drop_all, drop-drop, drop-append-le, length-take-le, take-append-drop, map-append}
-use Rattle.std.specs.declared.sync.Arc.{Arc}
+-- The entries of leaves.
+use Rattle.std.proofs.Common.{◌≡◌, ℕ, zero, suc, ◌+◌, ◌-◌, ◌≤◌, List, [], ◌∷◌, ◌++◌, length, take, drop, refl, ap, sym, ◌∙◌, arith, append_assoc, length-drop}
+use Rattle.std.proofs.lemmas.List.{append-nil, take_rest, drop_all, drop-drop, drop-append-le, length-take-le, take-append-drop}
 use Rattle.model.specs.declared.entry.Entry.{Entry}
 use Rattle.std.proofs.Common.{get_or}
 use Rattle.std.specs.Prelude.{Option, Some, None, slice_get}
-use Rattle.counted.specs.Edits.{values_of, put_items, edited}
-use Rattle.counted.proofs.Totals.{length-values}
+use Rattle.counted.specs.Edits.{put_items, edited}
 use Rattle.counted.proofs.Places.{take-past}
 
-pub values-take : (n : ℕ) (xs : List (Arc Entry Global)) → values_of (take n xs) ≡ take n (values_of xs)
-values-take zero xs = refl
-values-take (suc n) [] = refl
-values-take (suc n) (x ∷ xs) = ap (λ ys. x.value ∷ ys) (values-take n xs)
-
-pub values-drop : (n : ℕ) (xs : List (Arc Entry Global)) → values_of (drop n xs) ≡ drop n (values_of xs)
-values-drop zero xs = refl
-values-drop (suc n) [] = refl
-values-drop (suc n) (x ∷ xs) = values-drop n xs
-
-pub values-split : (n : ℕ) (xs : List (Arc Entry Global)) → values_of (take n xs) ++ values_of (drop n xs) ≡ values_of xs
-values-split n xs = sym (map-append (λ (e : Arc Entry Global). e.value) (take n xs) (drop n xs)) ∙ ap values_of (take-append-drop n xs)
-
-pub leaf_edited : (xs : List (Arc Entry Global)) (at gone : ℕ) (put : List Entry) → (values_of (take at xs) ++ put) ++ values_of (take (length xs - (at + gone)) (drop (at + gone) xs)) ≡ edited at gone put (values_of xs)
+pub leaf_edited : (xs : List Entry) (at gone : ℕ) (put : List Entry)
+    → (take at xs ++ put) ++ take (length xs - (at + gone)) (drop (at + gone) xs) ≡ edited at gone put xs
 leaf_edited xs at gone put =
-    ap (λ ys. (values_of (take at xs) ++ put) ++ values_of ys) (take_rest xs (at + gone))
-    ∙ ap (λ ys. (ys ++ put) ++ values_of (drop (at + gone) xs)) (values-take at xs)
-    ∙ ap (λ ys. (take at (values_of xs) ++ put) ++ ys) (values-drop (at + gone) xs)
-    ∙ append_assoc (take at (values_of xs)) put (drop (at + gone) (values_of xs))
+    ap (λ ys. (take at xs ++ put) ++ ys) (take_rest xs (at + gone)) ∙ append_assoc (take at xs) put (drop (at + gone) xs)
 
-pub leaf_rest : (xs : List (Arc Entry Global)) (at : ℕ) → at ≤ length xs → drop at (values_of xs) ≡ values_of (take (length xs - at) (drop at xs)) ++ drop (at + length (take (length xs - at) (drop at xs))) (values_of xs)
+pub leaf_rest : (xs : List Entry) (at : ℕ) → at ≤ length xs
+    → drop at xs ≡ take (length xs - at) (drop at xs) ++ drop (at + length (take (length xs - at) (drop at xs))) xs
 leaf_rest xs at le =
     let e = take_rest xs at in
     let n = length-drop at xs in
     let m = ap length e in
-    sym (ap (λ ys. values_of (take (length xs - at) (drop at xs)) ++ ys) (drop_all (at + length (take (length xs - at) (drop at xs))) (values_of xs) (omega (arith, length-values xs)))
-    ∙ append-nil (values_of (take (length xs - at) (drop at xs))) ∙ ap values_of e ∙ values-drop at xs)
+    let front = take (length xs - at) (drop at xs) in
+    sym (ap (λ ys. front ++ ys) (drop_all (at + length front) xs (omega arith)) ∙ append-nil front ∙ e)
 
-pub put_items-le : (put : Option (Arc Entry Global)) → length (put_items put) ≤ 1
+pub put_items-le : (put : Option Entry) → length (put_items put) ≤ 1
 put_items-le None = omega arith
 put_items-le (Some e) = omega arith
 
@@ -47,17 +31,18 @@ gone_within at zero end one some = omega arith
 gone_within at (suc n) end one some = let h = some (omega arith) in omega arith
 
 -- what follows in order, where only the first so many of a leaf's entries are taken
-pub leaf_front : (xs : List (Arc Entry Global)) (es : List Entry) (at k : ℕ) → k ≤ length xs → drop at es ≡ values_of xs ++ drop (at + length xs) es → drop at es ≡ values_of (take k xs) ++ drop (at + length (take k xs)) es
+pub leaf_front : (xs es : List Entry) (at k : ℕ) → k ≤ length xs → drop at es ≡ xs ++ drop (at + length xs) es
+    → drop at es ≡ take k xs ++ drop (at + length (take k xs)) es
 leaf_front xs es at k le e =
     let rest = drop (at + length xs) es in
-    let n = length-values xs in
-    let past : drop (at + length (take k xs)) es ≡ values_of (drop k xs) ++ rest =
-    ap (λ m. drop (at + m) es) (length-take-le k xs le) ∙ sym (drop-drop k at es) ∙ ap (drop k) e ∙ drop-append-le k (values_of xs) rest (omega arith) ∙ ap (λ ys. ys ++ rest) (sym (values-drop k xs)) in
-    e ∙ ap (λ ys. ys ++ rest) (sym (values-split k xs)) ∙ append_assoc (values_of (take k xs)) (values_of (drop k xs)) rest ∙ ap (λ ys. values_of (take k xs) ++ ys) (sym past)
+    let past : drop (at + length (take k xs)) es ≡ drop k xs ++ rest =
+    ap (λ m. drop (at + m) es) (length-take-le k xs le) ∙ sym (drop-drop k at es) ∙ ap (drop k) e ∙ drop-append-le k xs rest le in
+    e ∙ ap (λ ys. ys ++ rest) (sym (take-append-drop k xs)) ∙ append_assoc (take k xs) (drop k xs) rest ∙ ap (λ ys. take k xs ++ ys) (sym past)
 
 -- a leaf that has run out is followed by the next one
-pub refilled : (old new : List (Arc Entry Global)) (es : List Entry) (next left : ℕ) → length old ≡ 0 → length new ≤ left → drop next es ≡ values_of new ++ drop (next + length new) es → values_of old ++ take left (drop next es) ≡ values_of new ++ take (left - length new) (drop (next + length new) es)
-refilled [] new es next left none le e = ap (take left) e ∙ take-past (values_of new) (drop (next + length new) es) (left - length new) left (let n = length-values new in omega arith)
+pub refilled : (old new es : List Entry) (next left : ℕ) → length old ≡ 0 → length new ≤ left → drop next es ≡ new ++ drop (next + length new) es
+    → old ++ take left (drop next es) ≡ new ++ take (left - length new) (drop (next + length new) es)
+refilled [] new es next left none le e = ap (take left) e ∙ take-past new (drop (next + length new) es) (left - length new) left (omega arith)
 refilled (x ∷ old) new es next left none le e = absurd (omega arith)
 
 first_at : (es : List Entry) (at : ℕ) (x : Entry) (rest : List Entry) → drop at es ≡ x ∷ rest → Some x ≡ slice_get es at
@@ -66,13 +51,17 @@ first_at [] (suc at) x rest h = cc
 first_at (e ∷ es) zero x rest h = cc
 first_at (e ∷ es) (suc at) x rest h = first_at es at x rest h
 
-first_of : (l : List (Arc Entry Global)) (d : Arc Entry Global) → 1 ≤ length l → values_of l ≡ (get_or l 0 d).value ∷ values_of (drop 1 l)
+first_of : (l : List Entry) (d : Entry) → 1 ≤ length l → l ≡ get_or l 0 d ∷ drop 1 l
 first_of [] d h = absurd (omega arith)
 first_of (x ∷ l) d h = refl
 
 -- the entry at an index, by the leaf from there on
-pub entry_at : (es : List Entry) (at : ℕ) (l : List (Arc Entry Global)) (x : Entry) (d : Arc Entry Global) → 1 ≤ length l → x ≡ (get_or l 0 d).value → drop at es ≡ values_of l ++ drop (at + length l) es → Some x ≡ slice_get es at
-entry_at es at l x d some is e = first_at es at x (values_of (drop 1 l) ++ drop (at + length l) es) (e ∙ ap (λ ys. ys ++ drop (at + length l) es) (first_of l d some) ∙ ap (λ y. y ∷ (values_of (drop 1 l) ++ drop (at + length l) es)) (sym is))
+pub entry_at : (es : List Entry) (at : ℕ) (l : List Entry) (x d : Entry) → 1 ≤ length l → x ≡ get_or l 0 d → drop at es ≡ l ++ drop (at + length l) es
+    → Some x ≡ slice_get es at
+entry_at es at l x d some is e =
+    let rest = drop (at + length l) es in
+    let here = ap (λ ys. ys ++ rest) (first_of l d some) ∙ ap (λ y. y ∷ (drop 1 l ++ rest)) (sym is) in
+    first_at es at x (drop 1 l ++ rest) (e ∙ here)
 
 pub no_entry_at : (es : List Entry) (at : ℕ) → length es ≤ at → None ≡ slice_get es at
 no_entry_at [] zero h = refl

@@ -7,11 +7,11 @@ use Rattle.std.specs.declared.alloc.AllocError.{AllocError}
 use Rattle.std.proofs.lemmas.Int.{ints}
 use Rattle.std.proofs.lemmas.List.{append-nil, take_more, drop_more, drop_all, take-append-drop}
 use Rattle.std.proofs.lemmas.Bool.{cases_lt}
+use Rattle.std.proofs.lemmas.Option.{get_or_from_slice_get}
 use Rattle.std.proofs.Math.Nat.{mul-le-mul_right}
 use Rattle.std.proofs.lemmas.List.Concat.{flat_map-append}
 use Rattle.model.specs.declared.entry.Entry.{Entry}
-use Rattle.std.specs.declared.sync.Arc.{Arc}
-use Rattle.counted.specs.Edits.{values_of, edited}
+use Rattle.counted.specs.Edits.{edited}
 use Rattle.counted.specs.declared.node.Child.{Child}
 use Rattle.counted.specs.Sums.{total, shift_before, first_sid, IsOrdered}
 use Rattle.counted.specs.Shapes.{items_of, all_items, depth_of, view_of, IsChild, AreChildren, IsBalanced}
@@ -56,10 +56,14 @@ first-append : (xs ys : List Entry) → 1 ≤ length xs → first_sid (xs ++ ys)
 first-append [] ys h = absurd (omega arith)
 first-append (x ∷ xs) ys h = refl
 
-pub first_from : (children : List Child) (i : ℕ) (d : Child) → AreChildren children → i < length children → first_sid (all_items (drop i children)) ≡ (get_or children i d).first
+first_sid-get : (es : List Entry) (x : Entry) → slice_get es 0 ≡ Some x → first_sid es ≡ x.sid
+first_sid-get [] x e = cc
+first_sid-get (y ∷ es) x e = ap (λ (z : Entry). z.sid) (get_or_from_slice_get (y ∷ es) 0 x x e)
+
+pub first_from : (children : List Child) (i : ℕ) (d : Child) → AreChildren children → i < length children → first_sid (all_items (drop i children)) ≡ (get_or children i d).head.sid
 first_from children i d h lt =
     let is = h.each i d lt in
-    ap first_sid (items_from children i d lt) ∙ first-append (items_of (get_or children i d)) (all_items (drop (i + 1) children)) (child_some _ _ is) ∙ sym is.first
+    ap first_sid (items_from children i d lt) ∙ first-append (items_of (get_or children i d)) (all_items (drop (i + 1) children)) (child_some _ _ is) ∙ first_sid-get _ _ is.head
 
 pub some_from : (children : List Child) (i : ℕ) (d : Child) → AreChildren children → i < length children → 1 ≤ length (all_items (drop i children))
 some_from children i d h lt =
@@ -67,7 +71,7 @@ some_from children i d h lt =
     omega (arith, ap length (items_from children i d lt), length-append (items_of (get_or children i d)) (all_items (drop (i + 1) children)))
 
 -- past a child whose next one begins below the place
-pub shift_past : (sid : ℕ) (children : List Child) (i : ℕ) (d : Child) → AreChildren children → IsOrdered (all_items children) → i + 1 < length children → (get_or children (i + 1) d).first < sid → shift_before sid (all_items (drop i children)) ≡ (get_or children i d).net +ℤ shift_before sid (all_items (drop (i + 1) children))
+pub shift_past : (sid : ℕ) (children : List Child) (i : ℕ) (d : Child) → AreChildren children → IsOrdered (all_items children) → i + 1 < length children → (get_or children (i + 1) d).head.sid < sid → shift_before sid (all_items (drop i children)) ≡ (get_or children i d).net +ℤ shift_before sid (all_items (drop (i + 1) children))
 shift_past sid children i d h o lt below =
     let here : i < length children = omega arith in
     let is = h.each i d here in
@@ -81,7 +85,7 @@ shift_past sid children i d h o lt below =
     let both = ap (shift_before sid) e ∙ shift_before-append sid xs ys in
     omega (arith, ints)
 
-rest_past : (sid : ℕ) (children : List Child) (i : ℕ) (d : Child) → AreChildren children → IsOrdered (all_items children) → (i < length children → sid ≤ (get_or children i d).first) → shift_before sid (all_items (drop i children)) ≡ pos 0
+rest_past : (sid : ℕ) (children : List Child) (i : ℕ) (d : Child) → AreChildren children → IsOrdered (all_items children) → (i < length children → sid ≤ (get_or children i d).head.sid) → shift_before sid (all_items (drop i children)) ≡ pos 0
 rest_past sid children i d h o past =
     elim (cases_lt i (length children)) [
       | inl lt ↦ past_first sid (all_items (drop i children)) (ordered_from children i o) (let e = first_from children i d h lt in let p = past lt in omega arith)
@@ -89,7 +93,7 @@ rest_past sid children i d h o past =
     ]
 
 -- at a child whose next one, if any, begins at or past the place
-pub shift_at : (sid : ℕ) (children : List Child) (i : ℕ) (d : Child) → AreChildren children → IsOrdered (all_items children) → i < length children → (i + 1 < length children → sid ≤ (get_or children (i + 1) d).first) → shift_before sid (all_items (drop i children)) ≡ shift_before sid (items_of (get_or children i d))
+pub shift_at : (sid : ℕ) (children : List Child) (i : ℕ) (d : Child) → AreChildren children → IsOrdered (all_items children) → i < length children → (i + 1 < length children → sid ≤ (get_or children (i + 1) d).head.sid) → shift_before sid (all_items (drop i children)) ≡ shift_before sid (items_of (get_or children i d))
 shift_at sid children i d h o lt past =
     let xs = items_of (get_or children i d) in
     let ys = all_items (drop (i + 1) children) in
@@ -169,7 +173,6 @@ same_is_child depth c x same h = record {
   many = let e = ap (λ v. length v.items) same.node in let f = h.many in omega arith;
   count = same.count ∙ h.count ∙ sym (ap (λ v. length v.items) same.node);
   net = same.net ∙ h.net ∙ sym (ap (λ v. total v.items) same.node);
-  first = same.first ∙ h.first ∙ sym (ap (λ v. first_sid v.items) same.node);
   head = ap (λ v. slice_get v.items 0) same.node ∙ h.head ∙ ap Some (sym same.head);
 }
 
@@ -272,13 +275,13 @@ pub grown_same : (depth depth' width width' : ℕ) (items items' : List Entry) (
 grown_same depth depth' width width' items items' (One node) e le same h = (h.0 ∙ e, omega (arith, h.1), h.2 ∙ same)
 grown_same depth depth' width width' items items' (Two left right) e le same h = (h.0 ∙ e, h.1 ∙ e, h.2, h.3, h.4 ∙ same)
 
-pub record AtLeaf (entries : List (Arc Entry Global)) (v : View) : Type 0 where
+pub record AtLeaf (entries : List Entry) (v : View) : Type 0 where
   pub room : length entries ≤ 16
   pub depth : v.depth ≡ 1
   pub width : v.width ≡ length entries
-  pub items : v.items ≡ values_of entries
+  pub items : v.items ≡ entries
 
-pub at_leaf : {b : Body} {v : View} {entries : Vec (Arc Entry Global) Global} → view_of b ≡ v → IsBalanced b → b ≡ Leaf entries → AtLeaf entries.items v
+pub at_leaf : {b : Body} {v : View} {entries : Vec Entry Global} → view_of b ≡ v → IsBalanced b → b ≡ Leaf entries → AtLeaf entries.items v
 at_leaf view balanced is =
     let e = sym view ∙ ap view_of is in
     record {
@@ -287,10 +290,6 @@ at_leaf view balanced is =
       width = ap (λ v. v.width) e;
       items = ap (λ v. v.items) e;
     }
-
-pub first_of_entries : (entries : List (Arc Entry Global)) (d : Arc Entry Global) → 1 ≤ length entries → (get_or entries 0 d).value.sid ≡ first_sid (values_of entries)
-first_of_entries [] d h = absurd (omega arith)
-first_of_entries (e ∷ entries) d h = refl
 
 pub grown_result_same : (depth depth' width width' : ℕ) (items items' : List Entry) (r : Result Grown AllocError) → depth ≡ depth' → width' ≤ width → items ≡ items' → IfOk r (IsGrown depth width items) → IfOk r (IsGrown depth' width' items')
 grown_result_same depth depth' width width' items items' (Ok g) e le same h = grown_same depth depth' width width' items items' g e le same h

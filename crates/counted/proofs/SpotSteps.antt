@@ -1,14 +1,12 @@
 -- The steps of a walk to a position, over the entries of a leaf and over children.
-use Rattle.std.proofs.Common.{Global, ◌≡◌, ℕ, zero, suc, ◌+◌, ◌<◌, ◌≤◌, ◌^◌, inl, inr, List, [], ◌∷◌, ◌++◌, length, take, drop, get_or, refl, ap, sym, subst, arith}
+use Rattle.std.proofs.Common.{◌≡◌, ℕ, zero, suc, ◌+◌, ◌<◌, ◌≤◌, ◌^◌, inl, inr, List, [], ◌∷◌, ◌++◌, length, take, drop, get_or, refl, sym, subst, arith}
 use Rattle.std.specs.Prelude.{ℤ, pos, ◌+ℤ◌, ◌≤ℤ◌, ◌<ℤ◌, Bool, false}
 use Rattle.std.proofs.lemmas.Int.{ints}
 use Rattle.std.proofs.lemmas.Bool.{cases_lt}
 use Rattle.std.proofs.lemmas.List.{drop_more, drop_all}
-use Rattle.std.specs.declared.sync.Arc.{Arc}
 use Rattle.model.specs.declared.entry.Entry.{Entry}
 use Rattle.model.specs.declared.entry.Change.{Change}
 use Rattle.counted.specs.declared.node.Child.{Child}
-use Rattle.counted.specs.Edits.{values_of}
 use Rattle.counted.specs.Shapes.{items_of, all_items, AreChildren}
 use Rattle.counted.specs.Sums.{weight_of, total, first_sid, IsOrdered}
 use Rattle.counted.specs.Spots.{Passes, Stops, IsSpot, ArePlaced}
@@ -25,7 +23,7 @@ pub placed-left : (xs ys : List Entry) → ArePlaced (xs ++ ys) → ArePlaced xs
 placed-left [] ys h = tt
 placed-left (x ∷ xs) ys h = (h.0, placed-left xs ys h.1)
 
-pub placed_at : (xs : List (Arc Entry Global)) (i : ℕ) (d : Arc Entry Global) → ArePlaced (values_of xs) → i < length xs → (get_or xs i d).value.sid < 2 ^ 32
+pub placed_at : (xs : List Entry) (i : ℕ) (d : Entry) → ArePlaced xs → i < length xs → (get_or xs i d).sid < 2 ^ 32
 placed_at [] i d h lt = absurd (omega arith)
 placed_at (x ∷ xs) zero d h lt = h.0
 placed_at (x ∷ xs) (suc i) d h lt = placed_at xs i d h.1 (omega arith)
@@ -34,7 +32,7 @@ first_placed : (es : List Entry) → ArePlaced es → first_sid es < 2 ^ 32
 first_placed [] h = omega arith
 first_placed (e ∷ es) h = h.0
 
-pub child_placed : (children : List Child) (i : ℕ) (d : Child) → AreChildren children → ArePlaced (all_items children) → i < length children → (get_or children i d).first < 2 ^ 32
+pub child_placed : (children : List Child) (i : ℕ) (d : Child) → AreChildren children → ArePlaced (all_items children) → i < length children → (get_or children i d).head.sid < 2 ^ 32
 child_placed children i d h placed lt =
     let all = placed-right (all_items (take i children)) (all_items (drop i children)) (subst ArePlaced (split_items i children) placed) in
     let small = first_placed (all_items (drop i children)) all in
@@ -48,19 +46,19 @@ child_entries_placed children i d lt placed =
 
 -- ---- a leaf
 
-rest_is : (xs : List (Arc Entry Global)) (i : ℕ) (d : Arc Entry Global) → i < length xs → values_of (drop i xs) ≡ (get_or xs i d).value ∷ values_of (drop (i + 1) xs)
-rest_is xs i d lt = ap values_of (drop_more xs i d lt)
+rest_is : (xs : List Entry) (i : ℕ) (d : Entry) → i < length xs → drop i xs ≡ get_or xs i d ∷ drop (i + 1) xs
+rest_is xs i d lt = drop_more xs i d lt
 
-pub leaf_stop : (rid up : ℤ) (xs : List (Arc Entry Global)) (i : ℕ) (d : Arc Entry Global) (inserted : Bool) → i < length xs → Stops inserted (get_or xs i d).value.change (pos (get_or xs i d).value.sid +ℤ up) rid → IsSpot rid up (values_of (drop i xs)) zero up inserted
+pub leaf_stop : (rid up : ℤ) (xs : List Entry) (i : ℕ) (d : Entry) (inserted : Bool) → i < length xs → Stops inserted (get_or xs i d).change (pos (get_or xs i d).sid +ℤ up) rid → IsSpot rid up (drop i xs) zero up inserted
 leaf_stop rid up xs i d inserted lt stop =
     subst (λ (es : List Entry). IsSpot rid up es zero up inserted) (sym (rest_is xs i d lt)) (refl, stop)
 
-pub leaf_end : (rid up : ℤ) (xs : List (Arc Entry Global)) (i : ℕ) → length xs ≤ i → IsSpot rid up (values_of (drop i xs)) zero up false
-leaf_end rid up xs i le = subst (λ (es : List (Arc Entry Global)). IsSpot rid up (values_of es) zero up false) (sym (drop_all i xs le)) (refl, refl)
+pub leaf_end : (rid up : ℤ) (xs : List Entry) (i : ℕ) → length xs ≤ i → IsSpot rid up (drop i xs) zero up false
+leaf_end rid up xs i le = subst (λ (es : List Entry). IsSpot rid up es zero up false) (sym (drop_all i xs le)) (refl, refl)
 
-pub leaf_pass : (rid up more : ℤ) (xs : List (Arc Entry Global)) (i : ℕ) (d : Arc Entry Global) (k : ℕ) (z : ℤ) (inserted : Bool) → i < length xs → more ≡ weight_of (get_or xs i d).value.change +ℤ up → Passes (get_or xs i d).value.change (pos (get_or xs i d).value.sid +ℤ up) rid → IsSpot rid more (values_of (drop (i + 1) xs)) k z inserted → IsSpot rid up (values_of (drop i xs)) (suc k) z inserted
+pub leaf_pass : (rid up more : ℤ) (xs : List Entry) (i : ℕ) (d : Entry) (k : ℕ) (z : ℤ) (inserted : Bool) → i < length xs → more ≡ weight_of (get_or xs i d).change +ℤ up → Passes (get_or xs i d).change (pos (get_or xs i d).sid +ℤ up) rid → IsSpot rid more (drop (i + 1) xs) k z inserted → IsSpot rid up (drop i xs) (suc k) z inserted
 leaf_pass rid up more xs i d k z inserted lt e pass rest =
-    subst (λ (es : List Entry). IsSpot rid up es (suc k) z inserted) (sym (rest_is xs i d lt)) (pass, subst (λ (y : ℤ). IsSpot rid y (values_of (drop (i + 1) xs)) k z inserted) e rest)
+    subst (λ (es : List Entry). IsSpot rid up es (suc k) z inserted) (sym (rest_is xs i d lt)) (pass, subst (λ (y : ℤ). IsSpot rid y (drop (i + 1) xs) k z inserted) e rest)
 
 -- ---- children
 
@@ -69,7 +67,7 @@ spot_past rid up more xs [] k n z inserted some o e le same h = absurd (omega ar
 spot_past rid up more xs (y ∷ ys) k n z inserted some o e le same h = spot-right rid up more xs y ys n k z inserted e same o le h
 
 -- past a child whose next one begins at or below the position
-pub children_pass : (rid up more : ℤ) (children : List Child) (i : ℕ) (d : Child) (k n : ℕ) (z : ℤ) (inserted : Bool) → AreChildren children → IsOrdered (all_items children) → i + 1 < length children → more ≡ (get_or children i d).net +ℤ up → (pos (get_or children (i + 1) d).first +ℤ more) ≤ℤ rid → n ≡ (get_or children i d).count + k → IsSpot rid more (all_items (drop (i + 1) children)) k z inserted → IsSpot rid up (all_items (drop i children)) n z inserted
+pub children_pass : (rid up more : ℤ) (children : List Child) (i : ℕ) (d : Child) (k n : ℕ) (z : ℤ) (inserted : Bool) → AreChildren children → IsOrdered (all_items children) → i + 1 < length children → more ≡ (get_or children i d).net +ℤ up → (pos (get_or children (i + 1) d).head.sid +ℤ more) ≤ℤ rid → n ≡ (get_or children i d).count + k → IsSpot rid more (all_items (drop (i + 1) children)) k z inserted → IsSpot rid up (all_items (drop i children)) n z inserted
 children_pass rid up more children i d k n z inserted h o lt e le same rest =
     let here : i < length children = omega arith in
     let is = h.each i d here in
@@ -86,7 +84,7 @@ ends_by rid up [] h = tt
 ends_by rid up (e ∷ es) h = h
 
 -- at a child whose next one, if any, begins past the position
-pub children_stop : (rid up : ℤ) (children : List Child) (i : ℕ) (d : Child) (k : ℕ) (z : ℤ) (inserted : Bool) → AreChildren children → i < length children → (i + 1 < length children → rid <ℤ (pos (get_or children (i + 1) d).first +ℤ ((get_or children i d).net +ℤ up))) → IsSpot rid up (items_of (get_or children i d)) k z inserted → IsSpot rid up (all_items (drop i children)) k z inserted
+pub children_stop : (rid up : ℤ) (children : List Child) (i : ℕ) (d : Child) (k : ℕ) (z : ℤ) (inserted : Bool) → AreChildren children → i < length children → (i + 1 < length children → rid <ℤ (pos (get_or children (i + 1) d).head.sid +ℤ ((get_or children i d).net +ℤ up))) → IsSpot rid up (items_of (get_or children i d)) k z inserted → IsSpot rid up (all_items (drop i children)) k z inserted
 children_stop rid up children i d k z inserted h lt past here =
     let net = (h.each i d lt).net in
     subst (λ (es : List Entry). IsSpot rid up es k z inserted) (sym (items_from children i d lt))

@@ -5,12 +5,8 @@ use Rattle.std.proofs.lemmas.Int.{ints}
 use Rattle.std.proofs.lemmas.List.{take_more}
 use Rattle.std.specs.List.{AllByRecursion}
 use Rattle.model.specs.declared.entry.Entry.{Entry}
-use Rattle.std.proofs.Common.{Global}
-use Rattle.std.specs.declared.sync.Arc.{Arc}
-use Rattle.std.proofs.lemmas.List.{map-append, length-map}
 use Rattle.model.specs.declared.entry.Change.{Change}
 use Rattle.model.specs.declared.entry.Change.TheVariants.{Ins, Del, Mod}
-use Rattle.counted.specs.Edits.{values_of}
 use Rattle.counted.specs.Sums.{weight_of, total, shift_before, first_sid, next_sid, IsOrdered}
 
 -- a sum lies between the number of entries and its negation
@@ -60,34 +56,38 @@ ltb-from_le : (m n : ℕ) → n ≤ m → ltb m n ≡ false
 ltb-from_le m n h = grind arith
 
 -- one entry more
-pub values-more : (xs : List (Arc Entry Global)) (i : ℕ) (d : Arc Entry Global) → i < length xs → values_of (take (i + 1) xs) ≡ values_of (take i xs) ++ (get_or xs i d).value ∷ []
-values-more xs i d h = ap values_of (take_more xs i d h) ∙ map-append (λ (e : Arc Entry Global). e.value) (take i xs) (get_or xs i d ∷ [])
+pub total-more : (xs : List Entry) (i : ℕ) (d : Entry) (w : ℤ) → i < length xs → w ≡ weight_of (get_or xs i d).change
+    → total (take (i + 1) xs) ≡ total (take i xs) +ℤ w
+total-more xs i d w h e = rw (take_more xs i d h) (omega (arith, ints, total-append (take i xs) (get_or xs i d ∷ [])))
 
-pub length-values : (xs : List (Arc Entry Global)) → length (values_of xs) ≡ length xs
-length-values xs = length-map xs (λ (e : Arc Entry Global). e.value)
+pub shift_before-more : (sid : ℕ) (xs : List Entry) (i : ℕ) (d : Entry) → i < length xs
+    → shift_before sid (take (i + 1) xs) ≡ shift_before sid (take i xs) +ℤ cond (ltb (get_or xs i d).sid sid) (weight_of (get_or xs i d).change) (pos 0)
+shift_before-more sid xs i d h = rw (take_more xs i d h) (omega (arith, ints, shift_before-append sid (take i xs) (get_or xs i d ∷ [])))
 
-pub total-more : (xs : List (Arc Entry Global)) (i : ℕ) (d : Arc Entry Global) (w : ℤ) → i < length xs → w ≡ weight_of (get_or xs i d).value.change → total (values_of (take (i + 1) xs)) ≡ total (values_of (take i xs)) +ℤ w
-total-more xs i d w h e = rw (values-more xs i d h) (omega (arith, ints, total-append (values_of (take i xs)) ((get_or xs i d).value ∷ [])))
+pub shift_before-more_below : (sid : ℕ) (xs : List Entry) (i : ℕ) (d : Entry) (w : ℤ) → i < length xs → (get_or xs i d).sid < sid
+    → w ≡ weight_of (get_or xs i d).change → shift_before sid (take (i + 1) xs) ≡ shift_before sid (take i xs) +ℤ w
+shift_before-more_below sid xs i d w h lt e =
+    let c = get_or xs i d in
+    let s = shift_before-more sid xs i d h ∙ ap (λ b. shift_before sid (take i xs) +ℤ cond b (weight_of c.change) (pos 0)) (ltb-from_lt _ _ lt) in
+    omega (arith, ints)
 
-pub shift_before-more : (sid : ℕ) (xs : List (Arc Entry Global)) (i : ℕ) (d : Arc Entry Global) → i < length xs → shift_before sid (values_of (take (i + 1) xs)) ≡ shift_before sid (values_of (take i xs)) +ℤ cond (ltb (get_or xs i d).value.sid sid) (weight_of (get_or xs i d).value.change) (pos 0)
-shift_before-more sid xs i d h = rw (values-more xs i d h) (omega (arith, ints, shift_before-append sid (values_of (take i xs)) ((get_or xs i d).value ∷ [])))
-
-pub shift_before-more_below : (sid : ℕ) (xs : List (Arc Entry Global)) (i : ℕ) (d : Arc Entry Global) (w : ℤ) → i < length xs → (get_or xs i d).value.sid < sid → w ≡ weight_of (get_or xs i d).value.change → shift_before sid (values_of (take (i + 1) xs)) ≡ shift_before sid (values_of (take i xs)) +ℤ w
-shift_before-more_below sid xs i d w h lt e = let s = shift_before-more sid xs i d h ∙ ap (λ b. shift_before sid (values_of (take i xs)) +ℤ cond b (weight_of (get_or xs i d).value.change) (pos 0)) (ltb-from_lt _ _ lt) in omega (arith, ints)
-
-pub shift_before-more_above : (sid : ℕ) (xs : List (Arc Entry Global)) (i : ℕ) (d : Arc Entry Global) → i < length xs → sid ≤ (get_or xs i d).value.sid → shift_before sid (values_of (take (i + 1) xs)) ≡ shift_before sid (values_of (take i xs))
-shift_before-more_above sid xs i d h le = let s = shift_before-more sid xs i d h ∙ ap (λ b. shift_before sid (values_of (take i xs)) +ℤ cond b (weight_of (get_or xs i d).value.change) (pos 0)) (ltb-from_le _ _ le) in omega (arith, ints)
+pub shift_before-more_above : (sid : ℕ) (xs : List Entry) (i : ℕ) (d : Entry) → i < length xs → sid ≤ (get_or xs i d).sid
+    → shift_before sid (take (i + 1) xs) ≡ shift_before sid (take i xs)
+shift_before-more_above sid xs i d h le =
+    let c = get_or xs i d in
+    let s = shift_before-more sid xs i d h ∙ ap (λ b. shift_before sid (take i xs) +ℤ cond b (weight_of c.change) (pos 0)) (ltb-from_le _ _ le) in
+    omega (arith, ints)
 
 -- a sum over the entries so far stays within their number
-pub total_take_within : (xs : List (Arc Entry Global)) (i : ℕ) → IsWithin (total (values_of (take i xs))) (length xs)
+pub total_take_within : (xs : List Entry) (i : ℕ) → IsWithin (total (take i xs)) (length xs)
 total_take_within xs i =
-    let w = total_within (values_of (take i xs)) in
-    record { above = omega (arith, ints, length-values (take i xs), length-take i xs); below = omega (arith, ints, length-values (take i xs), length-take i xs) }
+    let w = total_within (take i xs) in
+    record { above = omega (arith, ints, length-take i xs); below = omega (arith, ints, length-take i xs) }
 
-pub shift_take_within : (sid : ℕ) (xs : List (Arc Entry Global)) (i : ℕ) → IsWithin (shift_before sid (values_of (take i xs))) (length xs)
+pub shift_take_within : (sid : ℕ) (xs : List Entry) (i : ℕ) → IsWithin (shift_before sid (take i xs)) (length xs)
 shift_take_within sid xs i =
-    let w = shift_within sid (values_of (take i xs)) in
-    record { above = omega (arith, ints, length-values (take i xs), length-take i xs); below = omega (arith, ints, length-values (take i xs), length-take i xs) }
+    let w = shift_within sid (take i xs) in
+    record { above = omega (arith, ints, length-take i xs); below = omega (arith, ints, length-take i xs) }
 
 -- ---- the order
 

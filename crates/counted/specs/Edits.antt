@@ -1,16 +1,10 @@
 -- One edit of a list of entries.
-use Rattle.std.specs.Prelude.{ℕ, ◌+◌, Option, Some, None, List, [], ◌∷◌, ◌++◌, map, take, drop}
-use Rattle.std.proofs.Common.{Global}
-use Rattle.std.specs.declared.sync.Arc.{Arc}
+use Rattle.std.specs.Prelude.{ℕ, ◌+◌, Option, Some, None, List, [], ◌∷◌, ◌++◌, take, drop}
 use Rattle.model.specs.declared.entry.Entry.{Entry}
 
--- the entries that are shared
-abbrev pub values_of : List (Arc Entry Global) → List Entry
-values_of entries = map (λ e. e.value) entries
-
-abbrev pub put_items : Option (Arc Entry Global) → List Entry
+abbrev pub put_items : Option Entry → List Entry
 put_items None = []
-put_items (Some e) = e.value ∷ []
+put_items (Some e) = e ∷ []
 
 -- the entries with so many from an index on replaced by others
 abbrev pub edited : ℕ → ℕ → List Entry → List Entry → List Entry

@@ -5,7 +5,7 @@ use Rattle.counted.specs.declared.grown.Grown.{Grown}
 use Rattle.counted.specs.declared.grown.Grown.TheVariants.{One, Two}
 use Rattle.counted.specs.declared.node.Child.{Child}
 use Rattle.counted.specs.declared.grown.Counts.{Counts}
-use Rattle.counted.specs.Sums.{total, first_sid}
+use Rattle.counted.specs.Sums.{total}
 use Rattle.counted.specs.Views.{View}
 
 abbrev pub grown_items : Grown → List Entry
@@ -31,14 +31,12 @@ IsGrown depth width items (Two left right) = (left.depth ≡ depth) × (right.de
 pub record IsSameChild (c x : Child) : Type 0 where
   pub count : x.count ≡ c.count
   pub net : x.net ≡ c.net
-  pub first : x.first ≡ c.first
-  pub head : x.head.value ≡ c.head.value
+  pub head : x.head ≡ c.head
   pub node : x.node.value ≡ c.node.value
 
 -- the counts are those of the node's entries, which are many
 pub record AreCounts (node : View) (counts : Counts) : Type 0 where
   pub count : counts.count ≡ length node.items
   pub net : counts.net ≡ total node.items
-  pub first : counts.first ≡ first_sid node.items
   pub many : 8 ^ node.depth ≤ length node.items
   pub deep : 1 ≤ node.depth

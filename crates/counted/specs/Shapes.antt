@@ -2,11 +2,10 @@
 use Rattle.std.specs.Prelude.{◌≡◌, ℕ, suc, ◌^◌, ◌≤◌, Some, List, [], ◌∷◌, length, slice_get}
 use Rattle.std.specs.List.{All, flat_map}
 use Rattle.model.specs.declared.entry.Entry.{Entry}
-use Rattle.counted.specs.Edits.{values_of}
 use Rattle.counted.specs.declared.node.Body.{Body}
 use Rattle.counted.specs.declared.node.Body.TheVariants.{Leaf, Inner}
 use Rattle.counted.specs.declared.node.Child.{Child}
-use Rattle.counted.specs.Sums.{total, first_sid}
+use Rattle.counted.specs.Sums.{total}
 use Rattle.counted.specs.Views.{View}
 
 abbrev pub items_of : Child → List Entry
@@ -22,7 +21,7 @@ depth_of [] = 0
 depth_of (c ∷ children) = c.node.value.depth
 
 abbrev pub view_of : Body → View
-view_of (Leaf entries) = record { depth = 1; width = length entries.items; items = values_of entries.items }
+view_of (Leaf entries) = record { depth = 1; width = length entries.items; items = entries.items }
 view_of (Inner children) = record { depth = suc (depth_of children.items); width = length children.items; items = all_items children.items }
 
 -- a child stands at this depth, is at least half full, and its counts are those of its entries
@@ -33,8 +32,7 @@ pub record IsChild (depth : ℕ) (c : Child) : Type 0 where
   pub many : 8 ^ depth ≤ length c.node.value.items
   pub count : c.count ≡ length c.node.value.items
   pub net : c.net ≡ total c.node.value.items
-  pub first : c.first ≡ first_sid c.node.value.items
-  pub head : slice_get c.node.value.items 0 ≡ Some c.head.value
+  pub head : slice_get c.node.value.items 0 ≡ Some c.head
 
 -- all children stand at one depth
 pub record AreChildren (children : List Child) : Type 0 where

@@ -2,23 +2,21 @@
 ghost use Rattle.std.specs.Prelude.{◌≡◌, suc, ◌+◌, ◌^◌, ◌<◌, ◌≤◌, ◌++◌, length, IfOk, OnOk};
 ghost use Rattle.std.specs.List.{All};
 ghost use Rattle.std.specs.Vec.Iter.{into_iter_items, into_iter_len};
-ghost use Rattle.counted.specs.Edits.{values_of};
 ghost use Rattle.counted.specs.Shapes.{IsChild, all_items, depth_of};
 ghost use Rattle.counted.specs.Trees.{IsRoot};
 
+use crate::SharedEntry;
 use crate::node::{Body, Child, Node};
 use model::Entry;
 use std::alloc::{AllocError, Global};
-use std::sync::Arc;
 use std::vec::IntoIter;
 
 /// The root over these entries.
-pub(crate) fn root_over(alloc: Global, entries: Vec<Entry>) -> Result<Node, AllocError>
+pub(crate) fn root_over(alloc: Global, entries: Vec<SharedEntry>) -> Result<Node, AllocError>
     requires few { length entries.items < 2 ^ 60 }
     ensures root { IfOk result IsRoot }
     ensures items { IfOk result (λ n. n.items ≡ entries.items) }
 {
-    let entries = shared(alloc, entries)?;
     if entries.len() <= 16 {
         return Ok(Node {
             body: Body::Leaf(entries),
@@ -33,23 +31,23 @@ pub(crate) fn root_over(alloc: Global, entries: Vec<Entry>) -> Result<Node, Allo
     })
 }
 
-/// The entries, each behind an owner of its own.
-fn shared(alloc: Global, entries: Vec<Entry>) -> Result<Vec<Arc<Entry, Global>>, AllocError>
-    ensures { IfOk result (λ v. values_of v.items ≡ entries.items) }
+/// The entries, each with a change that nobody shares yet.
+pub(crate) fn shared(alloc: Global, entries: Vec<Entry>) -> Result<Vec<SharedEntry>, AllocError>
+    ensures { IfOk result (λ v. v.items ≡ entries.items) }
 {
     let mut out = Vec::with_capacity(alloc, entries.len())?;
     for entry in entries {
-        out.push(Arc::new(alloc, entry)?)?;
+        out.push(SharedEntry::new(alloc, entry)?)?;
     }
     Ok(out)
 }
 
 /// Leaves of the entries.
-fn leaves(alloc: Global, entries: Vec<Arc<Entry, Global>>) -> Result<Vec<Child>, AllocError>
+fn leaves(alloc: Global, entries: Vec<SharedEntry>) -> Result<Vec<Child>, AllocError>
     requires many { 17 ≤ length entries.items }
     requires few { length entries.items < 2 ^ 60 }
     ensures some { IfOk result (λ v. 2 ≤ length v.items) }
-    ensures items { IfOk result (λ v. all_items v.items ≡ values_of entries.items) }
+    ensures items { IfOk result (λ v. all_items v.items ≡ entries.items) }
     ensures each { IfOk result (λ v. All (IsChild 1) v.items) }
 {
     let mut children = Vec::with_capacity(alloc, entries.len() / 16 + 1)?;

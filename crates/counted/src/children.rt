@@ -5,8 +5,8 @@ ghost use Rattle.counted.specs.declared.node.Child.{Child};
 ghost use Rattle.counted.specs.Shapes.{AreChildren, all_items, items_of};
 ghost use Rattle.counted.specs.Sums.{total, shift_before, IsOrdered};
 
+use crate::SharedEntry;
 use crate::node::Child;
-use model::Entry;
 
 /// How many entries the children have.
 pub(crate) fn count_of(children: &[Child]) -> usize
@@ -52,7 +52,7 @@ pub(crate) fn sums_before(children: &[Child], index: usize) -> (usize, i64)
 }
 
 /// The first entry after those of a child, where another child follows.
-pub(crate) fn entry_after(children: &[Child], index: usize) -> Option<&Entry>
+pub(crate) fn entry_after(children: &[Child], index: usize) -> Option<&SharedEntry>
     requires children { AreChildren children.now }
     requires within { index < length children.now }
     ensures { option_copied result ≡ slice_get (all_items (drop (index + 1) children.now)) 0 }
@@ -109,7 +109,7 @@ pub(crate) fn child_below(children: &[Child], sid: u64) -> (usize, i64)
 {
     let mut index = 0;
     let mut shift = 0;
-    while index + 1 < children.len() && children[index + 1].first < sid {
+    while index + 1 < children.len() && children[index + 1].head.sid() < sid {
         shift += children[index].net;
         index += 1;
     }

@@ -2,16 +2,16 @@
 ghost use Rattle.std.specs.Prelude.{◌≡◌, ◌+◌, ◌-◌, ◌^◌, ◌<◌, ◌≤◌, ◌++◌, ◌∷◌, [], length, take, drop, IfOk, IfSome, IfNone};
 ghost use Rattle.std.specs.Arc.{arc_value};
 ghost use Rattle.std.specs.List.{All};
-ghost use Rattle.counted.specs.Edits.{values_of, put_items, edited};
+ghost use Rattle.counted.specs.Edits.{put_items, edited};
 ghost use Rattle.counted.specs.Grown.{IsGrown, grown_items};
 ghost use Rattle.counted.specs.Shapes.{IsChild, AreChildren, all_items, depth_of};
 ghost use Rattle.counted.specs.Trees.{IsRoot};
 
+use crate::SharedEntry;
 use crate::children::child_at;
 use crate::grown::{Grown, above, grown_inner, grown_leaf, push_children, with_grown};
 use crate::leaf::{both_leaves, edited_leaf};
 use crate::node::{Body, Child, Node};
-use model::Entry;
 use std::alloc::{AllocError, Global};
 use std::sync::Arc;
 
@@ -22,7 +22,7 @@ impl Node {
         alloc: Global,
         at: usize,
         gone: usize,
-        put: Option<Arc<Entry, Global>>,
+        put: Option<SharedEntry>,
     ) -> Result<Arc<Node, Global>, AllocError>
         requires root { IsRoot self.now }
         requires one { gone ≤ 1 }
@@ -43,7 +43,7 @@ impl Node {
         alloc: Global,
         at: usize,
         gone: usize,
-        put: Option<Arc<Entry, Global>>,
+        put: Option<SharedEntry>,
     ) -> Result<Grown, AllocError>
         requires root { IsRoot self.now }
         requires one { gone ≤ 1 }

@@ -1,8 +1,81 @@
-//! What an entry adds to the rows below it.
-ghost use Rattle.std.specs.Prelude.{◌≡◌};
+//! The entries of a tree, and what each adds to the rows below it.
+ghost use Rattle.std.specs.Prelude.{◌≡◌, IfOk};
 ghost use Rattle.counted.specs.Sums.{weight_of};
 
-use model::Change;
+use model::{Change, Entry};
+use std::alloc::{AllocError, Global};
+use std::marker::Model;
+use std::sync::Arc;
+
+/// An entry whose change is shared: its copies, and those of it at other SIDs, own one change together.
+#[derive(Drop)]
+pub struct SharedEntry {
+    sid: u64,
+    change: Arc<Change, Global>,
+}
+
+impl Model for SharedEntry {
+    ghost use Rattle.model.specs.declared.entry.Entry.{Entry};
+
+    ghost Value = { Entry };
+
+    ghost view = { λ e. record { sid = e.sid; change = e.change.value } };
+}
+
+impl SharedEntry {
+    /// The entry, whose change nobody shares yet.
+    ///
+    /// # Errors
+    ///
+    /// `AllocError` where memory for the change is refused: the entry is dropped.
+    pub fn new(alloc: Global, entry: Entry) -> Result<SharedEntry, AllocError>
+        ensures { IfOk result (λ shared. shared ≡ entry) }
+    {
+        Ok(SharedEntry {
+            sid: entry.sid,
+            change: Arc::new(alloc, entry.change)?,
+        })
+    }
+
+    /// The position in the base at which it stands.
+    pub fn sid(&self) -> u64
+        ensures { result ≡ self.now.sid }
+    {
+        self.sid
+    }
+
+    /// What it does there.
+    pub fn change(&self) -> &Change
+        ensures { result.now ≡ self.now.change }
+    {
+        &self.change
+    }
+
+    /// The same entry, which shares its change. It copies no row.
+    ///
+    /// # Errors
+    ///
+    /// `AllocError` where the change has too many owners.
+    pub fn copy(&self) -> Result<SharedEntry, AllocError>
+        ensures { IfOk result (λ copied. copied ≡ self.now) }
+    {
+        self.with_sid(self.sid)
+    }
+
+    /// The entry at another SID, which shares its change. It copies no row.
+    ///
+    /// # Errors
+    ///
+    /// `AllocError` where the change has too many owners.
+    pub fn with_sid(&self, sid: u64) -> Result<SharedEntry, AllocError>
+        ensures { IfOk result (λ moved. moved ≡ record self.now { sid = sid }) }
+    {
+        Ok(SharedEntry {
+            sid,
+            change: Arc::try_clone(&self.change)?,
+        })
+    }
+}
 
 /// One for an insert, minus one for a delete, and nothing for a modify.
 pub fn weight(change: &Change) -> i64

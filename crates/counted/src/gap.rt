@@ -1,23 +1,19 @@
 //! Where something comes to stand at a position of the image above, among the changes that stand there.
 ghost use Rattle.std.specs.Prelude.{◌≡◌, ◌+◌, ◌-◌, ◌*◌, ◌^◌, ◌<◌, ◌≤◌, ◌+ℤ◌, ◌≤ℤ◌, pos, true, false, Bool, length, slice_get, slice_index_or, take, drop};
-ghost use Rattle.std.specs.Arc.{arc_value};
 ghost use Rattle.std.specs.Option.{option_copied};
 ghost use Rattle.model.specs.declared.entry.Change.{Change};
 ghost use Rattle.counted.specs.declared.node.Child.{Child};
-ghost use Rattle.counted.specs.Edits.{values_of};
 ghost use Rattle.counted.specs.Gaps.{Leads, Follows, IsGap};
 ghost use Rattle.counted.specs.Shapes.{AreChildren, all_items, items_of};
 ghost use Rattle.counted.specs.Spots.{ArePlaced};
 ghost use Rattle.counted.specs.Sums.{total};
 
-use crate::Steps;
 use crate::entry::weight;
 use crate::node::{Body, Child, Node};
 use crate::search::{Boundary, among, in_leaf};
 use crate::spot::row_above;
-use model::{Change, Entry};
-use std::alloc::Global;
-use std::sync::Arc;
+use crate::{SharedEntry, Steps};
+use model::Change;
 use std::sync::ledger::Ledger;
 
 /// What comes to stand at a position.
@@ -65,8 +61,8 @@ fn child_at_gap<G: Gap>(children: &[Child], rid: i64, shift: i64, gap: &G) -> (u
     requires below { pos (length (all_items children.now)) ≤ℤ (shift +ℤ pos (2 ^ 61)) }
     ensures within { result.0 < length children.now }
     ensures shift { result.1 ≡ total (all_items (take result.0 children.now)) +ℤ shift }
-    ensures low { (d : Child) → 1 ≤ result.0 → Leads (G.after gap.now) rid (arc_value (slice_index_or children.now result.0 d).head) result.1 }
-    ensures high { (d : Child) → result.0 + 1 < length children.now → Follows (G.after gap.now) rid (arc_value (slice_index_or children.now (result.0 + 1) d).head) ((slice_index_or children.now result.0 d).net +ℤ result.1) }
+    ensures low { (d : Child) → 1 ≤ result.0 → Leads (G.after gap.now) rid (slice_index_or children.now result.0 d).head result.1 }
+    ensures high { (d : Child) → result.0 + 1 < length children.now → Follows (G.after gap.now) rid (slice_index_or children.now (result.0 + 1) d).head ((slice_index_or children.now result.0 d).net +ℤ result.1) }
 {
     let mut index = 0;
     let mut up = shift;
@@ -85,44 +81,43 @@ fn next_leads<G: Gap>(children: &[Child], index: usize, up: i64, rid: i64, gap: 
     requires within { index + 1 < length children.now }
     requires above { (up +ℤ pos (length (all_items (drop index children.now)))) ≤ℤ pos (2 ^ 61) }
     requires below { pos (length (all_items (drop index children.now))) ≤ℤ (up +ℤ pos (2 ^ 61)) }
-    ensures yes { result ≡ true → (d : Child) → Leads (G.after gap.now) rid (arc_value (slice_index_or children.now (index + 1) d).head) ((slice_index_or children.now index d).net +ℤ up) }
-    ensures no { result ≡ false → (d : Child) → Follows (G.after gap.now) rid (arc_value (slice_index_or children.now (index + 1) d).head) ((slice_index_or children.now index d).net +ℤ up) }
+    ensures yes { result ≡ true → (d : Child) → Leads (G.after gap.now) rid (slice_index_or children.now (index + 1) d).head ((slice_index_or children.now index d).net +ℤ up) }
+    ensures no { result ≡ false → (d : Child) → Follows (G.after gap.now) rid (slice_index_or children.now (index + 1) d).head ((slice_index_or children.now index d).net +ℤ up) }
 {
     let next = &children[index + 1];
-    leads(next.first, &next.head, children[index].net + up, rid, gap)
+    leads(&next.head, children[index].net + up, rid, gap)
 }
 
 /// How many entries of a leaf stand before it.
-fn gap_in<G: Gap>(entries: &[Arc<Entry, Global>], rid: i64, shift: i64, gap: &G) -> usize
-    requires placed { ArePlaced (values_of entries.now) }
+fn gap_in<G: Gap>(entries: &[SharedEntry], rid: i64, shift: i64, gap: &G) -> usize
+    requires placed { ArePlaced entries.now }
     requires above { (shift +ℤ pos (length entries.now)) ≤ℤ pos (2 ^ 61) }
     requires below { pos (length entries.now) ≤ℤ (shift +ℤ pos (2 ^ 61)) }
-    ensures { IsGap (G.after gap.now) rid shift (values_of entries.now) result }
+    ensures { IsGap (G.after gap.now) rid shift entries.now result }
 {
     let mut index = 0;
     let mut up = shift;
-    while index < entries.len() && leads(entries[index].sid, &entries[index], up, rid, gap) {
-        up += weight(&entries[index].change);
+    while index < entries.len() && leads(&entries[index], up, rid, gap) {
+        up += weight(entries[index].change());
         index += 1;
     }
     index
 }
 
-/// Whether an entry at the SID, `up` above the rows below, stands before it.
-fn leads<G: Gap>(sid: u64, entry: &Entry, up: i64, rid: i64, gap: &G) -> bool
-    requires same { sid ≡ entry.now.sid }
-    requires small { sid < 2 ^ 32 }
+/// Whether an entry, `up` above the rows below, stands before it.
+fn leads<G: Gap>(entry: &SharedEntry, up: i64, rid: i64, gap: &G) -> bool
+    requires small { entry.now.sid < 2 ^ 32 }
     requires above { up ≤ℤ pos (2 ^ 61) }
     requires below { pos 0 ≤ℤ (up +ℤ pos (2 ^ 61)) }
     ensures yes { result ≡ true → Leads (G.after gap.now) rid entry.now up }
     ensures no { result ≡ false → Follows (G.after gap.now) rid entry.now up }
 {
-    let row = row_above(sid, up);
+    let row = row_above(entry.sid(), up);
     if row < rid {
         return true;
     }
     if rid < row {
         return false;
     }
-    gap.is_after(&entry.change)
+    gap.is_after(entry.change())
 }

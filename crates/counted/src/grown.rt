@@ -1,15 +1,13 @@
 //! What a node grows to, and what is kept of it.
 ghost use Rattle.std.specs.Prelude.{◌≡◌, ◌+◌, ◌-◌, ◌^◌, ◌<◌, ◌≤◌, ◌++◌, length, take, drop, slice_get, Some, ℕ, IfOk, OnOk};
-ghost use Rattle.std.specs.Arc.{arc_value};
 ghost use Rattle.std.specs.List.{All};
-ghost use Rattle.counted.specs.Edits.{values_of};
 ghost use Rattle.counted.specs.Grown.{IsGrown, grown_items, grown_width, AreGrown, IsSameChild, AreCounts};
 ghost use Rattle.counted.specs.Shapes.{IsChild, all_items, items_of, depth_of};
 
+use crate::SharedEntry;
 use crate::children::{count_of, net_of};
 use crate::leaf::total_of;
 use crate::node::{Body, Child, Node};
-use model::Entry;
 use std::alloc::{AllocError, Global};
 use std::sync::Arc;
 
@@ -25,7 +23,6 @@ pub(crate) enum Grown {
 pub(crate) struct Counts {
     pub(crate) count: usize,
     pub(crate) net: i64,
-    pub(crate) first: u64,
 }
 
 impl Node {
@@ -39,20 +36,18 @@ impl Node {
             Body::Leaf(entries) => Counts {
                 count: entries.len(),
                 net: total_of(entries),
-                first: entries[0].sid,
             },
             Body::Inner(children) => Counts {
                 count: count_of(children),
                 net: net_of(children),
-                first: children[0].first,
             },
         }
     }
 
     /// Its first entry.
-    fn head(&self) -> &Arc<Entry, Global>
+    fn head(&self) -> &SharedEntry
         requires full { 8 ≤ self.now.width }
-        ensures { slice_get self.now.items 0 ≡ Some (arc_value result.now) }
+        ensures { slice_get self.now.items 0 ≡ Some result.now }
     {
         match &self.body {
             Body::Leaf(entries) => &entries[0],
@@ -70,11 +65,10 @@ impl Child {
         ensures items { IfOk result (λ c. items_of c ≡ node.items) }
     {
         let counts = node.counts();
-        let head = Arc::try_clone(node.head())?;
+        let head = node.head().copy()?;
         Ok(Child {
             count: counts.count,
             net: counts.net,
-            first: counts.first,
             head,
             node: Arc::new(alloc, node)?,
         })
@@ -87,8 +81,7 @@ impl Child {
         Ok(Child {
             count: self.count,
             net: self.net,
-            first: self.first,
-            head: Arc::try_clone(&self.head)?,
+            head: self.head.copy()?,
             node: Arc::try_clone(&self.node)?,
         })
     }
@@ -137,9 +130,9 @@ pub(crate) fn push_children(out: &mut Vec<Child>, children: &[Child]) -> Result<
 }
 
 /// A leaf, or two.
-pub(crate) fn grown_leaf(entries: Vec<Arc<Entry, Global>>) -> Result<Grown, AllocError>
+pub(crate) fn grown_leaf(entries: Vec<SharedEntry>) -> Result<Grown, AllocError>
     requires { length entries.items ≤ 32 }
-    ensures { IfOk result (IsGrown 1 (length entries.items) (values_of entries.items)) }
+    ensures { IfOk result (IsGrown 1 (length entries.items) entries.items) }
 {
     let mut entries = entries;
     if entries.len() <= 16 {

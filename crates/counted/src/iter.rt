@@ -1,19 +1,16 @@
 //! The entries of a tree in order, lent.
 ghost use Rattle.std.specs.Prelude.{◌≡◌, ◌+◌, ◌^◌, ◌<◌, ◌≤◌, ◌++◌, length, take, drop};
 ghost use Rattle.std.specs.Iterator.{YieldsFirstRef, item_count};
-ghost use Rattle.counted.specs.Edits.{values_of};
 
+use crate::SharedEntry;
 use crate::tree::CountedTree;
-use model::Entry;
-use std::alloc::Global;
 use std::marker::Model;
-use std::sync::Arc;
 
 /// The entries that are left, in order: those of a leaf, and so many from an index on. It takes no memory.
 #[derive(Drop)]
 pub struct Iter<'a> {
     tree: &'a CountedTree,
-    leaf: &'a [Arc<Entry, Global>],
+    leaf: &'a [SharedEntry],
     next: usize,
     left: usize,
 }
@@ -21,23 +18,22 @@ pub struct Iter<'a> {
 impl<'a> Model for Iter<'a> {
     ghost use Rattle.std.specs.Prelude.{◌≤◌, ◌+◌, ◌++◌, List, length, take, drop};
     ghost use Rattle.model.specs.declared.entry.Entry.{Entry};
-    ghost use Rattle.counted.specs.Edits.{values_of};
 
     ghost Value = { List Entry };
 
-    ghost view = { λ i. values_of i.leaf.now ++ take i.left (drop i.next i.tree.now.entries) };
+    ghost view = { λ i. i.leaf.now ++ take i.left (drop i.next i.tree.now.entries) };
 
     ghost invariant = { λ i. i.next + i.left ≤ length i.tree.now.entries };
 }
 
 impl<'a> Iterator for Iter<'a> {
-    type Item = &'a Entry;
+    type Item = &'a SharedEntry;
 
     ghost next_gives = { YieldsFirstRef (λ s. s) };
 
     ghost remaining = { item_count (λ s. s) };
 
-    fn next(&mut self) -> Option<&'a Entry> {
+    fn next(&mut self) -> Option<&'a SharedEntry> {
         if self.leaf.is_empty() && self.left > 0 {
             let leaf = next_leaf(self.tree, self.next, self.left);
             self.next += leaf.len();
@@ -46,7 +42,7 @@ impl<'a> Iterator for Iter<'a> {
         }
         let (first, others) = self.leaf.split_first()?;
         self.leaf = others;
-        Some(&**first)
+        Some(first)
     }
 }
 
@@ -66,13 +62,13 @@ impl CountedTree {
 }
 
 /// The entries from an index on that lie in one leaf, so many of them at most.
-fn next_leaf(tree: &CountedTree, from: usize, left: usize) -> &[Arc<Entry, Global>]
+fn next_leaf(tree: &CountedTree, from: usize, left: usize) -> &[SharedEntry]
     requires some { 1 ≤ left }
     requires within { from + left ≤ length tree.now.entries }
     ensures few { length tree.now.entries < 2 ^ 61 }
     ensures some { 1 ≤ length result.now }
     ensures within { length result.now ≤ left }
-    ensures rest { drop from tree.now.entries ≡ values_of result.now ++ drop (from + length result.now) tree.now.entries }
+    ensures rest { drop from tree.now.entries ≡ result.now ++ drop (from + length result.now) tree.now.entries }
 {
     let leaf = tree.leaf_from(from);
     if leaf.len() <= left {

@@ -1,34 +1,33 @@
-//! The entries of one leaf, which leaves share.
+//! The entries of one leaf.
 ghost use Rattle.std.specs.Prelude.{◌≡◌, ◌^◌, ◌+◌, ◌<◌, ◌≤◌, ◌++◌, length, IfOk, OnOk};
 ghost use Rattle.counted.specs.Sums.{total, shift_before};
-ghost use Rattle.counted.specs.Edits.{values_of, put_items, edited};
+ghost use Rattle.counted.specs.Edits.{put_items, edited};
 
+use crate::SharedEntry;
 use crate::entry::weight;
-use model::Entry;
 use std::alloc::{AllocError, Global};
-use std::sync::Arc;
 
 /// What the entries add.
-pub(crate) fn total_of(entries: &[Arc<Entry, Global>]) -> i64
+pub(crate) fn total_of(entries: &[SharedEntry]) -> i64
     requires { length entries.now < 2 ^ 62 }
-    ensures { result ≡ total (values_of entries.now) }
+    ensures { result ≡ total entries.now }
 {
     let mut sum = 0;
     for entry in entries {
-        sum += weight(&entry.change);
+        sum += weight(entry.change());
     }
     sum
 }
 
 /// What the entries below the SID add.
-pub(crate) fn shift_in(entries: &[Arc<Entry, Global>], sid: u64) -> i64
+pub(crate) fn shift_in(entries: &[SharedEntry], sid: u64) -> i64
     requires { length entries.now < 2 ^ 62 }
-    ensures { result ≡ shift_before sid (values_of entries.now) }
+    ensures { result ≡ shift_before sid entries.now }
 {
     let mut shift = 0;
     for entry in entries {
-        if entry.sid < sid {
-            shift += weight(&entry.change);
+        if entry.sid() < sid {
+            shift += weight(entry.change());
         }
     }
     shift
@@ -37,14 +36,14 @@ pub(crate) fn shift_in(entries: &[Arc<Entry, Global>], sid: u64) -> i64
 /// The entries with those from an index on, so many of them, replaced by another, if there is one.
 pub(crate) fn edited_leaf(
     alloc: Global,
-    entries: &[Arc<Entry, Global>],
+    entries: &[SharedEntry],
     at: usize,
     gone: usize,
-    put: Option<Arc<Entry, Global>>,
-) -> Result<Vec<Arc<Entry, Global>>, AllocError>
+    put: Option<SharedEntry>,
+) -> Result<Vec<SharedEntry>, AllocError>
     requires within { at + gone ≤ length entries.now }
     requires few { length entries.now < 2 ^ 32 }
-    ensures { IfOk result (λ v. values_of v.items ≡ edited at gone (put_items put) (values_of entries.now)) }
+    ensures { IfOk result (λ v. v.items ≡ edited at gone (put_items put) entries.now) }
 {
     let mut out = Vec::with_capacity(alloc, entries.len() + 1)?;
     push_entries(&mut out, &entries[..at])?;
@@ -56,12 +55,12 @@ pub(crate) fn edited_leaf(
 /// The entries of one leaf and then those of another.
 pub(crate) fn both_leaves(
     alloc: Global,
-    left: &[Arc<Entry, Global>],
-    right: &[Arc<Entry, Global>],
-) -> Result<Vec<Arc<Entry, Global>>, AllocError>
+    left: &[SharedEntry],
+    right: &[SharedEntry],
+) -> Result<Vec<SharedEntry>, AllocError>
     requires left { length left.now ≤ 16 }
     requires right { length right.now ≤ 16 }
-    ensures { IfOk result (λ v. values_of v.items ≡ values_of left.now ++ values_of right.now) }
+    ensures { IfOk result (λ v. v.items ≡ left.now ++ right.now) }
 {
     let mut out = Vec::with_capacity(alloc, left.len() + right.len())?;
     push_entries(&mut out, left)?;
@@ -70,11 +69,8 @@ pub(crate) fn both_leaves(
 }
 
 /// The entry, if there is one, at the end of a vector.
-fn push_some(
-    out: &mut Vec<Arc<Entry, Global>>,
-    put: Option<Arc<Entry, Global>>,
-) -> Result<(), AllocError>
-    ensures { OnOk result (values_of out.new.items ≡ values_of out.old.items ++ put_items put) }
+fn push_some(out: &mut Vec<SharedEntry>, put: Option<SharedEntry>) -> Result<(), AllocError>
+    ensures { OnOk result (out.new.items ≡ out.old.items ++ put_items put) }
 {
     if let Some(entry) = put {
         out.push(entry)?;
@@ -83,14 +79,11 @@ fn push_some(
 }
 
 /// The same entries, at the end of a vector.
-fn push_entries(
-    out: &mut Vec<Arc<Entry, Global>>,
-    entries: &[Arc<Entry, Global>],
-) -> Result<(), AllocError>
-    ensures { OnOk result (values_of out.new.items ≡ values_of out.old.items ++ values_of entries.now) }
+fn push_entries(out: &mut Vec<SharedEntry>, entries: &[SharedEntry]) -> Result<(), AllocError>
+    ensures { OnOk result (out.new.items ≡ out.old.items ++ entries.now) }
 {
     for entry in entries {
-        out.push(Arc::try_clone(entry)?)?;
+        out.push(entry.copy()?)?;
     }
     Ok(())
 }

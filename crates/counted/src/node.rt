@@ -1,13 +1,11 @@
 //! The nodes of a tree, and what is read of them.
 ghost use Rattle.std.specs.Prelude.{◌≡◌, ◌+◌, ◌-◌, ◌*◌, ◌^◌, ◌<◌, ◌≤◌, ◌++◌, [], length, take, drop};
-ghost use Rattle.counted.specs.Edits.{values_of};
 ghost use Rattle.counted.specs.Shapes.{view_of, IsBalanced};
 ghost use Rattle.counted.specs.Sums.{total, shift_before, IsOrdered};
 
-use crate::Steps;
 use crate::children::{child_below, child_of, count_of, net_of};
 use crate::leaf::{shift_in, total_of};
-use model::Entry;
+use crate::{SharedEntry, Steps};
 use std::alloc::Global;
 use std::marker::Model;
 use std::sync::Arc;
@@ -23,19 +21,18 @@ pub(crate) struct Node {
 #[cycle(node)]
 #[derive(Drop)]
 pub(crate) enum Body {
-    Leaf(Vec<Arc<Entry, Global>>),
+    Leaf(Vec<SharedEntry>),
     Inner(Vec<Child>),
 }
 
-/// A child, with its number of entries, its inserts minus deletes, its first entry's SID and that entry, so that a search
-/// looks at no child that it does not go into.
+/// A child, with its number of entries, its inserts minus deletes and its first entry, so that a search looks at no child
+/// that it does not go into.
 #[cycle(node)]
 #[derive(Drop)]
 pub(crate) struct Child {
     pub(crate) count: usize,
     pub(crate) net: i64,
-    pub(crate) first: u64,
-    pub(crate) head: Arc<Entry, Global>,
+    pub(crate) head: SharedEntry,
     pub(crate) node: Arc<Node, Global>,
 }
 
@@ -119,10 +116,10 @@ impl Node {
     }
 
     /// The entries from an index on that lie in one leaf.
-    pub(crate) fn leaf_from(&self, at: usize) -> &[Arc<Entry, Global>]
+    pub(crate) fn leaf_from(&self, at: usize) -> &[SharedEntry]
         requires { at < length self.now.items }
         ensures some { 1 ≤ length result.now }
-        ensures rest { drop at self.now.items ≡ values_of result.now ++ drop (at + length result.now) self.now.items }
+        ensures rest { drop at self.now.items ≡ result.now ++ drop (at + length result.now) self.now.items }
     {
         match &self.body {
             Body::Leaf(entries) => &entries[at..],

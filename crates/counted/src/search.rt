@@ -1,24 +1,20 @@
 //! Search by SID, and at one SID by what stands there.
 ghost use Rattle.std.specs.Prelude.{◌≡◌, ◌+◌, ◌-◌, ◌*◌, ◌^◌, ◌<◌, ◌≤◌, true, false, Some, None, pos, length, slice_get, slice_index_or, take};
-ghost use Rattle.std.specs.Arc.{arc_value};
 ghost use Rattle.std.specs.Option.{option_copied};
 ghost use Rattle.model.specs.declared.entry.Change.{Change};
 ghost use Rattle.model.specs.declared.entry.Entry.{Entry};
 ghost use Rattle.std.proofs.Common.{Ordering};
 ghost use Rattle.counted.specs.declared.node.Child.{Child};
-ghost use Rattle.counted.specs.Edits.{values_of};
 ghost use Rattle.counted.specs.Search.{stands_before, IsBoundary};
 ghost use Rattle.counted.specs.Shapes.{AreChildren, all_items, items_of};
 ghost use Rattle.counted.specs.Sums.{total};
 
-use crate::Steps;
 use crate::children::{entry_after, sums_before};
 use crate::leaf::total_of;
 use crate::node::{Body, Child, Node};
-use model::{Change, Entry};
-use std::alloc::Global;
+use crate::{SharedEntry, Steps};
+use model::Change;
 use std::cmp::Ordering;
-use std::sync::Arc;
 use std::sync::ledger::Ledger;
 
 /// What is looked for at a SID.
@@ -35,7 +31,7 @@ pub trait Probe {
 pub struct Boundary<'a> {
     pub index: usize,
     pub shift: i64,
-    pub entry: Option<&'a Entry>,
+    pub entry: Option<&'a SharedEntry>,
 }
 
 impl Node {
@@ -82,15 +78,15 @@ impl<'a> Boundary<'a> {
 }
 
 /// A place among the entries of a leaf.
-pub(crate) fn in_leaf(entries: &[Arc<Entry, Global>], index: usize) -> Boundary<'_>
+pub(crate) fn in_leaf(entries: &[SharedEntry], index: usize) -> Boundary<'_>
     requires within { index ≤ length entries.now }
     requires few { length entries.now < 2 ^ 62 }
     ensures index { result.index ≡ index }
-    ensures shift { result.shift ≡ total (take index (values_of entries.now)) }
-    ensures entry { option_copied result.entry ≡ slice_get (values_of entries.now) index }
+    ensures shift { result.shift ≡ total (take index entries.now) }
+    ensures entry { option_copied result.entry ≡ slice_get entries.now index }
 {
     let entry = if index < entries.len() {
-        Some(&*entries[index])
+        Some(&entries[index])
     } else {
         None
     };
@@ -147,35 +143,28 @@ fn child_before<P: Probe>(children: &[Child], sid: u64, probe: &P) -> usize
 
 /// Whether the first entry of a child stands before what is looked for at the SID.
 fn begins_before<P: Probe>(child: &Child, sid: u64, probe: &P) -> bool
-    requires first { child.now.first ≡ (arc_value child.now.head).sid }
-    requires head { slice_get (items_of child.now) 0 ≡ Some (arc_value child.now.head) }
+    requires { slice_get (items_of child.now) 0 ≡ Some child.now.head }
     ensures { (e : Entry) → stands_before (P.stand probe.now) sid (slice_index_or (items_of child.now) 0 e) ≡ result }
 {
-    if child.first < sid {
-        return true;
-    }
-    if sid < child.first {
-        return false;
-    }
     is_before(&child.head, sid, probe)
 }
 
 /// Whether the entry stands before what is looked for at the SID.
-fn is_before<P: Probe>(entry: &Entry, sid: u64, probe: &P) -> bool
+fn is_before<P: Probe>(entry: &SharedEntry, sid: u64, probe: &P) -> bool
     ensures { stands_before (P.stand probe.now) sid entry.now ≡ result }
 {
-    if entry.sid < sid {
+    if entry.sid() < sid {
         return true;
     }
-    if sid < entry.sid {
+    if sid < entry.sid() {
         return false;
     }
-    probe.compare(&entry.change).is_gt()
+    probe.compare(entry.change()).is_gt()
 }
 
 /// How many entries of a leaf stand before what is looked for at the SID.
-fn place_in<P: Probe>(entries: &[Arc<Entry, Global>], sid: u64, probe: &P) -> usize
-    ensures { IsBoundary (stands_before (P.stand probe.now) sid) (values_of entries.now) result }
+fn place_in<P: Probe>(entries: &[SharedEntry], sid: u64, probe: &P) -> usize
+    ensures { IsBoundary (stands_before (P.stand probe.now) sid) entries.now result }
 {
     let mut low = 0;
     let mut high = entries.len();

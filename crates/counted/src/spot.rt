@@ -1,17 +1,14 @@
 //! What stands at a position of the image above.
 ghost use Rattle.std.specs.Prelude.{◌≡◌, ◌+◌, ◌-◌, ◌*◌, ◌^◌, ◌<◌, ◌≤◌, ◌+ℤ◌, ◌≤ℤ◌, ◌<ℤ◌, pos, ℕ, ℤ, Bool, true, false, length, slice_index_or, take, drop};
 ghost use Rattle.counted.specs.declared.node.Child.{Child};
-ghost use Rattle.counted.specs.Edits.{values_of};
 ghost use Rattle.counted.specs.Shapes.{AreChildren, all_items, items_of};
 ghost use Rattle.counted.specs.Spots.{IsSpot, ArePlaced, Passes, Stops};
 ghost use Rattle.counted.specs.Sums.{total, IsOrdered};
 
-use crate::Steps;
 use crate::entry::weight;
 use crate::node::{Body, Child, Node};
-use model::{Change, Entry};
-use std::alloc::Global;
-use std::sync::Arc;
+use crate::{SharedEntry, Steps};
+use model::Change;
 use std::sync::ledger::Ledger;
 
 /// How many entries a walk to a position passes, what they add, and whether it ends at an insert's row.
@@ -72,17 +69,17 @@ fn child_at_rid(children: &[Child], rid: i64, shift: i64) -> (usize, usize, i64)
 }
 
 /// Where the position lies among the entries of a leaf, which stand `shift` above the rows below.
-fn spot_in(entries: &[Arc<Entry, Global>], rid: i64, shift: i64) -> Spot
-    requires placed { ArePlaced (values_of entries.now) }
+fn spot_in(entries: &[SharedEntry], rid: i64, shift: i64) -> Spot
+    requires placed { ArePlaced entries.now }
     requires above { (shift +ℤ pos (length entries.now)) ≤ℤ pos (2 ^ 61) }
     requires below { pos (length entries.now) ≤ℤ (shift +ℤ pos (2 ^ 61)) }
-    ensures { IsSpot rid shift (values_of entries.now) result.index result.shift result.inserted }
+    ensures { IsSpot rid shift entries.now result.index result.shift result.inserted }
 {
     let mut index = 0;
     let mut up = shift;
     while index < entries.len() {
         let entry = &entries[index];
-        let next = row_above(entry.sid, up);
+        let next = row_above(entry.sid(), up);
         if rid < next {
             return Spot {
                 index,
@@ -90,14 +87,14 @@ fn spot_in(entries: &[Arc<Entry, Global>], rid: i64, shift: i64) -> Spot
                 inserted: false,
             };
         }
-        if is_row(&entry.change, next, rid) {
+        if is_row(entry.change(), next, rid) {
             return Spot {
                 index,
                 shift: up,
                 inserted: true,
             };
         }
-        up += weight(&entry.change);
+        up += weight(entry.change());
         index += 1;
     }
     Spot {
@@ -115,10 +112,10 @@ fn begins_by(children: &[Child], index: usize, up: i64, rid: i64) -> bool
     requires within { index + 1 < length children.now }
     requires above { (up +ℤ pos (length (all_items (drop index children.now)))) ≤ℤ pos (2 ^ 61) }
     requires below { pos (length (all_items (drop index children.now))) ≤ℤ (up +ℤ pos (2 ^ 61)) }
-    ensures yes { result ≡ true → (d : Child) → (pos (slice_index_or children.now (index + 1) d).first +ℤ ((slice_index_or children.now index d).net +ℤ up)) ≤ℤ rid }
-    ensures no { result ≡ false → (d : Child) → rid <ℤ (pos (slice_index_or children.now (index + 1) d).first +ℤ ((slice_index_or children.now index d).net +ℤ up)) }
+    ensures yes { result ≡ true → (d : Child) → (pos (slice_index_or children.now (index + 1) d).head.sid +ℤ ((slice_index_or children.now index d).net +ℤ up)) ≤ℤ rid }
+    ensures no { result ≡ false → (d : Child) → rid <ℤ (pos (slice_index_or children.now (index + 1) d).head.sid +ℤ ((slice_index_or children.now index d).net +ℤ up)) }
 {
-    row_above(children[index + 1].first, children[index].net + up) <= rid
+    row_above(children[index + 1].head.sid(), children[index].net + up) <= rid
 }
 
 /// The row of what stands `up` above the rows below.

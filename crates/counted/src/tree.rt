@@ -2,7 +2,7 @@
 ghost use Rattle.std.specs.Prelude.{◌≡◌, pos, Some, ◌+◌, ◌-◌, ◌*◌, ◌^◌, ◌<◌, ◌≤◌, [], ◌∷◌, ◌++◌, take, drop, slice_get, length, OnOk, OnErr, IfOk};
 ghost use Rattle.std.specs.Arc.{arc_value};
 ghost use Rattle.std.specs.List.{insert, remove};
-ghost use Rattle.counted.specs.Edits.{values_of, put_items, edited};
+ghost use Rattle.counted.specs.Edits.{put_items, edited};
 ghost use Rattle.std.specs.Option.{option_copied};
 ghost use Rattle.counted.specs.Gaps.{IsGap};
 ghost use Rattle.counted.specs.Search.{stands_before, IsBoundary};
@@ -10,12 +10,12 @@ ghost use Rattle.counted.specs.Spots.{IsSpot, ArePlaced};
 ghost use Rattle.counted.specs.Sums.{total, shift_before, IsOrdered};
 ghost use Rattle.counted.specs.Trees.{IsRoot};
 
-use crate::Steps;
-use crate::bulk::root_over;
+use crate::bulk::{root_over, shared};
 use crate::gap::Gap;
 use crate::node::Node;
 use crate::search::{Boundary, Probe};
 use crate::spot::Spot;
+use crate::{SharedEntry, Steps};
 use model::Entry;
 use std::alloc::{AllocError, Global};
 use std::marker::{Brand, Model};
@@ -118,7 +118,7 @@ impl CountedTree {
     }
 
     /// The entry at an index that there is. It takes no memory.
-    pub fn get(&self, at: usize) -> &Entry
+    pub fn get(&self, at: usize) -> &SharedEntry
         requires { at < length self.now.entries }
         ensures { Some result.now ≡ slice_get self.now.entries at }
     {
@@ -189,6 +189,15 @@ impl CountedTree {
         requires { length entries.items < 2 ^ 60 }
         ensures { IfOk result (λ t. t.entries ≡ entries.items) }
     {
+        let entries = shared(alloc, entries)?;
+        CountedTree::from_shared(alloc, entries)
+    }
+
+    /// A tree of these entries, which go on sharing their changes.
+    pub fn from_shared(alloc: Global, entries: Vec<SharedEntry>) -> Result<CountedTree, AllocError>
+        requires { length entries.items < 2 ^ 60 }
+        ensures { IfOk result (λ t. t.entries ≡ entries.items) }
+    {
         if entries.is_empty() {
             return Ok(CountedTree::new());
         }
@@ -197,7 +206,7 @@ impl CountedTree {
     }
 
     /// The entry at an index. It takes no memory.
-    pub fn entry(&self, at: usize) -> Option<&Entry>
+    pub fn entry(&self, at: usize) -> Option<&SharedEntry>
         ensures { option_copied result ≡ slice_get self.now.entries at }
     {
         if at < self.len {
@@ -208,11 +217,11 @@ impl CountedTree {
     }
 
     /// The entries from an index on that lie in one leaf.
-    pub(crate) fn leaf_from(&self, at: usize) -> &[Arc<Entry, Global>]
+    pub(crate) fn leaf_from(&self, at: usize) -> &[SharedEntry]
         requires { at < length self.now.entries }
         ensures few { length self.now.entries < 2 ^ 61 }
         ensures some { 1 ≤ length result.now }
-        ensures rest { drop at self.now.entries ≡ values_of result.now ++ drop (at + length result.now) self.now.entries }
+        ensures rest { drop at self.now.entries ≡ result.now ++ drop (at + length result.now) self.now.entries }
     {
         match &self.root {
             None => unreachable!(),
@@ -242,7 +251,7 @@ impl CountedTree {
         ensures ok { OnOk result (self.new.entries ≡ insert self.old.entries at entry) }
         ensures err { OnErr result (self.new ≡ self.old) }
     {
-        let entry = Arc::new(alloc, entry)?;
+        let entry = SharedEntry::new(alloc, entry)?;
         *self = self.edited(alloc, at, 0, Some(entry))?;
         Ok(())
     }
@@ -272,7 +281,24 @@ impl CountedTree {
         ensures ok { OnOk result (self.new.entries ≡ take start self.old.entries ++ entry ∷ drop end self.old.entries) }
         ensures err { OnErr result (self.new ≡ self.old) }
     {
-        let entry = Arc::new(alloc, entry)?;
+        let entry = SharedEntry::new(alloc, entry)?;
+        self.replace_shared(alloc, start, end, entry)
+    }
+
+    /// Puts an entry, which goes on sharing its change, in the place of those from `start` up to `end`.
+    pub fn replace_shared(
+        &mut self,
+        alloc: Global,
+        start: usize,
+        end: usize,
+        entry: SharedEntry,
+    ) -> Result<(), AllocError>
+        requires start_le_end { start ≤ end }
+        requires within { end ≤ length self.old.entries }
+        requires few { length self.old.entries < 2 ^ 60 }
+        ensures ok { OnOk result (self.new.entries ≡ take start self.old.entries ++ entry ∷ drop end self.old.entries) }
+        ensures err { OnErr result (self.new ≡ self.old) }
+    {
         if start == end {
             *self = self.edited(alloc, start, 0, Some(entry))?;
             return Ok(());
@@ -292,7 +318,7 @@ impl CountedTree {
         alloc: Global,
         at: usize,
         gone: usize,
-        put: Option<Arc<Entry, Global>>,
+        put: Option<SharedEntry>,
     ) -> Result<CountedTree, AllocError>
         requires one { gone ≤ 1 }
         requires within { at + gone ≤ length self.now.entries }

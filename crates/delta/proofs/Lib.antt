@@ -4,6 +4,7 @@ mod ChangesLemmas
 mod ChangeCountLemmas
 mod OrderLemmas
 mod LawfulLemmas
+mod PutLemmas
 mod LookupLemmas
 mod RangesLemmas
 mod PositionsLemmas

@@ -7,10 +7,10 @@ ghost use Rattle.values.specs.Shape.{key_of};
 ghost use Rattle.model.specs.Entries.{entry_at};
 ghost use Rattle.model.specs.Edits.{change_with_cell, put_ins, put_del, put_mod, take_ins, set_ins};
 ghost use Rattle.delta.specs.Lookups.{has_delete, inserted_row};
-ghost use Rattle.delta.specs.Changes.{is_modify_at, modify_count, has_cell};
+ghost use Rattle.delta.specs.Changes.{is_modify_at, modify_count, has_cell, entries_with, MayBePut, IsRun};
 
 use crate::tree::{DeltaTree, copy_entry};
-use counted::Boundary;
+use counted::{Boundary, SharedEntry};
 use model::{Change, Entry};
 use values::{Key, NoMemory, Row, Value};
 
@@ -27,11 +27,9 @@ impl DeltaTree {
         ensures ok { OnOk result (self.new ≡ record self.old { entries = put_ins self.old.key_cols sid row self.old.entries }) }
         ensures err { OnErr result (self.new ≡ self.old) }
     {
-        let index = self.index_of_insert(sid, row.key(self.key_cols));
         let change = Change::Ins(row);
-        self.tree
-            .replace_run(self.alloc, index, index, Entry { sid, change })?;
-        Ok(())
+        let entry = SharedEntry::new(self.alloc, Entry { sid, change })?;
+        self.put_shared(entry)
     }
 
     /// Puts in a delete of the base row at the SID, which has this key. The modifies of that row go away.
@@ -46,12 +44,9 @@ impl DeltaTree {
         ensures ok { OnOk result (self.new ≡ record self.old { entries = put_del self.old.key_cols sid key self.old.entries }) }
         ensures err { OnErr result (self.new ≡ self.old) }
     {
-        let index = self.base_index(sid);
-        let end = self.index_past(sid);
         let change = Change::Del(key);
-        self.tree
-            .replace_run(self.alloc, index, end, Entry { sid, change })?;
-        Ok(())
+        let entry = SharedEntry::new(self.alloc, Entry { sid, change })?;
+        self.put_shared(entry)
     }
 
     /// Puts in a modify of a column of the base row at the SID, in place of one that is there.
@@ -66,13 +61,51 @@ impl DeltaTree {
         ensures ok { OnOk result (self.new ≡ record self.old { entries = put_mod self.old.key_cols sid col value self.old.entries }) }
         ensures err { OnErr result (self.new ≡ self.old) }
     {
-        let place = self.place_of_modify(sid, col);
-        let index = place.index;
-        let end = index + self.modifies_at(place, sid, col);
         let change = Change::Mod(col, value);
-        self.tree
-            .replace_run(self.alloc, index, end, Entry { sid, change })?;
+        let entry = SharedEntry::new(self.alloc, Entry { sid, change })?;
+        self.put_shared(entry)
+    }
+
+    /// Puts an entry in, as its change asks: an insert after those of smaller keys at its SID, a delete in place of the
+    /// modifies of its row, a modify in place of one of its column. It goes on sharing its change.
+    ///
+    /// # Errors
+    ///
+    /// `NoMemory` where a growth is refused: the tree is as it was.
+    pub fn put_shared(&mut self, entry: SharedEntry) -> Result<(), NoMemory>
+        requires free { MayBePut self.old.key_cols entry.sid entry.change self.old.entries }
+        requires sid { entry.sid < 2 ^ 32 }
+        requires room { length (entries_with self.old.key_cols entry.sid entry.change self.old.entries) ≤ 2 ^ 40 }
+        ensures ok { OnOk result (self.new ≡ record self.old { entries = entries_with self.old.key_cols entry.sid entry.change self.old.entries }) }
+        ensures err { OnErr result (self.new ≡ self.old) }
+    {
+        let (start, end) = self.run_of(&entry);
+        self.tree.replace_shared(self.alloc, start, end, entry)?;
         Ok(())
+    }
+
+    /// The places of the entries that an entry replaces, from the first up to the end.
+    fn run_of(&self, entry: &SharedEntry) -> (usize, usize)
+        requires free { MayBePut self.now.key_cols entry.now.sid entry.now.change self.now.entries }
+        ensures run { IsRun self.now.key_cols entry.now.sid entry.now.change self.now.entries result.0 result.1 }
+        ensures range { result.0 ≤ result.1 }
+        ensures within { result.1 ≤ length self.now.entries }
+    {
+        let sid = entry.sid();
+        match entry.change() {
+            Change::Ins(row) => {
+                let index = self.index_of_insert(sid, row.key(self.key_cols));
+                (index, index)
+            }
+            Change::Del(_) => (self.base_index(sid), self.index_past(sid)),
+            Change::Mod(col, _) => {
+                let place = self.place_of_modify(sid, *col);
+                (
+                    place.index,
+                    place.index + self.modifies_at(place, sid, *col),
+                )
+            }
+        }
     }
 
     /// Takes the insert of this key at the SID away.
@@ -151,17 +184,17 @@ impl DeltaTree {
 }
 
 /// One for a modify of the column at the SID, and none for another entry.
-fn modify_worth(entry: &Entry, sid: u64, col: usize) -> usize
+fn modify_worth(entry: &SharedEntry, sid: u64, col: usize) -> usize
     ensures { result ≡ cond (is_modify_at sid col entry.now) 1 0 }
 {
-    match &entry.change {
-        Change::Mod(other, _) if entry.sid == sid && *other == col => 1,
+    match entry.change() {
+        Change::Mod(other, _) if entry.sid() == sid && *other == col => 1,
         _ => 0,
     }
 }
 
 /// The entry with another value in a cell of the row that it inserts.
-fn with_cell(entry: &Entry, col: usize, value: Value) -> Result<Entry, NoMemory>
+fn with_cell(entry: &SharedEntry, col: usize, value: Value) -> Result<Entry, NoMemory>
     requires { has_cell col entry.now.change }
     ensures { IfOk result (λ e. e ≡ entry_at entry.now.sid (change_with_cell col value entry.now.change)) }
 {

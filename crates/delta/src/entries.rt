@@ -4,8 +4,7 @@ ghost use Rattle.std.specs.Option.{option_copied};
 ghost use Rattle.model.specs.Entries.{IsLawful};
 
 use crate::tree::DeltaTree;
-use counted::Iter;
-use model::Entry;
+use counted::{Iter, SharedEntry};
 
 impl DeltaTree {
     /// The entries in order. It takes no memory.
@@ -35,7 +34,7 @@ impl DeltaTree {
     }
 
     /// The entry at an index. It takes no memory.
-    pub fn entry(&self, index: usize) -> Option<&Entry>
+    pub fn entry(&self, index: usize) -> Option<&SharedEntry>
         ensures { option_copied result ≡ slice_get self.now.entries index }
     {
         self.tree.entry(index)

@@ -13,7 +13,7 @@ mod places;
 mod sorted;
 mod tree;
 
-pub use counted::{CountedTree, Iter, Steps};
+pub use counted::{CountedTree, Iter, SharedEntry, Steps};
 pub use laws::{a_write_is_one_call, canonical_look_ups, inserts_ascend_at_a_sid};
 pub use model::{Change, Entry};
 pub use places::{ChangeIndex, KeyIndex, Place};

@@ -7,8 +7,8 @@ ghost use Rattle.delta.specs.Search.{insert_cmp, stands_before, IsSplit};
 
 use crate::sorted::compare_insert;
 use crate::tree::DeltaTree;
-use counted::Boundary;
-use model::{Change, Entry};
+use counted::{Boundary, SharedEntry};
+use model::Change;
 use values::{Row, Value};
 
 impl DeltaTree {
@@ -48,12 +48,17 @@ impl DeltaTree {
 }
 
 /// The row of the entry, where that is the insert of this key at the SID.
-fn inserted_at<'a>(key_cols: usize, entry: &'a Entry, sid: u64, key: &[Value]) -> Option<&'a Row>
+fn inserted_at<'a>(
+    key_cols: usize,
+    entry: &'a SharedEntry,
+    sid: u64,
+    key: &[Value],
+) -> Option<&'a Row>
     ensures { option_copied result ≡ row_at key_cols sid key.now entry.now }
 {
-    match &entry.change {
+    match entry.change() {
         Change::Ins(row)
-            if entry.sid == sid && compare_insert(key_cols, key, &entry.change).is_eq() => Some(
+            if entry.sid() == sid && compare_insert(key_cols, key, entry.change()).is_eq() => Some(
             row,
         ),
         _ => None,
@@ -61,11 +66,11 @@ fn inserted_at<'a>(key_cols: usize, entry: &'a Entry, sid: u64, key: &[Value]) -
 }
 
 /// Whether the entry is a delete at the SID.
-fn is_delete_at(entry: &Entry, sid: u64) -> bool
+fn is_delete_at(entry: &SharedEntry, sid: u64) -> bool
     ensures { result ≡ is_delete_at sid entry.now }
 {
-    match &entry.change {
-        Change::Del(_) => entry.sid == sid,
+    match entry.change() {
+        Change::Del(_) => entry.sid() == sid,
         _ => false,
     }
 }

@@ -3,7 +3,7 @@ ghost use Rattle.std.specs.Prelude.{◌≡◌, ◌↔◌, IfOk, IsTrue, length, 
 ghost use Rattle.delta.specs.Depth.{IsDepth};
 ghost use Rattle.delta.specs.Lookups.{total_of};
 
-use counted::CountedTree;
+use counted::{CountedTree, SharedEntry};
 use model::{Change, Entry};
 use std::alloc::Global;
 use std::marker::Model;
@@ -59,6 +59,27 @@ impl DeltaTree {
         ensures { IfOk result (λ tree. tree ≡ record { key_cols = key_cols; entries = entries.items }) }
     {
         let tree = CountedTree::from_sorted(alloc, entries)?;
+        Ok(DeltaTree {
+            key_cols,
+            tree,
+            alloc,
+        })
+    }
+
+    /// A tree of these entries, which go on sharing their changes.
+    ///
+    /// # Errors
+    ///
+    /// `NoMemory` where a growth is refused.
+    pub fn from_shared(
+        alloc: Global,
+        key_cols: usize,
+        entries: Vec<SharedEntry>,
+    ) -> Result<DeltaTree, NoMemory>
+        requires { IsLawful key_cols entries.items }
+        ensures { IfOk result (λ tree. tree ≡ record { key_cols = key_cols; entries = entries.items }) }
+    {
+        let tree = CountedTree::from_shared(alloc, entries)?;
         Ok(DeltaTree {
             key_cols,
             tree,
@@ -125,17 +146,17 @@ impl DeltaTree {
     }
 }
 
-/// The entry, copied.
-pub(crate) fn copy_entry(entry: &Entry) -> Result<Entry, NoMemory>
+/// The entry, with its change copied.
+pub(crate) fn copy_entry(entry: &SharedEntry) -> Result<Entry, NoMemory>
     ensures { IfOk result (λ copied. copied ≡ entry.now) }
 {
-    let change = match &entry.change {
+    let change = match entry.change() {
         Change::Ins(row) => Change::Ins(row.copy()?),
         Change::Del(key) => Change::Del(key.copy()?),
         Change::Mod(col, value) => Change::Mod(*col, value.copy()?),
     };
     Ok(Entry {
-        sid: entry.sid,
+        sid: entry.sid(),
         change,
     })
 }

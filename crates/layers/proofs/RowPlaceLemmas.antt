@@ -1,6 +1,6 @@
 -- Where the row of a key stands in the image of a tree.
 use Rattle.std.proofs.Common.{◌≡◌, ℕ, ◌+◌, ◌-◌, ◌≤◌, Bool, true, false, cond, not, T, Option, Some, None, is_some, List, [], ◌∷◌, ◌++◌, length, filter, take, drop, get_or, Ordering, Less, Equal, Greater, is_lt, is_eq, refl, sym, ap, ◌∙◌, subst, arith}
-use Rattle.std.specs.Prelude.{◌==◌, nat_lt, nat_le, slice_get, IsTrue}
+use Rattle.std.specs.Prelude.{◌==◌, nat_lt, nat_le, IsTrue}
 use Rattle.std.specs.Bool.{passes}
 use Rattle.std.specs.Option.{IsSomeAnd}
 use Rattle.std.specs.List.{list_all}
@@ -161,7 +161,7 @@ module _ (schema : Columns) (t : Table) (x : Effects) (h : AreOver schema t x) (
 
   -- where the row of the key comes from
   abbrev pub IsRowPlace : Place → Type 0
-  IsRowPlace (Inserted n) = (y : Entry) × (slice_get es n ≡ Some y) × (y.sid ≡ sid) × IsInsertOf y.change × (is_some (row_inserted (find key_cmp key x)) ≡ true)
+  IsRowPlace (Inserted n) = HasInsert schema.key_cols sid key es n × (is_some (row_inserted (find key_cmp key x)) ≡ true)
   IsRowPlace (Base s) = (s ≡ sid) × (is_some (row_inserted (find key_cmp key x)) ≡ false)
 
   insert_of : (c : Change) → T (is_insert_of schema.key_cols key c) → IsInsertOf c
@@ -189,7 +189,7 @@ module _ (schema : Columns) (t : Table) (x : Effects) (h : AreOver schema t x) (
       let insert = insert_of y.change (second (y.sid == sid) (is_insert_of schema.key_cols key y.change) hi.there) in
       let at : rid_of_insert (take key_place es) y.sid ≡ rid = ap (rid_of_insert (take key_place es)) same ∙ rank_is schema t x h key key_place key_split ∙ sym rid_is in (
         subst (λ (o : Option Entry). IsSomeAnd o (λ e. IsTrue (is_insert e.change) × (rid_of_insert (take key_place es) e.sid ≡ rid))) (sym there) (inserts y.change insert, at),
-        (y, there, same, insert, some),
+        (hi, some),
       )
     where
       true_of : (b : Bool) → T b → b ≡ true

@@ -1,17 +1,16 @@
 -- The walk over a tree beside another one over the same image.
-use Rattle.std.proofs.Common.{◌≡◌, ℕ, zero, suc, ◌+◌, ◌<◌, ◌≤◌, ◌^◌, Bool, false, T, Option, Some, None, is_some, List, [], ◌∷◌, ◌++◌, map, length, take, drop, get_or, set, refl, sym, ap, ◌∙◌, subst, arith, append-nil}
+use Rattle.std.proofs.Common.{◌≡◌, ℕ, zero, suc, ◌+◌, ◌<◌, ◌≤◌, ◌^◌, Bool, false, T, Option, Some, None, is_some, List, [], ◌∷◌, ◌++◌, map, length, take, drop, refl, sym, ap, ◌∙◌, subst, arith}
 use Rattle.std.specs.Prelude.{IfSome, slice_get}
 use Rattle.std.specs.Bool.{passes}
 use Rattle.std.specs.List.{list_all}
 use Rattle.std.proofs.lemmas.List.{map-append, length-map}
 use Rattle.std.proofs.lemmas.List.Elements.{All-weaker}
-use Rattle.std.proofs.lemmas.Option.{slice_get_within, get_or_from_slice_get, slice_get_read}
+use Rattle.std.proofs.lemmas.Option.{slice_get_within, get_or_from_slice_get}
 use Rattle.values.specs.Orders.{key_cmp}
 use Rattle.values.specs.Shape.{Columns}
 use Rattle.model.specs.declared.clash.ConflictRule.{ConflictRule}
 use Rattle.model.specs.declared.clash.Clash.{Clash}
 use Rattle.model.specs.declared.entry.Entry.{Entry}
-use Rattle.model.specs.declared.entry.Change.{Change}
 use Rattle.model.specs.Maps.{is_sorted}
 use Rattle.model.specs.Table.{Table, is_keyed_table}
 use Rattle.model.specs.Effects.{Effects, is_keyed_effect, are_keyed_effects, all_fit, table_with}
@@ -37,7 +36,7 @@ head_drop (suc n) (z ∷ es) e is =
     let next : suc (n + 1) ≡ suc n + 1 = omega arith in
     head_drop n es e is ∙ ap (λ m. e ∷ drop m (z ∷ es)) next
 
-next_take : (n : ℕ) (es : List Entry) (e : Entry) → slice_get es n ≡ Some e → take (n + 1) es ≡ take n es ++ e ∷ []
+pub next_take : (n : ℕ) (es : List Entry) (e : Entry) → slice_get es n ≡ Some e → take (n + 1) es ≡ take n es ++ e ∷ []
 next_take n [] e is = cc
 next_take zero (z ∷ es) e is =
     let same : z ≡ e = cc in
@@ -69,11 +68,18 @@ clash_here rule key_cols n xs ys e clash at some =
     ∙ ap (λ c. or_else c (first_clash_from rule key_cols (suc n) (drop (n + 1) xs) ys)) some
 
 -- the entries so far with one more, made consecutive
-pub moved_next : (key_cols n sid : ℕ) (xs ys out : List Entry) (e : Entry) (change : Change) → slice_get xs n ≡ Some e → sid ≡ (rebased_entry key_cols ys e).sid → change ≡ e.change → out ≡ map (rebased_entry key_cols ys) (take n xs) → out ++ entry_at sid change ∷ [] ≡ map (rebased_entry key_cols ys) (take (n + 1) xs)
-moved_next key_cols n sid xs ys out e change at sid_is change_is is =
-    (λ i. is i ++ entry_at (sid_is i) (change_is i) ∷ [])
+pub moved_next : (key_cols n sid : ℕ) (xs ys out : List Entry) (e : Entry) → slice_get xs n ≡ Some e → sid ≡ (rebased_entry key_cols ys e).sid
+    → out ≡ map (rebased_entry key_cols ys) (take n xs) → out ++ entry_at sid e.change ∷ [] ≡ map (rebased_entry key_cols ys) (take (n + 1) xs)
+moved_next key_cols n sid xs ys out e at sid_is is =
+    (λ i. is i ++ entry_at (sid_is i) e.change ∷ [])
     ∙ sym (map-append (rebased_entry key_cols ys) (take n xs) (e ∷ []))
     ∙ ap (map (rebased_entry key_cols ys)) (sym (next_take n xs e at))
+
+-- and one that stays where it is, left as it is
+pub same_next : (key_cols n sid : ℕ) (xs ys : List Entry) (e : Entry) → slice_get xs n ≡ Some e → sid ≡ (rebased_entry key_cols ys e).sid → sid ≡ e.sid
+    → take n xs ≡ map (rebased_entry key_cols ys) (take n xs) → take (n + 1) xs ≡ map (rebased_entry key_cols ys) (take (n + 1) xs)
+same_next key_cols n sid xs ys e at sid_is stays is =
+    next_take n xs e at ∙ ap (λ (s : ℕ). take n xs ++ entry_at s e.change ∷ []) (sym stays) ∙ moved_next key_cols n sid xs ys (take n xs) e at sid_is is
 
 pub none_left : (n : ℕ) (es : List Entry) → length es ≤ n → drop n es ≡ []
 none_left zero [] h = refl

@@ -1,5 +1,5 @@
 -- One upper entry, folded into the tree of the effects so far.
-use Rattle.std.proofs.Common.{◌≡◌, ℕ, ◌<◌, ◌≤◌, ◌^◌, Bool, true, false, cond, T, Option, Some, None, is_some, List, length, refl, sym, ap, ◌∙◌, subst, arith}
+use Rattle.std.proofs.Common.{◌≡◌, ℕ, ◌<◌, ◌≤◌, ◌^◌, Bool, true, false, cond, T, Option, Some, None, is_some, List, length, get_or, remove, set, refl, sym, ap, ◌∙◌, subst, arith}
 use Rattle.std.specs.Prelude.{IsTrue, IsSome, IsSomeAnd, IsFalse, is_none, nat_lt, slice_get}
 use Rattle.std.proofs.lemmas.Bool.Decides.{nat_tests}
 use Rattle.std.specs.Bool.{passes}
@@ -19,19 +19,20 @@ use Rattle.model.specs.declared.write.Write.TheVariants.{Delete, Set}
 use Rattle.model.specs.Maps.{find, is_sorted}
 use Rattle.model.specs.Table.{row_at, rank, is_keyed_table}
 use Rattle.model.specs.Effects.{are_keyed_effects, fits, all_fit, row_after, table_with}
-use Rattle.std.proofs.lemmas.Option.{slice_get_within}
-use Rattle.model.specs.Entries.{entry_at, is_insert, canonical_entries}
-use Rattle.model.specs.Edits.{put_ins, put_del, put_mod, take_ins, set_ins, edited_entries}
+use Rattle.std.proofs.lemmas.Option.{get_or_from_slice_get, slice_get-get_or}
+use Rattle.model.specs.Entries.{entry_at, canonical_entries}
+use Rattle.model.specs.Edits.{put_ins, put_del, put_mod, take_ins, set_ins, change_with_cell, edited_entries}
 use Rattle.model.proofs.CallerLemmas.{first, changed_by, holds_at, rank-le-length, inserted, deleted, modified, fit_so_far, here}
 use Rattle.delta.specs.declared.places.Place.{Place}
 use Rattle.delta.specs.declared.places.Place.TheVariants.{Inserted, Base}
-use Rattle.delta.specs.Lookups.{has_delete, inserted_row}
+use Rattle.delta.specs.Lookups.{has_delete, inserted_row, row_of}
+use Rattle.delta.specs.Changes.{has_cell, entries_with, MayBePut}
 use Rattle.delta.specs.Positions.{IsAtRid, gap_from, deletes_ascend}
 use Rattle.delta.specs.Laws.{row_inserted, MayEdit}
 use Rattle.delta.specs.Tree.{Tree}
-use Rattle.delta.proofs.CallerLemmas.{may_insert, may_delete, may_set, known, Known}
-use Rattle.layers.specs.Propagation.{IsNext, IsKeyOfInsert, effect_of_change, effects_with, next_tree}
-use Rattle.layers.proofs.RowPlaceLemmas.{IsRowPlace, IsInsertOf, row_place}
+use Rattle.delta.proofs.CallerLemmas.{nothing, may_insert, may_delete, may_set, known, Known}
+use Rattle.layers.specs.Propagation.{IsNext, effect_of_change, effects_with, next_tree}
+use Rattle.layers.proofs.RowPlaceLemmas.{IsRowPlace, row_place}
 use Rattle.layers.proofs.GapPlaceLemmas.{gap_place, deletes_ascend-canonical_entries}
 
 -- the same step, of an entry whose change is told
@@ -186,9 +187,11 @@ module _ (tree : Tree) (s : ℕ) (row : Row) (w : IsNext tree (entry_at s (Ins r
     pub insert_next : (new : Tree) → new ≡ record tree { entries = put_ins tree.key_cols sid row tree.entries } → new ≡ next_tree tree (entry_at s (Ins row)) w
     insert_next new new_is = new_is ∙ (λ i. record { key_cols = cols_is tree (entry_at s (Ins row)) w i; entries = insert_now i })
 
--- what is found at a place
-same_item : (zs ys : List Entry) (n : ℕ) (r y : Entry) → zs ≡ ys → slice_get zs n ≡ Some r → slice_get ys n ≡ Some y → r ≡ y
-same_item zs ys n r y same p q = let both : Some r ≡ Some y = sym p ∙ ap (λ (es : List Entry). slice_get es n) same ∙ q in cc
+-- the row of an insert has the column
+cell_of : (col : ℕ) (c : Change) → IsSomeAnd (row_of c) (λ row. col < length row) → has_cell col c
+cell_of col (Ins row) h = h
+cell_of col (Del key) h = tt
+cell_of col (Mod other value) h = tt
 
 -- ---- a delete
 
@@ -210,29 +213,19 @@ module _ (tree : Tree) (s : ℕ) (gone : Key) (w : IsNext tree (entry_at s (Del 
   delete_may : MayEdit w.schema.key_cols (rank w.key w.t) (Delete w.key) old (canonical_entries w.t w.x)
   delete_may = may_delete w.schema w.t w.x w.key old (at_key tree del_entry w) (fit_old tree del_entry w)
 
-  pub taken_within : (n : ℕ) → ((place : Place) → IsAtRid tree.entries s place → place ≡ Inserted n) → n < length tree.entries
-  taken_within n only =
-      let there = place_is tree del_entry w delete_there (Inserted n) only in
-      slice_get_within tree.entries n there.0 (ap (λ (zs : List Entry). slice_get zs n) (list_is tree del_entry w) ∙ there.1)
-
-  module _ (n : ℕ) (r : Entry) (only : (place : Place) → IsAtRid tree.entries s place → place ≡ Inserted n) (at : slice_get tree.entries n ≡ Some r) where
+  module _ (n : ℕ) (only : (place : Place) → IsAtRid tree.entries s place → place ≡ Inserted n) where
     found : IsRowPlace w.schema w.t w.x w.over w.key (Inserted n)
     found = place_is tree del_entry w delete_there (Inserted n) only
 
-    taken_sid : r.sid ≡ rank w.key w.t
-    taken_sid = ap (λ (e : Entry). e.sid) (same_item tree.entries (canonical_entries w.t w.x) n r found.0 (list_is tree del_entry w) at found.1) ∙ found.2
+    pub take_within : n < length tree.entries
+    take_within = omega (arith, found.0.short, ap length (list_is tree del_entry w))
 
-    pub take_now : take_ins tree.key_cols r.sid gone tree.entries ≡ canonical_entries w.t (effects_with w.x w.key (Del gone))
+    take_now : remove tree.entries n ≡ canonical_entries w.t (effects_with w.x w.key (Del gone))
     take_now =
-        (λ i. take_ins (cols_is tree del_entry w i) (taken_sid i) (w.own i) (list_is tree del_entry w i))
-        ∙ sym (delete_is ∙ ap (λ b. cond b (take_ins w.schema.key_cols (rank w.key w.t) w.key (canonical_entries w.t w.x)) (put_del w.schema.key_cols (rank w.key w.t) w.key (canonical_entries w.t w.x))) found.4)
+        ap (λ (zs : List Entry). remove zs n) (list_is tree del_entry w) ∙ sym found.0.taken
+        ∙ sym (delete_is ∙ ap (λ b. cond b (take_ins w.schema.key_cols (rank w.key w.t) w.key (canonical_entries w.t w.x)) (put_del w.schema.key_cols (rank w.key w.t) w.key (canonical_entries w.t w.x))) found.1)
 
-    pub take_there : is_some (inserted_row tree.key_cols r.sid gone tree.entries) ≡ true
-    take_there =
-        (λ i. is_some (inserted_row (cols_is tree del_entry w i) (taken_sid i) (w.own i) (list_is tree del_entry w i)))
-        ∙ (may_delete_by w.schema.key_cols (rank w.key w.t) w.key old (canonical_entries w.t w.x) delete_may).0 found.4
-
-    pub take_next : (new : Tree) → new ≡ record tree { entries = take_ins tree.key_cols r.sid gone tree.entries } → new ≡ next_tree tree del_entry w
+    pub take_next : (new : Tree) → new ≡ record tree { entries = remove tree.entries n } → new ≡ next_tree tree del_entry w
     take_next new new_is = new_is ∙ (λ i. record { key_cols = cols_is tree del_entry w i; entries = take_now i })
 
   module _ (q : ℕ) (only : (place : Place) → IsAtRid tree.entries s place → place ≡ Base q) where
@@ -284,52 +277,36 @@ module _ (tree : Tree) (s col : ℕ) (value : Value) (w : IsNext tree (entry_at 
   may_parts : (is_some (row_inserted before) ≡ true → IsSomeAnd (inserted_row w.schema.key_cols (rank w.key w.t) w.key (canonical_entries w.t w.x)) (λ row. col < length row)) × (is_some (row_inserted before) ≡ true → w.schema.key_cols ≤ col) × (is_some (row_inserted before) ≡ false → IsFalse (has_delete (rank w.key w.t) (canonical_entries w.t w.x)))
   may_parts = may_set_by w.schema.key_cols (rank w.key w.t) w.key col value before (canonical_entries w.t w.x) modify_may
 
-  inserts_row : (c : Change) → IsInsertOf w.schema w.t w.x w.over w.key c → IsTrue (is_insert c)
-  inserts_row (Ins row) own = refl
-  inserts_row (Del gone) own = absurd own
-  inserts_row (Mod other v) own = absurd own
-
-  pub is_insert_there : (n : ℕ) → ((place : Place) → IsAtRid tree.entries s place → place ≡ Inserted n) → (n < length tree.entries) × ((r : Entry) → slice_get tree.entries n ≡ Some r → IsTrue (is_insert r.change))
-  is_insert_there n only =
-      let there = place_is tree mod_entry w modify_there (Inserted n) only in (
-        slice_get_within tree.entries n there.0 (ap (λ (zs : List Entry). slice_get zs n) (list_is tree mod_entry w) ∙ there.1),
-        λ r at. subst (λ (e : Entry). IsTrue (is_insert e.change)) (sym (same_item tree.entries (canonical_entries w.t w.x) n r there.0 (list_is tree mod_entry w) at there.1)) (inserts_row there.0.change there.3),
-      )
-
-  module _ (n : ℕ) (r : Entry) (k : Key) (only : (place : Place) → IsAtRid tree.entries s place → place ≡ Inserted n) (at : slice_get tree.entries n ≡ Some r) (key_is : IsKeyOfInsert tree.key_cols k r.change) where
+  module _ (n : ℕ) (only : (place : Place) → IsAtRid tree.entries s place → place ≡ Inserted n) where
     row_found : IsRowPlace w.schema w.t w.x w.over w.key (Inserted n)
     row_found = place_is tree mod_entry w modify_there (Inserted n) only
 
-    same_entry : r ≡ row_found.0
-    same_entry = same_item tree.entries (canonical_entries w.t w.x) n r row_found.0 (list_is tree mod_entry w) at row_found.1
+    pub set_within : n < length tree.entries
+    set_within = omega (arith, row_found.0.short, ap length (list_is tree mod_entry w))
 
-    set_sid : r.sid ≡ rank w.key w.t
-    set_sid = ap (λ (e : Entry). e.sid) same_entry ∙ row_found.2
+    abbrev item : Entry
+    item = get_or (canonical_entries w.t w.x) n nothing
 
-    key_of_row : (c : Change) → IsInsertOf w.schema w.t w.x w.over w.key c → IsKeyOfInsert tree.key_cols k c → k ≡ w.key
-    key_of_row (Ins row) own told = told ∙ ap (λ (m : ℕ). key_of m row) (cols_is tree mod_entry w) ∙ own
-    key_of_row (Del gone) own told = absurd own
-    key_of_row (Mod other v) own told = absurd own
-
-    set_key : k ≡ w.key
-    set_key = key_of_row row_found.0.change row_found.3 (subst (λ (e : Entry). IsKeyOfInsert tree.key_cols k e.change) same_entry key_is)
-
-    pub set_now : set_ins tree.key_cols r.sid k col value tree.entries ≡ canonical_entries w.t (effects_with w.x w.key (Mod col value))
-    set_now =
-        (λ i. set_ins (cols_is tree mod_entry w i) (set_sid i) (set_key i) col value (list_is tree mod_entry w i))
-        ∙ sym (modify_is ∙ ap (λ b. cond b (set_ins w.schema.key_cols (rank w.key w.t) w.key col value (canonical_entries w.t w.x)) (put_mod w.schema.key_cols (rank w.key w.t) col value (canonical_entries w.t w.x))) row_found.4)
-
-    pub set_there : IsSomeAnd (inserted_row tree.key_cols r.sid k tree.entries) (λ row. col < length row)
-    set_there =
-        let path : inserted_row tree.key_cols r.sid k tree.entries ≡ inserted_row w.schema.key_cols (rank w.key w.t) w.key (canonical_entries w.t w.x) =
-        (λ i. inserted_row (cols_is tree mod_entry w i) (set_sid i) (set_key i) (list_is tree mod_entry w i)) in
-        subst (λ (o : Option Row). IsSomeAnd o (λ row. col < length row)) (sym path) (may_parts.0 row_found.4)
+    pub set_there : (r : Entry) → slice_get tree.entries n ≡ Some r → has_cell col r.change
+    set_there r at =
+        let same : item ≡ r = get_or_from_slice_get (canonical_entries w.t w.x) n r nothing (ap (λ (zs : List Entry). slice_get zs n) (sym (list_is tree mod_entry w)) ∙ at) in
+        let row = subst (λ (o : Option Row). IsSomeAnd o (λ row. col < length row)) row_found.0.row_is (may_parts.0 row_found.1) in
+        subst (λ (e : Entry). has_cell col e.change) same (cell_of col item.change row)
 
     pub set_outside : tree.key_cols ≤ col
-    set_outside = let le = may_parts.1 row_found.4 in omega (arith, le, cols_is tree mod_entry w)
+    set_outside = let le = may_parts.1 row_found.1 in omega (arith, le, cols_is tree mod_entry w)
 
-    pub set_next : (new : Tree) → new ≡ record tree { entries = set_ins tree.key_cols r.sid k col value tree.entries } → new ≡ next_tree tree mod_entry w
-    set_next new new_is = new_is ∙ (λ i. record { key_cols = cols_is tree mod_entry w i; entries = set_now i })
+    set_now : set tree.entries n (entry_at item.sid (change_with_cell col value item.change)) ≡ canonical_entries w.t (effects_with w.x w.key (Mod col value))
+    set_now =
+        ap (λ (zs : List Entry). set zs n (entry_at item.sid (change_with_cell col value item.change))) (list_is tree mod_entry w) ∙ sym (row_found.0.with_cell col value)
+        ∙ sym (modify_is ∙ ap (λ b. cond b (set_ins w.schema.key_cols (rank w.key w.t) w.key col value (canonical_entries w.t w.x)) (put_mod w.schema.key_cols (rank w.key w.t) col value (canonical_entries w.t w.x))) row_found.1)
+
+    pub set_next : (new : Tree)
+        → ((r : Entry) → slice_get tree.entries n ≡ Some r → new ≡ record tree { entries = set tree.entries n (entry_at r.sid (change_with_cell col value r.change)) })
+        → new ≡ next_tree tree mod_entry w
+    set_next new new_is =
+        let at : slice_get tree.entries n ≡ Some item = ap (λ (zs : List Entry). slice_get zs n) (list_is tree mod_entry w) ∙ slice_get-get_or (canonical_entries w.t w.x) n nothing row_found.0.short in
+        new_is item at ∙ (λ i. record { key_cols = cols_is tree mod_entry w i; entries = set_now i })
 
   module _ (q : ℕ) (only : (place : Place) → IsAtRid tree.entries s place → place ≡ Base q) where
     row_on_base : IsRowPlace w.schema w.t w.x w.over w.key (Base q)
@@ -352,6 +329,21 @@ module _ (tree : Tree) (s col : ℕ) (value : Value) (w : IsNext tree (entry_at 
 
     pub modify_next : (new : Tree) → new ≡ record tree { entries = put_mod tree.key_cols q col value tree.entries } → new ≡ next_tree tree mod_entry w
     modify_next new new_is = new_is ∙ (λ i. record { key_cols = cols_is tree mod_entry w i; entries = modify_now i })
+
+-- an entry that is put in at a SID, with its change told
+module _ (tree : Tree) (moved : Entry) (s : ℕ) (c : Change) (is : moved ≡ entry_at s c) where
+  pub put_free : MayBePut tree.key_cols s c tree.entries → MayBePut tree.key_cols moved.sid moved.change tree.entries
+  put_free h = subst (λ (m : Entry). MayBePut tree.key_cols m.sid m.change tree.entries) (sym is) h
+
+  pub put_small : s < 2 ^ 32 → moved.sid < 2 ^ 32
+  put_small h = subst (λ (m : Entry). m.sid < 2 ^ 32) (sym is) h
+
+  pub put_room : length (entries_with tree.key_cols s c tree.entries) ≤ 2 ^ 40 → length (entries_with tree.key_cols moved.sid moved.change tree.entries) ≤ 2 ^ 40
+  put_room h = subst (λ (m : Entry). length (entries_with tree.key_cols m.sid m.change tree.entries) ≤ 2 ^ 40) (sym is) h
+
+  pub put_told : (new : Tree) → new ≡ record tree { entries = entries_with tree.key_cols moved.sid moved.change tree.entries }
+      → new ≡ record tree { entries = entries_with tree.key_cols s c tree.entries }
+  put_told new new_is = new_is ∙ ap (λ (m : Entry). record tree { entries = entries_with tree.key_cols m.sid m.change tree.entries }) is
 
 -- what holds of each step with a change holds of those with an equal one
 pub told : (tree : Tree) (s : ℕ) (d c : Change) → d ≡ c → (P : (e : Change) → IsNext tree (entry_at s e) → Type 0) → ((w : IsNext tree (entry_at s c)) → P c w) → (w : IsNext tree (entry_at s d)) → P d w

@@ -34,12 +34,6 @@ IsOfKey key_cols key (Ins row) = key_of key_cols row ≡ key
 IsOfKey key_cols key (Del gone) = gone ≡ key
 IsOfKey key_cols key (Mod col value) = Unit {0}
 
--- the key of the row of an insert
-abbrev pub IsKeyOfInsert : ℕ → Key → Change → Type 0
-IsKeyOfInsert key_cols key (Ins row) = key ≡ key_of key_cols row
-IsKeyOfInsert key_cols key (Del gone) = Unit {0}
-IsKeyOfInsert key_cols key (Mod col value) = Unit {0}
-
 -- whether the cell of a modify fits the schema
 abbrev pub cell_fits : Columns → Change → Bool
 cell_fits schema (Ins row) = true

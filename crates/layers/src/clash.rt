@@ -8,22 +8,22 @@ ghost use Rattle.model.specs.Entries.{change_cmp};
 ghost use Rattle.model.specs.Rebasing.{clash_of_entries, clash_of_changes, columns_clash, or_clash};
 ghost use Rattle.layers.specs.Serialization.{clash_cmp, clash_with_head};
 
-use delta::{Change, DeltaTree, Entry};
+use delta::{Change, DeltaTree, SharedEntry};
 use model::{Clash, ClashKind, ConflictRule};
 use values::Row;
 
 /// The index of the first entry of the tree that the entry can clash with, if there is one; its own is `index`.
 pub(crate) fn index_of_clash(
     rule: ConflictRule,
-    entry: &Entry,
+    entry: &SharedEntry,
     other: &DeltaTree,
     index: usize,
 ) -> usize
     requires { IsSplit (stands_before (change_cmp other.now.key_cols entry.now.change) entry.now.sid) other.now.entries index }
     ensures { IsSplit (stands_before (clash_cmp other.now.key_cols rule entry.now.change) entry.now.sid) other.now.entries result }
 {
-    match (rule, &entry.change) {
-        (ConflictRule::ByRow, Change::Mod(_, _)) => other.base_index(entry.sid),
+    match (rule, entry.change()) {
+        (ConflictRule::ByRow, Change::Mod(_, _)) => other.base_index(entry.sid()),
         _ => index,
     }
 }
@@ -32,7 +32,7 @@ pub(crate) fn index_of_clash(
 pub(crate) fn clash_at(
     rule: ConflictRule,
     i: usize,
-    entry: &Entry,
+    entry: &SharedEntry,
     other: &DeltaTree,
     j: usize,
 ) -> Option<Clash>
@@ -58,10 +58,15 @@ fn clash_of_kind(i: usize, j: usize, kind: Option<ClashKind>) -> Option<Clash>
 }
 
 /// How two entries clash.
-fn clash_of_entries(rule: ConflictRule, key_cols: usize, x: &Entry, y: &Entry) -> Option<ClashKind>
+fn clash_of_entries(
+    rule: ConflictRule,
+    key_cols: usize,
+    x: &SharedEntry,
+    y: &SharedEntry,
+) -> Option<ClashKind>
     ensures { result ≡ clash_of_entries rule key_cols x.now y.now }
 {
-    clash_of_changes(rule, key_cols, x.sid == y.sid, &x.change, &y.change)
+    clash_of_changes(rule, key_cols, x.sid() == y.sid(), x.change(), y.change())
 }
 
 /// How two changes clash, where they stand at one SID or not.

@@ -1,11 +1,10 @@
-//! An entry of a tree, by its index, and its copy.
-ghost use Rattle.std.specs.Prelude.{◌≡◌, ◌<◌, IfOk, Some, length, slice_get};
+//! An entry of a tree, by its index.
+ghost use Rattle.std.specs.Prelude.{◌≡◌, ◌<◌, Some, length, slice_get};
 
-use delta::{Change, DeltaTree, Entry};
-use values::NoMemory;
+use delta::{DeltaTree, SharedEntry};
 
 /// The entry at an index.
-pub(crate) fn entry_of(tree: &DeltaTree, index: usize) -> &Entry
+pub(crate) fn entry_of(tree: &DeltaTree, index: usize) -> &SharedEntry
     requires { index < length tree.now.entries }
     ensures { slice_get tree.now.entries index ≡ Some result.now }
 {
@@ -13,15 +12,4 @@ pub(crate) fn entry_of(tree: &DeltaTree, index: usize) -> &Entry
         Some(entry) => entry,
         None => unreachable!(),
     }
-}
-
-/// The change, with a copy of its row, key or value.
-pub(crate) fn copy_change(change: &Change) -> Result<Change, NoMemory>
-    ensures { IfOk result (λ copied. copied ≡ change.now) }
-{
-    Ok(match change {
-        Change::Ins(row) => Change::Ins(row.copy()?),
-        Change::Del(key) => Change::Del(key.copy()?),
-        Change::Mod(col, value) => Change::Mod(*col, value.copy()?),
-    })
 }

@@ -1,15 +1,14 @@
 //! A tree folded into the tree below it.
-ghost use Rattle.std.specs.Prelude.{◌≡◌, IfOk, OnOk, IsTrue};
-ghost use Rattle.model.specs.Entries.{is_insert};
+ghost use Rattle.std.specs.Prelude.{◌≡◌, IfOk, OnOk};
 ghost use Rattle.layers.specs.Over.{AreConsecutive};
-ghost use Rattle.layers.specs.Propagation.{IsNext, next_tree, composed_tree, IsKeyOfInsert};
+ghost use Rattle.layers.specs.Propagation.{IsNext, next_tree, composed_tree};
 
 use crate::entry::entry_of;
-use delta::{Change, DeltaTree, Entry, Place};
-use values::{Key, NoMemory};
+use delta::{Change, DeltaTree, Place, SharedEntry};
+use values::NoMemory;
 
 /// The lower tree with the upper one, which is over its image, folded into it (Héman et al. 2010, "Propagate"): a copy
-/// of the lower tree, with an edit for each upper entry.
+/// of the lower tree, with an edit for each upper entry. Rows are shared: one is copied only where a cell of it is set.
 ///
 /// # Errors
 ///
@@ -30,45 +29,22 @@ pub fn propagate(lower: &DeltaTree, upper: &DeltaTree) -> Result<DeltaTree, NoMe
 }
 
 /// Folds one upper entry into the tree: above it all upper entries of greater keys are folded in already.
-fn fold_entry(tree: &mut DeltaTree, entry: &Entry) -> Result<(), NoMemory>
+fn fold_entry(tree: &mut DeltaTree, entry: &SharedEntry) -> Result<(), NoMemory>
     requires { IsNext tree.old entry.now }
     ensures ok { OnOk result ((w : IsNext tree.old entry.now) → tree.new ≡ next_tree tree.old entry.now w) }
 {
-    match &entry.change {
+    match entry.change() {
         Change::Ins(row) => {
-            let sid = tree.find_gap(entry.sid, row);
-            tree.put_ins(sid, row.copy()?)
+            let sid = tree.find_gap(entry.sid(), row);
+            tree.put_shared(entry.with_sid(sid)?)
         }
-        Change::Del(key) => match tree.find_row(entry.sid) {
-            Place::Inserted(index) => {
-                let sid = entry_of(tree, index).sid;
-                tree.take_ins(sid, key)
-            }
-            Place::Base(sid) => tree.put_del(sid, key.copy()?),
+        Change::Del(_) => match tree.find_row(entry.sid()) {
+            Place::Inserted(index) => tree.take_at(index),
+            Place::Base(sid) => tree.put_shared(entry.with_sid(sid)?),
         },
-        Change::Mod(col, value) => match tree.find_row(entry.sid) {
-            Place::Inserted(index) => {
-                let inserted = entry_of(tree, index);
-                let sid = inserted.sid;
-                let key = key_of_insert(tree.key_cols(), inserted)?;
-                tree.set_ins(sid, &key, *col, value.copy()?)
-            }
-            Place::Base(sid) => tree.put_mod(sid, *col, value.copy()?),
+        Change::Mod(col, value) => match tree.find_row(entry.sid()) {
+            Place::Inserted(index) => tree.set_at(index, *col, value.copy()?),
+            Place::Base(sid) => tree.put_shared(entry.with_sid(sid)?),
         },
-    }
-}
-
-/// The key of the row that the entry inserts.
-fn key_of_insert(key_cols: usize, entry: &Entry) -> Result<Key, NoMemory>
-    requires { IsTrue (is_insert entry.now.change) }
-    ensures { IfOk result (λ key. IsKeyOfInsert key_cols key entry.now.change) }
-{
-    match &entry.change {
-        Change::Ins(row) => {
-            let mut cells = row.copy()?.into_cells();
-            cells.truncate(key_cols);
-            Ok(Key::new(cells))
-        }
-        _ => unreachable!(),
     }
 }

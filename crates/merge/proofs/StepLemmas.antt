@@ -114,9 +114,9 @@ module _ (sid : ℕ) where
       (λ i. none i ++ (left i ++ merged_rows_from-past base es i))
 
 -- a delete or a modify is no insert
-pub no_insert : (x : Entry) → ((key : Key) × (x.change ≡ Del key)) ⊎ ((col : ℕ) × (value : Value) × (x.change ≡ Mod col value)) → (row : Row) → x.change ≡ Ins row → ⊥
-no_insert x (inl k) row is = let other = k.1 in cc
-no_insert x (inr k) row is = let other = k.2 in cc
+pub no_insert : (d : Change) → ((key : Key) × (d ≡ Del key)) ⊎ ((col : ℕ) × (value : Value) × (d ≡ Mod col value)) → (row : Row) → d ≡ Ins row → ⊥
+no_insert d (inl k) row is = let other = k.1 in cc
+no_insert d (inr k) row is = let other = k.2 in cc
 
 module _ (c : TreeCursor) where
   abbrev es : List Entry

@@ -8,7 +8,7 @@ ghost use Rattle.values.specs.declared.row.Row.{Row as Cells};
 ghost use Rattle.merge.specs.Level.{IsOver};
 ghost use Rattle.merge.specs.Cursor.{DeletesNext, DeletesNone, IsCursor, IsCursorAt, StepGives, entries_left, entries_past, is_past, moved, starts_with_delete};
 
-use delta::{Change, DeltaTree, Entry, Iter, Place};
+use delta::{Change, DeltaTree, Iter, Place, SharedEntry};
 use std::marker::Model;
 use values::Row;
 
@@ -21,7 +21,7 @@ pub(crate) struct Cursor<'a> {
     /// The base row that is next.
     sid: u64,
     /// The entry that is next, and those after it.
-    next: Option<&'a Entry>,
+    next: Option<&'a SharedEntry>,
     rest: Iter<'a>,
 }
 
@@ -60,7 +60,7 @@ impl<'a> Cursor<'a> {
                 Cursor {
                     tree,
                     index,
-                    sid: next.unwrap().sid,
+                    sid: next.unwrap().sid(),
                     next,
                     rest,
                 }
@@ -94,7 +94,7 @@ impl<'a> Cursor<'a> {
     }
 
     /// The next entry.
-    fn next_entry(&self) -> Option<&'a Entry>
+    fn next_entry(&self) -> Option<&'a SharedEntry>
         ensures { option_copied result ≡ slice_get self.now.tree.entries self.now.index }
     {
         self.next
@@ -121,7 +121,7 @@ impl<'a> Cursor<'a> {
         ensures { result ≡ starts_with_delete self.now.sid (entries_left self.now) }
     {
         match self.next_entry() {
-            Some(entry) => entry.sid == self.sid() && is_delete(&entry.change),
+            Some(entry) => entry.sid() == self.sid() && is_delete(entry.change()),
             None => false,
         }
     }
@@ -138,10 +138,11 @@ impl<'a> Cursor<'a> {
             None => Step::Kept(most),
             Some(entry) => {
                 let sid = self.sid();
-                if entry.sid > sid {
-                    return Step::Kept(most.min(entry.sid - sid));
+                let at = entry.sid();
+                if at > sid {
+                    return Step::Kept(most.min(at - sid));
                 }
-                match &entry.change {
+                match entry.change() {
                     Change::Ins(row) => {
                         self.advance();
                         Step::Inserted(row)
@@ -149,7 +150,7 @@ impl<'a> Cursor<'a> {
                     Change::Del(_) | Change::Mod(..) => {
                         self.pass_row_entries();
                         self.pass(1);
-                        Step::Modified(entry.sid as u32)
+                        Step::Modified(at as u32)
                     }
                 }
             }
@@ -173,7 +174,7 @@ impl<'a> Cursor<'a> {
         ensures past { T (list_all (is_past (suc self.old.sid)) (take self.old.index self.old.tree.entries)) → T (list_all (is_past (suc self.old.sid)) (take self.new.index self.old.tree.entries)) }
     {
         while let Some(entry) = self.next_entry() {
-            if entry.sid != self.sid() {
+            if entry.sid() != self.sid() {
                 break;
             }
             self.advance();
@@ -192,7 +193,7 @@ impl<'a> Cursor<'a> {
 }
 
 /// The entry at an index of the tree, and those after it.
-fn entries_from(tree: &DeltaTree, index: usize) -> (Option<&Entry>, Iter<'_>)
+fn entries_from(tree: &DeltaTree, index: usize) -> (Option<&SharedEntry>, Iter<'_>)
     requires { index ≤ length tree.now.entries }
     ensures next { option_copied result.0 ≡ slice_get tree.now.entries index }
     ensures rest { result.1 ≡ drop (index + 1) tree.now.entries }

@@ -83,9 +83,9 @@ fn modified<'a>(tree: &'a DeltaTree, sid: u64, col: usize) -> Option<ValueRef<'a
 {
     let mut found = None;
     for entry in tree.iter_from(tree.base_index(sid)) {
-        match &entry.change {
+        match entry.change() {
             Change::Mod(other, value) => {
-                if entry.sid != sid {
+                if entry.sid() != sid {
                     break;
                 }
                 if *other == col {

@@ -1,7 +1,6 @@
 use Rattle.std.proofs.Common.{◌≡◌, ◌+◌, ◌*◌, ◌≤◌, ◌++◌, length}
 use Rattle.std.specs.List.{All}
 use Rattle.std.specs.Vec.Iter.{into_iter_items, into_iter_len}
-use Rattle.counted.specs.Edits.{values_of}
 use Rattle.counted.specs.Shapes.{IsChild, all_items}
 use Rattle.counted.proofs.bulk.leaves.Given as goal
 
@@ -11,7 +10,7 @@ invariant-loop-alloc l = record {
   left : length (into_iter_items l.rest) ≡ into_iter_len l.rest;
   enough : 1 ≤ into_iter_len l.rest → 8 ≤ into_iter_len l.rest;
   some : length l.fn.entries.items ≤ 16 * length l.children.items + into_iter_len l.rest;
-  items : all_items l.children.items ++ values_of (into_iter_items l.rest) ≡ values_of l.fn.entries.items;
+  items : all_items l.children.items ++ (into_iter_items l.rest) ≡ l.fn.entries.items;
   each : All (IsChild 1) l.children.items;
 }
 

@@ -1,4 +1,4 @@
-use Rattle.std.proofs.Common.{suc, arith, ◌∙◌}
+use Rattle.std.proofs.Common.{suc, ◌∙◌, arith}
 use Rattle.counted.specs.Shapes.{depth_of}
 use Rattle.counted.proofs.BulkLemmas.{level_of}
 use Rattle.counted.proofs.bulk.root_over.Goals as goal
@@ -8,7 +8,7 @@ loop-alloc-init c =
     let some = c.in_ok-level.ensures.some in
     record {
       some = c.in_ok-level.ensures.some;
-      items = c.in_ok-level.ensures.items ∙ c.in_ok-entries.ensures;
+      items = c.in_ok-level.ensures.items;
       each = level_of 1 c.in_ok-level.level.items c.in_ok-level.ensures.each (omega arith);
     }
 

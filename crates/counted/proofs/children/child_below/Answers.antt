@@ -1,4 +1,4 @@
-use Rattle.std.proofs.Common.{◌+◌, ◌<◌, ◌≤◌, subst, arith}
+use Rattle.std.proofs.Common.{ℕ, ◌+◌, ◌<◌, ◌≤◌, ap, ◌∙◌, subst, arith}
 use Rattle.std.proofs.lemmas.List.{get_or_default}
 use Rattle.counted.specs.declared.node.Child.{Child}
 use Rattle.std.proofs.lemmas.Int.{ints}
@@ -17,14 +17,14 @@ loop-index-preserved c =
     let d = c.index-children-index-in-loop-index.result in
     let more = total_items-more c.args.children.now c.loop-index.index d c.requires.children (omega arith) in
     let next = total_items_within c.args.children.now (c.loop-index.index + 1) in
-    let step = shift_past c.args.sid c.args.children.now c.loop-index.index d c.requires.children c.requires.ordered (omega arith) (let P : Child → Type 0 = λ x. x.first < c.args.sid in subst P (get_or_default c.args.children.now (c.loop-index.index + 1) c.index-children-index.result d c.loop-index-test.true) c.if-children-index.true) in
+    let step = shift_past c.args.sid c.args.children.now c.loop-index.index d c.requires.children c.requires.ordered (omega arith) (let first = c.sid.ensures ∙ ap (λ (x : Child). x.head.sid) (get_or_default c.args.children.now (c.loop-index.index + 1) c.index-children-index.result d c.loop-index-test.true) in subst (λ (n : ℕ). n < c.args.sid) first c.if-sid.true) in
     record {
       within = omega arith;
       shift = omega (arith, ints, c.requires.few);
       rest = omega (arith, ints, c.requires.few);
     }
 
-pub returns-else-children-index-clause-shift : goal.returns-else-children-index-clause-shift
-returns-else-children-index-clause-shift c = λ d.
-    let step = shift_at c.args.sid c.args.children.now c.loop-index.index d c.requires.children c.requires.ordered (omega arith) (λ lt. let P : Child → Type 0 = λ x. c.args.sid ≤ x.first in subst P (get_or_default c.args.children.now (c.loop-index.index + 1) c.index-children-index.result d lt) c.if-children-index.false) in
+pub returns-else-sid-clause-shift : goal.returns-else-sid-clause-shift
+returns-else-sid-clause-shift c = λ d.
+    let step = shift_at c.args.sid c.args.children.now c.loop-index.index d c.requires.children c.requires.ordered (omega arith) (λ lt. let first = c.sid.ensures ∙ ap (λ (x : Child). x.head.sid) (get_or_default c.args.children.now (c.loop-index.index + 1) c.index-children-index.result d lt) in subst (λ (n : ℕ). c.args.sid ≤ n) first c.if-sid.false) in
     omega (arith, ints)

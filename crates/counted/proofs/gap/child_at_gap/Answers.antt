@@ -44,8 +44,8 @@ loop-index-preserved g c =
       up = omega (arith, ints, c.requires.above, c.requires.below);
       low = λ d some.
           let two = ap (λ (x : Child). x.net) (get_or_default c.args.children.now c.loop-index.index e d c.loop-index.invariant.within) in
-          leads_moved (g.G.Gap.after c.args.gap.now) (to_z w64 (of_z w64 c.args.rid)) (to_z w64 (of_z w64 c.args.rid)) (get_or c.args.children.now (c.loop-index.index + 1) d).head.value (get_or c.args.children.now (c.loop-index.index + 1) d).head.value ((get_or c.args.children.now c.loop-index.index d).net +ℤ to_z w64 c.loop-index.up-bits) (to_z w64 (of_z w64 (to_z w64 c.loop-index.up-bits +ℤ to_z w64 (of_z w64 (get_or c.args.children.now c.loop-index.index e).net)))) refl refl (omega (arith, ints, c.requires.above, c.requires.below)) (c.next_leads.ensures.yes c.if-next_leads.true d);
+          leads_moved (g.G.Gap.after c.args.gap.now) (to_z w64 (of_z w64 c.args.rid)) (to_z w64 (of_z w64 c.args.rid)) (get_or c.args.children.now (c.loop-index.index + 1) d).head (get_or c.args.children.now (c.loop-index.index + 1) d).head ((get_or c.args.children.now c.loop-index.index d).net +ℤ to_z w64 c.loop-index.up-bits) (to_z w64 (of_z w64 (to_z w64 c.loop-index.up-bits +ℤ to_z w64 (of_z w64 (get_or c.args.children.now c.loop-index.index e).net)))) refl refl (omega (arith, ints, c.requires.above, c.requires.below)) (c.next_leads.ensures.yes c.if-next_leads.true d);
     }
 
 pub returns-else-next_leads-clause-low : goal.returns-else-next_leads-clause-low
-returns-else-next_leads-clause-low g c = λ d some. leads_moved (g.G.Gap.after c.args.gap.now) (to_z w64 (of_z w64 c.args.rid)) c.args.rid (get_or c.args.children.now c.loop-index.index d).head.value (get_or c.args.children.now c.loop-index.index d).head.value (to_z w64 c.loop-index.up-bits) (to_z w64 c.loop-index.up-bits) (omega (arith, ints)) refl (omega (arith, ints)) (c.loop-index.invariant.low d some)
+returns-else-next_leads-clause-low g c = λ d some. leads_moved (g.G.Gap.after c.args.gap.now) (to_z w64 (of_z w64 c.args.rid)) c.args.rid (get_or c.args.children.now c.loop-index.index d).head (get_or c.args.children.now c.loop-index.index d).head (to_z w64 c.loop-index.up-bits) (to_z w64 c.loop-index.up-bits) (omega (arith, ints)) refl (omega (arith, ints)) (c.loop-index.invariant.low d some)

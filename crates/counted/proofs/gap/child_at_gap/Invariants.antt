@@ -1,6 +1,5 @@
 use Rattle.std.proofs.Common.{◌≡◌, ◌-◌, ◌<◌, ◌≤◌, length, take, get_or}
 use Rattle.std.specs.Prelude.{◌+ℤ◌}
-use Rattle.std.specs.Arc.{arc_value}
 use Rattle.counted.specs.declared.node.Child.{Child}
 use Rattle.counted.specs.Gaps.{Leads}
 use Rattle.counted.specs.Shapes.{all_items}
@@ -12,7 +11,7 @@ abbrev pub invariant-loop-index : goal.invariant-loop-index
 invariant-loop-index g l = record {
   within : l.index < length l.children;
   up : l.up ≡ total (all_items (take l.index l.children)) +ℤ l.shift;
-  low : (d : Child) → 1 ≤ l.index → Leads (g.G.Gap.after l.gap) l.rid (arc_value (get_or l.children l.index d).head) l.up;
+  low : (d : Child) → 1 ≤ l.index → Leads (g.G.Gap.after l.gap) l.rid (get_or l.children l.index d).head l.up;
 }
 
 abbrev pub decreases-loop-index : goal.decreases-loop-index

@@ -1,8 +1,7 @@
 use Rattle.std.proofs.Common.{◌≡◌, take}
-use Rattle.counted.specs.Edits.{values_of}
 use Rattle.counted.specs.Sums.{shift_before}
 use Rattle.counted.proofs.leaf.shift_in.Given as goal
 
 -- the shift of the entries so far
 abbrev pub invariant-loop-entry : goal.invariant-loop-entry
-invariant-loop-entry l = l.shift ≡ shift_before l.sid (values_of (take l.entry-index l.entries))
+invariant-loop-entry l = l.shift ≡ shift_before l.sid (take l.entry-index l.entries)

@@ -1,7 +1,6 @@
-use Rattle.std.proofs.Common.{◌≡◌, ◌+◌, ◌-◌, ◌/◌, ◌<◌, length, subst, sym, ◌∙◌, arith}
+use Rattle.std.proofs.Common.{◌≡◌, ◌+◌, ◌-◌, ◌/◌, ◌<◌, length, subst, sym, arith}
 use Rattle.counted.specs.Shapes.{IsChild}
 use Rattle.counted.specs.declared.node.Child.{Child}
-use Rattle.counted.proofs.Heads.{first_sid-get}
 use Rattle.counted.proofs.search.child_before.Goals as goal
 
 child_is : (depth : _) (c x : Child) → x ≡ c → IsChild depth c → IsChild depth x
@@ -11,5 +10,4 @@ pub begins_before-requires : goal.begins_before-requires
 begins_before-requires g c =
     let m = c.loop-low.low + (c.loop-low.high - c.loop-low.low) / 2 in
     let lt : m < length c.args.children.now = omega arith in
-    let is = child_is _ _ _ c.index-children-middle.is (c.requires.children.each m c.index-children-middle.result lt) in
-    record { first = is.first ∙ first_sid-get _ _ is.head; head = is.head }
+    (child_is _ _ _ c.index-children-middle.is (c.requires.children.each m c.index-children-middle.result lt)).head

@@ -1,6 +1,5 @@
 use Rattle.std.proofs.Common.{◌≡◌, ℕ, ◌+◌, ◌-◌, ◌<◌, ◌≤◌, true, false, length, get_or}
 use Rattle.model.specs.declared.entry.Entry.{Entry}
-use Rattle.counted.specs.Edits.{values_of}
 use Rattle.counted.specs.Search.{stands_before}
 use Rattle.counted.proofs.search.place_in.Given as goal
 
@@ -9,8 +8,8 @@ abbrev pub invariant-loop-low : goal.invariant-loop-low
 invariant-loop-low g l = record {
   within : l.low ≤ l.high;
   short : l.high ≤ length l.entries;
-  low : (m : ℕ) (d : Entry) → m + 1 ≡ l.low → stands_before (g.P.Probe.stand l.probe) l.sid (get_or (values_of l.entries) m d) ≡ true;
-  high : (d : Entry) → l.high < length l.entries → stands_before (g.P.Probe.stand l.probe) l.sid (get_or (values_of l.entries) l.high d) ≡ false;
+  low : (m : ℕ) (d : Entry) → m + 1 ≡ l.low → stands_before (g.P.Probe.stand l.probe) l.sid (get_or l.entries m d) ≡ true;
+  high : (d : Entry) → l.high < length l.entries → stands_before (g.P.Probe.stand l.probe) l.sid (get_or l.entries l.high d) ≡ false;
 }
 
 abbrev pub decreases-loop-low : goal.decreases-loop-low

@@ -18,7 +18,10 @@ overflow_add-children c =
     omega (arith, ints, c.requires.above, c.requires.below)
 
 pub row_above-requires-clause-small : goal.row_above-requires-clause-small
-row_above-requires-clause-small c = child_placed c.args.children.now (c.args.index + 1) c.index-children-index.result c.requires.children c.requires.placed c.requires.within
+row_above-requires-clause-small c =
+    let small = child_placed c.args.children.now (c.args.index + 1) c.index-children-index.result c.requires.children c.requires.placed c.requires.within in
+    let same = c.sid.ensures in
+    omega arith
 
 pub row_above-requires-clause-above : goal.row_above-requires-clause-above
 row_above-requires-clause-above c =
@@ -40,7 +43,7 @@ row_above-requires-clause-below c =
 
 pub returns-clause-yes : goal.returns-clause-yes
 returns-clause-yes c = λ test d.
-    let one = ap (λ (x : Child). x.first) (get_or_default c.args.children.now (c.args.index + 1) c.index-children-index.result d c.requires.within) in
+    let one = c.sid.ensures ∙ ap (λ (x : Child). x.head.sid) (get_or_default c.args.children.now (c.args.index + 1) c.index-children-index.result d c.requires.within) in
     let lt : c.args.index < length c.args.children.now = omega (arith, c.requires.within) in
     let two = ap (λ (x : Child). x.net) (get_or_default c.args.children.now c.args.index c.index-children-index-2.result d lt) in
     let net = (c.requires.children.each c.args.index d lt).net in
@@ -51,7 +54,7 @@ returns-clause-yes c = λ test d.
 
 pub returns-clause-no : goal.returns-clause-no
 returns-clause-no c = λ test d.
-    let one = ap (λ (x : Child). x.first) (get_or_default c.args.children.now (c.args.index + 1) c.index-children-index.result d c.requires.within) in
+    let one = c.sid.ensures ∙ ap (λ (x : Child). x.head.sid) (get_or_default c.args.children.now (c.args.index + 1) c.index-children-index.result d c.requires.within) in
     let lt : c.args.index < length c.args.children.now = omega (arith, c.requires.within) in
     let two = ap (λ (x : Child). x.net) (get_or_default c.args.children.now c.args.index c.index-children-index-2.result d lt) in
     let net = (c.requires.children.each c.args.index d lt).net in

@@ -1,6 +1,5 @@
 use Rattle.std.proofs.Common.{◌≡◌, ℕ, ◌+◌, ◌-◌, ◌≤◌, length, take, drop}
 use Rattle.std.specs.Prelude.{ℤ, ◌+ℤ◌, Bool}
-use Rattle.counted.specs.Edits.{values_of}
 use Rattle.counted.specs.Spots.{IsSpot}
 use Rattle.counted.specs.Sums.{total}
 use Rattle.counted.proofs.spot.spot_in.Given as goal
@@ -9,8 +8,8 @@ use Rattle.counted.proofs.spot.spot_in.Given as goal
 abbrev pub invariant-loop-index : goal.invariant-loop-index
 invariant-loop-index l = record {
   within : l.index ≤ length l.entries;
-  up : l.up ≡ total (values_of (take l.index l.entries)) +ℤ l.shift;
-  spot : (k : ℕ) (up : ℤ) (inserted : Bool) → IsSpot l.rid l.up (values_of (drop l.index l.entries)) k up inserted → IsSpot l.rid l.shift (values_of l.entries) (l.index + k) up inserted;
+  up : l.up ≡ total (take l.index l.entries) +ℤ l.shift;
+  spot : (k : ℕ) (up : ℤ) (inserted : Bool) → IsSpot l.rid l.up (drop l.index l.entries) k up inserted → IsSpot l.rid l.shift l.entries (l.index + k) up inserted;
 }
 
 abbrev pub decreases-loop-index : goal.decreases-loop-index

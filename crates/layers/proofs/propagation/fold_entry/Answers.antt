@@ -1,185 +1,197 @@
-use Rattle.std.proofs.Common.{◌≡◌, ℕ, ◌≤◌, ◌^◌, length, sym, ap, ◌∙◌, subst}
-use Rattle.std.specs.Prelude.{IsNone}
+use Rattle.std.proofs.Common.{◌≡◌, ℕ, ◌<◌, ◌^◌, sym, ap, ◌∙◌, subst}
 use Rattle.std.proofs.lemmas.Result.{on_ok_weaker}
-use Rattle.values.specs.declared.row.Row.{Row}
-use Rattle.values.specs.declared.row.Key.{Key}
-use Rattle.values.specs.declared.value.Value.{Value}
+use Rattle.std.specs.Prelude.{set}
 use Rattle.values.specs.Shape.{key_of}
+use Rattle.values.specs.declared.value.Value.{Value}
+use Rattle.model.specs.declared.entry.Entry.{Entry}
 use Rattle.model.specs.declared.entry.Change.{Change}
 use Rattle.model.specs.declared.entry.Change.TheVariants.{Ins, Del, Mod}
 use Rattle.model.specs.Entries.{entry_at}
-use Rattle.model.specs.Edits.{put_ins, put_del, put_mod, set_ins}
-use Rattle.delta.specs.Lookups.{inserted_row}
-use Rattle.delta.specs.Positions.{IsAtRid}
+use Rattle.model.specs.Edits.{change_with_cell}
+use Rattle.delta.specs.Positions.{IsAtRid, gap_from}
 use Rattle.delta.specs.declared.places.Place.{Place}
-use Rattle.layers.specs.Propagation.{IsNext, IsKeyOfInsert, next_tree}
-use Rattle.layers.proofs.StepLemmas.{small_rid, ascending, with_change, told, insert_small, insert_free, insert_room, insert_next, take_there, take_next, taken_within, delete_small, delete_free, delete_room, delete_next, is_insert_there, set_there, set_outside, set_next, modify_small, modify_free, modify_room, modify_next}
+use Rattle.layers.specs.Propagation.{IsNext, next_tree}
+use Rattle.layers.proofs.StepLemmas.{small_rid, ascending, with_change, told, put_free, put_small, put_room, put_told, insert_small, insert_free, insert_room, insert_next, take_within, take_next, delete_small, delete_room, delete_next, set_within, set_there, set_outside, set_next, modify_small, modify_room, modify_next}
 use Rattle.layers.proofs.propagation.fold_entry.Goals as goal
 
 pub find_gap-sid-requires-clause-rid : goal.find_gap-sid-requires-clause-rid
-find_gap-sid-requires-clause-rid c = small_rid c.args.tree.now c.args.entry.now c.requires
+find_gap-sid-requires-clause-rid c = subst (λ (n : ℕ). n < 2 ^ 63) (sym c.sid.ensures) (small_rid c.args.tree.now c.args.entry.now c.requires)
 
 pub find_gap-sid-requires-clause-ascending : goal.find_gap-sid-requires-clause-ascending
 find_gap-sid-requires-clause-ascending c = ascending c.args.tree.now c.args.entry.now c.requires
 
 pub find_row-requires : goal.find_row-requires
-find_row-requires c = small_rid c.args.tree.now c.args.entry.now c.requires
+find_row-requires c = subst (λ (n : ℕ). n < 2 ^ 63) (sym c.sid-in-Del.ensures) (small_rid c.args.tree.now c.args.entry.now c.requires)
 
 pub find_row-requires-in-Mod : goal.find_row-requires-in-Mod
-find_row-requires-in-Mod c = small_rid c.args.tree.now c.args.entry.now c.requires
+find_row-requires-in-Mod c = subst (λ (n : ℕ). n < 2 ^ 63) (sym c.sid-in-Mod.ensures) (small_rid c.args.tree.now c.args.entry.now c.requires)
 
-pub put_ins-requires-clause-sid : goal.put_ins-requires-clause-sid
-put_ins-requires-clause-sid c =
+pub put_shared-requires-clause-free : goal.put_shared-requires-clause-free
+put_shared-requires-clause-free c =
     let t = c.args.tree.now in
     let e = c.args.entry.now in
     let row = c.in-Ins.row in
-    let w = with_change t e (Ins row) c.in-Ins.is c.requires in
-    insert_small t e.sid row w c.find_gap-sid.result c.find_gap-sid.ensures
+    let change : e.change ≡ Ins row = sym c.change.ensures ∙ c.in-Ins.is in
+    let w = with_change t e (Ins row) change c.requires in
+    let s = c.find_gap-sid.result in
+    let gap = c.find_gap-sid.ensures ∙ ap (λ n. gap_from n (key_of t.key_cols row) 0 0 t.entries) c.sid.ensures in
+    let m = c.in_ok-with_sid-in-Ins.field-0 in
+    let moved : m ≡ entry_at s (Ins row) = c.in_ok-with_sid-in-Ins.ensures ∙ ap (entry_at s) change in
+    put_free t m s (Ins row) moved (insert_free t e.sid row w s gap)
 
-pub put_ins-requires-clause-free : goal.put_ins-requires-clause-free
-put_ins-requires-clause-free c =
+pub put_shared-requires-clause-sid : goal.put_shared-requires-clause-sid
+put_shared-requires-clause-sid c =
     let t = c.args.tree.now in
     let e = c.args.entry.now in
     let row = c.in-Ins.row in
-    let w = with_change t e (Ins row) c.in-Ins.is c.requires in
-    let copied : c.in_ok-copy-in-Ins.field-0 ≡ row = c.in_ok-copy-in-Ins.ensures in
-    subst (λ (r : Row). IsNone (inserted_row t.key_cols c.find_gap-sid.result (key_of t.key_cols r) t.entries)) (sym copied) (insert_free t e.sid row w c.find_gap-sid.result c.find_gap-sid.ensures)
+    let change : e.change ≡ Ins row = sym c.change.ensures ∙ c.in-Ins.is in
+    let w = with_change t e (Ins row) change c.requires in
+    let s = c.find_gap-sid.result in
+    let gap = c.find_gap-sid.ensures ∙ ap (λ n. gap_from n (key_of t.key_cols row) 0 0 t.entries) c.sid.ensures in
+    let m = c.in_ok-with_sid-in-Ins.field-0 in
+    let moved : m ≡ entry_at s (Ins row) = c.in_ok-with_sid-in-Ins.ensures ∙ ap (entry_at s) change in
+    put_small t m s (Ins row) moved (insert_small t e.sid row w s gap)
 
-pub put_ins-requires-clause-room : goal.put_ins-requires-clause-room
-put_ins-requires-clause-room c =
+pub put_shared-requires-clause-room : goal.put_shared-requires-clause-room
+put_shared-requires-clause-room c =
     let t = c.args.tree.now in
     let e = c.args.entry.now in
     let row = c.in-Ins.row in
-    let w = with_change t e (Ins row) c.in-Ins.is c.requires in
-    let copied : c.in_ok-copy-in-Ins.field-0 ≡ row = c.in_ok-copy-in-Ins.ensures in
-    subst (λ (r : Row). length (put_ins t.key_cols c.find_gap-sid.result r t.entries) ≤ 2 ^ 40) (sym copied) (insert_room t e.sid row w c.find_gap-sid.result c.find_gap-sid.ensures)
+    let change : e.change ≡ Ins row = sym c.change.ensures ∙ c.in-Ins.is in
+    let w = with_change t e (Ins row) change c.requires in
+    let s = c.find_gap-sid.result in
+    let gap = c.find_gap-sid.ensures ∙ ap (λ n. gap_from n (key_of t.key_cols row) 0 0 t.entries) c.sid.ensures in
+    let m = c.in_ok-with_sid-in-Ins.field-0 in
+    let moved : m ≡ entry_at s (Ins row) = c.in_ok-with_sid-in-Ins.ensures ∙ ap (entry_at s) change in
+    put_room t m s (Ins row) moved (insert_room t e.sid row w s gap)
 
-pub returns-in_ok-copy-in-Ins : goal.returns-in_ok-copy-in-Ins
-returns-in_ok-copy-in-Ins c =
+pub returns-in_ok-with_sid-in-Ins : goal.returns-in_ok-with_sid-in-Ins
+returns-in_ok-with_sid-in-Ins c =
     let t = c.args.tree.now in
     let e = c.args.entry.now in
     let row = c.in-Ins.row in
-    let w = with_change t e (Ins row) c.in-Ins.is c.requires in
-    let copied : c.in_ok-copy-in-Ins.field-0 ≡ row = c.in_ok-copy-in-Ins.ensures in
+    let change : e.change ≡ Ins row = sym c.change.ensures ∙ c.in-Ins.is in
+    let w = with_change t e (Ins row) change c.requires in
+    let s = c.find_gap-sid.result in
+    let gap = c.find_gap-sid.ensures ∙ ap (λ n. gap_from n (key_of t.key_cols row) 0 0 t.entries) c.sid.ensures in
+    let m = c.in_ok-with_sid-in-Ins.field-0 in
+    let moved : m ≡ entry_at s (Ins row) = c.in_ok-with_sid-in-Ins.ensures ∙ ap (entry_at s) change in
+    let new = c.put_shared.new.self in
     record {
-      ok = on_ok_weaker c.put_ins.result (λ new_is. told t e.sid e.change (Ins row) c.in-Ins.is (λ (d : Change) (v : IsNext t (entry_at e.sid d)). c.put_ins.new.self ≡ next_tree t (entry_at e.sid d) v)
-          (λ v. insert_next t e.sid row v c.find_gap-sid.result c.find_gap-sid.ensures c.put_ins.new.self (new_is ∙ ap (λ (r : Row). record t { entries = put_ins t.key_cols c.find_gap-sid.result r t.entries }) copied))) c.put_ins.ensures.ok;
+      ok = on_ok_weaker c.put_shared.result (λ new_is. told t e.sid e.change (Ins row) change (λ (d : Change) (v : IsNext t (entry_at e.sid d)). new ≡ next_tree t (entry_at e.sid d) v)
+          (λ v. insert_next t e.sid row v s gap new (put_told t m s (Ins row) moved new new_is))) c.put_shared.ensures.ok;
     }
 
-pub entry_of-requires : goal.entry_of-requires
-entry_of-requires c =
+pub take_at-requires : goal.take_at-requires
+take_at-requires c =
     let t = c.args.tree.now in
     let e = c.args.entry.now in
-    let key = c.in-Del.key in
-    let w = with_change t e (Del key) c.in-Del.is c.requires in
-    let only = λ (place : Place) (at : IsAtRid t.entries e.sid place). c.find_row.ensures.only place at ∙ c.in-Inserted.is in
-    taken_within t e.sid key w c.in-Inserted.index only
-
-pub take_ins-requires : goal.take_ins-requires
-take_ins-requires c =
-    let t = c.args.tree.now in
-    let e = c.args.entry.now in
-    let key = c.in-Del.key in
-    let w = with_change t e (Del key) c.in-Del.is c.requires in
-    let only = λ (place : Place) (at : IsAtRid t.entries e.sid place). c.find_row.ensures.only place at ∙ c.in-Inserted.is in
-    take_there t e.sid key w c.in-Inserted.index c.entry_of.result.now only c.entry_of.ensures
+    let key = c.in-Del.field-0 in
+    let change : e.change ≡ Del key = sym c.change.ensures ∙ c.in-Del.is in
+    let w = with_change t e (Del key) change c.requires in
+    let at = λ (place : Place) (h : IsAtRid t.entries e.sid place). subst (λ n. IsAtRid t.entries n place) (sym c.sid-in-Del.ensures) h in
+    let only = λ (place : Place) (h : IsAtRid t.entries e.sid place). c.find_row.ensures.only place (at place h) ∙ c.in-Inserted.is in
+    take_within t e.sid key w c.in-Inserted.index only
 
 pub returns-in-Inserted : goal.returns-in-Inserted
 returns-in-Inserted c =
     let t = c.args.tree.now in
     let e = c.args.entry.now in
-    let key = c.in-Del.key in
-    let w = with_change t e (Del key) c.in-Del.is c.requires in
-    let only = λ (place : Place) (at : IsAtRid t.entries e.sid place). c.find_row.ensures.only place at ∙ c.in-Inserted.is in
+    let key = c.in-Del.field-0 in
+    let change : e.change ≡ Del key = sym c.change.ensures ∙ c.in-Del.is in
+    let w = with_change t e (Del key) change c.requires in
+    let at = λ (place : Place) (h : IsAtRid t.entries e.sid place). subst (λ n. IsAtRid t.entries n place) (sym c.sid-in-Del.ensures) h in
+    let only = λ (place : Place) (h : IsAtRid t.entries e.sid place). c.find_row.ensures.only place (at place h) ∙ c.in-Inserted.is in
+    let new = c.take_at.new.self in
     record {
-      ok = on_ok_weaker c.take_ins.result (λ new_is. told t e.sid e.change (Del key) c.in-Del.is (λ (d : Change) (v : IsNext t (entry_at e.sid d)). c.take_ins.new.self ≡ next_tree t (entry_at e.sid d) v)
-          (λ v. take_next t e.sid key v c.in-Inserted.index c.entry_of.result.now only c.entry_of.ensures c.take_ins.new.self new_is)) c.take_ins.ensures.ok;
+      ok = on_ok_weaker c.take_at.result (λ new_is. told t e.sid e.change (Del key) change (λ (d : Change) (v : IsNext t (entry_at e.sid d)). new ≡ next_tree t (entry_at e.sid d) v)
+          (λ v. take_next t e.sid key v c.in-Inserted.index only new new_is)) c.take_at.ensures.ok;
     }
 
-pub put_del-requires-clause-sid : goal.put_del-requires-clause-sid
-put_del-requires-clause-sid c =
+pub put_shared-requires-in-Base-clause-sid : goal.put_shared-requires-in-Base-clause-sid
+put_shared-requires-in-Base-clause-sid c =
     let t = c.args.tree.now in
     let e = c.args.entry.now in
-    let key = c.in-Del.key in
-    let w = with_change t e (Del key) c.in-Del.is c.requires in
-    let only = λ (place : Place) (at : IsAtRid t.entries e.sid place). c.find_row.ensures.only place at ∙ c.in-Base.is in
-    delete_small t e.sid key w c.in-Base.sid only
+    let key = c.in-Del.field-0 in
+    let change : e.change ≡ Del key = sym c.change.ensures ∙ c.in-Del.is in
+    let w = with_change t e (Del key) change c.requires in
+    let at = λ (place : Place) (h : IsAtRid t.entries e.sid place). subst (λ n. IsAtRid t.entries n place) (sym c.sid-in-Del.ensures) h in
+    let only = λ (place : Place) (h : IsAtRid t.entries e.sid place). c.find_row.ensures.only place (at place h) ∙ c.in-Base.is in
+    let s = c.in-Base.sid in
+    let m = c.in_ok-with_sid-in-Base.field-0 in
+    let moved : m ≡ entry_at s (Del key) = c.in_ok-with_sid-in-Base.ensures ∙ ap (entry_at s) change in
+    put_small t m s (Del key) moved (delete_small t e.sid key w s only)
 
-pub put_del-requires-clause-free : goal.put_del-requires-clause-free
-put_del-requires-clause-free c =
+pub put_shared-requires-in-Base-clause-room : goal.put_shared-requires-in-Base-clause-room
+put_shared-requires-in-Base-clause-room c =
     let t = c.args.tree.now in
     let e = c.args.entry.now in
-    let key = c.in-Del.key in
-    let w = with_change t e (Del key) c.in-Del.is c.requires in
-    let only = λ (place : Place) (at : IsAtRid t.entries e.sid place). c.find_row.ensures.only place at ∙ c.in-Base.is in
-    delete_free t e.sid key w c.in-Base.sid only
+    let key = c.in-Del.field-0 in
+    let change : e.change ≡ Del key = sym c.change.ensures ∙ c.in-Del.is in
+    let w = with_change t e (Del key) change c.requires in
+    let at = λ (place : Place) (h : IsAtRid t.entries e.sid place). subst (λ n. IsAtRid t.entries n place) (sym c.sid-in-Del.ensures) h in
+    let only = λ (place : Place) (h : IsAtRid t.entries e.sid place). c.find_row.ensures.only place (at place h) ∙ c.in-Base.is in
+    let s = c.in-Base.sid in
+    let m = c.in_ok-with_sid-in-Base.field-0 in
+    let moved : m ≡ entry_at s (Del key) = c.in_ok-with_sid-in-Base.ensures ∙ ap (entry_at s) change in
+    put_room t m s (Del key) moved (delete_room t e.sid key w s only)
 
-pub put_del-requires-clause-room : goal.put_del-requires-clause-room
-put_del-requires-clause-room c =
+pub returns-in_ok-with_sid-in-Base : goal.returns-in_ok-with_sid-in-Base
+returns-in_ok-with_sid-in-Base c =
     let t = c.args.tree.now in
     let e = c.args.entry.now in
-    let key = c.in-Del.key in
-    let w = with_change t e (Del key) c.in-Del.is c.requires in
-    let only = λ (place : Place) (at : IsAtRid t.entries e.sid place). c.find_row.ensures.only place at ∙ c.in-Base.is in
-    let copied : c.in_ok-copy-in-Base.field-0 ≡ key = c.in_ok-copy-in-Base.ensures in
-    subst (λ (k : Key). length (put_del t.key_cols c.in-Base.sid k t.entries) ≤ 2 ^ 40) (sym copied) (delete_room t e.sid key w c.in-Base.sid only)
-
-pub returns-in_ok-copy-in-Base : goal.returns-in_ok-copy-in-Base
-returns-in_ok-copy-in-Base c =
-    let t = c.args.tree.now in
-    let e = c.args.entry.now in
-    let key = c.in-Del.key in
-    let w = with_change t e (Del key) c.in-Del.is c.requires in
-    let only = λ (place : Place) (at : IsAtRid t.entries e.sid place). c.find_row.ensures.only place at ∙ c.in-Base.is in
-    let copied : c.in_ok-copy-in-Base.field-0 ≡ key = c.in_ok-copy-in-Base.ensures in
+    let key = c.in-Del.field-0 in
+    let change : e.change ≡ Del key = sym c.change.ensures ∙ c.in-Del.is in
+    let w = with_change t e (Del key) change c.requires in
+    let at = λ (place : Place) (h : IsAtRid t.entries e.sid place). subst (λ n. IsAtRid t.entries n place) (sym c.sid-in-Del.ensures) h in
+    let only = λ (place : Place) (h : IsAtRid t.entries e.sid place). c.find_row.ensures.only place (at place h) ∙ c.in-Base.is in
+    let s = c.in-Base.sid in
+    let m = c.in_ok-with_sid-in-Base.field-0 in
+    let moved : m ≡ entry_at s (Del key) = c.in_ok-with_sid-in-Base.ensures ∙ ap (entry_at s) change in
+    let new = c.put_shared-in-Base.new.self in
     record {
-      ok = on_ok_weaker c.put_del.result (λ new_is. told t e.sid e.change (Del key) c.in-Del.is (λ (d : Change) (v : IsNext t (entry_at e.sid d)). c.put_del.new.self ≡ next_tree t (entry_at e.sid d) v)
-          (λ v. delete_next t e.sid key v c.in-Base.sid only c.put_del.new.self (new_is ∙ ap (λ (k : Key). record t { entries = put_del t.key_cols c.in-Base.sid k t.entries }) copied))) c.put_del.ensures.ok;
+      ok = on_ok_weaker c.put_shared-in-Base.result (λ new_is. told t e.sid e.change (Del key) change (λ (d : Change) (v : IsNext t (entry_at e.sid d)). new ≡ next_tree t (entry_at e.sid d) v)
+          (λ v. delete_next t e.sid key v s only new (put_told t m s (Del key) moved new new_is))) c.put_shared-in-Base.ensures.ok;
     }
 
-pub entry_of-inserted-requires : goal.entry_of-inserted-requires
-entry_of-inserted-requires c =
+pub set_at-requires-clause-within : goal.set_at-requires-clause-within
+set_at-requires-clause-within c =
     let t = c.args.tree.now in
     let e = c.args.entry.now in
     let col = c.in-Mod.col in
     let value = c.in-Mod.value in
-    let w = with_change t e (Mod col value) c.in-Mod.is c.requires in
-    let only = λ (place : Place) (at : IsAtRid t.entries e.sid place). c.find_row-in-Mod.ensures.only place at ∙ c.in-Inserted-find_row.is in
-    (is_insert_there t e.sid col value w c.in-Inserted-find_row.index only).0
+    let change : e.change ≡ Mod col value = sym c.change.ensures ∙ c.in-Mod.is in
+    let w = with_change t e (Mod col value) change c.requires in
+    let at = λ (place : Place) (h : IsAtRid t.entries e.sid place). subst (λ n. IsAtRid t.entries n place) (sym c.sid-in-Mod.ensures) h in
+    let n = c.in-Inserted-find_row.index in
+    let only = λ (place : Place) (h : IsAtRid t.entries e.sid place). c.find_row-in-Mod.ensures.only place (at place h) ∙ c.in-Inserted-find_row.is in
+    set_within t e.sid col value w n only
 
-pub key_of_insert-requires : goal.key_of_insert-requires
-key_of_insert-requires c =
+pub set_at-requires-clause-there : goal.set_at-requires-clause-there
+set_at-requires-clause-there c =
     let t = c.args.tree.now in
     let e = c.args.entry.now in
     let col = c.in-Mod.col in
     let value = c.in-Mod.value in
-    let w = with_change t e (Mod col value) c.in-Mod.is c.requires in
-    let only = λ (place : Place) (at : IsAtRid t.entries e.sid place). c.find_row-in-Mod.ensures.only place at ∙ c.in-Inserted-find_row.is in
-    (is_insert_there t e.sid col value w c.in-Inserted-find_row.index only).1 c.entry_of-inserted.result.now c.entry_of-inserted.ensures
+    let change : e.change ≡ Mod col value = sym c.change.ensures ∙ c.in-Mod.is in
+    let w = with_change t e (Mod col value) change c.requires in
+    let at = λ (place : Place) (h : IsAtRid t.entries e.sid place). subst (λ n. IsAtRid t.entries n place) (sym c.sid-in-Mod.ensures) h in
+    let n = c.in-Inserted-find_row.index in
+    let only = λ (place : Place) (h : IsAtRid t.entries e.sid place). c.find_row-in-Mod.ensures.only place (at place h) ∙ c.in-Inserted-find_row.is in
+    set_there t e.sid col value w n only
 
-pub set_ins-requires-clause-there : goal.set_ins-requires-clause-there
-set_ins-requires-clause-there c =
+pub set_at-requires-clause-outside_key : goal.set_at-requires-clause-outside_key
+set_at-requires-clause-outside_key c =
     let t = c.args.tree.now in
     let e = c.args.entry.now in
     let col = c.in-Mod.col in
     let value = c.in-Mod.value in
-    let w = with_change t e (Mod col value) c.in-Mod.is c.requires in
-    let only = λ (place : Place) (at : IsAtRid t.entries e.sid place). c.find_row-in-Mod.ensures.only place at ∙ c.in-Inserted-find_row.is in
-    let k = c.in_ok-key-in-Inserted-find_row.key in
-    let key_is = subst (λ (n : ℕ). IsKeyOfInsert n k c.entry_of-inserted.result.now.change) c.key_cols.ensures c.in_ok-key-in-Inserted-find_row.ensures in
-    set_there t e.sid col value w c.in-Inserted-find_row.index c.entry_of-inserted.result.now k only c.entry_of-inserted.ensures key_is
-
-pub set_ins-requires-clause-outside_key : goal.set_ins-requires-clause-outside_key
-set_ins-requires-clause-outside_key c =
-    let t = c.args.tree.now in
-    let e = c.args.entry.now in
-    let col = c.in-Mod.col in
-    let value = c.in-Mod.value in
-    let w = with_change t e (Mod col value) c.in-Mod.is c.requires in
-    let only = λ (place : Place) (at : IsAtRid t.entries e.sid place). c.find_row-in-Mod.ensures.only place at ∙ c.in-Inserted-find_row.is in
-    let k = c.in_ok-key-in-Inserted-find_row.key in
-    let key_is = subst (λ (n : ℕ). IsKeyOfInsert n k c.entry_of-inserted.result.now.change) c.key_cols.ensures c.in_ok-key-in-Inserted-find_row.ensures in
-    set_outside t e.sid col value w c.in-Inserted-find_row.index c.entry_of-inserted.result.now k only c.entry_of-inserted.ensures key_is
+    let change : e.change ≡ Mod col value = sym c.change.ensures ∙ c.in-Mod.is in
+    let w = with_change t e (Mod col value) change c.requires in
+    let at = λ (place : Place) (h : IsAtRid t.entries e.sid place). subst (λ n. IsAtRid t.entries n place) (sym c.sid-in-Mod.ensures) h in
+    let n = c.in-Inserted-find_row.index in
+    let only = λ (place : Place) (h : IsAtRid t.entries e.sid place). c.find_row-in-Mod.ensures.only place (at place h) ∙ c.in-Inserted-find_row.is in
+    set_outside t e.sid col value w n only
 
 pub returns-in_ok-copy-in-Inserted-find_row : goal.returns-in_ok-copy-in-Inserted-find_row
 returns-in_ok-copy-in-Inserted-find_row c =
@@ -187,57 +199,64 @@ returns-in_ok-copy-in-Inserted-find_row c =
     let e = c.args.entry.now in
     let col = c.in-Mod.col in
     let value = c.in-Mod.value in
-    let w = with_change t e (Mod col value) c.in-Mod.is c.requires in
-    let only = λ (place : Place) (at : IsAtRid t.entries e.sid place). c.find_row-in-Mod.ensures.only place at ∙ c.in-Inserted-find_row.is in
-    let k = c.in_ok-key-in-Inserted-find_row.key in
-    let key_is = subst (λ (n : ℕ). IsKeyOfInsert n k c.entry_of-inserted.result.now.change) c.key_cols.ensures c.in_ok-key-in-Inserted-find_row.ensures in
-    let copied : c.in_ok-copy-in-Inserted-find_row.field-0 ≡ value = c.in_ok-copy-in-Inserted-find_row.ensures.same in
+    let change : e.change ≡ Mod col value = sym c.change.ensures ∙ c.in-Mod.is in
+    let w = with_change t e (Mod col value) change c.requires in
+    let at = λ (place : Place) (h : IsAtRid t.entries e.sid place). subst (λ n. IsAtRid t.entries n place) (sym c.sid-in-Mod.ensures) h in
+    let n = c.in-Inserted-find_row.index in
+    let only = λ (place : Place) (h : IsAtRid t.entries e.sid place). c.find_row-in-Mod.ensures.only place (at place h) ∙ c.in-Inserted-find_row.is in
+    let new = c.set_at.new.self in
+    let copied = c.in_ok-copy-in-Inserted-find_row.ensures.same in
+    let cell = λ (r : Entry) (x : Value). record t { entries = set t.entries n (entry_at r.sid (change_with_cell col x r.change)) } in
     record {
-      ok = on_ok_weaker c.set_ins.result (λ new_is. told t e.sid e.change (Mod col value) c.in-Mod.is (λ (d : Change) (v : IsNext t (entry_at e.sid d)). c.set_ins.new.self ≡ next_tree t (entry_at e.sid d) v)
-          (λ v. set_next t e.sid col value v c.in-Inserted-find_row.index c.entry_of-inserted.result.now k only c.entry_of-inserted.ensures key_is c.set_ins.new.self (new_is ∙ ap (λ (x : Value). record t { entries = set_ins t.key_cols c.entry_of-inserted.result.now.sid k col x t.entries }) copied))) c.set_ins.ensures.ok;
+      ok = on_ok_weaker c.set_at.result (λ new_is. told t e.sid e.change (Mod col value) change (λ (d : Change) (v : IsNext t (entry_at e.sid d)). new ≡ next_tree t (entry_at e.sid d) v)
+          (λ v. set_next t e.sid col value v n only new (λ r there. new_is r there ∙ ap (cell r) copied))) c.set_at.ensures.ok;
     }
 
-pub put_mod-requires-clause-sid : goal.put_mod-requires-clause-sid
-put_mod-requires-clause-sid c =
+pub put_shared-requires-in-Base-find_row-clause-sid : goal.put_shared-requires-in-Base-find_row-clause-sid
+put_shared-requires-in-Base-find_row-clause-sid c =
     let t = c.args.tree.now in
     let e = c.args.entry.now in
     let col = c.in-Mod.col in
     let value = c.in-Mod.value in
-    let w = with_change t e (Mod col value) c.in-Mod.is c.requires in
-    let only = λ (place : Place) (at : IsAtRid t.entries e.sid place). c.find_row-in-Mod.ensures.only place at ∙ c.in-Base-find_row.is in
-    modify_small t e.sid col value w c.in-Base-find_row.sid only
+    let change : e.change ≡ Mod col value = sym c.change.ensures ∙ c.in-Mod.is in
+    let w = with_change t e (Mod col value) change c.requires in
+    let at = λ (place : Place) (h : IsAtRid t.entries e.sid place). subst (λ n. IsAtRid t.entries n place) (sym c.sid-in-Mod.ensures) h in
+    let only = λ (place : Place) (h : IsAtRid t.entries e.sid place). c.find_row-in-Mod.ensures.only place (at place h) ∙ c.in-Base-find_row.is in
+    let s = c.in-Base-find_row.sid in
+    let m = c.in_ok-with_sid-in-Base-find_row.field-0 in
+    let moved : m ≡ entry_at s (Mod col value) = c.in_ok-with_sid-in-Base-find_row.ensures ∙ ap (entry_at s) change in
+    put_small t m s (Mod col value) moved (modify_small t e.sid col value w s only)
 
-pub put_mod-requires-clause-free : goal.put_mod-requires-clause-free
-put_mod-requires-clause-free c =
+pub put_shared-requires-in-Base-find_row-clause-room : goal.put_shared-requires-in-Base-find_row-clause-room
+put_shared-requires-in-Base-find_row-clause-room c =
     let t = c.args.tree.now in
     let e = c.args.entry.now in
     let col = c.in-Mod.col in
     let value = c.in-Mod.value in
-    let w = with_change t e (Mod col value) c.in-Mod.is c.requires in
-    let only = λ (place : Place) (at : IsAtRid t.entries e.sid place). c.find_row-in-Mod.ensures.only place at ∙ c.in-Base-find_row.is in
-    modify_free t e.sid col value w c.in-Base-find_row.sid only
+    let change : e.change ≡ Mod col value = sym c.change.ensures ∙ c.in-Mod.is in
+    let w = with_change t e (Mod col value) change c.requires in
+    let at = λ (place : Place) (h : IsAtRid t.entries e.sid place). subst (λ n. IsAtRid t.entries n place) (sym c.sid-in-Mod.ensures) h in
+    let only = λ (place : Place) (h : IsAtRid t.entries e.sid place). c.find_row-in-Mod.ensures.only place (at place h) ∙ c.in-Base-find_row.is in
+    let s = c.in-Base-find_row.sid in
+    let m = c.in_ok-with_sid-in-Base-find_row.field-0 in
+    let moved : m ≡ entry_at s (Mod col value) = c.in_ok-with_sid-in-Base-find_row.ensures ∙ ap (entry_at s) change in
+    put_room t m s (Mod col value) moved (modify_room t e.sid col value w s only)
 
-pub put_mod-requires-clause-room : goal.put_mod-requires-clause-room
-put_mod-requires-clause-room c =
+pub returns-in_ok-with_sid-in-Base-find_row : goal.returns-in_ok-with_sid-in-Base-find_row
+returns-in_ok-with_sid-in-Base-find_row c =
     let t = c.args.tree.now in
     let e = c.args.entry.now in
     let col = c.in-Mod.col in
     let value = c.in-Mod.value in
-    let w = with_change t e (Mod col value) c.in-Mod.is c.requires in
-    let only = λ (place : Place) (at : IsAtRid t.entries e.sid place). c.find_row-in-Mod.ensures.only place at ∙ c.in-Base-find_row.is in
-    let copied : c.in_ok-copy-in-Base-find_row.field-0 ≡ value = c.in_ok-copy-in-Base-find_row.ensures.same in
-    subst (λ (x : Value). length (put_mod t.key_cols c.in-Base-find_row.sid col x t.entries) ≤ 2 ^ 40) (sym copied) (modify_room t e.sid col value w c.in-Base-find_row.sid only)
-
-pub returns-in_ok-copy-in-Base-find_row : goal.returns-in_ok-copy-in-Base-find_row
-returns-in_ok-copy-in-Base-find_row c =
-    let t = c.args.tree.now in
-    let e = c.args.entry.now in
-    let col = c.in-Mod.col in
-    let value = c.in-Mod.value in
-    let w = with_change t e (Mod col value) c.in-Mod.is c.requires in
-    let only = λ (place : Place) (at : IsAtRid t.entries e.sid place). c.find_row-in-Mod.ensures.only place at ∙ c.in-Base-find_row.is in
-    let copied : c.in_ok-copy-in-Base-find_row.field-0 ≡ value = c.in_ok-copy-in-Base-find_row.ensures.same in
+    let change : e.change ≡ Mod col value = sym c.change.ensures ∙ c.in-Mod.is in
+    let w = with_change t e (Mod col value) change c.requires in
+    let at = λ (place : Place) (h : IsAtRid t.entries e.sid place). subst (λ n. IsAtRid t.entries n place) (sym c.sid-in-Mod.ensures) h in
+    let only = λ (place : Place) (h : IsAtRid t.entries e.sid place). c.find_row-in-Mod.ensures.only place (at place h) ∙ c.in-Base-find_row.is in
+    let s = c.in-Base-find_row.sid in
+    let m = c.in_ok-with_sid-in-Base-find_row.field-0 in
+    let moved : m ≡ entry_at s (Mod col value) = c.in_ok-with_sid-in-Base-find_row.ensures ∙ ap (entry_at s) change in
+    let new = c.put_shared-in-Base-find_row.new.self in
     record {
-      ok = on_ok_weaker c.put_mod.result (λ new_is. told t e.sid e.change (Mod col value) c.in-Mod.is (λ (d : Change) (v : IsNext t (entry_at e.sid d)). c.put_mod.new.self ≡ next_tree t (entry_at e.sid d) v)
-          (λ v. modify_next t e.sid col value v c.in-Base-find_row.sid only c.put_mod.new.self (new_is ∙ ap (λ (x : Value). record t { entries = put_mod t.key_cols c.in-Base-find_row.sid col x t.entries }) copied))) c.put_mod.ensures.ok;
+      ok = on_ok_weaker c.put_shared-in-Base-find_row.result (λ new_is. told t e.sid e.change (Mod col value) change (λ (d : Change) (v : IsNext t (entry_at e.sid d)). new ≡ next_tree t (entry_at e.sid d) v)
+          (λ v. modify_next t e.sid col value v s only new (put_told t m s (Mod col value) moved new new_is))) c.put_shared-in-Base-find_row.ensures.ok;
     }

@@ -26,14 +26,14 @@ loop-entry-init c =
     )
 
 -- nothing is left to find past an entry that is no modify at the SID
-pub returns-then-entry-sid : goal.returns-then-entry-sid
-returns-then-entry-sid c =
+pub returns-then-sid : goal.returns-then-sid
+returns-then-sid c =
     let t = c.args.tree.now in
     let x = c.in-Some.entry.now in
     let rest = c.next.new.self in
     let is = c.in-Some.ensures.steps in
     let inv = c.loop-entry.invariant in
-    let end = cells_at-end t.key_cols c.args.sid x rest (subst (λ (es : List Entry). T (are_ordered t.key_cols es)) is inv.0) (first (not (stands_before base_cmp c.args.sid x)) _ (subst (λ (es : List Entry). T (list_all (λ e. not (stands_before base_cmp c.args.sid e)) es)) is inv.1)) (λ col value k e. c.if-entry-sid.true e) in
+    let end = cells_at-end t.key_cols c.args.sid x rest (subst (λ (es : List Entry). T (are_ordered t.key_cols es)) is inv.0) (first (not (stands_before base_cmp c.args.sid x)) _ (subst (λ (es : List Entry). T (list_all (λ e. not (stands_before base_cmp c.args.sid e)) es)) is inv.1)) (λ col value k e. c.if-sid.true (c.sid.ensures ∙ e)) in
     sym (ap (last_cell c.args.col (option_map value_of c.loop-entry.found)) (ap (cells_at c.args.sid) is ∙ end)) ∙ inv.2
 
 pub returns-in-Ins : goal.returns-in-Ins
@@ -43,7 +43,7 @@ returns-in-Ins c =
     let rest = c.next.new.self in
     let is = c.in-Some.ensures.steps in
     let inv = c.loop-entry.invariant in
-    let end = cells_at-end t.key_cols c.args.sid x rest (subst (λ (es : List Entry). T (are_ordered t.key_cols es)) is inv.0) (first (not (stands_before base_cmp c.args.sid x)) _ (subst (λ (es : List Entry). T (list_all (λ e. not (stands_before base_cmp c.args.sid e)) es)) is inv.1)) (λ col value k e. let kind = c.in-Ins.is in cc) in
+    let end = cells_at-end t.key_cols c.args.sid x rest (subst (λ (es : List Entry). T (are_ordered t.key_cols es)) is inv.0) (first (not (stands_before base_cmp c.args.sid x)) _ (subst (λ (es : List Entry). T (list_all (λ e. not (stands_before base_cmp c.args.sid e)) es)) is inv.1)) (λ col value k e. let told = c.change.ensures in let kind = c.in-Ins.is in cc) in
     sym (ap (last_cell c.args.col (option_map value_of c.loop-entry.found)) (ap (cells_at c.args.sid) is ∙ end)) ∙ inv.2
 
 pub returns-in-Ins-2 : goal.returns-in-Ins-2
@@ -53,5 +53,5 @@ returns-in-Ins-2 c =
     let rest = c.next.new.self in
     let is = c.in-Some.ensures.steps in
     let inv = c.loop-entry.invariant in
-    let end = cells_at-end t.key_cols c.args.sid x rest (subst (λ (es : List Entry). T (are_ordered t.key_cols es)) is inv.0) (first (not (stands_before base_cmp c.args.sid x)) _ (subst (λ (es : List Entry). T (list_all (λ e. not (stands_before base_cmp c.args.sid e)) es)) is inv.1)) (λ col value k e. let kind = c.in-Ins.is in cc) in
+    let end = cells_at-end t.key_cols c.args.sid x rest (subst (λ (es : List Entry). T (are_ordered t.key_cols es)) is inv.0) (first (not (stands_before base_cmp c.args.sid x)) _ (subst (λ (es : List Entry). T (list_all (λ e. not (stands_before base_cmp c.args.sid e)) es)) is inv.1)) (λ col value k e. let told = c.change.ensures in let kind = c.in-Ins.is in cc) in
     sym (ap (last_cell c.args.col (option_map value_of c.loop-entry.found)) (ap (cells_at c.args.sid) is ∙ end)) ∙ inv.2

@@ -1,9 +1,8 @@
 use Rattle.std.proofs.Common.{List, refl, ◌≡◌, ◌+◌, ◌-◌, ◌≤◌, ◌++◌, length, take, drop, subst, ap, sym, ◌∙◌, arith, rules}
 use Rattle.model.specs.declared.entry.Entry.{Entry}
-use Rattle.counted.specs.Edits.{values_of, put_items, edited}
+use Rattle.counted.specs.Edits.{put_items, edited}
 use Rattle.counted.specs.Shapes.{items_of, all_items, depth_of, AreChildren}
 use Rattle.counted.proofs.Leaves.{put_items-le, gone_within}
-use Rattle.counted.proofs.Totals.{length-values}
 use Rattle.counted.proofs.Places.{at_inner, at_leaf, child_few, depth_all, deep_children, edited_in_child, length-edited, grown_is, grown_length, grown_result_same, regrown}
 use Rattle.counted.proofs.node.Node.+edited.Goals as goal
 
@@ -51,12 +50,12 @@ pub returns-in_ok-edited_leaf-in-Leaf : goal.returns-in_ok-edited_leaf-in-Leaf
 returns-in_ok-edited_leaf-in-Leaf t c =
     let at = at_leaf c.self.view_is c.self.invariant c.in-Leaf.is in
     let put = put_items c.args.put in
-    let same : values_of c.deref.result.now ≡ c.args.self.now.items = ap values_of c.deref.ensures.value ∙ sym at.items in
+    let same : c.deref.result.now ≡ c.args.self.now.items = c.deref.ensures.value ∙ sym at.items in
     let new = c.in_ok-edited_leaf-in-Leaf.field-0.items in
-    let items : values_of new ≡ edited c.args.at c.args.gone put c.args.self.now.items = c.in_ok-edited_leaf-in-Leaf.ensures ∙ ap (edited c.args.at c.args.gone put) same in
+    let items : new ≡ edited c.args.at c.args.gone put c.args.self.now.items = c.in_ok-edited_leaf-in-Leaf.ensures ∙ ap (edited c.args.at c.args.gone put) same in
     let long = ap length items in
     let n = length-edited c.args.at c.args.gone put c.args.self.now.items c.requires.within in
-    grown_result_same _ _ _ _ _ _ _ (sym at.depth) (omega (arith, c.requires.one, at.width, ap length at.items, length-values new, length-values c.in-Leaf.entries.items)) items c.grown_leaf.ensures
+    grown_result_same _ _ _ _ _ _ _ (sym at.depth) (omega (arith, c.requires.one, at.width, ap length at.items)) items c.grown_leaf.ensures
 
 pub returns-in_ok-replaced-in-Inner : goal.returns-in_ok-replaced-in-Inner
 returns-in_ok-replaced-in-Inner t c =

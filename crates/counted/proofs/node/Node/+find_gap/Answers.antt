@@ -53,9 +53,9 @@ returns-in-Inner-clause-gap g t c =
     let e = ap (λ v. v.items) c.deref-in-Inner-2.ensures ∙ ap items_of c.index.ensures in
     let is = rw c.deref-in-Inner-3.ensures.value at c.among.ensures.index in
     let own = gap_moved after _ _ _ _ _ _ m (omega (arith, ints)) (omega (arith, ints)) e c.find_gap-found.ensures.gap in
-    let first = λ (x : Entry). sym (get_or_from_slice_get (items_of (get_or cs i d)) 0 (get_or cs i d).head.value x (at.each.each i d within).head) in
-    let next = λ (x : Entry) (lt : i + 1 < length cs). sym (get_or_from_slice_get (items_of (get_or cs (i + 1) d)) 0 (get_or cs (i + 1) d).head.value x (at.each.each (i + 1) d lt).head) in
+    let first = λ (x : Entry). sym (get_or_from_slice_get (items_of (get_or cs i d)) 0 (get_or cs i d).head x (at.each.each i d within).head) in
+    let next = λ (x : Entry) (lt : i + 1 < length cs). sym (get_or_from_slice_get (items_of (get_or cs (i + 1) d)) 0 (get_or cs (i + 1) d).head x (at.each.each (i + 1) d lt).head) in
     let all = gap_in_child after c.args.rid cs i d m c.args.shift c.child_at_gap-index.result.1 at.each within (omega (arith, ints))
-    (λ x some. leads_moved after (to_z w64 (of_z w64 c.args.rid)) c.args.rid (get_or cs i d).head.value (get_or (items_of (get_or cs i d)) 0 x) up up (omega (arith, ints)) (first x) refl (low some))
-    (λ x lt. follows_moved after (to_z w64 (of_z w64 c.args.rid)) c.args.rid (get_or cs (i + 1) d).head.value (get_or (items_of (get_or cs (i + 1) d)) 0 x) ((get_or cs i d).net +ℤ up) ((get_or cs i d).net +ℤ up) (omega (arith, ints)) (next x lt) refl (high lt)) own in
+    (λ x some. leads_moved after (to_z w64 (of_z w64 c.args.rid)) c.args.rid (get_or cs i d).head (get_or (items_of (get_or cs i d)) 0 x) up up (omega (arith, ints)) (first x) refl (low some))
+    (λ x lt. follows_moved after (to_z w64 (of_z w64 c.args.rid)) c.args.rid (get_or cs (i + 1) d).head (get_or (items_of (get_or cs (i + 1) d)) 0 x) ((get_or cs i d).net +ℤ up) ((get_or cs i d).net +ℤ up) (omega (arith, ints)) (next x lt) refl (high lt)) own in
     subst (λ (es : List Entry). IsGap after c.args.rid c.args.shift es c.among.result.index) (sym at.items) (subst (λ (n : ℕ). IsGap after c.args.rid c.args.shift (all_items cs) n) (sym is) all)

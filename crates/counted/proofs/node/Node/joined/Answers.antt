@@ -1,7 +1,5 @@
 use Rattle.std.proofs.Common.{◌≡◌, ◌+◌, ◌≤◌, ◌++◌, length, refl, ap, sym, ◌∙◌, subst, arith, length-append}
-use Rattle.counted.specs.Edits.{values_of}
 use Rattle.counted.specs.Shapes.{AreChildren, all_items, depth_of}
-use Rattle.counted.proofs.Totals.{length-values}
 use Rattle.counted.proofs.Places.{at_inner, at_leaf, deep_children, regrown, depth_all, grown_result_same}
 use Rattle.counted.proofs.node.Node.joined.Goals as goal
 
@@ -29,12 +27,12 @@ pub returns-in_ok-both_leaves-in-Leaf-body : goal.returns-in_ok-both_leaves-in-L
 returns-in_ok-both_leaves-in-Leaf-body c =
     let one = at_leaf c.self.view_is c.self.invariant c.in-Leaf.is in
     let two = at_leaf c.right.view_is c.right.invariant c.in-Leaf-body.is in
-    let left : values_of c.deref.result.now ≡ c.args.self.now.items = ap values_of c.deref.ensures.value ∙ sym one.items in
-    let right : values_of c.deref-in-Leaf-body.result.now ≡ c.args.right.now.items = ap values_of c.deref-in-Leaf-body.ensures.value ∙ sym two.items in
+    let left : c.deref.result.now ≡ c.args.self.now.items = c.deref.ensures.value ∙ sym one.items in
+    let right : c.deref-in-Leaf-body.result.now ≡ c.args.right.now.items = c.deref-in-Leaf-body.ensures.value ∙ sym two.items in
     let new = c.in_ok-both_leaves-in-Leaf-body.field-0.items in
-    let same : values_of new ≡ c.args.self.now.items ++ c.args.right.now.items = c.in_ok-both_leaves-in-Leaf-body.ensures ∙ ap (λ xs. xs ++ values_of c.deref-in-Leaf-body.result.now) left ∙ ap (λ xs. c.args.self.now.items ++ xs) right in
+    let same : new ≡ c.args.self.now.items ++ c.args.right.now.items = c.in_ok-both_leaves-in-Leaf-body.ensures ∙ ap (λ xs. xs ++ c.deref-in-Leaf-body.result.now) left ∙ ap (λ xs. c.args.self.now.items ++ xs) right in
     let long = ap length same in
-    let wide : 8 ≤ length new = omega (arith, c.requires.enough, one.width, two.width, ap length one.items, ap length two.items, length-values new, length-values c.in-Leaf.one.items, length-values c.in-Leaf-body.two.items, length-append c.args.self.now.items c.args.right.now.items) in
+    let wide : 8 ≤ length new = omega (arith, c.requires.enough, one.width, two.width, ap length one.items, ap length two.items, length-append c.args.self.now.items c.args.right.now.items) in
     grown_result_same _ _ _ _ _ _ _ (sym one.depth) wide same c.grown_leaf.ensures
 
 pub returns-in_ok-both_inner-in-Inner-body-2 : goal.returns-in_ok-both_inner-in-Inner-body-2

@@ -1,11 +1,9 @@
-use Rattle.std.proofs.Common.{Global, length, ap, ◌∙◌, arith}
-use Rattle.std.specs.declared.sync.Arc.{Arc}
-use Rattle.model.specs.declared.entry.Entry.{Entry}
+use Rattle.std.proofs.Common.{length, ap, arith}
 use Rattle.counted.proofs.Leaves.{entry_at, no_entry_at}
 use Rattle.counted.proofs.tree.CountedTree.entry.Goals as goal
 
 pub returns-then-at-self : goal.returns-then-at-self
-returns-then-at-self c = entry_at c.args.self.now.entries c.args.at c.leaf_from.result.now c.deref.result.now c.index-leaf_from-0.result c.leaf_from.ensures.some (c.deref.ensures ∙ ap (λ (a : Arc Entry Global). a.value) c.index-leaf_from-0.is) c.leaf_from.ensures.rest
+returns-then-at-self c = entry_at c.args.self.now.entries c.args.at c.leaf_from.result.now _ c.index-leaf_from-0.result c.leaf_from.ensures.some c.index-leaf_from-0.is c.leaf_from.ensures.rest
 
 pub returns-else-at-self : goal.returns-else-at-self
 returns-else-at-self c =

@@ -1,4 +1,4 @@
-use Rattle.std.proofs.Common.{◌≡◌, ◌∙◌, suc, ◌+◌, ◌<◌, Some, T, take, sym, ap, subst, arith}
+use Rattle.std.proofs.Common.{◌≡◌, ◌∙◌, suc, ◌<◌, Some, T, take, sym, ap, subst, arith}
 use Rattle.std.specs.Prelude.{slice_get}
 use Rattle.std.specs.List.{list_all}
 use Rattle.std.specs.Option.{option_copied}
@@ -14,7 +14,7 @@ loop-entry-preserved c =
     let inv = c.loop-entry.invariant in
     let x = c.in-Some.entry.now in
     let at = sym c.next_entry.ensures ∙ ap option_copied c.in-Some.is in
-    let same : x.sid ≡ old.sid = omega (arith, c.if-entry-sid.false, c.sid.ensures, inv.sid) in
+    let same : x.sid ≡ old.sid = omega (arith, c.if-sid.false, c.sid.ensures, c.sid-in-Some.ensures, inv.sid) in
     let below : x.sid < suc old.sid = omega (arith, same) in
     let next = c.advance.ensures in
     record {
@@ -30,14 +30,14 @@ loop-entry-preserved c =
           subst (λ n. T (list_all (is_past (suc old.sid)) (take n old.tree.entries))) (sym (ap (λ (v : TreeCursor). v.index) next)) passed;
     }
 
-pub returns-then-entry-sid-clause-rest : goal.returns-then-entry-sid-clause-rest
-returns-then-entry-sid-clause-rest c =
+pub returns-then-sid-clause-rest : goal.returns-then-sid-clause-rest
+returns-then-sid-clause-rest c =
     let old = c.args.self.now in
     let here = c.loop-entry.self in
     let inv = c.loop-entry.invariant in
     let x = c.in-Some.entry.now in
     let at = sym c.next_entry.ensures ∙ ap option_copied c.in-Some.is in
-    let other : x.sid ≡ old.sid → ⊥ = λ e. c.if-entry-sid.true (e ∙ sym inv.sid ∙ sym c.sid.ensures) in
+    let other : x.sid ≡ old.sid → ⊥ = λ e. c.if-sid.true (c.sid.ensures ∙ e ∙ sym inv.sid ∙ sym c.sid-in-Some.ensures) in
     sym (entries_past-other old.sid here.index here.tree.entries x at other) ∙ inv.rest
 
 pub returns-in_default-clause-rest : goal.returns-in_default-clause-rest

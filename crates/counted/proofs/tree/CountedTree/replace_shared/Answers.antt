@@ -1,7 +1,7 @@
 use Rattle.std.proofs.Common.{◌+◌, [], ap, ◌∙◌, arith}
 use Rattle.counted.specs.Edits.{edited}
 use Rattle.counted.proofs.Runs.{run_step}
-use Rattle.counted.proofs.tree.CountedTree.replace_run.Goals as goal
+use Rattle.counted.proofs.tree.CountedTree.replace_shared.Goals as goal
 
 pub loop-preserved : goal.loop-preserved
 loop-preserved c = record {

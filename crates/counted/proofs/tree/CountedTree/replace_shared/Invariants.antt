@@ -1,5 +1,5 @@
 use Rattle.std.proofs.Common.{◌≡◌, ◌+◌, ◌≤◌, ◌∷◌, ◌++◌, take, drop}
-use Rattle.counted.proofs.tree.CountedTree.replace_run.Given as goal
+use Rattle.counted.proofs.tree.CountedTree.replace_shared.Given as goal
 
 -- the entries of the run so far are gone but for the new one
 abbrev pub invariant-loop : goal.invariant-loop
