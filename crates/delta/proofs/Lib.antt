@@ -15,4 +15,5 @@ mod CountedLemmas
 mod SpotLemmas
 mod KeyPlaceLemmas
 mod RowCountLemmas
+mod ByPlaceLemmas
 pub mod CallerLemmas

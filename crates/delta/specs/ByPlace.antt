@@ -1,0 +1,18 @@
+-- What the entry at the place of a key makes of the base row at its SID.
+use Rattle.std.specs.Prelude.{ℕ, ◌==◌, cond, Option, Some, None}
+use Rattle.model.specs.declared.entry.Entry.{Entry}
+use Rattle.model.specs.declared.entry.Change.{Change}
+use Rattle.model.specs.declared.entry.Change.TheVariants.{Ins, Del, Mod}
+use Rattle.delta.specs.declared.by_place.BaseChange.{BaseChange}
+use Rattle.delta.specs.declared.by_place.BaseChange.TheVariants.{Kept, Modified, Deleted}
+
+-- what a change at its SID makes of the base row
+abbrev pub made_of_base : Change → BaseChange
+made_of_base (Ins row) = Kept
+made_of_base (Del key) = Deleted
+made_of_base (Mod col value) = Modified
+
+-- what an entry does, if there is one
+abbrev pub base_change : ℕ → Option Entry → BaseChange
+base_change sid None = Kept
+base_change sid (Some e) = cond (e.sid == sid) (made_of_base e.change) Kept
