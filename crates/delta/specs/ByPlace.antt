@@ -1,5 +1,5 @@
 -- What the entry at the place of a key makes of the base row at its SID.
-use Rattle.std.specs.Prelude.{ℕ, ◌==◌, cond, Option, Some, None}
+use Rattle.std.specs.Prelude.{ℕ, ◌==◌, Bool, true, false, cond, Option, Some, None}
 use Rattle.model.specs.declared.entry.Entry.{Entry}
 use Rattle.model.specs.declared.entry.Change.{Change}
 use Rattle.model.specs.declared.entry.Change.TheVariants.{Ins, Del, Mod}
@@ -7,6 +7,12 @@ use Rattle.model.specs.declared.effect.Effect.{Effect}
 use Rattle.model.specs.declared.effect.Effect.TheVariants as effect
 use Rattle.delta.specs.declared.by_place.BaseChange.{BaseChange}
 use Rattle.delta.specs.declared.by_place.BaseChange.TheVariants.{Kept, Modified, Deleted}
+
+-- whether it goes
+abbrev pub is_deleted : BaseChange → Bool
+is_deleted Kept = false
+is_deleted Modified = false
+is_deleted Deleted = true
 
 -- what a change at its SID makes of the base row
 abbrev pub made_of_base : Change → BaseChange

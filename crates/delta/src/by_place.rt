@@ -1,13 +1,13 @@
 //! The place of a key at a SID with what stands there, and the changes of an insert by its place: a caller who looks a key up
 //! and then changes its row searches once.
-ghost use Rattle.std.specs.Prelude.{◌≡◌, ◌<◌, ◌≤◌, ◌^◌, IsNone, OnOk, OnErr, length, take, slice_get};
+ghost use Rattle.std.specs.Prelude.{◌≡◌, ◌<◌, ◌≤◌, ◌^◌, ◌&&◌, ◌||◌, not, is_some, IsNone, OnOk, OnErr, length, take, slice_get};
 ghost use Rattle.std.specs.Option.{option_copied};
 ghost use Rattle.values.specs.Shape.{key_of};
 ghost use Rattle.model.specs.Edits.{put_ins};
 ghost use Rattle.model.specs.Places.{rid_of_insert};
 ghost use Rattle.delta.specs.Lookups.{inserted_row};
 ghost use Rattle.delta.specs.Search.{insert_cmp, stands_before, IsSplit};
-ghost use Rattle.delta.specs.ByPlace.{base_change};
+ghost use Rattle.delta.specs.ByPlace.{base_change, is_deleted};
 ghost use Rattle.delta.specs.declared.by_place.BaseChange.TheVariants.{Modified};
 
 use crate::places::moved;
@@ -37,6 +37,18 @@ pub struct KeyPlace<'a> {
     /// By the entry that stands there, what becomes of the base row. Where that has the key, so that no insert of a
     /// greater one stands before its changes, this is all that becomes of it.
     pub base: BaseChange,
+}
+
+impl<'a> KeyPlace<'a> {
+    /// Whether the image has the key, from whether the rows below the tree have it.
+    pub fn is_there(&self, is_below: bool) -> bool
+        ensures { result ≡ (is_some (option_copied self.now.row) || (is_below && not (is_deleted self.now.base))) }
+    {
+        match self.row {
+            Some(_) => true,
+            None => is_below && !is_deleted(self.base),
+        }
+    }
 }
 
 impl DeltaTree {
@@ -75,6 +87,16 @@ impl DeltaTree {
         self.tree
             .replace_run(self.alloc, at, at, Entry { sid, change })?;
         Ok(())
+    }
+}
+
+/// Whether the base row goes.
+fn is_deleted(base: BaseChange) -> bool
+    ensures { result ≡ is_deleted base }
+{
+    match base {
+        BaseChange::Kept | BaseChange::Modified => false,
+        BaseChange::Deleted => true,
     }
 }
 
