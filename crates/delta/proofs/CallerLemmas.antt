@@ -1,4 +1,5 @@
 -- What the crates above cite of this one, in one place. Declares nothing.
+pub use Rattle.delta.proofs.ByPlaceLemmas.{base_change-effect}
 pub use Rattle.delta.proofs.ChangesLemmas.{HasInsert, filter_all, filter_none, has_insert, nothing}
 pub use Rattle.delta.proofs.CountLemmas.{counts-le, delete_count-append, delete_count-cons, delete_worth}
 pub use Rattle.delta.proofs.CountLemmas.{insert_count-append, insert_count-cons, insert_worth}

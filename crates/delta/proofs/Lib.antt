@@ -16,4 +16,5 @@ mod CountedLemmas
 mod SpotLemmas
 mod KeyPlaceLemmas
 mod RowCountLemmas
+mod ByPlaceLemmas
 pub mod CallerLemmas

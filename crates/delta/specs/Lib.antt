@@ -5,3 +5,4 @@ pub mod Positions
 pub mod Changes
 pub mod Laws
 pub mod Depth
+pub mod ByPlace

@@ -186,7 +186,7 @@ fn deletes_below(key: &[Value], change: &Change) -> bool
 }
 
 /// A position, moved up by so much, or down.
-fn moved(position: u64, by: i64) -> u64
+pub(crate) fn moved(position: u64, by: i64) -> u64
     requires small { position < 2 ^ 63 }
     requires above { by ≤ℤ pos (2 ^ 61) }
     requires below { pos 0 ≤ℤ (by +ℤ pos (2 ^ 61)) }

@@ -10,4 +10,5 @@ mod RangeLemmas
 mod StretchLemmas
 mod KeyLemmas
 mod TableLemmas
+mod KeyRowLemmas
 pub mod CallerLemmas

@@ -5,3 +5,4 @@ pub mod Cursor
 pub mod Stretches
 pub mod Left
 pub mod Fitting
+pub mod KeyRow

@@ -6,6 +6,7 @@ ghost use Rattle.merge.specs.Image.{image_rows, image_table};
 ghost use Rattle.merge.specs.View.{row_of};
 
 use crate::cursor::Cursor;
+use crate::key_row::{find_in, find_over};
 use crate::level::{Image, Level, Rows, StableRows, grown, locate_over};
 use crate::scan::{MergeScan, Stretches};
 use crate::view::{Layer, RowView};
@@ -99,6 +100,18 @@ impl<'a> Layers<'a> {
         }
     }
 
+    /// The row of a key, lent, where there is one: by halving in the stable table and one descent in each tree. No memory is
+    /// taken.
+    pub fn get(&self, key: &Key) -> Option<RowView<'a>>
+        ensures { option_map row_of result ≡ row_at (image_table self.now) key.now }
+    {
+        let cells = key.cells();
+        let in_stable = find_in(self.stable, self.trans, cells);
+        let in_read = find_over(self.read, Layer::Read, in_stable, cells);
+        let in_write = find_over(self.write, Layer::Write, in_read, cells);
+        find_over(self.trans, Layer::Trans, in_write, cells).row
+    }
+
     /// The stretches of the rows from one position up to another, and without that; both are cut to the length of the image.
     pub fn stretches(&self, from: u64, to: u64) -> Stretches<'a>
         ensures { result ≡ drop from (take to (image_rows self.now)) }
@@ -116,8 +129,8 @@ impl<'a> Layers<'a> {
         MergeScan::new(self.stable, self.stretches(from, to), self.trans)
     }
 
-    /// How many rows have a key below this one, and whether a row has the key: by halving in the stable table and a few
-    /// descents in each tree. No memory is taken.
+    /// How many rows have a key below this one, and whether a row has the key: by halving in the stable table and one descent
+    /// in each tree. No memory is taken.
     pub fn rank(&self, key: &Key) -> (u64, bool)
         ensures rank { result.0 ≡ rank key.now (image_table self.now) }
         ensures there { result.1 ≡ is_some (row_at (image_table self.now) key.now) }

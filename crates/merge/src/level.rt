@@ -134,7 +134,7 @@ pub fn grown(count: u64, tree: &DeltaTree) -> u64
 }
 
 /// How many keys of the image of a tree are below this one, and whether the image has it, from those of the rows below
-/// the tree.
+/// the tree. One descent.
 pub(crate) fn locate_over(tree: &DeltaTree, below: (u64, bool), key: &[Value]) -> (u64, bool)
     requires { below.0 < 2 ^ 63 }
     ensures rank { (schema : Columns) (t : Table) (layer : IsLayer schema t tree.now) → below.0 ≡ rank key.now t → result.0 ≡ rank key.now (table_with t layer.effects) }
@@ -142,9 +142,6 @@ pub(crate) fn locate_over(tree: &DeltaTree, below: (u64, bool), key: &[Value]) -
         → result.1 ≡ is_some (row_at (table_with t layer.effects) key.now) }
 {
     let (sid, is_below) = below;
-    let index = tree.find_key(sid, key);
-    (
-        index.rid,
-        index.found || (is_below && !tree.has_delete(sid)),
-    )
+    let place = tree.find_place(sid, key);
+    (place.rid, place.is_there(is_below))
 }

@@ -11,7 +11,9 @@ ghost use Rattle.delta.specs.Lookups.{inserted_row};
 
 mod bulk;
 mod depths;
+mod lists;
 mod places;
+mod removals;
 
 use crate::assertions::assert_text;
 use delta::DeltaTree;
@@ -26,8 +28,8 @@ fn put_ins(rt: &impl Abort, tree: &mut DeltaTree, sid: u64, row: Row) -> Result<
     requires keyed { tree.old.key_cols ≡ 1 }
     ensures keyed { tree.new.key_cols ≡ 1 }
 {
-    assert!(rt; sid < 100);
-    assert!(rt; tree.len() < 100);
+    assert!(rt; sid < 100_000);
+    assert!(rt; tree.len() < 100_000);
     assert!(rt; tree.find_insert(sid, row.key(1)).is_none());
     tree.put_ins(sid, row)
 }
@@ -37,8 +39,8 @@ fn put_del(rt: &impl Abort, tree: &mut DeltaTree, sid: u64, key: Key) -> Result<
     requires keyed { tree.old.key_cols ≡ 1 }
     ensures keyed { tree.new.key_cols ≡ 1 }
 {
-    assert!(rt; sid < 100);
-    assert!(rt; tree.len() < 100);
+    assert!(rt; sid < 100_000);
+    assert!(rt; tree.len() < 100_000);
     assert!(rt; !tree.has_delete(sid));
     tree.put_del(sid, key)
 }
@@ -54,8 +56,8 @@ fn put_mod(
     requires keyed { tree.old.key_cols ≡ 1 }
     ensures keyed { tree.new.key_cols ≡ 1 }
 {
-    assert!(rt; sid < 100);
-    assert!(rt; tree.len() < 100);
+    assert!(rt; sid < 100_000);
+    assert!(rt; tree.len() < 100_000);
     assert!(rt; !tree.has_delete(sid));
     tree.put_mod(sid, col, value)
 }

@@ -6,7 +6,7 @@ use std::process::Abort;
 use std::test::Fail;
 use values::{Row, Value};
 
-fn entry(alloc: Global, key: u32) -> Result<Entry, AllocError> {
+pub(super) fn entry(alloc: Global, key: u32) -> Result<Entry, AllocError> {
     let mut cells = Vec::with_capacity(alloc, 1)?;
     cells.push(Value::Int(i64::from(key)))?;
     Ok(Entry {

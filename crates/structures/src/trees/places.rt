@@ -16,7 +16,7 @@ const MOST: u64 = 9_223_372_036_854_775_807;
 
 /// A SID and the number of a key; how many entries stand before its insert there, at which position that stands or would
 /// stand, and whether it is there.
-type KeyCase = (u64, i64, usize, u64, bool);
+pub(super) type KeyCase = (u64, i64, usize, u64, bool);
 
 /// Inserts (15, Flo, 5) and deletes 30: the image has the keys 10, 15 and 20.
 const READ: [(Step, &str); 2] = [
@@ -52,7 +52,7 @@ const MIXED: [(Step, &str); 5] = [
 ];
 
 /// A tree of the same entries, made from copies of them.
-fn made_again(alloc: Global, tree: &DeltaTree) -> Result<DeltaTree, NoMemory>
+pub(super) fn made_again(alloc: Global, tree: &DeltaTree) -> Result<DeltaTree, NoMemory>
     requires keyed { tree.now.key_cols ≡ 1 }
 {
     let mut entries = Vec::with_capacity(alloc, tree.len())?;
@@ -151,7 +151,7 @@ fn an_entry_is_found_by_its_place(rt: HostRuntime) -> Result<(), Fail> {
     };
     for (index, sid) in &CASES {
         assert!(rt;
-            tree.entry(*index).map(|entry| entry.sid) == *sid,
+            tree.entry(*index).map(|entry| entry.sid()) == *sid,
             "at {index}"
         );
     }
@@ -197,7 +197,7 @@ fn a_copy_and_a_tree_made_again_have_the_same_entries(rt: HostRuntime) -> Result
 }
 
 /// That a tree finds a key at a SID so.
-fn assert_key(
+pub(super) fn assert_key(
     rt: &impl Abort,
     alloc: Global,
     tree: &DeltaTree,

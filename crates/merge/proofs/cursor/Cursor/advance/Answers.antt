@@ -1,4 +1,4 @@
-use Rattle.std.proofs.Common.{◌≡◌, ◌+◌, ◌<◌, ◌^◌, length, ap, arith}
+use Rattle.std.proofs.Common.{◌≡◌, ◌+◌, ap, arith}
 use Rattle.merge.specs.Cursor.{TreeCursor}
 use Rattle.merge.proofs.CursorLemmas.{next_is}
 use Rattle.merge.proofs.cursor.Cursor.advance.Goals as goal

@@ -1,4 +1,4 @@
-use Rattle.std.proofs.Common.{◌≡◌, suc, ◌-◌, T, drop, take, length}
+use Rattle.std.proofs.Common.{◌≡◌, suc, ◌-◌, T, take, length}
 use Rattle.std.specs.List.{list_all}
 use Rattle.merge.specs.Cursor.{entries_left, entries_past, is_past}
 use Rattle.merge.proofs.cursor.Cursor.pass_row_entries.Given as goal

@@ -1,0 +1,116 @@
+//! The place of a key at a SID with what stands there, and the changes of an insert by its place: a caller who looks a key up
+//! and then changes its row searches once.
+ghost use Rattle.std.specs.Prelude.{◌≡◌, ◌<◌, ◌≤◌, ◌^◌, ◌&&◌, ◌||◌, not, is_some, IsNone, OnOk, OnErr, length, take, slice_get};
+ghost use Rattle.std.specs.Option.{option_copied};
+ghost use Rattle.values.specs.Shape.{key_of};
+ghost use Rattle.model.specs.Edits.{put_ins};
+ghost use Rattle.model.specs.Places.{rid_of_insert};
+ghost use Rattle.delta.specs.Lookups.{inserted_row};
+ghost use Rattle.delta.specs.Search.{insert_cmp, stands_before, IsSplit};
+ghost use Rattle.delta.specs.ByPlace.{base_change, is_deleted};
+ghost use Rattle.delta.specs.declared.by_place.BaseChange.TheVariants.{Modified};
+
+use crate::places::moved;
+use crate::tree::DeltaTree;
+use counted::SharedEntry;
+use model::{Change, Entry};
+use values::{NoMemory, Row, Value};
+
+/// What becomes of the base row at a SID.
+#[derive(Clone, Copy, Debug, PartialEq, Eq)]
+pub enum BaseChange {
+    /// It stays as it is.
+    Kept,
+    /// It has other cells.
+    Modified,
+    Deleted,
+}
+
+/// The place of the insert of a key at a SID, and what stands there.
+#[derive(Clone, Copy)]
+pub struct KeyPlace<'a> {
+    /// How many entries stand before it.
+    pub index: usize,
+    /// The position of its row in the image.
+    pub rid: u64,
+    /// The row that is inserted with the key, if there is one.
+    pub row: Option<&'a Row>,
+    /// By the entry that stands there, what becomes of the base row. Where that has the key, so that no insert of a
+    /// greater one stands before its changes, this is all that becomes of it.
+    pub base: BaseChange,
+}
+
+impl<'a> KeyPlace<'a> {
+    /// Whether the image has the key, from whether the rows below the tree have it.
+    pub fn is_there(&self, is_below: bool) -> bool
+        ensures { result ≡ (is_some (option_copied self.now.row) || (is_below && not (is_deleted self.now.base))) }
+    {
+        match self.row {
+            Some(_) => true,
+            None => is_below && !is_deleted(self.base),
+        }
+    }
+}
+
+impl DeltaTree {
+    /// Where the insert of a key stands at a SID, or would stand, and what stands there. One descent; it takes no memory.
+    pub fn find_place(&self, sid: u64, key: &[Value]) -> KeyPlace<'_>
+        requires { sid < 2 ^ 63 }
+        ensures split { IsSplit (stands_before (insert_cmp self.now.key_cols key.now) sid) self.now.entries result.index }
+        ensures rid { result.rid ≡ rid_of_insert (take result.index self.now.entries) sid }
+        ensures row { option_copied result.row ≡ inserted_row self.now.key_cols sid key.now self.now.entries }
+        ensures base { result.base ≡ base_change sid (slice_get self.now.entries result.index) }
+        ensures small { result.base ≡ Modified → sid < 2 ^ 32 }
+    {
+        let place = self.place_of_insert(sid, key);
+        KeyPlace {
+            index: place.index,
+            rid: moved(sid, place.shift),
+            row: self.insert_at(place, sid, key),
+            base: base_change(place.entry, sid),
+        }
+    }
+
+    /// Puts in an insert of the row at the place of its key, as a search has found it.
+    ///
+    /// # Errors
+    ///
+    /// `NoMemory` where a growth is refused: the tree is as it was, and the row is dropped.
+    pub fn put_at(&mut self, at: usize, sid: u64, row: Row) -> Result<(), NoMemory>
+        requires split { IsSplit (stands_before (insert_cmp self.old.key_cols (key_of self.old.key_cols row)) sid) self.old.entries at }
+        requires free { IsNone (inserted_row self.old.key_cols sid (key_of self.old.key_cols row) self.old.entries) }
+        requires sid { sid < 2 ^ 32 }
+        requires room { length (put_ins self.old.key_cols sid row self.old.entries) ≤ 2 ^ 40 }
+        ensures ok { OnOk result (self.new ≡ record self.old { entries = put_ins self.old.key_cols sid row self.old.entries }) }
+        ensures err { OnErr result (self.new ≡ self.old) }
+    {
+        let change = Change::Ins(row);
+        self.tree
+            .replace_run(self.alloc, at, at, Entry { sid, change })?;
+        Ok(())
+    }
+}
+
+/// Whether the base row goes.
+fn is_deleted(base: BaseChange) -> bool
+    ensures { result ≡ is_deleted base }
+{
+    match base {
+        BaseChange::Kept | BaseChange::Modified => false,
+        BaseChange::Deleted => true,
+    }
+}
+
+/// What the entry makes of the base row at the SID.
+fn base_change(there: Option<&SharedEntry>, sid: u64) -> BaseChange
+    ensures { result ≡ base_change sid (option_copied there.entry) }
+{
+    match there {
+        Some(entry) if entry.sid() == sid => match entry.change() {
+            Change::Ins(_) => BaseChange::Kept,
+            Change::Del(_) => BaseChange::Deleted,
+            Change::Mod(..) => BaseChange::Modified,
+        },
+        _ => BaseChange::Kept,
+    }
+}
