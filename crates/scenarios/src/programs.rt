@@ -1,5 +1,6 @@
 //! The program over the bytes of a table and of a script: what a run writes and hands on, and what is refused.
 mod clients;
+mod folds;
 mod long_run;
 mod outcomes;
 mod quotes;

@@ -92,3 +92,18 @@ fn commits_that_are_decided_are_counted(rt: HostRuntime) -> Result<(), Fail> {
     assert!(&rt; out.ends_with(b"\n\nid:int:key,name:text,qty:int\n10,Ann,1\n30,Cid,3\n"));
     Ok(())
 }
+
+#[test]
+fn records_that_cuts_hand_out_are_counted(rt: HostRuntime) -> Result<(), Fail> {
+    let script =
+        b"a,begin\na,commit\na,cut\na,begin\na,delete,20\na,commit\na,begin\na,commit\na,cut\na,begin\na,commit\n";
+    let outcome = outcome_of(rt.alloc(), script.as_slice())?;
+    assert_eq!(&rt; outcome.handed(), 3);
+    assert!(&rt; outcome.counts() == [4_u64].as_slice());
+    let manager = outcome.manager();
+    assert_eq!(&rt; manager.base(), 3);
+    assert_eq!(&rt; manager.made(), 4);
+    assert_eq!(&rt; manager.history().records().len(), 1);
+    assert_eq!(&rt; manager.version().number(), 4);
+    Ok(())
+}

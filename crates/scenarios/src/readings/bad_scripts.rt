@@ -50,7 +50,7 @@ const VERBS: [(&str, &[u8], ScriptFault); 6] = [
     ("an empty verb", b"a,\n", ScriptFault::BadVerb(1)),
     (
         "a verb that is not there yet",
-        b"a,begin\na,fold\n",
+        b"a,begin\na,checkpoint\n",
         ScriptFault::BadVerb(2),
     ),
     (
@@ -60,7 +60,12 @@ const VERBS: [(&str, &[u8], ScriptFault); 6] = [
     ),
 ];
 
-const COUNTS: [(&str, &[u8], ScriptFault); 6] = [
+const COUNTS: [(&str, &[u8], ScriptFault); 7] = [
+    (
+        "an argument to a fold",
+        b"a,fold,1\n",
+        ScriptFault::BadCount(1),
+    ),
     ("no key", b"a,delete\n", ScriptFault::BadCount(1)),
     ("two keys", b"a,delete,1,2\n", ScriptFault::BadCount(1)),
     (

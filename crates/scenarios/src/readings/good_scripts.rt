@@ -64,6 +64,8 @@ fn shown(alloc: Global, calls: &[ClientCall]) -> Result<String, Fail> {
             Call::Read(read) => write_read(&mut text, read)?,
             Call::Commit => text.push_str("commit")?,
             Call::Abort => text.push_str("abort")?,
+            Call::Fold => text.push_str("fold")?,
+            Call::Cut => text.push_str("cut")?,
         }
         text.push_str(";")?;
     }
@@ -91,9 +93,9 @@ const SCRIPTS: [(&str, &[u8], usize, &str); 7] = [
     ("no record", b"", 0, ""),
     (
         "verbs without arguments",
-        b"a,begin\na,commit\na,abort\n",
-        1,
-        "0 begin;0 commit;0 abort;",
+        b"a,begin\na,commit\na,abort\nb,fold\nb,cut\n",
+        2,
+        "0 begin;0 commit;0 abort;1 fold;1 cut;",
     ),
     (
         "an insert",
