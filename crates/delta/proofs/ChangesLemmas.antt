@@ -283,7 +283,7 @@ module _ (key_cols sid : ℕ) where
       modify_goes (Mod col value) f g = tt
 
   -- an entry before the base row's changes isn't past the SID
-  base_is_past : (y : Entry) → T (stands_before base_cmp sid y) → T (stands_before past_cmp sid y)
+  pub base_is_past : (y : Entry) → T (stands_before base_cmp sid y) → T (stands_before past_cmp sid y)
   base_is_past y h =
       elim (nat_cmp sid y.sid) as (λ r. T (is_gt (ordering_then r (base_cmp y.change))) → T (is_gt (ordering_then r Greater))) [
         | Less ↦ λ g. absurd g

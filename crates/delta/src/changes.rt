@@ -4,9 +4,10 @@ ghost use Rattle.std.specs.Option.{option_copied};
 ghost use Rattle.std.specs.List.{remove};
 ghost use Rattle.model.specs.declared.entry.Entry.{Entry};
 ghost use Rattle.values.specs.Shape.{key_of};
-ghost use Rattle.model.specs.Entries.{entry_at};
+ghost use Rattle.model.specs.Entries.{entry_at, IsLawful};
 ghost use Rattle.model.specs.Edits.{change_with_cell, put_ins, put_del, put_mod, take_ins, set_ins};
 ghost use Rattle.delta.specs.Lookups.{has_delete, inserted_row};
+ghost use Rattle.delta.specs.Search.{base_cmp, past_cmp, stands_before, IsSplit};
 ghost use Rattle.delta.specs.Changes.{is_modify_at, modify_count, has_cell, entries_with, MayBePut, IsRun};
 
 use crate::tree::{DeltaTree, copy_entry};
@@ -97,7 +98,10 @@ impl DeltaTree {
                 let index = self.index_of_insert(sid, row.key(self.key_cols));
                 (index, index)
             }
-            Change::Del(_) => (self.base_index(sid), self.index_past(sid)),
+            Change::Del(_) => {
+                let place = self.place_of_base(sid);
+                (place.index, self.end_of_row(place, sid))
+            }
             Change::Mod(col, _) => {
                 let place = self.place_of_modify(sid, *col);
                 (
@@ -169,6 +173,24 @@ impl DeltaTree {
         let entry = with_cell(self.tree.get(index), col, value)?;
         self.tree.replace_run(self.alloc, index, index + 1, entry)?;
         Ok(())
+    }
+
+    /// The end of the entries at the SID, where a search has found what becomes of the base row. It searches again only
+    /// where something does.
+    fn end_of_row(&self, place: Boundary<'_>, sid: u64) -> usize
+        requires lawful { IsLawful self.now.key_cols self.now.entries }
+        requires split { IsSplit (stands_before base_cmp sid) self.now.entries place.index }
+        requires entry { option_copied place.entry ≡ slice_get self.now.entries place.index }
+        ensures { IsSplit (stands_before past_cmp sid) self.now.entries result }
+    {
+        match place.entry {
+            Some(entry) => if entry.sid() == sid {
+                self.index_past(sid)
+            } else {
+                place.index
+            },
+            None => place.index,
+        }
     }
 
     /// How many of the entries from a place on are the modify of this column at the SID: one or none.

@@ -25,7 +25,7 @@ returns-in-Ins-clause-run c =
 pub returns-in-Del-clause-range : goal.returns-in-Del-clause-range
 returns-in-Del-clause-range c =
     let t = c.args.self.now in
-    base-le-past t.key_cols c.sid-sid.result t.entries _ _ c.base_index.ensures c.index_past.ensures
+    base-le-past t.key_cols c.sid-sid.result t.entries _ _ c.place_of_base-place.ensures.split c.end_of_row.ensures
 
 pub returns-in-Mod-clause-run : goal.returns-in-Mod-clause-run
 returns-in-Mod-clause-run c =
