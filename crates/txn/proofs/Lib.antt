@@ -1,4 +1,5 @@
 mod ReadsLemmas
 mod TxnLemmas
+mod EditLemmas
 mod VersionLemmas
 pub mod CallerLemmas

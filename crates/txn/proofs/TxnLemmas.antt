@@ -1,5 +1,5 @@
 -- What a transaction's type keeps, write by write.
-use Rattle.std.proofs.Common.{◌≡◌, ℕ, ◌+◌, ◌^◌, ◌≤◌, Bool, true, false, cond, not, ◌&&◌, ◌||◌, T, Option, Some, None, is_some, List, [], ◌∷◌, ◌++◌, length, is_lt, refl, sym, ap, ◌∙◌, subst, arith}
+use Rattle.std.proofs.Common.{◌≡◌, ℕ, ◌^◌, ◌≤◌, Bool, true, false, cond, not, ◌&&◌, ◌||◌, T, Option, Some, None, is_some, List, [], ◌∷◌, ◌++◌, length, is_lt, refl, sym, ap, ◌∙◌, subst, arith}
 use Rattle.std.specs.Prelude.{IsTrue}
 use Rattle.std.specs.List.{list_all}
 use Rattle.std.proofs.lemmas.Float.{T_from_true}
@@ -16,17 +16,16 @@ use Rattle.model.specs.declared.write.Write.{Write}
 use Rattle.model.specs.declared.write.Write.TheVariants.{Insert, Delete, Set}
 use Rattle.model.specs.declared.write.WriteReply.{WriteReply}
 use Rattle.model.specs.Maps.{find, is_sorted}
-use Rattle.model.specs.Table.{Table, row_at, rank, is_keyed_table}
+use Rattle.model.specs.Table.{Table, rank, is_keyed_table}
 use Rattle.model.specs.Effects.{Effects, fits, row_after, all_fit, are_keyed_effects, table_with, AreOver}
 use Rattle.model.specs.Writes.{write_fits_schema, key_of_write, reply_where, reply_to, is_done, effects_after, replies_to, effects_after_all}
-use Rattle.model.specs.Entries.{canonical_entries}
-use Rattle.model.specs.Places.{insert_count, delete_count}
+use Rattle.model.specs.Entries.{are_ordered, canonical_entries}
 use Rattle.model.specs.Edits.{edited_entries}
-use Rattle.model.proofs.CallerLemmas.{both, first, second, changed_by, holds_at, all_keep, keeps, edits, row_at-table_with, fits_at_key, length-effects_after}
+use Rattle.model.proofs.CallerLemmas.{both, first, second, changed_by, holds_at, all_keep, keeps, edits, length-effects_after, ordered-canonical_entries}
+use Rattle.delta.specs.Search.{insert_cmp, stands_before, IsSplit}
 use Rattle.delta.specs.Tree.{Tree}
-use Rattle.delta.specs.Lookups.{has_delete, inserted_row}
 use Rattle.delta.specs.Laws.{row_inserted, deletes_row, FindsEffect, MayEdit}
-use Rattle.delta.proofs.CallerLemmas.{finds_effect, may_call, counted, few}
+use Rattle.delta.proofs.CallerLemmas.{finds_effect, may_call, few}
 use Rattle.txn.specs.Edit.{edited, MayBeEdited}
 use Rattle.txn.specs.Txn.{Transaction, asked_of, answers_of, effects_of, image_of, entries_of, tree_of, IsTransaction, IsFound, with_write, answer_to}
 
@@ -135,21 +134,6 @@ module _ (txn : Transaction) (h : IsTransaction txn) where
     pub finds : FindsEffect txn.schema txn.table (effects_of txn) key
     finds = finds_effect txn.schema txn.table (effects_of txn) key over
 
-    pub there : is_some (row_at (image_of txn) key) ≡ (is_some (row_inserted (find key_cmp key (effects_of txn))) || (is_some (row_at txn.table key) && not (deletes_row (find key_cmp key (effects_of txn)))))
-    there = ap is_some (row_at-table_with txn.table (effects_of txn) key effects_sorted) ∙ presence (find key_cmp key (effects_of txn)) (row_at txn.table key) (fits_at_key txn.table (effects_of txn) effects_fit key)
-
-  -- what its look-ups find
-  pub found : (key : Key) (sid : ℕ) (there_now inserted : Bool) → sid ≡ rank key txn.table → inserted ≡ is_some (inserted_row txn.schema.key_cols sid key (entries_of txn))
-      → there_now ≡ (inserted || (is_some (row_at txn.table key) && not (has_delete sid (entries_of txn)))) → IsFound txn key sid there_now inserted
-  found key sid there_now inserted sid_is inserted_is there_is =
-      let told = inserted_is ∙ ap (λ n. is_some (inserted_row txn.schema.key_cols n key (entries_of txn))) sid_is ∙ ap is_some (finds key).insert in
-      let deleted = λ (b : is_some (row_at txn.table key) ≡ true). ap (λ n. has_delete n (entries_of txn)) sid_is ∙ (finds key).delete b in
-      record {
-        sid_is = sid_is;
-        there_is = there_is ∙ (λ i. told i || where_there (is_some (row_at txn.table key)) _ _ deleted i) ∙ sym (there key);
-        inserted_is = told;
-      }
-
   -- ---- one write more
 
   module _ (write : Write) (fits_it : IsTrue (write_fits_schema txn.schema write)) where
@@ -214,6 +198,19 @@ seen txn self view write columns key_cols key sid count there inserted reply fit
 
 rank-le : (key : Key) (t : Table) → rank key t ≤ length t
 rank-le key t = omega (arith, length-filter (λ e. is_lt (key_cmp e.0 key)) t, count_by-le-length (λ e. is_lt (key_cmp e.0 key)) t)
+
+-- its tree is in order, and what is found of a key's place is of it
+module _ (txn : Transaction) (h : IsTransaction txn) (tree : Tree) (tree_is : tree ≡ tree_of txn) where
+  pub tree_ordered : IsTrue (are_ordered tree.key_cols tree.entries)
+  tree_ordered = subst (λ (t : Tree). IsTrue (are_ordered t.key_cols t.entries)) (sym tree_is) (is_true _ (ordered-canonical_entries txn.schema.key_cols txn.table (effects_of txn) (T_from_true _ (over txn h).effects_are.keyed) (effects_fit txn h)))
+
+  pub tree_split : (self : Transaction) (view : txn ≡ self) (write : Write) (columns : Columns) (key_cols : ℕ) (key : Key) (sid n : ℕ) → columns ≡ self.schema → key_cols ≡ columns.key_cols → key ≡ key_of_write key_cols write
+      → IsSplit (stands_before (insert_cmp self.schema.key_cols key) sid) (entries_of self) n → IsSplit (stands_before (insert_cmp tree.key_cols (key_of_write tree.key_cols write)) sid) tree.entries n
+  tree_split self view write columns key_cols key sid n columns_are cols_is key_is split =
+      let same : key ≡ key_of_write self.schema.key_cols write = key_is ∙ ap (λ k. key_of_write k write) (cols_is ∙ ap (λ (t : Columns). t.key_cols) columns_are) in
+      subst (λ (t : Tree). IsSplit (stands_before (insert_cmp t.key_cols (key_of_write t.key_cols write)) sid) t.entries n) (sym tree_is)
+      (subst (λ (t : Transaction). IsSplit (stands_before (insert_cmp t.schema.key_cols (key_of_write t.schema.key_cols write)) sid) (entries_of t) n) (sym view)
+      (subst (λ (k : Key). IsSplit (stands_before (insert_cmp self.schema.key_cols k) sid) (entries_of self) n) same split))
 
 module _ (txn : Transaction) (h : IsTransaction txn) (tree : Tree) (tree_is : tree ≡ tree_of txn) (write : Write) (sid : ℕ) (inserted : Bool) (reply : WriteReply) (s : IsSeen txn write sid inserted reply) where
   pub seen_place : sid ≤ 2147483647

@@ -14,13 +14,11 @@ use values::{Key, NoMemory};
 impl Txn {
     ghost use Rattle.txn.specs.Txn.{image_of};
 
-    /// The row of a key, lent, where there is one.
+    /// The row of a key, lent, where there is one: by halving in the stable table and one descent in each tree.
     pub fn get(&self, key: &Key) -> Option<RowView<'_>>
         ensures { option_map row_of result ≡ row_at (image_of self.now) key.now }
     {
-        let layers = self.layers();
-        let (rid, there) = layers.rank(key);
-        if there { layers.row_at(rid) } else { None }
+        self.layers().get(key)
     }
 
     /// The row at a position, lent, or none past the end.

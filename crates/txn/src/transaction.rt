@@ -5,6 +5,7 @@ ghost use Rattle.values.specs.declared.limits.TheConstants.{MAX_ROWS};
 ghost use Rattle.model.specs.declared.write.Write.TheVariants as asked;
 ghost use Rattle.model.specs.Writes.{write_fits_schema};
 ghost use Rattle.model.specs.Table.{rows_of};
+ghost use Rattle.delta.specs.Search.{insert_cmp, stands_before, IsSplit};
 ghost use Rattle.txn.specs.Edit.{is_inserted, is_there};
 ghost use Rattle.merge.specs.Image.{image_rows, image_table};
 ghost use Rattle.txn.specs.declared.fault.WriteFault.TheVariants as write_fault;
@@ -48,7 +49,7 @@ impl Model for Txn {
 }
 
 impl Txn {
-    ghost use Rattle.txn.specs.Txn.{transaction_at, tree_of, image_of, IsTransaction, IsAnswered, IsFound};
+    ghost use Rattle.txn.specs.Txn.{transaction_at, entries_of, tree_of, image_of, IsTransaction, IsAnswered, IsFound};
 
     /// A transaction over the version, with no writes.
     ///
@@ -212,24 +213,18 @@ impl Txn {
         Ok(reply)
     }
 
-    /// What stands at a key.
+    /// What stands at a key. One descent in each tree.
     fn find(&self, key: &[Value]) -> Found
-        ensures { IsFound self.now key.now result.sid (is_there result.row) (is_inserted result.row) }
+        ensures found { IsFound self.now key.now result.sid (is_there result.row) (is_inserted result.row) }
+        ensures place { IsSplit (stands_before (insert_cmp self.now.schema.key_cols key.now) result.sid) (entries_of self.now) result.index }
     {
         let (sid, in_base) = self.version.locate(key);
-        if self.tree.find_insert(sid, key).is_some() {
-            return Found {
-                sid,
-                row: FoundRow::Inserted,
-            };
+        let place = self.tree.find_place(sid, key);
+        Found {
+            sid,
+            index: place.index,
+            row: FoundRow::at(&place, in_base),
         }
-        let is_kept = in_base && !self.tree.has_delete(sid);
-        let row = if is_kept {
-            FoundRow::Base
-        } else {
-            FoundRow::Absent
-        };
-        Found { sid, row }
     }
 
     /// How many rows the version's table has with its own writes. Takes no memory.

@@ -1,10 +1,14 @@
 //! The change of the tree that a write makes.
-ghost use Rattle.std.specs.Prelude.{◌≡◌, ◌≤◌, ◌^◌, cond, IsTrue, OnOk, OnErr, length};
+ghost use Rattle.std.specs.Prelude.{◌≡◌, ◌≤◌, ◌^◌, ◌&&◌, ◌||◌, not, cond, is_some, IsTrue, OnOk, OnErr, length};
+ghost use Rattle.std.specs.Option.{option_copied};
 ghost use Rattle.values.specs.declared.limits.TheConstants.{MAX_ROWS};
-ghost use Rattle.model.specs.Writes.{is_done};
+ghost use Rattle.model.specs.Entries.{are_ordered};
+ghost use Rattle.model.specs.Writes.{is_done, key_of_write};
+ghost use Rattle.delta.specs.ByPlace.{is_deleted};
+ghost use Rattle.delta.specs.Search.{insert_cmp, stands_before, IsSplit};
 ghost use Rattle.txn.specs.Edit.{edited, is_inserted, is_there, MayBeEdited};
 
-use delta::DeltaTree;
+use delta::{DeltaTree, KeyPlace};
 use model::{Write, WriteReply, is_done};
 use values::NoMemory;
 
@@ -13,6 +17,8 @@ use values::NoMemory;
 pub(crate) struct Found {
     /// How many keys of the version's table are below the key.
     pub(crate) sid: u64,
+    /// How many entries of the transaction's tree stand before an insert of the key.
+    pub(crate) index: usize,
     /// The row of the key in the transaction's image.
     pub(crate) row: FoundRow,
 }
@@ -29,6 +35,18 @@ pub(crate) enum FoundRow {
 }
 
 impl FoundRow {
+    /// What a key's place in the transaction's tree says of its row, from whether the version's table has the key.
+    pub(crate) fn at(place: &KeyPlace<'_>, in_base: bool) -> FoundRow
+        ensures there { is_there result ≡ (is_some (option_copied place.now.row) || (in_base && not (is_deleted place.now.base))) }
+        ensures inserted { is_inserted result ≡ is_some (option_copied place.now.row) }
+    {
+        match place.row {
+            Some(_) => FoundRow::Inserted,
+            None if place.is_there(in_base) => FoundRow::Base,
+            None => FoundRow::Absent,
+        }
+    }
+
     /// Whether there is one.
     pub(crate) fn is_there(self) -> bool
         ensures { result ≡ is_there self }
@@ -59,6 +77,8 @@ pub(crate) fn edit(
 ) -> Result<(), NoMemory>
     requires may { IsTrue (is_done reply) → MayBeEdited tree.old.key_cols found.sid (is_inserted found.row) write.now tree.old.entries }
     requires sid { found.sid ≤ MAX_ROWS }
+    requires ordered { IsTrue (are_ordered tree.old.key_cols tree.old.entries) }
+    requires place { IsSplit (stands_before (insert_cmp tree.old.key_cols (key_of_write tree.old.key_cols write.now)) found.sid) tree.old.entries found.index }
     requires room { IsTrue (is_done reply) → length (edited tree.old.key_cols found.sid (is_inserted found.row) write.now tree.old.entries) ≤ 2 ^ 40 }
     ensures ok { OnOk result (tree.new ≡ record tree.old { entries = cond (is_done reply) (edited tree.old.key_cols found.sid (is_inserted found.row) write.now tree.old.entries) tree.old.entries }) }
     ensures err { OnErr result (tree.new ≡ tree.old) }
@@ -66,13 +86,13 @@ pub(crate) fn edit(
     if !is_done(reply) {
         return Ok(());
     }
-    let sid = found.sid;
-    let inserted = found.row.is_inserted();
+    let Found { sid, index, row } = found;
+    let inserted = row.is_inserted();
     match write {
-        Write::Insert(row) => tree.put_ins(sid, row.copy()?),
-        Write::Delete(key) if inserted => tree.take_ins(sid, key),
+        Write::Insert(row) => tree.put_at(index, sid, row.copy()?),
+        Write::Delete(_) if inserted => tree.take_at(index),
         Write::Delete(key) => tree.put_del(sid, key.copy()?),
-        Write::Set(key, col, value) if inserted => tree.set_ins(sid, key, *col, value.copy()?),
+        Write::Set(_, col, value) if inserted => tree.set_at(index, *col, value.copy()?),
         Write::Set(_, col, value) => tree.put_mod(sid, *col, value.copy()?),
     }
 }

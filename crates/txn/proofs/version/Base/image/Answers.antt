@@ -1,5 +1,4 @@
-use Rattle.std.proofs.Common.{◌≡◌, ap, sym, ◌∙◌, subst}
-use Rattle.model.specs.Table.{rows_of}
+use Rattle.std.proofs.Common.{ap, sym, ◌∙◌, subst}
 use Rattle.model.proofs.CallerLemmas.{rows_of-table_of}
 use Rattle.delta.specs.Tree.{Tree}
 use Rattle.merge.specs.Image.{IsLayer, image_rows, stack_of}
