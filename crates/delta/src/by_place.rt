@@ -54,7 +54,7 @@ impl<'a> KeyPlace<'a> {
 
 impl DeltaTree {
     /// Where the insert of a key stands at a SID, or would stand, and what stands there. One descent; it takes no memory.
-    pub fn find_place(&self, sid: u64, key: &[Value]) -> KeyPlace<'_>
+    pub fn find_key(&self, sid: u64, key: &[Value]) -> KeyPlace<'_>
         requires { sid < 2 ^ 63 }
         ensures split { IsSplit (stands_before (insert_cmp self.now.key_cols key.now) sid) self.now.entries result.index }
         ensures rid { result.rid ≡ rid_of_insert (take result.index self.now.entries) sid }

@@ -1,14 +1,13 @@
 //! Positions in the image above: how far the entries move what stands at a SID, and what stands at a position.
-ghost use Rattle.std.specs.Prelude.{◌≡◌, ◌<◌, ◌≤◌, ◌^◌, ◌+ℤ◌, ◌≤ℤ◌, IsTrue, length, pos, is_some, take};
+ghost use Rattle.std.specs.Prelude.{◌≡◌, ◌<◌, ◌≤◌, ◌^◌, ◌+ℤ◌, ◌≤ℤ◌, IsTrue, length, pos, take};
 ghost use Rattle.std.specs.List.{All};
 ghost use Rattle.values.specs.Shape.{key_of};
 ghost use Rattle.model.specs.Entries.{change_cmp};
 ghost use Rattle.model.specs.Folding.{added_by, gone_by};
 ghost use Rattle.model.specs.Places.{rid_of_insert};
-ghost use Rattle.delta.specs.Lookups.{inserted_row};
 ghost use Rattle.delta.specs.Positions.{shift_before, IsAtRid, deletes_below, deletes_ascend, is_passed, gap_from};
 ghost use Rattle.delta.specs.Depth.{CountsEachLevel};
-ghost use Rattle.delta.specs.Search.{insert_cmp, stands_before, IsSplit};
+ghost use Rattle.delta.specs.Search.{stands_before, IsSplit};
 
 use crate::tree::DeltaTree;
 use counted::{Gap, Steps};
@@ -24,17 +23,6 @@ pub enum Place {
     Inserted(usize),
     /// The base row at this SID.
     Base(u64),
-}
-
-/// Where the insert of a key stands at a SID, or would stand.
-#[derive(Clone, Copy, Debug, PartialEq, Eq)]
-pub struct KeyIndex {
-    /// How many entries stand before it.
-    pub index: usize,
-    /// The position of its row in the image.
-    pub rid: u64,
-    /// Whether it is there.
-    pub found: bool,
 }
 
 /// Where a change stands at a SID, or would stand.
@@ -104,22 +92,6 @@ impl DeltaTree {
         ensures only { (place : Place) → IsAtRid self.now.entries rid place → place ≡ result }
     {
         find_uncounted::<Brand>(self, rid, Blank::new(1))
-    }
-
-    /// Where the insert of a key stands at a SID, or would stand, and the position of its row. One descent; it takes no
-    /// memory.
-    pub fn find_key(&self, sid: u64, key: &[Value]) -> KeyIndex
-        requires { sid < 2 ^ 63 }
-        ensures split { IsSplit (stands_before (insert_cmp self.now.key_cols key.now) sid) self.now.entries result.index }
-        ensures rid { result.rid ≡ rid_of_insert (take result.index self.now.entries) sid }
-        ensures found { result.found ≡ is_some (inserted_row self.now.key_cols sid key.now self.now.entries) }
-    {
-        let place = self.place_of_insert(sid, key);
-        KeyIndex {
-            index: place.index,
-            rid: moved(sid, place.shift),
-            found: self.insert_at(place, sid, key).is_some(),
-        }
     }
 
     /// Where a change stands at a SID, or would stand, and the position of its row: behind the inserts there, or of an

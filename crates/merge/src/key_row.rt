@@ -56,7 +56,7 @@ pub(crate) fn find_over<'a>(
         → option_map row_of result.row ≡ row_at (table_with t is.effects) key.now }
     ensures bare { IfSome result.row (IsBare (suc (layer_number layer))) }
 {
-    let place = tree.find_place(below.rank, key);
+    let place = tree.find_key(below.rank, key);
     KeyRow {
         rank: place.rid,
         row: row_over(tree, layer, below, place),

@@ -142,6 +142,6 @@ pub(crate) fn locate_over(tree: &DeltaTree, below: (u64, bool), key: &[Value]) -
         → result.1 ≡ is_some (row_at (table_with t layer.effects) key.now) }
 {
     let (sid, is_below) = below;
-    let place = tree.find_place(sid, key);
+    let place = tree.find_key(sid, key);
     (place.rid, place.is_there(is_below))
 }

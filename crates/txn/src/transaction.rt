@@ -219,7 +219,7 @@ impl Txn {
         ensures place { IsSplit (stands_before (insert_cmp self.now.schema.key_cols key.now) result.sid) (entries_of self.now) result.index }
     {
         let (sid, in_base) = self.version.locate(key);
-        let place = self.tree.find_place(sid, key);
+        let place = self.tree.find_key(sid, key);
         Found {
             sid,
             index: place.index,

@@ -4,7 +4,7 @@ ghost use Rattle.std.specs.Prelude.{◌≡◌};
 
 use super::changed;
 use crate::assertions::{assert_text, assert_text_at};
-use delta::{DeltaTree, KeyIndex, Place};
+use delta::{DeltaTree, Place};
 use fixtures::{Step, copy_entry, entries_text, key};
 use std::alloc::Global;
 use std::process::Abort;
@@ -206,9 +206,9 @@ pub(super) fn assert_key(
 ) -> Result<(), NoMemory> {
     assert!(rt; sid <= MOST);
     let key = key(alloc, id)?;
-    let there = KeyIndex { index, rid, found };
+    let there = tree.find_key(sid, key.cells());
     assert!(rt;
-        tree.find_key(sid, key.cells()) == there,
+        (there.index, there.rid, there.row.is_some()) == (index, rid, found),
         "{label}: {id} at {sid}"
     );
     Ok(())

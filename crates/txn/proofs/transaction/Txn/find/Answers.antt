@@ -11,8 +11,8 @@ use Rattle.txn.specs.Txn.{Transaction, transaction_at, entries_of, IsFound}
 use Rattle.txn.proofs.ReadsLemmas.{found}
 use Rattle.txn.proofs.transaction.Txn.find.Goals as goal
 
-pub find_place-place-requires : goal.find_place-place-requires
-find_place-place-requires c =
+pub find_key-place-requires : goal.find_key-place-requires
+find_key-place-requires c =
     let inside = c.self.inside in
     let h = c.self.invariant.0 in
     let limited : inside.row_limit ≤ 2147483647 = h.limited in
@@ -24,7 +24,7 @@ returns-clause-found c =
     let txn : Transaction = transaction_at inside.version inside.row_limit inside.client inside.writes.items in
     let key = c.args.key.now in
     let sid = c.locate-sid.result.0 in
-    let place = c.find_place-place in
+    let place = c.find_key-place in
     let tree_is = c.self.invariant.1 in
     let split = subst (λ (t : Tree). IsSplit (stands_before (insert_cmp t.key_cols key) sid) t.entries place.result.index) tree_is place.ensures.split in
     let inserted = ap is_some place.ensures.row ∙ ap (λ (t : Tree). is_some (inserted_row t.key_cols sid key t.entries)) tree_is in
@@ -39,6 +39,6 @@ pub returns-clause-place : goal.returns-clause-place
 returns-clause-place c =
     let key = c.args.key.now in
     let sid = c.locate-sid.result.0 in
-    let place = c.find_place-place in
+    let place = c.find_key-place in
     subst (λ (t : Transaction). IsSplit (stands_before (insert_cmp t.schema.key_cols key) sid) (entries_of t) place.result.index) c.self.view_is
     (subst (λ (t : Tree). IsSplit (stands_before (insert_cmp t.key_cols key) sid) t.entries place.result.index) c.self.invariant.1 place.ensures.split)
