@@ -22,6 +22,10 @@ use Rattle.model.proofs.WorkedTransactions.{id, item, base, keys}
 
 -- ---- effects on single keys
 
+-- the key of the base table is its first column
+abbrev key_cols : ℕ
+key_cols = 1
+
 abbrev new_row : ℕ → Row
 new_row n = item n [] 0
 
@@ -67,7 +71,8 @@ at_the_ghost_entries = refl
 at_the_ghost_keys : keys (table_with base at_the_ghost) ≡ id 10 ∷ id 16 ∷ id 20 ∷ id 30 ∷ []
 at_the_ghost_keys = refl
 
-serialize_passes_smaller_inserts_alone : rebased_entries 1 (canonical_entries base at_the_ghost) (canonical_entries base two_inserts) ≡ entry_at 1 (Ins (new_row 15)) ∷ entry_at 2 (Ins (new_row 18)) ∷ []
+serialize_passes_smaller_inserts_alone : rebased_entries key_cols (canonical_entries base at_the_ghost) (canonical_entries base two_inserts)
+    ≡ entry_at 1 (Ins (new_row 15)) ∷ entry_at 2 (Ins (new_row 18)) ∷ []
 serialize_passes_smaller_inserts_alone = refl
 
 serialized_entries_are_canonical : canonical_entries (table_with base at_the_ghost) two_inserts ≡ entry_at 1 (Ins (new_row 15)) ∷ entry_at 2 (Ins (new_row 18)) ∷ []
@@ -82,7 +87,7 @@ abbrev composed : Effects → Effects → List Entry
 composed x f = canonical_entries base (composed_effects x f)
 
 abbrev folded : Effects → Effects → List Entry
-folded x f = folded_entries 1 (canonical_entries base x) (canonical_entries (table_with base x) f)
+folded x f = folded_entries key_cols (canonical_entries base x) (canonical_entries (table_with base x) f)
 
 abbrev round_the_ghost : Effects
 round_the_ghost = (id 15, effect.Ins (new_row 15)) ∷ (id 25, effect.Ins (new_row 25)) ∷ []
@@ -132,10 +137,10 @@ folded_columns = refl
 -- ---- trees pass, or clash
 
 abbrev rebased : Effects → Effects → List Entry
-rebased x y = rebased_entries 1 (canonical_entries base y) (canonical_entries base x)
+rebased x y = rebased_entries key_cols (canonical_entries base y) (canonical_entries base x)
 
 abbrev clash : ConflictRule → Effects → Effects → Option Clash
-clash rule x y = first_clash rule 1 (canonical_entries base x) (canonical_entries base y)
+clash rule x y = first_clash rule key_cols (canonical_entries base x) (canonical_entries base y)
 
 an_insert_at_a_ghost_stays : rebased (inserts 25) (deletes 30) ≡ entry_at 2 (Ins (new_row 25)) ∷ []
 an_insert_at_a_ghost_stays = refl
