@@ -69,17 +69,20 @@ clash_here rule key_cols n xs ys e clash at some =
 
 -- the entries so far with one more, made consecutive
 pub moved_next : (key_cols n sid : ℕ) (xs ys out : List Entry) (e : Entry) → slice_get xs n ≡ Some e → sid ≡ (rebased_entry key_cols ys e).sid
-    → out ≡ map (rebased_entry key_cols ys) (take n xs) → out ++ entry_at sid e.change ∷ [] ≡ map (rebased_entry key_cols ys) (take (n + 1) xs)
+    → out ≡ map (rebased_entry key_cols ys) (take n xs)
+    → out ++ entry_at sid e.change ∷ [] ≡ map (rebased_entry key_cols ys) (take (n + 1) xs)
 moved_next key_cols n sid xs ys out e at sid_is is =
     (λ i. is i ++ entry_at (sid_is i) e.change ∷ [])
     ∙ sym (map-append (rebased_entry key_cols ys) (take n xs) (e ∷ []))
     ∙ ap (map (rebased_entry key_cols ys)) (sym (next_take n xs e at))
 
 -- and one that stays where it is, left as it is
-pub same_next : (key_cols n sid : ℕ) (xs ys : List Entry) (e : Entry) → slice_get xs n ≡ Some e → sid ≡ (rebased_entry key_cols ys e).sid → sid ≡ e.sid
+pub same_next : (key_cols n sid : ℕ) (xs ys : List Entry) (e : Entry) → slice_get xs n ≡ Some e
+    → sid ≡ (rebased_entry key_cols ys e).sid → sid ≡ e.sid
     → take n xs ≡ map (rebased_entry key_cols ys) (take n xs) → take (n + 1) xs ≡ map (rebased_entry key_cols ys) (take (n + 1) xs)
 same_next key_cols n sid xs ys e at sid_is stays is =
-    next_take n xs e at ∙ ap (λ (s : ℕ). take n xs ++ entry_at s e.change ∷ []) (sym stays) ∙ moved_next key_cols n sid xs ys (take n xs) e at sid_is is
+    next_take n xs e at ∙ ap (λ (s : ℕ). take n xs ++ entry_at s e.change ∷ []) (sym stays)
+    ∙ moved_next key_cols n sid xs ys (take n xs) e at sid_is is
 
 pub none_left : (n : ℕ) (es : List Entry) → length es ≤ n → drop n es ≡ []
 none_left zero [] h = refl

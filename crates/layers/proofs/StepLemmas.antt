@@ -289,7 +289,8 @@ module _ (tree : Tree) (s col : ℕ) (value : Value) (w : IsNext tree (entry_at 
 
     pub set_there : (r : Entry) → slice_get tree.entries n ≡ Some r → has_cell col r.change
     set_there r at =
-        let same : item ≡ r = get_or_from_slice_get (canonical_entries w.t w.x) n r nothing (ap (λ (zs : List Entry). slice_get zs n) (sym (list_is tree mod_entry w)) ∙ at) in
+        let here = ap (λ (zs : List Entry). slice_get zs n) (sym (list_is tree mod_entry w)) ∙ at in
+        let same : item ≡ r = get_or_from_slice_get (canonical_entries w.t w.x) n r nothing here in
         let row = subst (λ (o : Option Row). IsSomeAnd o (λ row. col < length row)) row_found.0.row_is (may_parts.0 row_found.1) in
         subst (λ (e : Entry). has_cell col e.change) same (cell_of col item.change row)
 
@@ -298,14 +299,18 @@ module _ (tree : Tree) (s col : ℕ) (value : Value) (w : IsNext tree (entry_at 
 
     set_now : set tree.entries n (entry_at item.sid (change_with_cell col value item.change)) ≡ canonical_entries w.t (effects_with w.x w.key (Mod col value))
     set_now =
-        ap (λ (zs : List Entry). set zs n (entry_at item.sid (change_with_cell col value item.change))) (list_is tree mod_entry w) ∙ sym (row_found.0.with_cell col value)
+        ap (λ (zs : List Entry). set zs n (entry_at item.sid (change_with_cell col value item.change))) (list_is tree mod_entry w)
+        ∙ sym (row_found.0.with_cell col value)
         ∙ sym (modify_is ∙ ap (λ b. cond b (set_ins w.schema.key_cols (rank w.key w.t) w.key col value (canonical_entries w.t w.x)) (put_mod w.schema.key_cols (rank w.key w.t) col value (canonical_entries w.t w.x))) row_found.1)
 
     pub set_next : (new : Tree)
-        → ((r : Entry) → slice_get tree.entries n ≡ Some r → new ≡ record tree { entries = set tree.entries n (entry_at r.sid (change_with_cell col value r.change)) })
+        → ((r : Entry) → slice_get tree.entries n ≡ Some r
+        → new ≡ record tree { entries = set tree.entries n (entry_at r.sid (change_with_cell col value r.change)) })
         → new ≡ next_tree tree mod_entry w
     set_next new new_is =
-        let at : slice_get tree.entries n ≡ Some item = ap (λ (zs : List Entry). slice_get zs n) (list_is tree mod_entry w) ∙ slice_get-get_or (canonical_entries w.t w.x) n nothing row_found.0.short in
+        let at : slice_get tree.entries n ≡ Some item =
+        ap (λ (zs : List Entry). slice_get zs n) (list_is tree mod_entry w)
+        ∙ slice_get-get_or (canonical_entries w.t w.x) n nothing row_found.0.short in
         new_is item at ∙ (λ i. record { key_cols = cols_is tree mod_entry w i; entries = set_now i })
 
   module _ (q : ℕ) (only : (place : Place) → IsAtRid tree.entries s place → place ≡ Base q) where
@@ -338,12 +343,15 @@ module _ (tree : Tree) (moved : Entry) (s : ℕ) (c : Change) (is : moved ≡ en
   pub put_small : s < 2 ^ 32 → moved.sid < 2 ^ 32
   put_small h = subst (λ (m : Entry). m.sid < 2 ^ 32) (sym is) h
 
-  pub put_room : length (entries_with tree.key_cols s c tree.entries) ≤ 2 ^ 40 → length (entries_with tree.key_cols moved.sid moved.change tree.entries) ≤ 2 ^ 40
-  put_room h = subst (λ (m : Entry). length (entries_with tree.key_cols m.sid m.change tree.entries) ≤ 2 ^ 40) (sym is) h
+  pub put_room : length (entries_with tree.key_cols s c tree.entries) ≤ 2 ^ 40
+      → length (entries_with tree.key_cols moved.sid moved.change tree.entries) ≤ 2 ^ 40
+  put_room h =
+      subst (λ (m : Entry). length (entries_with tree.key_cols m.sid m.change tree.entries) ≤ 2 ^ 40) (sym is) h
 
   pub put_told : (new : Tree) → new ≡ record tree { entries = entries_with tree.key_cols moved.sid moved.change tree.entries }
       → new ≡ record tree { entries = entries_with tree.key_cols s c tree.entries }
-  put_told new new_is = new_is ∙ ap (λ (m : Entry). record tree { entries = entries_with tree.key_cols m.sid m.change tree.entries }) is
+  put_told new new_is =
+      new_is ∙ ap (λ (m : Entry). record tree { entries = entries_with tree.key_cols m.sid m.change tree.entries }) is
 
 -- what holds of each step with a change holds of those with an equal one
 pub told : (tree : Tree) (s : ℕ) (d c : Change) → d ≡ c → (P : (e : Change) → IsNext tree (entry_at s e) → Type 0) → ((w : IsNext tree (entry_at s c)) → P c w) → (w : IsNext tree (entry_at s d)) → P d w

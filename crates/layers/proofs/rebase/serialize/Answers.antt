@@ -11,7 +11,10 @@ use Rattle.layers.proofs.SerialLemmas.{clear_next, clash_here, moved_next, none_
 use Rattle.layers.proofs.rebase.serialize.Goals as goal
 
 pub find_change-found-requires : goal.find_change-found-requires
-find_change-found-requires c = subst (λ (n : ℕ). n < 2 ^ 63) (sym c.sid.ensures) (small_sid c.args.rule c.args.x.now c.args.y.now c.requires c.loop-index.index c.entry_of-entry.result.now c.entry_of-entry.ensures)
+find_change-found-requires c =
+    let e = c.entry_of-entry.result.now in
+    let small = small_sid c.args.rule c.args.x.now c.args.y.now c.requires c.loop-index.index e c.entry_of-entry.ensures in
+    subst (λ (n : ℕ). n < 2 ^ 63) (sym c.sid.ensures) small
 
 pub returns-in-Some : goal.returns-in-Some
 returns-in-Some c =
@@ -37,9 +40,12 @@ returns-then-kept-len c =
     let y = c.args.y.now in
     let n = c.kept_count-kept.result in
     let end : length x.entries ≤ n = omega (arith, c.if-kept-len.true, c.len.ensures) in
-    let none = c.kept_count-kept.ensures.clear ∙ ap (λ (es : List Entry). first_clash_from c.args.rule y.key_cols n es y.entries) (none_left n x.entries end) in
-    let all = sym (all_taken n x.entries end) ∙ c.kept_count-kept.ensures.same ∙ ap (map (rebased_entry y.key_cols y.entries)) (all_taken n x.entries end) in
-    λ (w : AreAligned x y). (unconflicting c.args.rule x y w none, rebased_is c.args.rule x y w c.in_ok-copy.field-0 x.entries none all c.in_ok-copy.ensures)
+    let rest = ap (λ (es : List Entry). first_clash_from c.args.rule y.key_cols n es y.entries) (none_left n x.entries end) in
+    let none = c.kept_count-kept.ensures.clear ∙ rest in
+    let whole = all_taken n x.entries end in
+    let all = sym whole ∙ c.kept_count-kept.ensures.same ∙ ap (map (rebased_entry y.key_cols y.entries)) whole in
+    λ (w : AreAligned x y).
+    (unconflicting c.args.rule x y w none, rebased_is c.args.rule x y w c.in_ok-copy.field-0 x.entries none all c.in_ok-copy.ensures)
 
 pub loop-index-preserved : goal.loop-index-preserved
 loop-index-preserved c =
@@ -51,13 +57,16 @@ loop-index-preserved c =
     let at = c.entry_of-entry.ensures in
     let own = clash_is c.args.rule x y c.requires n e p at c.index_of_clash-place.ensures ∙ sym c.clash_at.ensures ∙ c.in_default.is in
     let i = c.find_change-found.result.index in
-    let here = subst (λ (s : ℕ). IsSplit (stands_before (change_cmp y.key_cols c.change.result.now) s) y.entries i) c.sid.ensures c.find_change-found.ensures.split in
+    let found = c.find_change-found.ensures.split in
+    let here = subst (λ (s : ℕ). IsSplit (stands_before (change_cmp y.key_cols c.change.result.now) s) y.entries i) c.sid.ensures found in
     let split = subst (λ (d : Change). IsSplit (stands_before (change_cmp y.key_cols d) e.sid) y.entries i) c.change.ensures here in
     let sid = c.find_change-found.ensures.rid ∙ ap (rid_of_insert (take i y.entries)) c.sid.ensures ∙ rebased_place y.key_cols e y.entries i split in
     let out = c.loop-index.entries.items in
     let one = ap (λ (m : Entry). out ++ m ∷ []) c.in_ok-with_sid.ensures in
     record {
-      moved = c.in_ok-push.ensures.items ∙ one ∙ moved_next y.key_cols n c.find_change-found.result.rid x.entries y.entries out e at sid c.loop-index.invariant.moved;
+      moved =
+          c.in_ok-push.ensures.items ∙ one
+          ∙ moved_next y.key_cols n c.find_change-found.result.rid x.entries y.entries out e at sid c.loop-index.invariant.moved;
       clear = c.loop-index.invariant.clear ∙ clear_next c.args.rule y.key_cols n x.entries y.entries e at own;
     }
 
