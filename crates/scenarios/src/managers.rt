@@ -3,6 +3,7 @@ ghost use Rattle.std.specs.Prelude.{IfOk};
 ghost use Rattle.txn.specs.Txn.{Transaction};
 ghost use Rattle.manager.specs.Managed.{Managed, IsOwn};
 
+mod cuts;
 mod openings;
 
 use fixtures::{ItemWrite, base_table, key, write_of};
