@@ -1,6 +1,6 @@
 //! A transaction of a thousand random writes beside the slow program: reply by reply, entry by entry, and row by row.
 use super::answer;
-use delta::DeltaTree;
+use delta::{DeltaTree, SharedEntry};
 use fixtures::{Draws, key, row_with, schema};
 use model::{Change, Entry, Write, WriteReply};
 use oracle::{Effects, OrderedTable, canonical_entries};
@@ -146,9 +146,9 @@ fn first_difference(
 }
 
 /// Whether two entries are the same.
-fn is_same(one: &Entry, other: &Entry) -> bool {
-    one.sid == other.sid
-        && match (&one.change, &other.change) {
+fn is_same(one: &SharedEntry, other: &Entry) -> bool {
+    one.sid() == other.sid
+        && match (one.change(), &other.change) {
             (Change::Ins(row), Change::Ins(found)) => row.cells() == found.cells(),
             (Change::Del(key), Change::Del(found)) => key == found,
             (Change::Mod(col, value), Change::Mod(at, found)) => col == at && value == found,

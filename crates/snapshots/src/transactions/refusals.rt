@@ -141,8 +141,8 @@ fn is_change(change: &Change, kind: Kind) -> bool {
 /// Whether these are the entries of its tree.
 fn has_entries(txn: &Txn, entries: &[(u64, Kind)]) -> bool {
     txn.tree().len() == entries.len()
-        && txn.tree().iter().zip(entries.iter()).all(|(entry, (sid, kind))| entry.sid == *sid
-            && is_change(&entry.change, *kind))
+        && txn.tree().iter().zip(entries.iter()).all(|(entry, (sid, kind))| entry.sid() == *sid
+            && is_change(entry.change(), *kind))
 }
 
 /// Whether so many writes are recorded, each with its reply.

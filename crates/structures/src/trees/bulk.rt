@@ -23,7 +23,7 @@ fn entries(alloc: Global, count: u32) -> Result<Vec<Entry>, AllocError> {
 fn counts_up(tree: &CountedTree, from: u64, to: u64) -> bool {
     let mut next = from;
     for entry in tree.iter(0, tree.len()) {
-        if entry.sid != next || next >= to {
+        if entry.sid() != next || next >= to {
             return false;
         }
         next += 1;

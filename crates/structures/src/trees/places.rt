@@ -151,7 +151,7 @@ fn an_entry_is_found_by_its_place(rt: HostRuntime) -> Result<(), Fail> {
     };
     for (index, sid) in &CASES {
         assert!(rt;
-            tree.entry(*index).map(|entry| entry.sid) == *sid,
+            tree.entry(*index).map(|entry| entry.sid()) == *sid,
             "at {index}"
         );
     }
