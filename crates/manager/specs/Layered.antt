@@ -1,5 +1,5 @@
 -- A version that was made beside the newest one, before anything changes.
-use Rattle.std.specs.Prelude.{◌≡◌}
+use Rattle.std.specs.Prelude.{◌≡◌, []}
 use Rattle.txn.specs.Version.{Lower, TableVersion, version_of}
 use Rattle.manager.specs.Managed.{Managed, newest_number, newest_version}
 use Rattle.manager.specs.Kept.{AreFolded}
@@ -9,8 +9,9 @@ pub record Layered : Type 0 where
   pub layers : Lower
   pub version : TableVersion
 
--- the newest version, whatever its layers
+-- the newest version, under layers whose Write-PDT has no entries: those are in the Read-PDT
 pub record IsFolded (m : Managed) (folded : Layered) : Type 0 where
   pub lawful : AreFolded folded.layers
+  pub emptied : folded.layers.write.entries ≡ []
   pub version_is : folded.version ≡ newest_version m
   pub layers_are : folded.version ≡ version_of folded.layers (newest_number m)

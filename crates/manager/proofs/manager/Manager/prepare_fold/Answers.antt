@@ -56,6 +56,7 @@ returns c =
     let version = c.in_ok-version.ensures ∙ (λ j. version_of (held j) (number j)) in
     record {
       lawful = subst AreFolded (sym held) next;
+      emptied = ap (λ (t : Tree). t.entries) write;
       version_is = version ∙ merged_version m l i.newest i.kept.items h c.in_ok-read.read.value read (newest_number m);
       layers_are = version ∙ sym (ap (λ (e : Lower). version_of e (newest_number m)) held);
     }
