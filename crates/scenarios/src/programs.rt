@@ -4,6 +4,7 @@ mod folds;
 mod long_run;
 mod outcomes;
 mod quotes;
+mod random_runs;
 mod refusals;
 mod refused;
 mod runs;
