@@ -116,6 +116,13 @@ boundary ends bytes i kept le =
     let place : length (joined (take i ts)) ≡ get_or (0 ∷ ends) i 0 = omega (arith, at, ap (λ es. get_or (0 ∷ es) i 0) kept.ended) in
     subst (IsCharBoundary bytes) place (IsCharBoundary-at_seam bytes (joined (take i ts)) (joined (drop i ts)) (kept.whole ∙ joined-split i ts) (IsUtf8-joined (drop i ts) (fit_drop i ts kept.texts)))
 
+-- no beginning lies past the last byte
+pub begin_within : (ends bytes : List ℕ) (i : ℕ) → IsCut ends bytes → i ≤ length ends → get_or (0 ∷ ends) i 0 ≤ length bytes
+begin_within ends bytes i kept le =
+    let ts = cut 0 ends bytes in
+    let at = begin_at ts 0 i (omega (arith, length-cut 0 ends bytes)) in
+    omega (arith, at, ap (λ es. get_or (0 ∷ es) i 0) kept.ended, ap length kept.whole, ap length (joined-split i ts), length-append (joined (take i ts)) (joined (drop i ts)))
+
 joined-grows : (ts : List (List ℕ)) (i : ℕ) → length (joined (take i ts)) ≤ length (joined (take (suc i) ts))
 joined-grows [] zero = omega arith
 joined-grows [] (suc i) = omega arith

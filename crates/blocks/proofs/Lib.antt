@@ -1,5 +1,6 @@
 mod BitsLemmas
 mod CutsLemmas
+mod EncodingLemmas
 mod FitLemmas
 mod IntsLemmas
 mod LawsLemmas

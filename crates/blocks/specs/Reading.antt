@@ -8,7 +8,7 @@ use Rattle.values.specs.declared.value.Value.{Value}
 use Rattle.values.specs.declared.value.Value.TheVariants.{Int, Text, Bool as Truth}
 use Rattle.values.specs.declared.limits.TheConstants.{MAX_TEXT_BYTES}
 use Rattle.blocks.specs.declared.fault.BlockFault.{BlockFault}
-use Rattle.blocks.specs.declared.fault.BlockFault.TheVariants.{Short, Long, BadText, TextTooLong, BadPadding, NoMemory}
+use Rattle.blocks.specs.declared.fault.BlockFault.TheVariants.{Short, Long, BadText, TextTooLong, BadPadding, BadEncoding, NoMemory}
 use Rattle.blocks.specs.Payload.{byte_count, all_bits, has_set_padding}
 
 -- what is read after a step, or the step's fault
@@ -81,6 +81,7 @@ Fails (Long at) reading = reading ≡ Err (Long at)
 Fails (BadText i) reading = reading ≡ Err (BadText i)
 Fails (TextTooLong i) reading = reading ≡ Err (TextTooLong i)
 Fails BadPadding reading = reading ≡ Err BadPadding
+Fails BadEncoding reading = reading ≡ Err BadEncoding
 
 -- what was answered, seen by `view`, is the reading, unless memory ran out
 abbrev pub Gives : {X Y : Type 0} → (X → Y) → Result X BlockFault → Result Y BlockFault → Type 0

@@ -23,6 +23,9 @@ pub enum BlockFault {
     /// A bit after the last truth is 1.
     #[error("BadPadding")]
     BadPadding,
+    /// The bytes name no encoding, or another than the one in which so many such values are stored.
+    #[error("BadEncoding")]
+    BadEncoding,
     /// A growth was refused.
     #[error("NoMemory")]
     NoMemory,

@@ -61,11 +61,12 @@ impl Texts {
         self.ends.len()
     }
 
-    /// How many bytes the texts have together.
-    pub(crate) fn byte_len(&self) -> usize
+    /// How many bytes the first `count` texts have together.
+    pub(crate) fn byte_len(&self, count: usize) -> usize
+        requires { count ≤ length self.now }
         ensures { result ≤ MAX_TEXT_BYTES * MAX_BLOCK_VALUES }
     {
-        self.text.len()
+        begin_of(self.ends.as_slice(), count)
     }
 
     /// The text number `i`, lent.

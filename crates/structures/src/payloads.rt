@@ -8,6 +8,8 @@ ghost use Rattle.values.specs.Lent.{value_of};
 ghost use Rattle.values.specs.Shape.{has_type, is_too_long};
 ghost use Rattle.values.specs.declared.limits.TheConstants.{MAX_BLOCK_VALUES};
 
+mod encodings;
+
 use crate::assertions::{assert_holds, assert_text};
 use blocks::{Block, BlockFault, BlockValues, read_block, write_block};
 use std::alloc::Global;
@@ -26,12 +28,10 @@ fn show_value(text: &mut String, value: ValueRef<'_>) -> Result<(), Fail> {
     Ok(())
 }
 
-/// What the bytes read as: the values with a comma between two, or the fault.
-fn shown(alloc: Global, ty: ColumnType, count: usize, bytes: &[u8]) -> Result<String, Fail>
-    requires { count ≤ MAX_BLOCK_VALUES }
-{
+/// What was read: the values with a comma between two, or the fault.
+fn shown(alloc: Global, read: Result<Block, BlockFault>) -> Result<String, Fail> {
     let mut text = String::new(alloc);
-    match read_block(alloc, ty, count, bytes) {
+    match read {
         Ok(block) => {
             for i in 0..block.len() {
                 if i > 0 {
@@ -56,7 +56,7 @@ fn assert_read(
     (label, ty, count, bytes, reads_as): Case,
 ) -> Result<(), Fail> {
     assert!(rt; count <= MAX_BLOCK_VALUES);
-    let text = shown(alloc, ty, count, bytes)?;
+    let text = shown(alloc, read_block(alloc, ty, count, bytes))?;
     assert_text(rt, text.as_str(), reads_as, label);
     Ok(())
 }
@@ -184,7 +184,8 @@ fn letters(alloc: Global, high: u8, low: u8, count: usize) -> Result<Vec<u8>, No
 #[test]
 fn the_longest_text_is_read(rt: HostRuntime) -> Result<(), Fail> {
     let longest = letters(rt.alloc(), 0x10, 0x00, 4_096)?;
-    let text = shown(rt.alloc(), ColumnType::Text, 1, &longest)?;
+    let read = read_block(rt.alloc(), ColumnType::Text, 1, &longest);
+    let text = shown(rt.alloc(), read)?;
     assert!(rt; text.len() == 4_098, "longest text, in quotes");
     let inside = text.as_bytes().iter().skip(1).take(4_096);
     assert!(rt; inside.copied().all(|byte| byte == 0x61));
@@ -194,7 +195,8 @@ fn the_longest_text_is_read(rt: HostRuntime) -> Result<(), Fail> {
 #[test]
 fn a_longer_text_is_refused(rt: HostRuntime) -> Result<(), Fail> {
     let longer = letters(rt.alloc(), 0x10, 0x01, 4_097)?;
-    let fault = shown(rt.alloc(), ColumnType::Text, 1, &longer)?;
+    let read = read_block(rt.alloc(), ColumnType::Text, 1, &longer);
+    let fault = shown(rt.alloc(), read)?;
     assert_text(&rt, fault.as_str(), "TextTooLong 0", "text too long");
     Ok(())
 }

@@ -13,7 +13,7 @@ loop-i-preserved c =
     let old = c.args.out.now.items in
     let t = c.get-text.result.now in
     let read : get_or texts i [] ≡ t = get_or_from_slice_get texts i t [] c.get-text.ensures.text in
-    let within : i < length texts = omega (arith, c.len-i-end.ensures.len) in
+    let within : i < length texts = omega (arith, c.requires.there, c.loop-i-test.true) in
     let front = flat_map spelling (map Text (take i texts)) in
     let more : flat_map spelling (map Text (take (i + 1) texts)) ≡ front ++ spelling (Text t) =
     ap (flat_map spelling) (map_more Text texts i [] within ∙ ap (λ s. map Text (take i texts) ++ Text s ∷ []) read) ∙ sym (flat_map_more spelling [] (map Text (take i texts)) (Text t)) in
