@@ -10,14 +10,17 @@ use Rattle.values.specs.declared.value.Value.{Value}
 use Rattle.values.specs.declared.value.Value.TheVariants.{Int, Text, Bool as Truth}
 use Rattle.blocks.specs.Column.{Column, Fits, IsBlock, AllFit}
 use Rattle.blocks.specs.Payload.{byte_count, is_true, spelling, payload_of}
-use Rattle.blocks.specs.Reading.{reading_of}
-use Rattle.blocks.proofs.CallerLemmas.{length-packed, reads_back}
+use Rattle.blocks.specs.Encoding.{is_constant, encoded_of}
+use Rattle.blocks.proofs.CallerLemmas.{length-packed, reads_back, encoding_reads_back}
 use Rattle.columns.specs.declared.frame.Frame.{Frame}
 use Rattle.columns.specs.declared.frame.Frame.TheVariants.{Header, Block, End}
+use Rattle.columns.specs.declared.frame.Format.{Format}
+use Rattle.columns.specs.declared.frame.Format.TheVariants.{First, Second}
+use Rattle.columns.specs.declared.frame.Kind.{Kind}
 use Rattle.columns.specs.declared.frame.Part.{Part}
 use Rattle.columns.specs.declared.seam.Seam.{Seam}
-use Rattle.columns.specs.Column.{flag_byte, head_of, head_bytes, frame_bytes, column_bytes, may_stand, IsPartAt, IsFrameAt, AreFramesAt, IsColumn, start, seam_after, seam_after_all, head_at, is_cut_block, is_rest}
-use Rattle.columns.specs.Reading.{◌>>=◌, found_then, AreWanted, header_at, part_of, payload_at, part_at, frame_at, frames_at, frames_of}
+use Rattle.columns.specs.Column.{flag_byte, payload_in, part_payload, kind_of, head_of, head_bytes, frame_bytes, column_bytes, may_stand, IsPartAt, IsFrameAt, AreFramesAt, IsColumn, start, seam_after, seam_after_all, head_at, is_cut_block, is_rest}
+use Rattle.columns.specs.Reading.{◌>>=◌, found_then, AreWanted, header_at, reading_in, no_kind, part_of, payload_at, part_at, frame_at, frames_at, frames_of}
 use Rattle.columns.proofs.FrameLemmas.{ok_is, header_again, head_again, part_at-stands}
 
 -- ---- how long a payload is
@@ -37,13 +40,38 @@ spellings_short : (ty : ColumnType) (values : List Value) → AllFit ty values �
 spellings_short ty [] fit = omega arith
 spellings_short ty (v ∷ values) fit = omega (arith, spelling_short ty v fit.0, spellings_short ty values fit.1, length-append (spelling v) (flat_map spelling values))
 
-pub payload_short : (c : Column) → IsBlock c → length (payload_of c.ty c.values) < 4294967296
-payload_short c is = by c.ty c.values is.few is.fit
+payload_small : (c : Column) → IsBlock c → length (payload_of c.ty c.values) ≤ 4196352
+payload_small c is = by c.ty c.values is.few is.fit
   where
-    by : (ty : ColumnType) (values : List Value) → length values ≤ 1024 → AllFit ty values → length (payload_of ty values) < 4294967296
+    by : (ty : ColumnType) (values : List Value) → length values ≤ 1024 → AllFit ty values → length (payload_of ty values) ≤ 4196352
     by column.Int values few fit = omega (arith, spellings_short column.Int values fit)
     by column.Text values few fit = omega (arith, spellings_short column.Text values fit)
     by column.Bool values few fit = omega (arith, length-packed (byte_count (length values)) (map is_true values))
+
+-- in either format
+pub in_short : (format : Format) (c : Column) → IsBlock c → length (payload_in format c.ty c.values) < 4294967296
+in_short First c is = omega (arith, payload_small c is)
+in_short Second c is = by (is_constant c.values) refl
+  where
+    first_fit : (values : List Value) → AllFit c.ty values → AllFit c.ty (take 1 values)
+    first_fit [] fit = tt
+    first_fit (v ∷ values) fit = (fit.0, tt)
+
+    few_first : (values : List Value) → length (take 1 values) ≤ 1024
+    few_first [] = omega arith
+    few_first (v ∷ values) = omega arith
+
+    by : (constant : Bool) → is_constant c.values ≡ constant → length (encoded_of c.ty c.values) < 4294967296
+    by true e = rw e (omega (arith, payload_small (record { ty = c.ty; values = take 1 c.values }) (record { few = few_first c.values; fit = first_fit c.values is.fit })))
+    by false e = rw e (omega (arith, payload_small c is))
+
+pub part_short : (part : Part) → IsBlock part.block → length (part_payload part) < 4294967296
+part_short part is = in_short part.format part.block is
+
+-- what is stored is read
+stored_again : (format : Format) (ty : ColumnType) (values : List Value) → AllFit ty values → reading_in format ty (length values) (payload_in format ty values) ≡ Ok values
+stored_again First ty values fit = reads_back ty values fit
+stored_again Second ty values fit = encoding_reads_back ty values fit
 
 -- ---- a block
 
@@ -51,43 +79,45 @@ flag_again : (last : Bool) → eqb (flag_byte last) 1 ≡ last
 flag_again true = refl
 flag_again false = refl
 
-typed_again : (ty : Option ColumnType) (t : ColumnType) → ty ≡ Some t → t ≡ unwrap_or ty column.Int
-typed_again ty t e = sym (ap (λ o. unwrap_or o column.Int) e)
+kind_again : (seam : Option Kind) (kind : Kind) → seam ≡ Some kind → kind ≡ unwrap_or seam no_kind
+kind_again seam kind e = sym (ap (λ o. unwrap_or o no_kind) e)
 
-payload_again : (col at : ℕ) (part : Part) (rest : List ℕ) → IsBlock part.block → payload_at col at (head_of part) part.block.ty (payload_of part.block.ty part.block.values ++ rest) ≡ Ok (Some (Block part, rest))
+payload_again : (col at : ℕ) (part : Part) (rest : List ℕ) → IsBlock part.block → payload_at col at (head_of part) (kind_of part) (part_payload part ++ rest) ≡ Ok (Some (Block part, rest))
 payload_again col at part rest is =
     let ty = part.block.ty in
     let values = part.block.values in
-    let payload = payload_of ty values in
+    let payload = part_payload part in
     let h = head_of part in
     let enough : ltb (length (payload ++ rest)) (length payload) ≡ false = le-ltb _ _ (omega (arith, length-append payload rest)) in
     let front : take (length payload) (payload ++ rest) ≡ payload = take_at payload rest (length payload) refl in
     let back : drop (length payload) (payload ++ rest) ≡ rest = drop_at payload rest (length payload) refl in
-    let read : reading_of ty (length values) (take (length payload) (payload ++ rest)) ≡ Ok values = ap (reading_of ty (length values)) front ∙ reads_back ty values is.fit in
-    let last : part_of col at h ty rest (Ok values) ≡ Ok (Some (Block part, rest)) =
-    ap (λ b. Ok (Some (Block (record { generation = part.generation; number = part.number; last = b; block = part.block }), rest))) (flag_again part.last) in
-    rw enough (ap (λ r. part_of col at h ty (drop (length payload) (payload ++ rest)) r) read ∙ ap (λ x. part_of col at h ty x (Ok values)) back ∙ last)
+    let kind = kind_of part in
+    let read : reading_in part.format ty (length values) (take (length payload) (payload ++ rest)) ≡ Ok values =
+    ap (reading_in part.format ty (length values)) front ∙ stored_again part.format ty values is.fit in
+    let last : part_of col at h kind rest (Ok values) ≡ Ok (Some (Block part, rest)) =
+    ap (λ b. Ok (Some (Block (record { format = part.format; generation = part.generation; number = part.number; last = b; block = part.block }), rest))) (flag_again part.last) in
+    rw enough (ap (λ r. part_of col at h kind (drop (length payload) (payload ++ rest)) r) read ∙ ap (λ x. part_of col at h kind x (Ok values)) back ∙ last)
 
-part_again : (col at : ℕ) (seam : Seam) (part : Part) (rest : List ℕ) → IsPartAt seam part → part_at col at seam (head_bytes (head_of part) ++ (payload_of part.block.ty part.block.values ++ rest)) ≡ Ok (Some (Block part, rest))
+part_again : (col at : ℕ) (seam : Seam) (part : Part) (rest : List ℕ) → IsPartAt seam part → part_at col at seam (head_bytes (head_of part) ++ (part_payload part ++ rest)) ≡ Ok (Some (Block part, rest))
 part_again col at seam part rest is =
-    let body = payload_of part.block.ty part.block.values ++ rest in
+    let body = part_payload part ++ rest in
     let h = head_of part in
     let again : head_at (head_bytes h ++ body) ≡ h = head_again h body (record {
       generation = is.generation;
       number = is.number;
       count = omega (arith, is.block.few);
-      size = payload_short part.block is.block;
+      size = part_short part is.block;
     }) in
-    sym (part_at-stands col at seam (head_bytes h ++ body) h part.block.ty (omega arith) (sym again) is.stands (typed_again seam.ty part.block.ty is.typed))
+    sym (part_at-stands col at seam (head_bytes h ++ body) h (kind_of part) (omega arith) (sym again) is.stands (kind_again seam.kind (kind_of part) is.typed))
     ∙ payload_again col at part rest is.block
 
 -- ---- a frame
 
 pub frame_again : (col at : ℕ) (wanted : Option ColumnType) (seam : Seam) (frame : Frame) (rest : List ℕ) → IsFrameAt seam frame → AreWanted wanted (frame ∷ []) → frame_at col at wanted seam (frame_bytes frame ++ rest) ≡ Ok (Some (frame, rest))
 unfolding frame_at
-frame_again col at wanted seam (Header ty) rest is w = header_again col at wanted ty rest w.0
+frame_again col at wanted seam (Header kind) rest is w = header_again col at wanted kind rest w.0
 frame_again col at wanted seam (Block part) rest is w =
-    ap (frame_at col at wanted seam) (append_assoc (head_bytes (head_of part)) (payload_of part.block.ty part.block.values) rest) ∙ part_again col at seam part rest is
+    ap (frame_at col at wanted seam) (append_assoc (head_bytes (head_of part)) (part_payload part) rest) ∙ part_again col at seam part rest is
 frame_again col at wanted seam End rest is w = refl
 
 -- a rest is read as the end
@@ -127,12 +157,12 @@ frames_step most col wanted size seam [] some = absurd (omega arith)
 frames_step most col wanted size seam (byte ∷ bytes) some = refl
 
 pub frame_long : (frame : Frame) → 0 < length (frame_bytes frame)
-frame_long (Header ty) = omega arith
+frame_long (Header kind) = omega arith
 frame_long (Block part) = omega arith
 frame_long End = omega arith
 
 wanted_first : (wanted : Option ColumnType) (frame : Frame) (frames : List Frame) → AreWanted wanted (frame ∷ frames) → AreWanted wanted (frame ∷ []) × AreWanted wanted frames
-wanted_first wanted (Header ty) frames w = ((w.0, tt), w.1)
+wanted_first wanted (Header kind) frames w = ((w.0, tt), w.1)
 wanted_first wanted (Block part) frames w = (tt, w)
 wanted_first wanted End frames w = (tt, w)
 
@@ -163,7 +193,7 @@ column_again col bytes frames rest wanted is w =
 
 any_wanted : (frames : List Frame) → AreWanted None frames
 any_wanted [] = tt
-any_wanted (Header ty ∷ frames) = (refl, any_wanted frames)
+any_wanted (Header kind ∷ frames) = (refl, any_wanted frames)
 any_wanted (Block part ∷ frames) = any_wanted frames
 any_wanted (End ∷ frames) = any_wanted frames
 

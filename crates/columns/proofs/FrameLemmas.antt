@@ -9,21 +9,23 @@ use Rattle.values.specs.declared.value.ColumnType.{ColumnType}
 use Rattle.values.specs.declared.value.ColumnType.TheVariants as column
 use Rattle.values.specs.declared.value.Value.{Value}
 use Rattle.values.specs.declared.limits.TheConstants.{MAX_BLOCK_VALUES}
-use Rattle.blocks.specs.Payload.{AreBytes, payload_of}
-use Rattle.blocks.specs.Reading.{reading_of}
-use Rattle.blocks.specs.Laws.{IsPayload}
+use Rattle.blocks.specs.Payload.{AreBytes}
+use Rattle.blocks.specs.Column.{AllFit}
 use Rattle.blocks.specs.declared.fault.BlockFault.{BlockFault}
-use Rattle.blocks.proofs.CallerLemmas.{is_payload, AreBytes-drop, AreBytes-take}
+use Rattle.blocks.proofs.CallerLemmas.{is_payload, is_encoded, AreBytes-drop, AreBytes-take}
 use Rattle.columns.specs.declared.fault.ReadFault.{ReadFault}
 use Rattle.columns.specs.declared.fault.ReadFault.TheVariants.{BadFrame, TypesDiffer}
 use Rattle.columns.specs.declared.frame.Frame.{Frame}
 use Rattle.columns.specs.declared.frame.Frame.TheVariants.{Header, Block}
+use Rattle.columns.specs.declared.frame.Format.{Format}
+use Rattle.columns.specs.declared.frame.Format.TheVariants.{First, Second}
 use Rattle.columns.specs.declared.frame.Head.{Head}
+use Rattle.columns.specs.declared.frame.Kind.{Kind}
 use Rattle.columns.specs.declared.frame.Part.{Part}
 use Rattle.columns.specs.declared.seam.Seam.{Seam}
-use Rattle.columns.specs.Bytes.{type_byte}
-use Rattle.columns.specs.Column.{flag_byte, head_of, head_bytes, frame_bytes, has_due_count, is_in_turn, may_stand, IsPartAt, IsFrameAt, word_at, half_at, head_at}
-use Rattle.columns.specs.Reading.{type_of, is_wanted, header_of, header_at, part_of, payload_at, part_at}
+use Rattle.columns.specs.Bytes.{type_byte, version_byte}
+use Rattle.columns.specs.Column.{flag_byte, payload_in, head_of, head_bytes, frame_bytes, has_due_count, is_in_turn, may_stand, IsPartAt, IsFrameAt, word_at, half_at, head_at}
+use Rattle.columns.specs.Reading.{format_of, type_of, is_wanted, header_of, header_at, reading_in, part_with, no_kind, part_of, payload_at, part_at}
 
 -- ---- what a step answered
 
@@ -82,21 +84,48 @@ of_type_byte column.Int = refl
 of_type_byte column.Text = refl
 of_type_byte column.Bool = refl
 
+format_of_ok : (byte : ℕ) (format : Format) → format_of byte ≡ Some format → byte ≡ version_byte format
+format_of_ok byte format e =
+    elim (cases_Bool (eqb byte 1)) [
+      | inl one ↦ named byte First format (eqb-true _ _ one) (sym (rw one at e))
+      | inr not_one ↦ elim (cases_Bool (eqb byte 2)) [
+        | inl two ↦ named byte Second format (eqb-true _ _ two) (sym (rw (not_one, two) at e))
+        | inr not_two ↦ absurd (cc (rw (not_one, not_two) at e))
+      ]
+    ]
+  where
+    named : (b : ℕ) (found f : Format) → b ≡ version_byte found → Some f ≡ Some found → b ≡ version_byte f
+    named b found f h p = h ∙ ap version_byte (let q : found ≡ f = cc in q)
+
+of_version_byte : (format : Format) → format_of (version_byte format) ≡ Some format
+of_version_byte First = refl
+of_version_byte Second = refl
+
 -- a header that was read
-record IsHeaderRead (named : Option ColumnType) (after rest : List ℕ) (frame : Frame) : Type 0 where
-  ty : ColumnType
-  named_is : named ≡ Some ty
-  frame_is : frame ≡ Header ty
+record IsHeaderRead (version : Option Format) (named : Option ColumnType) (after rest : List ℕ) (frame : Frame) : Type 0 where
+  kind : Kind
+  version_is : version ≡ Some kind.format
+  named_is : named ≡ Some kind.ty
+  frame_is : frame ≡ Header kind
   rest_is : after ≡ rest
 
-header_of_ok : (col at : ℕ) (wanted named : Option ColumnType) (after rest : List ℕ) (frame : Frame) → header_of col at wanted named after ≡ Ok (Some (frame, rest)) → IsHeaderRead named after rest frame
-header_of_ok col at wanted None after rest frame e = absurd cc
-header_of_ok col at wanted (Some ty) after rest frame e =
-    let a = passed_ok (is_wanted wanted ty) (Ok (Some (Header ty, after))) (TypesDiffer col) (Some (frame, rest)) e in
-    let pair : Frame × List ℕ = (Header ty, after) in
+header_of_ok : (col at : ℕ) (wanted : Option ColumnType) (version : Option Format) (named : Option ColumnType) (after rest : List ℕ) (frame : Frame)
+    → header_of col at wanted version named after ≡ Ok (Some (frame, rest)) → IsHeaderRead version named after rest frame
+header_of_ok col at wanted None named after rest frame e = absurd cc
+header_of_ok col at wanted (Some format) None after rest frame e = absurd cc
+header_of_ok col at wanted (Some format) (Some ty) after rest frame e =
+    let kind : Kind = record { format = format; ty = ty } in
+    let a = passed_ok (is_wanted wanted ty) (Ok (Some (Header kind, after))) (TypesDiffer col) (Some (frame, rest)) e in
+    let pair : Frame × List ℕ = (Header kind, after) in
     let other : Frame × List ℕ = (frame, rest) in
     let same : pair ≡ other = some_is pair other a.1 in
-    record { ty = ty; named_is = refl; frame_is = sym (ap (λ (p : Frame × List ℕ). p.0) same); rest_is = ap (λ (p : Frame × List ℕ). p.1) same }
+    record {
+      kind = kind;
+      version_is = refl;
+      named_is = refl;
+      frame_is = sym (ap (λ (p : Frame × List ℕ). p.0) same);
+      rest_is = ap (λ (p : Frame × List ℕ). p.1) same;
+    }
 
 -- what a frame that was read says of its bytes
 pub record Takes (seam : Seam) (bytes rest : List ℕ) (frame : Frame) : Type 0 where
@@ -106,21 +135,26 @@ pub record Takes (seam : Seam) (bytes rest : List ℕ) (frame : Frame) : Type 0 
 pub header_takes : (col at : ℕ) (wanted : Option ColumnType) (seam : Seam) (bytes rest : List ℕ) (frame : Frame) → get_or bytes 0 0 ≡ 72 → header_at col at wanted bytes ≡ Ok (Some (frame, rest)) → Takes seam bytes rest frame
 unfolding header_at
 header_takes col at wanted seam bytes rest frame h e =
+    let version = format_of (get_or bytes 1 0) in
     let named = type_of (get_or bytes 2 0) in
-    let a = whole_ok (ltb (length bytes) 3) (cond (eqb (get_or bytes 1 0) 1) (header_of col at wanted named (drop 3 bytes)) (Err (BadFrame col at))) (frame, rest) e in
-    let b = passed_ok (eqb (get_or bytes 1 0) 1) (header_of col at wanted named (drop 3 bytes)) (BadFrame col at) (Some (frame, rest)) a.1 in
-    let read = header_of_ok col at wanted named (drop 3 bytes) rest frame b.1 in
-    let one : get_or bytes 1 0 ≡ 1 = eqb-true _ _ b.0 in
-    let ty : get_or bytes 2 0 ≡ type_byte read.ty = type_of_ok (get_or bytes 2 0) read.ty read.named_is in
+    let a = whole_ok (ltb (length bytes) 3) (header_of col at wanted version named (drop 3 bytes)) (frame, rest) e in
+    let read = header_of_ok col at wanted version named (drop 3 bytes) rest frame a.1 in
+    let format : get_or bytes 1 0 ≡ version_byte read.kind.format = format_of_ok (get_or bytes 1 0) read.kind.format read.version_is in
+    let ty : get_or bytes 2 0 ≡ type_byte read.kind.ty = type_of_ok (get_or bytes 2 0) read.kind.ty read.named_is in
     let cells : bytes ≡ get_or bytes 0 0 ∷ get_or bytes 1 0 ∷ get_or bytes 2 0 ∷ drop 3 bytes = three_cells bytes (ltb-false _ _ a.0) in
-    let spelt : bytes ≡ frame_bytes (Header read.ty) ++ rest = cells ∙ ap (λ x. x ∷ get_or bytes 1 0 ∷ get_or bytes 2 0 ∷ drop 3 bytes) h ∙ ap (λ x. 72 ∷ x ∷ get_or bytes 2 0 ∷ drop 3 bytes) one ∙ ap (λ x. 72 ∷ 1 ∷ x ∷ drop 3 bytes) ty ∙ ap (λ xs. 72 ∷ 1 ∷ type_byte read.ty ∷ xs) read.rest_is in
+    let spelt : bytes ≡ frame_bytes (Header read.kind) ++ rest =
+    cells ∙ ap (λ x. x ∷ get_or bytes 1 0 ∷ get_or bytes 2 0 ∷ drop 3 bytes) h
+    ∙ ap (λ x. 72 ∷ x ∷ get_or bytes 2 0 ∷ drop 3 bytes) format
+    ∙ ap (λ x. 72 ∷ version_byte read.kind.format ∷ x ∷ drop 3 bytes) ty
+    ∙ ap (λ xs. 72 ∷ version_byte read.kind.format ∷ type_byte read.kind.ty ∷ xs) read.rest_is in
     subst (Takes seam bytes rest) (sym read.frame_is) (record { spelt = spelt; lawful = tt })
 
-pub header_again : (col at : ℕ) (wanted : Option ColumnType) (ty : ColumnType) (rest : List ℕ) → is_wanted wanted ty ≡ true → header_at col at wanted (frame_bytes (Header ty) ++ rest) ≡ Ok (Some (Header ty, rest))
+pub header_again : (col at : ℕ) (wanted : Option ColumnType) (kind : Kind) (rest : List ℕ) → is_wanted wanted kind.ty ≡ true
+    → header_at col at wanted (frame_bytes (Header kind) ++ rest) ≡ Ok (Some (Header kind, rest))
 unfolding header_at
-header_again col at wanted ty rest w =
-    let long : ltb (length (72 ∷ 1 ∷ type_byte ty ∷ rest)) 3 ≡ false = le-ltb _ _ (omega arith) in
-    rw (long, of_type_byte ty, w) refl
+header_again col at wanted kind rest w =
+    let long : ltb (length (72 ∷ version_byte kind.format ∷ type_byte kind.ty ∷ rest)) 3 ≡ false = le-ltb _ _ (omega arith) in
+    rw (long, of_version_byte kind.format, of_type_byte kind.ty, w) refl
 
 -- ---- heads
 
@@ -212,19 +246,36 @@ head_again h rest small =
 
 -- what a test of a block's numbers says
 record MayStand (seam : Seam) (h : Head) : Type 0 where
-  typed : is_some seam.ty ≡ true
+  typed : is_some seam.kind ≡ true
   turn : is_in_turn seam h ≡ true
   count : has_due_count h ≡ true
 
 may_stand_says : (seam : Seam) (h : Head) → may_stand seam h ≡ true → MayStand seam h
 may_stand_says seam h e =
-    let a = and_parts (is_some seam.ty && is_in_turn seam h) (has_due_count h) e in
-    let b = and_parts (is_some seam.ty) (is_in_turn seam h) a.0 in
+    let a = and_parts (is_some seam.kind && is_in_turn seam h) (has_due_count h) e in
+    let b = and_parts (is_some seam.kind) (is_in_turn seam h) a.0 in
     record { typed = b.0; turn = b.1; count = a.1 }
 
-typed_is : (ty : Option ColumnType) → is_some ty ≡ true → ty ≡ Some (unwrap_or ty column.Int)
-typed_is None e = absurd cc
-typed_is (Some ty) e = refl
+kind_is : (kind : Option Kind) → is_some kind ≡ true → kind ≡ Some (unwrap_or kind no_kind)
+kind_is None e = absurd cc
+kind_is (Some kind) e = refl
+
+-- ---- payloads of either format
+
+-- bytes are the payload of these values
+pub record IsStored (format : Format) (ty : ColumnType) (count : ℕ) (bytes : List ℕ) (values : List Value) : Type 0 where
+  pub counted : length values ≡ count
+  pub fit : AllFit ty values
+  pub spelt : bytes ≡ payload_in format ty values
+
+is_stored : (format : Format) (ty : ColumnType) (count : ℕ) (bytes : List ℕ) (values : List Value) → AreBytes bytes
+    → reading_in format ty count bytes ≡ Ok values → IsStored format ty count bytes values
+is_stored First ty count bytes values small e =
+    let p = is_payload ty count bytes values small e in
+    record { counted = p.counted; fit = p.fit; spelt = p.spelt }
+is_stored Second ty count bytes values small e =
+    let p = is_encoded ty count bytes values small e in
+    record { counted = p.counted; fit = p.fit; spelt = p.spelt }
 
 -- the flag is one of two bytes, and the values fill a block at most
 count_says : (h : Head) → has_due_count h ≡ true → (flag_byte (eqb h.flag 1) ≡ h.flag) × (h.count ≤ MAX_BLOCK_VALUES)
@@ -244,46 +295,50 @@ count_says h e =
     ]
 
 -- a block that was read
-record IsPartRead (h : Head) (ty : ColumnType) (after rest : List ℕ) (reading : Result (List Value) BlockFault) (frame : Frame) : Type 0 where
+record IsPartRead (h : Head) (kind : Kind) (after rest : List ℕ) (reading : Result (List Value) BlockFault) (frame : Frame) : Type 0 where
   values : List Value
   reading_is : reading ≡ Ok values
-  frame_is : frame ≡ Block (record { generation = h.generation; number = h.number; last = eqb h.flag 1; block = record { ty = ty; values = values } })
+  frame_is : frame ≡ Block (part_with h kind values)
   rest_is : after ≡ rest
 
-part_of_ok : (col at : ℕ) (h : Head) (ty : ColumnType) (after rest : List ℕ) (reading : Result (List Value) BlockFault) (frame : Frame) → part_of col at h ty after reading ≡ Ok (Some (frame, rest)) → IsPartRead h ty after rest reading frame
-part_of_ok col at h ty after rest (Ok values) frame e =
-    let part : Frame = Block (record { generation = h.generation; number = h.number; last = eqb h.flag 1; block = record { ty = ty; values = values } }) in
+part_of_ok : (col at : ℕ) (h : Head) (kind : Kind) (after rest : List ℕ) (reading : Result (List Value) BlockFault) (frame : Frame)
+    → part_of col at h kind after reading ≡ Ok (Some (frame, rest)) → IsPartRead h kind after rest reading frame
+part_of_ok col at h kind after rest (Ok values) frame e =
+    let part : Frame = Block (part_with h kind values) in
     let pair : Frame × List ℕ = (part, after) in
     let other : Frame × List ℕ = (frame, rest) in
     let same : pair ≡ other = some_is pair other e in
     record { values = values; reading_is = refl; frame_is = sym (ap (λ (p : Frame × List ℕ). p.0) same); rest_is = ap (λ (p : Frame × List ℕ). p.1) same }
-part_of_ok col at h ty after rest (Err fault) frame e = absurd cc
+part_of_ok col at h kind after rest (Err fault) frame e = absurd cc
 
-pub part_takes : (col at : ℕ) (seam : Seam) (bytes rest : List ℕ) (frame : Frame) → AreBytes bytes → get_or bytes 0 0 ≡ 66 → part_at col at seam bytes ≡ Ok (Some (frame, rest)) → Takes seam bytes rest frame
+pub part_takes : (col at : ℕ) (seam : Seam) (bytes rest : List ℕ) (frame : Frame) → AreBytes bytes → get_or bytes 0 0 ≡ 66
+    → part_at col at seam bytes ≡ Ok (Some (frame, rest)) → Takes seam bytes rest frame
 unfolding part_at
 part_takes col at seam bytes rest frame small first e =
     let h = head_at bytes in
-    let ty = unwrap_or seam.ty column.Int in
+    let kind = unwrap_or seam.kind no_kind in
     let body = drop 16 bytes in
     let payload = take h.size body in
-    let reading = reading_of ty h.count payload in
-    let a = whole_ok (ltb (length bytes) 16) (cond (may_stand seam h) (payload_at col at h ty body) (Err (BadFrame col at))) (frame, rest) e in
-    let b = passed_ok (may_stand seam h) (payload_at col at h ty body) (BadFrame col at) (Some (frame, rest)) a.1 in
-    let c = whole_ok (ltb (length body) h.size) (part_of col at h ty (drop h.size body) reading) (frame, rest) b.1 in
-    let read = part_of_ok col at h ty (drop h.size body) rest reading frame c.1 in
+    let reading = reading_in kind.format kind.ty h.count payload in
+    let a = whole_ok (ltb (length bytes) 16) (cond (may_stand seam h) (payload_at col at h kind body) (Err (BadFrame col at))) (frame, rest) e in
+    let b = passed_ok (may_stand seam h) (payload_at col at h kind body) (BadFrame col at) (Some (frame, rest)) a.1 in
+    let c = whole_ok (ltb (length body) h.size) (part_of col at h kind (drop h.size body) reading) (frame, rest) b.1 in
+    let read = part_of_ok col at h kind (drop h.size body) rest reading frame c.1 in
     let says = may_stand_says seam h b.0 in
     let count = count_says h says.count in
-    let part : Part = record { generation = h.generation; number = h.number; last = eqb h.flag 1; block = record { ty = ty; values = read.values } } in
-    let is : IsPayload ty h.count payload read.values = is_payload ty h.count payload read.values (AreBytes-take h.size body (AreBytes-drop 16 bytes small)) read.reading_is in
+    let part : Part = part_with h kind read.values in
+    let written = payload_in kind.format kind.ty read.values in
+    let is : IsStored kind.format kind.ty h.count payload read.values =
+    is_stored kind.format kind.ty h.count payload read.values (AreBytes-take h.size body (AreBytes-drop 16 bytes small)) read.reading_is in
     let long : h.size ≤ length body = ltb-false _ _ c.0 in
-    let size : length (payload_of ty read.values) ≡ h.size = sym (ap length is.spelt) ∙ (let l : length payload ≡ h.size = omega (arith, length-take h.size body) in l) in
+    let size : length written ≡ h.size = sym (ap length is.spelt) ∙ (let l : length payload ≡ h.size = omega (arith, length-take h.size body) in l) in
     let head : head_of part ≡ h =
-    ap (λ x. make_head h.generation h.number x (length read.values) (length (payload_of ty read.values))) count.0
-    ∙ ap (λ x. make_head h.generation h.number h.flag x (length (payload_of ty read.values))) is.counted
+    ap (λ x. make_head h.generation h.number x (length read.values) (length written)) count.0
+    ∙ ap (λ x. make_head h.generation h.number h.flag x (length written)) is.counted
     ∙ ap (λ x. make_head h.generation h.number h.flag h.count x) size in
     let lawful : IsPartAt seam part = record {
       stands = ap (may_stand seam) head ∙ b.0;
-      typed = typed_is seam.ty says.typed;
+      typed = kind_is seam.kind says.typed;
       block = record { few = omega (arith, is.counted, count.1); fit = is.fit };
       generation = word_small bytes 1 small;
       number = word_small bytes 5 small;
@@ -292,15 +347,16 @@ part_takes col at seam bytes rest frame small first e =
     head_spelt bytes (ltb-false _ _ a.0) first small
     ∙ ap (λ x. head_bytes h ++ x) (sym (take-append-drop h.size body))
     ∙ ap (λ x. head_bytes h ++ (x ++ drop h.size body)) is.spelt
-    ∙ ap (λ x. head_bytes h ++ (payload_of ty read.values ++ x)) read.rest_is
-    ∙ sym (append_assoc (head_bytes h) (payload_of ty read.values) rest)
-    ∙ ap (λ x. head_bytes x ++ payload_of ty read.values ++ rest) (sym head) in
+    ∙ ap (λ x. head_bytes h ++ (written ++ x)) read.rest_is
+    ∙ sym (append_assoc (head_bytes h) written rest)
+    ∙ ap (λ x. head_bytes x ++ written ++ rest) (sym head) in
     subst (Takes seam bytes rest) (sym read.frame_is) (record { spelt = spelt; lawful = lawful })
 
 -- the block whose numbers may stand here is the payload at them
-pub part_at-stands : (col at : ℕ) (seam : Seam) (bytes : List ℕ) (h : Head) (ty : ColumnType) → 16 ≤ length bytes → h ≡ head_at bytes → may_stand seam h ≡ true → ty ≡ unwrap_or seam.ty column.Int → payload_at col at h ty (drop 16 bytes) ≡ part_at col at seam bytes
+pub part_at-stands : (col at : ℕ) (seam : Seam) (bytes : List ℕ) (h : Head) (kind : Kind) → 16 ≤ length bytes → h ≡ head_at bytes
+    → may_stand seam h ≡ true → kind ≡ unwrap_or seam.kind no_kind → payload_at col at h kind (drop 16 bytes) ≡ part_at col at seam bytes
 unfolding part_at
-part_at-stands col at seam bytes h ty long head stands typed =
+part_at-stands col at seam bytes h kind long head stands typed =
     let enough : ltb (length bytes) 16 ≡ false = le-ltb _ _ long in
     let good : may_stand seam (head_at bytes) ≡ true = ap (may_stand seam) (sym head) ∙ stands in
-    sym (rw (enough, good) (ap (λ x. payload_at col at x (unwrap_or seam.ty column.Int) (drop 16 bytes)) (sym head) ∙ ap (λ x. payload_at col at h x (drop 16 bytes)) (sym typed)))
+    sym (rw (enough, good) (ap (λ x. payload_at col at x (unwrap_or seam.kind no_kind) (drop 16 bytes)) (sym head) ∙ ap (λ x. payload_at col at h x (drop 16 bytes)) (sym typed)))

@@ -13,7 +13,7 @@ use Rattle.columns.specs.Reading.{◌>>=◌, Found, found_then, and_then, frame_
 use Rattle.columns.proofs.AgainLemmas.{frames_step}
 
 parts_of-cons : (frame : Frame) (frames : List Frame) → parts_of (frame ∷ frames) ≡ parts_of (frame ∷ []) ++ parts_of frames
-parts_of-cons (Header ty) frames = refl
+parts_of-cons (Header kind) frames = refl
 parts_of-cons (Block part) frames = refl
 parts_of-cons End frames = refl
 

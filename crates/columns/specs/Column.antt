@@ -4,11 +4,17 @@ use Rattle.std.specs.List.{flat_map}
 use Rattle.std.specs.Int.{w16, w32, to_be_bytes, from_be_bytes}
 use Rattle.values.specs.declared.limits.TheConstants.{MAX_BLOCK_VALUES}
 use Rattle.blocks.specs.Column.{IsBlock}
+use Rattle.values.specs.declared.value.ColumnType.{ColumnType}
+use Rattle.values.specs.declared.value.Value.{Value}
+use Rattle.blocks.specs.Encoding.{encoded_of}
 use Rattle.blocks.specs.Payload.{payload_of}
-use Rattle.columns.specs.Bytes.{type_byte}
+use Rattle.columns.specs.Bytes.{type_byte, version_byte}
+use Rattle.columns.specs.declared.frame.Format.{Format}
+use Rattle.columns.specs.declared.frame.Format.TheVariants.{First, Second}
 use Rattle.columns.specs.declared.frame.Frame.{Frame}
 use Rattle.columns.specs.declared.frame.Frame.TheVariants.{Header, Block, End}
 use Rattle.columns.specs.declared.frame.Head.{Head}
+use Rattle.columns.specs.declared.frame.Kind.{Kind}
 use Rattle.columns.specs.declared.frame.Part.{Part}
 use Rattle.columns.specs.declared.seam.Seam.{Seam}
 use Rattle.columns.specs.declared.seam.Unfinished.{Unfinished}
@@ -19,6 +25,15 @@ use Rattle.columns.specs.declared.seam.Unfinished.{Unfinished}
 abbrev pub flag_byte : Bool → ℕ
 flag_byte last = cond last 1 0
 
+-- the payload of values in a format
+abbrev pub payload_in : Format → ColumnType → List Value → List ℕ
+payload_in First ty values = payload_of ty values
+payload_in Second ty values = encoded_of ty values
+
+-- of a block
+abbrev pub part_payload : Part → List ℕ
+part_payload part = payload_in part.format part.block.ty part.block.values
+
 -- the numbers in front of a block
 abbrev pub head_of : Part → Head
 head_of part = record {
@@ -26,7 +41,7 @@ head_of part = record {
   number = part.number;
   flag = flag_byte part.last;
   count = length part.block.values;
-  size = length (payload_of part.block.ty part.block.values);
+  size = length (part_payload part);
 }
 
 -- in sixteen bytes, the highest byte of each number first
@@ -34,8 +49,8 @@ abbrev pub head_bytes : Head → List ℕ
 head_bytes h = 66 ∷ (to_be_bytes w32 h.generation ++ (to_be_bytes w32 h.number ++ h.flag ∷ (to_be_bytes w16 h.count ++ to_be_bytes w32 h.size)))
 
 abbrev pub frame_bytes : Frame → List ℕ
-frame_bytes (Header ty) = 72 ∷ 1 ∷ type_byte ty ∷ []
-frame_bytes (Block part) = head_bytes (head_of part) ++ payload_of part.block.ty part.block.values
+frame_bytes (Header kind) = 72 ∷ version_byte kind.format ∷ type_byte kind.ty ∷ []
+frame_bytes (Block part) = head_bytes (head_of part) ++ part_payload part
 frame_bytes End = 69 ∷ []
 
 -- frames, one after the other
@@ -46,7 +61,7 @@ column_bytes frames = flat_map frame_bytes frames
 
 -- the seam before the first frame
 abbrev pub start : Seam
-start = record { ty = None; newest = None; before = None }
+start = record { kind = None; newest = None; before = None }
 
 -- whether a generation is above each before it
 abbrev pub is_above : Option ℕ → ℕ → Bool
@@ -68,18 +83,22 @@ has_due_count h = cond (h.flag == 0) (h.count == MAX_BLOCK_VALUES) (cond (h.flag
 
 -- whether a block with these numbers may stand at the seam
 abbrev pub may_stand : Seam → Head → Bool
-may_stand seam h = is_some seam.ty && is_in_turn seam h && has_due_count h
+may_stand seam h = is_some seam.kind && is_in_turn seam h && has_due_count h
+
+-- the kind that a block is of
+abbrev pub kind_of : Part → Kind
+kind_of part = record { format = part.format; ty = part.block.ty }
 
 -- a block that may stand at the seam
 pub record IsPartAt (seam : Seam) (part : Part) : Type 0 where
   pub stands : may_stand seam (head_of part) ≡ true
-  pub typed : seam.ty ≡ Some part.block.ty
+  pub typed : seam.kind ≡ Some (kind_of part)
   pub block : IsBlock part.block
   pub generation : part.generation < 4294967296
   pub number : part.number < 4294967296
 
 abbrev pub IsFrameAt : Seam → Frame → Type 0
-IsFrameAt seam (Header ty) = Unit {0}
+IsFrameAt seam (Header kind) = Unit {0}
 IsFrameAt seam (Block part) = IsPartAt seam part
 IsFrameAt seam End = Unit {0}
 
@@ -89,9 +108,9 @@ unfinished part = cond part.last None (Some (record { generation = part.generati
 
 -- the seam after a frame
 abbrev pub seam_after : Seam → Frame → Seam
-seam_after seam (Header ty) = record { ty = Some ty; newest = seam.newest; before = None }
-seam_after seam (Block part) = record { ty = seam.ty; newest = Some part.generation; before = unfinished part }
-seam_after seam End = record { ty = seam.ty; newest = seam.newest; before = None }
+seam_after seam (Header kind) = record { kind = Some kind; newest = seam.newest; before = None }
+seam_after seam (Block part) = record { kind = seam.kind; newest = Some part.generation; before = unfinished part }
+seam_after seam End = record { kind = seam.kind; newest = seam.newest; before = None }
 
 -- after frames
 abbrev pub seam_after_all : Seam → List Frame → Seam

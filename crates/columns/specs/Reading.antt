@@ -5,12 +5,16 @@ use Rattle.values.specs.declared.value.ColumnType.{ColumnType}
 use Rattle.values.specs.declared.value.ColumnType.TheVariants as column
 use Rattle.values.specs.declared.value.Value.{Value}
 use Rattle.blocks.specs.declared.fault.BlockFault.{BlockFault}
+use Rattle.blocks.specs.Encoding.{decoding_of}
 use Rattle.blocks.specs.Reading.{reading_of}
 use Rattle.columns.specs.declared.fault.ReadFault.{ReadFault}
 use Rattle.columns.specs.declared.fault.ReadFault.TheVariants.{WrongCount, BadFrame, TypesDiffer, BadBlock, NoImage, CountsDiffer, TooManyRows, NotAscending, NoMemory}
 use Rattle.columns.specs.declared.frame.Frame.{Frame}
 use Rattle.columns.specs.declared.frame.Frame.TheVariants.{Header, Block, End}
+use Rattle.columns.specs.declared.frame.Format.{Format}
+use Rattle.columns.specs.declared.frame.Format.TheVariants.{First, Second}
 use Rattle.columns.specs.declared.frame.Head.{Head}
+use Rattle.columns.specs.declared.frame.Kind.{Kind}
 use Rattle.columns.specs.declared.frame.Part.{Part}
 use Rattle.columns.specs.declared.seam.Seam.{Seam}
 use Rattle.columns.specs.Bytes.{type_byte}
@@ -19,6 +23,10 @@ use Rattle.columns.specs.Column.{start, head_at, may_stand, seam_after}
 -- a frame and the bytes after it, or none where the bytes are a rest
 abbrev pub Found : Type 0
 Found = Option (Frame × List ℕ)
+
+-- the format that a version byte names
+abbrev pub format_of : ℕ → Option Format
+format_of byte = cond (byte == 1) (Some First) (cond (byte == 2) (Some Second) None)
 
 -- the type that a byte names
 abbrev pub type_of : ℕ → Option ColumnType
@@ -32,39 +40,54 @@ is_wanted (Some wanted) ty = type_byte ty == type_byte wanted
 -- whether each header is of the type that is wanted
 abbrev pub AreWanted : Option ColumnType → List Frame → Type 0
 AreWanted wanted [] = Unit {0}
-AreWanted wanted (Header ty ∷ frames) = (is_wanted wanted ty ≡ true) × AreWanted wanted frames
+AreWanted wanted (Header kind ∷ frames) = (is_wanted wanted kind.ty ≡ true) × AreWanted wanted frames
 AreWanted wanted (Block part ∷ frames) = AreWanted wanted frames
 AreWanted wanted (End ∷ frames) = AreWanted wanted frames
 
--- a header by the type that its byte names
-abbrev pub header_of : ℕ → ℕ → Option ColumnType → Option ColumnType → List ℕ → Result Found ReadFault
-header_of col at wanted None rest = Err (BadFrame col at)
-header_of col at wanted (Some ty) rest = if is_wanted wanted ty then Ok (Some (Header ty, rest)) else Err (TypesDiffer col)
+-- a header by the format and the type that its bytes name
+abbrev pub header_of : ℕ → ℕ → Option ColumnType → Option Format → Option ColumnType → List ℕ → Result Found ReadFault
+header_of col at wanted None ty rest = Err (BadFrame col at)
+header_of col at wanted (Some format) None rest = Err (BadFrame col at)
+header_of col at wanted (Some format) (Some ty) rest =
+    if is_wanted wanted ty then Ok (Some (Header (record { format = format; ty = ty }), rest)) else Err (TypesDiffer col)
 
 -- the header at the front of the bytes
 unfoldable pub header_at : ℕ → ℕ → Option ColumnType → List ℕ → Result Found ReadFault
 header_at col at wanted bytes =
     if nat_lt (length bytes) 3 then Ok None
-    else if get_or bytes 1 0 == 1 then header_of col at wanted (type_of (get_or bytes 2 0)) (drop 3 bytes)
-    else Err (BadFrame col at)
+    else header_of col at wanted (format_of (get_or bytes 1 0)) (type_of (get_or bytes 2 0)) (drop 3 bytes)
+
+-- so many values of the type by a payload of the format
+abbrev pub reading_in : Format → ColumnType → ℕ → List ℕ → Result (List Value) BlockFault
+reading_in First ty count bytes = reading_of ty count bytes
+reading_in Second ty count bytes = decoding_of ty count bytes
+
+-- a block with these numbers, of this kind, and with these values
+abbrev pub part_with : Head → Kind → List Value → Part
+part_with h kind values =
+    record { format = kind.format; generation = h.generation; number = h.number; last = h.flag == 1; block = record { ty = kind.ty; values = values } }
 
 -- a block with these numbers and this payload, by the values that this says
-abbrev pub part_of : ℕ → ℕ → Head → ColumnType → List ℕ → Result (List Value) BlockFault → Result Found ReadFault
-part_of col at h ty rest (Ok values) =
-    Ok (Some (Block (record { generation = h.generation; number = h.number; last = h.flag == 1; block = record { ty = ty; values = values } }), rest))
-part_of col at h ty rest (Err fault) = Err (BadBlock col at fault)
+abbrev pub part_of : ℕ → ℕ → Head → Kind → List ℕ → Result (List Value) BlockFault → Result Found ReadFault
+part_of col at h kind rest (Ok values) =
+    Ok (Some (Block (part_with h kind values), rest))
+part_of col at h kind rest (Err fault) = Err (BadBlock col at fault)
 
 -- a block with these numbers at the front of its payload and what follows
-abbrev pub payload_at : ℕ → ℕ → Head → ColumnType → List ℕ → Result Found ReadFault
-payload_at col at h ty bytes =
+abbrev pub payload_at : ℕ → ℕ → Head → Kind → List ℕ → Result Found ReadFault
+payload_at col at h kind bytes =
     if nat_lt (length bytes) h.size then Ok None
-    else part_of col at h ty (drop h.size bytes) (reading_of ty h.count (take h.size bytes))
+    else part_of col at h kind (drop h.size bytes) (reading_in kind.format kind.ty h.count (take h.size bytes))
+
+-- the kind where there is no header, which no block meets
+abbrev pub no_kind : Kind
+no_kind = record { format = First; ty = column.Int }
 
 -- the block at the front of the bytes
 unfoldable pub part_at : ℕ → ℕ → Seam → List ℕ → Result Found ReadFault
 part_at col at seam bytes =
     if nat_lt (length bytes) 16 then Ok None
-    else if may_stand seam (head_at bytes) then payload_at col at (head_at bytes) (unwrap_or seam.ty column.Int) (drop 16 bytes)
+    else if may_stand seam (head_at bytes) then payload_at col at (head_at bytes) (unwrap_or seam.kind no_kind) (drop 16 bytes)
     else Err (BadFrame col at)
 
 -- the frame at the front of the bytes

@@ -5,6 +5,22 @@ ghost use Rattle.columns.specs.Bytes.{type_byte};
 use blocks::Block;
 use values::ColumnType;
 
+/// How the payloads after a header are stored.
+#[derive(Clone, Copy)]
+pub enum Format {
+    /// A payload is that of its values.
+    First,
+    /// A payload begins with a byte that names its encoding: equal values are stored as one.
+    Second,
+}
+
+/// What a header says of the blocks after it.
+#[derive(Clone, Copy)]
+pub struct Kind {
+    pub format: Format,
+    pub ty: ColumnType,
+}
+
 /// The numbers in front of a block, as their bytes spell them.
 #[derive(Clone, Copy)]
 pub struct Head {
@@ -22,6 +38,7 @@ pub struct Head {
 /// One block of a generation.
 #[derive(Drop)]
 pub struct Part {
+    pub format: Format,
     pub generation: u32,
     /// Which block of its generation, from 0.
     pub number: u32,
@@ -33,8 +50,8 @@ pub struct Part {
 /// A piece of a column that has a meaning of its own.
 #[derive(Drop)]
 pub enum Frame {
-    /// The blocks that follow are of this type, up to the next header.
-    Header(ColumnType),
+    /// The blocks that follow are of this kind, up to the next header.
+    Header(Kind),
     Block(Part),
     /// What a device writes at its end where it never failed.
     End,

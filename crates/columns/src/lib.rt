@@ -1,4 +1,5 @@
-//! A column of a store: its frames, their bytes, and what a list of bytes says as a column.
+//! A column of a store: its frames, their bytes, and what a list of bytes says as a column. Columns are read in both
+//! formats, also one after the other, and written in format 2.
 //!
 //! *What it stands on.* `values`, `blocks` for the values of a block and their payload, and `thiserror`.
 #![tactic(auto)]
@@ -10,7 +11,7 @@ mod seam;
 mod writing;
 
 pub use fault::ReadFault;
-pub use frame::{Frame, Head, Part};
+pub use frame::{Format, Frame, Head, Kind, Part};
 pub use reading::read_column;
 pub use seam::{Seam, Unfinished};
 pub use writing::{write_header, write_part};

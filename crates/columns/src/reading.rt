@@ -1,12 +1,13 @@
 //! A column, read frame by frame.
-ghost use Rattle.std.specs.Prelude.{◌≡◌, ◌<◌, ◌≤◌, ◌++◌, ◌∷◌, [], Some, length, OnOk, IfErr};
+ghost use Rattle.std.specs.Prelude.{◌≡◌, ◌<◌, ◌≤◌, ◌++◌, ◌∷◌, [], Some, length, OnOk, IfOk, IfErr};
 ghost use Rattle.columns.specs.Column.{head_at};
-ghost use Rattle.columns.specs.Reading.{Gives, found_now, frame_at, frames_of, header_at, part_at, parts_after, parts_of, payload_at, type_of};
+ghost use Rattle.columns.specs.Reading.{Gives, found_now, format_of, frame_at, frames_of, header_at, part_at, parts_after, parts_of, payload_at, reading_in, type_of};
+ghost use Rattle.blocks.specs.Reading.{Gives as GivesValues};
 
 use crate::fault::ReadFault;
-use crate::frame::{Frame, Head, Part, type_byte};
+use crate::frame::{Format, Frame, Head, Kind, Part, type_byte};
 use crate::seam::Seam;
-use blocks::{BlockFault, read_block};
+use blocks::{Block, BlockFault, read_block, read_block2};
 use std::alloc::Global;
 use values::ColumnType;
 use values::limits::MAX_BLOCK_VALUES;
@@ -85,18 +86,17 @@ fn header_at(
     if bytes.len() < 3 {
         return Ok(None);
     }
-    if bytes[1] != 1 {
+    let Some(format) = format_of(bytes[1]) else {
         return Err(ReadFault::BadFrame(col, at));
+    };
+    let Some(found) = type_of(bytes[2]) else {
+        return Err(ReadFault::BadFrame(col, at));
+    };
+    if type_byte(found) != type_byte(ty) {
+        return Err(ReadFault::TypesDiffer(col));
     }
-    match type_of(bytes[2]) {
-        None => Err(ReadFault::BadFrame(col, at)),
-        Some(found) => {
-            if type_byte(found) != type_byte(ty) {
-                return Err(ReadFault::TypesDiffer(col));
-            }
-            Ok(Some((Frame::Header(found), &bytes[3..])))
-        }
-    }
+    let kind = Kind { format, ty: found };
+    Ok(Some((Frame::Header(kind), &bytes[3..])))
 }
 
 /// The block at the front of the bytes.
@@ -117,9 +117,12 @@ fn part_at<'a>(
     if !seam.may_stand(&head) {
         return Err(ReadFault::BadFrame(col, at));
     }
-    let ty = seam.ty.unwrap_or(ColumnType::Int);
+    let kind = seam.kind.unwrap_or(Kind {
+        format: Format::First,
+        ty: ColumnType::Int,
+    });
     let (_, body) = bytes.split_at(16);
-    payload_at(alloc, col, at, &head, ty, body)
+    payload_at(alloc, col, at, &head, kind, body)
 }
 
 /// The block with these numbers whose payload is at the front of the bytes.
@@ -128,20 +131,21 @@ fn payload_at<'a>(
     col: usize,
     at: usize,
     head: &Head,
-    ty: ColumnType,
+    kind: Kind,
     bytes: &'a [u8],
 ) -> Result<Option<(Frame, &'a [u8])>, ReadFault>
     requires { head.now.count ≤ 1024 }
-    ensures { Gives found_now result (payload_at col at head.now ty bytes.now) }
+    ensures { Gives found_now result (payload_at col at head.now kind bytes.now) }
 {
     let size = head.size as usize;
     if bytes.len() < size {
         return Ok(None);
     }
     let (payload, rest) = bytes.split_at(size);
-    match read_block(alloc, ty, head.count as usize, payload) {
+    match block_in(alloc, kind, head.count as usize, payload) {
         Ok(block) => {
             let part = Part {
+                format: kind.format,
                 generation: head.generation,
                 number: head.number,
                 last: head.flag == 1,
@@ -151,6 +155,18 @@ fn payload_at<'a>(
         }
         Err(BlockFault::NoMemory) => Err(ReadFault::NoMemory),
         Err(fault) => Err(ReadFault::BadBlock(col, at, fault)),
+    }
+}
+
+/// The block of so many values whose payload the bytes are, in the format of its header.
+fn block_in(alloc: Global, kind: Kind, count: usize, payload: &[u8]) -> Result<Block, BlockFault>
+    requires { count ≤ 1024 }
+    ensures ty { IfOk result (λ block. block.ty ≡ kind.ty) }
+    ensures first { GivesValues (λ block. block.values) result (reading_in kind.format kind.ty count payload.now) }
+{
+    match kind.format {
+        Format::First => read_block(alloc, kind.ty, count, payload),
+        Format::Second => read_block2(alloc, kind.ty, count, payload),
     }
 }
 
@@ -165,6 +181,17 @@ fn head_at(bytes: &[u8]) -> Head
         flag: bytes[9],
         count: u16::from_be_bytes([bytes[10], bytes[11]]),
         size: u32::from_be_bytes([bytes[12], bytes[13], bytes[14], bytes[15]]),
+    }
+}
+
+/// The format that a version byte names.
+fn format_of(byte: u8) -> Option<Format>
+    ensures { result ≡ format_of byte }
+{
+    match byte {
+        1 => Some(Format::First),
+        2 => Some(Format::Second),
+        _ => None,
     }
 }
 

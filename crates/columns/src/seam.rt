@@ -2,8 +2,7 @@
 ghost use Rattle.std.specs.Prelude.{◌≡◌};
 ghost use Rattle.columns.specs.Column.{start, may_stand, goes_on, is_above, is_in_turn, has_due_count, seam_after};
 
-use crate::frame::{Frame, Head};
-use values::ColumnType;
+use crate::frame::{Frame, Head, Kind};
 use values::limits::MAX_BLOCK_VALUES;
 
 /// A block that another one of its generation has to follow.
@@ -16,8 +15,8 @@ pub struct Unfinished {
 /// A seam between two frames of a column.
 #[derive(Clone, Copy)]
 pub struct Seam {
-    /// The type of the last header before it.
-    pub ty: Option<ColumnType>,
+    /// What the last header before it says.
+    pub kind: Option<Kind>,
     /// The greatest generation before it.
     pub newest: Option<u32>,
     /// The block directly before it, where that isn't the last of its generation.
@@ -30,7 +29,7 @@ impl Seam {
         ensures { result ≡ start }
     {
         Seam {
-            ty: None,
+            kind: None,
             newest: None,
             before: None,
         }
@@ -40,7 +39,7 @@ impl Seam {
     pub fn may_stand(&self, head: &Head) -> bool
         ensures { result ≡ may_stand self.now head.now }
     {
-        self.ty.is_some() && self.is_in_turn(head) && has_due_count(head)
+        self.kind.is_some() && self.is_in_turn(head) && has_due_count(head)
     }
 
     /// Whether the block begins a new generation, or goes on with that of the block before.
@@ -82,13 +81,13 @@ impl Seam {
         ensures { result ≡ seam_after self frame.now }
     {
         match frame {
-            Frame::Header(ty) => Seam {
-                ty: Some(*ty),
+            Frame::Header(kind) => Seam {
+                kind: Some(*kind),
                 newest: self.newest,
                 before: None,
             },
             Frame::Block(part) => Seam {
-                ty: self.ty,
+                kind: self.kind,
                 newest: Some(part.generation),
                 before: if part.last {
                     None
@@ -100,7 +99,7 @@ impl Seam {
                 },
             },
             Frame::End => Seam {
-                ty: self.ty,
+                kind: self.kind,
                 newest: self.newest,
                 before: None,
             },

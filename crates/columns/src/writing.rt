@@ -1,24 +1,24 @@
-//! A block, written as a frame.
+//! A header and a block, written as frames of format 2.
 ghost use Rattle.std.specs.Prelude.{◌≡◌, ◌++◌, OnOk};
 ghost use Rattle.columns.specs.Column.{frame_bytes, head_bytes};
 
-use crate::frame::{Frame, Head, type_byte};
-use blocks::{Block, write_block};
+use crate::frame::{Format, Frame, Head, Kind, type_byte};
+use blocks::{Block, write_block2};
 use std::alloc::Global;
 use values::{ColumnType, NoMemory};
 
-/// Appends a header of this type.
+/// Appends a header of this type, in format 2.
 ///
 /// # Errors
 ///
 /// `NoMemory` where a growth is refused.
 pub fn write_header(ty: ColumnType, out: &mut Vec<u8>) -> Result<(), NoMemory>
-    ensures { OnOk result (out.new.items ≡ out.old.items ++ frame_bytes (Frame.Header ty)) }
+    ensures { OnOk result (out.new.items ≡ out.old.items ++ frame_bytes (Frame.Header (record { format = Format.Second; ty = ty }))) }
 {
-    Ok(out.extend_from_slice(&[b'H', 1, type_byte(ty)])?)
+    Ok(out.extend_from_slice(&[b'H', 2, type_byte(ty)])?)
 }
 
-/// Appends a block under its numbers.
+/// Appends a block under its numbers, in format 2.
 ///
 /// # Errors
 ///
@@ -31,10 +31,10 @@ pub fn write_part(
     block: &Block,
     out: &mut Vec<u8>,
 ) -> Result<(), NoMemory>
-    ensures { OnOk result (out.new.items ≡ out.old.items ++ frame_bytes (Frame.Block (record { generation = generation; number = number; last = last; block = block.now }))) }
+    ensures { OnOk result (out.new.items ≡ out.old.items ++ frame_bytes (Frame.Block (record { format = Format.Second; generation = generation; number = number; last = last; block = block.now }))) }
 {
     let mut payload = Vec::new(alloc);
-    write_block(block, &mut payload)?;
+    write_block2(block, &mut payload)?;
     let head = Head {
         generation,
         number,

@@ -10,6 +10,7 @@ use Rattle.values.specs.declared.value.Value.{Value}
 use Rattle.blocks.specs.Column.{Column}
 use Rattle.stable.specs.Column.{block_count}
 use Rattle.stable.specs.Stable.{Stable}
+use Rattle.columns.specs.declared.frame.Format.TheVariants.{Second}
 use Rattle.columns.specs.declared.frame.Frame.{Frame}
 use Rattle.columns.specs.declared.frame.Frame.TheVariants.{Block}
 use Rattle.columns.specs.Column.{frame_bytes, column_bytes}
@@ -32,11 +33,11 @@ module _ (generation : ℕ) (ty : ColumnType) (values : List Value) (n k : ℕ) 
       ∙ ap (λ x. old ++ x) (sym (ap column_bytes frames_more ∙ column_bytes_push done frame))
 
 -- no value
-pub image_none : (generation : ℕ) (c : Column) → length c.values ≡ 0 → column_bytes (image_frames generation c) ≡ frame_bytes (Block (record { generation = generation; number = 0; last = true; block = record { ty = c.ty; values = [] } }))
+pub image_none : (generation : ℕ) (c : Column) → length c.values ≡ 0 → column_bytes (image_frames generation c) ≡ frame_bytes (Block (record { format = Second; generation = generation; number = 0; last = true; block = record { ty = c.ty; values = [] } }))
 image_none generation c h = by c.ty c.values h
   where
-    by : (ty : ColumnType) (values : List Value) → length values ≡ 0 → column_bytes (image_frames generation (record { ty = ty; values = values })) ≡ frame_bytes (Block (record { generation = generation; number = 0; last = true; block = record { ty = ty; values = [] } }))
-    by ty [] h = append-nil (frame_bytes (Block (record { generation = generation; number = 0; last = true; block = record { ty = ty; values = [] } })))
+    by : (ty : ColumnType) (values : List Value) → length values ≡ 0 → column_bytes (image_frames generation (record { ty = ty; values = values })) ≡ frame_bytes (Block (record { format = Second; generation = generation; number = 0; last = true; block = record { ty = ty; values = [] } }))
+    by ty [] h = append-nil (frame_bytes (Block (record { format = Second; generation = generation; number = 0; last = true; block = record { ty = ty; values = [] } })))
     by ty (v ∷ values) h = absurd (omega (arith, h))
 
 -- so many blocks, rounded up

@@ -6,7 +6,7 @@ use Rattle.values.specs.declared.value.Value.TheVariants.{Int}
 use Rattle.blocks.specs.Reading.{ints_at}
 use Rattle.columns.specs.declared.fault.ReadFault.TheVariants.{WrongCount, BadFrame, NoImage}
 use Rattle.columns.specs.Reading.{header_at, part_at, frame_at, frames_at}
-use Rattle.columns.specs.Vectors.{ONE_ROW_COLUMN}
+use Rattle.columns.specs.Vectors.{INT_HEADER_2, TEN_BLOCK_2, ONE_ROW_COLUMN, ONE_ROW_COLUMN_2}
 use Rattle.devices.specs.Stored.{Image, stored_image}
 
 abbrev one_int : Columns
@@ -42,3 +42,23 @@ no_column = refl
 generation_twice : stored_image one_int ((ONE_ROW_COLUMN ++ ONE_ROW_COLUMN) ∷ []) ≡ Err (BadFrame 0 31)
 unfolding frames_at frame_at header_at part_at ints_at
 generation_twice = refl
+
+-- ---- format 2
+
+one_row_2 : stored_image one_int (ONE_ROW_COLUMN_2 ∷ []) ≡ Ok row_ten
+unfolding frames_at frame_at header_at part_at ints_at
+one_row_2 = refl
+
+-- 28 of its 29 bytes are whole, and 27 have lost one of the payload's
+end_cut_2 : stored_image one_int (take 28 ONE_ROW_COLUMN_2 ∷ []) ≡ Ok row_ten
+unfolding frames_at frame_at header_at part_at ints_at
+end_cut_2 = refl
+
+block_cut_2 : stored_image one_int (take 27 ONE_ROW_COLUMN_2 ∷ []) ≡ Err NoImage
+unfolding frames_at frame_at header_at part_at ints_at
+block_cut_2 = refl
+
+-- a store of format 1, and one of format 2 over it
+both_formats : stored_image one_int ((ONE_ROW_COLUMN ++ INT_HEADER_2 ++ TEN_BLOCK_2 2 ++ 0x45 ∷ []) ∷ []) ≡ Ok (record { generation = 2; table = row_ten.table })
+unfolding frames_at frame_at header_at part_at ints_at
+both_formats = refl

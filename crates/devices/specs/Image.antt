@@ -1,4 +1,4 @@
--- The frames that a table's columns are written as.
+-- The frames of format 2 that a table's columns are written as.
 use Rattle.std.specs.Prelude.{ℕ, ◌+◌, ◌==◌, cond, List, map, length}
 use Rattle.std.specs.List.{range_with_len}
 use Rattle.values.specs.declared.value.ColumnType.{ColumnType}
@@ -7,6 +7,7 @@ use Rattle.blocks.specs.Column.{Column}
 use Rattle.stable.specs.Column.{block_at, block_count}
 use Rattle.stable.specs.Rows.{column_at}
 use Rattle.stable.specs.Stable.{Stable}
+use Rattle.columns.specs.declared.frame.Format.TheVariants.{Second}
 use Rattle.columns.specs.declared.frame.Frame.{Frame}
 use Rattle.columns.specs.declared.frame.Frame.TheVariants.{Header, Block}
 use Rattle.columns.specs.Column.{frame_bytes, column_bytes}
@@ -17,7 +18,7 @@ part_count count = cond (count == 0) 1 (block_count count)
 
 -- the block number k of so many, under its generation
 abbrev pub image_frame : ℕ → ColumnType → List Value → ℕ → ℕ → Frame
-image_frame generation ty values count k = Block (record { generation = generation; number = k; last = k + 1 == count; block = block_at ty values k })
+image_frame generation ty values count k = Block (record { format = Second; generation = generation; number = k; last = k + 1 == count; block = block_at ty values k })
 
 -- the first blocks
 abbrev pub first_frames : ℕ → ColumnType → List Value → ℕ → ℕ → List Frame
@@ -41,4 +42,4 @@ pieces_of generation table = first_pieces generation table (length table.schema.
 
 -- the headers of columns of these types
 abbrev pub headers_of : List ColumnType → List (List ℕ)
-headers_of types = map (λ ty. frame_bytes (Header ty)) types
+headers_of types = map (λ ty. frame_bytes (Header (record { format = Second; ty = ty }))) types

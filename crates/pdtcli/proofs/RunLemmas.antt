@@ -18,7 +18,7 @@ use Rattle.pdtcli.specs.declared.reply.Reply.TheVariants.{Begun, AlreadyOpen, No
 use Rattle.pdtcli.specs.declared.reply.ReplyLine.{ReplyLine}
 use Rattle.txn.specs.Txn.{Transaction}
 use Rattle.manager.specs.Managed.{Managed, commits_in, IsDecided, IsOwn, begun_at, record_of, with_record, cut_of}
-use Rattle.pdtcli.specs.Run.{Side, SideStep, BeginStep, OpenWriteStep, OpenCommitStep, FoldStep, CutStep, State, Step, IsRun}
+use Rattle.pdtcli.specs.Run.{Side, SideStep, BeginStep, OpenWriteStep, OpenCommitStep, State, Step, IsRun}
 use Rattle.pdtcli.specs.Ready.{IsReady}
 use Rattle.manager.proofs.CallerLemmas.{newest_whole, commits_from-append, IsOwn-cut_of}
 
@@ -135,47 +135,12 @@ commit_keeps txn old new (End count) own h = absurd h
 commit_keeps txn old new Folded own h = absurd h
 commit_keeps txn old new (Cut count) own h = absurd h
 
-fold_keeps : (old new : Side) (reply : Reply) → IfSome old.own (IsOwn old.manager) → FoldStep old reply new → SideKeeps old new
-fold_keeps old new Begun own h = absurd h
-fold_keeps old new AlreadyOpen own h = absurd h
-fold_keeps old new NotOpen own h = absurd h
-fold_keeps old new (Wrote r) own h = absurd h
-fold_keeps old new KeyColumn own h = absurd h
-fold_keeps old new (TextTooLong n) own h = absurd h
-fold_keeps old new (Decided r) own h = absurd h
-fold_keeps old new Aborted own h = absurd h
-fold_keeps old new (Shown row) own h = absurd h
-fold_keeps old new Missing own h = absurd h
-fold_keeps old new NoRow own h = absurd h
-fold_keeps old new (Place below there) own h = absurd h
-fold_keeps old new (Rows count) own h = absurd h
-fold_keeps old new (End count) own h = absurd h
-fold_keeps old new Folded own h = side_same old new own h
-fold_keeps old new (Cut count) own h = absurd h
-fold_keeps old new NoMemory own h = side_same old new own h
-
 cut_own : (m : Managed) (own : Option Transaction) → IfSome own (IsOwn m) → IfSome own (IsOwn (cut_of m))
 cut_own m None h = tt
 cut_own m (Some txn) h = IsOwn-cut_of m txn h
 
-cut_keeps : (old new : Side) (reply : Reply) → IfSome old.own (IsOwn old.manager) → CutStep old reply new → SideKeeps old new
-cut_keeps old new Begun own h = absurd h
-cut_keeps old new AlreadyOpen own h = absurd h
-cut_keeps old new NotOpen own h = absurd h
-cut_keeps old new (Wrote r) own h = absurd h
-cut_keeps old new KeyColumn own h = absurd h
-cut_keeps old new (TextTooLong n) own h = absurd h
-cut_keeps old new (Decided r) own h = absurd h
-cut_keeps old new Aborted own h = absurd h
-cut_keeps old new (Shown row) own h = absurd h
-cut_keeps old new Missing own h = absurd h
-cut_keeps old new NoRow own h = absurd h
-cut_keeps old new (Place below there) own h = absurd h
-cut_keeps old new (Rows count) own h = absurd h
-cut_keeps old new (End count) own h = absurd h
-cut_keeps old new Folded own h = absurd h
-cut_keeps old new (Cut count) own h = subst (SideKeeps old) (sym h.1) (record { keeps = keeps_cut old.manager; own = cut_own old.manager old.own own })
-cut_keeps old new NoMemory own h = absurd h
+cut_keeps : (old new : Side) → IfSome old.own (IsOwn old.manager) → new ≡ record old { manager = cut_of old.manager } → SideKeeps old new
+cut_keeps old new own is = subst (SideKeeps old) (sym is) (record { keeps = keeps_cut old.manager; own = cut_own old.manager old.own own })
 
 -- by the transaction that is open
 step_keeps : (client : ℕ) (asked : Call) (m : Managed) (mine : Option Transaction) (new : Side) (rows : List Row) (reply : Reply) → IfSome mine (IsOwn m) → SideStep client asked (record { manager = m; own = mine }) rows reply new → SideKeeps (record { manager = m; own = mine }) new
@@ -187,8 +152,8 @@ step_keeps client call.Commit m None new rows reply own h = side_same _ new own 
 step_keeps client call.Commit m (Some txn) new rows reply own h = commit_keeps txn _ new reply own h.1
 step_keeps client call.Abort m None new rows reply own h = side_same _ new own h.1.1
 step_keeps client call.Abort m (Some txn) new rows reply own h = side_with _ None tt new h.1.1
-step_keeps client call.Fold m mine new rows reply own h = fold_keeps _ new reply own h.1
-step_keeps client call.Cut m mine new rows reply own h = cut_keeps _ new reply own h.1
+step_keeps client call.Fold m mine new rows reply own h = side_same _ new own h.1.1
+step_keeps client call.Cut m mine new rows reply own h = cut_keeps _ new own h.1.1
 
 if_some : (old new : Managed) → Keeps old new → (own : Option Transaction) → IfSome own (IsOwn old) → IfSome own (IsOwn new)
 if_some old new keeps None h = tt

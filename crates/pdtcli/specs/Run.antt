@@ -1,5 +1,5 @@
 -- A serial run: what each call may be answered, and what it leaves.
-use Rattle.std.specs.Prelude.{◌≡◌, ℕ, ◌+◌, ◌==◌, Bool, true, false, ◌&&◌, Option, Some, None, IsNone, IsSome, List, [], ◌∷◌, ◌++◌, map, filter, length, slice_get, slice_set}
+use Rattle.std.specs.Prelude.{◌≡◌, ◌⊎◌, ℕ, ◌+◌, ◌==◌, Bool, true, false, ◌&&◌, Option, Some, None, IsNone, IsSome, List, [], ◌∷◌, ◌++◌, map, filter, length, slice_get, slice_set}
 use Rattle.values.specs.Shape.{Columns, row_fault, key_fault, cell_fault, or_fault}
 use Rattle.values.specs.declared.fault.ShapeFault.{ShapeFault}
 use Rattle.values.specs.declared.fault.ShapeFault.TheVariants as shape
@@ -70,14 +70,11 @@ AbortStep (Some txn) old reply new = (reply ≡ Aborted) × (new ≡ record old 
 
 -- a fold changes no table and no history
 abbrev pub FoldStep : Side → Reply → Side → Type 0
-FoldStep old Folded new = new ≡ old
-FoldStep old NoMemory new = new ≡ old
-FoldStep old reply new = ⊥
+FoldStep old reply new = ((reply ≡ Folded) ⊎ (reply ≡ NoMemory)) × (new ≡ old)
 
 -- a cut hands out the history, and tells how many records it has
 abbrev pub CutStep : Side → Reply → Side → Type 0
-CutStep old (Cut count) new = (count ≡ length old.manager.history) × (new ≡ record old { manager = cut_of old.manager })
-CutStep old reply new = ⊥
+CutStep old reply new = (reply ≡ Cut (length old.manager.history)) × (new ≡ record old { manager = cut_of old.manager })
 
 -- the client's call may show these rows, be answered so, and leave this
 abbrev pub SideStep : ℕ → Call → Side → List Row → Reply → Side → Type 0

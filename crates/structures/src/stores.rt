@@ -55,8 +55,8 @@ fn one_row(alloc: Global) -> Result<StableTable, Fail> {
 }
 
 /// The bytes of that table's column: its header, a frame of one row, and a clean end.
-const NAMED: [u8; 28] = [
-    0x48, 1, 1, 0x42, 0, 0, 0, 1, 0, 0, 0, 0, 1, 0, 1, 0, 0, 0, 8, 0, 0, 0, 0, 0, 0, 0, 10, 0x45,
+const NAMED: [u8; 29] = [
+    0x48, 2, 1, 0x42, 0, 0, 0, 1, 0, 0, 0, 0, 1, 0, 1, 0, 0, 0, 9, 0, 0, 0, 0, 0, 0, 0, 0, 10, 0x45,
 ];
 
 #[test]
