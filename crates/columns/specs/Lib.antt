@@ -1,4 +1,5 @@
 pub mod Bytes
 pub mod Column
+pub mod Laws
 pub mod Reading
 pub mod Vectors

@@ -6,12 +6,14 @@
 
 mod fault;
 mod frame;
+mod laws;
 mod reading;
 mod seam;
 mod writing;
 
 pub use fault::ReadFault;
 pub use frame::{Format, Frame, Head, Kind, Part};
+pub use laws::{a_column_is_in_one_way, a_column_reads_back, what_reads_is_a_column};
 pub use reading::read_column;
 pub use seam::{Seam, Unfinished};
 pub use writing::{write_header, write_part};
