@@ -11,6 +11,8 @@ use std::sync::Arc;
 #[derive(Drop)]
 pub struct SharedEntry {
     sid: u64,
+    /// What the change adds to the rows below it, so that a search reads only the changes that it compares.
+    weight: i64,
     change: Arc<Change, Global>,
 }
 
@@ -20,6 +22,11 @@ impl Model for SharedEntry {
     ghost Value = { Entry };
 
     ghost view = { λ e. record { sid = e.sid; change = e.change.value } };
+
+    ghost use Rattle.std.specs.Prelude.{◌≡◌};
+    ghost use Rattle.counted.specs.Sums.{weight_of};
+
+    ghost invariant = { λ e. e.weight ≡ weight_of e.change.value };
 }
 
 impl SharedEntry {
@@ -33,6 +40,7 @@ impl SharedEntry {
     {
         Ok(SharedEntry {
             sid: entry.sid,
+            weight: change_weight(&entry.change),
             change: Arc::new(alloc, entry.change)?,
         })
     }
@@ -49,6 +57,13 @@ impl SharedEntry {
         ensures { result.now ≡ self.now.change }
     {
         &self.change
+    }
+
+    /// One for an insert, minus one for a delete, and nothing for a modify. It reads no change.
+    pub(crate) fn weight(&self) -> i64
+        ensures { result ≡ weight_of self.now.change }
+    {
+        self.weight
     }
 
     /// The same entry, which shares its change. It copies no row.
@@ -72,13 +87,14 @@ impl SharedEntry {
     {
         Ok(SharedEntry {
             sid,
+            weight: self.weight,
             change: Arc::try_clone(&self.change)?,
         })
     }
 }
 
 /// One for an insert, minus one for a delete, and nothing for a modify.
-pub fn weight(change: &Change) -> i64
+fn change_weight(change: &Change) -> i64
     ensures { result ≡ weight_of change.now }
 {
     match change {

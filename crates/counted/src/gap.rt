@@ -8,7 +8,6 @@ ghost use Rattle.counted.specs.Shapes.{AreChildren, all_items, items_of};
 ghost use Rattle.counted.specs.Spots.{ArePlaced};
 ghost use Rattle.counted.specs.Sums.{total};
 
-use crate::entry::weight;
 use crate::node::{Body, Child, Node};
 use crate::search::{Boundary, among, in_leaf};
 use crate::spot::row_above;
@@ -98,7 +97,7 @@ fn gap_in<G: Gap>(entries: &[SharedEntry], rid: i64, shift: i64, gap: &G) -> usi
     let mut index = 0;
     let mut up = shift;
     while index < entries.len() && leads(&entries[index], up, rid, gap) {
-        up += weight(entries[index].change());
+        up += entries[index].weight();
         index += 1;
     }
     index

@@ -4,7 +4,6 @@ ghost use Rattle.counted.specs.Sums.{total, shift_before};
 ghost use Rattle.counted.specs.Edits.{put_items, edited};
 
 use crate::SharedEntry;
-use crate::entry::weight;
 use std::alloc::{AllocError, Global};
 
 /// What the entries add.
@@ -14,7 +13,7 @@ pub(crate) fn total_of(entries: &[SharedEntry]) -> i64
 {
     let mut sum = 0;
     for entry in entries {
-        sum += weight(entry.change());
+        sum += entry.weight();
     }
     sum
 }
@@ -27,7 +26,7 @@ pub(crate) fn shift_in(entries: &[SharedEntry], sid: u64) -> i64
     let mut shift = 0;
     for entry in entries {
         if entry.sid() < sid {
-            shift += weight(entry.change());
+            shift += entry.weight();
         }
     }
     shift

@@ -15,7 +15,7 @@ mod spot;
 mod steps;
 mod tree;
 
-pub use entry::{SharedEntry, weight};
+pub use entry::SharedEntry;
 pub use gap::Gap;
 pub use iter::Iter;
 pub use search::{Boundary, Probe};

@@ -5,7 +5,6 @@ ghost use Rattle.counted.specs.Shapes.{AreChildren, all_items, items_of};
 ghost use Rattle.counted.specs.Spots.{IsSpot, ArePlaced, Passes, Stops};
 ghost use Rattle.counted.specs.Sums.{total, IsOrdered};
 
-use crate::entry::weight;
 use crate::node::{Body, Child, Node};
 use crate::{SharedEntry, Steps};
 use model::Change;
@@ -94,7 +93,7 @@ fn spot_in(entries: &[SharedEntry], rid: i64, shift: i64) -> Spot
                 inserted: true,
             };
         }
-        up += weight(entry.change());
+        up += entry.weight();
         index += 1;
     }
     Spot {
@@ -134,8 +133,12 @@ fn is_row(change: &Change, next: i64, rid: i64) -> bool
     ensures yes { result ≡ true → Stops true change.now next rid }
     ensures no { result ≡ false → Passes change.now next rid }
 {
+    // The change is read only where its row may be the one.
+    if next != rid {
+        return false;
+    }
     match change {
-        Change::Ins(_) => next == rid,
+        Change::Ins(_) => true,
         _ => false,
     }
 }

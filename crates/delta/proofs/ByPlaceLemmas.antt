@@ -1,27 +1,33 @@
 -- What stands at the place of a key.
-use Rattle.std.proofs.Common.{◌≡◌, ℕ, zero, suc, ◌<◌, ◌^◌, Bool, true, false, cond, not, T, Option, Some, None, is_some, List, [], ◌∷◌, ◌++◌, take, drop, Less, Equal, Greater, is_lt, is_eq, refl, sym, ap, ◌∙◌, subst, arith, take-append-drop}
+use Rattle.std.proofs.Common.{◌≡◌, ℕ, zero, suc, ◌<◌, ◌^◌, Bool, true, false, cond, not, T, Option, Some, None, is_some, List, [], ◌∷◌, ◌++◌, map, take, drop, nat_cmp, Less, Equal, Greater, is_lt, is_eq, is_gt, refl, sym, ap, ◌∙◌, subst, arith, take-append-drop}
 use Rattle.std.specs.Prelude.{◌==◌, slice_get}
+use Rattle.std.specs.Cmp.{ranked}
+use Rattle.std.specs.Ordering.{ordering_then}
 use Rattle.std.specs.FinMap.Entries.{below_all}
 use Rattle.std.specs.List.{list_all}
 use Rattle.std.proofs.lemmas.Bool.{eqb-true}
 use Rattle.std.proofs.lemmas.Bool.Decides.{nat_tests}
 use Rattle.std.proofs.lemmas.List.{append_cancel_left}
+use Rattle.std.proofs.lemmas.List.Folds.{list_all-append}
 use Rattle.std.proofs.lemmas.Option.{slice_get_within, get_or_from_slice_get}
 use Rattle.values.specs.Orders.{key_cmp, key_cmp_total, key_cmp-IsAntisymmetric}
 use Rattle.values.specs.Shape.{Columns}
 use Rattle.values.specs.declared.row.Key.{Key}
 use Rattle.model.specs.declared.entry.Entry.{Entry}
+use Rattle.model.specs.declared.entry.Change.TheVariants.{Ins, Del, Mod}
 use Rattle.model.specs.declared.effect.Effect.{Effect}
 use Rattle.model.specs.declared.effect.Effect.TheVariants as effect
 use Rattle.model.specs.Maps.{find, is_sorted}
 use Rattle.model.specs.Table.{Table, row_at, rank}
-use Rattle.model.specs.Effects.{Effects, AreOver, is_keyed_effect}
-use Rattle.model.specs.Entries.{IsLawful, entries_of, canonical_entries}
-use Rattle.model.proofs.CallerLemmas.{first, second, find_below, find_past, below_less, turn_less, turn_greater, rank-lt, canonical_entries-at_key}
-use Rattle.delta.specs.Search.{insert_cmp, stands_before, IsSplit}
+use Rattle.model.specs.Effects.{Cells, Effects, AreOver, is_keyed_effect}
+use Rattle.model.specs.Entries.{IsLawful, entry_at, entries_of, canonical_entries}
+use Rattle.model.proofs.CallerLemmas.{both, first, second, find_below, find_past, below_less, turn_less, turn_greater, rank-lt, canonical_entries-at_key}
+use Rattle.delta.specs.Search.{insert_cmp, past_cmp, stands_before, IsSplit}
 use Rattle.delta.specs.ByPlace.{made_of_base, base_change, effect_on_base}
 use Rattle.delta.specs.Laws.{row_inserted}
 use Rattle.delta.specs.declared.by_place.BaseChange.TheVariants.{Kept, Modified, Deleted}
+use Rattle.delta.proofs.ChangesLemmas.{all_from}
+use Rattle.delta.proofs.PutLemmas.{by_insert}
 use Rattle.delta.proofs.KeyPlaceLemmas.{high, own, sorted_effects, before_key}
 
 -- a base row with modifies stands below 2^32, as its entries do
@@ -101,13 +107,104 @@ module _ (key_cols : ℕ) (t : Table) (key : Key) (there : T (is_some (row_at t 
             ∙ ap effect_on_base (sym past)
       ] refl
 
+-- the entries from an insert of the key on are those of the keys from it on
+from_key : (schema : Columns) (t : Table) (x : Effects) (h : AreOver schema t x) (key : Key) (n : ℕ)
+    → IsSplit (stands_before (insert_cmp schema.key_cols key) (rank key t)) (canonical_entries t x) n
+    → drop n (canonical_entries t x) ≡ canonical_entries t (high key t x)
+from_key schema t x h key n split =
+    let es = canonical_entries t x in
+    let before = before_key schema t x h key n split in
+    let from : take n es ++ drop n es ≡ take n es ++ canonical_entries t (high key t x) =
+    take-append-drop n es ∙ canonical_entries-at_key schema t x key h.effects_are
+    ∙ ap (λ (low : List Entry). low ++ canonical_entries t (high key t x)) (sym before) in
+    append_cancel_left (take n es) (drop n es) (canonical_entries t (high key t x)) from
+
 -- what stands at the place of a key that the table has makes of its row what the key's effect does
 pub base_change-effect : (schema : Columns) (t : Table) (x : Effects) (h : AreOver schema t x) (key : Key) (n : ℕ) → IsSplit (stands_before (insert_cmp schema.key_cols key) (rank key t)) (canonical_entries t x) n
     → T (is_some (row_at t key)) → row_inserted (find key_cmp key x) ≡ None → base_change (rank key t) (slice_get (canonical_entries t x) n) ≡ effect_on_base (find key_cmp key x)
 base_change-effect schema t x h key n split there none =
-    let es = canonical_entries t x in
-    let from : take n es ++ drop n es ≡ take n es ++ canonical_entries t (high key t x) =
-    take-append-drop n es ∙ canonical_entries-at_key schema t x key h.effects_are ∙ ap (λ (low : List Entry). low ++ canonical_entries t (high key t x)) (sym (before_key schema t x h key n split)) in
-    let rest : drop n es ≡ canonical_entries t (high key t x) = append_cancel_left (take n es) (drop n es) (canonical_entries t (high key t x)) from in
-    ap (base_change (rank key t)) (slice_get-first_of es n ∙ ap first_of rest)
+    ap (base_change (rank key t)) (slice_get-first_of (canonical_entries t x) n ∙ ap first_of (from_key schema t x h key n split))
     ∙ high_first schema.key_cols t key there x (sorted_effects schema t x h key) (own schema t x h key) none
+
+-- ---- a row that the table has and no effect is on
+
+past_lt : (n m : ℕ) → n < m → T (not (is_gt (ordering_then (nat_cmp n m) Greater)))
+past_lt n m lt =
+    elim (nat_cmp n m) as (λ r. nat_cmp n m ≡ r → T (not (is_gt (ordering_then r Greater)))) [
+      | Less ↦ λ q. tt
+      | Equal ↦ λ q. let e : n ≡ m = ranked n m Equal (sym q) in absurd (omega arith)
+      | Greater ↦ λ q. let g : m < n = ranked n m Greater (sym q) in absurd (omega arith)
+    ] refl
+
+module _ (t : Table) (key : Key) (there : T (is_some (row_at t key))) where
+  -- an entry stands past the key's SID
+  abbrev is_later : Entry → Bool
+  is_later e = not (stands_before past_cmp (rank key t) e)
+
+  later_cells : (k : Key) (cells : Cells) → rank key t < rank k t
+      → T (list_all is_later (map (λ c. entry_at (rank k t) (Mod c.0 c.1)) cells))
+  later_cells k [] lt = tt
+  later_cells k (c ∷ cells) lt =
+      both (is_later (entry_at (rank k t) (Mod c.0 c.1))) _ (past_lt (rank key t) (rank k t) lt) (later_cells k cells lt)
+
+  later_effect : (k : Key) (f : Effect) → rank key t < rank k t → T (list_all is_later (entries_of (rank k t) k f))
+  later_effect k (effect.Ins row) lt = both (is_later (entry_at (rank k t) (Ins row))) _ (past_lt (rank key t) (rank k t) lt) tt
+  later_effect k effect.Del lt = both (is_later (entry_at (rank k t) (Del k))) _ (past_lt (rank key t) (rank k t) lt) tt
+  later_effect k (effect.Mod cells) lt = later_cells k cells lt
+  later_effect k (effect.Rep row) lt =
+      both (is_later (entry_at (rank k t) (Ins row))) _ (past_lt (rank key t) (rank k t) lt)
+      (both (is_later (entry_at (rank k t) (Del k))) _ (past_lt (rank key t) (rank k t) lt) tt)
+
+  -- those of the keys from this one on do, where it has no effect itself
+  high_later : (x : Effects) → find key_cmp key x ≡ None → T (list_all is_later (canonical_entries t (high key t x)))
+  high_later [] none = tt
+  high_later (e ∷ x) none =
+      elim (key_cmp key e.0) as (λ r. key_cmp key e.0 ≡ r → T (list_all is_later (canonical_entries t (high key t (e ∷ x))))) [
+        | Less ↦ λ p.
+            let rest = high_later x (sym (ap (λ r. cond (is_eq r) (Some e.1) (find key_cmp key x)) p) ∙ none) in
+            let here = later_effect e.0 e.1 (rank-lt key e.0 t p there) in
+            let own = entries_of (rank e.0 t) e.0 e.1 in
+            let above : canonical_entries t (high key t (e ∷ x)) ≡ own ++ canonical_entries t (high key t x) =
+            ap (λ r. canonical_entries t (cond (not (is_lt r)) (e ∷ high key t x) (high key t x)))
+            (turn_less key_cmp_total key e.0 p) in
+            let parts = sym (list_all-append is_later own (canonical_entries t (high key t x))) in
+            subst (λ (es : List Entry). T (list_all is_later es)) (sym above)
+            (subst T parts (both (list_all is_later own) _ here rest))
+        | Equal ↦ λ p.
+            let some : Some e.1 ≡ None = sym (ap (λ r. cond (is_eq r) (Some e.1) (find key_cmp key x)) p) ∙ none in
+            cc
+        | Greater ↦ λ p.
+            let rest = high_later x (sym (ap (λ r. cond (is_eq r) (Some e.1) (find key_cmp key x)) p) ∙ none) in
+            let below : canonical_entries t (high key t (e ∷ x)) ≡ canonical_entries t (high key t x) =
+            ap (λ r. canonical_entries t (cond (not (is_lt r)) (e ∷ high key t x) (high key t x)))
+            (turn_greater key_cmp_total key e.0 p) in
+            subst (λ (es : List Entry). T (list_all is_later es)) (sym below) rest
+      ] refl
+
+-- an effect that inserts no row, and makes nothing of the base row, is none
+no_effect : (f : Option Effect) → row_inserted f ≡ None → effect_on_base f ≡ Kept → f ≡ None
+no_effect None none kept = refl
+no_effect (Some (effect.Ins row)) none kept = cc
+no_effect (Some effect.Del) none kept = cc
+no_effect (Some (effect.Mod cells)) none kept = cc
+no_effect (Some (effect.Rep row)) none kept = cc
+
+-- from the place of a key on no entry stands at its SID, where the table has the key, and what stands there makes nothing of
+-- its row
+pub past-kept : (schema : Columns) (t : Table) (x : Effects) (h : AreOver schema t x) (key : Key) (n : ℕ)
+    → IsSplit (stands_before (insert_cmp schema.key_cols key) (rank key t)) (canonical_entries t x) n
+    → T (is_some (row_at t key)) → row_inserted (find key_cmp key x) ≡ None
+    → base_change (rank key t) (slice_get (canonical_entries t x) n) ≡ Kept
+    → IsSplit (stands_before past_cmp (rank key t)) (canonical_entries t x) n
+past-kept schema t x h key n split there none kept =
+    let sid = rank key t in
+    let es = canonical_entries t x in
+    let absent = no_effect (find key_cmp key x) none (sym (base_change-effect schema t x h key n split there none) ∙ kept) in
+    let rest = sym (from_key schema t x h key n split) in
+    record {
+      within = split.within;
+      before =
+          all_from (stands_before (insert_cmp schema.key_cols key) sid) (stands_before past_cmp sid)
+          (by_insert schema.key_cols sid past_cmp (λ row. refl) key) (take n es) split.before;
+      after = subst (λ (ys : List Entry). T (list_all (is_later t key there) ys)) rest (high_later t key there x absent);
+    }

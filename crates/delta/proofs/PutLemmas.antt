@@ -1,17 +1,22 @@
 -- An entry put in, whatever its change.
-use Rattle.std.proofs.Common.{◌≡◌, ℕ, ◌<◌, ◌≤◌, ◌^◌, false, not, T, List, length, take, get_or, nat_cmp, Less, Equal, Greater, is_gt, refl, sym, ap, ◌∙◌, subst, arith, drop-cons}
+use Rattle.std.proofs.Common.{◌≡◌, ℕ, ◌<◌, ◌≤◌, ◌^◌, cond, false, not, ◌&&◌, T, List, [], ◌∷◌, length, take, drop, get_or, nat_cmp, Ordering, Less, Equal, Greater, is_gt, refl, sym, ap, ◌∙◌, subst, arith, drop-cons}
+use Rattle.std.specs.Prelude.{◌==◌}
 use Rattle.std.specs.Ordering.{ordering_then}
 use Rattle.std.specs.Cmp.{ranked}
 use Rattle.std.specs.List.{list_all}
+use Rattle.std.proofs.lemmas.Bool.Decides.{nat_tests}
 use Rattle.std.proofs.lemmas.List.{get_or-take, length-take-le}
+use Rattle.values.specs.declared.row.Row.{Row}
+use Rattle.values.specs.declared.row.Key.{Key}
+use Rattle.values.specs.declared.value.Value.{Value}
 use Rattle.model.specs.declared.entry.Entry.{Entry}
 use Rattle.model.specs.declared.entry.Change.{Change}
 use Rattle.model.specs.declared.entry.Change.TheVariants.{Ins, Del, Mod}
 use Rattle.model.specs.Entries.{entry_at, are_ordered, IsLawful}
 use Rattle.model.proofs.CallerLemmas.{first}
-use Rattle.delta.specs.Search.{base_cmp, past_cmp, stands_before, IsSplit}
-use Rattle.delta.specs.Changes.{with_run, entries_with, MayBePut, IsRun}
-use Rattle.delta.proofs.ChangesLemmas.{base_is_past, put_ins-split, put_mod-split, put_del-split}
+use Rattle.delta.specs.Search.{insert_cmp, base_cmp, modify_cmp, past_cmp, stands_before, IsSplit}
+use Rattle.delta.specs.Changes.{modifies_column, modify_count, with_run, entries_with, MayBePut, IsRun}
+use Rattle.delta.proofs.ChangesLemmas.{all_from, base_is_past, put_ins-split, put_mod-split, put_del-split}
 use Rattle.delta.proofs.CountedLemmas.{split_from_boundary}
 use Rattle.delta.proofs.SearchLemmas.{is_true, at_index, parted, past_cmp-closed}
 use Rattle.delta.proofs.LawfulLemmas.{IsLawful-put_ins, IsLawful-put_del, IsLawful-put_mod}
@@ -43,6 +48,72 @@ module _ (key_cols sid : ℕ) where
             let after = subst (λ (ys : List Entry). T (list_all (λ e. not (stands_before base_cmp sid e)) ys)) (drop-cons es n d lt) h.after in
             is_past (get_or es n d) (first (not (stands_before base_cmp sid (get_or es n d))) _ after) (none d lt);
       })
+
+  -- an entry past the SID stands past all at it
+  not_past-not : (cmp : Change → Ordering) (e : Entry) → T (not (stands_before past_cmp sid e)) → T (not (stands_before cmp sid e))
+  not_past-not cmp e h =
+      elim (nat_cmp sid e.sid) as (λ r. T (not (is_gt (ordering_then r Greater))) → T (not (is_gt (ordering_then r (cmp e.change))))) [
+        | Less ↦ λ g. tt
+        | Equal ↦ λ g. absurd g
+        | Greater ↦ λ g. absurd g
+      ] h
+
+  -- one before an insert of a key stands before all that stands past the inserts
+  pub by_insert : (cmp : Change → Ordering) → ((row : Row) → cmp (Ins row) ≡ Greater) → (key : Key) (e : Entry)
+      → T (stands_before (insert_cmp key_cols key) sid e) → T (stands_before cmp sid e)
+  by_insert cmp past key e h =
+      elim (nat_cmp sid e.sid) as (λ r.
+      T (is_gt (ordering_then r (insert_cmp key_cols key e.change))) → T (is_gt (ordering_then r (cmp e.change)))) [
+        | Less ↦ λ g. absurd g
+        | Equal ↦ λ g. level e.change g
+        | Greater ↦ λ g. tt
+      ] h
+    where
+      level : (c : Change) → T (is_gt (insert_cmp key_cols key c)) → T (is_gt (cmp c))
+      level (Ins row) g = subst (λ r. T (is_gt r)) (sym (past row)) tt
+      level (Del gone) g = absurd g
+      level (Mod col value) g = absurd g
+
+  -- at the place of a key from which on no entry stands at the SID stands all that stands past the inserts
+  pub past-inserts : (cmp : Change → Ordering) → ((row : Row) → cmp (Ins row) ≡ Greater) → (key : Key) (es : List Entry) (n : ℕ)
+      → IsSplit (stands_before (insert_cmp key_cols key) sid) es n → IsSplit (stands_before past_cmp sid) es n
+      → IsSplit (stands_before cmp sid) es n
+  past-inserts cmp past key es n split end = record {
+    within = split.within;
+    before =
+        all_from (stands_before (insert_cmp key_cols key) sid) (stands_before cmp sid) (by_insert cmp past key) (take n es)
+        split.before;
+    after =
+        all_from (λ e. not (stands_before past_cmp sid e)) (λ e. not (stands_before cmp sid e)) (not_past-not cmp) (drop n es)
+        end.after;
+  }
+
+  none_modified : (col : ℕ) (es : List Entry) → T (list_all (λ e. not (stands_before past_cmp sid e)) es) → modify_count sid col es ≡ 0
+  none_modified col [] h = refl
+  none_modified col (e ∷ es) h =
+      let past = first (not (stands_before past_cmp sid e)) _ h in
+      ap (λ b. cond (b && modifies_column col e.change) 1 0) (other past)
+    where
+      other : T (not (stands_before past_cmp sid e)) → (e.sid == sid) ≡ false
+      other g =
+          elim (nat_cmp sid e.sid) as (λ r.
+          nat_cmp sid e.sid ≡ r → T (not (is_gt (ordering_then r Greater))) → (e.sid == sid) ≡ false) [
+            | Less ↦ λ q f. let lt : sid < e.sid = ranked sid e.sid Less (sym q) in grind (arith, nat_tests)
+            | Equal ↦ λ q f. absurd f
+            | Greater ↦ λ q f. absurd f
+          ] refl g
+
+  -- so a delete and a modify of the row stand there, and replace nothing
+  pub run-del : (gone key : Key) (es : List Entry) (n : ℕ) → IsSplit (stands_before (insert_cmp key_cols key) sid) es n
+      → IsSplit (stands_before past_cmp sid) es n → IsRun key_cols sid (Del gone) es n n
+  run-del gone key es n split end = (past-inserts base_cmp (λ row. refl) key es n split end, end)
+
+  pub run-mod : (col : ℕ) (value : Value) (key : Key) (es : List Entry) (n : ℕ)
+      → IsSplit (stands_before (insert_cmp key_cols key) sid) es n → IsSplit (stands_before past_cmp sid) es n
+      → IsRun key_cols sid (Mod col value) es n n
+  run-mod col value key es n split end =
+      let none = none_modified col (drop n es) end.after in
+      (past-inserts (modify_cmp col) (λ row. refl) key es n split end, omega (arith, none))
 
   pub entries_with-run : (change : Change) (es : List Entry) (n m : ℕ) → IsRun key_cols sid change es n m → MayBePut key_cols sid change es
       → entries_with key_cols sid change es ≡ with_run es n m (entry_at sid change)

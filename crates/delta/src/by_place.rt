@@ -5,6 +5,7 @@ ghost use Rattle.std.specs.Option.{option_copied};
 ghost use Rattle.values.specs.Shape.{key_of};
 ghost use Rattle.model.specs.Edits.{put_ins};
 ghost use Rattle.model.specs.Places.{rid_of_insert};
+ghost use Rattle.delta.specs.Changes.{entries_with, MayBePut, IsRun};
 ghost use Rattle.delta.specs.Lookups.{inserted_row};
 ghost use Rattle.delta.specs.Search.{insert_cmp, stands_before, IsSplit};
 ghost use Rattle.delta.specs.ByPlace.{base_change, is_deleted};
@@ -84,7 +85,23 @@ impl DeltaTree {
         ensures ok { OnOk result (self.new ≡ record self.old { entries = put_ins self.old.key_cols sid row self.old.entries }) }
         ensures err { OnErr result (self.new ≡ self.old) }
     {
-        let change = Change::Ins(row);
+        self.put_change_at(at, sid, Change::Ins(row))
+    }
+
+    /// Puts in a change at a place where it replaces no entry, as a search has found it: an insert at the place of its key,
+    /// or what becomes of a base row of which no entry tells yet.
+    ///
+    /// # Errors
+    ///
+    /// `NoMemory` where a growth is refused: the tree is as it was, and the change is dropped.
+    pub fn put_change_at(&mut self, at: usize, sid: u64, change: Change) -> Result<(), NoMemory>
+        requires run { IsRun self.old.key_cols sid change self.old.entries at at }
+        requires free { MayBePut self.old.key_cols sid change self.old.entries }
+        requires sid { sid < 2 ^ 32 }
+        requires room { length (entries_with self.old.key_cols sid change self.old.entries) ≤ 2 ^ 40 }
+        ensures ok { OnOk result (self.new ≡ record self.old { entries = entries_with self.old.key_cols sid change self.old.entries }) }
+        ensures err { OnErr result (self.new ≡ self.old) }
+    {
         self.tree
             .replace_run(self.alloc, at, at, Entry { sid, change })?;
         Ok(())

@@ -7,18 +7,26 @@ use Rattle.model.specs.declared.write.Write.TheVariants.{Insert, Delete, Set}
 use Rattle.model.specs.Edits.{put_ins, put_del, put_mod, take_ins, set_ins}
 use Rattle.delta.specs.Lookups.{has_delete, inserted_row}
 use Rattle.txn.specs.declared.writes.FoundRow.{FoundRow}
-use Rattle.txn.specs.declared.writes.FoundRow.TheVariants.{Absent, Inserted, Base}
+use Rattle.txn.specs.declared.writes.FoundRow.TheVariants.{Absent, Inserted, Kept, Modified}
 
--- whether a transaction finds a row, and whether it inserted it
+-- whether a transaction finds a row, whether it inserted it, and whether it is of the snapshot and has no change
 abbrev pub is_there : FoundRow → Bool
 is_there Absent = false
 is_there Inserted = true
-is_there Base = true
+is_there Kept = true
+is_there Modified = true
 
 abbrev pub is_inserted : FoundRow → Bool
 is_inserted Absent = false
 is_inserted Inserted = true
-is_inserted Base = false
+is_inserted Kept = false
+is_inserted Modified = false
+
+abbrev pub is_kept : FoundRow → Bool
+is_kept Absent = false
+is_kept Inserted = false
+is_kept Kept = true
+is_kept Modified = false
 
 module _ (key_cols sid : ℕ) where
   -- the entries after the change

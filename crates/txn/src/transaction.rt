@@ -5,8 +5,8 @@ ghost use Rattle.values.specs.declared.limits.TheConstants.{MAX_ROWS};
 ghost use Rattle.model.specs.declared.write.Write.TheVariants as asked;
 ghost use Rattle.model.specs.Writes.{write_fits_schema};
 ghost use Rattle.model.specs.Table.{rows_of};
-ghost use Rattle.delta.specs.Search.{insert_cmp, stands_before, IsSplit};
-ghost use Rattle.txn.specs.Edit.{is_inserted, is_there};
+ghost use Rattle.delta.specs.Search.{insert_cmp, past_cmp, stands_before, IsSplit};
+ghost use Rattle.txn.specs.Edit.{is_inserted, is_kept, is_there};
 ghost use Rattle.merge.specs.Image.{image_rows, image_table};
 ghost use Rattle.txn.specs.declared.fault.WriteFault.TheVariants as write_fault;
 
@@ -217,6 +217,7 @@ impl Txn {
     fn find(&self, key: &[Value]) -> Found
         ensures found { IsFound self.now key.now result.sid (is_there result.row) (is_inserted result.row) }
         ensures place { IsSplit (stands_before (insert_cmp self.now.schema.key_cols key.now) result.sid) (entries_of self.now) result.index }
+        ensures kept { IsTrue (is_kept result.row) → IsSplit (stands_before past_cmp result.sid) (entries_of self.now) result.index }
     {
         let (sid, in_base) = self.version.locate(key);
         let place = self.tree.find_key(sid, key);

@@ -1,15 +1,16 @@
 //! The change of the tree that a write makes.
-ghost use Rattle.std.specs.Prelude.{◌≡◌, ◌≤◌, ◌^◌, ◌&&◌, ◌||◌, not, cond, is_some, IsTrue, OnOk, OnErr, length};
+ghost use Rattle.std.specs.Prelude.{◌≡◌, ◌≤◌, ◌^◌, ◌&&◌, ◌||◌, not, cond, is_some, IsNone, IsTrue, OnOk, OnErr, length};
 ghost use Rattle.std.specs.Option.{option_copied};
 ghost use Rattle.values.specs.declared.limits.TheConstants.{MAX_ROWS};
 ghost use Rattle.model.specs.Entries.{are_ordered};
 ghost use Rattle.model.specs.Writes.{is_done, key_of_write};
 ghost use Rattle.delta.specs.ByPlace.{is_deleted};
-ghost use Rattle.delta.specs.Search.{insert_cmp, stands_before, IsSplit};
-ghost use Rattle.txn.specs.Edit.{edited, is_inserted, is_there, MayBeEdited};
+ghost use Rattle.delta.specs.Search.{insert_cmp, past_cmp, stands_before, IsSplit};
+ghost use Rattle.delta.specs.declared.by_place.BaseChange.TheVariants as base_change;
+ghost use Rattle.txn.specs.Edit.{edited, is_inserted, is_kept, is_there, MayBeEdited};
 
-use delta::{DeltaTree, KeyPlace};
-use model::{Write, WriteReply, is_done};
+use delta::{BaseChange, DeltaTree, KeyPlace};
+use model::{Change, Write, WriteReply, is_done};
 use values::NoMemory;
 
 /// What a transaction finds at a key.
@@ -30,8 +31,10 @@ pub(crate) enum FoundRow {
     Absent,
     /// The transaction inserted it.
     Inserted,
-    /// It is one of the version's table.
-    Base,
+    /// It is one of the version's table, as it is there.
+    Kept,
+    /// It is one of the version's table, of which the transaction set cells.
+    Modified,
 }
 
 impl FoundRow {
@@ -39,11 +42,13 @@ impl FoundRow {
     pub(crate) fn at(place: &KeyPlace<'_>, in_base: bool) -> FoundRow
         ensures there { is_there result ≡ (is_some (option_copied place.now.row) || (in_base && not (is_deleted place.now.base))) }
         ensures inserted { is_inserted result ≡ is_some (option_copied place.now.row) }
+        ensures kept { IsTrue (is_kept result) → IsTrue in_base × IsNone (option_copied place.now.row) × (place.now.base ≡ base_change.Kept) }
     {
-        match place.row {
-            Some(_) => FoundRow::Inserted,
-            None if place.is_there(in_base) => FoundRow::Base,
-            None => FoundRow::Absent,
+        match (place.row, place.base) {
+            (Some(_), _) => FoundRow::Inserted,
+            (None, BaseChange::Kept) if in_base => FoundRow::Kept,
+            (None, BaseChange::Modified) if in_base => FoundRow::Modified,
+            (None, _) => FoundRow::Absent,
         }
     }
 
@@ -53,7 +58,7 @@ impl FoundRow {
     {
         match self {
             FoundRow::Absent => false,
-            FoundRow::Inserted | FoundRow::Base => true,
+            FoundRow::Inserted | FoundRow::Kept | FoundRow::Modified => true,
         }
     }
 
@@ -63,7 +68,17 @@ impl FoundRow {
     {
         match self {
             FoundRow::Inserted => true,
-            FoundRow::Absent | FoundRow::Base => false,
+            FoundRow::Absent | FoundRow::Kept | FoundRow::Modified => false,
+        }
+    }
+
+    /// Whether it is one of the version's table, as it is there.
+    fn is_kept(self) -> bool
+        ensures { result ≡ is_kept self }
+    {
+        match self {
+            FoundRow::Kept => true,
+            FoundRow::Absent | FoundRow::Inserted | FoundRow::Modified => false,
         }
     }
 }
@@ -79,6 +94,7 @@ pub(crate) fn edit(
     requires sid { found.sid ≤ MAX_ROWS }
     requires ordered { IsTrue (are_ordered tree.old.key_cols tree.old.entries) }
     requires place { IsSplit (stands_before (insert_cmp tree.old.key_cols (key_of_write tree.old.key_cols write.now)) found.sid) tree.old.entries found.index }
+    requires kept { IsTrue (is_kept found.row) → IsSplit (stands_before past_cmp found.sid) tree.old.entries found.index }
     requires room { IsTrue (is_done reply) → length (edited tree.old.key_cols found.sid (is_inserted found.row) write.now tree.old.entries) ≤ 2 ^ 40 }
     ensures ok { OnOk result (tree.new ≡ record tree.old { entries = cond (is_done reply) (edited tree.old.key_cols found.sid (is_inserted found.row) write.now tree.old.entries) tree.old.entries }) }
     ensures err { OnErr result (tree.new ≡ tree.old) }
@@ -88,11 +104,16 @@ pub(crate) fn edit(
     }
     let Found { sid, index, row } = found;
     let inserted = row.is_inserted();
+    let kept = row.is_kept();
     match write {
         Write::Insert(row) => tree.put_at(index, sid, row.copy()?),
         Write::Delete(_) if inserted => tree.take_at(index),
+        Write::Delete(key) if kept => tree.put_change_at(index, sid, Change::Del(key.copy()?)),
         Write::Delete(key) => tree.put_del(sid, key.copy()?),
         Write::Set(_, col, value) if inserted => tree.set_at(index, *col, value.copy()?),
+        Write::Set(_, col, value) if kept => {
+            tree.put_change_at(index, sid, Change::Mod(*col, value.copy()?))
+        }
         Write::Set(_, col, value) => tree.put_mod(sid, *col, value.copy()?),
     }
 }

@@ -29,7 +29,7 @@ leads-requires-clause-below g c =
 
 pub overflow_add-up : goal.overflow_add-up
 overflow_add-up g c =
-    let more = total-more c.args.entries.now c.loop-index.index c.index-entries-index-in-loop-index.result c.weight-up.result c.loop-index-test.true (c.weight-up.ensures ∙ ap weight_of c.change.ensures ∙ ap (λ (a : Entry). weight_of a.change) c.index-entries-index-in-loop-index.is) in
+    let more = total-more c.args.entries.now c.loop-index.index c.index-entries-index-in-loop-index.result c.weight-up.result c.loop-index-test.true (c.weight-up.ensures ∙ ap (λ (a : Entry). weight_of a.change) c.index-entries-index-in-loop-index.is) in
     let next = total_within (take (c.loop-index.index + 1) c.args.entries.now) in
     let up = c.loop-index.invariant.up in
     omega (arith, ints, c.requires.above, c.requires.below, length-take (c.loop-index.index + 1) c.args.entries.now)
@@ -38,7 +38,7 @@ pub loop-index-preserved : goal.loop-index-preserved
 loop-index-preserved g c =
     let xs = c.args.entries.now in
     let i = c.loop-index.index in
-    let more = total-more xs i c.index-entries-index-in-loop-index.result c.weight-up.result c.loop-index-test.true (c.weight-up.ensures ∙ ap weight_of c.change.ensures ∙ ap (λ (a : Entry). weight_of a.change) c.index-entries-index-in-loop-index.is) in
+    let more = total-more xs i c.index-entries-index-in-loop-index.result c.weight-up.result c.loop-index-test.true (c.weight-up.ensures ∙ ap (λ (a : Entry). weight_of a.change) c.index-entries-index-in-loop-index.is) in
     let next = total_within (take (i + 1) xs) in
     let up = c.loop-index.invariant.up in
     let a = c.index-entries-index.result in

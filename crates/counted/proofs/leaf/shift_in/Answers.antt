@@ -12,7 +12,7 @@ overflow_add-shift c =
     let d = c.entry-item.result in
     let here = c.entry-item.is in
     let sid = c.sid.ensures ∙ ap (λ (e : Entry). e.sid) here in
-    let more = shift_before-more_below c.args.sid c.args.entries.now i d c.weight-shift.result c.loop-entry-test.true (subst (λ (n : ℕ). n < c.args.sid) sid c.if-sid.true) (c.weight-shift.ensures ∙ ap weight_of (c.change.ensures ∙ ap (λ (e : Entry). e.change) here)) in
+    let more = shift_before-more_below c.args.sid c.args.entries.now i d c.weight-shift.result c.loop-entry-test.true (subst (λ (n : ℕ). n < c.args.sid) sid c.if-sid.true) (c.weight-shift.ensures ∙ ap (λ (e : Entry). weight_of e.change) here) in
     let next = shift_take_within c.args.sid c.args.entries.now (i + 1) in
     omega (arith, ints)
 
@@ -25,7 +25,7 @@ loop-entry-preserved c =
     let next = shift_take_within c.args.sid c.args.entries.now (i + 1) in
     elim c.if-sid.branch [
       | then-sid w ↦
-          let more = shift_before-more_below c.args.sid c.args.entries.now i d w.weight-shift.result c.loop-entry-test.true (subst (λ (n : ℕ). n < c.args.sid) sid w.if-sid.true) (w.weight-shift.ensures ∙ ap weight_of (w.change.ensures ∙ ap (λ (e : Entry). e.change) here)) in
+          let more = shift_before-more_below c.args.sid c.args.entries.now i d w.weight-shift.result c.loop-entry-test.true (subst (λ (n : ℕ). n < c.args.sid) sid w.if-sid.true) (w.weight-shift.ensures ∙ ap (λ (e : Entry). weight_of e.change) here) in
           omega (arith, ints)
       | else-sid w ↦
           let more = shift_before-more_above c.args.sid c.args.entries.now i d c.loop-entry-test.true (subst (λ (n : ℕ). c.args.sid ≤ n) sid w.if-sid.false) in

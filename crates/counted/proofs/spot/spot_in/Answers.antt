@@ -28,7 +28,7 @@ row_above-next-requires-clause-below c =
 pub overflow_add-up : goal.overflow_add-up
 overflow_add-up c =
     let sum = total_within (take c.loop-index.index c.args.entries.now) in
-    let more = total-more c.args.entries.now c.loop-index.index c.index-entries-index.result c.weight-up.result c.loop-index-test.true (c.weight-up.ensures ∙ ap weight_of c.change-in-loop-index.ensures ∙ ap (λ (a : Entry). weight_of a.change) c.index-entries-index.is) in
+    let more = total-more c.args.entries.now c.loop-index.index c.index-entries-index.result c.weight-up.result c.loop-index-test.true (c.weight-up.ensures ∙ ap (λ (a : Entry). weight_of a.change) c.index-entries-index.is) in
     let next = total_within (take (c.loop-index.index + 1) c.args.entries.now) in
     let up = c.loop-index.invariant.up in
     omega (arith, ints, c.requires.above, c.requires.below, length-take (c.loop-index.index + 1) c.args.entries.now)
@@ -55,7 +55,7 @@ returns c = spot_same _ _ _ _ _ _ _ _ _ false (omega (arith, ints)) (omega (arit
 
 pub loop-index-preserved : goal.loop-index-preserved
 loop-index-preserved c =
-    let weight = c.weight-up.ensures ∙ ap weight_of c.change-in-loop-index.ensures ∙ ap (λ (a : Entry). weight_of a.change) c.index-entries-index.is in
+    let weight = c.weight-up.ensures ∙ ap (λ (a : Entry). weight_of a.change) c.index-entries-index.is in
     let more = total-more c.args.entries.now c.loop-index.index c.index-entries-index.result c.weight-up.result c.loop-index-test.true weight in
     let sum = total_within (take c.loop-index.index c.args.entries.now) in
     let next' = total_within (take (c.loop-index.index + 1) c.args.entries.now) in

@@ -6,7 +6,8 @@ use Rattle.values.specs.declared.value.Value.{Value}
 use Rattle.model.specs.declared.entry.Entry.{Entry}
 use Rattle.model.specs.Edits.{change_with_cell}
 use Rattle.model.specs.Entries.{entry_at}
-use Rattle.delta.proofs.CallerLemmas.{nothing}
+use Rattle.model.specs.Writes.{key_of_write}
+use Rattle.delta.proofs.CallerLemmas.{nothing, run-del, run-mod}
 use Rattle.txn.specs.Edit.{is_inserted}
 use Rattle.txn.proofs.EditLemmas.{taken, taken_is, found, cell_there, set_is}
 use Rattle.txn.proofs.writes.edit.Goals as goal
@@ -57,3 +58,19 @@ returns-in_ok-copy-in-Set-clause-ok c =
     on_ok_weaker c.set_at.result
     (λ made. made y (slice_get-get_or t.entries f.index nothing short) ∙ ap (λ (es : List Entry). record t { entries = es }) (ap (λ (v : Value). set t.entries f.index (entry_at y.sid (change_with_cell c.in-Set.col v y.change))) copied ∙ is))
     c.set_at.ensures.ok
+
+pub put_change_at-requires-clause-run : goal.put_change_at-requires-clause-run
+put_change_at-requires-clause-run c =
+    let t = c.args.tree.now in
+    let f = c.args.found in
+    let end = c.requires.kept (sym c.is_kept-kept.ensures ∙ c.if-kept.true) in
+    let key = key_of_write t.key_cols c.args.write.now in
+    run-del t.key_cols f.sid c.in_ok-copy-in-Delete-2.field-0 key t.entries f.index c.requires.place end
+
+pub put_change_at-requires-in-Set-2-clause-run : goal.put_change_at-requires-in-Set-2-clause-run
+put_change_at-requires-in-Set-2-clause-run c =
+    let t = c.args.tree.now in
+    let f = c.args.found in
+    let end = c.requires.kept (sym c.is_kept-kept.ensures ∙ c.if-kept-2.true) in
+    let key = key_of_write t.key_cols c.args.write.now in
+    run-mod t.key_cols f.sid c.in-Set-2.col c.in_ok-copy-in-Set-2.field-0 key t.entries f.index c.requires.place end

@@ -4,11 +4,11 @@ use Rattle.std.specs.Option.{option_copied}
 use Rattle.model.proofs.CallerLemmas.{rank-le-length}
 use Rattle.delta.specs.ByPlace.{base_change}
 use Rattle.delta.specs.Lookups.{inserted_row}
-use Rattle.delta.specs.Search.{insert_cmp, stands_before, IsSplit}
+use Rattle.delta.specs.Search.{insert_cmp, past_cmp, stands_before, IsSplit}
 use Rattle.delta.specs.Tree.{Tree}
 use Rattle.txn.specs.Edit.{is_inserted, is_there}
 use Rattle.txn.specs.Txn.{Transaction, transaction_at, entries_of, IsFound}
-use Rattle.txn.proofs.ReadsLemmas.{found}
+use Rattle.txn.proofs.ReadsLemmas.{found, ends_there}
 use Rattle.txn.proofs.transaction.Txn.find.Goals as goal
 
 pub find_key-place-requires : goal.find_key-place-requires
@@ -42,3 +42,20 @@ returns-clause-place c =
     let place = c.find_key-place in
     subst (λ (t : Transaction). IsSplit (stands_before (insert_cmp t.schema.key_cols key) sid) (entries_of t) place.result.index) c.self.view_is
     (subst (λ (t : Tree). IsSplit (stands_before (insert_cmp t.key_cols key) sid) t.entries place.result.index) c.self.invariant.1 place.ensures.split)
+
+pub returns-clause-kept : goal.returns-clause-kept
+returns-clause-kept c = λ yes.
+    let inside = c.self.inside in
+    let txn : Transaction = transaction_at inside.version inside.row_limit inside.client inside.writes.items in
+    let key = c.args.key.now in
+    let sid = c.locate-sid.result.0 in
+    let place = c.find_key-place in
+    let n = place.result.index in
+    let tree_is = c.self.invariant.1 in
+    let split = subst (λ (t : Tree). IsSplit (stands_before (insert_cmp t.key_cols key) sid) t.entries n) tree_is place.ensures.split in
+    let row = place.ensures.row ∙ ap (λ (t : Tree). inserted_row t.key_cols sid key t.entries) tree_is in
+    let base = place.ensures.base ∙ ap (λ (t : Tree). base_change sid (slice_get t.entries n)) tree_is in
+    let kept = c.at.ensures.kept yes in
+    subst (λ (t : Transaction). IsSplit (stands_before past_cmp sid) (entries_of t) n) c.self.view_is
+    (ends_there txn c.self.invariant.0 key sid n c.locate-sid.result.1 (option_copied place.result.row) place.result.base
+    c.locate-sid.ensures.rank split c.locate-sid.ensures.there row base kept.0 kept.1 kept.2)

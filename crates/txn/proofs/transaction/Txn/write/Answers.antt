@@ -2,9 +2,10 @@ use Rattle.std.proofs.Common.{◌≡◌, List, ◌∷◌, ◌++◌, [], sym, ap,
 use Rattle.model.specs.declared.write.Write.{Write}
 use Rattle.model.specs.declared.write.WriteReply.{WriteReply}
 use Rattle.model.specs.Writes.{reply_where}
+use Rattle.delta.specs.Search.{past_cmp, stands_before, IsSplit}
 use Rattle.delta.specs.Tree.{Tree}
 use Rattle.txn.specs.Edit.{is_inserted, is_there}
-use Rattle.txn.specs.Txn.{Transaction, transaction_at, IsTransaction, tree_of}
+use Rattle.txn.specs.Txn.{Transaction, transaction_at, entries_of, IsTransaction, tree_of}
 use Rattle.txn.proofs.TxnLemmas.{IsSeen, seen, seen_place, seen_may, seen_room, seen_next, seen_tree, tree_ordered, tree_split}
 use Rattle.txn.proofs.transaction.Txn.write.Goals as goal
 
@@ -32,6 +33,13 @@ pub edit-requires-clause-place : goal.edit-requires-clause-place
 edit-requires-clause-place c =
     tree_split (fields c) c.self.invariant.0 c.self.inside.tree c.self.invariant.1 c.args.self.now c.self.view_is c.args.write c.schema.result.now c.key_cols-key_cols.result c.key_of_write.result.now c.find-found.result.sid c.find-found.result.index
     c.schema.ensures c.key_cols-key_cols.ensures.count c.key_of_write.ensures c.find-found.ensures.place
+
+pub edit-requires-clause-kept : goal.edit-requires-clause-kept
+edit-requires-clause-kept c = λ yes.
+    let found = c.find-found.result in
+    subst (λ (t : Tree). IsSplit (stands_before past_cmp found.sid) t.entries found.index) (sym c.self.invariant.1)
+    (subst (λ (t : Transaction). IsSplit (stands_before past_cmp found.sid) (entries_of t) found.index) (sym c.self.view_is)
+    (c.find-found.ensures.kept yes))
 
 pub edit-requires-clause-may : goal.edit-requires-clause-may
 edit-requires-clause-may c = seen_may (fields c) c.self.invariant.0 c.self.inside.tree c.self.invariant.1 c.args.write c.find-found.result.sid (is_inserted c.find-found.result.row) c.reply_where-reply.result (is_seen c)
