@@ -10,6 +10,7 @@ mod changes;
 mod entries;
 mod laws;
 mod lookup;
+mod memory;
 mod places;
 mod sorted;
 mod tree;
