@@ -5,15 +5,18 @@
 //! either one delete or the modifies by column. It stands on `values` and `model`.
 #![tactic(auto)]
 
+mod beside;
 mod by_place;
 mod changes;
 mod entries;
 mod laws;
 mod lookup;
+mod memory;
 mod places;
 mod sorted;
 mod tree;
 
+pub use beside::ChangePlace;
 pub use by_place::{BaseChange, KeyPlace};
 pub use counted::{CountedTree, Iter, SharedEntry, Steps};
 pub use laws::{a_write_is_one_call, canonical_look_ups, inserts_ascend_at_a_sid};

@@ -4,3 +4,4 @@ pub mod StepLemmas
 pub mod RestLemmas
 pub mod ClashLemmas
 pub mod SerialLemmas
+pub mod WalkLemmas

@@ -463,7 +463,7 @@ module _ (lower upper : Tree) (w : AreConsecutive lower upper) where
   composed_few : (n : ℕ) → length (table_with w.t (composed_effects w.x (left_from n))) ≤ 6442450941
   composed_few n = subst (λ (s : Table). length s ≤ 6442450941) (sym (composes w.schema w.t w.x (left_from n) w.below.over (over_left n)).1) (top_few n)
 
-  entries_few : (n : ℕ) → length (canonical_entries w.t (composed_effects w.x (left_from n))) ≤ 2 ^ 40
+  pub entries_few : (n : ℕ) → length (canonical_entries w.t (composed_effects w.x (left_from n))) ≤ 2 ^ 40
   entries_few n =
       let over = (composes w.schema w.t w.x (left_from n) w.below.over (over_left n)).0 in
       let bound = few w.schema w.t (composed_effects w.x (left_from n)) w.small.lawful over in

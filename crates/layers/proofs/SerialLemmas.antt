@@ -46,6 +46,25 @@ next_take (suc n) (z ∷ es) e is =
     let next : suc n + 1 ≡ suc (n + 1) = omega arith in
     ap (λ m. take m (z ∷ es)) next ∙ ap (λ ys. z ∷ ys) (next_take n es e is)
 
+-- the entry that an iterator gives, and what it has left
+pub record IsAt (n : ℕ) (es left : List Entry) (e : Entry) : Type 0 where
+  pub at : slice_get es n ≡ Some e
+  pub left_is : left ≡ drop (n + 1) es
+  pub within : n + 1 ≤ length es
+
+pub is_at : (n : ℕ) (es left : List Entry) (e : Entry) → drop n es ≡ e ∷ left → IsAt n es left e
+is_at zero [] left e is = cc
+is_at (suc n) [] left e is = cc
+is_at zero (z ∷ es) left e is =
+    let one : ◌≡◌ {A = ℕ} 1 (zero + 1) = omega arith in
+    let same : z ≡ e = cc in
+    let rest : left ≡ es = cc in
+    record { at = ap Some same; left_is = rest ∙ ap (λ m. drop m (z ∷ es)) one; within = omega arith }
+is_at (suc n) (z ∷ es) left e is =
+    let next : suc (n + 1) ≡ suc n + 1 = omega arith in
+    let there = is_at n es left e is in
+    record { at = there.at; left_is = there.left_is ∙ ap (λ m. drop m (z ∷ es)) next; within = omega (arith, there.within) }
+
 holds_at : (p : Entry → Bool) (n : ℕ) (es : List Entry) (e : Entry) → T (list_all p es) → slice_get es n ≡ Some e → T (p e)
 holds_at p n [] e h is = cc
 holds_at p zero (z ∷ es) e h is = let same : z ≡ e = cc in subst (λ y. T (p y)) same (first (p z) _ h)
@@ -89,6 +108,11 @@ none_left zero [] h = refl
 none_left (suc n) [] h = refl
 none_left zero (e ∷ es) h = absurd (omega arith)
 none_left (suc n) (e ∷ es) h = none_left n es (omega arith)
+
+pub none_dropped : (n : ℕ) (es : List Entry) → drop n es ≡ [] → length es ≤ n
+none_dropped n [] is = omega arith
+none_dropped zero (e ∷ es) is = cc
+none_dropped (suc n) (e ∷ es) is = let h = none_dropped n es is in omega (arith, h)
 
 pub all_taken : (n : ℕ) (es : List Entry) → length es ≤ n → take n es ≡ es
 all_taken zero [] h = refl

@@ -1,3 +1,4 @@
 pub mod Over
 pub mod Propagation
 pub mod Serialization
+pub mod Walk

@@ -1,5 +1,5 @@
 -- A tree made consecutive to another one over the same image, or where the two clash.
-use Rattle.std.specs.Prelude.{◌≡◌, ℕ, false, Option, None, List, [], ◌∷◌}
+use Rattle.std.specs.Prelude.{◌≡◌, ℕ, false, Option, None, List, [], ◌∷◌, drop}
 use Rattle.std.proofs.Common.{Ordering}
 use Rattle.model.specs.declared.clash.ConflictRule.{ConflictRule}
 use Rattle.model.specs.declared.clash.ConflictRule.TheVariants.{ByColumn, ByRow}
@@ -11,7 +11,7 @@ use Rattle.model.specs.Effects.{table_with}
 use Rattle.model.specs.Clashes.{conflicts, Conflicts}
 use Rattle.model.specs.Entries.{change_cmp}
 use Rattle.model.specs.Rebasing.{clash_of_entries, or_clash, IsLeastClash}
-use Rattle.delta.specs.Search.{base_cmp}
+use Rattle.delta.specs.Search.{base_cmp, stands_before, IsSplit}
 use Rattle.delta.specs.Tree.{Tree}
 use Rattle.layers.specs.declared.rebase.Serialized.{Serialized}
 use Rattle.layers.specs.declared.rebase.Serialized.TheVariants as answer
@@ -46,3 +46,8 @@ module _ (key_cols : ℕ) where
 abbrev pub clash_with_head : ConflictRule → ℕ → ℕ → Entry → ℕ → List Entry → Option Clash
 clash_with_head rule key_cols i x j [] = None
 clash_with_head rule key_cols i x j (y ∷ ys) = or_clash i j (clash_of_entries rule key_cols x y) None
+
+-- the clash of the entry at place i, if there is one, is that with the first entry that it can clash with
+abbrev pub IsClashBeside : ConflictRule → ℕ → ℕ → Entry → List Entry → Option Clash → Type 0
+IsClashBeside rule key_cols i x ys clash =
+    (j : ℕ) × IsSplit (stands_before (clash_cmp key_cols rule x.change) x.sid) ys j × (clash ≡ clash_with_head rule key_cols i x j (drop j ys))

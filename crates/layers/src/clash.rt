@@ -1,24 +1,21 @@
 //! Two entries over one image that can't both be kept.
-ghost use Rattle.std.specs.Prelude.{◌≡◌, None, drop};
+ghost use Rattle.std.specs.Prelude.{◌≡◌, List, None, drop, slice_get};
+ghost use Rattle.std.specs.Option.{option_copied};
 ghost use Rattle.std.specs.Ordering.{eq_by_cmp};
 ghost use Rattle.values.specs.Orders.{key_cmp};
 ghost use Rattle.values.specs.Shape.{key_of};
 ghost use Rattle.delta.specs.Search.{stands_before, IsSplit};
 ghost use Rattle.model.specs.Entries.{change_cmp};
 ghost use Rattle.model.specs.Rebasing.{clash_of_entries, clash_of_changes, columns_clash, or_clash};
-ghost use Rattle.layers.specs.Serialization.{clash_cmp, clash_with_head};
+ghost use Rattle.model.specs.declared.entry.Entry.{Entry};
+ghost use Rattle.layers.specs.Serialization.{clash_cmp, clash_with_head, IsClashBeside};
 
-use delta::{Change, DeltaTree, SharedEntry};
+use delta::{Change, ChangePlace, DeltaTree, SharedEntry};
 use model::{Clash, ClashKind, ConflictRule};
 use values::Row;
 
 /// The index of the first entry of the tree that the entry can clash with, if there is one; its own is `index`.
-pub(crate) fn index_of_clash(
-    rule: ConflictRule,
-    entry: &SharedEntry,
-    other: &DeltaTree,
-    index: usize,
-) -> usize
+fn index_of_clash(rule: ConflictRule, entry: &SharedEntry, other: &DeltaTree, index: usize) -> usize
     requires { IsSplit (stands_before (change_cmp other.now.key_cols entry.now.change) entry.now.sid) other.now.entries index }
     ensures { IsSplit (stands_before (clash_cmp other.now.key_cols rule entry.now.change) entry.now.sid) other.now.entries result }
 {
@@ -28,21 +25,41 @@ pub(crate) fn index_of_clash(
     }
 }
 
-/// The clash of the entry, which has the index `i` in its tree, with that at `j` in the other one.
-pub(crate) fn clash_at(
+/// The clash of the entry, which has the index `i` in its tree, with the first one of the other tree that it can clash with;
+/// its own place there is given.
+pub(crate) fn clash_beside(
     rule: ConflictRule,
     i: usize,
     entry: &SharedEntry,
     other: &DeltaTree,
-    j: usize,
+    place: ChangePlace<'_>,
 ) -> Option<Clash>
-    ensures { result ≡ clash_with_head rule other.now.key_cols i entry.now j (drop j other.now.entries) }
+    requires split { IsSplit (stands_before (change_cmp other.now.key_cols entry.now.change) entry.now.sid) other.now.entries place.index }
+    requires entry { option_copied place.entry ≡ slice_get other.now.entries place.index }
+    ensures { IsClashBeside rule other.now.key_cols i entry.now other.now.entries result }
 {
-    match other.entry(j) {
-        Some(found) => {
-            let kind = clash_of_entries(rule, other.key_cols(), entry, found);
-            clash_of_kind(i, j, kind)
-        }
+    let j = index_of_clash(rule, entry, other, place.index);
+    let there = if j == place.index {
+        place.entry
+    } else {
+        other.entry(j)
+    };
+    clash_at(rule, other.key_cols(), i, entry, j, there)
+}
+
+/// The clash of the entry, which has the index `i` in its tree, with the one at `j` in the other tree, if there is one.
+fn clash_at(
+    rule: ConflictRule,
+    key_cols: usize,
+    i: usize,
+    entry: &SharedEntry,
+    j: usize,
+    there: Option<&SharedEntry>,
+) -> Option<Clash>
+    ensures { (es : List Entry) → option_copied there.entry ≡ slice_get es j → result ≡ clash_with_head rule key_cols i entry.now j (drop j es) }
+{
+    match there {
+        Some(found) => clash_of_kind(i, j, clash_of_entries(rule, key_cols, entry, found)),
         None => None,
     }
 }

@@ -7,10 +7,13 @@
 //! *What it stands on.* `delta` for the trees, `model` for effects and their laws. No key column of a table is read.
 #![tactic(auto)]
 
+mod ahead;
 mod clash;
 mod entry;
+mod meeting;
 mod propagation;
 mod rebase;
+mod walk;
 
 pub use model::{Clash, ClashKind, ConflictRule};
 pub use propagation::propagate;

@@ -4,16 +4,33 @@ ghost use Rattle.layers.specs.Over.{AreConsecutive};
 ghost use Rattle.layers.specs.Propagation.{IsNext, next_tree, composed_tree};
 
 use crate::entry::entry_of;
+use crate::walk::fold_all;
 use delta::{Change, DeltaTree, Place, SharedEntry};
 use values::NoMemory;
 
+/// Upper entries are edited in where the lower tree has at least so many times as many.
+const FEW: usize = 5;
+
 /// The lower tree with the upper one, which is over its image, folded into it (Héman et al. 2010, "Propagate"): a copy
-/// of the lower tree, with an edit for each upper entry. Rows are shared: one is copied only where a cell of it is set.
+/// of the lower tree, with an edit for each upper entry, or, where those are many, a tree built in one walk over both.
+/// Rows are shared: one is copied only where a cell of it is set.
 ///
 /// # Errors
 ///
 /// `NoMemory` where a growth is refused.
 pub fn propagate(lower: &DeltaTree, upper: &DeltaTree) -> Result<DeltaTree, NoMemory>
+    requires { AreConsecutive lower.now upper.now }
+    ensures { IfOk result (λ tree. (w : AreConsecutive lower.now upper.now) → tree ≡ composed_tree lower.now upper.now w) }
+{
+    if upper.len() > lower.len() / FEW {
+        fold_all(lower, upper)
+    } else {
+        fold_each(lower, upper)
+    }
+}
+
+/// A copy of the lower tree, with an edit for each upper entry.
+fn fold_each(lower: &DeltaTree, upper: &DeltaTree) -> Result<DeltaTree, NoMemory>
     requires { AreConsecutive lower.now upper.now }
     ensures { IfOk result (λ tree. (w : AreConsecutive lower.now upper.now) → tree ≡ composed_tree lower.now upper.now w) }
 {

@@ -1,11 +1,10 @@
 //! A tree made consecutive to another one over the same image.
-ghost use Rattle.std.specs.Prelude.{◌≡◌, ◌≤◌, IfOk, drop, length, map, take};
+ghost use Rattle.std.specs.Prelude.{◌≡◌, ◌<◌, ◌≤◌, ◌^◌, IfOk, drop, length, map, take};
 ghost use Rattle.model.specs.Rebasing.{first_clash, first_clash_from, rebased_entry};
 ghost use Rattle.layers.specs.Over.{AreAligned};
-ghost use Rattle.layers.specs.Serialization.{IsSerialized};
+ghost use Rattle.layers.specs.Serialization.{IsClashBeside, IsSerialized};
 
-use crate::clash::{clash_at, index_of_clash};
-use crate::entry::entry_of;
+use crate::clash::clash_beside;
 use delta::{DeltaTree, SharedEntry};
 use model::{Clash, ConflictRule};
 use std::alloc::Global;
@@ -42,14 +41,14 @@ pub fn serialize(
         return Ok(Serialized::Tree(x.copy()?));
     }
     let mut entries = first_entries(alloc, x, kept)?;
-    for index in kept..x.len() {
-        let entry = entry_of(x, index);
-        let found = y.find_change(entry.sid(), entry.change());
-        let place = index_of_clash(rule, entry, y, found.index);
-        if let Some(clash) = clash_at(rule, index, entry, y, place) {
+    let mut index = kept;
+    for entry in x.iter_from(kept) {
+        let found = find_beside(rule, index, entry, y);
+        if let Some(clash) = found.clash {
             return Ok(Serialized::Conflict(clash));
         }
         entries.push(entry.with_sid(found.rid)?)?;
+        index += 1;
     }
     Ok(Serialized::Tree(DeltaTree::from_shared(alloc, x.key_cols(), entries)?))
 }
@@ -61,18 +60,18 @@ fn kept_count(x: &DeltaTree, y: &DeltaTree, rule: ConflictRule) -> usize
     ensures same { take result x.now.entries ≡ map (rebased_entry y.now.key_cols y.now.entries) (take result x.now.entries) }
     ensures clear { first_clash rule y.now.key_cols x.now.entries y.now.entries ≡ first_clash_from rule y.now.key_cols result (drop result x.now.entries) y.now.entries }
 {
-    for index in 0..x.len() {
-        let entry = entry_of(x, index);
-        let found = y.find_change(entry.sid(), entry.change());
+    let mut index = 0;
+    for entry in x.iter_from(0) {
+        let found = find_beside(rule, index, entry, y);
         if found.rid != entry.sid() {
             return index;
         }
-        let place = index_of_clash(rule, entry, y, found.index);
-        if let Some(_) = clash_at(rule, index, entry, y, place) {
+        if let Some(_) = found.clash {
             return index;
         }
+        index += 1;
     }
-    x.len()
+    index
 }
 
 /// So many of the first entries of a tree, with room for all.
@@ -85,8 +84,30 @@ fn first_entries(
     ensures { IfOk result (λ entries. entries.items ≡ take count tree.now.entries) }
 {
     let mut entries = Vec::with_capacity(alloc, tree.len())?;
-    for index in 0..count {
-        entries.push(entry_of(tree, index).copy()?)?;
+    for entry in tree.nodes().iter(0, count) {
+        entries.push(entry.copy()?)?;
     }
     Ok(entries)
+}
+
+/// What another tree over the same image makes of an entry.
+#[derive(Drop)]
+struct Beside {
+    /// The position of its row in the image of that tree.
+    rid: u64,
+    /// The clash with the first entry there that it can clash with.
+    clash: Option<Clash>,
+}
+
+/// What the other tree makes of the entry, which has this index in its own.
+fn find_beside(rule: ConflictRule, index: usize, entry: &SharedEntry, other: &DeltaTree) -> Beside
+    requires { entry.now.sid < 2 ^ 63 }
+    ensures rid { result.rid ≡ (rebased_entry other.now.key_cols other.now.entries entry.now).sid }
+    ensures clash { IsClashBeside rule other.now.key_cols index entry.now other.now.entries result.clash }
+{
+    let place = other.find_place(entry.sid(), entry.change());
+    Beside {
+        rid: place.rid,
+        clash: clash_beside(rule, index, entry, other, place),
+    }
 }

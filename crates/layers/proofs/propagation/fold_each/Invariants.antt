@@ -1,7 +1,7 @@
 use Rattle.std.proofs.Common.{◌≡◌, ◌≤◌, length}
 use Rattle.layers.specs.Over.{AreConsecutive}
 use Rattle.layers.proofs.RestLemmas.{tree_from}
-use Rattle.layers.proofs.propagation.propagate.Given as goal
+use Rattle.layers.proofs.propagation.fold_each.Given as goal
 
 -- the entries from that place on are folded in
 abbrev pub invariant-loop-left : goal.invariant-loop-left

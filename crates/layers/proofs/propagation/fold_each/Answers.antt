@@ -1,7 +1,7 @@
 use Rattle.std.proofs.Common.{◌≡◌, suc, ◌-◌, sym, ap, ◌∙◌, arith}
 use Rattle.layers.specs.Over.{AreConsecutive}
 use Rattle.layers.proofs.RestLemmas.{tree_from, start_is, step}
-use Rattle.layers.proofs.propagation.propagate.Goals as goal
+use Rattle.layers.proofs.propagation.fold_each.Goals as goal
 
 pub loop-left-init : goal.loop-left-init
 loop-left-init c =
