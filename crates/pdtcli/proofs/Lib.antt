@@ -3,4 +3,5 @@ mod ToldLemmas
 mod OutputLemmas
 mod ProgramLemmas
 mod ReadsLemmas
+mod CountLemmas
 pub mod CallerLemmas

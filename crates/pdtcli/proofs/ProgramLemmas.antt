@@ -1,5 +1,5 @@
 -- What an opening's answer says of its first fault, and what is so of a refusal that is passed up.
-use Rattle.std.proofs.Common.{◌≡◌, ℕ, Option, Some, None, Result, Ok, Err, sym, refl, subst}
+use Rattle.std.proofs.Common.{◌≡◌, Option, Some, None, Result, Ok, Err, sym, refl, subst}
 use Rattle.std.specs.Prelude.{IfErr, IsErrAnd, IsOkUnless, MatchOption, unwrap_or}
 use Rattle.manager.specs.Managed.{Managed, fault_of_opening}
 use Rattle.pdtcli.specs.Program.{File, Inputs, AreInputs, AreOpened}

@@ -1,5 +1,5 @@
 -- What is shown of a run: its reply lines, an empty line, and the image with its header.
-use Rattle.std.specs.Prelude.{◌≡◌, ℕ, suc, Bool, true, false, cond, nat_lt, Some, List, [], ◌∷◌, ◌++◌, map, codes, Vec}
+use Rattle.std.specs.Prelude.{◌≡◌, ℕ, suc, Bool, true, false, cond, nat_lt, Some, List, [], ◌∷◌, ◌++◌, map, Vec}
 use Rattle.std.specs.declared.alloc.Global.{Global}
 use Rattle.std.specs.List.{list_any}
 use Rattle.csv.specs.Writing.{default_writer, with_flexible, row_text, writer_setup, fields_written, has_written, text_written}

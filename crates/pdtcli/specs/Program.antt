@@ -1,6 +1,6 @@
 -- What the program makes of its files: the table and the script that they say, a run of the one over the other, and which
 -- part is refused.
-use Rattle.std.specs.Prelude.{◌≡◌, ◌≢◌, ℕ, Option, None, Result, Ok, Err, List, [], IsOkAnd, length, replicate, unwrap_or}
+use Rattle.std.specs.Prelude.{◌≡◌, ◌≢◌, ℕ, Option, None, Result, Ok, Err, List, IsOkAnd, length, replicate, unwrap_or}
 use Rattle.std.proofs.Common.{Bor}
 use Rattle.values.specs.Shape.{Columns}
 use Rattle.stable.specs.Stable.{Stable}

@@ -1,5 +1,5 @@
 -- A serial run: what each call may be answered, and what it leaves.
-use Rattle.std.specs.Prelude.{◌≡◌, ◌⊎◌, ℕ, ◌+◌, ◌==◌, Bool, true, false, ◌&&◌, Option, Some, None, IsNone, IsSome, List, [], ◌∷◌, ◌++◌, map, filter, length, slice_get, slice_set}
+use Rattle.std.specs.Prelude.{◌≡◌, ◌⊎◌, ℕ, ◌+◌, ◌==◌, Bool, true, false, ◌&&◌, cond, Option, Some, None, IsNone, IsSome, List, [], ◌∷◌, ◌++◌, map, filter, length, get_or, set, slice_get, slice_set}
 use Rattle.values.specs.Shape.{Columns, row_fault, key_fault, cell_fault, or_fault}
 use Rattle.values.specs.declared.fault.ShapeFault.{ShapeFault}
 use Rattle.values.specs.declared.fault.ShapeFault.TheVariants as shape
@@ -162,6 +162,10 @@ IsRun old (asked ∷ calls) lines new = (mid : State) × (these : List ReplyLine
 abbrev pub is_decided : Reply → Bool
 is_decided (Decided reply) = true
 is_decided reply = false
+
+-- the counts of all clients after a reply to one of them
+abbrev pub counts_after : ℕ → Reply → List ℕ → List ℕ
+counts_after client reply counts = cond (is_decided reply) (set counts client (get_or counts client 0 + 1)) counts
 
 -- between two states of the manager so many records were handed out: those that it had and those that it made, but for those
 -- that it still has

@@ -1,8 +1,8 @@
 //! A run of a script's calls, one after the other.
-ghost use Rattle.std.specs.Prelude.{◌≡◌, ◌≤◌, ◌+◌, replicate, None, Option, List, [], IfOk, length, map, vec_capacity};
+ghost use Rattle.std.specs.Prelude.{◌≡◌, ◌<◌, ◌+◌, ◌^◌, get_or, replicate, None, Option, List, [], IfOk, length, map};
 ghost use Rattle.std.specs.List.{range_with_len};
 ghost use Rattle.txn.specs.Txn.{Transaction};
-ghost use Rattle.pdtcli.specs.Run.{IsRun, line_of, verb_of_call, verb_of_read, verb_of_write, decided_count, is_decided, AreHanded};
+ghost use Rattle.pdtcli.specs.Run.{IsRun, line_of, verb_of_call, verb_of_read, verb_of_write, counts_after, decided_count, is_decided, AreHanded};
 
 use crate::caller::Caller;
 use crate::outcome::Outcome;
@@ -35,15 +35,15 @@ pub fn run_serial(alloc: Global, manager: Manager, script: &Script) -> Result<Ou
     let names = copy_texts(alloc, script.clients())?;
     let calls = script.calls();
     let mut callers = new_callers(alloc, count)?;
-    let counts = Vec::with_capacity(alloc, count)?;
+    let mut counts = no_counts(alloc, count)?;
     let mut lines = Vec::with_capacity(alloc, calls.len())?;
     let mut left = calls.len();
     for asked in calls {
         let reply = callers[asked.client as usize].serve(asked, &mut manager, &mut lines, left);
+        count_reply(&mut counts, asked.client as usize, &reply);
         lines.push_reserved(line_of(asked, reply));
         left -= 1;
     }
-    let counts = count_decided(counts, lines.as_slice(), count);
     let handed = handed_out(&manager) - handed_before;
     Ok(Outcome::new(names, lines, manager, counts, handed))
 }
@@ -66,27 +66,26 @@ fn new_callers(alloc: Global, count: usize) -> Result<Vec<Caller>, NoMemory>
     Ok(callers)
 }
 
-/// For each client, how many of its commits were decided. The room for it is there.
-fn count_decided(room: Vec<u64>, lines: &[ReplyLine], count: usize) -> Vec<u64>
-    requires none { room.items ≡ [] }
-    requires within { count ≤ vec_capacity room }
-    ensures { result.items ≡ map (decided_count lines.now) (range_with_len 0 count) }
+/// No commit of so many clients is decided yet.
+fn no_counts(alloc: Global, count: usize) -> Result<Vec<u64>, NoMemory>
+    ensures { IfOk result (λ counts. counts.items ≡ map (decided_count []) (range_with_len 0 count)) }
 {
-    let mut counts = room;
-    for client in 0..count {
-        counts.push_reserved(decided_count(lines, client));
+    let mut counts = Vec::with_capacity(alloc, count)?;
+    for _ in 0..count {
+        counts.push(0)?;
     }
-    counts
+    Ok(counts)
 }
 
-/// How many of the client's commits were decided.
-fn decided_count(lines: &[ReplyLine], client: usize) -> u64
-    ensures { result ≡ decided_count lines.now client }
+/// Counts a reply to a client, where it decides a commit.
+fn count_reply(counts: &mut Vec<u64>, client: usize, reply: &Reply)
+    requires there { client < length counts.old.items }
+    requires few { get_or counts.old.items client 0 + 1 < 2 ^ 64 }
+    ensures { counts.new.items ≡ counts_after client reply.now counts.old.items }
 {
-    lines
-        .iter()
-        .filter(|line| line.client as usize == client && is_decided(&line.reply))
-        .count() as u64
+    if is_decided(reply) {
+        counts[client] += 1;
+    }
 }
 
 fn is_decided(reply: &Reply) -> bool

@@ -1,10 +1,10 @@
-use Rattle.std.proofs.Common.{◌≡◌, ◌∙◌, ◌++◌, ◌∷◌, [], ℕ, List, ap, sym, append_assoc}
+use Rattle.std.proofs.Common.{◌≡◌, ◌∙◌, ◌++◌, ℕ, List, ap, sym, append_assoc}
 use Rattle.std.proofs.lemmas.List.{append-nil}
 use Rattle.std.proofs.lemmas.Result.{IfOk-weaker}
 use Rattle.csv.specs.Records.{fields_of}
 use Rattle.values.specs.declared.row.Row.{Row}
 use Rattle.merge.specs.View.{row_of}
-use Rattle.pdtcli.specs.Output.{IsWritten, record_text, rows_text}
+use Rattle.pdtcli.specs.Output.{record_text, rows_text}
 use Rattle.pdtcli.specs.Shown.{row_fields}
 use Rattle.pdtcli.proofs.output.rows_after.Goals as goal
 

@@ -1,5 +1,6 @@
-use Rattle.std.proofs.Common.{◌≡◌, ◌+◌, ◌++◌, ◌∷◌, ◌<◌, None, Option, List, [], length, take, get_or, set, replicate, refl, ap, sym, ◌∙◌, subst, append_assoc, arith}
+use Rattle.std.proofs.Common.{◌≡◌, ◌+◌, ◌++◌, ◌∷◌, ◌<◌, ℕ, None, Option, List, [], length, take, get_or, set, replicate, refl, ap, sym, ◌∙◌, subst, append_assoc, arith}
 use Rattle.std.specs.Prelude.{IfSome, slice_get}
+use Rattle.std.specs.List.{All}
 use Rattle.std.proofs.lemmas.List.{take_more}
 use Rattle.std.proofs.lemmas.Option.{slice_get-get_or}
 use Rattle.values.specs.declared.row.Row.{Row}
@@ -7,9 +8,50 @@ use Rattle.inputs.specs.declared.call.ClientCall.{ClientCall}
 use Rattle.pdtcli.specs.declared.reply.ReplyLine.{ReplyLine}
 use Rattle.txn.specs.Txn.{Transaction}
 use Rattle.manager.specs.Managed.{IsOwn}
-use Rattle.pdtcli.specs.Run.{IsRun, Side, SideStep, State, Step, joined, line_of, lines_of, shown_lines}
+use Rattle.pdtcli.specs.Run.{IsRun, Side, SideStep, State, Step, counts_after, decided_count, joined, line_of, lines_of, shown_lines}
 use Rattle.pdtcli.proofs.RunLemmas.{ready_again, made_again, IsRun-more}
+use Rattle.pdtcli.proofs.CountLemmas.{counts_of, counts_after-call, length-counts_of, get_or-counts_of, decided_count-bound}
 use Rattle.pdtcli.proofs.serial.run_serial.Goals as goal
+
+-- a call's client is one of so many
+client_bound : (calls given : List ClientCall) (clients i : ℕ) (asked : ClientCall)
+    → All (λ (a : ClientCall). a.client < clients) calls → given ≡ calls → asked ≡ get_or given i asked → i < length given
+    → asked.client < clients
+client_bound calls given clients i asked numbered list is inside =
+    subst (λ (a : ClientCall). a.client < clients) (sym (is ∙ ap (λ (xs : List ClientCall). get_or xs i asked) list))
+    (numbered i asked (omega (arith, inside, ap (λ (xs : List ClientCall). length xs) list)))
+
+pub count_reply-requires-clause-there : goal.count_reply-requires-clause-there
+count_reply-requires-clause-there c =
+    let clients = length c.args.script.now.clients in
+    let asked = c.asked-item.result in
+    let given = c.calls-calls.result.now in
+    let bound = client_bound c.args.script.now.calls given clients c.loop-asked.asked-index asked c.calls-calls.ensures.lawful.numbered
+    c.calls-calls.ensures.calls c.asked-item.is c.loop-asked-test.true in
+    omega (arith, bound, ap (λ (ns : List ℕ). length ns) c.loop-asked.invariant.counts, length-counts_of c.loop-asked.lines.items clients)
+
+pub count_reply-requires-clause-few : goal.count_reply-requires-clause-few
+count_reply-requires-clause-few c =
+    let clients = length c.args.script.now.clients in
+    let asked = c.asked-item.result in
+    let given = c.calls-calls.result.now in
+    let lines = c.loop-asked.lines in
+    let bound = client_bound c.args.script.now.calls given clients c.loop-asked.asked-index asked c.calls-calls.ensures.lawful.numbered
+    c.calls-calls.ensures.calls c.asked-item.is c.loop-asked-test.true in
+    let counted : get_or c.loop-asked.counts.items asked.client 0 ≡ decided_count lines.items asked.client =
+    ap (λ (ns : List ℕ). get_or ns asked.client 0) c.loop-asked.invariant.counts ∙ get_or-counts_of lines.items clients asked.client bound in
+    let list = ap (λ (xs : List ClientCall). length xs) c.calls-calls.ensures.calls in
+    omega (
+      arith,
+      counted,
+      decided_count-bound lines.items asked.client,
+      lines.ok.0,
+      lines.small,
+      c.loop-asked.invariant.room,
+      c.loop-asked.invariant.left,
+      c.loop-asked-test.true,
+      list,
+    )
 
 pub loop-asked-preserved : goal.loop-asked-preserved
 loop-asked-preserved c =
@@ -56,5 +98,8 @@ loop-asked-preserved c =
       left = omega (arith, c.loop-asked.invariant.left, inside);
       room = omega (arith, c.push_reserved.ensures.len, c.push_reserved.ensures.capacity, c.serve-reply.ensures.room, c.loop-asked.invariant.left, inside);
       made = made_again c.args.manager m asked.client asked.call mine after rows reply own c.loop-asked.invariant.made step;
-      counts = c.loop-asked.invariant.counts;
+      counts = c.count_reply.ensures
+          ∙ ap (counts_after asked.client reply) c.loop-asked.invariant.counts
+          ∙ counts_after-call before (length c.args.script.now.clients) asked rows reply bound
+          ∙ ap (λ (ls : List ReplyLine). counts_of ls (length c.args.script.now.clients)) (sym told);
     }

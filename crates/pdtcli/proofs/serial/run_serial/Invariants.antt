@@ -1,10 +1,11 @@
-use Rattle.std.proofs.Common.{◌≡◌, ◌≤◌, ◌+◌, None, [], length, take, replicate}
+use Rattle.std.proofs.Common.{◌≡◌, ◌≤◌, ◌+◌, None, length, take, replicate}
 use Rattle.std.specs.Prelude.{vec_capacity, vec_len}
 use Rattle.pdtcli.specs.Run.{IsRun}
 use Rattle.pdtcli.specs.Ready.{IsReady}
+use Rattle.pdtcli.proofs.CountLemmas.{counts_of}
 use Rattle.pdtcli.proofs.serial.run_serial.Given as goal
 
--- the lines so far are a run of the calls so far, each client is ready for the next, and there is room for the rest
+-- the lines so far are a run of the calls so far and counted, each client is ready for the next, and there is room for the rest
 abbrev pub invariant-loop-asked : goal.invariant-loop-asked
 invariant-loop-asked l = record {
   run : IsRun (record { manager = l.fn.manager; transactions = replicate (length l.script.clients) None }) (take l.asked-index l.script.calls) l.lines.items (record { manager = l.manager; transactions = l.callers.items });
@@ -12,5 +13,5 @@ invariant-loop-asked l = record {
   left : l.asked-index + l.left ≡ length l.script.calls;
   room : vec_len l.lines + l.left ≤ vec_capacity l.lines;
   made : l.fn.manager.made + length l.manager.history ≤ length l.fn.manager.history + l.manager.made;
-  counts : (l.counts.items ≡ []) × (l.count ≤ vec_capacity l.counts);
+  counts : l.counts.items ≡ counts_of l.lines.items (length l.script.clients);
 }
