@@ -79,7 +79,8 @@ into_is key_cols (Mod col value) (Mod other new) c is = by (nat_cmp other col) i
     by Equal h = cc
     by Greater h = cc
 
-into_there : (key_cols : ℕ) (r : Ordering) (lower upper c : Change) → positions_meet key_cols r lower upper ≡ Into c → c ≡ changed_by lower upper
+into_there : (key_cols : ℕ) (r : Ordering) (lower upper c : Change) → positions_meet key_cols r lower upper ≡ Into c
+    → c ≡ changed_by lower upper
 into_there key_cols Less lower upper c is = cc
 into_there key_cols Equal lower upper c is = into_is key_cols lower upper c is
 into_there key_cols Greater lower upper c is = cc
@@ -122,7 +123,8 @@ module _ (key_cols added gone : ℕ) (own u : Entry) (lowers us : List Entry) wh
       by Neither e = ap outcome e
       by (Into c) e =
           ap outcome e
-          ∙ ap (λ (d : Change). fold_from key_cols (entry_at own.sid d ∷ lowers) added gone us) (into_there key_cols (nat_cmp (u.sid + gone) (own.sid + added)) own.change u.change c e)
+          ∙ ap (λ (d : Change). fold_from key_cols (entry_at own.sid d ∷ lowers) added gone us)
+          (into_there key_cols (nat_cmp (u.sid + gone) (own.sid + added)) own.change u.change c e)
 
 -- and what is put then, whatever lower entries follow
 module _ (key_cols added gone : ℕ) (own : Entry) (out us : List Entry) where
@@ -142,10 +144,12 @@ module _ (key_cols added gone : ℕ) (own : Entry) (out us : List Entry) where
     abbrev pub Meets : Met → Type 0
     Meets kind = kind ≡ kind_of (meet key_cols added gone own u)
 
-    all_is : (lowers : List Entry) → fold_from key_cols (own ∷ lowers) added gone us ≡ fold_from key_cols (own ∷ lowers) added gone (u ∷ drop 1 us)
+    all_is : (lowers : List Entry) →
+        fold_from key_cols (own ∷ lowers) added gone us ≡ fold_from key_cols (own ∷ lowers) added gone (u ∷ drop 1 us)
     all_is lowers = ap (fold_from key_cols (own ∷ lowers) added gone) (ahead_is us u at)
 
-    pub upper_put : Meets met.Upper → (lowers : List Entry) → (out ++ lowered_entry added gone u ∷ []) ++ fold_from key_cols (own ∷ lowers) added gone (drop 1 us) ≡ to_come lowers
+    pub upper_put : Meets met.Upper → (lowers : List Entry) →
+        (out ++ lowered_entry added gone u ∷ []) ++ fold_from key_cols (own ∷ lowers) added gone (drop 1 us) ≡ to_come lowers
     upper_put is lowers =
         append_assoc out (lowered_entry added gone u ∷ []) (fold_from key_cols (own ∷ lowers) added gone (drop 1 us))
         ∙ ap (λ es. out ++ es) (sym (all_is lowers ∙ meets key_cols added gone own u lowers (drop 1 us) met.Upper is))
@@ -164,12 +168,14 @@ module _ (key_cols added gone : ℕ) (own : Entry) (out us : List Entry) where
     pub neither_put : Meets met.Neither → (lowers : List Entry) → out ++ after lowers (drop 1 us) ≡ to_come lowers
     neither_put is lowers = ap (λ es. out ++ es) (sym (all_is lowers ∙ meets key_cols added gone own u lowers (drop 1 us) met.Neither is))
 
-    pub into_own : Meets met.Into → (lowers : List Entry) → out ++ fold_from key_cols (entry_at own.sid (changed_by own.change u.change) ∷ lowers) added gone (drop 1 us) ≡ to_come lowers
+    pub into_own : Meets met.Into → (lowers : List Entry) →
+        out ++ fold_from key_cols (entry_at own.sid (changed_by own.change u.change) ∷ lowers) added gone (drop 1 us) ≡ to_come lowers
     into_own is lowers = ap (λ es. out ++ es) (sym (all_is lowers ∙ meets key_cols added gone own u lowers (drop 1 us) met.Into is))
 
 -- ---- all of both trees
 
-module _ (lower upper : Tree) (w : AreConsecutive lower upper) (folds : FoldsToComposed w.schema) (out : List Entry) (is : out ≡ folded_entries lower.key_cols lower.entries upper.entries) where
+module _ (lower upper : Tree) (w : AreConsecutive lower upper) (folds : FoldsToComposed w.schema) (out : List Entry)
+    (is : out ≡ folded_entries lower.key_cols lower.entries upper.entries) where
   cols_is : lower.key_cols ≡ w.schema.key_cols
   cols_is = ap (λ (r : Tree). r.key_cols) w.below.tree_is
 
@@ -191,7 +197,9 @@ module _ (lower upper : Tree) (w : AreConsecutive lower upper) (folds : FoldsToC
       let entries = ordered w.schema w.t all (composes w.schema w.t w.x w.f w.below.over w.above.over).0 in
       let law : IsLawful w.schema.key_cols (canonical_entries w.t all) = record {
         ordered = entries.ordered;
-        placed = All-weaker (λ e. e.sid ≤ length w.t) (λ e. e.sid < 2 ^ 32) (λ e le. omega (arith, le, w.small.rows)) (canonical_entries w.t all) entries.placed;
+        placed =
+            All-weaker (λ e. e.sid ≤ length w.t) (λ e. e.sid < 2 ^ 32) (λ e le. omega (arith, le, w.small.rows))
+            (canonical_entries w.t all) entries.placed;
         counted = entries_few lower upper w 0;
       } in
       subst (λ (r : Tree). IsLawful r.key_cols r.entries) (λ i. record { key_cols = sym cols_is i; entries = sym list_is i }) law

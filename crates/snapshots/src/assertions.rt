@@ -1,5 +1,7 @@
 //! What a test looks at, each in a function of its own, so that a test stays short: its proof costs more than in proportion
 //! to its length.
+use delta::SharedEntry;
+use model::{Change, Entry};
 use std::process::Abort;
 
 /// That the text is the one wanted.
@@ -15,4 +17,15 @@ pub(crate) fn assert_text_at(rt: &impl Abort, found: &str, want: &str, place: u6
 /// That it holds.
 pub(crate) fn assert_holds(rt: &impl Abort, holds: bool, at: &str) {
     assert!(rt; holds, "{at}");
+}
+
+/// Whether two entries are the same.
+pub(crate) fn is_same(one: &SharedEntry, other: &Entry) -> bool {
+    one.sid() == other.sid
+        && match (one.change(), &other.change) {
+            (Change::Ins(row), Change::Ins(found)) => row.cells() == found.cells(),
+            (Change::Del(key), Change::Del(found)) => key == found,
+            (Change::Mod(col, value), Change::Mod(at, found)) => col == at && value == found,
+            _ => false,
+        }
 }

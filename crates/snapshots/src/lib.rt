@@ -12,6 +12,8 @@ mod folds;
 #[cfg(test)]
 mod images;
 #[cfg(test)]
+mod pairs;
+#[cfg(test)]
 mod shown;
 #[cfg(test)]
 mod transactions;

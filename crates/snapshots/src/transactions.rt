@@ -23,7 +23,7 @@ use values::{Key, NoMemory, Row, ShapeFault, Value, ValueRef};
 const ROOM: u64 = 4;
 
 /// The reply to a write.
-fn answer(txn: &mut Txn, write: Write) -> Result<WriteReply, WriteFault>
+pub(crate) fn answer(txn: &mut Txn, write: Write) -> Result<WriteReply, WriteFault>
     ensures schema { txn.new.schema ≡ txn.old.schema }
     ensures table { txn.new.table ≡ txn.old.table }
 {

@@ -1,8 +1,9 @@
 //! A transaction of a thousand random writes beside the slow program: reply by reply, entry by entry, and row by row.
 use super::answer;
-use delta::{DeltaTree, SharedEntry};
+use crate::assertions::is_same;
+use delta::DeltaTree;
 use fixtures::{Draws, key, row_with, schema};
-use model::{Change, Entry, Write, WriteReply};
+use model::{Entry, Write, WriteReply};
 use oracle::{Effects, OrderedTable, canonical_entries};
 use stable::StableTable;
 use std::alloc::Global;
@@ -143,17 +144,6 @@ fn first_difference(
         }
     }
     Ok(None)
-}
-
-/// Whether two entries are the same.
-fn is_same(one: &SharedEntry, other: &Entry) -> bool {
-    one.sid() == other.sid
-        && match (one.change(), &other.change) {
-            (Change::Ins(row), Change::Ins(found)) => row.cells() == found.cells(),
-            (Change::Del(key), Change::Del(found)) => key == found,
-            (Change::Mod(col, value), Change::Mod(at, found)) => col == at && value == found,
-            _ => false,
-        }
 }
 
 /// That the entries are those of the tree, in order.

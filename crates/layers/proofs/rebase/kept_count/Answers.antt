@@ -5,7 +5,9 @@ use Rattle.layers.proofs.rebase.kept_count.Goals as goal
 pub find_beside-found-requires : goal.find_beside-found-requires
 find_beside-found-requires c =
     let x = c.args.x.now in
-    let here = is_at c.loop-entry.index x.entries c.next.new.self c.in-Some.entry.now (sym c.loop-entry.invariant.left ∙ c.in-Some.ensures.steps) in
+    let here =
+    is_at c.loop-entry.index x.entries c.next.new.self c.in-Some.entry.now
+    (sym c.loop-entry.invariant.left ∙ c.in-Some.ensures.steps) in
     small_sid c.args.rule x c.args.y.now c.requires c.loop-entry.index c.in-Some.entry.now here.at
 
 pub loop-entry-preserved : goal.loop-entry-preserved
@@ -21,6 +23,7 @@ loop-entry-preserved c =
     record {
       left = here.left_is;
       within = here.within;
-      same = same_next y.key_cols n c.find_beside-found.result.rid x.entries y.entries e here.at found.rid stays c.loop-entry.invariant.same;
+      same =
+          same_next y.key_cols n c.find_beside-found.result.rid x.entries y.entries e here.at found.rid stays c.loop-entry.invariant.same;
       clear = c.loop-entry.invariant.clear ∙ clear_next c.args.rule y.key_cols n x.entries y.entries e here.at own;
     }

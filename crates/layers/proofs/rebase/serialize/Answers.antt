@@ -10,7 +10,9 @@ use Rattle.layers.proofs.rebase.serialize.Goals as goal
 pub find_beside-found-requires : goal.find_beside-found-requires
 find_beside-found-requires c =
     let x = c.args.x.now in
-    let here = is_at c.loop-entry.index x.entries c.next.new.self c.in-Some.entry.now (sym c.loop-entry.invariant.left ∙ c.in-Some.ensures.steps) in
+    let here =
+    is_at c.loop-entry.index x.entries c.next.new.self c.in-Some.entry.now
+    (sym c.loop-entry.invariant.left ∙ c.in-Some.ensures.steps) in
     small_sid c.args.rule x c.args.y.now c.requires c.loop-entry.index c.in-Some.entry.now here.at
 
 pub returns-in-Some-clash : goal.returns-in-Some-clash
@@ -55,7 +57,8 @@ loop-entry-preserved c =
       within = here.within;
       moved =
           c.in_ok-push.ensures.items ∙ one
-          ∙ moved_next y.key_cols n c.find_beside-found.result.rid x.entries y.entries out e here.at found.rid c.loop-entry.invariant.moved;
+          ∙ moved_next y.key_cols n c.find_beside-found.result.rid x.entries y.entries out e here.at found.rid
+          c.loop-entry.invariant.moved;
       clear = c.loop-entry.invariant.clear ∙ clear_next c.args.rule y.key_cols n x.entries y.entries e here.at own;
     }
 
@@ -65,7 +68,9 @@ from_shared-requires c =
     let y = c.args.y.now in
     let n = c.loop-entry.index in
     let end : length x.entries ≤ n = none_dropped n x.entries (sym c.loop-entry.invariant.left ∙ c.in-None.ensures.steps.0) in
-    let none = c.loop-entry.invariant.clear ∙ ap (λ (es : List Entry). first_clash_from c.args.rule y.key_cols n es y.entries) (none_left n x.entries end) in
+    let none =
+    c.loop-entry.invariant.clear
+    ∙ ap (λ (es : List Entry). first_clash_from c.args.rule y.key_cols n es y.entries) (none_left n x.entries end) in
     let all = c.loop-entry.invariant.moved ∙ ap (map (rebased_entry y.key_cols y.entries)) (all_taken n x.entries end) in
     let law = lawful c.args.rule x y c.requires c.loop-entry.entries.items none all in
     subst (λ (k : ℕ). IsLawful k c.loop-entry.entries.items) (sym c.key_cols.ensures) law
@@ -77,8 +82,11 @@ returns c =
     let n = c.loop-entry.index in
     let out = c.loop-entry.entries.items in
     let end : length x.entries ≤ n = none_dropped n x.entries (sym c.loop-entry.invariant.left ∙ c.in-None.ensures.steps.0) in
-    let none = c.loop-entry.invariant.clear ∙ ap (λ (es : List Entry). first_clash_from c.args.rule y.key_cols n es y.entries) (none_left n x.entries end) in
+    let none =
+    c.loop-entry.invariant.clear
+    ∙ ap (λ (es : List Entry). first_clash_from c.args.rule y.key_cols n es y.entries) (none_left n x.entries end) in
     let all = c.loop-entry.invariant.moved ∙ ap (map (rebased_entry y.key_cols y.entries)) (all_taken n x.entries end) in
     let tree = c.in_ok-from_shared.field-0 in
-    let tree_is : tree ≡ record { key_cols = x.key_cols; entries = out } = c.in_ok-from_shared.ensures ∙ (λ i. record { key_cols = c.key_cols.ensures i; entries = out }) in
+    let tree_is : tree ≡ record { key_cols = x.key_cols; entries = out } =
+    c.in_ok-from_shared.ensures ∙ (λ i. record { key_cols = c.key_cols.ensures i; entries = out }) in
     λ (w : AreAligned x y). (unconflicting c.args.rule x y w none, rebased_is c.args.rule x y w tree out none all tree_is)

@@ -8,5 +8,7 @@ invariant-loop-entry l = record {
   left : l.entry-iterator ≡ drop l.index l.x.entries;
   within : l.index ≤ length l.x.entries;
   moved : l.entries.items ≡ map (rebased_entry l.y.key_cols l.y.entries) (take l.index l.x.entries);
-  clear : first_clash l.rule l.y.key_cols l.x.entries l.y.entries ≡ first_clash_from l.rule l.y.key_cols l.index (drop l.index l.x.entries) l.y.entries;
+  clear :
+      first_clash l.rule l.y.key_cols l.x.entries l.y.entries
+      ≡ first_clash_from l.rule l.y.key_cols l.index (drop l.index l.x.entries) l.y.entries;
 }

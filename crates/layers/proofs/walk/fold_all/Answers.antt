@@ -23,7 +23,8 @@ loop-entry-preserved c =
           ∙ c.in_ok-fold.ensures.folded left
           ∙ (λ i. old.out.items ++ fold_from (inv.key_cols i) (sym steps i) old.added old.gone old.uppers)
           ∙ inv.folded;
-      lowers = All-tail (λ (x : Entry). x.sid < 2 ^ 32) e left (subst (λ (es : List Entry). All (λ x. x.sid < 2 ^ 32) es) steps inv.lowers);
+      lowers =
+          All-tail (λ (x : Entry). x.sid < 2 ^ 32) e left (subst (λ (es : List Entry). All (λ x. x.sid < 2 ^ 32) es) steps inv.lowers);
       uppers = c.in_ok-fold.ensures.placed;
       few = omega (arith, inv.few, c.in_ok-fold.ensures.few, ap length steps);
       key_cols = key_cols;
@@ -37,7 +38,8 @@ from_shared-requires c =
     let here = c.loop-entry.walk in
     let out = c.put_rest.new.self.out.items in
     let none : c.loop-entry.entry-iterator ≡ [] = c.in-None.ensures.steps.0 in
-    let rest : fold_from here.key_cols [] here.added here.gone here.uppers ≡ fold_from lower.key_cols c.loop-entry.entry-iterator here.added here.gone here.uppers =
+    let rest : fold_from here.key_cols [] here.added here.gone here.uppers
+    ≡ fold_from lower.key_cols c.loop-entry.entry-iterator here.added here.gone here.uppers =
     λ i. fold_from (inv.key_cols i) (sym none i) here.added here.gone here.uppers in
     let is : out ≡ folded_entries lower.key_cols lower.entries upper.entries =
     c.in_ok-put_rest.ensures ∙ ap (λ (es : List Entry). here.out.items ++ es) rest ∙ inv.folded in
@@ -52,10 +54,12 @@ returns c =
     let here = c.loop-entry.walk in
     let out = c.put_rest.new.self.out.items in
     let none : c.loop-entry.entry-iterator ≡ [] = c.in-None.ensures.steps.0 in
-    let rest : fold_from here.key_cols [] here.added here.gone here.uppers ≡ fold_from lower.key_cols c.loop-entry.entry-iterator here.added here.gone here.uppers =
+    let rest : fold_from here.key_cols [] here.added here.gone here.uppers
+    ≡ fold_from lower.key_cols c.loop-entry.entry-iterator here.added here.gone here.uppers =
     λ i. fold_from (inv.key_cols i) (sym none i) here.added here.gone here.uppers in
     let is : out ≡ folded_entries lower.key_cols lower.entries upper.entries =
     c.in_ok-put_rest.ensures ∙ ap (λ (es : List Entry). here.out.items ++ es) rest ∙ inv.folded in
     let tree = c.in_ok-from_shared.field-0 in
-    let made : tree ≡ record { key_cols = lower.key_cols; entries = out } = c.in_ok-from_shared.ensures ∙ (λ i. record { key_cols = c.key_cols-2.ensures i; entries = out }) in
+    let made : tree ≡ record { key_cols = lower.key_cols; entries = out } =
+    c.in_ok-from_shared.ensures ∙ (λ i. record { key_cols = c.key_cols-2.ensures i; entries = out }) in
     λ (w : AreConsecutive lower upper). is_composed lower upper w (c.folds_to_composed.ensures w.schema) out is tree made

@@ -18,7 +18,8 @@ loop-upper-preserved-in-Continue-branch-2 c =
     let u = c.in-Some.upper.now in
     let at = sym c.first.ensures ∙ ap option_copied c.in-Some.is in
     let met = sym c.in-Upper.is ∙ c.meet.ensures ∙ (λ i. kind_of (meet (inv.key_cols i) (inv.added i) (inv.gone i) own u)) in
-    let lowered : lowered_entry here.added here.gone u ≡ lowered_entry old.added old.gone u = λ i. lowered_entry (inv.added i) (inv.gone i) u in
+    let lowered : lowered_entry here.added here.gone u ≡ lowered_entry old.added old.gone u =
+    λ i. lowered_entry (inv.added i) (inv.gone i) u in
     let out = c.in_ok-put_upper-in-Upper.ensures.out ∙ ap (λ (e : Entry). here.out.items ++ e ∷ []) lowered in
     let left = c.in_ok-put_upper-in-Upper.ensures.uppers in
     record {
@@ -107,7 +108,9 @@ returns-clause-folded c =
     let added = c.count-2.ensures.added ∙ (λ i. inv.added i + added_by (change i)) in
     let gone = c.count-2.ensures.gone ∙ (λ i. inv.gone i + gone_by (change i)) in
     let out = c.in_ok-push.ensures.items ∙ (λ i. (c.count-2.ensures.out i).items ++ own ∷ []) in
-    let last : (lowers : List Entry) → (here.out.items ++ own ∷ []) ++ fold_from old.key_cols lowers (old.added + added_by own.change) (old.gone + gone_by own.change) us ≡ here.out.items ++ fold_from old.key_cols (own ∷ lowers) old.added old.gone us =
+    let last : (lowers : List Entry) →
+    (here.out.items ++ own ∷ []) ++ fold_from old.key_cols lowers (old.added + added_by own.change) (old.gone + gone_by own.change) us
+    ≡ here.out.items ++ fold_from old.key_cols (own ∷ lowers) old.added old.gone us =
     elim c.match-first.branch [
       | in-Some+in-Lower w ↦
           let at = sym c.first.ensures ∙ ap option_copied w.in-Some.is in

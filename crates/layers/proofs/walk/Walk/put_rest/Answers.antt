@@ -16,7 +16,8 @@ loop-upper-preserved c =
     let at = sym c.first.ensures ∙ ap option_copied c.in-Some.is in
     let added : c.put_upper.new.self.added ≡ old.added = c.put_upper.ensures.added ∙ inv.added in
     let gone : c.put_upper.new.self.gone ≡ old.gone = c.put_upper.ensures.gone ∙ inv.gone in
-    let lowered : lowered_entry here.added here.gone u ≡ lowered_entry old.added old.gone u = λ i. lowered_entry (inv.added i) (inv.gone i) u in
+    let lowered : lowered_entry here.added here.gone u ≡ lowered_entry old.added old.gone u =
+    λ i. lowered_entry (inv.added i) (inv.gone i) u in
     let out = c.in_ok-put_upper.ensures.out ∙ ap (λ (e : Entry). here.out.items ++ e ∷ []) lowered in
     let left = c.in_ok-put_upper.ensures.uppers in
     record {

@@ -1,0 +1,134 @@
+//! Trees of no entries, of one, of a leaf and a few, and of ten thousand, folded and made consecutive: over a table of no
+//! rows, where each place is known.
+use super::{folded, passed, table_of, written_over};
+use delta::{Change, DeltaTree, SharedEntry};
+use fixtures::{ItemWrite, writes_of};
+use layers::{ConflictRule, Serialized};
+use model::Write;
+use stable::StableTable;
+use std::alloc::Global;
+use std::sync::Arc;
+use std::test::Fail;
+use values::{NoMemory, Value};
+
+const SIZES: [u16; 4] = [0, 1, 257, 10_000];
+
+/// The SID of an insert, and its number.
+type Spot = (u64, i64);
+
+/// Inserts of so many even numbers from 0 on, or of so many odd ones.
+fn inserts(alloc: Global, count: u16, odd: u8) -> Result<Vec<Write>, Fail> {
+    let mut named = Vec::new(alloc);
+    for place in 0..count {
+        let id = i64::from(place) * 2 + i64::from(odd);
+        named.push(ItemWrite::Insert(id, "new", 7))?;
+    }
+    Ok(writes_of(alloc, named.as_slice())?)
+}
+
+/// Deletes of so many even numbers from 0 on.
+fn deletes(alloc: Global, count: u16) -> Result<Vec<Write>, Fail> {
+    let mut named = Vec::new(alloc);
+    for place in 0..count {
+        named.push(ItemWrite::Delete(i64::from(place) * 2))?;
+    }
+    Ok(writes_of(alloc, named.as_slice())?)
+}
+
+/// Where an entry stands, and its number where it is an insert.
+fn spot_of(entry: &SharedEntry) -> Spot {
+    match entry.change() {
+        Change::Ins(row) => match row.cells().first() {
+            Some(Value::Int(id)) => (entry.sid(), *id),
+            _ => (entry.sid(), -2),
+        },
+        _ => (entry.sid(), -1),
+    }
+}
+
+/// Whether the inserts of the tree stand in these spots, and it has no other entries.
+fn stands(tree: &DeltaTree, spots: &[Spot]) -> bool {
+    tree.len() == spots.len()
+        && tree
+            .iter()
+            .zip(spots.iter())
+            .all(|(entry, spot)| spot_of(entry) == *spot)
+}
+
+/// Both kinds of numbers in order, all at SID 0.
+fn merged(alloc: Global, evens: u16, odds: u16) -> Result<Vec<Spot>, NoMemory> {
+    let mut spots = Vec::new(alloc);
+    for place in 0..evens.max(odds) {
+        if place < evens {
+            spots.push((0, i64::from(place) * 2))?;
+        }
+        if place < odds {
+            spots.push((0, i64::from(place) * 2 + 1))?;
+        }
+    }
+    Ok(spots)
+}
+
+/// Each odd number past the even ones below it.
+fn moved(alloc: Global, odds: u16, evens: u16) -> Result<Vec<Spot>, NoMemory> {
+    let mut spots = Vec::new(alloc);
+    for place in 0..odds {
+        let below = u64::from(place).saturating_add(1).min(u64::from(evens));
+        spots.push((below, i64::from(place) * 2 + 1))?;
+    }
+    Ok(spots)
+}
+
+/// The even numbers that are left, at SID 0.
+fn kept(alloc: Global, count: u16, gone: u16) -> Result<Vec<Spot>, NoMemory> {
+    let mut spots = Vec::new(alloc);
+    for place in gone..count {
+        spots.push((0, i64::from(place) * 2))?;
+    }
+    Ok(spots)
+}
+
+/// Whether a tree of the one size takes in one of the other size: inserts between its own, and deletes of its rows.
+fn takes_in(
+    alloc: Global,
+    stable: &Arc<StableTable>,
+    count: u16,
+    other: u16,
+) -> Result<bool, Fail> {
+    let lower = written_over(alloc, stable, inserts(alloc, count, 0)?)?.tree;
+    let (more, _upper) = folded(alloc, stable, &lower, inserts(alloc, other, 1)?)?;
+    let (fewer, _upper) = folded(alloc, stable, &lower, deletes(alloc, other)?)?;
+    Ok(
+        stands(&more, merged(alloc, count, other)?.as_slice())
+            && stands(&fewer, kept(alloc, count, other)?.as_slice()),
+    )
+}
+
+/// Whether a tree of the one size passes one of the other size.
+fn passes(alloc: Global, stable: &Arc<StableTable>, count: u16, other: u16) -> Result<bool, Fail> {
+    let x = written_over(alloc, stable, inserts(alloc, count, 1)?)?.tree;
+    let y = written_over(alloc, stable, inserts(alloc, other, 0)?)?.tree;
+    match passed(alloc, stable, &x, &y, ConflictRule::ByColumn)? {
+        Serialized::Tree(tree) => Ok(stands(&tree, moved(alloc, count, other)?.as_slice())),
+        Serialized::Conflict(_) => Ok(false),
+    }
+}
+
+#[test]
+fn trees_of_each_size_fold_and_pass(rt: HostRuntime) -> Result<(), Fail> {
+    let alloc = rt.alloc();
+    let stable = Arc::new(alloc, table_of(alloc, Vec::new(alloc))?)?;
+    for count in &SIZES {
+        for other in &SIZES {
+            assert!(rt;
+                takes_in(alloc, &stable, *count, *other)?,
+                "{count} takes in {other}"
+            );
+            assert!(rt;
+                passes(alloc, &stable, *count, *other)?,
+                "{count} passes {other}"
+            );
+        }
+    }
+    Ok(())
+}
