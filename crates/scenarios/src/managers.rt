@@ -5,6 +5,7 @@ ghost use Rattle.manager.specs.Managed.{Managed, IsOwn};
 
 mod cuts;
 mod openings;
+mod refusals;
 
 use fixtures::{ItemWrite, base_table, key, write_of};
 use model::{CommitReply, ConflictRule, Write, WriteReply};
@@ -63,6 +64,30 @@ fn decided(manager: &mut Manager, txn: Txn) -> Option<CommitReply>
             txn.abort();
             None
         }
+    }
+}
+
+/// A transaction of the client 0 that begins now and makes one write.
+fn begun_with(alloc: Global, manager: &Manager, named: ItemWrite) -> Result<Txn, NoMemory>
+    ensures { IfOk result (λ txn. IsOwn manager.now txn) }
+{
+    let mut txn = manager.begin(0)?;
+    match wrote(alloc, &mut txn, named) {
+        Ok(WriteReply::Done) => Ok(txn),
+        _ => {
+            txn.abort();
+            Err(NoMemory)
+        }
+    }
+}
+
+/// The reply to a transaction that begins now and makes one write, or none where memory is refused.
+fn one_write(alloc: Global, manager: &mut Manager, named: ItemWrite) -> Option<CommitReply>
+    ensures kept { (other : Transaction) → IsOwn manager.old other → IsOwn manager.new other }
+{
+    match begun_with(alloc, manager, named) {
+        Ok(txn) => decided(manager, txn),
+        Err(NoMemory) => None,
     }
 }
 

@@ -1,5 +1,6 @@
 //! The program over the bytes of a table and of a script: what a run writes and hands on, and what is refused.
 mod clients;
+mod edges;
 mod folds;
 mod long_run;
 mod outcomes;
@@ -7,6 +8,7 @@ mod quotes;
 mod random_runs;
 mod refusals;
 mod refused;
+mod regrown;
 mod runs;
 mod writers;
 

@@ -1,40 +1,10 @@
 //! What folds and cuts leave, and commits in two parts.
-ghost use Rattle.std.specs.Prelude.{IfOk};
-ghost use Rattle.txn.specs.Txn.{Transaction};
-ghost use Rattle.manager.specs.Managed.{IsOwn};
-
-use super::{decided, numbers, opened, wrote};
+use super::{begun_with, decided, numbers, one_write, opened};
 use fixtures::ItemWrite;
-use model::{CommitReply, WriteReply};
-use pdtcli::{Manager, Txn};
-use std::alloc::Global;
+use model::CommitReply;
 use std::test::Fail;
 use values::NoMemory;
 use values::limits::MAX_ROWS;
-
-/// A transaction of the client 0 that begins now and makes one write.
-fn begun_with(alloc: Global, manager: &Manager, named: ItemWrite) -> Result<Txn, NoMemory>
-    ensures { IfOk result (λ txn. IsOwn manager.now txn) }
-{
-    let mut txn = manager.begin(0)?;
-    match wrote(alloc, &mut txn, named) {
-        Ok(WriteReply::Done) => Ok(txn),
-        _ => {
-            txn.abort();
-            Err(NoMemory)
-        }
-    }
-}
-
-/// The reply to a transaction that begins now and makes one write, or none where memory is refused.
-fn one_write(alloc: Global, manager: &mut Manager, named: ItemWrite) -> Option<CommitReply>
-    ensures kept { (other : Transaction) → IsOwn manager.old other → IsOwn manager.new other }
-{
-    match begun_with(alloc, manager, named) {
-        Ok(txn) => decided(manager, txn),
-        Err(NoMemory) => None,
-    }
-}
 
 #[test]
 fn a_begin_below_the_cut_is_too_old(rt: HostRuntime) -> Result<(), Fail> {

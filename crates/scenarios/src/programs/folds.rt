@@ -21,6 +21,12 @@ const ACROSS: (&[u8], &str) = (
     "a,begin,Begun\nb,begin,Begun\nb,delete,Done\nb,commit,Committed,1\nm,fold,Done\nb,begin,Begun\nb,insert,Done\nb,commit,Committed,2\na,set,Done\na,get,Row,20,Bob,2\na,commit,Committed,3\nm,fold,Done\nb,begin,Begun\nb,scan,Row,5,Eve,0\nb,scan,Row,10,Ann,1\nb,scan,Row,30,Cid,9\nb,scan,End,3\nb,abort,Aborted\n\nid:int:key,name:text,qty:int\n5,Eve,0\n10,Ann,1\n30,Cid,9\n",
 );
 
+/// A transaction that began before a fold sets a row that another one's insert shifts.
+const SHIFTED: (&[u8], &str) = (
+    b"a,begin\nm,fold\nb,begin\nb,insert,5,Eve,0\nb,commit\na,set,30,qty,9\na,commit\n",
+    "a,begin,Begun\nm,fold,Done\nb,begin,Begun\nb,insert,Done\nb,commit,Committed,1\na,set,Done\na,commit,Committed,2\n\nid:int:key,name:text,qty:int\n5,Eve,0\n10,Ann,1\n20,Bob,2\n30,Cid,9\n",
+);
+
 #[test]
 fn numbers_go_on_after_a_cut(rt: HostRuntime) -> Result<(), Fail> {
     let (script, want) = CUT;
@@ -29,7 +35,7 @@ fn numbers_go_on_after_a_cut(rt: HostRuntime) -> Result<(), Fail> {
 
 #[test]
 fn a_fold_leaves_the_table(rt: HostRuntime) -> Result<(), Fail> {
-    for (script, want) in [FOLDED, ACROSS] {
+    for (script, want) in [FOLDED, ACROSS, SHIFTED] {
         assert_run(&rt, rt.alloc(), BASE_TEXT, script, want)?;
     }
     Ok(())
