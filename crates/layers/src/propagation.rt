@@ -9,7 +9,7 @@ use delta::{Change, DeltaTree, Place, SharedEntry};
 use values::NoMemory;
 
 /// Upper entries are edited in where the lower tree has at least so many times as many.
-const FEW: usize = 5;
+const FEW: usize = 16;
 
 /// The lower tree with the upper one, which is over its image, folded into it (Héman et al. 2010, "Propagate"): a copy
 /// of the lower tree, with an edit for each upper entry, or, where those are many, a tree built in one walk over both.
