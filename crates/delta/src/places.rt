@@ -101,10 +101,10 @@ impl DeltaTree {
         ensures split { IsSplit (stands_before (change_cmp self.now.key_cols change.now) sid) self.now.entries result.index }
         ensures rid { result.rid ≡ rid_of_insert (take result.index self.now.entries) sid }
     {
-        let place = self.place_of_change(sid, change);
+        let place = self.find_place(sid, change);
         ChangeIndex {
             index: place.index,
-            rid: moved(sid, place.shift),
+            rid: place.rid,
         }
     }
 
