@@ -2,22 +2,25 @@
 use Rattle.std.proofs.Common.{◌≡◌, ℕ, zero, suc, ◌+◌, ◌<◌, ◌≤◌, Bool, true, false, ◌||◌, ltb, List, [], ◌∷◌, ◌++◌, length, take, drop, get_or, set, map, refl, sym, ap, ◌∙◌, add-one, drop-cons, arith}
 use Rattle.std.proofs.lemmas.Bool.{lt-ltb, le-ltb}
 use Rattle.std.proofs.lemmas.List.{get_or-map, map-set, take_more, length-map}
-use Rattle.devices.specs.Store.{have_failed, appended}
+use Rattle.devices.specs.Store.{StopsAt, appended, have_failed}
 
 -- ---- whether one has failed
 
 module _ {D : Type 0} (f : D → ℕ) (xs : List D) where
-  failed_step : (i : ℕ) (d : D) → i < length xs → have_failed (map f (drop i xs)) ≡ (ltb 0 (f (get_or xs i d)) || have_failed (map f (drop (i + 1) xs)))
+  failed_step : (i : ℕ) (d : D) → i < length xs
+      → have_failed (map f (drop i xs)) ≡ (ltb 0 (f (get_or xs i d)) || have_failed (map f (drop (i + 1) xs)))
   failed_step i d lt = rw (add-one, drop-cons xs i d) refl
 
   -- one that has
-  pub failed_now : (i : ℕ) (d : D) (total : Bool) → i < length xs → 0 < f (get_or xs i d) → have_failed (map f (drop i xs)) ≡ total → total ≡ true
+  pub failed_now : (i : ℕ) (d : D) (total : Bool) → i < length xs → 0 < f (get_or xs i d) → have_failed (map f (drop i xs)) ≡ total
+      → total ≡ true
   failed_now i d total lt some so_far =
       let yes : ltb 0 (f (get_or xs i d)) ≡ true = lt-ltb _ _ some in
       sym so_far ∙ failed_step i d lt ∙ ap (λ b. b || have_failed (map f (drop (i + 1) xs))) yes
 
   -- one that hasn't
-  pub failed_on : (i : ℕ) (d : D) (total : Bool) → i < length xs → f (get_or xs i d) ≤ 0 → have_failed (map f (drop i xs)) ≡ total → have_failed (map f (drop (i + 1) xs)) ≡ total
+  pub failed_on : (i : ℕ) (d : D) (total : Bool) → i < length xs → f (get_or xs i d) ≤ 0 → have_failed (map f (drop i xs)) ≡ total
+      → have_failed (map f (drop (i + 1) xs)) ≡ total
   failed_on i d total lt none so_far =
       let no : ltb 0 (f (get_or xs i d)) ≡ false = le-ltb _ _ none in
       sym (sym so_far ∙ failed_step i d lt ∙ ap (λ b. b || have_failed (map f (drop (i + 1) xs))) no)
@@ -39,7 +42,8 @@ some_at (suc n ∷ failures) (suc i) h = let p : ltb 0 (suc n) ≡ true = lt-ltb
 -- ---- pieces
 
 -- one device more takes a piece
-pub appended_put : (i : ℕ) (old pieces : List (List ℕ)) (x : List ℕ) → i < length old → i ≤ length pieces → set (appended old (take i pieces)) i (get_or old i [] ++ x) ≡ appended old (take i pieces ++ x ∷ [])
+pub appended_put : (i : ℕ) (old pieces : List (List ℕ)) (x : List ℕ) → i < length old → i ≤ length pieces
+    → set (appended old (take i pieces)) i (get_or old i [] ++ x) ≡ appended old (take i pieces ++ x ∷ [])
 appended_put i [] pieces x lt le = absurd (omega arith)
 appended_put zero (c ∷ old) pieces x lt le = refl
 appended_put (suc i) (c ∷ old) [] x lt le = absurd (omega arith)
@@ -71,10 +75,27 @@ module _ {D V : Type 0} (contents : D → List ℕ) (failures : D → ℕ) (item
   -- with its whole piece
   pub put_piece : (devices : List D) (pieces : List V) (old : List (List ℕ)) (i : ℕ) (d : D) (new : D) (v : V)
       → i < length devices → length devices ≡ length old → i < length pieces
-      → map contents devices ≡ appended old (take i (map items pieces)) → contents new ≡ contents (get_or devices i d) ++ items (get_or pieces i v)
+      → map contents devices ≡ appended old (take i (map items pieces))
+      → contents new ≡ contents (get_or devices i d) ++ items (get_or pieces i v)
       → map contents (set devices i new) ≡ appended old (take (i + 1) (map items pieces))
   put_piece devices pieces old i d new v lt even le so_far took =
       let piece : items (get_or pieces i v) ≡ get_or (map items pieces) i [] = sym (get_or-map items pieces i v [] le) in
       let more : take (i + 1) (map items pieces) ≡ take i (map items pieces) ++ get_or (map items pieces) i [] ∷ [] = take_more (map items pieces) i [] (omega (arith, length-map pieces items)) in
       put_device devices pieces old i d new (items (get_or pieces i v)) lt even (omega arith) so_far took
       ∙ ap (λ x. appended old (take i (map items pieces) ++ x ∷ [])) piece ∙ ap (appended old) (sym more)
+
+-- a device's number is one of its contents
+pub within_contents : {D : Type 0} (contents : D → List ℕ) (devices : List D) (i : ℕ) → i < length devices
+    → i < length (map contents devices)
+within_contents contents devices i lt = omega (arith, lt, length-map devices contents)
+
+-- where the devices stopped, by the pieces that they were handed
+pub StopsAt-handed : {D V : Type 0} (contents : D → List ℕ) (items : V → List ℕ) (i : ℕ) (given before after left : List D) (held : List V) (pieces : List (List ℕ))
+    → StopsAt i (map contents before) (map items held) (map contents after) → before ≡ given → map items held ≡ pieces → left ≡ after
+    → StopsAt i (map contents given) pieces (map contents left)
+StopsAt-handed contents items i given before after left held pieces stops is have are = (
+  stops.0,
+  ap (map contents) are ∙ stops.1
+      ∙ ap (λ ds. appended (map contents ds) (take i (map items held) ++ take stops.0 (get_or (map items held) i []) ∷ [])) is
+      ∙ ap (λ ps. appended (map contents given) (take i ps ++ take stops.0 (get_or ps i []) ∷ [])) have,
+)

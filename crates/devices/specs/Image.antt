@@ -1,9 +1,9 @@
 -- The frames of format 2 that a table's columns are written as.
-use Rattle.std.specs.Prelude.{ℕ, ◌+◌, ◌==◌, cond, List, map, length}
+use Rattle.std.specs.Prelude.{ℕ, ◌<◌, ◌+◌, ◌==◌, cond, List, map, length}
 use Rattle.std.specs.List.{range_with_len}
 use Rattle.values.specs.declared.value.ColumnType.{ColumnType}
 use Rattle.values.specs.declared.value.Value.{Value}
-use Rattle.blocks.specs.Column.{Column}
+use Rattle.blocks.specs.Column.{Column, IsBlock}
 use Rattle.stable.specs.Column.{block_at, block_count}
 use Rattle.stable.specs.Rows.{column_at}
 use Rattle.stable.specs.Stable.{Stable}
@@ -15,6 +15,14 @@ use Rattle.columns.specs.Column.{frame_bytes, column_bytes}
 -- in how many blocks so many values are written: no value still takes one
 abbrev pub part_count : ℕ → ℕ
 part_count count = cond (count == 0) 1 (block_count count)
+
+-- each block that a column's values are written in holds them as a block does
+abbrev pub AreBlocks : Column → Type 0
+AreBlocks c = (k : ℕ) → k < part_count (length c.values) → IsBlock (block_at c.ty c.values k)
+
+-- in each of a table's columns
+abbrev pub AllBlocks : Stable → Type 0
+AllBlocks table = (col : ℕ) → col < length table.schema.types → AreBlocks (column_at table.schema.types table.rows col)
 
 -- the block number k of so many, under its generation
 abbrev pub image_frame : ℕ → ColumnType → List Value → ℕ → ℕ → Frame

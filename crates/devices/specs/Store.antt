@@ -1,8 +1,6 @@
 -- What devices have taken, one beside the other.
 use Rattle.std.specs.Prelude.{◌≡◌, ℕ, nat_lt, Bool, List, [], ◌∷◌, ◌++◌, take, get_or}
 use Rattle.std.specs.List.{list_any}
-use Rattle.devices.specs.declared.fault.StoreFault.{StoreFault}
-use Rattle.devices.specs.declared.fault.StoreFault.TheVariants.{WrongCount, StoreFailed, GenerationsSpent, NoMemory, DeviceFailed}
 
 -- whether any of the devices has failed, by how often each has
 abbrev pub have_failed : List ℕ → Bool
@@ -17,11 +15,3 @@ appended (c ∷ contents) (p ∷ pieces) = (c ++ p) ∷ appended contents pieces
 -- the devices before number i have taken their pieces, that one some beginning of its piece, and the others nothing
 abbrev pub StopsAt : ℕ → List (List ℕ) → List (List ℕ) → List (List ℕ) → Type 0
 StopsAt i old pieces new = (n : ℕ) × (new ≡ appended old (take i pieces ++ take n (get_or pieces i []) ∷ []))
-
--- what a fault leaves: a device that failed stops the pieces there, and no other fault changes anything
-abbrev pub LeftBy : StoreFault → List (List ℕ) → List (List ℕ) → List (List ℕ) → Type 0
-LeftBy (DeviceFailed i) old pieces new = StopsAt i old pieces new
-LeftBy WrongCount old pieces new = new ≡ old
-LeftBy StoreFailed old pieces new = new ≡ old
-LeftBy GenerationsSpent old pieces new = new ≡ old
-LeftBy NoMemory old pieces new = new ≡ old

@@ -1,5 +1,5 @@
 -- The image that columns store, and the first fault of columns as an image.
-use Rattle.std.specs.Prelude.{ℕ, suc, ◌==◌, Bool, cond, ◌&&◌, Option, Some, None, List, [], ◌∷◌, length, Result, Ok, Err}
+use Rattle.std.specs.Prelude.{◌≡◌, ◌⊎◌, ℕ, suc, ◌==◌, Bool, cond, ◌&&◌, Option, Some, None, List, [], ◌∷◌, length, Result, Ok, Err}
 use Rattle.std.specs.List.{flat_map, list_any, list_all}
 use Rattle.values.specs.Shape.{Columns}
 use Rattle.values.specs.declared.value.ColumnType.{ColumnType}
@@ -86,3 +86,7 @@ all_parts col (ty ∷ types) (bytes ∷ columns) =
 -- the image that columns store under a schema, or their first fault
 abbrev pub stored_image : Columns → List (List ℕ) → Result Image ReadFault
 stored_image schema columns = cond (length columns == length schema.types) (all_parts 0 schema.types columns >>= λ parts. image_at schema parts (newest_whole parts)) (Err WrongCount)
+
+-- what the columns store is what they stored before, or this image
+abbrev pub StaysOrIs : Columns → List (List ℕ) → Image → List (List ℕ) → Type 0
+StaysOrIs schema old image new = (stored_image schema new ≡ stored_image schema old) ⊎ (stored_image schema new ≡ Ok image)

@@ -1,6 +1,7 @@
 //! What a column is written to: it takes pieces, counts its failures, and ends what it has taken.
 ghost use Rattle.std.specs.Prelude.{◌≡◌, ℕ, ◌<◌, ◌++◌, List, take, OnOk, OnErr};
 ghost use Rattle.devices.specs.Device.{HasRoom, ended_contents};
+ghost use Rattle.devices.specs.Ready.{StoresAs};
 
 use std::alloc::{AllocError, AllocFailed};
 use thiserror::Error;
@@ -52,7 +53,10 @@ pub trait ColumnDevice: Drop {
 /// no memory: there is room for that end.
 pub fn ended(contents: Vec<u8>, failures: u64) -> Vec<u8>
     requires { HasRoom contents failures }
-    ensures { result.items ≡ ended_contents contents.items failures }
+    ensures bytes { result.items ≡ ended_contents contents.items failures }
+
+    // The end changes no image that columns store.
+    ensures stored { StoresAs contents.items result.items }
 {
     let mut contents = contents;
     if failures == 0 {

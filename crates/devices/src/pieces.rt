@@ -2,7 +2,9 @@
 ghost use Rattle.std.specs.Prelude.{◌≡◌, ◌≤◌, ◌++◌, IfOk, OnOk, length, map};
 ghost use Rattle.values.specs.declared.limits.TheConstants.{MAX_ROWS};
 ghost use Rattle.columns.specs.Column.{column_bytes};
-ghost use Rattle.devices.specs.Image.{headers_of, image_frames, pieces_of};
+ghost use Rattle.stable.specs.Stable.{IsStable};
+ghost use Rattle.values.specs.Shape.{IsSchema};
+ghost use Rattle.devices.specs.Image.{AllBlocks, AreBlocks, headers_of, image_frames, pieces_of};
 
 use blocks::Block;
 use columns::{write_header, write_part};
@@ -19,7 +21,8 @@ fn write_column(
     out: &mut Vec<u8>,
 ) -> Result<(), NoMemory>
     requires { length column.now.values ≤ MAX_ROWS }
-    ensures { OnOk result (out.new.items ≡ out.old.items ++ column_bytes (image_frames generation column.now)) }
+    ensures bytes { OnOk result (out.new.items ≡ out.old.items ++ column_bytes (image_frames generation column.now)) }
+    ensures blocks { OnOk result (AreBlocks column.now) }
 {
     let count = column.len();
     if count == 0 {
@@ -28,14 +31,11 @@ fn write_column(
     }
     let blocks = count.div_ceil(MAX_BLOCK_VALUES);
     for k in 0..blocks {
-        write_part(
-            alloc,
-            generation,
-            k as u32,
-            k + 1 == blocks,
-            column.block(k),
-            out,
-        )?;
+        let block = column.block(k);
+        // A block tells with its length that each value fits its type: so what is written reads back.
+        let held = block.len();
+        prove!(held <= MAX_BLOCK_VALUES);
+        write_part(alloc, generation, k as u32, k + 1 == blocks, block, out)?;
     }
     Ok(())
 }
@@ -59,7 +59,10 @@ pub(crate) fn pieces_of(
     generation: u32,
     table: &StableTable,
 ) -> Result<Vec<Vec<u8>>, NoMemory>
-    ensures { IfOk result (λ pieces. map (λ p. p.items) pieces.items ≡ pieces_of generation table.now) }
+    ensures pieces { IfOk result (λ pieces. map (λ p. p.items) pieces.items ≡ pieces_of generation table.now) }
+    ensures blocks { OnOk result (AllBlocks table.now) }
+    ensures lawful { OnOk result (IsStable table.now) }
+    ensures schema { OnOk result (IsSchema table.now.schema) }
 {
     let width = table.schema().width();
     let mut pieces = Vec::with_capacity(alloc, width)?;

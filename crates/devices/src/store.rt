@@ -1,7 +1,10 @@
 //! Devices side by side, and the store that has them.
 ghost use Rattle.std.specs.Prelude.{◌≡◌, ◌≢◌, ℕ, ◌<◌, ◌≤◌, ◌+◌, ◌^◌, true, false, Err, IfErr, IfOk, IsErrOf, IsOk, MatchResult, length, map, OnOk, OnErr};
-ghost use Rattle.devices.specs.Image.{headers_of, pieces_of};
-ghost use Rattle.devices.specs.Store.{LeftBy, StopsAt, appended, have_failed};
+ghost use Rattle.devices.specs.Appending.{Appends, MayFollow, Stores};
+ghost use Rattle.devices.specs.Image.{headers_of};
+ghost use Rattle.devices.specs.Ready.{AreReady, AreWhole};
+ghost use Rattle.devices.specs.Store.{StopsAt, appended, have_failed};
+ghost use Rattle.devices.specs.Stored.{stored_image};
 ghost use Rattle.devices.specs.declared.fault.StoreFault.TheVariants as fault;
 
 use crate::device::{ColumnDevice, DeviceFault};
@@ -57,7 +60,8 @@ pub struct Store {
 
 impl Store {
     /// A store over these devices, one for each column of the schema, whose first image has the generation `first`. Each
-    /// device takes the header of its column. No device has failed so far.
+    /// device takes the header of its column. No device has failed so far. What the devices hold is no bytes, or whole
+    /// frames of generations below `first`: images are read from them only then.
     ///
     /// # Errors
     ///
@@ -74,6 +78,11 @@ impl Store {
         ensures sound { IfOk result (λ store. have_failed (map (λ b. failures b) store.devices.items) ≡ false) }
         ensures next { IfOk result (λ store. store.next ≡ first) }
         ensures schema { IfOk result (λ store. store.schema ≡ schema.now) }
+
+        // Where the devices held whole frames of those types, of earlier generations alone, the image that they store
+        // stays, and another may follow.
+        ensures stored { IfOk result (λ store. AreWhole first schema.now.types (map (λ b. contents b) devices.items) → stored_image schema.now (map (λ b. contents b) store.devices.items) ≡ stored_image schema.now (map (λ b. contents b) devices.items)) }
+        ensures ready { IfOk result (λ store. AreWhole first schema.now.types (map (λ b. contents b) devices.items) → AreReady first schema.now.types (map (λ b. contents b) store.devices.items)) }
         ensures count { length devices.items ≢ length schema.now.types → result ≡ Err fault.WrongCount }
     {
         if devices.len() != schema.width() {
@@ -131,20 +140,15 @@ impl Store {
     /// call answers `StoreFailed`.
     pub fn append_image(&mut self, table: &StableTable) -> Result<u32, StoreFault>
         requires { table.now.schema ≡ self.old.schema }
-        ensures generation { IfOk result (λ g. g ≡ self.old.next) }
-        ensures next { OnOk result (self.new.next ≡ self.old.next + 1) }
-        ensures contents { OnOk result (map (λ b. contents b) self.new.devices.items ≡ appended (map (λ b. contents b) self.old.devices.items) (pieces_of self.old.next table.now)) }
-        ensures sound { OnOk result (have_failed (map (λ b. failures b) self.new.devices.items) ≡ false) }
-        ensures left { IfErr result (λ f. LeftBy f (map (λ b. contents b) self.old.devices.items) (pieces_of self.old.next table.now) (map (λ b. contents b) self.new.devices.items)) }
-        ensures failed { (i : ℕ) → IsErrOf result (fault.DeviceFailed i) → have_failed (map (λ b. failures b) self.new.devices.items) ≡ true }
+        ensures answer { Appends table.now (record { contents = map (λ b. contents b) self.old.devices.items; failed = have_failed (map (λ b. failures b) self.old.devices.items); next = self.old.next }) result (record { contents = map (λ b. contents b) self.new.devices.items; failed = have_failed (map (λ b. failures b) self.new.devices.items); next = self.new.next }) }
+
+        // Where an image may follow what the devices took, they store the table under its generation then; after a failure
+        // what they stored before, or that.
+        ensures stored { MayFollow self.old.schema (record { contents = map (λ b. contents b) self.old.devices.items; failed = have_failed (map (λ b. failures b) self.old.devices.items); next = self.old.next }) → Stores self.old.schema table.now (record { contents = map (λ b. contents b) self.old.devices.items; failed = have_failed (map (λ b. failures b) self.old.devices.items); next = self.old.next }) result (record { contents = map (λ b. contents b) self.new.devices.items; failed = have_failed (map (λ b. failures b) self.new.devices.items); next = self.new.next }) }
+        ensures ready { MayFollow self.old.schema (record { contents = map (λ b. contents b) self.old.devices.items; failed = have_failed (map (λ b. failures b) self.old.devices.items); next = self.old.next }) → MayFollow self.new.schema (record { contents = map (λ b. contents b) self.new.devices.items; failed = have_failed (map (λ b. failures b) self.new.devices.items); next = self.new.next }) }
         ensures schema { self.new.schema ≡ self.old.schema }
     {
-        if have_failed(&self.devices) {
-            return Err(StoreFault::StoreFailed);
-        }
-        if self.next > u64::from(MAX_GENERATION) {
-            return Err(StoreFault::GenerationsSpent);
-        }
+        self.ready()?;
         let generation = self.next as u32;
         let pieces = pieces_of(self.alloc, generation, table)?;
         match append_all(&mut self.devices, &pieces) {
