@@ -89,29 +89,41 @@ turned j k = by (key_cmp j k) refl
     by Equal p = sym (ap is_gt (ap (key_cmp k) (key_cmp-IsAntisymmetric j k p) ∙ tied_itself key_cmp_total k))
     by Greater p = sym (ap is_gt (turn_greater key_cmp_total j k p))
 
-module _ (key_cols : ℕ) (x : Entry) where
+module _ (rule : ConflictRule) (key_cols : ℕ) (x : Entry) where
   abbrev before : Entry → Bool
-  before = stands_before (change_cmp key_cols x.change) x.sid
+  before = stands_before (clash_cmp key_cols rule x.change) x.sid
 
   -- an insert stands first where its change does
-  first_is : (other : Row) (c : Change) → stands_first key_cols (Ins other) c ≡ is_gt (change_cmp key_cols c (Ins other))
-  first_is other (Ins row) = turned (key_of key_cols other) (key_of key_cols row)
-  first_is other (Del key) = refl
-  first_is other (Mod col value) = refl
+  first_is : (other : Row) (c : Change) → stands_first key_cols (Ins other) c ≡ is_gt (clash_cmp key_cols rule c (Ins other))
+  first_is other c = by c ∙ ap is_gt (sym (to_insert rule c))
+    where
+      by : (d : Change) → stands_first key_cols (Ins other) d ≡ is_gt (change_cmp key_cols d (Ins other))
+      by (Ins row) = turned (key_of key_cols other) (key_of key_cols row)
+      by (Del key) = refl
+      by (Mod col value) = refl
+
+      to_insert : (r : ConflictRule) (d : Change) → clash_cmp key_cols r d (Ins other) ≡ change_cmp key_cols d (Ins other)
+      to_insert ByColumn d = refl
+      to_insert ByRow (Ins row) = refl
+      to_insert ByRow (Del key) = refl
+      to_insert ByRow (Mod col value) = refl
 
   one_insert : (c : Change) (n : ℕ) → cond (inserts_before key_cols x (entry_at n c)) 1 0 ≡ cond (before (entry_at n c)) (insert_worth c) 0
-  one_insert (Ins other) n = ap (λ b. cond b 1 0) (ap (λ b. nat_lt n x.sid || ((n == x.sid) && b)) (first_is other x.change) ∙ test_is n x.sid (change_cmp key_cols x.change (Ins other)))
+  one_insert (Ins other) n = ap (λ b. cond b 1 0) (ap (λ b. nat_lt n x.sid || ((n == x.sid) && b)) (first_is other x.change) ∙ test_is n x.sid (clash_cmp key_cols rule x.change (Ins other)))
   one_insert (Del gone) n = zero_if (before (entry_at n (Del gone)))
   one_insert (Mod col value) n = zero_if (before (entry_at n (Mod col value)))
 
-  deleted_is : (c : Change) (gone : Key) (n : ℕ) → nat_lt n x.sid ≡ is_gt (ordering_then (nat_cmp x.sid n) (change_cmp key_cols c (Del gone)))
-  deleted_is (Ins row) gone n = below_is n x.sid
-  deleted_is (Del key) gone n = level_is n x.sid
-  deleted_is (Mod col value) gone n = level_is n x.sid
+  deleted_is : (r : ConflictRule) (c : Change) (gone : Key) (n : ℕ) → nat_lt n x.sid ≡ is_gt (ordering_then (nat_cmp x.sid n) (clash_cmp key_cols r c (Del gone)))
+  deleted_is ByColumn (Ins row) gone n = below_is n x.sid
+  deleted_is ByRow (Ins row) gone n = below_is n x.sid
+  deleted_is ByColumn (Del key) gone n = level_is n x.sid
+  deleted_is ByRow (Del key) gone n = level_is n x.sid
+  deleted_is ByColumn (Mod col value) gone n = level_is n x.sid
+  deleted_is ByRow (Mod col value) gone n = level_is n x.sid
 
   one_delete : (c : Change) (n : ℕ) → cond (deletes_before key_cols x (entry_at n c)) 1 0 ≡ cond (before (entry_at n c)) (delete_worth c) 0
   one_delete (Ins other) n = zero_if (before (entry_at n (Ins other)))
-  one_delete (Del gone) n = ap (λ b. cond b 1 0) (deleted_is x.change gone n)
+  one_delete (Del gone) n = ap (λ b. cond b 1 0) (deleted_is rule x.change gone n)
   one_delete (Mod col value) n = zero_if (before (entry_at n (Mod col value)))
 
   inserts_are : (es : List Entry) → length (filter (inserts_before key_cols x) es) ≡ insert_count (filter before es)

@@ -4,4 +4,5 @@ pub mod StepLemmas
 pub mod RestLemmas
 pub mod ClashLemmas
 pub mod SerialLemmas
+pub mod PassLemmas
 pub mod WalkLemmas

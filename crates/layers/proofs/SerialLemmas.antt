@@ -1,8 +1,9 @@
 -- The walk over a tree beside another one over the same image.
-use Rattle.std.proofs.Common.{◌≡◌, ℕ, zero, suc, ◌+◌, ◌<◌, ◌≤◌, ◌^◌, Bool, false, T, Option, Some, None, is_some, List, [], ◌∷◌, ◌++◌, map, length, take, drop, refl, sym, ap, ◌∙◌, subst, arith}
-use Rattle.std.specs.Prelude.{IfSome, slice_get}
+use Rattle.std.proofs.Common.{◌≡◌, ℕ, zero, suc, ◌+◌, ◌<◌, ◌≤◌, ◌^◌, Bool, true, false, T, Option, Some, None, is_some, List, [], ◌∷◌, ◌++◌, map, length, take, drop, Less, is_lt, refl, sym, ap, ◌∙◌, subst, arith}
+use Rattle.std.specs.Prelude.{◌==◌, IfSome, slice_get}
 use Rattle.std.specs.Bool.{passes}
 use Rattle.std.specs.List.{list_all}
+use Rattle.std.proofs.lemmas.Bool.Decides.{nat_tests}
 use Rattle.std.proofs.lemmas.List.{map-append, length-map}
 use Rattle.std.proofs.lemmas.List.Elements.{All-weaker}
 use Rattle.std.proofs.lemmas.Option.{slice_get_within, get_or_from_slice_get}
@@ -15,13 +16,14 @@ use Rattle.model.specs.Maps.{is_sorted}
 use Rattle.model.specs.Table.{Table, is_keyed_table}
 use Rattle.model.specs.Effects.{Effects, is_keyed_effect, are_keyed_effects, all_fit, table_with}
 use Rattle.model.specs.Clashes.{conflicts, Conflicts}
-use Rattle.model.specs.Entries.{entry_at, canonical_entries, are_ordered, IsLawful}
+use Rattle.model.specs.Entries.{entry_at, canonical_entries, entry_cmp, are_ordered, IsLawful}
 use Rattle.model.specs.Places.{insert_count}
 use Rattle.model.specs.Rebasing.{or_else, clash_with, first_clash, first_clash_from, rebased_entry, rebased_entries, IsLeastClash}
-use Rattle.model.proofs.CallerLemmas.{first, second, canonical_entries-placed, first_clash-least, finds, rebases, ordered}
+use Rattle.model.proofs.CallerLemmas.{first, second, less, canonical_entries-placed, first_clash-least, finds, rebases, ordered}
 use Rattle.delta.specs.Search.{stands_before, IsSplit}
 use Rattle.delta.specs.Tree.{Tree}
 use Rattle.layers.specs.Over.{IsTreeOf, AreAligned}
+use Rattle.layers.specs.Passing.{put_entries}
 use Rattle.layers.specs.Serialization.{clash_cmp, clash_with_head, rebased_tree}
 use Rattle.delta.proofs.CallerLemmas.{counted, few}
 use Rattle.layers.proofs.ClashLemmas.{is_ranked, agree_all, ranked-canonical_entries, clash_place}
@@ -70,6 +72,17 @@ holds_at p n [] e h is = cc
 holds_at p zero (z ∷ es) e h is = let same : z ≡ e = cc in subst (λ y. T (p y)) same (first (p z) _ h)
 holds_at p (suc n) (z ∷ es) e h is = holds_at p n es e (second (p z) _ h) is
 
+adjacent : (key_cols n : ℕ) (es : List Entry) (e z : Entry) → T (are_ordered key_cols es) → slice_get es n ≡ Some e → slice_get es (suc n) ≡ Some z → entry_cmp key_cols e z ≡ Less
+adjacent key_cols n [] e z o p q = cc
+adjacent key_cols zero (a ∷ []) e z o p q = cc
+adjacent key_cols zero (a ∷ (b ∷ es)) e z o p q =
+    let here : a ≡ e = cc in
+    let there : b ≡ z = cc in
+    let all = first (list_all (λ y. is_lt (entry_cmp key_cols a y)) (b ∷ es)) (are_ordered key_cols (b ∷ es)) o in
+    (λ i. entry_cmp key_cols (sym here i) (sym there i)) ∙ less _ (first (is_lt (entry_cmp key_cols a b)) _ all)
+adjacent key_cols (suc n) (a ∷ es) e z o p q =
+    adjacent key_cols n es e z (second (list_all (λ y. is_lt (entry_cmp key_cols a y)) es) (are_ordered key_cols es) o) p q
+
 -- ---- one entry more
 
 -- an entry that clashes with none leaves the clash to the next ones
@@ -95,13 +108,37 @@ moved_next key_cols n sid xs ys out e at sid_is is =
     ∙ sym (map-append (rebased_entry key_cols ys) (take n xs) (e ∷ []))
     ∙ ap (map (rebased_entry key_cols ys)) (sym (next_take n xs e at))
 
--- and one that stays where it is, left as it is
-pub same_next : (key_cols n sid : ℕ) (xs ys : List Entry) (e : Entry) → slice_get xs n ≡ Some e
-    → sid ≡ (rebased_entry key_cols ys e).sid → sid ≡ e.sid
-    → take n xs ≡ map (rebased_entry key_cols ys) (take n xs) → take (n + 1) xs ≡ map (rebased_entry key_cols ys) (take (n + 1) xs)
-same_next key_cols n sid xs ys e at sid_is stays is =
-    next_take n xs e at ∙ ap (λ (s : ℕ). take n xs ++ entry_at s e.change ∷ []) (sym stays)
-    ∙ moved_next key_cols n sid xs ys (take n xs) e at sid_is is
+-- a test of a list's length
+pub none_if : (n : ℕ) (es : List Entry) → n ≡ length es → (n == 0) ≡ true → es ≡ []
+none_if n [] size h = refl
+none_if n (e ∷ es) size h = let none : n ≡ 0 = grind (arith, nat_tests) in absurd (omega (arith, none, size))
+
+pub some_if : (n : ℕ) (es : List Entry) → n ≡ length es → (n == 0) ≡ false → es ≡ [] → ⊥
+some_if n [] size h none = let same : (n == 0) ≡ true = grind (arith, nat_tests) in cc
+some_if n (e ∷ es) size h none = cc
+
+-- and where all have stood still so far
+pub put_none : (n sid : ℕ) (xs out : List Entry) (e : Entry) → slice_get xs n ≡ Some e → sid ≡ e.sid → out ≡ []
+    → put_entries (n + 1) xs out ≡ put_entries n xs out ++ entry_at sid e.change ∷ []
+put_none n sid xs [] e at stays none = next_take n xs e at ∙ ap (λ (s : ℕ). take n xs ++ entry_at s e.change ∷ []) (sym stays)
+put_none n sid xs (o ∷ out) e at stays none = cc
+
+-- where one has moved, the entries are those that are put
+pub put_first : (n : ℕ) (xs out : List Entry) (m : Entry) → out ≡ [] → put_entries (n + 1) xs (take n xs ++ m ∷ []) ≡ put_entries n xs out ++ m ∷ []
+put_first n xs [] m none = by (take n xs)
+  where
+    by : (es : List Entry) → put_entries (n + 1) xs (es ++ m ∷ []) ≡ es ++ m ∷ []
+    by [] = refl
+    by (e ∷ es) = refl
+put_first n xs (o ∷ out) m none = cc
+
+pub put_more : (n : ℕ) (xs out : List Entry) (m : Entry) → (out ≡ [] → ⊥) → put_entries (n + 1) xs (out ++ m ∷ []) ≡ put_entries n xs out ++ m ∷ []
+put_more n xs [] m some = absurd (some refl)
+put_more n xs (o ∷ out) m some = refl
+
+pub put_all : (n : ℕ) (xs out : List Entry) → (out ≡ [] → ⊥) → out ≡ put_entries n xs out
+put_all n xs [] some = absurd (some refl)
+put_all n xs (o ∷ out) some = refl
 
 pub none_left : (n : ℕ) (es : List Entry) → length es ≤ n → drop n es ≡ []
 none_left zero [] h = refl
@@ -159,6 +196,16 @@ module _ (rule : ConflictRule) (x y : Tree) (w : AreAligned x y) where
       let same = get_or_from_slice_get (canonical_entries w.t w.x) n e e here in
       let bound : e.sid ≤ length w.t = subst (λ (z : Entry). z.sid ≤ length w.t) same placed in
       omega (arith, bound, w.small.rows)
+
+  -- an entry stands before the next one
+  pub in_order : (n : ℕ) (e z : Entry) → slice_get x.entries n ≡ Some e → slice_get x.entries (n + 1) ≡ Some z → entry_cmp y.key_cols e z ≡ Less
+  in_order n e z at next =
+      let kc = w.schema.key_cols in
+      let order = passes (are_ordered kc (canonical_entries w.t w.x)) (ordered w.schema w.t w.x w.x_is.over).ordered in
+      let here = sym (ap (λ (es : List Entry). slice_get es n) list_x) ∙ at in
+      let one : n + 1 ≡ suc n = omega arith in
+      let there = sym (ap (λ (es : List Entry). slice_get es (suc n)) list_x) ∙ sym (ap (slice_get x.entries) one) ∙ next in
+      ap (λ (k : ℕ). entry_cmp k e z) cols_y ∙ adjacent kc n (canonical_entries w.t w.x) e z order here there
 
   -- the first clash of an entry is that at its place
   pub clash_is : (n : ℕ) (e : Entry) (p : ℕ) → slice_get x.entries n ≡ Some e → IsSplit (stands_before (clash_cmp y.key_cols rule e.change) e.sid) y.entries p → clash_with rule y.key_cols n e 0 y.entries ≡ clash_with_head rule y.key_cols n e p (drop p y.entries)

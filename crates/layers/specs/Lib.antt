@@ -1,4 +1,5 @@
 pub mod Over
+pub mod Passing
 pub mod Propagation
 pub mod Serialization
 pub mod Walk

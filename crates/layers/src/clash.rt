@@ -4,7 +4,7 @@ ghost use Rattle.std.specs.Option.{option_copied};
 ghost use Rattle.std.specs.Ordering.{eq_by_cmp};
 ghost use Rattle.values.specs.Orders.{key_cmp};
 ghost use Rattle.values.specs.Shape.{key_of};
-ghost use Rattle.delta.specs.Search.{stands_before, IsSplit};
+ghost use Rattle.delta.specs.Search.{base_cmp, stands_before, IsSplit};
 ghost use Rattle.model.specs.Entries.{change_cmp};
 ghost use Rattle.model.specs.Rebasing.{clash_of_entries, clash_of_changes, columns_clash, or_clash};
 ghost use Rattle.model.specs.declared.entry.Entry.{Entry};
@@ -12,7 +12,62 @@ ghost use Rattle.layers.specs.Serialization.{clash_cmp, clash_with_head, IsClash
 
 use delta::{Change, ChangePlace, DeltaTree, SharedEntry};
 use model::{Clash, ClashKind, ConflictRule};
+use std::cmp::Ordering;
 use values::Row;
+
+/// Whether an entry of another tree stands before this one, where none ties with this one but those that it can clash with.
+pub(crate) fn stands_before(
+    rule: ConflictRule,
+    key_cols: usize,
+    entry: &SharedEntry,
+    there: &SharedEntry,
+) -> bool
+    ensures { result ≡ stands_before (clash_cmp key_cols rule entry.now.change) entry.now.sid there.now }
+{
+    match entry.sid().cmp(&there.sid()) {
+        Ordering::Less => false,
+        Ordering::Equal => compare(rule, key_cols, entry.change(), there.change()).is_gt(),
+        Ordering::Greater => true,
+    }
+}
+
+/// How a change stands to one at its SID, so that it ties with none but those that it can clash with.
+fn compare(rule: ConflictRule, key_cols: usize, change: &Change, there: &Change) -> Ordering
+    ensures { result ≡ clash_cmp key_cols rule change.now there.now }
+{
+    match (rule, change) {
+        (ConflictRule::ByRow, Change::Mod(_, _)) => compare_base(there),
+        _ => compare_changes(key_cols, change, there),
+    }
+}
+
+/// How what becomes of a base row stands to a change at its SID.
+fn compare_base(there: &Change) -> Ordering
+    ensures { result ≡ base_cmp there.now }
+{
+    match there {
+        Change::Ins(_) => Ordering::Greater,
+        _ => Ordering::Equal,
+    }
+}
+
+/// How two changes at one SID stand.
+fn compare_changes(key_cols: usize, change: &Change, there: &Change) -> Ordering
+    ensures { result ≡ change_cmp key_cols change.now there.now }
+{
+    match change {
+        Change::Ins(row) => match there {
+            Change::Ins(other) => row.key(key_cols).cmp(other.key(key_cols)),
+            _ => Ordering::Less,
+        },
+        Change::Del(_) => compare_base(there),
+        Change::Mod(col, _) => match there {
+            Change::Ins(_) => Ordering::Greater,
+            Change::Del(_) => Ordering::Equal,
+            Change::Mod(other, _) => col.cmp(other),
+        },
+    }
+}
 
 /// The index of the first entry of the tree that the entry can clash with, if there is one; its own is `index`.
 fn index_of_clash(rule: ConflictRule, entry: &SharedEntry, other: &DeltaTree, index: usize) -> usize
@@ -48,7 +103,7 @@ pub(crate) fn clash_beside(
 }
 
 /// The clash of the entry, which has the index `i` in its tree, with the one at `j` in the other tree, if there is one.
-fn clash_at(
+pub(crate) fn clash_at(
     rule: ConflictRule,
     key_cols: usize,
     i: usize,

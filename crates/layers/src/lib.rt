@@ -8,7 +8,9 @@
 #![tactic(auto)]
 
 mod ahead;
+mod beside;
 mod clash;
+mod cursor;
 mod entry;
 mod meeting;
 mod propagation;

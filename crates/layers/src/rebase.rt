@@ -1,10 +1,11 @@
 //! A tree made consecutive to another one over the same image.
-ghost use Rattle.std.specs.Prelude.{◌≡◌, ◌<◌, ◌≤◌, ◌^◌, IfOk, drop, length, map, take};
-ghost use Rattle.model.specs.Rebasing.{first_clash, first_clash_from, rebased_entry};
+ghost use Rattle.std.specs.Prelude.{◌≡◌, ◌+◌, ◌≤◌, ◌∷◌, [], ◌++◌, Some, IfOk, OnOk, length, slice_get, take};
+ghost use Rattle.model.specs.Entries.{entry_at};
 ghost use Rattle.layers.specs.Over.{AreAligned};
-ghost use Rattle.layers.specs.Serialization.{IsClashBeside, IsSerialized};
+ghost use Rattle.layers.specs.Passing.{put_entries};
+ghost use Rattle.layers.specs.Serialization.{IsSerialized};
 
-use crate::clash::clash_beside;
+use crate::beside::Search;
 use delta::{DeltaTree, SharedEntry};
 use model::{Clash, ConflictRule};
 use std::alloc::Global;
@@ -20,9 +21,9 @@ pub enum Serialized {
 }
 
 /// The tree `x` made consecutive to `y`, which is over the same image, or the clash with the least index in `x`, then in
-/// `y` (Héman et al. 2010, "Serialize"): for each entry of `x` one look-up in `y`, and for a modify by row one more. The
-/// rule says which modifies clash. The tree shares the rows of `x`, and where no entry moves its nodes, so that nothing is
-/// built.
+/// `y` (Héman et al. 2010, "Serialize"): by one look-up in `y` for each entry of `x`, and for a modify by row one more, or,
+/// where `x` has more than a tenth of the entries of `y`, by one walk over both. The rule says which modifies clash. The
+/// tree shares the rows of `x`, and where no entry moves its nodes, so that nothing is built.
 ///
 /// # Errors
 ///
@@ -36,42 +37,43 @@ pub fn serialize(
     requires { AreAligned x.now y.now }
     ensures { IfOk result (λ serialized. (w : AreAligned x.now y.now) → IsSerialized rule x.now y.now w serialized) }
 {
-    let kept = kept_count(x, y, rule);
-    if kept == x.len() {
-        return Ok(Serialized::Tree(x.copy()?));
-    }
-    let mut entries = first_entries(alloc, x, kept)?;
-    let mut index = kept;
-    for entry in x.iter_from(kept) {
-        let found = find_beside(rule, index, entry, y);
+    let mut search = Search::of(y, x.len());
+    let mut entries = Vec::new(alloc);
+    let mut index = 0;
+    for entry in x.iter_from(0) {
+        let found = search.find(rule, index, entry);
         if let Some(clash) = found.clash {
             return Ok(Serialized::Conflict(clash));
         }
-        entries.push(entry.with_sid(found.rid)?)?;
+        put(alloc, x, index, entry, found.rid, &mut entries)?;
         index += 1;
+    }
+    if entries.is_empty() {
+        return Ok(Serialized::Tree(x.copy()?));
     }
     Ok(Serialized::Tree(DeltaTree::from_shared(alloc, x.key_cols(), entries)?))
 }
 
-/// How many of the first entries of `x` stand where they do over the image of `y` too, and clash with none.
-fn kept_count(x: &DeltaTree, y: &DeltaTree, rule: ConflictRule) -> usize
-    requires { AreAligned x.now y.now }
-    ensures within { result ≤ length x.now.entries }
-    ensures same { take result x.now.entries ≡ map (rebased_entry y.now.key_cols y.now.entries) (take result x.now.entries) }
-    ensures clear { first_clash rule y.now.key_cols x.now.entries y.now.entries ≡ first_clash_from rule y.now.key_cols result (drop result x.now.entries) y.now.entries }
+/// Puts the entry, which has the index in its tree, at the SID: nothing as long as it and those before it stand there.
+fn put(
+    alloc: Global,
+    tree: &DeltaTree,
+    index: usize,
+    entry: &SharedEntry,
+    sid: u64,
+    entries: &mut Vec<SharedEntry>,
+) -> Result<(), NoMemory>
+    requires { slice_get tree.now.entries index ≡ Some entry.now }
+    ensures { OnOk result (put_entries (index + 1) tree.now.entries entries.new.items ≡ put_entries index tree.now.entries entries.old.items ++ entry_at sid entry.now.change ∷ []) }
 {
-    let mut index = 0;
-    for entry in x.iter_from(0) {
-        let found = find_beside(rule, index, entry, y);
-        if found.rid != entry.sid() {
-            return index;
+    if entries.is_empty() {
+        if sid == entry.sid() {
+            return Ok(());
         }
-        if let Some(_) = found.clash {
-            return index;
-        }
-        index += 1;
+        *entries = first_entries(alloc, tree, index)?;
     }
-    index
+    entries.push(entry.with_sid(sid)?)?;
+    Ok(())
 }
 
 /// So many of the first entries of a tree, with room for all.
@@ -88,26 +90,4 @@ fn first_entries(
         entries.push(entry.copy()?)?;
     }
     Ok(entries)
-}
-
-/// What another tree over the same image makes of an entry.
-#[derive(Drop)]
-struct Beside {
-    /// The position of its row in the image of that tree.
-    rid: u64,
-    /// The clash with the first entry there that it can clash with.
-    clash: Option<Clash>,
-}
-
-/// What the other tree makes of the entry, which has this index in its own.
-fn find_beside(rule: ConflictRule, index: usize, entry: &SharedEntry, other: &DeltaTree) -> Beside
-    requires { entry.now.sid < 2 ^ 63 }
-    ensures rid { result.rid ≡ (rebased_entry other.now.key_cols other.now.entries entry.now).sid }
-    ensures clash { IsClashBeside rule other.now.key_cols index entry.now other.now.entries result.clash }
-{
-    let place = other.find_place(entry.sid(), entry.change());
-    Beside {
-        rid: place.rid,
-        clash: clash_beside(rule, index, entry, other, place),
-    }
 }
