@@ -13,7 +13,7 @@ use Rattle.manager.proofs.HistoryLemmas.{newest_within, newest_whole, number_fit
 use Rattle.manager.proofs.GrantLemmas.{schema_is, folded_table, written_is, drop-none}
 
 module _ (m : Managed) (l : Lower) (newest : TableVersion) (kept : List Tree) (h : HoldsNewest m l newest kept) where
-  newest_IsTable : IsTable m.schema (newest_table m)
+  pub newest_IsTable : IsTable m.schema (newest_table m)
   newest_IsTable =
       let middle = h.folded.lower.middle in
       subst (λ (e : Columns × Table). IsTable e.0 e.1) (λ i. (schema_is m l newest kept h i, written_is m l newest kept h i))

@@ -16,8 +16,8 @@ use Rattle.delta.proofs.CallerLemmas.{inserts_few}
 use Rattle.layers.specs.Over.{tree_of, AreConsecutive}
 use Rattle.layers.specs.Propagation.{composed_tree}
 use Rattle.stable.specs.Stable.{Stable, IsStable, table_in}
-use Rattle.txn.specs.Version.{Lower, TableVersion, lower_table, version_of, version_at, empty_tree}
-use Rattle.txn.proofs.CallerLemmas.{alone, lower_table_is, no_layer, version_of-alone}
+use Rattle.txn.specs.Version.{Lower, TableVersion, alone, lower_table, version_of, version_at}
+use Rattle.txn.proofs.CallerLemmas.{lower_table_is, no_layer, version_of-alone}
 use Rattle.manager.specs.Managed.{Managed, newest_table, opened, is_bad_limit, IsManaged}
 use Rattle.manager.specs.Kept.{AreFolded, HoldsNewest}
 use Rattle.manager.proofs.HistoryLemmas.{newest_within}
@@ -119,11 +119,21 @@ bad_false false false false recent limit h = grind (arith, nat_tests)
 pub limit_fits : (recent limit : ℕ) → is_bad_limit recent limit ≡ false → limit ≤ MAX_ROWS
 limit_fits recent limit h = bad_false (recent == 0) (nat_lt MAX_RECENT_COMMITS recent) (limit == 0) recent limit h
 
-pub opened_holds : (s : Stable) (limit recent : ℕ) (rule : ConflictRule) → IsStable s → IsSchema s.schema → length s.rows ≤ limit → limit ≤ MAX_ROWS →
-    HoldsNewest (opened s limit recent rule) (alone s (empty_tree s.schema.key_cols)) (version_at s 0) []
-opened_holds s limit recent rule h lawful within most =
+-- a stable table under no entries
+pub alone_folded : (s : Stable) → IsStable s → AreFolded (alone s)
+alone_folded s h =
     let rows : length (table_in s) ≡ length s.rows = length-map _ _ in
     let few = h.few in
+    record {
+      lower = record { lower = no_layer s.schema (table_in s) h.table; middle = no_layer s.schema (table_in s) h.table };
+      stable_few = few;
+      few = omega (arith, rows, few);
+    }
+
+pub opened_holds : (s : Stable) (limit recent : ℕ) (rule : ConflictRule) → IsStable s → IsSchema s.schema → length s.rows ≤ limit → limit ≤ MAX_ROWS →
+    HoldsNewest (opened s limit recent rule) (alone s) (version_at s 0) []
+opened_holds s limit recent rule h lawful within most =
+    let rows : length (table_in s) ≡ length s.rows = length-map _ _ in
     let none : ◌≡◌ {A = ℕ} 0 (0 + 0) = omega arith in
     record {
       lawful = record {
@@ -135,11 +145,7 @@ opened_holds s limit recent rule h lawful within most =
         counted = omega arith;
         few = omega arith;
       };
-      folded = record {
-        lower = record { lower = no_layer s.schema (table_in s) h.table; middle = no_layer s.schema (table_in s) h.table };
-        stable_few = few;
-        few = omega (arith, rows, few);
-      };
+      folded = alone_folded s h;
       newest_is = λ i. record { schema = s.schema; table = table_in s; number = none i };
       layers_are = ap (version_at s) none ∙ sym (version_of-alone s (0 + 0));
       kept_are = sym (drop-none (0 - recent));

@@ -5,5 +5,6 @@ mod GrantLemmas
 mod FoldLemmas
 mod CutLemmas
 mod OwnLemmas
+mod CheckpointLemmas
 mod CommitLemmas
 pub mod CallerLemmas

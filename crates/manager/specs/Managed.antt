@@ -4,7 +4,7 @@ use Rattle.values.specs.Shape.{Columns, IsSchema}
 use Rattle.values.specs.declared.limits.TheConstants.{MAX_ROWS, MAX_RECENT_COMMITS}
 use Rattle.model.specs.declared.write.CommitReply.{CommitReply}
 use Rattle.model.specs.declared.clash.ConflictRule.{ConflictRule}
-use Rattle.model.specs.Table.{Table, IsTable}
+use Rattle.model.specs.Table.{Table, IsTable, rows_of}
 use Rattle.model.specs.Effects.{Effects}
 use Rattle.model.specs.History.{Start, Record, IsLegal, commits_of, table_after, table_with_all, due_reply}
 use Rattle.stable.specs.Stable.{Stable, table_in}
@@ -37,10 +37,15 @@ opened s limit recent rule = managed_of (recorded_at (record { schema = s.schema
 abbrev pub commits_in : Managed → List Effects
 commits_in m = commits_of m.schema m.start m.history
 
--- the table after all of them, and its number
+-- the table after all of them
 abbrev pub newest_table : Managed → Table
 newest_table m = table_with_all m.start.table (commits_in m)
 
+-- its rows in key order
+abbrev pub newest_stable : Managed → Stable
+newest_stable m = record { schema = m.schema; rows = rows_of (newest_table m) }
+
+-- its number
 abbrev pub newest_number : Managed → ℕ
 newest_number m = m.start.base + length (commits_in m)
 

@@ -1,5 +1,6 @@
-//! Why a table isn't opened.
+//! Why a table isn't opened, and why there is no checkpoint.
 ghost use Rattle.std.specs.Prelude.{◌≡◌};
+ghost use Rattle.manager.specs.declared.fault.CheckpointFault.TheVariants as checkpoint_fault;
 ghost use Rattle.manager.specs.declared.fault.OpenFault.TheVariants as open_fault;
 
 use std::alloc::{AllocError, AllocFailed};
@@ -41,5 +42,30 @@ impl From<NoMemory> for OpenFault {
 
     fn from(_: NoMemory) -> OpenFault {
         OpenFault::NoMemory
+    }
+}
+
+/// Why there is no checkpoint. Devices count from 0.
+#[derive(Clone, Copy, Debug, PartialEq, Eq, Error)]
+pub enum CheckpointFault {
+    /// An earlier append to the store has failed.
+    #[error("StoreFailed")]
+    StoreFailed,
+    /// The next generation would be 2^32.
+    #[error("GenerationsSpent")]
+    GenerationsSpent,
+    /// A growth was refused.
+    #[error("NoMemory")]
+    NoMemory,
+    /// This device of the store failed.
+    #[error("DeviceFailed {0}")]
+    DeviceFailed(usize),
+}
+
+impl From<NoMemory> for CheckpointFault {
+    ghost from_gives = { λ _ fault. fault ≡ checkpoint_fault.NoMemory };
+
+    fn from(_: NoMemory) -> CheckpointFault {
+        CheckpointFault::NoMemory
     }
 }

@@ -5,9 +5,10 @@
 //! start and its records, which are legal from there on. What is prepared for a commit is its reply and the next version.
 //!
 //! *What it stands on.* `txn` for versions and transactions, `layers` for trees made consecutive and folded, `delta` for
-//! trees, `model` for histories, `circular_buffer` for the trees of the last commits. No key of a row is compared.
+//! trees, `devices` for the store of a checkpoint, `model` for histories, `circular_buffer` for the trees of the last commits. No key of a row is compared.
 #![tactic(auto)]
 
+mod checkpoint;
 mod commit;
 mod cut;
 mod fault;
@@ -16,8 +17,9 @@ mod history;
 mod manager;
 mod passing;
 
+pub use checkpoint::Rebuilt;
 pub use commit::Prepared;
-pub use fault::OpenFault;
+pub use fault::{CheckpointFault, OpenFault};
 pub use fold::Folded;
 pub use history::History;
 pub use manager::Manager;

@@ -4,7 +4,9 @@ ghost use Rattle.manager.specs.declared.fault.OpenFault.{OpenFault};
 ghost use Rattle.manager.specs.Managed.{is_bad_limit};
 ghost use Rattle.merge.specs.Image.{image_rows};
 ghost use Rattle.model.specs.Table.{rows_of};
-ghost use Rattle.txn.specs.Version.{AreLower, version_of};
+ghost use Rattle.stable.specs.Stable.{IsStable};
+ghost use Rattle.txn.specs.Version.{AreLower, alone, version_of};
+ghost use Rattle.values.specs.Shape.{IsSchema};
 ghost use Rattle.values.specs.declared.limits.TheConstants.{MAX_ROWS};
 
 use crate::fault::OpenFault;
@@ -31,6 +33,23 @@ pub struct Held {
 
 impl Held {
     ghost use Rattle.manager.specs.Held.{layers_of};
+
+    /// A stable table under trees with no entries.
+    pub(crate) fn alone(alloc: Global, table: StableTable) -> Result<Held, NoMemory>
+        ensures layers { IfOk result (λ held. layers_of held ≡ alone table) }
+        ensures lawful { IsStable table }
+        ensures typed { IsSchema table.schema }
+    {
+        let key_cols = table.schema().key_cols();
+        let stable = Arc::new(alloc, table)?;
+        let read = Arc::new(alloc, DeltaTree::new(alloc, key_cols))?;
+        let write = read.clone()?;
+        Ok(Held {
+            stable,
+            read,
+            write,
+        })
+    }
 
     /// The version over these layers, which so many commits made.
     pub(crate) fn version(&self, alloc: Global, number: u64) -> Result<Version, NoMemory>
@@ -101,15 +120,7 @@ impl Manager {
         if table.len() > row_limit {
             return Err(OpenFault::TooManyRows);
         }
-        let key_cols = table.schema().key_cols();
-        let stable = Arc::new(alloc, table)?;
-        let read = Arc::new(alloc, DeltaTree::new(alloc, key_cols))?;
-        let write = Arc::new(alloc, DeltaTree::new(alloc, key_cols))?;
-        let held = Held {
-            stable,
-            read,
-            write,
-        };
+        let held = Held::alone(alloc, table)?;
         let newest = held.version(alloc, 0)?;
         let rules = Rules {
             row_limit,

@@ -11,7 +11,7 @@ use Rattle.delta.specs.Tree.{Tree}
 use Rattle.stable.specs.Stable.{Stable, IsStable, table_in}
 use Rattle.merge.specs.Image.{IsLayer, AreStacked, stack_of, image_rows, image_table}
 use Rattle.merge.proofs.CallerLemmas.{layer_rows}
-use Rattle.txn.specs.Version.{Lower, lower_rows, lower_table, AreLower, version_of, version_at, empty_tree}
+use Rattle.txn.specs.Version.{Lower, lower_rows, lower_table, AreLower, alone, version_of, version_at, empty_tree}
 
 -- ---- no entries
 
@@ -26,17 +26,15 @@ no_layer schema t h = record {
   entries = refl;
 }
 
--- a stable table alone
-abbrev pub alone : Stable → Tree → Lower
-alone s none = record { stable = s; read = none; write = none }
+-- ---- a stable table alone
 
-pub are_alone : (s : Stable) → IsStable s → AreLower (alone s (empty_tree s.schema.key_cols))
+pub are_alone : (s : Stable) → IsStable s → AreLower (alone s)
 are_alone s h = record {
   lower = no_layer s.schema (table_in s) h.table;
   middle = no_layer s.schema (table_in s) h.table;
 }
 
-pub version_of-alone : (s : Stable) (number : ℕ) → version_of (alone s (empty_tree s.schema.key_cols)) number ≡ version_at s number
+pub version_of-alone : (s : Stable) (number : ℕ) → version_of (alone s) number ≡ version_at s number
 version_of-alone s number =
     let rows : merged_rows (merged_rows s.rows []) [] ≡ s.rows = merged_rows-nothing (merged_rows s.rows []) ∙ merged_rows-nothing s.rows in
     λ i. record { schema = s.schema; table = table_of s.schema.key_cols (rows i); number = number }

@@ -44,3 +44,7 @@ version_at s number = record { schema = s.schema; table = table_in s; number = n
 -- a tree with no entries
 abbrev pub empty_tree : ℕ → Tree
 empty_tree key_cols = record { key_cols = key_cols; entries = [] }
+
+-- a stable table under trees with no entries
+abbrev pub alone : Stable → Lower
+alone s = record { stable = s; read = empty_tree s.schema.key_cols; write = empty_tree s.schema.key_cols }

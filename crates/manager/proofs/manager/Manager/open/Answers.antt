@@ -1,9 +1,8 @@
 use Rattle.std.proofs.Common.{◌≡◌, ◌≤◌, List, [], length, sym, ap, ◌∙◌, subst, arith}
 use Rattle.circular_buffer.specs.Buffer.{Buffer}
-use Rattle.values.specs.Shape.{Columns, IsSchema}
 use Rattle.manager.specs.History.{Recorded, recorded_at}
 use Rattle.delta.specs.Tree.{Tree}
-use Rattle.txn.specs.Version.{Lower, AreLower, TableVersion, version_at, version_of, empty_tree}
+use Rattle.txn.specs.Version.{Lower, AreLower, TableVersion, version_at, version_of}
 use Rattle.txn.proofs.CallerLemmas.{are_alone, version_of-alone}
 use Rattle.manager.specs.Managed.{managed_of}
 use Rattle.manager.specs.Kept.{HoldsNewest}
@@ -11,57 +10,30 @@ use Rattle.manager.proofs.GrantLemmas.{limit_fits, opened_holds}
 use Rattle.manager.proofs.manager.Manager.open.Goals as goal
 
 pub version-requires : goal.version-requires
-version-requires c =
-    let s = c.args.table in
-    let count : c.key_cols-key_cols.result ≡ s.schema.key_cols = c.key_cols-key_cols.ensures.count ∙ ap (λ (t : Columns). t.key_cols) c.schema.ensures.columns in
-    let read = c.in_ok-read.ensures.ok ∙ c.new-2.ensures ∙ ap empty_tree count in
-    let write = c.in_ok-write.ensures.ok ∙ c.new-4.ensures ∙ ap empty_tree count in
-    subst AreLower (sym (λ i. record {
-      stable = c.in_ok-stable.ensures.ok i;
-      read = read i;
-      write = write i;
-    })) (are_alone s c.len.ensures.lawful)
+version-requires c = subst AreLower (sym c.in_ok-held.ensures.layers) (are_alone c.args.table c.in_ok-held.ensures.lawful)
 
 pub invariant_of-result : goal.invariant_of-result
 invariant_of-result c =
     let s = c.args.table in
-    let count : c.key_cols-key_cols.result ≡ s.schema.key_cols = c.key_cols-key_cols.ensures.count ∙ ap (λ (t : Columns). t.key_cols) c.schema.ensures.columns in
-    let read = c.in_ok-read.ensures.ok ∙ c.new-2.ensures ∙ ap empty_tree count in
-    let write = c.in_ok-write.ensures.ok ∙ c.new-4.ensures ∙ ap empty_tree count in
+    let layers = c.in_ok-held.ensures.layers in
     let version : c.in_ok-newest.newest ≡ version_at s 0 =
-    c.in_ok-newest.ensures
-    ∙ (λ i. version_of (record {
-      stable = c.in_ok-stable.ensures.ok i;
-      read = read i;
-      write = write i;
-    }) 0)
-    ∙ version_of-alone s 0 in
-    let history : c.new-6.result ≡ recorded_at (version_at s 0) c.args.row_limit c.args.recent c.args.conflicts [] =
-    c.new-6.ensures ∙ ap (λ (v : TableVersion). recorded_at v c.args.row_limit c.args.recent c.args.conflicts []) version in
+    c.in_ok-newest.ensures ∙ ap (λ (l : Lower). version_of l 0) layers ∙ version_of-alone s 0 in
+    let history : c.new.result ≡ recorded_at (version_at s 0) c.args.row_limit c.args.recent c.args.conflicts [] =
+    c.new.ensures ∙ ap (λ (v : TableVersion). recorded_at v c.args.row_limit c.args.recent c.args.conflicts []) version in
     let within : length s.rows ≤ c.args.row_limit = omega (arith, c.len.ensures.count, c.if-len-row_limit.false) in
     let most = limit_fits c.args.recent c.args.row_limit (sym c.is_bad_limit.ensures ∙ c.if-is_bad_limit.false) in
-    let lawful = subst IsSchema c.schema.ensures.columns c.key_cols-key_cols.ensures.lawful in
-    let holds = opened_holds s c.args.row_limit c.args.recent c.args.conflicts c.len.ensures.lawful lawful within most in
+    let holds = opened_holds s c.args.row_limit c.args.recent c.args.conflicts c.in_ok-held.ensures.lawful c.in_ok-held.ensures.typed within most in
     let kept : c.in_ok-with_capacity.field-0.items ≡ [] = ap (λ (b : Buffer Tree). b.items) c.in_ok-with_capacity.ensures in
     let P = λ (e : Recorded × (Lower × (TableVersion × List Tree))). HoldsNewest (managed_of e.0 0) e.1.0 e.1.1.0 e.1.1.1 in (
-      subst P (sym (λ i. (history i, (record { stable = c.in_ok-stable.ensures.ok i; read = read i; write = write i }, (version i, kept i))))) holds,
+      subst P (sym (λ i. (history i, (layers i, (version i, kept i))))) holds,
       ap (λ (b : Buffer Tree). b.capacity) c.in_ok-with_capacity.ensures ∙ sym (ap (λ (h : Recorded). h.start.recent) history),
     )
 
 pub returns-clause-ok : goal.returns-clause-ok
 returns-clause-ok c =
     let s = c.args.table in
-    let count : c.key_cols-key_cols.result ≡ s.schema.key_cols = c.key_cols-key_cols.ensures.count ∙ ap (λ (t : Columns). t.key_cols) c.schema.ensures.columns in
-    let read = c.in_ok-read.ensures.ok ∙ c.new-2.ensures ∙ ap empty_tree count in
-    let write = c.in_ok-write.ensures.ok ∙ c.new-4.ensures ∙ ap empty_tree count in
     let version : c.in_ok-newest.newest ≡ version_at s 0 =
-    c.in_ok-newest.ensures
-    ∙ (λ i. version_of (record {
-      stable = c.in_ok-stable.ensures.ok i;
-      read = read i;
-      write = write i;
-    }) 0)
-    ∙ version_of-alone s 0 in
-    let history : c.new-6.result ≡ recorded_at (version_at s 0) c.args.row_limit c.args.recent c.args.conflicts [] =
-    c.new-6.ensures ∙ ap (λ (v : TableVersion). recorded_at v c.args.row_limit c.args.recent c.args.conflicts []) version in
+    c.in_ok-newest.ensures ∙ ap (λ (l : Lower). version_of l 0) c.in_ok-held.ensures.layers ∙ version_of-alone s 0 in
+    let history : c.new.result ≡ recorded_at (version_at s 0) c.args.row_limit c.args.recent c.args.conflicts [] =
+    c.new.ensures ∙ ap (λ (v : TableVersion). recorded_at v c.args.row_limit c.args.recent c.args.conflicts []) version in
     ap (λ (h : Recorded). managed_of h 0) history

@@ -2,12 +2,12 @@ use Rattle.std.proofs.Common.{◌≡◌, IfOk, ap, sym, ◌∙◌, subst}
 use Rattle.values.specs.Shape.{Columns}
 use Rattle.delta.specs.Tree.{Tree}
 use Rattle.stable.specs.Stable.{Stable, IsStable}
-use Rattle.txn.specs.Version.{Lower, AreLower, TableVersion, version_of, empty_tree}
-use Rattle.txn.proofs.VersionLemmas.{alone, are_alone, version_of-alone}
+use Rattle.txn.specs.Version.{Lower, AreLower, TableVersion, alone, version_of, empty_tree}
+use Rattle.txn.proofs.VersionLemmas.{are_alone, version_of-alone}
 use Rattle.txn.proofs.version.Version.new.Goals as goal
 
 -- the trees have no entries
-abbrev unwritten : (s : Stable) (read write : Tree) → read ≡ empty_tree s.schema.key_cols → write ≡ empty_tree s.schema.key_cols → ◌≡◌ {A = Lower} (record { stable = s; read = read; write = write }) (alone s (empty_tree s.schema.key_cols))
+abbrev unwritten : (s : Stable) (read write : Tree) → read ≡ empty_tree s.schema.key_cols → write ≡ empty_tree s.schema.key_cols → ◌≡◌ {A = Lower} (record { stable = s; read = read; write = write }) (alone s)
 unwritten s read write p q = λ i. record { stable = s; read = p i; write = q i }
 
 pub stacked-requires : goal.stacked-requires

@@ -1,0 +1,127 @@
+//! The checkpoint: the newest image goes to a store, and is then the stable table. No table changes.
+ghost use Rattle.std.specs.Prelude.{◌≡◌, ◌≢◌, IfOk, map};
+ghost use Rattle.devices.specs.Appending.{MayFollow, Stores};
+ghost use Rattle.devices.specs.Store.{have_failed};
+ghost use Rattle.devices.specs.declared.fault.StoreFault.TheVariants as store_fault;
+ghost use Rattle.manager.specs.Checkpoint.{answer_of_store, fault_of_store};
+ghost use Rattle.manager.specs.Managed.{newest_stable};
+
+use crate::fault::CheckpointFault;
+use crate::manager::{Held, Manager};
+use devices::{ColumnDevice, Store, StoreFault};
+use stable::StableTable;
+use std::marker::Model;
+use txn::Version;
+use values::NoMemory;
+
+/// The newest version with its image as the stable table and no entries above it, made before anything changes.
+#[derive(Drop)]
+pub struct Rebuilt {
+    held: Held,
+    version: Version,
+}
+
+impl Model for Rebuilt {
+    ghost use Rattle.manager.specs.Held.{layers_of};
+    ghost use Rattle.manager.specs.Layered.{Layered};
+
+    ghost Value = { Layered };
+
+    ghost view = { λ r. record { layers = layers_of r.held; version = r.version } };
+}
+
+impl Rebuilt {
+    /// The version that the checkpoint will install: the newest one, under other layers. Takes no memory.
+    pub fn version(&self) -> &Version
+        ensures { result.now ≡ self.now.version }
+    {
+        &self.version
+    }
+
+    /// The stable table that it will install, which a store has to take before. Takes no memory.
+    pub fn table(&self) -> &StableTable
+        ensures { result.now ≡ self.now.layers.stable }
+    {
+        &self.held.stable
+    }
+}
+
+impl Manager {
+    ghost use Rattle.manager.specs.Checkpoint.{Checkpoints, HasTaken};
+    ghost use Rattle.manager.specs.Layered.{IsRebuilt};
+
+    /// Writes the newest image to the store, and answers its generation. The image is the stable table then, and the
+    /// Read- and the Write-PDT have no entries. Neither the table, nor the trees of the last commits, nor an open
+    /// transaction changes. Takes a copy of the image and of its bytes.
+    ///
+    /// # Errors
+    ///
+    /// `StoreFailed` where an earlier append to the store failed, then `GenerationsSpent`, then `NoMemory` where a growth
+    /// is refused: the store is as it was. `DeviceFailed` with the first device that fails, after which every checkpoint
+    /// to this store answers `StoreFailed`. The manager keeps the layers that it had.
+    pub fn checkpoint(&mut self, store: &mut Store) -> Result<u32, CheckpointFault>
+        requires { store.old.schema ≡ self.old.schema }
+        ensures kept { self.new ≡ self.old }
+        ensures answer { Checkpoints self.old (record { contents = map (λ b. contents (b.vtable, b.value)) store.old.devices.items; failed = have_failed (map (λ b. failures (b.vtable, b.value)) store.old.devices.items); next = store.old.next }) result (record { contents = map (λ b. contents (b.vtable, b.value)) store.new.devices.items; failed = have_failed (map (λ b. failures (b.vtable, b.value)) store.new.devices.items); next = store.new.next }) }
+
+        // Where an image may follow what the devices took, they store the newest table under its generation then; after a
+        // failure what they stored before, or that.
+        ensures stored { MayFollow self.old.schema (record { contents = map (λ b. contents (b.vtable, b.value)) store.old.devices.items; failed = have_failed (map (λ b. failures (b.vtable, b.value)) store.old.devices.items); next = store.old.next }) → Stores self.old.schema (newest_stable self.old) (record { contents = map (λ b. contents (b.vtable, b.value)) store.old.devices.items; failed = have_failed (map (λ b. failures (b.vtable, b.value)) store.old.devices.items); next = store.old.next }) (answer_of_store result) (record { contents = map (λ b. contents (b.vtable, b.value)) store.new.devices.items; failed = have_failed (map (λ b. failures (b.vtable, b.value)) store.new.devices.items); next = store.new.next }) }
+        ensures ready { MayFollow store.old.schema (record { contents = map (λ b. contents (b.vtable, b.value)) store.old.devices.items; failed = have_failed (map (λ b. failures (b.vtable, b.value)) store.old.devices.items); next = store.old.next }) → MayFollow store.new.schema (record { contents = map (λ b. contents (b.vtable, b.value)) store.new.devices.items; failed = have_failed (map (λ b. failures (b.vtable, b.value)) store.new.devices.items); next = store.new.next }) }
+        ensures schema { store.new.schema ≡ store.old.schema }
+    {
+        // A store that can't take the image is told before the image is made.
+        if let Err(fault) = store.ready() {
+            return Err(fault_of(fault));
+        }
+        let rebuilt = self.prepare_checkpoint()?;
+        match store.append_image(rebuilt.table()) {
+            Ok(generation) => {
+                self.install_checkpoint(rebuilt, store);
+                Ok(generation)
+            }
+            Err(fault) => Err(fault_of(fault)),
+        }
+    }
+
+    /// What a checkpoint will install, and the table that a store is offered before. Changes nothing; takes the time and
+    /// the memory of a copy of the image.
+    ///
+    /// # Errors
+    ///
+    /// `NoMemory` where a growth is refused.
+    pub fn prepare_checkpoint(&self) -> Result<Rebuilt, NoMemory>
+        ensures { IfOk result (λ rebuilt. IsRebuilt self.now rebuilt) }
+    {
+        let table = self.newest().to_table(self.alloc)?;
+        let held = Held::alone(self.alloc, table)?;
+        let version = held.version(self.alloc, self.newest.number())?;
+        Ok(Rebuilt { held, version })
+    }
+
+    /// Installs a checkpoint that was prepared while the history was as it is, once the store has its table. Takes no
+    /// memory, and no time but for what goes.
+    pub fn install_checkpoint(&mut self, rebuilt: Rebuilt, store: &Store)
+        requires prepared { IsRebuilt self.old rebuilt }
+        requires taken { HasTaken rebuilt.layers.stable (record { contents = map (λ b. contents (b.vtable, b.value)) store.now.devices.items; failed = have_failed (map (λ b. failures (b.vtable, b.value)) store.now.devices.items); next = store.now.next }) }
+        ensures kept { self.new ≡ self.old }
+    {
+        let Rebuilt { held, version } = rebuilt;
+        self.held = held;
+        self.newest = version;
+    }
+}
+
+/// The fault of a checkpoint by that of the store, which has a device for each column.
+fn fault_of(fault: StoreFault) -> CheckpointFault
+    requires { fault ≢ store_fault.WrongCount }
+    ensures { fault_of_store result ≡ fault }
+{
+    match fault {
+        StoreFault::WrongCount => unreachable!(),
+        StoreFault::StoreFailed => CheckpointFault::StoreFailed,
+        StoreFault::GenerationsSpent => CheckpointFault::GenerationsSpent,
+        StoreFault::NoMemory => CheckpointFault::NoMemory,
+        StoreFault::DeviceFailed(i) => CheckpointFault::DeviceFailed(i),
+    }
+}
