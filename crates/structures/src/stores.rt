@@ -1,19 +1,16 @@
-//! What devices leave at their end.
+//! What devices leave at their end, and what columns store.
+
+mod images;
+mod pairs;
+mod vectors;
 
 use devices::{ColumnDevice, FailAt, MemColumn, Store};
+use fixtures::{left_in, row_with, schema};
 use stable::StableTable;
 use std::alloc::Global;
 use std::sync::{Arc, OnceLock};
 use std::test::Fail;
-use values::{ColumnType, Row, Schema, Value};
-
-/// What the slot has, or no bytes.
-fn left_in(out: &Arc<OnceLock<Vec<u8>>>) -> &[u8] {
-    match out.get() {
-        Some(contents) => contents.as_slice(),
-        None => &[],
-    }
-}
+use values::{ColumnType, Schema, ValueRef};
 
 #[test]
 fn a_sound_device_leaves_a_clean_end(rt: HostRuntime) -> Result<(), Fail> {
@@ -42,16 +39,23 @@ fn a_failed_device_gets_no_clean_end(rt: HostRuntime) -> Result<(), Fail> {
     Ok(())
 }
 
-/// The table of one column of numbers, whose one row has the number ten.
-fn one_row(alloc: Global) -> Result<StableTable, Fail> {
-    let mut cols = Vec::new(alloc);
-    cols.push((String::from_str(alloc, "id")?, ColumnType::Int))?;
-    let schema = Schema::new(alloc, cols, 1)?;
-    let mut cells = Vec::new(alloc);
-    cells.push(Value::Int(10))?;
+/// The schema of one column of numbers.
+fn one_column(alloc: Global) -> Result<Schema, Fail> {
+    schema(alloc, &[("id", ColumnType::Int)], 1)
+}
+
+/// The table of that column whose rows have the numbers from the first up to but without the other.
+fn numbers(alloc: Global, from: i64, to: i64) -> Result<StableTable, Fail> {
     let mut rows = Vec::new(alloc);
-    rows.push(Row::new(cells))?;
-    Ok(StableTable::build(alloc, schema, rows)?)
+    for id in from..to {
+        rows.push(row_with(alloc, &[ValueRef::Int(id)])?)?;
+    }
+    Ok(StableTable::build(alloc, one_column(alloc)?, rows)?)
+}
+
+/// The table whose one row has the number ten.
+fn one_row(alloc: Global) -> Result<StableTable, Fail> {
+    numbers(alloc, 10, 11)
 }
 
 /// The bytes of that table's column: its header, a frame of one row, and a clean end.

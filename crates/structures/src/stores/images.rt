@@ -1,0 +1,93 @@
+//! What a store leaves of its images: several generations, several blocks, the last generation, and columns of both formats.
+
+use crate::assertions::assert_holds;
+use crate::stores::vectors::{TEN, generation};
+use crate::stores::{numbers, one_column, one_row};
+use devices::{ColumnDevice, MemColumn, Store, StoreFault, read_store};
+use fixtures::{Slot, device_over, left_in};
+use std::alloc::Global;
+use std::sync::{Arc, OnceLock};
+use std::test::Fail;
+
+/// What a store of one column of numbers, from this generation on, answers to two images of so many rows, one after the
+/// other, whose device leaves its bytes in the slot.
+fn twice(
+    alloc: Global,
+    slot: &Slot,
+    first: u32,
+    rows: i64,
+) -> Result<[Result<u32, StoreFault>; 2], Fail> {
+    let table = numbers(alloc, 0, rows)?;
+    let schema = table.schema().copy()?;
+    let mut devices: Vec<Box<dyn ColumnDevice + Send>> = Vec::new(alloc);
+    devices.push(Box::new(alloc, device_over(alloc, slot, 0, None)?)?)?;
+    let mut store = Store::new(alloc, devices, &schema, first)?;
+    let one = store.append_image(&table);
+    let other = store.append_image(&table);
+    Ok([one, other])
+}
+
+#[test]
+fn generations_run_out(rt: HostRuntime) -> Result<(), Fail> {
+    let slot = Arc::new(rt.alloc(), OnceLock::new())?;
+    let answers = twice(rt.alloc(), &slot, u32::MAX, 1)?;
+    assert_holds(
+        &rt,
+        answers == [Ok(u32::MAX), Err(StoreFault::GenerationsSpent)],
+        "answers",
+    );
+    assert_holds(&rt, left_in(&slot).len() == 29, "as after the first");
+    let read = generation(rt.alloc(), &one_column(rt.alloc())?, left_in(&slot));
+    assert_holds(&rt, read == Ok(u32::MAX), "read");
+    Ok(())
+}
+
+#[test]
+fn a_second_block(rt: HostRuntime) -> Result<(), Fail> {
+    let slot = Arc::new(rt.alloc(), OnceLock::new())?;
+    let answers = twice(rt.alloc(), &slot, 1, 1025)?;
+    assert_holds(&rt, answers == [Ok(1), Ok(2)], "answers");
+    let all = left_in(&slot);
+    // A header of 3 bytes, then twice a block of 1,024 values, which isn't the last, and one of 1 value, which is.
+    assert_holds(&rt, all.len() == 3 + 2 * (17 + 8192 + 17 + 8) + 1, "length");
+    assert_holds(&rt, all.get(12) == Some(&0), "not the last");
+    assert_holds(&rt, all.get(8212 + 9) == Some(&1), "the last");
+    let schema = one_column(rt.alloc())?;
+    let image = read_store(rt.alloc(), &schema, &[all])?;
+    assert_holds(
+        &rt,
+        image.generation == 2 && image.table.len() == 1025,
+        "read",
+    );
+    Ok(())
+}
+
+#[test]
+fn no_rows_are_one_block(rt: HostRuntime) -> Result<(), Fail> {
+    let slot = Arc::new(rt.alloc(), OnceLock::new())?;
+    let answers = twice(rt.alloc(), &slot, 1, 0)?;
+    assert_holds(&rt, answers == [Ok(1), Ok(2)], "answers");
+    let schema = one_column(rt.alloc())?;
+    let image = read_store(rt.alloc(), &schema, &[left_in(&slot)])?;
+    assert_holds(&rt, image.generation == 2 && image.table.len() == 0, "read");
+    Ok(())
+}
+
+#[test]
+fn both_formats_in_one_column(rt: HostRuntime) -> Result<(), Fail> {
+    let out = Arc::new(rt.alloc(), OnceLock::new())?;
+    let mut before = Vec::new(rt.alloc());
+    before.extend_from_slice(&TEN)?;
+    let column = MemColumn::new(before, Arc::try_clone(&out)?)?;
+    let mut devices: Vec<Box<dyn ColumnDevice + Send>> = Vec::new(rt.alloc());
+    devices.push(Box::new(rt.alloc(), column)?)?;
+    let table = one_row(rt.alloc())?;
+    let schema = table.schema().copy()?;
+    let mut store = Store::new(rt.alloc(), devices, &schema, 2)?;
+    assert_holds(&rt, store.append_image(&table) == Ok(2), "answer");
+    drop(store);
+    assert_holds(&rt, left_in(&out).len() == 57, "length");
+    let read = generation(rt.alloc(), &schema, left_in(&out));
+    assert_holds(&rt, read == Ok(2), "read");
+    Ok(())
+}
