@@ -25,4 +25,4 @@ pub use file::FileColumn;
 pub use laws::newest_is_the_greatest;
 pub use memory::MemColumn;
 pub use reading::{StoredImage, read_store};
-pub use store::Store;
+pub use store::{Store, have_failed};

@@ -15,8 +15,9 @@ use std::alloc::Global;
 use values::Schema;
 use values::limits::MAX_GENERATION;
 
-/// Whether any of the devices has failed.
-fn have_failed<D: ColumnDevice>(devices: &[D]) -> bool
+/// Whether any of the devices has failed. Takes no memory. A store is made only of devices none of which has: where that
+/// isn't known of them, it is asked here.
+pub fn have_failed<D: ColumnDevice>(devices: &[D]) -> bool
     ensures { result ≡ have_failed (map D.failures devices.now) }
 {
     for device in devices {

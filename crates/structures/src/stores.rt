@@ -2,6 +2,7 @@
 
 mod images;
 mod pairs;
+mod rounds;
 mod vectors;
 
 use devices::{ColumnDevice, FailAt, MemColumn, Store};
