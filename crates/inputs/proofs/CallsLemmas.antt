@@ -19,7 +19,7 @@ use Rattle.inputs.specs.Clients.{clients_after}
 use Rattle.inputs.specs.Reading.{Fields}
 use Rattle.inputs.specs.Script.{call_of, calls_of, script_of}
 use Rattle.inputs.specs.declared.call.Call.{Call}
-use Rattle.inputs.specs.declared.call.Call.TheVariants.{Begin, Write, Read, Commit, Abort, Fold, Cut}
+use Rattle.inputs.specs.declared.call.Call.TheVariants.{Begin, Write, Read, Commit, Abort, Fold, Checkpoint, Cut}
 use Rattle.inputs.specs.declared.call.Read.TheVariants.{Get, At, Rank, Len, Scan}
 use Rattle.inputs.specs.declared.call.ClientCall.{ClientCall}
 use Rattle.inputs.specs.declared.fault.ScriptFault.{ScriptFault}
@@ -118,6 +118,7 @@ typed_call-typed schema number verb.Begin fields call l e = let same : Begin ≡
 typed_call-typed schema number verb.Commit fields call l e = let same : Commit ≡ call = cc e in rw (← same) refl
 typed_call-typed schema number verb.Abort fields call l e = let same : Abort ≡ call = cc e in rw (← same) refl
 typed_call-typed schema number verb.Fold fields call l e = let same : Fold ≡ call = cc e in rw (← same) refl
+typed_call-typed schema number verb.Checkpoint fields call l e = let same : Checkpoint ≡ call = cc e in rw (← same) refl
 typed_call-typed schema number verb.Cut fields call l e = let same : Cut ≡ call = cc e in rw (← same) refl
 typed_call-typed schema number verb.Insert fields call l e =
     let parts = inserted-parts _ call e in

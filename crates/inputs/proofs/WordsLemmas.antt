@@ -1,12 +1,19 @@
 -- The words of a command line.
-use Rattle.std.proofs.Common.{◌≡◌, true, Option, Some, None, Result, Ok, Err, refl}
+use Rattle.std.proofs.Common.{◌≡◌, ◌∙◌, true, Option, Some, None, Result, Ok, Err, codes, refl, sym}
 use Rattle.std.specs.Option.{IfSome}
 use Rattle.std.specs.Result.{IsErrAnd, IfErr}
-use Rattle.clap.specs.Words.{Text, is_simple, is_simple_and_free}
+use Rattle.std.specs.Prelude.{Box}
+use Rattle.std.specs.Option.{option_map}
+use Rattle.std.specs.Box.{box_value}
+use Rattle.clap.specs.Matches.{subcommand_name_of}
+use Rattle.clap.specs.Words.{Text, is_simple, is_simple_and_free, subcommand_rows, subcommand_rows_of}
+use Rattle.clap.specs.declared.parser.matches.ArgMatches.{ArgMatches}
+use Rattle.clap.specs.declared.parser.matches.ArgMatches.TheViews.{out-ArgMatches, out-SubCommand}
+use Rattle.clap.specs.declared.parser.matches.SubCommand.{SubCommand}
 use Rattle.clap.proofs.OnLiterals.{clap_on_literals}
 use Rattle.inputs.specs.Words.{usage, AreOf}
 use Rattle.inputs.specs.declared.words.Settings.{Settings}
-use Rattle.inputs.specs.declared.words.Settings.TheVariants.{Run}
+use Rattle.inputs.specs.declared.words.Settings.TheVariants.{Run, Recover}
 
 -- of such a usage `clap` says which word is which
 pub usage-simple : is_simple usage ≡ true
@@ -17,15 +24,25 @@ pub usage-free : is_simple_and_free usage ≡ true
 unfolding clap_on_literals
 usage-free = refl
 
--- the same words for each argument
-pub AreOf-same : (f g : Text → Option Text) → ((id : Text) → f id ≡ g id) → (settings : Settings) → AreOf f settings → AreOf g settings
-AreOf-same f g same (Run table script recent limit conflicts) h = rw (← same _, ← same _, ← same _, ← same _, ← same _) h
+-- the same command, with the same words for each argument
+pub AreOf-same : (a b : Option Text) (f g : Text → Option Text) → a ≡ b → ((id : Text) → f id ≡ g id) → (settings : Settings) → AreOf a f settings → AreOf b g settings
+AreOf-same a b f g command same (Recover dir) h = (sym command ∙ h.0, sym (same (codes "dir")) ∙ h.1)
+AreOf-same a b f g command same (Run table script store recent limit conflicts) h =
+    rw (← command, ← same (codes "table"), ← same (codes "script"), ← same (codes "store"), ← same (codes "recent"), ← same (codes "limit"), ← same (codes "conflicts")) h
 
-pub if-AreOf-same : (f g : Text → Option Text) → ((id : Text) → f id ≡ g id) → (o : Option Settings) → IfSome o (λ settings. AreOf f settings) → IfSome o (λ settings. AreOf g settings)
-if-AreOf-same f g same None h = h
-if-AreOf-same f g same (Some settings) h = AreOf-same f g same settings h
+pub if-AreOf-same : (a b : Option Text) (f g : Text → Option Text) → a ≡ b → ((id : Text) → f id ≡ g id) → (o : Option Settings) → IfSome o (AreOf a f) → IfSome o (AreOf b g)
+if-AreOf-same a b f g command same None h = h
+if-AreOf-same a b f g command same (Some settings) h = AreOf-same a b f g command same settings h
 
 -- what an error that was made is
 pub if-told : {T E : Type 0} (r : Result T E) (P Q : E → Type 0) → ((e : E) → P e → Q e) → IsErrAnd r P → IfErr r Q
 if-told (Ok x) P Q f h = tt
 if-told (Err e) P Q f h = f e h
+
+-- the command that was read has one name
+named_in : {Z : Type 0} (o : Option (Box SubCommand Z)) → option_map (λ b. (out-SubCommand (box_value b)).name.now) o ≡ option_map (λ p. p.0) (subcommand_rows o)
+named_in None = refl
+named_in (Some b) = refl
+
+pub named : (m : ArgMatches) → subcommand_name_of m ≡ option_map (λ p. p.0) (subcommand_rows_of m)
+named m = named_in (out-ArgMatches m).subcommand

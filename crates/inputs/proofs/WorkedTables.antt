@@ -20,6 +20,7 @@ verb_of-verb_word verb.Scan = refl
 verb_of-verb_word verb.Commit = refl
 verb_of-verb_word verb.Abort = refl
 verb_of-verb_word verb.Fold = refl
+verb_of-verb_word verb.Checkpoint = refl
 verb_of-verb_word verb.Cut = refl
 
 kind_of-kind_word : (type : ColumnType) (is_key : Bool) → kind_of (kind_word type is_key) ≡ Some (type, is_key)

@@ -8,7 +8,7 @@ use Rattle.model.specs.declared.write.Write.TheVariants.{Insert, Delete, Set}
 use Rattle.inputs.specs.Cells.{value_of, position_of, or_else, then_cons, place_from}
 use Rattle.inputs.specs.Reading.{Fields}
 use Rattle.inputs.specs.declared.call.Call.{Call}
-use Rattle.inputs.specs.declared.call.Call.TheVariants.{Begin, Write, Read, Commit, Abort, Fold, Cut}
+use Rattle.inputs.specs.declared.call.Call.TheVariants.{Begin, Write, Read, Commit, Abort, Fold, Checkpoint, Cut}
 use Rattle.inputs.specs.declared.call.Read.TheVariants.{Get, At, Rank, Len, Scan}
 use Rattle.inputs.specs.declared.fault.ScriptFault.{ScriptFault}
 use Rattle.inputs.specs.declared.fault.ScriptFault.TheVariants.{BadCount, BadVerb, BadArgument}
@@ -30,6 +30,7 @@ verb_word verb.Scan = codes "scan"
 verb_word verb.Commit = codes "commit"
 verb_word verb.Abort = codes "abort"
 verb_word verb.Fold = codes "fold"
+verb_word verb.Checkpoint = codes "checkpoint"
 verb_word verb.Cut = codes "cut"
 
 -- the verb whose word this is
@@ -50,6 +51,7 @@ arguments_of schema verb.Scan = 2
 arguments_of schema verb.Commit = 0
 arguments_of schema verb.Abort = 0
 arguments_of schema verb.Fold = 0
+arguments_of schema verb.Checkpoint = 0
 arguments_of schema verb.Cut = 0
 
 abbrev pub key_types : Columns → List ColumnType
@@ -133,6 +135,7 @@ typed_call schema number verb.Scan fields = scan_call number (drop 2 fields)
 typed_call schema number verb.Commit fields = Ok Commit
 typed_call schema number verb.Abort fields = Ok Abort
 typed_call schema number verb.Fold fields = Ok Fold
+typed_call schema number verb.Checkpoint fields = Ok Checkpoint
 typed_call schema number verb.Cut fields = Ok Cut
 
 abbrev pub verb_call : Columns → ℕ → Fields → Option Verb → Result Call ScriptFault

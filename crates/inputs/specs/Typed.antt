@@ -8,7 +8,7 @@ use Rattle.model.specs.declared.write.Write.{Write as Written}
 use Rattle.model.specs.declared.write.Write.TheVariants.{Insert, Delete, Set}
 use Rattle.inputs.specs.Calls.{key_types}
 use Rattle.inputs.specs.declared.call.Call.{Call}
-use Rattle.inputs.specs.declared.call.Call.TheVariants.{Begin, Write, Read, Commit, Abort, Fold, Cut}
+use Rattle.inputs.specs.declared.call.Call.TheVariants.{Begin, Write, Read, Commit, Abort, Fold, Checkpoint, Cut}
 use Rattle.inputs.specs.declared.call.ClientCall.{ClientCall}
 use Rattle.inputs.specs.declared.call.Read.{Read as Reading}
 use Rattle.inputs.specs.declared.call.Read.TheVariants.{Get, At, Rank, Len, Scan}
@@ -47,6 +47,7 @@ is_typed_call schema (Read read) = is_typed_read schema read
 is_typed_call schema Commit = true
 is_typed_call schema Abort = true
 is_typed_call schema Fold = true
+is_typed_call schema Checkpoint = true
 is_typed_call schema Cut = true
 
 -- a script: the schema that it was read under, its clients' names and its calls

@@ -11,9 +11,9 @@ use Rattle.model.specs.declared.clash.ConflictRule.{ConflictRule}
 use Rattle.model.specs.declared.clash.ConflictRule.TheVariants.{ByColumn, ByRow}
 use Rattle.inputs.specs.declared.words.TheConstants.{RECENT_COMMITS}
 use Rattle.inputs.specs.declared.words.Settings.{Settings}
-use Rattle.inputs.specs.declared.words.Settings.TheVariants.{Run}
+use Rattle.inputs.specs.declared.words.Settings.TheVariants.{Run, Recover}
 
--- ---- the usage: `pdt run TABLE SCRIPT [--recent N] [--limit N] [--conflicts column|row]`
+-- ---- the usage: `pdt run TABLE SCRIPT [--store DIR] [--recent N] [--limit N] [--conflicts column|row]`, `pdt recover DIR`
 
 -- a word that has to be there, by its place
 abbrev pub placed_rule : Text → Rule
@@ -31,12 +31,23 @@ number_rule id largest = record (option_rule id) { parser = Some (Unsigned 1 lar
 abbrev pub run_usage : App
 run_usage =
     let placed = with_rule (with_rule (new_app (codes "run")) (placed_rule (codes "table"))) (placed_rule (codes "script")) in
-    let counted = with_rule (with_rule placed (number_rule (codes "recent") MAX_RECENT_COMMITS)) (number_rule (codes "limit") MAX_ROWS) in
+    let stored = with_rule placed (option_rule (codes "store")) in
+    let counted = with_rule (with_rule stored (number_rule (codes "recent") MAX_RECENT_COMMITS)) (number_rule (codes "limit") MAX_ROWS) in
     with_rule counted (option_rule (codes "conflicts"))
 
--- the program, of which `run` is the one command
+-- `recover`, whose word is the store's folder
+abbrev pub recover_usage : App
+recover_usage = with_rule (new_app (codes "recover")) (placed_rule (codes "dir"))
+
+-- the program, of which one of the two commands is asked for
 abbrev pub usage : App
-usage = with_subcommand (on_top (λ s. record s { subcommand_required = true }) (new_app (codes "pdt"))) run_usage.top
+usage =
+    let top = on_top (λ s. record s { subcommand_required = true }) (new_app (codes "pdt")) in
+    with_subcommand (with_subcommand top run_usage.top) recover_usage.top
+
+-- the name of the command that the crate `clap` reads, by the usage
+abbrev pub command_for : List Text → Option Text
+command_for words = option_map (λ p. p.0) (subcommand_of usage words)
 
 -- the word of the argument of this name, where a command was read
 abbrev pub word_in : Option (List Row) → Text → Option Text
@@ -59,20 +70,24 @@ IsRuleOf None rule = rule ≡ ByColumn
 IsRuleOf (Some word) ByColumn = word ≡ codes "column"
 IsRuleOf (Some word) ByRow = word ≡ codes "row"
 
--- the settings are of the words for each argument
-abbrev pub AreOf : (Text → Option Text) → Settings → Type 0
-AreOf word_of (Run table script recent limit conflicts) =
-    (word_of (codes "table") ≡ Some table.now) × (word_of (codes "script") ≡ Some script.now)
+-- the settings are of the command, and of the words for each of its arguments
+abbrev pub AreOf : Option Text → (Text → Option Text) → Settings → Type 0
+AreOf command word_of (Recover dir) = (command ≡ Some (codes "recover")) × (word_of (codes "dir") ≡ Some dir.now)
+AreOf command word_of (Run table script store recent limit conflicts) =
+    (command ≡ Some (codes "run"))
+    × (word_of (codes "table") ≡ Some table.now) × (word_of (codes "script") ≡ Some script.now)
+    × (word_of (codes "store") ≡ option_map (λ w. w.now) store)
     × IsNumberOf RECENT_COMMITS (word_of (codes "recent")) recent × IsNumberOf MAX_ROWS (word_of (codes "limit")) limit
     × IsRuleOf (word_of (codes "conflicts")) conflicts
 
 -- the numbers are within their limits
 abbrev pub IsWithinLimits : Settings → Type 0
-IsWithinLimits (Run table script recent limit conflicts) =
+IsWithinLimits (Recover dir) = Unit {0}
+IsWithinLimits (Run table script store recent limit conflicts) =
     (1 ≤ recent) × (recent ≤ MAX_RECENT_COMMITS) × (1 ≤ limit) × (limit ≤ MAX_ROWS)
 
 -- the crate `clap` takes the words by the usage, and they say these settings
 pub record AreAsked (words : List Text) (settings : Settings) : Type 0 where
   pub taken : takes usage words ≡ true
-  pub said : AreOf (word_for words) settings
+  pub said : AreOf (command_for words) (word_for words) settings
   pub within : IsWithinLimits settings

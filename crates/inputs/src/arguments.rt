@@ -81,6 +81,7 @@ fn read_typed(
         Verb::Commit => Ok(Call::Commit),
         Verb::Abort => Ok(Call::Abort),
         Verb::Fold => Ok(Call::Fold),
+        Verb::Checkpoint => Ok(Call::Checkpoint),
         Verb::Cut => Ok(Call::Cut),
     }
 }

@@ -17,6 +17,8 @@ pub enum Call {
     Abort,
     /// Folds the Write-PDT into the Read-PDT.
     Fold,
+    /// Writes the newest image to the store.
+    Checkpoint,
     /// Hands the history out, and starts another at the newest version.
     Cut,
 }

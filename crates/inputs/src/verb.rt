@@ -19,11 +19,12 @@ pub enum Verb {
     Commit,
     Abort,
     Fold,
+    Checkpoint,
     Cut,
 }
 
 /// Every verb, once.
-const VERBS: [Verb; 13] = [
+const VERBS: [Verb; 14] = [
     Verb::Begin,
     Verb::Insert,
     Verb::Delete,
@@ -36,6 +37,7 @@ const VERBS: [Verb; 13] = [
     Verb::Commit,
     Verb::Abort,
     Verb::Fold,
+    Verb::Checkpoint,
     Verb::Cut,
 ];
 
@@ -57,6 +59,7 @@ impl Verb {
             Verb::Commit => "commit",
             Verb::Abort => "abort",
             Verb::Fold => "fold",
+            Verb::Checkpoint => "checkpoint",
             Verb::Cut => "cut",
         }
     }
@@ -78,7 +81,13 @@ pub(crate) fn count_arguments(schema: &Schema, verb: Verb) -> usize
     ensures few { result ≤ 34 }
 {
     match verb {
-        Verb::Begin | Verb::Len | Verb::Commit | Verb::Abort | Verb::Fold | Verb::Cut => 0,
+        Verb::Begin
+        | Verb::Len
+        | Verb::Commit
+        | Verb::Abort
+        | Verb::Fold
+        | Verb::Checkpoint
+        | Verb::Cut => 0,
         Verb::At => 1,
         Verb::Scan => 2,
         Verb::Insert => schema.width(),

@@ -1,9 +1,9 @@
 //! The words of the command line.
-ghost use Rattle.std.specs.Prelude.{◌≡◌, ◌≤◌, ℕ, false, [], IfErr, IfOk, IfSome, IsNone, map, option_map};
+ghost use Rattle.std.specs.Prelude.{◌≡◌, ◌≤◌, ℕ, false, [], Some, IfErr, IfOk, IfSome, IsNone, codes, map, option_map};
 ghost use Rattle.clap.specs.Words.{app_of, fault_of, first_value, found_of, kind_of, rule_of, subcommand_rows_of};
 ghost use Rattle.clap.specs.declared.error.kind.ErrorKind.TheVariants.{OutOfMemory};
 ghost use Rattle.model.specs.declared.clash.ConflictRule.{ConflictRule as Rule};
-ghost use Rattle.inputs.specs.Words.{number_rule, option_rule, placed_rule, usage, word_for, word_in, AreAsked, AreOf, IsNumberOf, IsRuleOf, IsWithinLimits};
+ghost use Rattle.inputs.specs.Words.{number_rule, option_rule, placed_rule, usage, command_for, word_for, word_in, AreAsked, AreOf, IsNumberOf, IsRuleOf, IsWithinLimits};
 ghost use Rattle.inputs.specs.declared.words.Settings.{Settings as Asked};
 
 use clap::builder::ValueParser;
@@ -28,6 +28,13 @@ const TABLE_HELP: &str =
 const SCRIPT_HELP: &str =
     "The script, as CSV: a client and its call in each record, such as a,insert,25,Dee,4";
 
+const STORE_HELP: &str =
+    "The folder that the store is made in: it has none of the store's files yet";
+
+const RECOVER_ABOUT: &str = "Prints the table that a store has";
+
+const DIR_HELP: &str = "The folder of the store";
+
 const RECENT_HELP: &str =
     "How many commits may come between a transaction's begin and its commit, 1 to 65536";
 
@@ -45,12 +52,19 @@ pub enum Settings<'a> {
         table: &'a str,
         /// The script's file.
         script: &'a str,
+        /// The folder that the store is made in; none where nothing is said.
+        store: Option<&'a str>,
         /// How many commits may come between a transaction's begin and its commit, 1 to 65,536; 64 where nothing is said.
         recent: usize,
         /// The most rows that the table may have, 1 to 2,147,483,647; that many where nothing is said.
         limit: u64,
         /// Which modifies of one row conflict; those of one column where nothing is said.
         conflicts: ConflictRule,
+    },
+    /// Prints the table that a store has.
+    Recover {
+        /// The folder of the store.
+        dir: &'a str,
     },
 }
 
@@ -59,10 +73,10 @@ pub enum Settings<'a> {
 /// # Errors
 ///
 /// `clap`'s error, with its text, where the words are not of the usage
-/// `pdt run TABLE SCRIPT [--recent N] [--limit N] [--conflicts column|row]`, where an N is out of its range, where help
-/// is asked for, and where a growth is refused.
+/// `pdt run TABLE SCRIPT [--store DIR] [--recent N] [--limit N] [--conflicts column|row]` or `pdt recover DIR`, where an N
+/// is out of its range, where help is asked for, and where a growth is refused.
 pub fn read_words<'a>(alloc: Global, words: &'a [&'a str]) -> Result<Settings<'a>, Error>
-    ensures said { IfOk result (λ settings. AreOf (word_for (map (λ word. word.now) words.now)) settings) }
+    ensures said { IfOk result (AreOf (command_for (map (λ word. word.now) words.now)) (word_for (map (λ word. word.now) words.now))) }
     ensures within { IfOk result (λ settings. IsWithinLimits settings) }
     ensures faultless { IfOk result (λ settings. fault_of usage (map (λ word. word.now) words.now) ≡ []) }
     ensures taken { IfErr result (λ error. (settings : Asked) → AreAsked (map (λ word. word.now) words.now) settings → kind_of error ≡ OutOfMemory) }
@@ -81,19 +95,23 @@ pub fn read_words<'a>(alloc: Global, words: &'a [&'a str]) -> Result<Settings<'a
 
 /// The settings of the command that was read.
 fn command_settings<'a>(matches: &ArgMatches<'a>) -> Option<Settings<'a>>
-    ensures said { IfSome result (λ settings. AreOf (word_in (option_map (λ p. p.1) (subcommand_rows_of matches.now))) settings) }
+    ensures said { IfSome result (AreOf (option_map (λ p. p.0) (subcommand_rows_of matches.now)) (word_in (option_map (λ p. p.1) (subcommand_rows_of matches.now)))) }
     ensures within { IfSome result (λ settings. IsWithinLimits settings) }
-    ensures none { IsNone result → (settings : Asked) → AreOf (word_in (option_map (λ p. p.1) (subcommand_rows_of matches.now))) settings → IsWithinLimits settings → ⊥ }
+    ensures none { IsNone result → (settings : Asked) → AreOf (option_map (λ p. p.0) (subcommand_rows_of matches.now)) (word_in (option_map (λ p. p.1) (subcommand_rows_of matches.now))) settings → IsWithinLimits settings → ⊥ }
 {
-    let (_, run) = matches.subcommand()?;
-    run_settings(run)
+    let (name, words) = matches.subcommand()?;
+    match name {
+        "run" => run_settings(words),
+        "recover" => recover_settings(words),
+        _ => None,
+    }
 }
 
 /// The settings that the words of `run` give.
 fn run_settings<'a>(run: &ArgMatches<'a>) -> Option<Settings<'a>>
-    ensures said { IfSome result (λ settings. AreOf (first_value (found_of run.now)) settings) }
+    ensures said { IfSome result (AreOf (Some (codes "run")) (first_value (found_of run.now))) }
     ensures within { IfSome result (λ settings. IsWithinLimits settings) }
-    ensures none { IsNone result → (settings : Asked) → AreOf (first_value (found_of run.now)) settings → IsWithinLimits settings → ⊥ }
+    ensures none { IsNone result → (settings : Asked) → AreOf (Some (codes "run")) (first_value (found_of run.now)) settings → IsWithinLimits settings → ⊥ }
 {
     let table = run.get_str("table")?;
     let script = run.get_str("script")?;
@@ -104,10 +122,21 @@ fn run_settings<'a>(run: &ArgMatches<'a>) -> Option<Settings<'a>>
     Some(Settings::Run {
         table,
         script,
+        store: run.get_str("store"),
         recent,
         limit,
         conflicts,
     })
+}
+
+/// The settings that the words of `recover` give.
+fn recover_settings<'a>(recover: &ArgMatches<'a>) -> Option<Settings<'a>>
+    ensures said { IfSome result (AreOf (Some (codes "recover")) (first_value (found_of recover.now))) }
+    ensures within { IfSome result (λ settings. IsWithinLimits settings) }
+    ensures none { IsNone result → (settings : Asked) → AreOf (Some (codes "recover")) (first_value (found_of recover.now)) settings → ⊥ }
+{
+    let dir = recover.get_str("dir")?;
+    Some(Settings::Recover { dir })
 }
 
 /// The number that a word writes, or the usual one where there is no word; none where it isn't 1 to the largest.
@@ -144,6 +173,7 @@ fn program<'a>(alloc: Global) -> Result<Command<'a>, Error>
 {
     let table = file(alloc, "table", "TABLE", TABLE_HELP);
     let script = file(alloc, "script", "SCRIPT", SCRIPT_HELP);
+    let store = option(alloc, "store", "DIR", STORE_HELP);
     let recent = number(alloc, "recent", RECENT_HELP, MAX_RECENT_COMMITS as u64);
     let limit = number(alloc, "limit", LIMIT_HELP, MAX_ROWS);
     let conflicts = option(alloc, "conflicts", "RULE", CONFLICTS_HELP);
@@ -151,18 +181,24 @@ fn program<'a>(alloc: Global) -> Result<Command<'a>, Error>
         .about(RUN_ABOUT)
         .arg(table)?
         .arg(script)?
+        .arg(store)?
         .arg(recent)?
         .arg(limit)?
         .arg(conflicts)?;
+    let dir = file(alloc, "dir", "DIR", DIR_HELP);
+    let recover = Command::new(alloc, "recover")
+        .about(RECOVER_ABOUT)
+        .arg(dir)?;
     Ok(
         Command::new(alloc, "pdt")
             .about(ABOUT)
             .subcommand_required(true)
-            .subcommand(run)?,
+            .subcommand(run)?
+            .subcommand(recover)?,
     )
 }
 
-/// A file that has to be named, by its place.
+/// A file or a folder that has to be named, by its place.
 fn file<'a>(alloc: Global, id: &'a str, shown: &'a str, help: &'a str) -> Arg<'a>
     ensures rule { rule_of result ≡ placed_rule id.entry.now }
     ensures local { result.global ≡ false }

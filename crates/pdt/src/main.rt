@@ -1,13 +1,28 @@
-//! The program: takes the words, reads the files, prints what the run leaves, and ends with its status.
+//! The program: takes the words, reads the files, makes the devices of a store, prints what a run or a store leaves, and
+//! ends with its status.
 #![tactic(auto)]
 
-use pdtcli::{FileFault, OpenOptions, Settings, read_words, run_texts, status_of};
-use std::process::ExitCode;
-use std::rt::{Env, Files};
-use std::{env, fs, io};
+ghost use Rattle.std.specs.Prelude.{◌≡◌, IfOk};
 
-/// The status of a command line that asks for no run.
+mod files;
+
+use crate::files::{bytes_of, column_path, header_path, make_column, make_header, stored_bytes};
+use devices::{ColumnDevice, MemColumn, Store, StoreFault, have_failed};
+use pdtcli::{
+    OpenOptions, Refusal, Settings, open_texts, read_header, read_words, recover, run_opened,
+    status_of,
+};
+use std::alloc::Global;
+use std::process::ExitCode;
+use std::sync::{Arc, OnceLock};
+use std::{env, fs, io};
+use values::NoMemory;
+
+/// The status of a command line that asks for nothing.
 const MISUSED: u8 = 2;
+
+/// The generation of a new store's first image.
+const FIRST_GENERATION: u32 = 1;
 
 fn main(rt: HostRuntime) -> ExitCode {
     match answered(&rt) {
@@ -17,8 +32,8 @@ fn main(rt: HostRuntime) -> ExitCode {
     }
 }
 
-/// Does what the words ask for, and gives the status to end with.
-fn answered<R: Env + Files + AllocGlobal + Print + Eprint>(rt: &R) -> io::Result<u8> {
+/// Does what the words ask for, and gives the status to end with. What is refused is told on standard error.
+fn answered(rt: &HostRuntime) -> io::Result<u8> {
     let mut given = Vec::new(rt.alloc());
     for word in env::args(rt)? {
         given.push(word)?;
@@ -28,21 +43,13 @@ fn answered<R: Env + Files + AllocGlobal + Print + Eprint>(rt: &R) -> io::Result
         words.push(word.as_str())?;
     }
     match read_words(rt.alloc(), words.as_slice()) {
-        Ok(
-            Settings::Run {
-                table,
-                script,
-                recent,
-                limit,
-                conflicts,
-            },
-        ) => {
-            let options = OpenOptions {
-                recent,
-                limit,
-                conflicts,
-            };
-            Ok(run(rt, table, script, options))
+        Ok(settings) => {
+            let answer = done(rt, settings);
+            if let Err(refusal) = &answer {
+                // Where even this can't be written, the status alone tells.
+                let _ = eprintln!(rt; "{refusal}");
+            }
+            Ok(status_of(&answer))
         }
         Err(fault) => {
             rt.eprint(&fault)?;
@@ -51,35 +58,76 @@ fn answered<R: Env + Files + AllocGlobal + Print + Eprint>(rt: &R) -> io::Result
     }
 }
 
-/// Runs the script's file over the table's, and gives the status. What is refused is told on standard error.
-fn run<R: Files + AllocGlobal + Print + Eprint>(
-    rt: &R,
-    table: &str,
-    script: &str,
-    options: OpenOptions,
-) -> u8 {
-    let table = fs::read(rt, table);
-    let script = fs::read(rt, script);
-    let mut out = io::writer(rt);
-    let answer = run_texts(
-        rt.alloc(),
-        bytes_of(&table),
-        bytes_of(&script),
-        options,
-        &mut out,
-    );
-    if let Err(refusal) = &answer {
-        // Where even this can't be written, the status alone tells.
-        let _ = eprintln!(rt; "{refusal}");
+/// Does what the settings ask for.
+fn done(rt: &HostRuntime, settings: Settings<'_>) -> Result<u8, Refusal> {
+    match settings {
+        Settings::Run {
+            table,
+            script,
+            store,
+            recent,
+            limit,
+            conflicts,
+        } => {
+            let options = OpenOptions {
+                recent,
+                limit,
+                conflicts,
+            };
+            run(rt, table, script, store, options)
+        }
+        Settings::Recover { dir } => recover_folder(rt, dir),
     }
-    status_of(&answer)
 }
 
-/// A file's bytes, or why they aren't there.
-fn bytes_of(read: &io::Result<Vec<u8>>) -> Result<&[u8], FileFault> {
-    match read {
-        Ok(bytes) => Ok(bytes.as_slice()),
-        Err(fault) if fault.kind() == io::ErrorKind::OutOfMemory => Err(FileFault::NoMemory),
-        Err(_) => Err(FileFault::Unreadable),
+/// Runs the script's file over the table's, with a store in the folder, or in memory where none is named.
+fn run(
+    rt: &HostRuntime,
+    table: &str,
+    script: &str,
+    folder: Option<&str>,
+    options: OpenOptions,
+) -> Result<u8, Refusal> {
+    let alloc = rt.alloc();
+    let table = fs::read(rt, table);
+    let script = fs::read(rt, script);
+    let opened = open_texts(alloc, bytes_of(&table), bytes_of(&script), options)?;
+    if let Some(dir) = folder {
+        make_header(rt, dir, opened.schema())?;
     }
+    let mut devices: Vec<Box<dyn ColumnDevice + Send>> = Vec::new(alloc);
+    for col in 0..opened.schema().width() {
+        match folder {
+            Some(dir) => devices.push(Box::new(alloc, make_column(rt, dir, col)?)?)?,
+            None => devices.push(Box::new(alloc, memory_column(alloc)?)?)?,
+        }
+    }
+    if have_failed(devices.as_slice()) {
+        return Err(Refusal::Store(StoreFault::StoreFailed));
+    }
+    let store = Store::new(alloc, devices, opened.schema(), FIRST_GENERATION)?;
+    run_opened(alloc, opened, store, &mut io::writer(rt))
+}
+
+/// A device in memory, whose bytes nobody reads.
+fn memory_column(alloc: Global) -> Result<MemColumn, NoMemory>
+    ensures { IfOk result (λ column. column.failures ≡ 0) }
+{
+    MemColumn::new(Vec::new(alloc), Arc::new(alloc, OnceLock::new())?)
+}
+
+/// Prints the image that the store in a folder has.
+fn recover_folder(rt: &HostRuntime, dir: &str) -> Result<u8, Refusal> {
+    let alloc = rt.alloc();
+    let header = fs::read(rt, header_path(alloc, dir)?.as_str());
+    let schema = read_header(alloc, bytes_of(&header))?;
+    let mut files = Vec::new(alloc);
+    for col in 0..schema.width() {
+        files.push(fs::read(rt, column_path(alloc, dir, col)?.as_str()))?;
+    }
+    let mut columns = Vec::new(alloc);
+    for file in &files {
+        columns.push(stored_bytes(file)?)?;
+    }
+    recover(alloc, &schema, columns.as_slice(), &mut io::writer(rt))
 }

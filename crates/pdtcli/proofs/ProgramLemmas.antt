@@ -1,26 +1,19 @@
 -- What an opening's answer says of its first fault, and what is so of a refusal that is passed up.
 use Rattle.std.proofs.Common.{◌≡◌, Option, Some, None, Result, Ok, Err, sym, refl, subst}
 use Rattle.std.specs.Prelude.{IfErr, IsErrAnd, IsOkUnless, MatchOption, unwrap_or}
-use Rattle.manager.specs.Managed.{Managed, fault_of_opening}
-use Rattle.pdtcli.specs.Program.{File, Inputs, AreInputs, AreOpened}
+use Rattle.manager.specs.Managed.{Managed}
 use Rattle.manager.specs.declared.fault.OpenFault.{OpenFault}
 use Rattle.manager.specs.declared.fault.OpenFault.TheVariants.{NoMemory}
-use Rattle.pdtcli.specs.declared.program.OpenOptions.{OpenOptions}
 
 -- a refusal is for the first fault, or for want of memory where there is none
 pub refused_for : (first : Option OpenFault) (fault : OpenFault) → MatchOption first (fault ≡ NoMemory) (λ f. ◌≡◌ {A = Result Managed OpenFault} (Err fault) (Err f)) → fault ≡ unwrap_or first NoMemory
 refused_for None fault h = h
 refused_for (Some f) fault h = cc h
 
-no_fault : (first : Option OpenFault) (m : Managed) → MatchOption first (IsOkUnless (Ok m) NoMemory) (λ f. Ok m ≡ Err f) → first ≡ None
+-- what was opened has no fault
+pub no_fault : (first : Option OpenFault) (m : Managed) → MatchOption first (IsOkUnless (Ok m) NoMemory) (λ f. Ok m ≡ Err f) → first ≡ None
 no_fault None m h = refl
 no_fault (Some f) m h = cc h
-
--- what was opened has no fault
-pub opened : (table script : File) (options : OpenOptions) (inputs : Inputs) (m : Managed) → AreInputs table script inputs
-    → MatchOption (fault_of_opening inputs.stable options.recent options.limit) (IsOkUnless (Ok m) NoMemory) (λ f. Ok m ≡ Err f)
-    → AreOpened table script options inputs
-opened table script options inputs m read h = record { read = read; fits = no_fault (fault_of_opening inputs.stable options.recent options.limit) m h }
 
 -- what is so of the refusal is so of the answer that it passes up
 pub passed_up : {T E : Type 0} (answer : Result T E) (refusal : E) (Is : E → Type 0) → IsErrAnd answer (λ e. e ≡ refusal) → Is refusal → IfErr answer Is

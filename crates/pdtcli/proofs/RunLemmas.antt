@@ -14,7 +14,7 @@ use Rattle.inputs.specs.declared.call.Call.{Call}
 use Rattle.inputs.specs.declared.call.Call.TheVariants as call
 use Rattle.inputs.specs.declared.call.ClientCall.{ClientCall}
 use Rattle.pdtcli.specs.declared.reply.Reply.{Reply}
-use Rattle.pdtcli.specs.declared.reply.Reply.TheVariants.{Begun, AlreadyOpen, NotOpen, Wrote, KeyColumn, TextTooLong, Row as Shown, Missing, NoRow, Place, Rows, End, Decided, Aborted, Folded, Cut, NoMemory}
+use Rattle.pdtcli.specs.declared.reply.Reply.TheVariants.{Begun, AlreadyOpen, NotOpen, Wrote, KeyColumn, TextTooLong, Row as Shown, Missing, NoRow, Place, Rows, End, Decided, Aborted, Folded, Stored, DeviceFailed, StoreFailed, GenerationsSpent, Cut, NoMemory}
 use Rattle.pdtcli.specs.declared.reply.ReplyLine.{ReplyLine}
 use Rattle.txn.specs.Txn.{Transaction}
 use Rattle.manager.specs.Managed.{Managed, commits_in, IsDecided, IsOwn, begun_at, record_of, with_record, cut_of}
@@ -69,6 +69,10 @@ record SideKeeps (old new : Side) : Type 0 where
   keeps : Keeps old.manager new.manager
   own : IfSome new.own (IsOwn new.manager)
 
+-- a side whose manager is as it was
+pub side_kept : (old new : Managed) (own : Option Transaction) → new ≡ old → ◌≡◌ {A = Side} (record { manager = new; own = own }) (record { manager = old; own = own })
+side_kept old new own h = λ j. record { manager = h j; own = own }
+
 side_same : (old new : Side) → IfSome old.own (IsOwn old.manager) → new ≡ old → SideKeeps old new
 side_same old new own is = subst (SideKeeps old) (sym is) (record { keeps = keeps_same old.manager old.manager refl; own = own })
 
@@ -95,6 +99,10 @@ begin_keeps client old new (Place below there) own h = absurd h
 begin_keeps client old new (Rows count) own h = absurd h
 begin_keeps client old new (End count) own h = absurd h
 begin_keeps client old new Folded own h = absurd h
+begin_keeps client old new (Stored generation) own h = absurd h
+begin_keeps client old new (DeviceFailed i) own h = absurd h
+begin_keeps client old new StoreFailed own h = absurd h
+begin_keeps client old new GenerationsSpent own h = absurd h
 begin_keeps client old new (Cut count) own h = absurd h
 
 write_keeps : (txn : Transaction) (write : Write) (old new : Side) (reply : Reply) → IsOwn old.manager txn → IfSome old.own (IsOwn old.manager) → OpenWriteStep txn write old reply new → SideKeeps old new
@@ -114,6 +122,10 @@ write_keeps txn write old new (Place below there) mine own h = absurd h
 write_keeps txn write old new (Rows count) mine own h = absurd h
 write_keeps txn write old new (End count) mine own h = absurd h
 write_keeps txn write old new Folded mine own h = absurd h
+write_keeps txn write old new (Stored generation) mine own h = absurd h
+write_keeps txn write old new (DeviceFailed i) mine own h = absurd h
+write_keeps txn write old new StoreFailed mine own h = absurd h
+write_keeps txn write old new GenerationsSpent mine own h = absurd h
 write_keeps txn write old new (Cut count) mine own h = absurd h
 
 commit_keeps : (txn : Transaction) (old new : Side) (reply : Reply) → IfSome old.own (IsOwn old.manager) → OpenCommitStep txn old reply new → SideKeeps old new
@@ -133,6 +145,10 @@ commit_keeps txn old new (Place below there) own h = absurd h
 commit_keeps txn old new (Rows count) own h = absurd h
 commit_keeps txn old new (End count) own h = absurd h
 commit_keeps txn old new Folded own h = absurd h
+commit_keeps txn old new (Stored generation) own h = absurd h
+commit_keeps txn old new (DeviceFailed i) own h = absurd h
+commit_keeps txn old new StoreFailed own h = absurd h
+commit_keeps txn old new GenerationsSpent own h = absurd h
 commit_keeps txn old new (Cut count) own h = absurd h
 
 cut_own : (m : Managed) (own : Option Transaction) → IfSome own (IsOwn m) → IfSome own (IsOwn (cut_of m))
@@ -153,6 +169,7 @@ step_keeps client call.Commit m (Some txn) new rows reply own h = commit_keeps t
 step_keeps client call.Abort m None new rows reply own h = side_same _ new own h.1.1
 step_keeps client call.Abort m (Some txn) new rows reply own h = side_with _ None tt new h.1.1
 step_keeps client call.Fold m mine new rows reply own h = side_same _ new own h.1.1
+step_keeps client call.Checkpoint m mine new rows reply own h = side_same _ new own h.1
 step_keeps client call.Cut m mine new rows reply own h = cut_keeps _ new own h.1.1
 
 if_some : (old new : Managed) → Keeps old new → (own : Option Transaction) → IfSome own (IsOwn old) → IfSome own (IsOwn new)

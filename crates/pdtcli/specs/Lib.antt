@@ -2,6 +2,7 @@ pub mod Outcome
 pub mod Output
 pub mod Program
 pub mod Reads
+pub mod Recovery
 pub mod Ready
 pub mod Refusals
 pub mod Replies

@@ -70,13 +70,16 @@ shown left =
 
 -- ---- the exit status
 
-abbrev pub is_no_memory : ReplyLine → Bool
-is_no_memory line = found line.reply
+abbrev pub is_refused : ReplyLine → Bool
+is_refused line = found line.reply
   where
     found : Reply → Bool
     found reply.NoMemory = true
+    found (reply.DeviceFailed device) = true
+    found reply.StoreFailed = true
+    found reply.GenerationsSpent = true
     found other = false
 
--- 1 where some reply is NoMemory
+-- 1 where some reply tells that memory or the store was refused
 abbrev pub exit_status : List ReplyLine → ℕ
-exit_status lines = cond (list_any is_no_memory lines) 1 0
+exit_status lines = cond (list_any is_refused lines) 1 0

@@ -6,13 +6,15 @@ use Rattle.values.specs.Shape.{Columns}
 use Rattle.stable.specs.Stable.{Stable}
 use Rattle.txn.specs.Txn.{Transaction}
 use Rattle.inputs.specs.Input.{IsTableOf, IsFaultOf}
+use Rattle.devices.specs.Appending.{Taken}
 use Rattle.inputs.specs.Script.{IsScriptOf, IsScriptFaultOf}
+use Rattle.inputs.specs.Typed.{Typed}
 use Rattle.inputs.specs.declared.call.ClientCall.{ClientCall}
 use Rattle.inputs.specs.declared.fault.ScriptFault.{ScriptFault}
 use Rattle.inputs.specs.declared.fault.ScriptFault.TheVariants as script_fault
 use Rattle.inputs.specs.declared.fault.TableFault.{TableFault}
 use Rattle.inputs.specs.declared.fault.TableFault.TheVariants as table_fault
-use Rattle.manager.specs.Managed.{fault_of_opening, opened}
+use Rattle.manager.specs.Managed.{Managed, fault_of_opening, opened}
 use Rattle.pdtcli.specs.Outcome.{Left}
 use Rattle.pdtcli.specs.Run.{IsRun, State}
 use Rattle.manager.specs.declared.fault.OpenFault.TheVariants as open_fault
@@ -49,27 +51,31 @@ pub record AreInputs (table script : File) (inputs : Inputs) : Type 0 where
   pub table_read : HasTable table inputs.stable
   pub script_read : HasScript inputs.stable.schema script inputs.clients inputs.calls
 
--- they are read, and the table may be opened so
-pub record AreOpened (table script : File) (options : OpenOptions) (inputs : Inputs) : Type 0 where
-  pub read : AreInputs table script inputs
-  pub fits : fault_of_opening inputs.stable options.recent options.limit ≡ None
+-- ---- the opening and the run
 
--- ---- the run
+-- the manager of the table that the one file says, opened so, and the script of the other
+pub record IsOpening (table script : File) (options : OpenOptions) (manager : Managed) (typed : Typed) : Type 0 where
+  pub stable : Stable
+  pub read : AreInputs table script (record { stable = stable; clients = typed.clients; calls = typed.calls })
+  pub fits : fault_of_opening stable options.recent options.limit ≡ None
+  pub manager_is : manager ≡ opened stable options.limit options.recent options.conflicts
 
--- the table opened so, and no transaction open
-abbrev pub start_of : OpenOptions → Inputs → State
-start_of options inputs = record {
-  manager = opened inputs.stable options.limit options.recent options.conflicts;
-  transactions = replicate (length inputs.clients) None;
-}
+-- the manager and the store, and no transaction open
+abbrev pub start_of : Managed → Typed → Taken → State
+start_of manager script store = record { manager = manager; transactions = replicate (length script.clients) None; store = store }
 
--- this is left of a run of the script's calls over the table, from no transaction open on
-pub record IsRunOf (table script : File) (options : OpenOptions) (left : Left) : Type 0 where
-  pub inputs : Inputs
+-- this is left of a run of the script's calls from there on
+pub record IsRunFrom (manager : Managed) (script : Typed) (store : Taken) (left : Left) : Type 0 where
   pub transactions : List (Option Transaction)
-  pub begun : AreOpened table script options inputs
-  pub clients : left.clients ≡ inputs.clients
-  pub run : IsRun (start_of options inputs) inputs.calls left.lines (record { manager = left.manager; transactions = transactions })
+  pub after : Taken
+  pub clients : left.clients ≡ script.clients
+  pub run : IsRun (start_of manager script store) script.calls left.lines (record { manager = left.manager; transactions = transactions; store = after })
+
+-- the run has no place for its replies, or what it leaves isn't written whole
+abbrev pub IsRunRefusal : Managed → Typed → Taken → Refusal → Type 0
+IsRunRefusal manager script store (Run fault) = Unit {0}
+IsRunRefusal manager script store (Output fault) = (left : Left) × IsRunFrom manager script store left
+IsRunRefusal manager script store refusal = ⊥
 
 -- ---- refusals
 
@@ -94,7 +100,7 @@ IsScriptRefusal schema script UnreadableScript = script ≡ Err file.Unreadable
 IsScriptRefusal schema script (Script fault) = IsScriptFault schema script fault
 IsScriptRefusal schema script refusal = ⊥
 
--- the first part that is refused, with its fault; the parts before it are not refused
+-- the first part that is refused before a run, with its fault; the parts before it are not refused
 abbrev pub IsRefusalOf : File → File → OpenOptions → Refusal → Type 0
 IsRefusalOf table script options UnreadableTable = IsTableRefusal table UnreadableTable
 IsRefusalOf table script options (Table fault) = IsTableRefusal table (Table fault)
@@ -104,8 +110,7 @@ IsRefusalOf table script options (Script fault) =
     (stable : Stable) × HasTable table stable × IsScriptRefusal stable.schema script (Script fault)
 IsRefusalOf table script options (Open fault) =
     (inputs : Inputs) × AreInputs table script inputs × (fault ≡ unwrap_or (fault_of_opening inputs.stable options.recent options.limit) open_fault.NoMemory)
-IsRefusalOf table script options (Run fault) = (inputs : Inputs) × AreOpened table script options inputs
-IsRefusalOf table script options (Output fault) = (left : Left) × IsRunOf table script options left
+IsRefusalOf table script options refusal = ⊥
 
 -- ---- the status
 

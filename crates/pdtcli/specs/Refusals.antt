@@ -16,6 +16,11 @@ part_text (refusal.Table fault) = codes "table"
 part_text refusal.UnreadableScript = codes "script"
 part_text (refusal.Script fault) = codes "script"
 part_text (refusal.Open fault) = codes "open"
+part_text refusal.CannotMake = codes "store"
+part_text (refusal.Store fault) = codes "store"
+part_text refusal.UnreadableStore = codes "store"
+part_text (refusal.Header fault) = codes "store"
+part_text (refusal.Columns fault) = codes "store"
 part_text (refusal.Run fault) = codes "run"
 part_text (refusal.Output fault) = codes "output"
 
@@ -26,6 +31,11 @@ fault_text (refusal.Table fault) = None
 fault_text refusal.UnreadableScript = Some (codes "Unreadable")
 fault_text (refusal.Script fault) = None
 fault_text (refusal.Open fault) = None
+fault_text refusal.CannotMake = Some (codes "CannotMake")
+fault_text (refusal.Store fault) = None
+fault_text refusal.UnreadableStore = Some (codes "Unreadable")
+fault_text (refusal.Header fault) = None
+fault_text (refusal.Columns fault) = None
 fault_text (refusal.Run fault) = Some (codes "NoMemory")
 fault_text (refusal.Output fault) = Some (show_fault_text fault)
 

@@ -46,6 +46,10 @@ reply_fields (reply.End count) = codes "End" ∷ decimal count ∷ []
 reply_fields (reply.Decided answer) = commit_fields answer
 reply_fields reply.Aborted = codes "Aborted" ∷ []
 reply_fields reply.Folded = codes "Done" ∷ []
+reply_fields (reply.Stored generation) = codes "Done" ∷ decimal generation ∷ []
+reply_fields (reply.DeviceFailed device) = codes "DeviceFailed" ∷ decimal device ∷ []
+reply_fields reply.StoreFailed = codes "StoreFailed" ∷ []
+reply_fields reply.GenerationsSpent = codes "GenerationsSpent" ∷ []
 reply_fields (reply.Cut count) = codes "Done" ∷ decimal count ∷ []
 reply_fields reply.NoMemory = codes "NoMemory" ∷ []
 

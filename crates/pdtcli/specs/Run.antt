@@ -1,5 +1,5 @@
 -- A serial run: what each call may be answered, and what it leaves.
-use Rattle.std.specs.Prelude.{◌≡◌, ◌⊎◌, ℕ, ◌+◌, ◌==◌, Bool, true, false, ◌&&◌, cond, Option, Some, None, IsNone, IsSome, List, [], ◌∷◌, ◌++◌, map, filter, length, get_or, set, slice_get, slice_set}
+use Rattle.std.specs.Prelude.{◌≡◌, ◌⊎◌, ℕ, ◌+◌, ◌==◌, Bool, true, false, ◌&&◌, cond, Option, Some, None, IsNone, IsSome, Result, Ok, Err, List, [], ◌∷◌, ◌++◌, map, filter, length, get_or, set, slice_get, slice_set}
 use Rattle.values.specs.Shape.{Columns, row_fault, key_fault, cell_fault, or_fault}
 use Rattle.values.specs.declared.fault.ShapeFault.{ShapeFault}
 use Rattle.values.specs.declared.fault.ShapeFault.TheVariants as shape
@@ -12,13 +12,17 @@ use Rattle.inputs.specs.declared.call.Read.{Read}
 use Rattle.inputs.specs.declared.call.Read.TheVariants.{Get, At, Rank, Len, Scan}
 use Rattle.inputs.specs.declared.call.ClientCall.{ClientCall}
 use Rattle.pdtcli.specs.declared.reply.Reply.{Reply}
-use Rattle.pdtcli.specs.declared.reply.Reply.TheVariants.{Begun, AlreadyOpen, NotOpen, Wrote, KeyColumn, TextTooLong, Row as Shown, Decided, Aborted, Folded, Cut, NoMemory}
+use Rattle.pdtcli.specs.declared.reply.Reply.TheVariants.{Begun, AlreadyOpen, NotOpen, Wrote, KeyColumn, TextTooLong, Row as Shown, Decided, Aborted, Folded, Stored, DeviceFailed, StoreFailed, GenerationsSpent, Cut, NoMemory}
 use Rattle.pdtcli.specs.declared.reply.ReplyLine.{ReplyLine}
 use Rattle.inputs.specs.declared.verb.Verb.{Verb}
 use Rattle.inputs.specs.declared.verb.Verb.TheVariants as verb
 use Rattle.txn.specs.Txn.{Transaction, with_write, answer_to}
 use Rattle.pdtcli.specs.Reads.{ReadStep}
-use Rattle.manager.specs.Managed.{Managed, begun_at, reply_due, record_of, with_record, cut_of}
+use Rattle.devices.specs.Appending.{MayFollow, Stores, Taken}
+use Rattle.manager.specs.Checkpoint.{Checkpoints, answer_of_store}
+use Rattle.manager.specs.Managed.{Managed, begun_at, newest_stable, reply_due, record_of, with_record, cut_of}
+use Rattle.manager.specs.declared.fault.CheckpointFault.{CheckpointFault}
+use Rattle.manager.specs.declared.fault.CheckpointFault.TheVariants as checkpoint
 
 -- ---- one client's side
 
@@ -84,14 +88,46 @@ SideStep client (call.Read read) old rows reply new = ReadStep old.own read rows
 SideStep client call.Commit old rows reply new = (rows ≡ []) × CommitStep old.own old reply new
 SideStep client call.Abort old rows reply new = (rows ≡ []) × AbortStep old.own old reply new
 SideStep client call.Fold old rows reply new = (rows ≡ []) × FoldStep old reply new
+SideStep client call.Checkpoint old rows reply new = (rows ≡ []) × (new ≡ old)
 SideStep client call.Cut old rows reply new = (rows ≡ []) × CutStep old reply new
+
+-- ---- the store
+
+-- the reply that tells how a checkpoint was answered
+abbrev pub checkpoint_reply : Result ℕ CheckpointFault → Reply
+checkpoint_reply (Ok generation) = Stored generation
+checkpoint_reply (Err checkpoint.StoreFailed) = StoreFailed
+checkpoint_reply (Err checkpoint.GenerationsSpent) = GenerationsSpent
+checkpoint_reply (Err checkpoint.NoMemory) = NoMemory
+checkpoint_reply (Err (checkpoint.DeviceFailed i)) = DeviceFailed i
+
+-- the store is offered the newest table, and the reply tells what it answers. Where an image may follow what its devices
+-- took, they store that table under its generation then; after a failure what they stored before, or that
+pub record CheckpointStep (m : Managed) (old : Taken) (reply : Reply) (new : Taken) : Type 0 where
+  pub answer : Result ℕ CheckpointFault
+  pub told : reply ≡ checkpoint_reply answer
+  pub offered : Checkpoints m old answer new
+  pub stored : MayFollow m.schema old → Stores m.schema (newest_stable m) old (answer_of_store answer) new
+  pub ready : MayFollow m.schema old → MayFollow m.schema new
+
+-- a checkpoint alone writes to the store
+abbrev pub StoreStep : Call → Managed → Taken → Reply → Taken → Type 0
+StoreStep call.Begin m old reply new = new ≡ old
+StoreStep (call.Write write) m old reply new = new ≡ old
+StoreStep (call.Read read) m old reply new = new ≡ old
+StoreStep call.Commit m old reply new = new ≡ old
+StoreStep call.Abort m old reply new = new ≡ old
+StoreStep call.Fold m old reply new = new ≡ old
+StoreStep call.Checkpoint m old reply new = CheckpointStep m old reply new
+StoreStep call.Cut m old reply new = new ≡ old
 
 -- ---- all clients
 
--- the manager, and each client's transaction
+-- the manager, each client's transaction, and the store
 pub record State : Type 0 where
   pub manager : Managed
   pub transactions : List (Option Transaction)
+  pub store : Taken
 
 abbrev pub joined : Option (Option Transaction) → Option Transaction
 joined None = None
@@ -101,9 +137,10 @@ joined (Some own) = own
 abbrev pub side_of : State → ℕ → Side
 side_of state client = record { manager = state.manager; own = joined (slice_get state.transactions client) }
 
--- the state with another side of the client
-abbrev pub with_side : State → ℕ → Side → State
-with_side state client side = record { manager = side.manager; transactions = slice_set state.transactions client side.own }
+-- the state with another side of the client, and another store
+abbrev pub with_side : State → ℕ → Side → Taken → State
+with_side state client side store =
+    record { manager = side.manager; transactions = slice_set state.transactions client side.own; store = store }
 
 -- the verb of a call
 abbrev pub verb_of_write : Write → Verb
@@ -125,6 +162,7 @@ verb_of_call (call.Read read) = verb_of_read read
 verb_of_call call.Commit = verb.Commit
 verb_of_call call.Abort = verb.Abort
 verb_of_call call.Fold = verb.Fold
+verb_of_call call.Checkpoint = verb.Checkpoint
 verb_of_call call.Cut = verb.Cut
 
 -- the line of a call's reply
@@ -143,14 +181,16 @@ lines_of asked rows reply = shown_lines asked rows ++ line_of asked reply ∷ []
 abbrev pub IsServed : ClientCall → Side → List ReplyLine → Reply → List ReplyLine → Side → Type 0
 IsServed asked old before reply after new = (rows : List Row) × SideStep asked.client asked.call old rows reply new × (after ≡ before ++ shown_lines asked rows)
 
--- the call's client takes a step, which leaves the others, and the lines tell it
+-- the call's client takes a step, which leaves the others, the store takes its own, and the lines tell them
 pub record Step (old : State) (asked : ClientCall) (lines : List ReplyLine) (new : State) : Type 0 where
   pub rows : List Row
   pub reply : Reply
   pub side : Side
+  pub store : Taken
   pub steps : SideStep asked.client asked.call (side_of old asked.client) rows reply side
+  pub writes : StoreStep asked.call old.manager old.store reply store
   pub told : lines ≡ lines_of asked rows reply
-  pub left : new ≡ with_side old asked.client side
+  pub left : new ≡ with_side old asked.client side store
 
 -- the lines of each call, in order
 abbrev pub IsRun : State → List ClientCall → List ReplyLine → State → Type 0

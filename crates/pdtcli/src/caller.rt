@@ -1,18 +1,20 @@
 //! One client's side of a run: the transaction that it has open, and the reply to each of its calls.
-ghost use Rattle.std.specs.Prelude.{◌≡◌, ◌≤◌, ◌+◌, ◌++◌, List, Option, Some, None, IfOk, IfErr, OnErr, IsTrue, IfSome, vec_len, vec_capacity};
+ghost use Rattle.std.specs.Prelude.{◌≡◌, ◌≤◌, ◌+◌, ◌++◌, List, Option, Some, None, IfOk, IfErr, OnErr, IsTrue, IfSome, map, vec_len, vec_capacity};
+ghost use Rattle.devices.specs.Store.{have_failed};
 ghost use Rattle.values.specs.declared.row.Row.{Row};
 ghost use Rattle.pdtcli.specs.Reads.{ReadStep};
 ghost use Rattle.pdtcli.specs.declared.reply.Reply.TheVariants as reply;
 ghost use Rattle.inputs.specs.Typed.{is_typed_call, is_typed_read, is_typed_write};
 ghost use Rattle.txn.specs.Txn.{IsAnswered, Transaction};
 ghost use Rattle.manager.specs.Managed.{Managed, IsOwn};
-ghost use Rattle.pdtcli.specs.Run.{IsServed, shown_lines, BeginStep, WriteStep, OpenWriteStep, CommitStep, AbortStep, FoldStep, CutStep};
+ghost use Rattle.pdtcli.specs.Run.{IsServed, shown_lines, BeginStep, WriteStep, OpenWriteStep, CommitStep, AbortStep, CheckpointStep, FoldStep, CutStep, StoreStep, checkpoint_reply};
 ghost use Rattle.pdtcli.specs.Told.{IsCause, IsTold, IsToldAs};
 
 use crate::reads::read_in;
 use crate::reply::{Reply, ReplyLine};
+use devices::{ColumnDevice, Store};
 use inputs::{Call, ClientCall, Read};
-use manager::Manager;
+use manager::{CheckpointFault, Manager};
 use model::{Write, WriteReply};
 use std::marker::Model;
 use txn::{Txn, WriteFault};
@@ -55,13 +57,17 @@ impl Caller {
         &mut self,
         asked: &ClientCall,
         manager: &mut Manager,
+        store: &mut Store,
         lines: &mut Vec<ReplyLine>,
         left: usize,
     ) -> Reply
         requires own { IfSome self.old (IsOwn manager.old) }
         requires typed { IfSome self.old (λ txn. IsTrue (is_typed_call txn.schema asked.now.call)) }
+        requires schema { store.old.schema ≡ manager.old.schema }
         requires room { vec_len lines.old + left ≤ vec_capacity lines.old }
         ensures step { IsServed asked.now (record { manager = manager.old; own = self.old }) lines.old.items result lines.new.items (record { manager = manager.new; own = self.new }) }
+        ensures stored { StoreStep asked.now.call manager.old (record { contents = map (λ b. contents (b.vtable, b.value)) store.old.devices.items; failed = have_failed (map (λ b. failures (b.vtable, b.value)) store.old.devices.items); next = store.old.next }) result (record { contents = map (λ b. contents (b.vtable, b.value)) store.new.devices.items; failed = have_failed (map (λ b. failures (b.vtable, b.value)) store.new.devices.items); next = store.new.next }) }
+        ensures schema { store.new.schema ≡ store.old.schema }
         ensures room { vec_len lines.new + left ≤ vec_capacity lines.new }
     {
         match &asked.call {
@@ -71,6 +77,7 @@ impl Caller {
             Call::Commit => self.commit(manager),
             Call::Abort => self.abort(),
             Call::Fold => fold(manager),
+            Call::Checkpoint => checkpoint(manager, store),
             Call::Cut => cut(manager),
         }
     }
@@ -167,6 +174,29 @@ fn fold(manager: &mut Manager) -> Reply
     match manager.fold() {
         Ok(()) => Reply::Folded,
         Err(NoMemory) => Reply::NoMemory,
+    }
+}
+
+/// Writes the newest image to the store.
+fn checkpoint(manager: &mut Manager, store: &mut Store) -> Reply
+    requires { store.old.schema ≡ manager.old.schema }
+    ensures kept { manager.new ≡ manager.old }
+    ensures stored { CheckpointStep manager.old (record { contents = map (λ b. contents (b.vtable, b.value)) store.old.devices.items; failed = have_failed (map (λ b. failures (b.vtable, b.value)) store.old.devices.items); next = store.old.next }) result (record { contents = map (λ b. contents (b.vtable, b.value)) store.new.devices.items; failed = have_failed (map (λ b. failures (b.vtable, b.value)) store.new.devices.items); next = store.new.next }) }
+    ensures schema { store.new.schema ≡ store.old.schema }
+{
+    reply_of(manager.checkpoint(store))
+}
+
+/// The reply that tells how a checkpoint was answered.
+fn reply_of(answer: Result<u32, CheckpointFault>) -> Reply
+    ensures { result ≡ checkpoint_reply answer }
+{
+    match answer {
+        Ok(generation) => Reply::Stored(generation),
+        Err(CheckpointFault::StoreFailed) => Reply::StoreFailed,
+        Err(CheckpointFault::GenerationsSpent) => Reply::GenerationsSpent,
+        Err(CheckpointFault::NoMemory) => Reply::NoMemory,
+        Err(CheckpointFault::DeviceFailed(i)) => Reply::DeviceFailed(i),
     }
 }
 

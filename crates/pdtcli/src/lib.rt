@@ -6,7 +6,7 @@
 //! refusal is of the first part that is refused, by its own first fault.
 //!
 //! *What it stands on.* `values` for schemas, rows and limits, `model` for tables, writes and histories, `stable` for the
-//! table, `txn` for transactions, `manager` for commits, `inputs` for what the program is given, `csv` for
+//! table, `txn` for transactions, `devices` for stores, `manager` for commits, `inputs` for what the program is given, `csv` for
 //! records, `itoa` for numbers, and `thiserror` for what a fault shows.
 #![tactic(auto)]
 
@@ -16,18 +16,21 @@ mod outcome;
 mod output;
 mod program;
 mod reads;
+mod recovery;
 mod refusal;
 mod reply;
 mod serial;
 
+pub use devices::{ReadFault, Store, StoreFault, StoredImage};
 pub use inputs::{
     Call, ClientCall, Script, ScriptFault, Settings, TableFault, Verb, load_table, read_script,
     read_table, read_words,
 };
 pub use manager::{Manager, OpenFault};
-pub use outcome::Outcome;
-pub use output::{ShowFault, show};
-pub use program::{FileFault, OpenOptions, run_texts, status_of};
+pub use outcome::{Left, Outcome};
+pub use output::{ShowFault, header_of, show, show_store};
+pub use program::{FileFault, OpenOptions, Opened, open_texts, run_opened, status_of};
+pub use recovery::{read_header, recover};
 pub use refusal::Refusal;
 pub use reply::{Reply, ReplyLine};
 pub use serial::run_serial;

@@ -1,15 +1,25 @@
-//! What a run leaves: the reply lines of its calls, the manager, how many commits each client was answered, and how many
-//! records were handed out.
+//! What a run leaves: the reply lines of its calls, the manager, how many commits each client was answered, how many
+//! records were handed out, and the store.
 ghost use Rattle.std.specs.Prelude.{◌≡◌};
 
 use crate::reply::ReplyLine;
+use devices::Store;
 use manager::Manager;
 use std::marker::Model;
 use values::Text;
 
-/// The reply lines of a run in order, with what it leaves.
+/// What a run leaves. The store stands beside the rest, which contracts see as one value.
 #[derive(Drop)]
 pub struct Outcome {
+    /// The reply lines, the manager and what was counted.
+    pub left: Left,
+    /// The store, as the checkpoints of the run left it.
+    pub store: Store,
+}
+
+/// The reply lines of a run in order, with the manager and what was counted.
+#[derive(Drop)]
+pub struct Left {
     /// The clients' names, in order of first appearance.
     clients: Vec<Text>,
     lines: Vec<ReplyLine>,
@@ -20,26 +30,26 @@ pub struct Outcome {
     handed: u64,
 }
 
-impl Model for Outcome {
-    ghost use Rattle.pdtcli.specs.Outcome.{Left};
+impl Model for Left {
+    ghost use Rattle.pdtcli.specs.Outcome.{Left as WhatIsLeft};
 
-    ghost Value = { Left };
+    ghost Value = { WhatIsLeft };
 
     ghost view = { λ o. record { clients = o.clients.items; lines = o.lines.items; manager = o.manager; counts = o.counts.items; handed = o.handed } };
 }
 
-impl Outcome {
-    /// The outcome of these parts. Takes no memory.
+impl Left {
+    /// What is left, of these parts. Takes no memory.
     pub(crate) fn new(
         clients: Vec<Text>,
         lines: Vec<ReplyLine>,
         manager: Manager,
         counts: Vec<u64>,
         handed: u64,
-    ) -> Outcome
+    ) -> Left
         ensures { result ≡ record { clients = clients.items; lines = lines.items; manager = manager; counts = counts.items; handed = handed } }
     {
-        Outcome {
+        Left {
             clients,
             lines,
             manager,

@@ -1,4 +1,5 @@
-//! The output of a run: its reply lines, an empty line, and the newest image with its header.
+//! The output of a run: its reply lines, an empty line, and the newest image with its header. And that of a store: the image
+//! that it has.
 //!
 //! The image is walked as its layers lend it, row by row. Text is made of a few hundred records and handed on before more
 //! is made, so that the memory that it takes does not grow with the table.
@@ -7,7 +8,7 @@ ghost use Rattle.std.specs.Io.KnownBytes.{Appends};
 ghost use Rattle.csv.specs.Records.{fields_of};
 ghost use Rattle.values.specs.declared.limits.TheConstants.{MAX_ROWS};
 ghost use Rattle.merge.specs.Image.{image_rows};
-ghost use Rattle.pdtcli.specs.Output.{IsWritten, exit_status, image_text, is_no_memory, lines_text, record_text, rows_text, shown};
+ghost use Rattle.pdtcli.specs.Output.{IsWritten, exit_status, image_text, is_refused, lines_text, record_text, rows_text, shown};
 ghost use Rattle.pdtcli.specs.Refusals.{show_fault_text};
 ghost use Rattle.pdtcli.specs.declared.output.ShowFault.TheVariants as show_fault;
 
@@ -15,6 +16,8 @@ use crate::image::{push_header, push_row};
 use crate::outcome::Outcome;
 use crate::reply::{Reply, ReplyLine, push_line};
 use csv::{ByteRecord, Writer, WriterBuilder};
+use delta::DeltaTree;
+use devices::StoredImage;
 use merge::{Layers, MergeScan};
 use std::alloc::Global;
 use std::error::Error;
@@ -58,20 +61,51 @@ impl From<NoMemory> for ShowFault {
 
 /// Writes the reply lines in order, an empty line, and the newest image with its header, all as the crate `csv` writes
 /// records, with quotes where a field needs them. Answers the program's exit status: 1 where some reply is NoMemory,
-/// and 0 otherwise.
+/// DeviceFailed, StoreFailed or GenerationsSpent, and 0 otherwise.
 ///
 /// # Errors
 ///
 /// `Write` where the writer refuses, `NoMemory` where a growth is refused; some of the output may have gone out.
 pub fn show<W: Write>(alloc: Global, outcome: &Outcome, out: &mut W) -> Result<u8, ShowFault>
-    ensures bytes { OnOk result (Appends (W.contents out.old) (W.contents out.new) (shown outcome.now)) }
-    ensures status { IfOk result (λ status. status ≡ exit_status outcome.now.lines) }
+    ensures bytes { OnOk result (Appends (W.contents out.old) (W.contents out.new) (shown outcome.now.left)) }
+    ensures status { IfOk result (λ status. status ≡ exit_status outcome.now.left.lines) }
 {
-    let newest = outcome.manager().newest();
-    show_lines(alloc, outcome.clients(), outcome.lines(), out)?;
+    let left = &outcome.left;
+    let newest = left.manager().newest();
+    show_lines(alloc, left.clients(), left.lines(), out)?;
     show_header(alloc, newest.schema(), out)?;
     show_rows(alloc, &newest, out)?;
-    Ok(status_of(outcome.lines()))
+    Ok(status_of(left.lines()))
+}
+
+/// Writes the image that a store has, with the header of these columns, as the crate `csv` writes records.
+///
+/// # Errors
+///
+/// `Write` where the writer refuses, `NoMemory` where a growth is refused; some of the output may have gone out.
+pub fn show_store<W: Write>(
+    alloc: Global,
+    schema: &Schema,
+    image: &StoredImage,
+    out: &mut W,
+) -> Result<(), ShowFault>
+    ensures { OnOk result (Appends (W.contents out.old) (W.contents out.new) (image_text schema.now image.now.table.rows)) }
+{
+    let mut text = header_of(alloc, schema)?;
+    send(&mut text, out)?;
+    let none = DeltaTree::new(alloc, image.table.schema().key_cols());
+    show_rows(alloc, &Layers::new(&image.table, &none, &none, &none), out)
+}
+
+/// The header record of these columns.
+///
+/// # Errors
+///
+/// `NoMemory` where a growth is refused.
+pub fn header_of(alloc: Global, schema: &Schema) -> Result<Vec<u8>, NoMemory>
+    ensures { IfOk result (λ text. text.items ≡ image_text schema.now []) }
+{
+    header_after(alloc, schema, Vec::new(alloc))
 }
 
 /// The exit status of a run that was answered so.
@@ -86,11 +120,14 @@ fn status_of(lines: &[ReplyLine]) -> u8
     0
 }
 
-/// Whether a call was refused for want of memory.
+/// Whether a call was refused for want of memory, or by the store.
 fn is_refused(line: &ReplyLine) -> bool
-    ensures { result ≡ is_no_memory line.now }
+    ensures { result ≡ is_refused line.now }
 {
-    matches!(line.reply, Reply::NoMemory)
+    matches!(
+        line.reply,
+        Reply::NoMemory | Reply::DeviceFailed(_) | Reply::StoreFailed | Reply::GenerationsSpent
+    )
 }
 
 /// Writes the reply lines.
@@ -115,7 +152,7 @@ fn show_lines<W: Write>(
 fn show_header<W: Write>(alloc: Global, schema: &Schema, out: &mut W) -> Result<(), ShowFault>
     ensures { OnOk result (Appends (W.contents out.old) (W.contents out.new) (10 ∷ [] ++ image_text schema.now [])) }
 {
-    let mut text = header_text(alloc, schema)?;
+    let mut text = line_and_header(alloc, schema)?;
     send(&mut text, out)
 }
 
@@ -156,12 +193,19 @@ fn lines_after(
 }
 
 /// The empty line and the header.
-fn header_text(alloc: Global, schema: &Schema) -> Result<Vec<u8>, NoMemory>
+fn line_and_header(alloc: Global, schema: &Schema) -> Result<Vec<u8>, NoMemory>
     ensures { IfOk result (λ text. text.items ≡ 10 ∷ [] ++ image_text schema.now []) }
+{
+    header_after(alloc, schema, Vec::from_slice(alloc, b"\n")?)
+}
+
+/// The text, and after it the header.
+fn header_after(alloc: Global, schema: &Schema, text: Vec<u8>) -> Result<Vec<u8>, NoMemory>
+    ensures { IfOk result (λ longer. longer.items ≡ text.items ++ image_text schema.now []) }
 {
     let mut fields = ByteRecord::new(alloc);
     push_header(alloc, &mut fields, schema)?;
-    let mut writer = records_after(Vec::from_slice(alloc, b"\n")?);
+    let mut writer = records_after(text);
     put(&mut writer, &fields)?;
     text_of(writer)
 }

@@ -1,15 +1,17 @@
 //! What the program does with the bytes of its files: it reads them, runs the script over the table, and shows what the
-//! run leaves.
-ghost use Rattle.std.specs.Prelude.{◌≡◌, false, IfErr, IfOk};
+//! run leaves; or it reads a store, and shows the image that it has.
+ghost use Rattle.std.specs.Prelude.{◌≡◌, false, map, IfErr, IfOk};
 ghost use Rattle.std.specs.Io.KnownBytes.{Appends};
+ghost use Rattle.devices.specs.Store.{have_failed};
 ghost use Rattle.pdtcli.specs.Outcome.{Left};
 ghost use Rattle.pdtcli.specs.Output.{exit_status, shown};
-ghost use Rattle.pdtcli.specs.Program.{bytes_of, status_of, HasScript, HasTable, IsRefusalOf, IsRunOf, IsScriptRefusal, IsTableRefusal};
+ghost use Rattle.pdtcli.specs.Program.{bytes_of, status_of, HasScript, HasTable, IsOpening, IsRefusalOf, IsRunFrom, IsRunRefusal, IsScriptRefusal, IsTableRefusal};
 ghost use Rattle.pdtcli.specs.Refusals.{is_output};
 
 use crate::output::show;
 use crate::refusal::Refusal;
 use crate::serial::run_serial;
+use devices::{ColumnDevice, Store};
 use inputs::{Script, ScriptFault, TableFault, load_table, read_script};
 use manager::Manager;
 use model::ConflictRule;
@@ -41,43 +43,81 @@ pub enum FileFault {
     NoMemory,
 }
 
-/// Runs a script over a table, each given as the bytes of its file or as why they aren't there, writes what the run
-/// leaves, and answers the program's exit status.
+/// A table that is opened, and the script that runs over it.
+#[derive(Drop)]
+pub struct Opened {
+    /// The manager of the table.
+    pub manager: Manager,
+    /// The script, read under the table's schema.
+    pub script: Script,
+}
+
+impl Opened {
+    /// The columns of the table, which a store has to have too.
+    pub fn schema(&self) -> &Schema
+        ensures { result.now ≡ self.now.manager.schema }
+    {
+        self.manager.newest().schema()
+    }
+}
+
+/// Reads a table and a script, each given as the bytes of its file or as why they aren't there, and opens the table.
 ///
 /// # Errors
 ///
-/// The first part that is refused: the table, the script, the opening of the table, the run, and the output. Only the
-/// last of them may come after something was written.
-pub fn run_texts<W: Write>(
+/// The first part that is refused: the table, the script, and the opening of the table.
+pub fn open_texts(
     alloc: Global,
     table: Result<&[u8], FileFault>,
     script: Result<&[u8], FileFault>,
     options: OpenOptions,
-    out: &mut W,
-) -> Result<u8, Refusal>
-    ensures shown { IfOk result (λ status. (left : Left)
-        × IsRunOf (bytes_of table.entry) (bytes_of script.entry) options left
-        × Appends (W.contents out.old) (W.contents out.new) (shown left)
-        × (status ≡ exit_status left.lines)) }
+) -> Result<Opened, Refusal>
+    ensures opened { IfOk result (λ opened. IsOpening (bytes_of table.entry) (bytes_of script.entry) options opened.manager opened.script) }
+    ensures schema { IfOk result (λ opened. opened.script.schema ≡ opened.manager.schema) }
     ensures refused { IfErr result (IsRefusalOf (bytes_of table.entry) (bytes_of script.entry) options) }
-    ensures silent { IfErr result (λ refusal. is_output refusal ≡ false → out.new ≡ out.old) }
 {
     let stable = table_of(alloc, table)?;
-    let calls = script_of(alloc, stable.schema(), script)?;
+    let script = script_of(alloc, stable.schema(), script)?;
     let OpenOptions {
         recent,
         limit,
         conflicts,
     } = options;
     let manager = Manager::open(alloc, stable, recent, limit, conflicts)?;
-    let outcome = match run_serial(alloc, manager, &calls) {
+    Ok(Opened { manager, script })
+}
+
+/// Runs the script over the table, with its checkpoints to the store, writes what the run leaves, and answers the program's
+/// exit status. What is open at the end is dropped, and the store too.
+///
+/// # Errors
+///
+/// `Run` where the run has no place for its replies: nothing is written then. `Output` where the output is refused, after
+/// some of it may have gone out.
+pub fn run_opened<W: Write>(
+    alloc: Global,
+    opened: Opened,
+    store: Store,
+    out: &mut W,
+) -> Result<u8, Refusal>
+    requires script { opened.script.schema ≡ opened.manager.schema }
+    requires store { store.schema ≡ opened.manager.schema }
+    ensures shown { IfOk result (λ status. (left : Left)
+        × IsRunFrom opened.manager opened.script (record { contents = map (λ b. (ColumnDevice-dyn (b.vtable, b.value)).contents b.value) store.devices.items; failed = have_failed (map (λ b. (ColumnDevice-dyn (b.vtable, b.value)).failures b.value) store.devices.items); next = store.next }) left
+        × Appends (W.contents out.old) (W.contents out.new) (shown left)
+        × (status ≡ exit_status left.lines)) }
+    ensures refused { IfErr result (λ refusal. IsRunRefusal opened.manager opened.script (record { contents = map (λ b. (ColumnDevice-dyn (b.vtable, b.value)).contents b.value) store.devices.items; failed = have_failed (map (λ b. (ColumnDevice-dyn (b.vtable, b.value)).failures b.value) store.devices.items); next = store.next }) refusal) }
+    ensures silent { IfErr result (λ refusal. is_output refusal ≡ false → out.new ≡ out.old) }
+{
+    let Opened { manager, script } = opened;
+    let outcome = match run_serial(alloc, manager, store, &script) {
         Ok(outcome) => outcome,
         Err(fault) => return Err(Refusal::Run(fault)),
     };
     Ok(show(alloc, &outcome, out)?)
 }
 
-/// The status that the program ends with, by what `run_texts` answers: that of the run, or 1 where a part was refused.
+/// The status that the program ends with, by what a run or a recovery answers: its own, or 1 where a part was refused.
 pub fn status_of(answer: &Result<u8, Refusal>) -> u8
     ensures { result ≡ status_of answer.now }
 {

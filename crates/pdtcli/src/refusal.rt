@@ -2,11 +2,14 @@
 //! that the program writes of it.
 ghost use Rattle.std.specs.Prelude.{◌≡◌, ◌++◌, Some, codes};
 ghost use Rattle.pdtcli.specs.Refusals.{part_text, refusal_text};
+ghost use Rattle.devices.specs.declared.fault.StoreFault.TheVariants as store_fault;
 ghost use Rattle.pdtcli.specs.declared.refusal.Refusal.TheVariants as parts;
 
 use crate::output::ShowFault;
+use devices::{ReadFault, StoreFault};
 use inputs::{ScriptFault, TableFault};
 use manager::OpenFault;
+use std::alloc::{AllocError, AllocFailed};
 use std::error::Error;
 use std::fmt;
 use values::NoMemory;
@@ -24,6 +27,16 @@ pub enum Refusal {
     Script(ScriptFault),
     /// The table isn't opened.
     Open(OpenFault),
+    /// The store's files can't be made, or aren't new.
+    CannotMake,
+    /// The store isn't made.
+    Store(StoreFault),
+    /// A file of the store can't be read.
+    UnreadableStore,
+    /// The store's header has this fault.
+    Header(TableFault),
+    /// The store's columns have this fault.
+    Columns(ReadFault),
     /// The run had no place for its replies.
     Run(NoMemory),
     /// The output isn't whole.
@@ -39,6 +52,11 @@ impl Refusal {
             Refusal::UnreadableTable | Refusal::Table(_) => "table",
             Refusal::UnreadableScript | Refusal::Script(_) => "script",
             Refusal::Open(_) => "open",
+            Refusal::CannotMake
+            | Refusal::Store(_)
+            | Refusal::UnreadableStore
+            | Refusal::Header(_)
+            | Refusal::Columns(_) => "store",
             Refusal::Run(_) => "run",
             Refusal::Output(_) => "output",
         }
@@ -51,12 +69,16 @@ impl fmt::Display for Refusal {
     fn fmt<W: fmt::Write>(&self, f: &mut fmt::Formatter<W>) -> fmt::Result {
         let part = self.part();
         match self {
-            Refusal::UnreadableTable | Refusal::UnreadableScript => {
+            Refusal::UnreadableTable | Refusal::UnreadableScript | Refusal::UnreadableStore => {
                 write!(f, "pdt: {part}: Unreadable")
             }
+            Refusal::CannotMake => write!(f, "pdt: {part}: CannotMake"),
             Refusal::Table(fault) => write!(f, "pdt: {part}: {fault}"),
             Refusal::Script(fault) => write!(f, "pdt: {part}: {fault}"),
             Refusal::Open(fault) => write!(f, "pdt: {part}: {fault}"),
+            Refusal::Store(fault) => write!(f, "pdt: {part}: {fault}"),
+            Refusal::Header(fault) => write!(f, "pdt: {part}: {fault}"),
+            Refusal::Columns(fault) => write!(f, "pdt: {part}: {fault}"),
             Refusal::Run(NoMemory) => write!(f, "pdt: {part}: NoMemory"),
             Refusal::Output(fault) => write!(f, "pdt: {part}: {fault}"),
         }
@@ -86,6 +108,47 @@ impl From<OpenFault> for Refusal {
 
     fn from(fault: OpenFault) -> Refusal {
         Refusal::Open(fault)
+    }
+}
+
+impl From<StoreFault> for Refusal {
+    ghost from_gives = { λ fault refusal. refusal ≡ parts.Store fault };
+
+    fn from(fault: StoreFault) -> Refusal {
+        Refusal::Store(fault)
+    }
+}
+
+impl From<ReadFault> for Refusal {
+    ghost from_gives = { λ fault refusal. refusal ≡ parts.Columns fault };
+
+    fn from(fault: ReadFault) -> Refusal {
+        Refusal::Columns(fault)
+    }
+}
+
+// Memory that the store's own devices and files are refused.
+impl From<AllocError> for Refusal {
+    ghost from_gives = { λ _ refusal. refusal ≡ parts.Store store_fault.NoMemory };
+
+    fn from(_: AllocError) -> Refusal {
+        Refusal::Store(StoreFault::NoMemory)
+    }
+}
+
+impl<T: Drop> From<AllocFailed<T>> for Refusal {
+    ghost from_gives = { λ _ refusal. refusal ≡ parts.Store store_fault.NoMemory };
+
+    fn from(_: AllocFailed<T>) -> Refusal {
+        Refusal::Store(StoreFault::NoMemory)
+    }
+}
+
+impl From<NoMemory> for Refusal {
+    ghost from_gives = { λ _ refusal. refusal ≡ parts.Store store_fault.NoMemory };
+
+    fn from(_: NoMemory) -> Refusal {
+        Refusal::Store(StoreFault::NoMemory)
     }
 }
 

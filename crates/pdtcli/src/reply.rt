@@ -45,6 +45,14 @@ pub enum Reply {
     Aborted,
     /// The Write-PDT is folded into the Read-PDT.
     Folded,
+    /// The newest image stands in the store, under this generation.
+    Stored(u32),
+    /// This device of the store failed.
+    DeviceFailed(usize),
+    /// An earlier append to the store has failed.
+    StoreFailed,
+    /// The next generation would be 2^32.
+    GenerationsSpent,
     /// How many records a cut has handed out.
     Cut(u64),
     /// A growth was refused, and nothing has changed.
@@ -109,6 +117,10 @@ fn push_reply(fields: &mut ByteRecord, reply: &Reply) -> Result<(), NoMemory>
         Reply::Decided(answer) => push_decided(fields, *answer),
         Reply::Aborted => push_word(fields, "Aborted"),
         Reply::Folded => push_word(fields, "Done"),
+        Reply::Stored(generation) => push_counted(fields, "Done", u64::from(*generation)),
+        Reply::DeviceFailed(device) => push_counted(fields, "DeviceFailed", *device as u64),
+        Reply::StoreFailed => push_word(fields, "StoreFailed"),
+        Reply::GenerationsSpent => push_word(fields, "GenerationsSpent"),
         Reply::Cut(count) => push_counted(fields, "Done", *count),
         Reply::NoMemory => push_word(fields, "NoMemory"),
     }

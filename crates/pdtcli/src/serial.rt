@@ -1,35 +1,46 @@
 //! A run of a script's calls, one after the other.
 ghost use Rattle.std.specs.Prelude.{◌≡◌, ◌<◌, ◌+◌, ◌^◌, get_or, replicate, None, Option, List, [], IfOk, length, map};
+ghost use Rattle.devices.specs.Store.{have_failed};
 ghost use Rattle.std.specs.List.{range_with_len};
 ghost use Rattle.txn.specs.Txn.{Transaction};
 ghost use Rattle.pdtcli.specs.Run.{IsRun, line_of, verb_of_call, verb_of_read, verb_of_write, counts_after, decided_count, is_decided, AreHanded};
 
 use crate::caller::Caller;
-use crate::outcome::Outcome;
+use crate::outcome::{Left, Outcome};
 use crate::reply::{Reply, ReplyLine};
+use devices::{ColumnDevice, Store};
 use inputs::{Call, ClientCall, Read, Script, Verb};
 use manager::Manager;
 use model::Write;
 use std::alloc::Global;
 use values::{NoMemory, copy_texts};
 
-/// Makes a script's calls in order, from a manager with no transaction open. Transactions that are open at the end are
-/// ended without a line.
+/// Makes a script's calls in order, from a manager with no transaction open; its checkpoints go to the store. Transactions
+/// that are open at the end are ended without a line.
 ///
 /// # Errors
 ///
 /// `NoMemory` where a place for the run is refused; a call that finds no memory is answered so, and the run goes on.
-pub fn run_serial(alloc: Global, manager: Manager, script: &Script) -> Result<Outcome, NoMemory>
-    // The calls were read under the manager's schema.
-    requires { script.now.schema ≡ manager.schema }
+pub fn run_serial(
+    alloc: Global,
+    manager: Manager,
+    store: Store,
+    script: &Script,
+) -> Result<Outcome, NoMemory>
+    // The calls were read under the manager's schema, which is the store's.
+    requires script { script.now.schema ≡ manager.schema }
+    requires store { store.schema ≡ manager.schema }
     ensures run { IfOk result (λ outcome. (transactions : List (Option Transaction))
-        × IsRun (record { manager = manager; transactions = replicate (length script.now.clients) None })
-        script.now.calls outcome.lines (record { manager = outcome.manager; transactions = transactions })) }
-    ensures clients { IfOk result (λ outcome. outcome.clients ≡ script.now.clients) }
-    ensures counts { IfOk result (λ outcome. outcome.counts ≡ map (decided_count outcome.lines) (range_with_len 0 (length script.now.clients))) }
-    ensures handed { IfOk result (λ outcome. AreHanded manager outcome.manager outcome.handed) }
+        × IsRun (record { manager = manager; transactions = replicate (length script.now.clients) None; store = record { contents = map (λ b. contents (b.vtable, b.value)) store.devices.items; failed = have_failed (map (λ b. failures (b.vtable, b.value)) store.devices.items); next = store.next } })
+        script.now.calls outcome.left.lines
+        (record { manager = outcome.left.manager; transactions = transactions; store = record { contents = map (λ b. contents (b.vtable, b.value)) outcome.store.devices.items; failed = have_failed (map (λ b. failures (b.vtable, b.value)) outcome.store.devices.items); next = outcome.store.next } })) }
+    ensures schema { IfOk result (λ outcome. outcome.store.schema ≡ store.schema) }
+    ensures clients { IfOk result (λ outcome. outcome.left.clients ≡ script.now.clients) }
+    ensures counts { IfOk result (λ outcome. outcome.left.counts ≡ map (decided_count outcome.left.lines) (range_with_len 0 (length script.now.clients))) }
+    ensures handed { IfOk result (λ outcome. AreHanded manager outcome.left.manager outcome.left.handed) }
 {
     let mut manager = manager;
+    let mut store = store;
     let handed_before = handed_out(&manager);
     let count = script.clients().len();
     let names = copy_texts(alloc, script.clients())?;
@@ -39,13 +50,20 @@ pub fn run_serial(alloc: Global, manager: Manager, script: &Script) -> Result<Ou
     let mut lines = Vec::with_capacity(alloc, calls.len())?;
     let mut left = calls.len();
     for asked in calls {
-        let reply = callers[asked.client as usize].serve(asked, &mut manager, &mut lines, left);
+        let reply = callers[asked.client as usize].serve(
+            asked,
+            &mut manager,
+            &mut store,
+            &mut lines,
+            left,
+        );
         count_reply(&mut counts, asked.client as usize, &reply);
         lines.push_reserved(line_of(asked, reply));
         left -= 1;
     }
     let handed = handed_out(&manager) - handed_before;
-    Ok(Outcome::new(names, lines, manager, counts, handed))
+    let left = Left::new(names, lines, manager, counts, handed);
+    Ok(Outcome { left, store })
 }
 
 /// How many records the manager's cuts have handed out.
@@ -121,6 +139,7 @@ fn verb_of_call(call: &Call) -> Verb
         Call::Commit => Verb::Commit,
         Call::Abort => Verb::Abort,
         Call::Fold => Verb::Fold,
+        Call::Checkpoint => Verb::Checkpoint,
         Call::Cut => Verb::Cut,
     }
 }

@@ -1,8 +1,10 @@
 //! The program over the bytes of a table and of a script: what a run writes and hands on, and what is refused.
+mod checkpoints;
 mod clients;
 mod edges;
 mod folds;
 mod long_run;
+mod memory;
 mod outcomes;
 mod quotes;
 mod random_runs;
@@ -12,8 +14,9 @@ mod regrown;
 mod runs;
 mod writers;
 
+use crate::programs::memory::run_texts;
 use model::ConflictRule;
-use pdtcli::{OpenOptions, run_texts};
+use pdtcli::OpenOptions;
 use std::alloc::Global;
 use std::process::Abort;
 use std::test::Fail;

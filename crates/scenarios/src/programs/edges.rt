@@ -1,7 +1,8 @@
 //! Runs at the edges of the row limit and of the recent commits.
 use super::{BASE_TEXT, assert_opened, limited};
+use crate::programs::memory::run_texts;
 use model::ConflictRule;
-use pdtcli::{OpenOptions, run_texts};
+use pdtcli::OpenOptions;
 use std::alloc::Global;
 use std::process::Abort;
 use std::test::Fail;

@@ -1,6 +1,6 @@
 //! A run over a table of ten thousand rows by a script of ten thousand calls.
 use super::USUAL;
-use pdtcli::run_texts;
+use crate::programs::memory::run_texts;
 use std::alloc::Global;
 use std::test::Fail;
 

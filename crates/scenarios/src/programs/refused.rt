@@ -1,6 +1,7 @@
 //! The first part that is refused, of a table, a script, a limit and an output.
 use super::{BASE_TEXT, USUAL, limited};
-use pdtcli::{FileFault, OpenFault, Refusal, ScriptFault, ShowFault, TableFault, run_texts};
+use crate::programs::memory::run_texts;
+use pdtcli::{FileFault, OpenFault, Refusal, ScriptFault, ShowFault, TableFault};
 use std::io;
 use std::io::Write;
 use std::test::Fail;

@@ -1,7 +1,7 @@
 //! A run in which one growth is refused, which shows under `rt try --test --fail-alloc N`: the call that met it says so,
 //! the one after it goes on from there, and the status is 1.
 use super::{BASE_TEXT, USUAL};
-use pdtcli::run_texts;
+use crate::programs::memory::run_texts;
 use std::test::Fail;
 
 /// Each call is made twice, so that the second one tells what the first one left.

@@ -1,6 +1,7 @@
 //! A writer that takes some bytes and then refuses.
 use super::{BASE_TEXT, USUAL};
-use pdtcli::{Refusal, ShowFault, run_texts};
+use crate::programs::memory::run_texts;
+use pdtcli::{Refusal, ShowFault};
 use std::io;
 use std::io::Write;
 use std::test::Fail;

@@ -49,8 +49,8 @@ const VERBS: [(&str, &[u8], ScriptFault); 6] = [
     ("a verb in capitals", b"a,Begin\n", ScriptFault::BadVerb(1)),
     ("an empty verb", b"a,\n", ScriptFault::BadVerb(1)),
     (
-        "a verb that is not there yet",
-        b"a,begin\na,checkpoint\n",
+        "a verb that there isn't",
+        b"a,begin\na,swap\n",
         ScriptFault::BadVerb(2),
     ),
     (

@@ -65,6 +65,7 @@ fn shown(alloc: Global, calls: &[ClientCall]) -> Result<String, Fail> {
             Call::Commit => text.push_str("commit")?,
             Call::Abort => text.push_str("abort")?,
             Call::Fold => text.push_str("fold")?,
+            Call::Checkpoint => text.push_str("checkpoint")?,
             Call::Cut => text.push_str("cut")?,
         }
         text.push_str(";")?;
@@ -93,9 +94,9 @@ const SCRIPTS: [(&str, &[u8], usize, &str); 7] = [
     ("no record", b"", 0, ""),
     (
         "verbs without arguments",
-        b"a,begin\na,commit\na,abort\nb,fold\nb,cut\n",
+        b"a,begin\na,commit\na,abort\nb,fold\nb,cut\nb,checkpoint\n",
         2,
-        "0 begin;0 commit;0 abort;1 fold;1 cut;",
+        "0 begin;0 commit;0 abort;1 fold;1 cut;1 checkpoint;",
     ),
     (
         "an insert",

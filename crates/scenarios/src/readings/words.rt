@@ -16,17 +16,19 @@ fn assert_run(rt: &impl Abort, alloc: Global, label: &str, words: &[&str], want:
             Settings::Run {
                 table,
                 script,
+                store,
                 recent,
                 limit,
                 conflicts,
             },
         ) => {
             assert_eq!(rt;
-                (table, script, (recent, limit, conflicts)),
-                ("t.csv", "s.csv", want),
+                (table, script, store, (recent, limit, conflicts)),
+                ("t.csv", "s.csv", None, want),
                 "at {label}"
             );
         }
+        Ok(Settings::Recover { .. }) => assert!(rt; false, "a recovery at {label}"),
         Err(_) => assert!(rt; false, "refused at {label}"),
     }
 }

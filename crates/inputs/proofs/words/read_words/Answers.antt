@@ -12,7 +12,7 @@ returns-in-Some-clause-said c =
     let words = map (λ word. word.now) c.args.words.now in
     let read = (c.in_ok-matches.ensures.ok.2 (ap is_simple is ∙ usage-simple)).1 ∙ ap (λ (a : App). subcommand_of a words) is in
     let said = rw c.in-Some.is at c.command_settings-given.ensures.said in
-    AreOf-same _ _ (λ id. ap (λ o. word_in (option_map (λ p. p.1) o) id) read) c.in-Some.settings said
+    AreOf-same _ _ _ _ (ap (λ o. option_map (λ p. p.0) o) read) (λ id. ap (λ o. word_in (option_map (λ p. p.1) o) id) read) c.in-Some.settings said
 
 pub returns-in_err-matches-clause-taken : goal.returns-in_err-matches-clause-taken
 returns-in_err-matches-clause-taken c =

@@ -1,4 +1,4 @@
-use Rattle.std.proofs.Common.{◌≡◌, ◌+◌, ◌++◌, ◌∷◌, ◌<◌, ℕ, None, Option, List, [], length, take, get_or, set, replicate, refl, ap, sym, ◌∙◌, subst, append_assoc, arith}
+use Rattle.std.proofs.Common.{◌≡◌, ◌+◌, ◌++◌, ◌∷◌, ◌<◌, ℕ, None, Option, List, [], length, take, get_or, set, replicate, refl, ap, sym, ◌∙◌, subst, append_assoc, arith, map}
 use Rattle.std.specs.Prelude.{IfSome, slice_get}
 use Rattle.std.specs.List.{All}
 use Rattle.std.proofs.lemmas.List.{take_more}
@@ -6,6 +6,8 @@ use Rattle.std.proofs.lemmas.Option.{slice_get-get_or}
 use Rattle.values.specs.declared.row.Row.{Row}
 use Rattle.inputs.specs.declared.call.ClientCall.{ClientCall}
 use Rattle.pdtcli.specs.declared.reply.ReplyLine.{ReplyLine}
+use Rattle.devices.specs.Appending.{Taken}
+use Rattle.devices.specs.Store.{have_failed}
 use Rattle.txn.specs.Txn.{Transaction}
 use Rattle.manager.specs.Managed.{IsOwn}
 use Rattle.pdtcli.specs.Run.{IsRun, Side, SideStep, State, Step, counts_after, decided_count, joined, line_of, lines_of, shown_lines}
@@ -22,7 +24,7 @@ client_bound calls given clients i asked numbered list is inside =
     (numbered i asked (omega (arith, inside, ap (λ (xs : List ClientCall). length xs) list)))
 
 pub count_reply-requires-clause-there : goal.count_reply-requires-clause-there
-count_reply-requires-clause-there c =
+count_reply-requires-clause-there g c =
     let clients = length c.args.script.now.clients in
     let asked = c.asked-item.result in
     let given = c.calls-calls.result.now in
@@ -31,7 +33,7 @@ count_reply-requires-clause-there c =
     omega (arith, bound, ap (λ (ns : List ℕ). length ns) c.loop-asked.invariant.counts, length-counts_of c.loop-asked.lines.items clients)
 
 pub count_reply-requires-clause-few : goal.count_reply-requires-clause-few
-count_reply-requires-clause-few c =
+count_reply-requires-clause-few g c =
     let clients = length c.args.script.now.clients in
     let asked = c.asked-item.result in
     let given = c.calls-calls.result.now in
@@ -54,7 +56,7 @@ count_reply-requires-clause-few c =
     )
 
 pub loop-asked-preserved : goal.loop-asked-preserved
-loop-asked-preserved c =
+loop-asked-preserved g c =
     let calls = c.args.script.now.calls in
     let i = c.loop-asked.asked-index in
     let asked = c.asked-item.result in
@@ -75,10 +77,15 @@ loop-asked-preserved c =
     let rows : List Row = served.0 in
     let step : SideStep asked.client asked.call (record { manager = m; own = mine }) rows reply after = served.1 in
     let these : List ReplyLine = lines_of asked rows reply in
-    let taken : Step (record { manager = m; transactions = callers }) asked these (record { manager = after.manager; transactions = set callers asked.client after.own }) = record {
+    let before_it : Taken = record { contents = map (λ b. (goal.ColumnDevice-dyn g (b.vtable, b.value)).contents b.value) c.loop-asked.store.devices.items; failed = have_failed (map (λ b. (goal.ColumnDevice-dyn g (b.vtable, b.value)).failures b.value) c.loop-asked.store.devices.items); next = c.loop-asked.store.next } in
+    let after_it : Taken = record { contents = map (λ b. (goal.ColumnDevice-dyn g (b.vtable, b.value)).contents b.value) c.serve-reply.new.store.devices.items; failed = have_failed (map (λ b. (goal.ColumnDevice-dyn g (b.vtable, b.value)).failures b.value) c.serve-reply.new.store.devices.items); next = c.serve-reply.new.store.next } in
+    let at_first : Taken = record { contents = map (λ b. (goal.ColumnDevice-dyn g (b.vtable, b.value)).contents b.value) c.args.store.devices.items; failed = have_failed (map (λ b. (goal.ColumnDevice-dyn g (b.vtable, b.value)).failures b.value) c.args.store.devices.items); next = c.args.store.next } in
+    let taken : Step (record { manager = m; transactions = callers; store = before_it }) asked these (record { manager = after.manager; transactions = set callers asked.client after.own; store = after_it }) = record {
       rows = rows;
       reply = reply;
       side = after;
+      store = after_it;
+      writes = c.serve-reply.ensures.stored;
       steps = subst (λ (o : Option Transaction). SideStep asked.client asked.call (record { manager = m; own = o }) rows reply after) (sym looked_up) step;
       told = refl;
       left = refl;
@@ -88,12 +95,13 @@ loop-asked-preserved c =
     c.push_reserved.ensures.items
     ∙ (λ j. served.2 j ++ c.line_of.ensures j ∷ [])
     ∙ append_assoc before (shown_lines asked rows) (line_of asked reply ∷ []) in
-    let start : State = record { manager = c.args.manager; transactions = replicate (length c.args.script.now.clients) None } in
-    let next : State = record { manager = after.manager; transactions = set callers asked.client after.own } in
-    let more = IsRun-more start (record { manager = m; transactions = callers }) next (take i calls) before asked these c.loop-asked.invariant.run taken in
+    let start : State = record { manager = c.args.manager; transactions = replicate (length c.args.script.now.clients) None; store = at_first } in
+    let next : State = record { manager = after.manager; transactions = set callers asked.client after.own; store = after_it } in
+    let more = IsRun-more start (record { manager = m; transactions = callers; store = before_it }) next (take i calls) before asked these c.loop-asked.invariant.run taken in
     let longer : take i calls ++ asked ∷ [] ≡ take (i + 1) calls = ap (λ (a : ClientCall). take i calls ++ a ∷ []) here ∙ sym (take_more calls i asked inside) in
     record {
       run = subst (λ (e : List ClientCall × List ReplyLine). IsRun start e.0 e.1 next) (λ j. (longer j, (sym told) j)) more;
+      schema = c.serve-reply.ensures.schema ∙ c.loop-asked.invariant.schema;
       ready = ready_again c.args.manager.schema (length c.args.script.now.clients) m callers c.loop-asked.invariant.ready asked.client asked.call mine after rows reply own step;
       left = omega (arith, c.loop-asked.invariant.left, inside);
       room = omega (arith, c.push_reserved.ensures.len, c.push_reserved.ensures.capacity, c.serve-reply.ensures.room, c.loop-asked.invariant.left, inside);

@@ -1,0 +1,55 @@
+//! Runs whose store is in memory.
+ghost use Rattle.std.specs.Prelude.{◌≡◌, IfOk};
+
+use devices::{ColumnDevice, MemColumn, Store, StoreFault, have_failed};
+use pdtcli::{FileFault, Left, OpenOptions, Refusal, open_texts, run_opened, run_serial, show};
+use std::alloc::Global;
+use std::io::Write;
+use std::sync::{Arc, OnceLock};
+
+/// A device in memory, whose bytes nobody reads.
+fn memory_column(alloc: Global) -> Result<MemColumn, Refusal>
+    ensures { IfOk result (λ column. column.failures ≡ 0) }
+{
+    Ok(MemColumn::new(Vec::new(alloc), Arc::new(alloc, OnceLock::new())?)?)
+}
+
+/// Opens the table, and runs the script over it, as the program does.
+pub(crate) fn run_texts<W: Write>(
+    alloc: Global,
+    table: Result<&[u8], FileFault>,
+    script: Result<&[u8], FileFault>,
+    options: OpenOptions,
+    out: &mut W,
+) -> Result<u8, Refusal> {
+    let opened = open_texts(alloc, table, script, options)?;
+    let mut devices: Vec<Box<dyn ColumnDevice + Send>> = Vec::new(alloc);
+    for _ in 0..opened.schema().width() {
+        devices.push(Box::new(alloc, memory_column(alloc)?)?)?;
+    }
+    if have_failed(devices.as_slice()) {
+        return Err(Refusal::Store(StoreFault::StoreFailed));
+    }
+    let store = Store::new(alloc, devices, opened.schema(), 1)?;
+    run_opened(alloc, opened, store, out)
+}
+
+/// What is left of a run of the script over a table that is opened so, with its output and its status.
+pub(crate) fn run_whole(
+    alloc: Global,
+    (table, script, options): (&[u8], &[u8], OpenOptions),
+    out: &mut Vec<u8>,
+) -> Result<(Left, u8), Refusal> {
+    let opened = open_texts(alloc, Ok(table), Ok(script), options)?;
+    let mut devices: Vec<Box<dyn ColumnDevice + Send>> = Vec::new(alloc);
+    for _ in 0..opened.schema().width() {
+        devices.push(Box::new(alloc, memory_column(alloc)?)?)?;
+    }
+    if have_failed(devices.as_slice()) {
+        return Err(Refusal::Store(StoreFault::StoreFailed));
+    }
+    let store = Store::new(alloc, devices, opened.schema(), 1)?;
+    let outcome = run_serial(alloc, opened.manager, store, &opened.script)?;
+    let status = show(alloc, &outcome, out)?;
+    Ok((outcome.left, status))
+}
