@@ -5,11 +5,14 @@ ghost use Rattle.model.specs.Table.{IsTable};
 ghost use Rattle.model.specs.Effects.{Effects, table_with};
 ghost use Rattle.layers.specs.Over.{IsTreeOf, IsSmall, AreConsecutive, AreAligned};
 
+mod refusals;
+
 use crate::assertions::assert_text;
+use crate::folds::refusals::{folded, passed};
 use crate::images::{AMPLE, MANY, all_fit};
 use delta::DeltaTree;
 use fixtures::{ItemWrite, entries_text, item_columns, writes_of};
-use layers::{Clash, Serialized, propagate, serialize};
+use layers::{Clash, Serialized};
 use model::{ConflictRule, Write};
 use oracle::{Effects, OrderedTable, canonical_entries};
 use std::alloc::Global;
@@ -128,11 +131,24 @@ fn answered(alloc: Global, serialized: &Serialized) -> Result<String, Fail> {
     }
 }
 
-/// The lower and the upper writes, the upper entries, and what they fold to.
+/// That the tree has these entries.
+fn assert_entries(
+    rt: &impl Abort,
+    alloc: Global,
+    tree: &DeltaTree,
+    want: &str,
+    at: &str,
+) -> Result<(), Fail> {
+    let entries = entries_text(alloc, tree.iter())?;
+    assert_text(rt, entries.as_str(), want, at);
+    Ok(())
+}
+
+/// The lower and the upper writes, the entries of both, and what they fold to.
 type Fold = (
     &'static [ItemWrite],
     &'static [ItemWrite],
-    &'static str,
+    [&'static str; 2],
     &'static str,
 );
 
@@ -140,15 +156,11 @@ type Fold = (
 fn assert_fold(
     rt: &impl Abort,
     alloc: Global,
-    (lower, upper, over, want): Fold,
+    (lower, upper, entries, want): Fold,
 ) -> Result<(), Fail> {
     let trees = stack(alloc, [lower, upper])?;
-    let entries = entries_text(alloc, trees.upper.iter())?;
-    assert_text(rt, entries.as_str(), over, "the upper entries");
-    let folded = propagate(&trees.lower, &trees.upper)?;
-    let entries = entries_text(alloc, folded.iter())?;
-    assert_text(rt, entries.as_str(), want, "the entries folded");
-    Ok(())
+    let tree = folded(rt, alloc, &trees, entries)?;
+    assert_entries(rt, alloc, &tree, want, "the entries folded")
 }
 
 const FOLDS: [Fold; 8] = [
@@ -158,37 +170,37 @@ const FOLDS: [Fold; 8] = [
             ItemWrite::Insert(15, "Flo", 5),
             ItemWrite::Insert(25, "Dee", 4),
         ],
-        "1+15,Flo,5 1+25,Dee,4",
+        ["1-20", "1+15,Flo,5 1+25,Dee,4"],
         "1+15,Flo,5 1-20 2+25,Dee,4",
     ),
     (
         &[ItemWrite::Delete(20)],
         &[ItemWrite::Insert(20, "Bea", 9)],
-        "1+20,Bea,9",
+        ["1-20", "1+20,Bea,9"],
         "1+20,Bea,9 1-20",
     ),
     (
         &[ItemWrite::Insert(25, "Dee", 4)],
         &[ItemWrite::Set(25, 5)],
-        "2:2=5",
+        ["2+25,Dee,4", "2:2=5"],
         "2+25,Dee,5",
     ),
     (
         &[ItemWrite::Insert(25, "Dee", 4)],
         &[ItemWrite::Delete(25)],
-        "2-25",
+        ["2+25,Dee,4", "2-25"],
         "",
     ),
     (
         &[ItemWrite::Set(20, 9)],
         &[ItemWrite::Delete(20)],
-        "1-20",
+        ["1:2=9", "1-20"],
         "1-20",
     ),
     (
         &[ItemWrite::Name(20, "Bea"), ItemWrite::Set(20, 9)],
         &[ItemWrite::Set(20, 4)],
-        "1:2=4",
+        ["1:1=Bea 1:2=9", "1:2=4"],
         "1:1=Bea 1:2=4",
     ),
     (
@@ -200,7 +212,7 @@ const FOLDS: [Fold; 8] = [
             ItemWrite::Set(20, 6),
             ItemWrite::Insert(35, "Gus", 7),
         ],
-        "1+10,Abe,8 1-10 2:1=Bea 2:2=6 3+35,Gus,7",
+        ["0+5,Eve,0 2-30", "1+10,Abe,8 1-10 2:1=Bea 2:2=6 3+35,Gus,7"],
         "0+5,Eve,0 0+10,Abe,8 0-10 1:1=Bea 1:2=6 2-30 3+35,Gus,7",
     ),
     (
@@ -215,7 +227,10 @@ const FOLDS: [Fold; 8] = [
             ItemWrite::Insert(25, "Dee", 4),
             ItemWrite::Insert(35, "Gus", 7),
         ],
-        "0+5,Eve,0 0+20,Bea,9 0+25,Dee,4 0+35,Gus,7",
+        [
+            "0-10 1-20 2-30",
+            "0+5,Eve,0 0+20,Bea,9 0+25,Dee,4 0+35,Gus,7",
+        ],
         "0+5,Eve,0 0-10 1+20,Bea,9 1-20 2+25,Dee,4 2-30 3+35,Gus,7",
     ),
 ];
@@ -228,20 +243,23 @@ fn upper_trees_fold_into_lower_ones(rt: HostRuntime) -> Result<(), Fail> {
     Ok(())
 }
 
-/// The writes of two transactions, and what becomes of the first one's tree beside the second one's.
-type Beside = (&'static [ItemWrite], &'static [ItemWrite], &'static str);
+/// The writes of two transactions, the entries of both, and what becomes of the first one's tree beside the second one's.
+type Beside = (
+    &'static [ItemWrite],
+    &'static [ItemWrite],
+    [&'static str; 2],
+    &'static str,
+);
 
-/// That the first tree becomes this beside the second, by the rule.
+/// That the first one's tree becomes this beside the second one's, by the rule.
 fn assert_beside(
     rt: &impl Abort,
     alloc: Global,
     rule: ConflictRule,
-    trees: &Aligned,
-    want: &str,
-) -> Result<(), Fail>
-    requires { AreAligned trees.now.x trees.now.y }
-{
-    let serialized = serialize(alloc, &trees.x, &trees.y, rule)?;
+    (first, second, entries, want): Beside,
+) -> Result<(), Fail> {
+    let trees = align(alloc, [first, second])?;
+    let serialized = passed(rt, alloc, rule, &trees, entries)?;
     let answer = answered(alloc, &serialized)?;
     assert_text(rt, answer.as_str(), want, "beside the second");
     Ok(())
@@ -253,6 +271,7 @@ fn trees_pass_or_clash(rt: HostRuntime) -> Result<(), Fail> {
         (
             &[ItemWrite::Insert(25, "Dee", 4)],
             &[ItemWrite::Delete(30)],
+            ["2+25,Dee,4", "2-30"],
             "2+25,Dee,4",
         ),
         (
@@ -261,43 +280,54 @@ fn trees_pass_or_clash(rt: HostRuntime) -> Result<(), Fail> {
                 ItemWrite::Insert(5, "Eve", 0),
                 ItemWrite::Insert(25, "Dee", 4),
             ],
+            ["2:2=9", "0+5,Eve,0 2+25,Dee,4"],
             "4:2=9",
         ),
-        (&[ItemWrite::Delete(30)], &[ItemWrite::Delete(10)], "1-30"),
+        (
+            &[ItemWrite::Delete(30)],
+            &[ItemWrite::Delete(10)],
+            ["2-30", "0-10"],
+            "1-30",
+        ),
         (
             &[ItemWrite::Name(20, "Bea"), ItemWrite::Set(20, 7)],
             &[ItemWrite::Set(20, 8)],
+            ["1:1=Bea 1:2=7", "1:2=8"],
             "ModifyModify x 1 y 0",
         ),
         (
             &[ItemWrite::Delete(20)],
             &[ItemWrite::Name(20, "Bea"), ItemWrite::Set(20, 7)],
+            ["1-20", "1:1=Bea 1:2=7"],
             "DeleteModify x 0 y 0",
         ),
         (
             &[ItemWrite::Delete(20), ItemWrite::Insert(20, "Bea", 9)],
             &[ItemWrite::Delete(20)],
+            ["1+20,Bea,9 1-20", "1-20"],
             "DeleteDelete x 1 y 0",
         ),
         (
             &[ItemWrite::Delete(20), ItemWrite::Insert(20, "Bea", 9)],
             &[ItemWrite::Delete(20), ItemWrite::Insert(20, "Bob", 2)],
+            ["1+20,Bea,9 1-20", "1+20,Bob,2 1-20"],
             "InsertInsert x 0 y 0",
         ),
         (
             &[ItemWrite::Name(20, "Bea")],
             &[ItemWrite::Set(20, 7)],
+            ["1:1=Bea", "1:2=7"],
             "1:1=Bea",
         ),
         (
             &[ItemWrite::Set(20, 2)],
             &[ItemWrite::Set(20, 2)],
+            ["1:2=2", "1:2=2"],
             "ModifyModify x 0 y 0",
         ),
     ];
-    for (first, second, want) in &CASES {
-        let trees = align(rt.alloc(), [*first, *second])?;
-        assert_beside(&rt, rt.alloc(), ConflictRule::ByColumn, &trees, *want)?;
+    for case in &CASES {
+        assert_beside(&rt, rt.alloc(), ConflictRule::ByColumn, *case)?;
     }
     Ok(())
 }
@@ -308,6 +338,7 @@ fn modifies_of_one_row_clash_by_row(rt: HostRuntime) -> Result<(), Fail> {
         (
             &[ItemWrite::Set(20, 7)],
             &[ItemWrite::Name(20, "Bea")],
+            ["1:2=7", "1:1=Bea"],
             "ModifyModify x 0 y 0",
         ),
         (
@@ -317,65 +348,60 @@ fn modifies_of_one_row_clash_by_row(rt: HostRuntime) -> Result<(), Fail> {
                 ItemWrite::Name(20, "Bea"),
                 ItemWrite::Set(20, 8),
             ],
+            ["0:2=4 1:2=7", "1+15,Flo,5 1:1=Bea 1:2=8"],
             "ModifyModify x 1 y 1",
         ),
         (
             &[ItemWrite::Name(20, "Bea")],
             &[ItemWrite::Delete(20)],
+            ["1:1=Bea", "1-20"],
             "DeleteModify x 0 y 0",
         ),
         (
             &[ItemWrite::Delete(20)],
             &[ItemWrite::Set(20, 7)],
+            ["1-20", "1:2=7"],
             "DeleteModify x 0 y 0",
         ),
         (
             &[ItemWrite::Set(30, 9)],
             &[ItemWrite::Name(20, "Bea"), ItemWrite::Insert(25, "Dee", 4)],
+            ["2:2=9", "1:1=Bea 2+25,Dee,4"],
             "3:2=9",
         ),
         (
             &[ItemWrite::Set(30, 9)],
             &[ItemWrite::Delete(10), ItemWrite::Set(20, 7)],
+            ["2:2=9", "0-10 1:2=7"],
             "1:2=9",
         ),
         (
             &[ItemWrite::Delete(20), ItemWrite::Insert(20, "Bea", 9)],
             &[ItemWrite::Set(20, 7)],
+            ["1+20,Bea,9 1-20", "1:2=7"],
             "DeleteModify x 1 y 0",
         ),
     ];
-    for (first, second, want) in &CASES {
-        let trees = align(rt.alloc(), [*first, *second])?;
-        assert_beside(&rt, rt.alloc(), ConflictRule::ByRow, &trees, *want)?;
+    for case in &CASES {
+        assert_beside(&rt, rt.alloc(), ConflictRule::ByRow, *case)?;
     }
     Ok(())
 }
 
 #[test]
 fn serialize_passes_smaller_inserts_alone(rt: HostRuntime) -> Result<(), Fail> {
-    const FIRST: [ItemWrite; 2] = [
-        ItemWrite::Insert(15, "Flo", 5),
-        ItemWrite::Insert(18, "Gus", 8),
-    ];
-    const SECOND: [ItemWrite; 3] = [
-        ItemWrite::Delete(20),
-        ItemWrite::Insert(16, "Hal", 6),
-        ItemWrite::Insert(20, "Bea", 9),
-    ];
-    let trees = align(rt.alloc(), [&FIRST, &SECOND])?;
-    let before = entries_text(rt.alloc(), trees.y.iter())?;
-    assert_text(
-        &rt,
-        before.as_str(),
-        "1+16,Hal,6 1+20,Bea,9 1-20",
-        "the second's entries",
-    );
-    assert_beside(
-        &rt,
-        rt.alloc(),
-        ConflictRule::ByColumn,
-        &trees,
+    const CASE: Beside = (
+        &[
+            ItemWrite::Insert(15, "Flo", 5),
+            ItemWrite::Insert(18, "Gus", 8),
+        ],
+        &[
+            ItemWrite::Delete(20),
+            ItemWrite::Insert(16, "Hal", 6),
+            ItemWrite::Insert(20, "Bea", 9),
+        ],
+        ["1+15,Flo,5 1+18,Gus,8", "1+16,Hal,6 1+20,Bea,9 1-20"],
         "1+15,Flo,5 2+18,Gus,8",
-    )
+    );
+    assert_beside(&rt, rt.alloc(), ConflictRule::ByColumn, CASE)
 }
