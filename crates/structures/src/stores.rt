@@ -1,12 +1,14 @@
 //! What devices leave at their end, and what columns store.
 
+mod cuts;
 mod images;
 mod pairs;
+mod refusals;
 mod rounds;
 mod vectors;
 
 use devices::{ColumnDevice, FailAt, MemColumn, Store};
-use fixtures::{left_in, row_with, schema};
+use fixtures::{Item, left_in, row_with, schema};
 use stable::StableTable;
 use std::alloc::Global;
 use std::sync::{Arc, OnceLock};
@@ -57,6 +59,27 @@ fn numbers(alloc: Global, from: i64, to: i64) -> Result<StableTable, Fail> {
 /// The table whose one row has the number ten.
 fn one_row(alloc: Global) -> Result<StableTable, Fail> {
     numbers(alloc, 10, 11)
+}
+
+/// Whether the row of a table of the base table's columns is this one.
+fn is_item(table: &StableTable, sid: u64, (id, name, quantity): Item) -> bool {
+    table.schema().width() == 3
+        && sid < table.len()
+        && table.value(sid, 0) == ValueRef::Int(id)
+        && table.value(sid, 1) == ValueRef::Text(name)
+        && table.value(sid, 2) == ValueRef::Int(quantity)
+}
+
+/// Whether these are the rows of the table.
+fn has_items(table: &StableTable, rows: &[Item]) -> bool {
+    let mut count = 0;
+    for row in rows {
+        if !is_item(table, count, *row) {
+            return false;
+        }
+        count = count.wrapping_add(1);
+    }
+    table.len() == count
 }
 
 /// The bytes of that table's column: its header, a frame of one row, and a clean end.

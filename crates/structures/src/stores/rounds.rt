@@ -12,7 +12,7 @@ use std::process::Abort;
 use std::test::Fail;
 
 /// The base table's rows and one more.
-const MORE: [Item; 4] = [
+pub(super) const MORE: [Item; 4] = [
     (5, "Eve", 0),
     (10, "Ann", 1),
     (20, "Bob", 2),
