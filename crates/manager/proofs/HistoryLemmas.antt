@@ -157,7 +157,7 @@ granted_when false false false n k h = (refl, (refl, refl))
 
 module _ (m : Managed) (h : IsManaged m) (txn : Transaction) (k : IsTransaction txn) (own : IsOwn m txn) (reply : CommitReply) (due : reply ≡ reply_due m txn) where
   -- the effects of its record are its own, from the base on
-  recorded_is : m.start.base ≤ txn.begin → effects_of_record m.schema m.start (commits_in m) (record_of txn reply) ≡ effects_of txn
+  pub recorded_is : m.start.base ≤ txn.begin → effects_of_record m.schema m.start (commits_in m) (record_of txn reply) ≡ effects_of txn
   recorded_is above = sym (λ i. effects_after_all (own.schema i).key_cols (own.limit i) (own.snapshot above i) [] (asked_of txn))
 
   due_as_recorded : reply_due m txn ≡ due_reply m.start (commits_in m) txn.begin (effects_of_record m.schema m.start (commits_in m) (record_of txn reply))

@@ -72,7 +72,7 @@ impl Manager {
     {
         // A store that can't take the image is told before the image is made.
         if let Err(fault) = store.ready() {
-            return Err(fault_of(fault));
+            return Err(CheckpointFault::of_store(fault));
         }
         let rebuilt = self.prepare_checkpoint()?;
         match store.append_image(rebuilt.table()) {
@@ -80,7 +80,7 @@ impl Manager {
                 self.install_checkpoint(rebuilt, store);
                 Ok(generation)
             }
-            Err(fault) => Err(fault_of(fault)),
+            Err(fault) => Err(CheckpointFault::of_store(fault)),
         }
     }
 
@@ -112,16 +112,18 @@ impl Manager {
     }
 }
 
-/// The fault of a checkpoint by that of the store, which has a device for each column.
-fn fault_of(fault: StoreFault) -> CheckpointFault
-    requires { fault ≢ store_fault.WrongCount }
-    ensures { fault_of_store result ≡ fault }
-{
-    match fault {
-        StoreFault::WrongCount => unreachable!(),
-        StoreFault::StoreFailed => CheckpointFault::StoreFailed,
-        StoreFault::GenerationsSpent => CheckpointFault::GenerationsSpent,
-        StoreFault::NoMemory => CheckpointFault::NoMemory,
-        StoreFault::DeviceFailed(i) => CheckpointFault::DeviceFailed(i),
+impl CheckpointFault {
+    /// The fault of a checkpoint by that of its store, which has a device for each column.
+    pub fn of_store(fault: StoreFault) -> CheckpointFault
+        requires { fault ≢ store_fault.WrongCount }
+        ensures { fault_of_store result ≡ fault }
+    {
+        match fault {
+            StoreFault::WrongCount => unreachable!(),
+            StoreFault::StoreFailed => CheckpointFault::StoreFailed,
+            StoreFault::GenerationsSpent => CheckpointFault::GenerationsSpent,
+            StoreFault::NoMemory => CheckpointFault::NoMemory,
+            StoreFault::DeviceFailed(i) => CheckpointFault::DeviceFailed(i),
+        }
     }
 }

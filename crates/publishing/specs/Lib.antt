@@ -1,0 +1,4 @@
+pub mod Commits
+pub mod Lists
+pub mod Rules
+pub mod Views
