@@ -1,0 +1,34 @@
+-- What sessions and the manager have in common at the end.
+use Rattle.std.proofs.Common.{◌≡◌, ℕ, zero, suc, ◌-◌, List, [], ◌∷◌, drop, refl, sym, ap, subst, arith}
+use Rattle.std.specs.Prelude.{All}
+use mathlib.Core.List.{IsPrefix}
+use Rattle.model.specs.History.{Start}
+use Rattle.manager.specs.Managed.{Managed}
+use Rattle.publishing.specs.declared.item.Item.{Item}
+use Rattle.publishing.specs.Commits.{Commit, commits_made}
+use Rattle.publishing.specs.Lists.{all_commits, IsListed}
+use Rattle.publishing.proofs.CallerLemmas.{all_commits-prefix}
+use Rattle.shared.specs.Sessions.{AreBeginnings, commits_above}
+
+prefix_drop : {A : Type 0} (n : ℕ) (xs ys : List A) → IsPrefix xs ys → IsPrefix (drop n xs) (drop n ys)
+prefix_drop zero xs ys p = p
+prefix_drop (suc n) [] ys p = (drop (suc n) ys, refl)
+prefix_drop (suc n) (x ∷ xs) [] p = absurd (cc (p.1))
+prefix_drop (suc n) (x ∷ xs) (y ∷ ys) p = prefix_drop n xs ys (p.0, cc (p.1))
+
+-- of two beginnings of one list, the commits above a base are beginnings of those of the whole
+pub are_beginnings : (o : Managed) (seen list both : List Item) (m : Managed) → IsListed o list m → IsPrefix seen both → IsPrefix list both →
+    AreBeginnings (commits_above o seen m.start.base) (commits_made m)
+are_beginnings o seen list both m l p q =
+    let n = m.start.base - o.start.base in
+    let base = ap (λ (s : Start). s.base - o.start.base) l.start in
+    let made : commits_made m ≡ drop n (all_commits o list) = subst (λ k. commits_made m ≡ drop k (all_commits o list)) (sym base) l.commits in (
+      drop n (all_commits o both),
+      prefix_drop n (all_commits o seen) (all_commits o both) (all_commits-prefix o seen both p),
+      subst (λ (cs : List Commit). IsPrefix cs (drop n (all_commits o both))) (sym made)
+          (prefix_drop n (all_commits o list) (all_commits o both) (all_commits-prefix o list both q)),
+    )
+
+pub all_one : {A : Type 0} (P : A → Type 0) (x : A) → P x → All P (x ∷ [])
+all_one P x p zero d lt = p
+all_one P x p (suc k) d lt = absurd (omega arith)

@@ -1,0 +1,5 @@
+pub mod CloseLemmas
+pub mod RepliesLemmas
+pub mod SeatLemmas
+pub mod ShowLemmas
+pub mod SchemaLemmas

@@ -1,0 +1,56 @@
+use Rattle.std.proofs.Common.{sym, ap, ◌∙◌, subst, arith}
+use Rattle.model.specs.declared.write.CommitReply.{CommitReply}
+use Rattle.publishing.specs.Lists.{Known, number_in}
+use Rattle.shared.specs.Stands.{IsGrown}
+use Rattle.shared.proofs.RepliesLemmas.{numbers_held, own_held, reached_by, replied}
+use Rattle.shared.proofs.locked.Locked.commit.Goals as goal
+
+pub prepare-requires : goal.prepare-requires
+prepare-requires g c =
+    let i = c.self.invariant in
+    let both = c.longer-both in
+    let le = numbers_held g.O.Opening.opened c.args.seen.now c.self.inside.list _ _ c.requires.seen.0 i.1 c.number.ensures c.number-2.ensures c.if-number.false in
+    record {
+      own = own_held g.O.Opening.opened.manager _ _ both.result.list c.self.inside.manager c.args.txn both.ensures.this both.ensures.that le i.0 c.requires.seen.1;
+    }
+
+pub show_commit-requires-clause-own : goal.show_commit-requires-clause-own
+show_commit-requires-clause-own g c =
+    let i = c.self.invariant in
+    let both = c.longer-both in
+    let le = numbers_held g.O.Opening.opened c.args.seen.now c.self.inside.list _ _ c.requires.seen.0 i.1 c.number.ensures c.number-2.ensures c.if-number.false in
+    own_held g.O.Opening.opened.manager _ _ both.result.list c.self.inside.manager c.args.txn both.ensures.this both.ensures.that le i.0 c.requires.seen.1
+
+pub install-reply-requires-clause-own : goal.install-reply-requires-clause-own
+install-reply-requires-clause-own g c =
+    let i = c.self.invariant in
+    let both = c.longer-both in
+    let le = numbers_held g.O.Opening.opened c.args.seen.now c.self.inside.list _ _ c.requires.seen.0 i.1 c.number.ensures c.number-2.ensures c.if-number.false in
+    own_held g.O.Opening.opened.manager _ _ both.result.list c.self.inside.manager c.args.txn both.ensures.this both.ensures.that le i.0 c.requires.seen.1
+
+pub returns-clause-replied : goal.returns-clause-replied
+returns-clause-replied g c =
+    let o = g.O.Opening.opened.manager in
+    let i = c.self.invariant in
+    let ys = c.self.inside.list.list in
+    let zs = c.show_commit.new.list.list in
+    let reply = c.install-reply.result in
+    let le = numbers_held g.O.Opening.opened c.args.seen.now c.self.inside.list _ _ c.requires.seen.0 i.1 c.number.ensures c.number-2.ensures c.if-number.false in
+    let due = c.install-reply.ensures.due in
+    let same = c.in-Ok.ensures.prepared.due ∙ sym due in
+    let grown = subst (λ (r : CommitReply). IsGrown ys zs c.args.txn r) same c.in-Ok-show_commit.ensures.grown in
+    replied o c.args.seen.now.list ys c.longer-both.result.list zs c.longer.result.list c.self.inside.manager c.args.txn reply
+    c.longer-both.ensures.this c.longer.ensures.this c.longer.ensures.that le c.requires.seen.1 i.0 due grown
+
+pub returns-clause-reached : goal.returns-clause-reached
+returns-clause-reached g c =
+    let o = g.O.Opening.opened.manager in
+    let ys = c.self.inside.list.list in
+    let zs = c.show_commit.new.list.list in
+    let reply = c.install-reply.result in
+    let due = c.install-reply.ensures.due in
+    let same = c.in-Ok.ensures.prepared.due ∙ sym due in
+    let grown = subst (λ (r : CommitReply). IsGrown ys zs c.args.txn r) same c.in-Ok-show_commit.ensures.grown in
+    let told = ap (λ (k : Known). number_in o k.list) c.again.ensures in
+    let reached = reached_by o ys zs c.self.inside.manager c.args.txn reply c.self.invariant.0 due grown in
+    omega (arith, told, reached)

@@ -1,0 +1,41 @@
+use Rattle.std.proofs.Common.{List, sym, ap, ◌∙◌, length, subst, arith}
+use Rattle.txn.specs.Version.{TableVersion}
+use Rattle.manager.specs.Managed.{Managed, cut_of}
+use Rattle.manager.proofs.CallerLemmas.{newest_within}
+use Rattle.publishing.specs.declared.item.Item.{Item}
+use Rattle.publishing.specs.Lists.{Known, IsListed}
+use Rattle.publishing.proofs.CallerLemmas.{listed_cut, version_cut, version_is}
+use Rattle.shared.proofs.locked.Locked.cut.Goals as goal
+
+pub show-requires-clause-version : goal.show-requires-clause-version
+show-requires-clause-version g c =
+    let o = g.O.Opening.opened.manager in
+    let m = c.self.inside.manager in
+    let list = c.self.inside.list.list in
+    c.in_ok-version.ensures ∙ c.version.ensures ∙ version_is o list m c.self.invariant.0 ∙ version_cut o list c.number-base.result
+
+pub show-requires-clause-within : goal.show-requires-clause-within
+show-requires-clause-within g c =
+    let rows = ap (λ (v : TableVersion). length v.table) (c.in_ok-version.ensures ∙ c.version.ensures) in
+    let limit = ap (λ s. s.limit) c.self.invariant.0.start in
+    let within = newest_within c.self.inside.manager c.history.ensures.lawful in
+    omega (arith, rows, limit, within)
+
+pub invariant_of-self-2 : goal.invariant_of-self-2
+invariant_of-self-2 g c =
+    let o = g.O.Opening.opened.manager in
+    let i = c.self.invariant in
+    let m = c.self.inside.manager in
+    let list = c.self.inside.list.list in
+    let now = c.in_ok-show.ensures.list in
+    let next = c.cut-history.ensures.next in
+    let number = c.number-base.ensures ∙ ap (λ (v : TableVersion). v.number) (c.in_ok-version.ensures ∙ c.version.ensures) in
+    let cut = listed_cut o list m i.0 c.number-base.result number in
+    let more = subst (λ (l : List Item). IsListed o l (cut_of m)) (sym (ap (λ (k : Known). k.list) now)) cut in (
+      subst (λ (n : Managed). IsListed o c.show.new.list.list n) (sym next) more,
+      ap (λ (k : Known). k.opening) now ∙ i.1,
+      ap (λ (n : Managed). n.made) next ∙ i.2,
+      i.3,
+      c.in_ok-show.ensures.writer,
+      i.5 ∙ sym (ap (λ (n : Managed). n.schema) next),
+    )

@@ -1,0 +1,62 @@
+use Rattle.std.proofs.Common.{suc, ◌++◌, ◌∷◌, [], List, refl, sym, ap, ◌∙◌, length, subst, arith}
+use Rattle.std.specs.Option.{option_copied}
+use Rattle.model.specs.declared.write.CommitReply.{CommitReply}
+use Rattle.txn.specs.Txn.{Transaction}
+use Rattle.txn.specs.Version.{TableVersion}
+use Rattle.manager.specs.Managed.{newest_number, record_of, with_record}
+use Rattle.publishing.specs.declared.item.Item.{Item}
+use Rattle.publishing.specs.declared.item.Item.TheVariants.{Commits}
+use Rattle.publishing.specs.Commits.{commit_of}
+use Rattle.publishing.specs.Lists.{Known, IsListed}
+use Rattle.publishing.proofs.CallerLemmas.{granted_within, listed_commit, listed_refused, version_commit}
+use Rattle.shared.proofs.ShowLemmas.{granted_when, leaves_none, leaves_when, on_ok}
+use Rattle.shared.proofs.locked.show_commit.Goals as goal
+
+pub returns-in_default-clause-listed : goal.returns-in_default-clause-listed
+returns-in_default-clause-listed g c =
+    let m = c.args.manager.now in
+    let txn = c.args.txn.now in
+    let p = c.args.prepared.now in
+    let none = sym c.version.ensures ∙ ap option_copied c.in_default.is in
+    let leaves = leaves_when m txn p.reply p.granted c.requires.prepared.installed none in
+    listed_refused g.O.Opening.opened.manager c.args.list.now.list m c.requires.listed c.history.ensures.lawful txn c.begin.ensures.lawful c.requires.own
+    p.reply c.requires.prepared.due (leaves_none (commit_of txn) p.reply leaves)
+
+pub show-requires-clause-version : goal.show-requires-clause-version
+show-requires-clause-version g c =
+    let m = c.args.manager.now in
+    let txn = c.args.txn.now in
+    let p = c.args.prepared.now in
+    let some = sym c.version.ensures ∙ ap option_copied c.in-Some.is in
+    let granted = granted_when m txn p.reply p.granted c.in-Some.version.now c.requires.prepared.installed some in
+    let is = ap (λ (t : Transaction). commit_of t ∷ []) c.of.ensures in
+    version_commit g.O.Opening.opened.manager c.args.list.now.list m c.requires.listed (Commits c.of.result) txn is c.in_ok-copy.copy (c.in_ok-copy.ensures ∙ granted.1)
+
+pub show-requires-clause-within : goal.show-requires-clause-within
+show-requires-clause-within g c =
+    let m = c.args.manager.now in
+    let txn = c.args.txn.now in
+    let p = c.args.prepared.now in
+    let some = sym c.version.ensures ∙ ap option_copied c.in-Some.is in
+    let granted = granted_when m txn p.reply p.granted c.in-Some.version.now c.requires.prepared.installed some in
+    let due = sym granted.0 ∙ c.requires.prepared.due in
+    let within = granted_within m c.history.ensures.lawful txn c.begin.ensures.lawful c.requires.own (suc (newest_number m)) due in
+    let rows = ap (λ (v : TableVersion). length v.table) (c.in_ok-copy.ensures ∙ granted.1) in
+    let limit = ap (λ s. s.limit) c.requires.listed.start in
+    omega (arith, within, rows, limit)
+
+pub returns-clause-listed : goal.returns-clause-listed
+returns-clause-listed g c =
+    let o = g.O.Opening.opened.manager in
+    let m = c.args.manager.now in
+    let txn = c.args.txn.now in
+    let p = c.args.prepared.now in
+    let list = c.args.list.now.list in
+    let item = Commits c.of.result in
+    let some = sym c.version.ensures ∙ ap option_copied c.in-Some.is in
+    let granted = granted_when m txn p.reply p.granted c.in-Some.version.now c.requires.prepared.installed some in
+    let due = sym granted.0 ∙ c.requires.prepared.due in
+    let is = ap (λ (t : Transaction). commit_of t ∷ []) c.of.ensures in
+    let next = listed_commit o list m c.requires.listed c.history.ensures.lawful txn c.begin.ensures.lawful c.requires.own item refl is (suc (newest_number m)) due in
+    let now = subst (λ (r : CommitReply). IsListed o (list ++ item ∷ []) (with_record m (record_of txn r))) (sym granted.0) next in
+    on_ok _ _ _ c.show.result c.show.ensures.list (λ more. subst (λ (l : List Item). IsListed o l (with_record m (record_of txn p.reply))) (sym (ap (λ (k : Known). k.list) more)) now)

@@ -1,0 +1,5 @@
+use Rattle.publishing.proofs.CallerLemmas.{admits}
+use Rattle.shared.proofs.shared.place_of.Goals as goal
+
+pub reader-requires : goal.reader-requires
+reader-requires c = admits

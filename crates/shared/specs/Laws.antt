@@ -1,0 +1,13 @@
+-- What the contracts of sessions give together.
+use Rattle.std.specs.Prelude.{ℕ, ◌<◌, List}
+use mathlib.Core.List.{IsPrefix}
+use Rattle.model.specs.declared.write.CommitReply.TheVariants.{Committed}
+use Rattle.txn.specs.Txn.{Transaction}
+use Rattle.manager.specs.Managed.{Managed}
+use Rattle.publishing.specs.declared.item.Item.{Item}
+use Rattle.shared.specs.Sessions.{IsReplied, begun_in}
+
+-- after a Committed a session begins at a greater number, whatever it has seen besides
+abbrev pub BeginsAfterItsCommits : Type 0
+BeginsAfterItsCommits = (o : Managed) (before after later : List Item) (txn : Transaction) (n : ℕ) (client : ℕ) →
+    IsReplied o before after txn (Committed n) → IsPrefix after later → txn.begin < (begun_in o later client).begin

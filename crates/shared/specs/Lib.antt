@@ -1,0 +1,4 @@
+pub mod Faults
+pub mod Sessions
+pub mod Stands
+pub mod Laws

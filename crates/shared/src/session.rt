@@ -1,0 +1,265 @@
+//! One client's session: it begins, writes, reads and aborts without the lock.
+ghost use Rattle.std.specs.Prelude.{◌≡◌, ◌+◌, ◌≤◌, ◌<◌, [], length, IfErr, IfOk, IfSome, IsErr, IsOk, IsSome, OnErr, OnOk, MatchOption, Err, None, Some};
+ghost use Rattle.std.specs.Option.{option_map};
+ghost use mathlib.Core.List.{IsPrefix};
+ghost use Rattle.left_right.specs.Sides.{view};
+ghost use Rattle.values.specs.declared.limits.TheConstants.{MAX_ROWS};
+ghost use Rattle.publishing.specs.Lists.{number_in};
+ghost use Rattle.publishing.specs.Views.{IsOf};
+ghost use Rattle.shared.specs.Sessions.{begun_in, new_seat, number_of, WasReplied, WasTold};
+ghost use Rattle.shared.specs.declared.fault.BeginFault.TheVariants as begin_fault;
+ghost use Rattle.shared.specs.declared.fault.CommitFault.TheVariants as commit_fault;
+
+use crate::fault::{BeginFault, CommitFault, NotOpen};
+use crate::locked::{Locked, Refused};
+use crate::store::ImageStore;
+use crate::told::Told;
+use model::CommitReply;
+use publishing::{Opening, SeenList, VersionReader, newest_seen};
+use std::alloc::Global;
+use std::marker::Model;
+use std::sync::Wait;
+use std::sync::ledger::Share;
+use txn::Txn;
+
+/// One client's session. It waits for the lock only to commit.
+pub struct Session<O: Opening> {
+    client: u32,
+    /// How many commit replies it got.
+    count: u64,
+    pub(crate) txn: Option<Txn>,
+    /// Its part of the ledger, with the count for its amount.
+    share: Share<O>,
+    /// Nothing only while it reads.
+    reader: Option<VersionReader>,
+    list: SeenList,
+    note: Option<SeenList>,
+    row_limit: u64,
+    alloc: Global,
+}
+
+impl<O: Opening> Model for Session<O> {
+    ghost use Rattle.std.specs.Prelude.{◌≡◌, ◌≤◌, IfSome};
+    ghost use Rattle.left_right.specs.Sides.{view as sight};
+    ghost use Rattle.values.specs.declared.limits.TheConstants.{MAX_ROWS};
+    ghost use Rattle.publishing.specs.Views.{IsOf};
+    ghost use Rattle.shared.specs.Sessions.{Seat, IsOfSeat, IsNote, note_in};
+
+    ghost Value = { Seat };
+
+    ghost view = { λ s. record { client = s.client; count = s.count; seen = s.list.list; txn = s.txn; note = note_in s.note } };
+
+    ghost invariant = { λ s.
+        ((s.share.parts ≡ 1) × (s.share.amount ≡ s.count))
+        × (s.list.opening ≡ O.opened)
+        × IsOfSeat O.opened.manager s.client s.list.list s.txn
+        × IsNote O.opened s.list.list s.note
+        × IfSome s.reader (λ r. IsOf O.opened (sight r.place))
+        × ((s.row_limit ≡ O.opened.manager.start.limit) × (s.row_limit ≤ MAX_ROWS)) };
+}
+
+impl<O: Opening> Drop for Session<O> {
+    fn drop(self) {
+        let Self {
+            client: _,
+            count: _,
+            txn,
+            share: _share,
+            reader: _reader,
+            list: _list,
+            note: _note,
+            row_limit: _,
+            alloc: _,
+        } = self;
+        if let Some(txn) = txn {
+            txn.abort();
+        }
+    }
+}
+
+/// Puts a transaction into its place. One is not let go, so the place is emptied by hand.
+fn put(place: &mut Option<Txn>, txn: Txn)
+    ensures { place.new ≡ Some txn }
+{
+    if let Some(old) = place.replace(txn) {
+        old.abort();
+    }
+}
+
+impl<O: Opening> Session<O> {
+    /// A session of a client, which has seen a list with no items.
+    pub(crate) fn new(
+        alloc: Global,
+        client: u32,
+        share: Share<O>,
+        reader: VersionReader,
+        list: SeenList,
+        row_limit: u64,
+    ) -> Session<O>
+        requires share { (share.parts ≡ 1) × (share.amount ≡ 0) }
+        requires list { (list.opening ≡ O.opened) × (list.list ≡ []) }
+        requires reader { IsOf O.opened (view reader.place) }
+        requires limit { (row_limit ≡ O.opened.manager.start.limit) × (row_limit ≤ MAX_ROWS) }
+        ensures { result ≡ new_seat client }
+    {
+        Session {
+            client,
+            count: 0,
+            txn: None,
+            share,
+            reader: Some(reader),
+            list,
+            note: None,
+            row_limit,
+            alloc,
+        }
+    }
+
+    /// The client's number.
+    pub fn client(&self) -> u32
+        ensures { result ≡ self.now.client }
+    {
+        self.client
+    }
+
+    /// How many commit replies it got.
+    pub fn count(&self) -> u64
+        ensures { result ≡ self.now.count }
+    {
+        self.count
+    }
+
+    /// The open transaction.
+    ///
+    /// # Errors
+    ///
+    /// `NotOpen` where there is none.
+    pub fn txn(&self) -> Result<&Txn, NotOpen>
+        ensures { MatchOption self.now.txn (IsErr result) (λ txn. IfOk result (λ found. found.now ≡ txn)) }
+    {
+        match &self.txn {
+            Some(txn) => Ok(txn),
+            None => Err(NotOpen),
+        }
+    }
+
+    /// Begins a transaction over the version that is published now, which has all that the session has seen. Waits for
+    /// nobody, and takes the same time whatever the table holds.
+    ///
+    /// # Errors
+    ///
+    /// `AlreadyOpen` where a transaction is open; `Ended` where what the sessions share is closed, or no reader is
+    /// admitted; `NoMemory` where a growth, or a share of the version, is refused.
+    pub fn begin(&mut self) -> Result<(), BeginFault>
+        ensures ok { OnOk result (self.new.txn ≡ Some (begun_in O.opened.manager self.new.seen self.old.client)) }
+        ensures seen { IsPrefix self.old.seen self.new.seen }
+        ensures twice { IsSome self.old.txn → result ≡ Err begin_fault.AlreadyOpen }
+        ensures once { result ≡ Err begin_fault.AlreadyOpen → IsSome self.old.txn }
+        ensures err { OnErr result (self.new ≡ self.old) }
+        ensures same { (self.new.client ≡ self.old.client) × (self.new.count ≡ self.old.count) × (self.new.note ≡ self.old.note) }
+    {
+        if self.txn.is_some() {
+            return Err(BeginFault::AlreadyOpen);
+        }
+        let mut seen = self.list.again();
+        let version = newest_seen(&mut self.reader, &mut seen)?;
+        let txn = Txn::open(self.alloc, version, self.client, self.row_limit)?;
+        put(&mut self.txn, txn);
+        self.list = seen;
+        Ok(())
+    }
+
+    /// Ends the transaction, and leaves no record of it. Takes no memory.
+    ///
+    /// # Errors
+    ///
+    /// `NotOpen` where there is none.
+    pub fn abort(&mut self) -> Result<(), NotOpen>
+        ensures ok { OnOk result (IsSome self.old.txn) }
+        ensures open { IsSome self.old.txn → IsOk result }
+        ensures new { self.new ≡ record self.old { txn = None } }
+    {
+        match self.txn.take() {
+            Some(txn) => {
+                txn.abort();
+                Ok(())
+            }
+            None => Err(NotOpen),
+        }
+    }
+
+    /// Takes out what the session was told at its last commit reply, unless that was taken out since. Takes no memory.
+    pub fn tell(&mut self) -> Option<Told<O>>
+        ensures told { MatchOption result (self.old.note ≡ None) (λ told. (self.old.note ≡ Some told.list.list) × IsPrefix told.list.list self.old.seen) }
+        ensures new { self.new ≡ record self.old { note = None } }
+    {
+        match self.note.take() {
+            Some(list) => Some(Told::of(list)),
+            None => None,
+        }
+    }
+
+    /// Takes in what another session was told: what that has seen, this one has then seen too. Takes no memory.
+    pub fn told(&mut self, told: Told<O>)
+        ensures seen { IsPrefix self.old.seen self.new.seen × IsPrefix told.list.list self.new.seen }
+        ensures same { self.new ≡ record self.old { seen = self.new.seen } }
+    {
+        let list = told.into_list();
+        self.list = self.list.longer(&list);
+    }
+
+    /// Commits the transaction over the state that the caller has locked.
+    pub(crate) fn commit_at<S: ImageStore, R: Wait>(
+        &mut self,
+        rt: &R,
+        state: &mut Locked<O, S>,
+    ) -> Result<CommitReply, CommitFault>
+        ensures replied { IfOk result (λ reply. WasReplied O.opened.manager self.old self.new reply) }
+        ensures told { IfOk result (λ reply. WasTold O.opened.manager self.new (number_of reply)) }
+        ensures ended { OnOk result ((self.new.txn ≡ None) × (self.new.count ≡ self.old.count + 1)) }
+        ensures err { OnErr result (self.new ≡ self.old) }
+        ensures open { self.old.txn ≡ None → result ≡ Err commit_fault.NotOpen }
+        ensures stranger { result ≡ Err commit_fault.Stranger → number_in O.opened.manager [] < number_in O.opened.manager self.old.seen }
+        ensures client { self.new.client ≡ self.old.client }
+    {
+        let Some(txn) = self.txn.take() else {
+            return Err(CommitFault::NotOpen);
+        };
+        match state.commit(rt, txn, &mut self.share, &mut self.list) {
+            Ok((reply, note)) => {
+                self.count += 1;
+                self.note = Some(note);
+                Ok(reply)
+            }
+            Err((txn, fault)) => {
+                put(&mut self.txn, txn);
+                match fault {
+                    Refused::NoMemory => Err(CommitFault::NoMemory),
+                    Refused::Stranger => Err(CommitFault::Stranger),
+                }
+            }
+        }
+    }
+
+    /// The count with the share that stands for it, and what was seen. An open transaction is aborted.
+    pub(crate) fn into_parts(self) -> (u64, Share<O>, SeenList)
+        ensures share { (result.0 ≡ self.count) × (result.1.parts ≡ 1) × (result.1.amount ≡ self.count) }
+        ensures list { (result.2.list ≡ self.seen) × (result.2.opening ≡ O.opened) }
+    {
+        let Self {
+            client: _,
+            count,
+            txn,
+            share,
+            reader: _reader,
+            list,
+            note: _note,
+            row_limit: _,
+            alloc: _,
+        } = self;
+        if let Some(txn) = txn {
+            txn.abort();
+        }
+        (count, share, list)
+    }
+}
