@@ -1,0 +1,14 @@
+//! The tests of sessions that share one manager, from answers that a person worked out.
+//!
+//! That a refused growth is answered shows under `rt try --test --fail-alloc N`, for N from 1 on: each test ends well,
+//! or with the error of the growth.
+#![tactic(auto)]
+
+#[cfg(test)]
+mod acts;
+#[cfg(test)]
+mod assertions;
+#[cfg(test)]
+mod scenes;
+#[cfg(test)]
+mod shown;

@@ -1,0 +1,77 @@
+//! Folds and checkpoints beside open transactions.
+
+use super::{Left, NONE, PLAIN, Scene, play};
+use crate::acts::Act::{Begin, Checkpoint, Commit, Entries, Fold, Scan, Write};
+use fixtures::ItemWrite::{Delete, Insert, Set};
+use fixtures::{BASE, Item};
+use model::CommitReply::Committed;
+use model::WriteReply::Done;
+use std::test::Fail;
+
+#[test]
+fn fold_and_checkpoint_spare_an_open_transaction(rt: HostRuntime) -> Result<(), Fail> {
+    const SCENE: Scene = Scene {
+        steps: &[
+            (0, Begin),
+            (0, Fold),
+            (0, Checkpoint(1)),
+            (1, Begin),
+            (1, Write(Insert(5, "Eve", 0), Done)),
+            (1, Commit(Committed(1))),
+            (0, Write(Set(30, 9), Done)),
+            (0, Entries("2:2=9")),
+            (0, Commit(Committed(2))),
+        ],
+        left: Left {
+            counts: &[1, 1],
+            records: &[(1, 0, &[Done], Committed(1)), (0, 0, &[Done], Committed(2))],
+            rows: &[
+                (5, "Eve", 0),
+                (10, "Ann", 1),
+                (20, "Bob", 2),
+                (30, "Cid", 9),
+            ],
+            ..NONE
+        },
+        stored: Some((1, &BASE)),
+        ..PLAIN
+    };
+    play(&rt, rt.alloc(), &SCENE)
+}
+
+/// The base table without its second row, and with one more.
+const CHANGED: [Item; 3] = [(10, "Ann", 1), (25, "Dee", 4), (30, "Cid", 3)];
+
+#[test]
+fn the_table_stays_when_its_layers_are_folded_and_stored(rt: HostRuntime) -> Result<(), Fail> {
+    const SCENE: Scene = Scene {
+        steps: &[
+            (0, Begin),
+            (0, Write(Insert(25, "Dee", 4), Done)),
+            (0, Write(Delete(20), Done)),
+            (0, Commit(Committed(1))),
+            (0, Begin),
+            (0, Fold),
+            (1, Begin),
+            (1, Scan(0, 9, &CHANGED)),
+            (1, Checkpoint(1)),
+            (0, Scan(0, 9, &CHANGED)),
+            (0, Write(Set(25, 5), Done)),
+            (0, Commit(Committed(2))),
+            (1, Scan(0, 9, &CHANGED)),
+            (1, Checkpoint(2)),
+        ],
+        left: Left {
+            counts: &[2, 0],
+            records: &[
+                (0, 0, &[Done, Done], Committed(1)),
+                (0, 1, &[Done], Committed(2)),
+            ],
+            rows: &[(10, "Ann", 1), (25, "Dee", 5), (30, "Cid", 3)],
+            ..NONE
+        },
+        stored: Some((2, &[(10, "Ann", 1), (25, "Dee", 5), (30, "Cid", 3)])),
+        ..PLAIN
+    };
+    play(&rt, rt.alloc(), &SCENE)
+}
