@@ -169,7 +169,7 @@ pub struct Locked<O: Opening, S: ImageStore> {
 }
 
 impl<O: Opening, S: ImageStore> Model for Locked<O, S> {
-    ghost use Rattle.std.specs.Prelude.{◌≡◌, ◌+◌, IfSome, IsSome};
+    ghost use Rattle.std.specs.Prelude.{◌≡◌, ◌+◌, ◌≤◌, IfSome, IsSome, length};
     ghost use Rattle.publishing.specs.Lists.{IsListed};
     ghost use Rattle.shared.specs.Stands.{Stand};
 
@@ -183,7 +183,8 @@ impl<O: Opening, S: ImageStore> Model for Locked<O, S> {
         × (s.manager.made ≡ O.opened.manager.made + s.book.total)
         × ((s.rest.parts ≡ 0) × (s.rest.amount ≡ 0))
         × (IsSome s.writer × IfSome s.writer (λ w. w.desk.shown.value ≡ s.list))
-        × (S.columns s.store ≡ s.manager.schema) };
+        × (S.columns s.store ≡ s.manager.schema)
+        × (O.opened.manager.made + length s.manager.history ≤ length O.opened.manager.history + s.manager.made) };
 }
 
 /// Why a commit isn't decided. The transaction stays open.
@@ -388,6 +389,7 @@ impl<O: Opening, S: ImageStore> Locked<O, S> {
         ensures list { (result.4.list ≡ self.list) × (result.4.opening ≡ O.opened) }
         ensures store { S.columns result.1 ≡ result.0.schema }
         ensures book { result.0.made ≡ O.opened.manager.made + result.2.total }
+        ensures handed { O.opened.manager.made + length result.0.history ≤ length O.opened.manager.history + result.0.made }
         ensures rest { (result.3.parts ≡ 0) × (result.3.amount ≡ 0) }
     {
         let Locked {

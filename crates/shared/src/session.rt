@@ -4,7 +4,7 @@ ghost use Rattle.std.specs.Option.{option_map};
 ghost use mathlib.Core.List.{IsPrefix};
 ghost use Rattle.left_right.specs.Sides.{view};
 ghost use Rattle.values.specs.declared.limits.TheConstants.{MAX_ROWS};
-ghost use Rattle.publishing.specs.Lists.{number_in};
+ghost use Rattle.publishing.specs.Lists.{IsBegun, number_in};
 ghost use Rattle.publishing.specs.Views.{IsOf};
 ghost use Rattle.shared.specs.Sessions.{begun_in, new_seat, number_of, WasReplied, WasTold};
 ghost use Rattle.shared.specs.declared.fault.BeginFault.TheVariants as begin_fault;
@@ -135,7 +135,9 @@ impl<O: Opening> Session<O> {
     ///
     /// `NotOpen` where there is none.
     pub fn txn(&self) -> Result<&Txn, NotOpen>
-        ensures { MatchOption self.now.txn (IsErr result) (λ txn. IfOk result (λ found. found.now ≡ txn)) }
+        ensures found { MatchOption self.now.txn (IsErr result) (λ txn. IfOk result (λ found. found.now ≡ txn)) }
+        ensures begun { IfOk result (λ found. IsBegun O.opened.manager self.now.seen found.now) }
+        ensures open { OnErr result (self.now.txn ≡ None) }
     {
         match &self.txn {
             Some(txn) => Ok(txn),
@@ -219,6 +221,7 @@ impl<O: Opening> Session<O> {
         ensures ended { OnOk result ((self.new.txn ≡ None) × (self.new.count ≡ self.old.count + 1)) }
         ensures err { OnErr result (self.new ≡ self.old) }
         ensures open { self.old.txn ≡ None → result ≡ Err commit_fault.NotOpen }
+        ensures undecided { result ≡ Err commit_fault.NotOpen → self.old.txn ≡ None }
         ensures stranger { result ≡ Err commit_fault.Stranger → number_in O.opened.manager [] < number_in O.opened.manager self.old.seen }
         ensures client { self.new.client ≡ self.old.client }
     {

@@ -1,5 +1,5 @@
 //! What the sessions share: the lock, and the calls that take it.
-ghost use Rattle.std.specs.Prelude.{◌≡◌, ◌+◌, ◌<◌, ◌≤◌, [], map, sum, All, IfErr, IfOk, IfSome, OnErr, OnOk, None, Some, Err, vec_capacity, vec_len};
+ghost use Rattle.std.specs.Prelude.{◌≡◌, ◌+◌, ◌<◌, ◌≤◌, [], length, map, sum, All, IfErr, IfOk, IfSome, OnErr, OnOk, None, Some, Err, vec_capacity, vec_len};
 ghost use mathlib.Core.List.{IsPrefix};
 ghost use Rattle.left_right.specs.Sides.{view};
 ghost use Rattle.model.specs.History.{IsLegal};
@@ -214,6 +214,7 @@ impl<O: Opening, S: ImageStore> Shared<O, S> {
         ensures ended { OnOk result ((session.new.txn ≡ None) × (session.new.count ≡ session.old.count + 1)) }
         ensures err { OnErr result (session.new ≡ session.old) }
         ensures open { session.old.txn ≡ None → result ≡ Err commit_fault.NotOpen }
+        ensures undecided { result ≡ Err commit_fault.NotOpen → session.old.txn ≡ None }
         ensures stranger { result ≡ Err commit_fault.Stranger → number_in O.opened.manager [] < number_in O.opened.manager session.old.seen }
         ensures client { session.new.client ≡ session.old.client }
     {
@@ -284,6 +285,7 @@ impl<O: Opening, S: ImageStore> Shared<O, S> {
         requires { O.clients ≡ O.parts }
         ensures lawful { IsManaged result.manager }
         ensures counts { result.counts.items ≡ map (λ s. s.count) sessions.items }
+        ensures handed { O.opened.manager.made + length result.manager.history ≤ length O.opened.manager.history + result.manager.made }
         ensures records { vec_len sessions ≡ O.clients → result.manager.made ≡ O.opened.manager.made + sum result.counts.items }
         ensures lists { All (λ s. AreBeginnings (commits_above O.opened.manager s.seen result.manager.start.base) (commits_made result.manager)) sessions.items }
         ensures store { S.columns result.store ≡ result.manager.schema }

@@ -1,4 +1,4 @@
-use Rattle.std.proofs.Common.{[], List, refl, sym, ap, subst, arith}
+use Rattle.std.proofs.Common.{[], List, length, refl, sym, ap, subst, arith}
 use Rattle.manager.specs.Managed.{Managed}
 use Rattle.publishing.specs.declared.item.Item.{Item}
 use Rattle.publishing.specs.Lists.{IsListed}
@@ -11,11 +11,13 @@ invariant_of-result g c =
     let m = c.args.manager in
     let r = c.requires.opening in
     let none = subst (λ (n : Managed). IsListed o [] n) r.2 (listed_at_opening o) in
-    let made = ap (λ (n : Managed). n.made) r.2 in (
+    let made = ap (λ (n : Managed). n.made) r.2 in
+    let held = ap (λ (n : Managed). length n.history) r.2 in (
       subst (λ (l : List Item). IsListed o l m) (sym r.1) none,
       r.0,
       omega (arith, made, c.requires.book.0),
       (c.requires.book.1, c.requires.book.2),
       (refl, c.requires.writer),
       c.requires.store,
+      omega (arith, made, held),
     )
