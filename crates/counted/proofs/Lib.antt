@@ -8,4 +8,5 @@ mod Runs
 mod Spots
 mod SpotSteps
 mod Totals
+pub mod Crossing
 pub mod CallerLemmas

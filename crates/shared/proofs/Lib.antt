@@ -3,3 +3,4 @@ pub mod RepliesLemmas
 pub mod SeatLemmas
 pub mod ShowLemmas
 pub mod SchemaLemmas
+pub mod Crossing
