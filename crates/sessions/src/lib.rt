@@ -1,4 +1,5 @@
-//! The tests of sessions that share one manager, from answers that a person worked out.
+//! The tests of sessions that share one manager, from answers that a person worked out. All but those of `threads` run on
+//! one thread.
 //!
 //! That a refused growth is answered shows under `rt try --test --fail-alloc N`, for N from 1 on: each test ends well,
 //! or with the error of the growth.
@@ -12,3 +13,5 @@ mod assertions;
 mod scenes;
 #[cfg(test)]
 mod shown;
+#[cfg(test)]
+mod threads;
