@@ -1,6 +1,7 @@
 -- Command lines, and what the usage says of them.
 use Rattle.std.proofs.Common.{◌≡◌, ◌∷◌, [], List, Some, None, true, false, codes, refl}
-use Rattle.clap.specs.Words.{Text, takes}
+use Rattle.clap.specs.Words.{Text, fault_of, takes}
+use Rattle.clap.specs.declared.error.kind.ErrorKind.TheVariants.{ArgumentConflict, TooManyValues}
 use Rattle.clap.proofs.OnLiterals.{clap_on_literals}
 use Rattle.inputs.specs.Words.{usage, word_for}
 use Rattle.inputs.specs.declared.words.TheConstants.{RECENT_COMMITS}
@@ -72,3 +73,38 @@ word_for-recent = refl
 word_for-conflicts : word_for (option_words (codes "2")) (codes "conflicts") ≡ Some (codes "row")
 unfolding clap_on_literals
 word_for-conflicts = refl
+
+-- `pdt run t.csv s.csv --threads`, and the same with other options and with the word twice
+abbrev threads_words : List Text → List Text
+threads_words more = codes "pdt" ∷ codes "run" ∷ codes "t.csv" ∷ codes "s.csv" ∷ codes "--threads" ∷ more
+
+takes-threads : takes usage (threads_words []) ≡ true
+unfolding clap_on_literals
+takes-threads = refl
+
+-- `clap` has a word of its own for it, which says whether it is there
+word_for-threads : word_for (threads_words []) (codes "threads") ≡ Some (codes "true")
+unfolding clap_on_literals
+word_for-threads = refl
+
+word_for-no_threads : word_for run_words (codes "threads") ≡ Some (codes "false")
+unfolding clap_on_literals
+word_for-no_threads = refl
+
+-- the word after it is another's
+word_for-threads_and_store : word_for (threads_words (codes "--store" ∷ codes "d" ∷ [])) (codes "store") ≡ Some (codes "d")
+unfolding clap_on_literals
+word_for-threads_and_store = refl
+
+word_for-threads_first : word_for (codes "pdt" ∷ codes "run" ∷ codes "--threads" ∷ codes "t.csv" ∷ codes "s.csv" ∷ []) (codes "table") ≡ Some (codes "t.csv")
+unfolding clap_on_literals
+word_for-threads_first = refl
+
+-- it is there once, and with no value
+fault_of-threads_twice : fault_of usage (threads_words (codes "--threads" ∷ [])) ≡ ArgumentConflict ∷ []
+unfolding clap_on_literals
+fault_of-threads_twice = refl
+
+fault_of-threads_value : fault_of usage (codes "pdt" ∷ codes "run" ∷ codes "t.csv" ∷ codes "s.csv" ∷ codes "--threads=true" ∷ []) ≡ TooManyValues ∷ []
+unfolding clap_on_literals
+fault_of-threads_value = refl

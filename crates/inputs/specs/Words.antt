@@ -1,10 +1,10 @@
 -- What the words of a command line say.
-use Rattle.std.specs.Prelude.{◌≡◌, ◌≤◌, ℕ, true, Option, Some, None, List, codes}
+use Rattle.std.specs.Prelude.{◌≡◌, ◌≤◌, ℕ, Bool, true, false, Option, Some, None, List, codes}
 use Rattle.std.specs.Option.{option_map, option_and_then}
 use Rattle.std.specs.Str.Parse.{IsNumeral, digits_value, without_leading_plus}
 use Rattle.clap.specs.Simple.{on_top}
 use Rattle.clap.specs.Words.{App, Row, Rule, Text, first_of, new_app, new_rule, subcommand_of, takes, with_rule, with_subcommand}
-use Rattle.clap.specs.declared.builder.ArgAction.TheVariants.{Set}
+use Rattle.clap.specs.declared.builder.ArgAction.TheVariants.{Set, SetTrue}
 use Rattle.clap.specs.declared.builder.value_parser.ValueParser.TheVariants.{Unsigned}
 use Rattle.values.specs.declared.limits.TheConstants.{MAX_RECENT_COMMITS, MAX_ROWS}
 use Rattle.model.specs.declared.clash.ConflictRule.{ConflictRule}
@@ -13,11 +13,15 @@ use Rattle.inputs.specs.declared.words.TheConstants.{RECENT_COMMITS}
 use Rattle.inputs.specs.declared.words.Settings.{Settings}
 use Rattle.inputs.specs.declared.words.Settings.TheVariants.{Run, Recover}
 
--- ---- the usage: `pdt run TABLE SCRIPT [--store DIR] [--recent N] [--limit N] [--conflicts column|row]`, `pdt recover DIR`
+-- ---- the usage: `pdt run TABLE SCRIPT [--threads] [--store DIR] [--recent N] [--limit N] [--conflicts column|row]`, `pdt recover DIR`
 
 -- a word that has to be there, by its place
 abbrev pub placed_rule : Text → Rule
 placed_rule id = record (new_rule id) { value_names = 1; required = true; action = Some Set }
+
+-- an option with no value, which is there or isn't
+abbrev pub flag_rule : Text → Rule
+flag_rule id = record (new_rule id) { long = Some id; action = Some SetTrue }
 
 -- an option with a value
 abbrev pub option_rule : Text → Rule
@@ -31,7 +35,8 @@ number_rule id largest = record (option_rule id) { parser = Some (Unsigned 1 lar
 abbrev pub run_usage : App
 run_usage =
     let placed = with_rule (with_rule (new_app (codes "run")) (placed_rule (codes "table"))) (placed_rule (codes "script")) in
-    let stored = with_rule placed (option_rule (codes "store")) in
+    let threaded = with_rule placed (flag_rule (codes "threads")) in
+    let stored = with_rule threaded (option_rule (codes "store")) in
     let counted = with_rule (with_rule stored (number_rule (codes "recent") MAX_RECENT_COMMITS)) (number_rule (codes "limit") MAX_ROWS) in
     with_rule counted (option_rule (codes "conflicts"))
 
@@ -59,6 +64,11 @@ word_for words = word_in (option_map (λ p. p.1) (subcommand_of usage words))
 
 -- ---- settings
 
+-- the word that the crate `clap` has for an option with no value: `true` where it is there, `false` where it isn't
+abbrev pub flag_word : Bool → Text
+flag_word true = codes "true"
+flag_word false = codes "false"
+
 -- the number that a word writes, or the usual one where there is none
 abbrev pub IsNumberOf : ℕ → Option Text → ℕ → Type 0
 IsNumberOf usual None number = number ≡ usual
@@ -73,17 +83,17 @@ IsRuleOf (Some word) ByRow = word ≡ codes "row"
 -- the settings are of the command, and of the words for each of its arguments
 abbrev pub AreOf : Option Text → (Text → Option Text) → Settings → Type 0
 AreOf command word_of (Recover dir) = (command ≡ Some (codes "recover")) × (word_of (codes "dir") ≡ Some dir.now)
-AreOf command word_of (Run table script store recent limit conflicts) =
+AreOf command word_of (Run table script threads store recent limit conflicts) =
     (command ≡ Some (codes "run"))
     × (word_of (codes "table") ≡ Some table.now) × (word_of (codes "script") ≡ Some script.now)
-    × (word_of (codes "store") ≡ option_map (λ w. w.now) store)
+    × (word_of (codes "threads") ≡ Some (flag_word threads)) × (word_of (codes "store") ≡ option_map (λ w. w.now) store)
     × IsNumberOf RECENT_COMMITS (word_of (codes "recent")) recent × IsNumberOf MAX_ROWS (word_of (codes "limit")) limit
     × IsRuleOf (word_of (codes "conflicts")) conflicts
 
 -- the numbers are within their limits
 abbrev pub IsWithinLimits : Settings → Type 0
 IsWithinLimits (Recover dir) = Unit {0}
-IsWithinLimits (Run table script store recent limit conflicts) =
+IsWithinLimits (Run table script threads store recent limit conflicts) =
     (1 ≤ recent) × (recent ≤ MAX_RECENT_COMMITS) × (1 ≤ limit) × (limit ≤ MAX_ROWS)
 
 -- the crate `clap` takes the words by the usage, and they say these settings

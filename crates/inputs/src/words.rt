@@ -1,9 +1,9 @@
 //! The words of the command line.
-ghost use Rattle.std.specs.Prelude.{◌≡◌, ◌≤◌, ℕ, false, [], Some, IfErr, IfOk, IfSome, IsNone, codes, map, option_map};
+ghost use Rattle.std.specs.Prelude.{◌≡◌, ◌≤◌, ℕ, Bool, false, [], Some, IfErr, IfOk, IfSome, IsNone, codes, map, option_map};
 ghost use Rattle.clap.specs.Words.{app_of, fault_of, first_value, found_of, kind_of, rule_of, subcommand_rows_of};
 ghost use Rattle.clap.specs.declared.error.kind.ErrorKind.TheVariants.{OutOfMemory};
 ghost use Rattle.model.specs.declared.clash.ConflictRule.{ConflictRule as Rule};
-ghost use Rattle.inputs.specs.Words.{number_rule, option_rule, placed_rule, usage, command_for, word_for, word_in, AreAsked, AreOf, IsNumberOf, IsRuleOf, IsWithinLimits};
+ghost use Rattle.inputs.specs.Words.{flag_rule, flag_word, number_rule, option_rule, placed_rule, usage, command_for, word_for, word_in, AreAsked, AreOf, IsNumberOf, IsRuleOf, IsWithinLimits};
 ghost use Rattle.inputs.specs.declared.words.Settings.{Settings as Asked};
 
 use clap::builder::ValueParser;
@@ -27,6 +27,8 @@ const TABLE_HELP: &str =
 
 const SCRIPT_HELP: &str =
     "The script, as CSV: a client and its call in each record, such as a,insert,25,Dee,4";
+
+const THREADS_HELP: &str = "Makes each client's calls on a thread of its own";
 
 const STORE_HELP: &str =
     "The folder that the store is made in: it has none of the store's files yet";
@@ -52,6 +54,8 @@ pub enum Settings<'a> {
         table: &'a str,
         /// The script's file.
         script: &'a str,
+        /// Whether each client's calls are made on a thread of its own.
+        threads: bool,
         /// The folder that the store is made in; none where nothing is said.
         store: Option<&'a str>,
         /// How many commits may come between a transaction's begin and its commit, 1 to 65,536; 64 where nothing is said.
@@ -73,8 +77,8 @@ pub enum Settings<'a> {
 /// # Errors
 ///
 /// `clap`'s error, with its text, where the words are not of the usage
-/// `pdt run TABLE SCRIPT [--store DIR] [--recent N] [--limit N] [--conflicts column|row]` or `pdt recover DIR`, where an N
-/// is out of its range, where help is asked for, and where a growth is refused.
+/// `pdt run TABLE SCRIPT [--threads] [--store DIR] [--recent N] [--limit N] [--conflicts column|row]` or
+/// `pdt recover DIR`, where an N is out of its range, where help is asked for, and where a growth is refused.
 pub fn read_words<'a>(alloc: Global, words: &'a [&'a str]) -> Result<Settings<'a>, Error>
     ensures said { IfOk result (AreOf (command_for (map (λ word. word.now) words.now)) (word_for (map (λ word. word.now) words.now))) }
     ensures within { IfOk result (λ settings. IsWithinLimits settings) }
@@ -115,6 +119,7 @@ fn run_settings<'a>(run: &ArgMatches<'a>) -> Option<Settings<'a>>
 {
     let table = run.get_str("table")?;
     let script = run.get_str("script")?;
+    let threads = flag_in(run.get_str("threads"))?;
     let most = MAX_RECENT_COMMITS as u64;
     let recent = number_in(run.get_str("recent"), RECENT_COMMITS, most)? as usize;
     let limit = number_in(run.get_str("limit"), MAX_ROWS, MAX_ROWS)?;
@@ -122,6 +127,7 @@ fn run_settings<'a>(run: &ArgMatches<'a>) -> Option<Settings<'a>>
     Some(Settings::Run {
         table,
         script,
+        threads,
         store: run.get_str("store"),
         recent,
         limit,
@@ -137,6 +143,18 @@ fn recover_settings<'a>(recover: &ArgMatches<'a>) -> Option<Settings<'a>>
 {
     let dir = recover.get_str("dir")?;
     Some(Settings::Recover { dir })
+}
+
+/// Whether an option with no value is there, by the word for it; none where it is no such word.
+fn flag_in(word: Option<&str>) -> Option<bool>
+    ensures said { IfSome result (λ given. option_map (λ w. w.now) word.entry ≡ Some (flag_word given)) }
+    ensures none { IsNone result → (given : Bool) → option_map (λ w. w.now) word.entry ≡ Some (flag_word given) → ⊥ }
+{
+    match word? {
+        "true" => Some(true),
+        "false" => Some(false),
+        _ => None,
+    }
 }
 
 /// The number that a word writes, or the usual one where there is no word; none where it isn't 1 to the largest.
@@ -173,6 +191,7 @@ fn program<'a>(alloc: Global) -> Result<Command<'a>, Error>
 {
     let table = file(alloc, "table", "TABLE", TABLE_HELP);
     let script = file(alloc, "script", "SCRIPT", SCRIPT_HELP);
+    let threads = flag(alloc, "threads", THREADS_HELP);
     let store = option(alloc, "store", "DIR", STORE_HELP);
     let recent = number(alloc, "recent", RECENT_HELP, MAX_RECENT_COMMITS as u64);
     let limit = number(alloc, "limit", LIMIT_HELP, MAX_ROWS);
@@ -181,6 +200,7 @@ fn program<'a>(alloc: Global) -> Result<Command<'a>, Error>
         .about(RUN_ABOUT)
         .arg(table)?
         .arg(script)?
+        .arg(threads)?
         .arg(store)?
         .arg(recent)?
         .arg(limit)?
@@ -208,6 +228,17 @@ fn file<'a>(alloc: Global, id: &'a str, shown: &'a str, help: &'a str) -> Arg<'a
         .value_name(shown)
         .required(true)
         .action(ArgAction::Set)
+}
+
+/// An option with no value.
+fn flag<'a>(alloc: Global, id: &'a str, help: &'a str) -> Arg<'a>
+    ensures rule { rule_of result ≡ flag_rule id.entry.now }
+    ensures local { result.global ≡ false }
+{
+    Arg::new(alloc, id)
+        .help(help)
+        .long(id)
+        .action(ArgAction::SetTrue)
 }
 
 /// An option with a number from 1 to the largest.

@@ -64,6 +64,7 @@ fn done(rt: &HostRuntime, settings: Settings<'_>) -> Result<u8, Refusal> {
         Settings::Run {
             table,
             script,
+            threads: _,
             store,
             recent,
             limit,

@@ -6,8 +6,8 @@ use model::ConflictRule::{ByColumn, ByRow};
 use std::alloc::Global;
 use std::process::Abort;
 
-/// The recent commits, the row limit and the conflict rule of a run.
-type Options = (usize, u64, ConflictRule);
+/// Whether clients have threads of their own, the recent commits, the row limit and the conflict rule of a run.
+type Options = (bool, usize, u64, ConflictRule);
 
 /// Fails where the words do not run `s.csv` over `t.csv` with these options.
 fn assert_run(rt: &impl Abort, alloc: Global, label: &str, words: &[&str], want: Options) {
@@ -16,6 +16,7 @@ fn assert_run(rt: &impl Abort, alloc: Global, label: &str, words: &[&str], want:
             Settings::Run {
                 table,
                 script,
+                threads,
                 store,
                 recent,
                 limit,
@@ -23,7 +24,7 @@ fn assert_run(rt: &impl Abort, alloc: Global, label: &str, words: &[&str], want:
             },
         ) => {
             assert_eq!(rt;
-                (table, script, store, (recent, limit, conflicts)),
+                (table, script, store, (threads, recent, limit, conflicts)),
                 ("t.csv", "s.csv", None, want),
                 "at {label}"
             );
@@ -41,41 +42,51 @@ fn assert_refused(rt: &impl Abort, alloc: Global, label: &str, words: &[&str], w
     }
 }
 
-const RUNS: [(&str, &[&str], Options); 8] = [
+const RUNS: [(&str, &[&str], Options); 10] = [
     (
         "no option",
         &["pdt", "run", "t.csv", "s.csv"],
-        (64, 2147483647, ByColumn),
+        (false, 64, 2147483647, ByColumn),
     ),
     (
         "a limit",
         &["pdt", "run", "t.csv", "s.csv", "--limit", "4"],
-        (64, 4, ByColumn),
+        (false, 64, 4, ByColumn),
     ),
     (
         "a limit first",
         &["pdt", "run", "--limit=4", "t.csv", "s.csv"],
-        (64, 4, ByColumn),
+        (false, 64, 4, ByColumn),
     ),
     (
         "the least",
         &["pdt", "run", "t.csv", "s.csv", "--limit", "1"],
-        (64, 1, ByColumn),
+        (false, 64, 1, ByColumn),
     ),
     (
         "the largest",
         &["pdt", "run", "t.csv", "s.csv", "--limit", "2147483647"],
-        (64, 2147483647, ByColumn),
+        (false, 64, 2147483647, ByColumn),
     ),
     (
         "recent commits",
         &["pdt", "run", "--recent", "65536", "t.csv", "s.csv"],
-        (65536, 2147483647, ByColumn),
+        (false, 65536, 2147483647, ByColumn),
     ),
     (
         "conflicts by row",
         &["pdt", "run", "--conflicts=row", "t.csv", "s.csv"],
-        (64, 2147483647, ByRow),
+        (false, 64, 2147483647, ByRow),
+    ),
+    (
+        "threads",
+        &["pdt", "run", "t.csv", "s.csv", "--threads"],
+        (true, 64, 2147483647, ByColumn),
+    ),
+    (
+        "threads first",
+        &["pdt", "run", "--threads", "t.csv", "s.csv"],
+        (true, 64, 2147483647, ByColumn),
     ),
     (
         "all options",
@@ -86,12 +97,13 @@ const RUNS: [(&str, &[&str], Options); 8] = [
             "s.csv",
             "--recent",
             "1",
+            "--threads",
             "--limit",
             "9",
             "--conflicts",
             "column",
         ],
-        (1, 9, ByColumn),
+        (true, 1, 9, ByColumn),
     ),
 ];
 
@@ -133,7 +145,7 @@ const LIMITS: [(&str, &[&str], ErrorKind); 7] = [
     ),
 ];
 
-const USAGES: [(&str, &[&str], ErrorKind); 6] = [
+const USAGES: [(&str, &[&str], ErrorKind); 8] = [
     (
         "no script",
         &["pdt", "run", "t.csv"],
@@ -148,6 +160,16 @@ const USAGES: [(&str, &[&str], ErrorKind); 6] = [
         "an unknown option",
         &["pdt", "run", "t.csv", "s.csv", "--fast"],
         ErrorKind::UnknownArgument,
+    ),
+    (
+        "threads twice",
+        &["pdt", "run", "t.csv", "s.csv", "--threads", "--threads"],
+        ErrorKind::ArgumentConflict,
+    ),
+    (
+        "threads with a value",
+        &["pdt", "run", "t.csv", "s.csv", "--threads=true"],
+        ErrorKind::TooManyValues,
     ),
     ("no command", &["pdt"], ErrorKind::MissingSubcommand),
     (
