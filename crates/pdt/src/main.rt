@@ -10,11 +10,12 @@ use crate::files::{bytes_of, column_path, header_path, make_column, make_header,
 use devices::{ColumnDevice, MemColumn, Store, StoreFault, have_failed};
 use pdtcli::{
     OpenOptions, Refusal, Settings, open_texts, read_header, read_words, recover, run_opened,
-    status_of,
+    run_opened_on_threads, status_of,
 };
 use std::alloc::Global;
 use std::process::ExitCode;
-use std::sync::{Arc, OnceLock};
+use std::sync::{Arc, OnceLock, Wait};
+use std::thread::Threads;
 use std::{env, fs, io};
 use values::NoMemory;
 
@@ -25,15 +26,16 @@ const MISUSED: u8 = 2;
 const FIRST_GENERATION: u32 = 1;
 
 fn main(rt: HostRuntime) -> ExitCode {
-    match answered(&rt) {
+    match answered(&rt, &rt) {
         Ok(status) => ExitCode::from(status),
         // The words can't be had, or what is wrong with them can't be told.
         Err(_) => ExitCode::from(MISUSED),
     }
 }
 
-/// Does what the words ask for, and gives the status to end with. What is refused is told on standard error.
-fn answered(rt: &HostRuntime) -> io::Result<u8> {
+/// Does what the words ask for, and gives the status to end with. What is refused is told on standard error. The second handle
+/// may start threads and wait for them.
+fn answered<T: Threads + Wait + Sync>(rt: &HostRuntime, starter: &T) -> io::Result<u8> {
     let mut given = Vec::new(rt.alloc());
     for word in env::args(rt)? {
         given.push(word)?;
@@ -44,7 +46,7 @@ fn answered(rt: &HostRuntime) -> io::Result<u8> {
     }
     match read_words(rt.alloc(), words.as_slice()) {
         Ok(settings) => {
-            let answer = done(rt, settings);
+            let answer = done(rt, starter, settings);
             if let Err(refusal) = &answer {
                 // Where even this can't be written, the status alone tells.
                 let _ = eprintln!(rt; "{refusal}");
@@ -59,12 +61,16 @@ fn answered(rt: &HostRuntime) -> io::Result<u8> {
 }
 
 /// Does what the settings ask for.
-fn done(rt: &HostRuntime, settings: Settings<'_>) -> Result<u8, Refusal> {
+fn done<T: Threads + Wait + Sync>(
+    rt: &HostRuntime,
+    starter: &T,
+    settings: Settings<'_>,
+) -> Result<u8, Refusal> {
     match settings {
         Settings::Run {
             table,
             script,
-            threads: _,
+            threads,
             store,
             recent,
             limit,
@@ -75,17 +81,19 @@ fn done(rt: &HostRuntime, settings: Settings<'_>) -> Result<u8, Refusal> {
                 limit,
                 conflicts,
             };
-            run(rt, table, script, store, options)
+            let starter = if threads { Some(starter) } else { None };
+            run(rt, starter, (table, script), store, options)
         }
         Settings::Recover { dir } => recover_folder(rt, dir),
     }
 }
 
-/// Runs the script's file over the table's, with a store in the folder, or in memory where none is named.
-fn run(
+/// Runs the script's file over the table's, its clients on threads of their own where these may be started, with a store in the
+/// folder, or in memory where none is named.
+fn run<T: Threads + Wait + Sync>(
     rt: &HostRuntime,
-    table: &str,
-    script: &str,
+    starter: Option<&T>,
+    (table, script): (&str, &str),
     folder: Option<&str>,
     options: OpenOptions,
 ) -> Result<u8, Refusal> {
@@ -107,7 +115,11 @@ fn run(
         return Err(Refusal::Store(StoreFault::StoreFailed));
     }
     let store = Store::new(alloc, devices, opened.schema(), FIRST_GENERATION)?;
-    run_opened(alloc, opened, store, &mut io::writer(rt))
+    let mut out = io::writer(rt);
+    match starter {
+        Some(starter) => run_opened_on_threads(starter, alloc, opened, store, &mut out),
+        None => run_opened(alloc, opened, store, &mut out),
+    }
 }
 
 /// A device in memory, whose bytes nobody reads.

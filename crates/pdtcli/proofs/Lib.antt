@@ -1,4 +1,5 @@
 pub mod RunLemmas
+mod ClientsLemmas
 mod ToldLemmas
 mod OutputLemmas
 mod ProgramLemmas

@@ -14,7 +14,7 @@ use Rattle.inputs.specs.declared.call.Call.{Call}
 use Rattle.inputs.specs.declared.call.Call.TheVariants as call
 use Rattle.inputs.specs.declared.call.ClientCall.{ClientCall}
 use Rattle.pdtcli.specs.declared.reply.Reply.{Reply}
-use Rattle.pdtcli.specs.declared.reply.Reply.TheVariants.{Begun, AlreadyOpen, NotOpen, Wrote, KeyColumn, TextTooLong, Row as Shown, Missing, NoRow, Place, Rows, End, Decided, Aborted, Folded, Stored, DeviceFailed, StoreFailed, GenerationsSpent, Cut, NoMemory}
+use Rattle.pdtcli.specs.declared.reply.Reply.TheVariants.{Begun, AlreadyOpen, NotOpen, Wrote, KeyColumn, TextTooLong, Row as Shown, Missing, NoRow, Place, Rows, End, Decided, Aborted, Folded, Stored, DeviceFailed, StoreFailed, GenerationsSpent, Cut, Ended, Stranger, NoMemory}
 use Rattle.pdtcli.specs.declared.reply.ReplyLine.{ReplyLine}
 use Rattle.txn.specs.Txn.{Transaction}
 use Rattle.manager.specs.Managed.{Managed, commits_in, IsDecided, IsOwn, begun_at, record_of, with_record, cut_of}
@@ -104,6 +104,8 @@ begin_keeps client old new (DeviceFailed i) own h = absurd h
 begin_keeps client old new StoreFailed own h = absurd h
 begin_keeps client old new GenerationsSpent own h = absurd h
 begin_keeps client old new (Cut count) own h = absurd h
+begin_keeps client old new Ended own h = absurd h
+begin_keeps client old new Stranger own h = absurd h
 
 write_keeps : (txn : Transaction) (write : Write) (old new : Side) (reply : Reply) → IsOwn old.manager txn → IfSome old.own (IsOwn old.manager) → OpenWriteStep txn write old reply new → SideKeeps old new
 write_keeps txn write old new (Wrote r) mine own h = side_with old (Some _) (record { schema = mine.schema; limit = mine.limit; begun = mine.begun; snapshot = mine.snapshot }) new h.2
@@ -127,6 +129,8 @@ write_keeps txn write old new (DeviceFailed i) mine own h = absurd h
 write_keeps txn write old new StoreFailed mine own h = absurd h
 write_keeps txn write old new GenerationsSpent mine own h = absurd h
 write_keeps txn write old new (Cut count) mine own h = absurd h
+write_keeps txn write old new Ended mine own h = absurd h
+write_keeps txn write old new Stranger mine own h = absurd h
 
 commit_keeps : (txn : Transaction) (old new : Side) (reply : Reply) → IfSome old.own (IsOwn old.manager) → OpenCommitStep txn old reply new → SideKeeps old new
 commit_keeps txn old new (Decided r) own h = subst (SideKeeps old) (sym h.1) (record { keeps = keeps_record old.manager _; own = tt })
@@ -150,6 +154,8 @@ commit_keeps txn old new (DeviceFailed i) own h = absurd h
 commit_keeps txn old new StoreFailed own h = absurd h
 commit_keeps txn old new GenerationsSpent own h = absurd h
 commit_keeps txn old new (Cut count) own h = absurd h
+commit_keeps txn old new Ended own h = absurd h
+commit_keeps txn old new Stranger own h = absurd h
 
 cut_own : (m : Managed) (own : Option Transaction) → IfSome own (IsOwn m) → IfSome own (IsOwn (cut_of m))
 cut_own m None h = tt

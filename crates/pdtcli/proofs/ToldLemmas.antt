@@ -15,9 +15,7 @@ use Rattle.model.proofs.CallerLemmas.{first, second}
 use Rattle.inputs.specs.Calls.{key_types}
 use Rattle.inputs.specs.Typed.{are_of_types, is_of_column, is_typed_write}
 use Rattle.pdtcli.specs.Run.{write_fault}
-use Rattle.pdtcli.specs.Told.{IsCause, IsToldShape, IsTold}
-use Rattle.txn.specs.declared.fault.WriteFault.{WriteFault}
-use Rattle.txn.specs.declared.fault.WriteFault.TheVariants.{Shape, NoMemory}
+use Rattle.pdtcli.specs.Told.{IsToldShape}
 
 same_count : (n m : ℕ) → n ≡ m → (n == m) ≡ true
 same_count n m h = grind (arith, nat_tests)
@@ -72,7 +70,7 @@ cell_told (Some type) key_cols col value fault h is = by (nat_lt col key_cols) i
     by true e = told_some IsToldShape told_long KeyColumn fault tt e
     by false e = value_told IsToldShape told_long (has_type type value) (is_too_long value) col fault h e
 
-write_told : (schema : Columns) (write : Write) (fault : ShapeFault) → T (is_typed_write schema write) → write_fault schema write ≡ Some fault → IsToldShape fault
+pub write_told : (schema : Columns) (write : Write) (fault : ShapeFault) → T (is_typed_write schema write) → write_fault schema write ≡ Some fault → IsToldShape fault
 write_told schema (Insert row) fault h is = list_told IsToldShape told_long schema.types row fault h is
 write_told schema (Delete key) fault h is = list_told IsToldShape told_long (key_types schema) key fault h is
 write_told schema (Set key col value) fault h is =
@@ -80,10 +78,6 @@ write_told schema (Set key col value) fault h is =
     (λ f e. list_told IsToldShape told_long (key_types schema) key f (first (are_of_types (key_types schema) key) _ h) e)
     (λ f e. cell_told (slice_get schema.types col) schema.key_cols col value f (second (are_of_types (key_types schema) key) _ h) e)
     is
-
-pub cause_told : (schema : Columns) (write : Write) (fault : WriteFault) → IsTrue (is_typed_write schema write) → IsCause schema write fault → IsTold fault
-cause_told schema write (Shape fault) h is = write_told schema write fault (T_from_true (is_typed_write schema write) h) is
-cause_told schema write NoMemory h is = tt
 
 -- where the first test finds no fault, the second's is the first of both
 pub second_fault : (a b : Option ShapeFault) (fault : ShapeFault) (ok : Unit {0}) → Ok ok ≡ answer_of a → Err fault ≡ answer_of b → or_fault a b ≡ Some fault
@@ -94,3 +88,11 @@ second_fault (Some f) b fault ok h k = cc h
 -- a key of its columns' types is refused for a text that is too long
 pub key_long : (schema : Columns) (key : Key) (fault : ShapeFault) → IsTrue (are_of_types (key_types schema) key) → key_fault schema key ≡ Some fault → (cell : ℕ) × (fault ≡ TextTooLong cell)
 key_long schema key fault h is = list_told (λ f. (cell : ℕ) × (f ≡ TextTooLong cell)) (λ n. (n, refl)) (key_types schema) key fault (T_from_true (are_of_types (key_types schema) key) h) is
+
+-- a test's answer tells the first fault, and no other reply than those of texts and key columns
+pub told_of : (schema : Columns) (write : Write) (fault : ShapeFault) → IsTrue (is_typed_write schema write) → answer_of (write_fault schema write) ≡ Err fault → IsToldShape fault
+told_of schema write fault h is = write_told schema write fault (T_from_true (is_typed_write schema write) h) (found (write_fault schema write) is)
+  where
+    found : (o : Option ShapeFault) → answer_of o ≡ Err fault → o ≡ Some fault
+    found None e = cc e
+    found (Some f) e = ap Some (cc e)

@@ -1,3 +1,4 @@
+pub mod Clients
 pub mod Outcome
 pub mod Output
 pub mod Program

@@ -78,8 +78,10 @@ is_refused line = found line.reply
     found (reply.DeviceFailed device) = true
     found reply.StoreFailed = true
     found reply.GenerationsSpent = true
+    found reply.Stranger = true
+    found reply.Ended = true
     found other = false
 
--- 1 where some reply tells that memory or the store was refused
+-- 1 where some reply tells that memory, the store or a session was refused
 abbrev pub exit_status : List ReplyLine → ℕ
 exit_status lines = cond (list_any is_refused lines) 1 0

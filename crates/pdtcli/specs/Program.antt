@@ -1,6 +1,6 @@
 -- What the program makes of its files: the table and the script that they say, a run of the one over the other, and which
 -- part is refused.
-use Rattle.std.specs.Prelude.{◌≡◌, ◌≢◌, ℕ, Option, None, Result, Ok, Err, List, IsOkAnd, length, replicate, unwrap_or}
+use Rattle.std.specs.Prelude.{◌≡◌, ◌≢◌, ℕ, ◌+◌, Option, None, Result, Ok, Err, List, IsOkAnd, length, replicate, sum, unwrap_or}
 use Rattle.std.proofs.Common.{Bor}
 use Rattle.values.specs.Shape.{Columns}
 use Rattle.stable.specs.Stable.{Stable}
@@ -14,7 +14,8 @@ use Rattle.inputs.specs.declared.fault.ScriptFault.{ScriptFault}
 use Rattle.inputs.specs.declared.fault.ScriptFault.TheVariants as script_fault
 use Rattle.inputs.specs.declared.fault.TableFault.{TableFault}
 use Rattle.inputs.specs.declared.fault.TableFault.TheVariants as table_fault
-use Rattle.manager.specs.Managed.{Managed, fault_of_opening, opened}
+use Rattle.manager.specs.Managed.{Managed, IsManaged, fault_of_opening, opened}
+use Rattle.pdtcli.specs.Clients.{IsLeft}
 use Rattle.pdtcli.specs.Outcome.{Left}
 use Rattle.pdtcli.specs.Run.{IsRun, State}
 use Rattle.manager.specs.declared.fault.OpenFault.TheVariants as open_fault
@@ -70,6 +71,14 @@ pub record IsRunFrom (manager : Managed) (script : Typed) (store : Taken) (left 
   pub after : Taken
   pub clients : left.clients ≡ script.clients
   pub run : IsRun (start_of manager script store) script.calls left.lines (record { manager = left.manager; transactions = transactions; store = after })
+
+-- this is left of the script's clients on threads of their own, each of which made its calls; a record was made for each commit
+-- that was decided, and the manager is lawful
+pub record IsRunOnThreads (manager : Managed) (script : Typed) (left : Left) : Type 0 where
+  pub clients : left.clients ≡ script.clients
+  pub made : IsLeft manager script.calls (length script.clients) left
+  pub records : left.manager.made ≡ manager.made + sum left.counts
+  pub lawful : IsManaged left.manager
 
 -- the run has no place for its replies, or what it leaves isn't written whole
 abbrev pub IsRunRefusal : Managed → Typed → Taken → Refusal → Type 0

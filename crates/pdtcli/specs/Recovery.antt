@@ -2,7 +2,6 @@
 use Rattle.std.specs.Prelude.{◌≡◌, ◌≢◌, ℕ, List, Ok, Err, IsOkAnd}
 use Rattle.values.specs.Shape.{Columns}
 use Rattle.values.specs.declared.row.Row.{Row}
-use Rattle.columns.specs.declared.fault.ReadFault.{ReadFault}
 use Rattle.columns.specs.declared.fault.ReadFault.TheVariants as read_fault
 use Rattle.devices.specs.Stored.{Image, stored_image}
 use Rattle.inputs.specs.Input.{IsTableOf}

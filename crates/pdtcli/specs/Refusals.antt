@@ -22,6 +22,7 @@ part_text refusal.UnreadableStore = codes "store"
 part_text (refusal.Header fault) = codes "store"
 part_text (refusal.Columns fault) = codes "store"
 part_text (refusal.Run fault) = codes "run"
+part_text (refusal.Threads fault) = codes "run"
 part_text (refusal.Output fault) = codes "output"
 
 -- the fault's text, where it is known: a text that is derived from the fault's type is not
@@ -37,6 +38,7 @@ fault_text refusal.UnreadableStore = Some (codes "Unreadable")
 fault_text (refusal.Header fault) = None
 fault_text (refusal.Columns fault) = None
 fault_text (refusal.Run fault) = Some (codes "NoMemory")
+fault_text (refusal.Threads fault) = None
 fault_text (refusal.Output fault) = Some (show_fault_text fault)
 
 abbrev pub line_of : List ℕ → Option (List ℕ) → Option (List ℕ)

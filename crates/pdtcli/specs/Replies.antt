@@ -51,6 +51,8 @@ reply_fields (reply.DeviceFailed device) = codes "DeviceFailed" ∷ decimal devi
 reply_fields reply.StoreFailed = codes "StoreFailed" ∷ []
 reply_fields reply.GenerationsSpent = codes "GenerationsSpent" ∷ []
 reply_fields (reply.Cut count) = codes "Done" ∷ decimal count ∷ []
+reply_fields reply.Ended = codes "Ended" ∷ []
+reply_fields reply.Stranger = codes "Stranger" ∷ []
 reply_fields reply.NoMemory = codes "NoMemory" ∷ []
 
 -- the fields of a reply line, where the clients have these names

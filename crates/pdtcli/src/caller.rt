@@ -1,5 +1,5 @@
 //! One client's side of a run: the transaction that it has open, and the reply to each of its calls.
-ghost use Rattle.std.specs.Prelude.{◌≡◌, ◌≤◌, ◌+◌, ◌++◌, List, Option, Some, None, IfOk, IfErr, OnErr, IsTrue, IfSome, map, vec_len, vec_capacity};
+ghost use Rattle.std.specs.Prelude.{◌≡◌, ◌≤◌, ◌+◌, ◌++◌, List, Option, Some, None, IfOk, OnErr, IsTrue, IfSome, map, vec_len, vec_capacity};
 ghost use Rattle.devices.specs.Store.{have_failed};
 ghost use Rattle.values.specs.declared.row.Row.{Row};
 ghost use Rattle.pdtcli.specs.Reads.{ReadStep};
@@ -8,17 +8,17 @@ ghost use Rattle.inputs.specs.Typed.{is_typed_call, is_typed_read, is_typed_writ
 ghost use Rattle.txn.specs.Txn.{IsAnswered, Transaction};
 ghost use Rattle.manager.specs.Managed.{Managed, IsOwn};
 ghost use Rattle.pdtcli.specs.Run.{IsServed, shown_lines, BeginStep, WriteStep, OpenWriteStep, CommitStep, AbortStep, CheckpointStep, FoldStep, CutStep, StoreStep, checkpoint_reply};
-ghost use Rattle.pdtcli.specs.Told.{IsCause, IsTold, IsToldAs};
 
 use crate::reads::read_in;
 use crate::reply::{Reply, ReplyLine};
+use crate::shape::refused_shape;
 use devices::{ColumnDevice, Store};
 use inputs::{Call, ClientCall, Read};
 use manager::{CheckpointFault, Manager};
 use model::{Write, WriteReply};
 use std::marker::Model;
 use txn::{Txn, WriteFault};
-use values::{NoMemory, ShapeFault};
+use values::NoMemory;
 
 /// A client, with the transaction that it has open. A transaction that is open where the client is let go ends there.
 pub(crate) struct Caller {
@@ -188,7 +188,7 @@ fn checkpoint(manager: &mut Manager, store: &mut Store) -> Reply
 }
 
 /// The reply that tells how a checkpoint was answered.
-fn reply_of(answer: Result<u32, CheckpointFault>) -> Reply
+pub(crate) fn reply_of(answer: Result<u32, CheckpointFault>) -> Reply
     ensures { result ≡ checkpoint_reply answer }
 {
     match answer {
@@ -207,46 +207,28 @@ fn cut(manager: &mut Manager) -> Reply
     Reply::Cut(manager.cut().records().len() as u64)
 }
 
-/// The reply to a write in a transaction.
+/// The reply to a write in a transaction. A row or a value that doesn't fit is refused before it is copied.
 fn write_in(txn: &mut Txn, write: &Write) -> Reply
     requires typed { IsTrue (is_typed_write txn.old.schema write.now) }
     ensures { (manager : Managed) → OpenWriteStep txn.old write.now (record { manager = manager; own = Some txn.old }) result (record { manager = manager; own = Some txn.new }) }
 {
+    if let Some(refused) = refused_shape(txn.schema(), write) {
+        return refused;
+    }
     match answer(txn, write) {
         Ok(reply) => Reply::Wrote(reply),
-        Err(fault) => refusal(fault),
+        Err(_) => Reply::NoMemory,
     }
 }
 
-/// What the transaction answers to a write. A row or a value that doesn't fit is refused before it is copied.
+/// What the transaction answers to a write.
 fn answer(txn: &mut Txn, write: &Write) -> Result<WriteReply, WriteFault>
     ensures ok { IfOk result (λ reply. IsAnswered txn.old write.now reply txn.new) }
-    ensures cause { IfErr result (λ fault. IsCause txn.old.schema write.now fault) }
     ensures err { OnErr result (txn.new ≡ txn.old) }
 {
     match write {
-        Write::Insert(row) => {
-            txn.schema().check_row(row)?;
-            txn.insert(row.copy()?)
-        }
+        Write::Insert(row) => txn.insert(row.copy()?),
         Write::Delete(key) => txn.delete(key),
-        Write::Set(key, col, value) => {
-            txn.schema().check_key(key)?;
-            txn.schema().check_cell(*col, value)?;
-            txn.set(key, *col, value.copy()?)
-        }
-    }
-}
-
-/// The reply that tells why a write is refused. Counts and types are those of the schema, as the script was read.
-fn refusal(fault: WriteFault) -> Reply
-    requires { IsTold fault }
-    ensures { IsToldAs fault result }
-{
-    match fault {
-        WriteFault::Shape(ShapeFault::KeyColumn) => Reply::KeyColumn,
-        WriteFault::Shape(ShapeFault::TextTooLong(cell)) => Reply::TextTooLong(cell),
-        WriteFault::Shape(_) => unreachable!(),
-        WriteFault::NoMemory => Reply::NoMemory,
+        Write::Set(key, col, value) => txn.set(key, *col, value.copy()?),
     }
 }

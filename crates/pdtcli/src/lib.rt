@@ -6,11 +6,14 @@
 //! refusal is of the first part that is refused, by its own first fault.
 //!
 //! *What it stands on.* `values` for schemas, rows and limits, `model` for tables, writes and histories, `stable` for the
-//! table, `txn` for transactions, `devices` for stores, `manager` for commits, `inputs` for what the program is given, `csv` for
-//! records, `itoa` for numbers, and `thiserror` for what a fault shows.
+//! table, `txn` for transactions, `devices` for stores, `manager` for commits, `publishing` and `shared` for sessions,
+//! `inputs` for what the program is given, `csv` for records, `itoa` for numbers, and `thiserror` for what a fault shows.
 #![tactic(auto)]
 
 mod caller;
+mod client;
+mod clients;
+mod gate;
 mod image;
 mod outcome;
 mod output;
@@ -19,9 +22,13 @@ mod reads;
 mod recovery;
 mod refusal;
 mod reply;
+mod seat;
 mod serial;
+mod shape;
 
+pub use clients::{RunFault, run_clients};
 pub use devices::{ReadFault, Store, StoreFault, StoredImage};
+pub use gate::{Gate, OpenGate};
 pub use inputs::{
     Call, ClientCall, Script, ScriptFault, Settings, TableFault, Verb, load_table, read_script,
     read_table, read_words,
@@ -29,7 +36,9 @@ pub use inputs::{
 pub use manager::{Manager, OpenFault};
 pub use outcome::{Left, Outcome};
 pub use output::{ShowFault, header_of, show, show_store};
-pub use program::{FileFault, OpenOptions, Opened, open_texts, run_opened, status_of};
+pub use program::{
+    FileFault, OpenOptions, Opened, open_texts, run_opened, run_opened_on_threads, status_of,
+};
 pub use recovery::{read_header, recover};
 pub use refusal::Refusal;
 pub use reply::{Reply, ReplyLine};

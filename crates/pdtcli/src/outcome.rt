@@ -3,18 +3,17 @@
 ghost use Rattle.std.specs.Prelude.{◌≡◌};
 
 use crate::reply::ReplyLine;
-use devices::Store;
 use manager::Manager;
 use std::marker::Model;
 use values::Text;
 
 /// What a run leaves. The store stands beside the rest, which contracts see as one value.
 #[derive(Drop)]
-pub struct Outcome {
+pub struct Outcome<S: Drop> {
     /// The reply lines, the manager and what was counted.
     pub left: Left,
     /// The store, as the checkpoints of the run left it.
-    pub store: Store,
+    pub store: S,
 }
 
 /// The reply lines of a run in order, with the manager and what was counted.

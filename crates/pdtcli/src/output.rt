@@ -13,7 +13,7 @@ ghost use Rattle.pdtcli.specs.Refusals.{show_fault_text};
 ghost use Rattle.pdtcli.specs.declared.output.ShowFault.TheVariants as show_fault;
 
 use crate::image::{push_header, push_row};
-use crate::outcome::Outcome;
+use crate::outcome::Left;
 use crate::reply::{Reply, ReplyLine, push_line};
 use csv::{ByteRecord, Writer, WriterBuilder};
 use delta::DeltaTree;
@@ -61,16 +61,15 @@ impl From<NoMemory> for ShowFault {
 
 /// Writes the reply lines in order, an empty line, and the newest image with its header, all as the crate `csv` writes
 /// records, with quotes where a field needs them. Answers the program's exit status: 1 where some reply is NoMemory,
-/// DeviceFailed, StoreFailed or GenerationsSpent, and 0 otherwise.
+/// DeviceFailed, StoreFailed, GenerationsSpent, Stranger or Ended, and 0 otherwise.
 ///
 /// # Errors
 ///
 /// `Write` where the writer refuses, `NoMemory` where a growth is refused; some of the output may have gone out.
-pub fn show<W: Write>(alloc: Global, outcome: &Outcome, out: &mut W) -> Result<u8, ShowFault>
-    ensures bytes { OnOk result (Appends (W.contents out.old) (W.contents out.new) (shown outcome.now.left)) }
-    ensures status { IfOk result (λ status. status ≡ exit_status outcome.now.left.lines) }
+pub fn show<W: Write>(alloc: Global, left: &Left, out: &mut W) -> Result<u8, ShowFault>
+    ensures bytes { OnOk result (Appends (W.contents out.old) (W.contents out.new) (shown left.now)) }
+    ensures status { IfOk result (λ status. status ≡ exit_status left.now.lines) }
 {
-    let left = &outcome.left;
     let newest = left.manager().newest();
     show_lines(alloc, left.clients(), left.lines(), out)?;
     show_header(alloc, newest.schema(), out)?;
@@ -126,7 +125,12 @@ fn is_refused(line: &ReplyLine) -> bool
 {
     matches!(
         line.reply,
-        Reply::NoMemory | Reply::DeviceFailed(_) | Reply::StoreFailed | Reply::GenerationsSpent
+        Reply::NoMemory
+            | Reply::DeviceFailed(_)
+            | Reply::StoreFailed
+            | Reply::GenerationsSpent
+            | Reply::Stranger
+            | Reply::Ended
     )
 }
 

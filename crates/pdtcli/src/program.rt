@@ -5,9 +5,11 @@ ghost use Rattle.std.specs.Io.KnownBytes.{Appends};
 ghost use Rattle.devices.specs.Store.{have_failed};
 ghost use Rattle.pdtcli.specs.Outcome.{Left};
 ghost use Rattle.pdtcli.specs.Output.{exit_status, shown};
-ghost use Rattle.pdtcli.specs.Program.{bytes_of, status_of, HasScript, HasTable, IsOpening, IsRefusalOf, IsRunFrom, IsRunRefusal, IsScriptRefusal, IsTableRefusal};
+ghost use Rattle.pdtcli.specs.Program.{bytes_of, status_of, HasScript, HasTable, IsOpening, IsRefusalOf, IsRunFrom, IsRunOnThreads, IsRunRefusal, IsScriptRefusal, IsTableRefusal};
 ghost use Rattle.pdtcli.specs.Refusals.{is_output};
 
+use crate::clients::run_clients;
+use crate::gate::OpenGate;
 use crate::output::show;
 use crate::refusal::Refusal;
 use crate::serial::run_serial;
@@ -15,9 +17,12 @@ use devices::{ColumnDevice, Store};
 use inputs::{Script, ScriptFault, TableFault, load_table, read_script};
 use manager::Manager;
 use model::ConflictRule;
+use shared::ImageStore;
 use stable::StableTable;
 use std::alloc::Global;
 use std::io::Write;
+use std::sync::Wait;
+use std::thread::Threads;
 use values::Schema;
 
 /// What a table is opened with.
@@ -114,7 +119,33 @@ pub fn run_opened<W: Write>(
         Ok(outcome) => outcome,
         Err(fault) => return Err(Refusal::Run(fault)),
     };
-    Ok(show(alloc, &outcome, out)?)
+    Ok(show(alloc, &outcome.left, out)?)
+}
+
+/// As `run_opened`, with each client's calls on a thread of its own. The reply lines are grouped by client.
+///
+/// # Errors
+///
+/// `Threads` where the sessions aren't opened, no thread could be made for a client, or a place for the run is refused:
+/// nothing is written then. `Output` where the output is refused, after some of it may have gone out.
+pub fn run_opened_on_threads<S: ImageStore + Send, W: Write, R: Threads + Wait + Sync>(
+    rt: &R,
+    alloc: Global,
+    opened: Opened,
+    store: S,
+    out: &mut W,
+) -> Result<u8, Refusal>
+    requires script { opened.script.schema ≡ opened.manager.schema }
+    requires store { S.columns store ≡ opened.manager.schema }
+    ensures shown { IfOk result (λ status. (left : Left)
+        × IsRunOnThreads opened.manager opened.script left
+        × Appends (W.contents out.old) (W.contents out.new) (shown left)
+        × (status ≡ exit_status left.lines)) }
+    ensures silent { IfErr result (λ refusal. is_output refusal ≡ false → out.new ≡ out.old) }
+{
+    let Opened { manager, script } = opened;
+    let outcome = run_clients(rt, alloc, manager, store, &script, &OpenGate)?;
+    Ok(show(alloc, &outcome.left, out)?)
 }
 
 /// The status that the program ends with, by what a run or a recovery answers: its own, or 1 where a part was refused.

@@ -5,6 +5,7 @@ ghost use Rattle.pdtcli.specs.Refusals.{part_text, refusal_text};
 ghost use Rattle.devices.specs.declared.fault.StoreFault.TheVariants as store_fault;
 ghost use Rattle.pdtcli.specs.declared.refusal.Refusal.TheVariants as parts;
 
+use crate::clients::RunFault;
 use crate::output::ShowFault;
 use devices::{ReadFault, StoreFault};
 use inputs::{ScriptFault, TableFault};
@@ -39,6 +40,8 @@ pub enum Refusal {
     Columns(ReadFault),
     /// The run had no place for its replies.
     Run(NoMemory),
+    /// The run of clients on threads of their own left nothing.
+    Threads(RunFault),
     /// The output isn't whole.
     Output(ShowFault),
 }
@@ -57,7 +60,7 @@ impl Refusal {
             | Refusal::UnreadableStore
             | Refusal::Header(_)
             | Refusal::Columns(_) => "store",
-            Refusal::Run(_) => "run",
+            Refusal::Run(_) | Refusal::Threads(_) => "run",
             Refusal::Output(_) => "output",
         }
     }
@@ -80,6 +83,7 @@ impl fmt::Display for Refusal {
             Refusal::Header(fault) => write!(f, "pdt: {part}: {fault}"),
             Refusal::Columns(fault) => write!(f, "pdt: {part}: {fault}"),
             Refusal::Run(NoMemory) => write!(f, "pdt: {part}: NoMemory"),
+            Refusal::Threads(fault) => write!(f, "pdt: {part}: {fault}"),
             Refusal::Output(fault) => write!(f, "pdt: {part}: {fault}"),
         }
     }
@@ -149,6 +153,14 @@ impl From<NoMemory> for Refusal {
 
     fn from(_: NoMemory) -> Refusal {
         Refusal::Store(StoreFault::NoMemory)
+    }
+}
+
+impl From<RunFault> for Refusal {
+    ghost from_gives = { λ fault refusal. refusal ≡ parts.Threads fault };
+
+    fn from(fault: RunFault) -> Refusal {
+        Refusal::Threads(fault)
     }
 }
 

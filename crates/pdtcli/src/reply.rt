@@ -55,6 +55,10 @@ pub enum Reply {
     GenerationsSpent,
     /// How many records a cut has handed out.
     Cut(u64),
+    /// No version is handed out any more.
+    Ended,
+    /// The session has seen more commits than are held.
+    Stranger,
     /// A growth was refused, and nothing has changed.
     NoMemory,
 }
@@ -122,6 +126,8 @@ fn push_reply(fields: &mut ByteRecord, reply: &Reply) -> Result<(), NoMemory>
         Reply::StoreFailed => push_word(fields, "StoreFailed"),
         Reply::GenerationsSpent => push_word(fields, "GenerationsSpent"),
         Reply::Cut(count) => push_counted(fields, "Done", *count),
+        Reply::Ended => push_word(fields, "Ended"),
+        Reply::Stranger => push_word(fields, "Stranger"),
         Reply::NoMemory => push_word(fields, "NoMemory"),
     }
 }

@@ -26,7 +26,7 @@ pub fn run_serial(
     manager: Manager,
     store: Store,
     script: &Script,
-) -> Result<Outcome, NoMemory>
+) -> Result<Outcome<Store>, NoMemory>
     // The calls were read under the manager's schema, which is the store's.
     requires script { script.now.schema ≡ manager.schema }
     requires store { store.schema ≡ manager.schema }
@@ -67,7 +67,7 @@ pub fn run_serial(
 }
 
 /// How many records the manager's cuts have handed out.
-fn handed_out(manager: &Manager) -> u64
+pub(crate) fn handed_out(manager: &Manager) -> u64
     ensures count { result + length manager.now.history ≡ manager.now.made }
 {
     manager.made() - manager.history().records().len() as u64

@@ -3,6 +3,7 @@ ghost use Rattle.std.specs.Prelude.{IfOk};
 ghost use Rattle.txn.specs.Txn.{Transaction};
 ghost use Rattle.manager.specs.Managed.{Managed, IsOwn};
 
+mod checkpoints;
 mod cuts;
 mod openings;
 mod refusals;

@@ -12,6 +12,7 @@ mod refusals;
 mod refused;
 mod regrown;
 mod runs;
+mod threads;
 mod writers;
 
 use crate::programs::memory::run_texts;

@@ -20,14 +20,14 @@ use values::limits::MAX_ROWS;
 use values::{NoMemory, ValueRef};
 
 /// The numbers of a table's rows, with their quantities.
-type Rows = &'static [(i64, i64)];
+pub(super) type Rows = &'static [(i64, i64)];
 
 /// What a manager shows: the rows of its newest table, and how many commits and records made them.
 #[derive(Clone, Copy)]
-struct Shown {
-    rows: Rows,
-    number: u64,
-    records: usize,
+pub(super) struct Shown {
+    pub(super) rows: Rows,
+    pub(super) number: u64,
+    pub(super) records: usize,
 }
 
 /// A transaction of one write that began before the commits of others.
@@ -43,7 +43,7 @@ struct Case {
     after: Shown,
 }
 
-const BASE: Rows = &[(10, 1), (20, 2), (30, 3)];
+pub(super) const BASE: Rows = &[(10, 1), (20, 2), (30, 3)];
 
 /// The first commit of all.
 const FIRST: Case = Case {
@@ -122,7 +122,7 @@ fn has_rows(manager: &Manager, rows: &[(i64, i64)]) -> bool {
 }
 
 /// Whether the manager shows this and nothing else.
-fn is_shown(manager: &Manager, want: &Shown) -> bool {
+pub(super) fn is_shown(manager: &Manager, want: &Shown) -> bool {
     has_rows(manager, want.rows)
         && manager.version().number() == want.number
         && manager.history().records().len() == want.records
@@ -262,7 +262,7 @@ fn a_write_succeeds_when_it_is_made_again(rt: HostRuntime) -> Result<(), Fail> {
 }
 
 /// A manager whose Read-PDT has an insert that its Write-PDT sets.
-fn folded_once(alloc: Global) -> Result<Manager, Fail> {
+pub(super) fn folded_once(alloc: Global) -> Result<Manager, Fail> {
     let mut manager = opened(alloc, 64, MAX_ROWS)?;
     another(alloc, &mut manager, Some(ItemWrite::Insert(25, "Dee", 4)))?;
     manager.fold()?;

@@ -8,7 +8,7 @@ use std::io::Write;
 use std::sync::{Arc, OnceLock};
 
 /// A device in memory, whose bytes nobody reads.
-fn memory_column(alloc: Global) -> Result<MemColumn, Refusal>
+pub(crate) fn memory_column(alloc: Global) -> Result<MemColumn, Refusal>
     ensures { IfOk result (λ column. column.failures ≡ 0) }
 {
     Ok(MemColumn::new(Vec::new(alloc), Arc::new(alloc, OnceLock::new())?)?)
@@ -50,6 +50,6 @@ pub(crate) fn run_whole(
     }
     let store = Store::new(alloc, devices, opened.schema(), 1)?;
     let outcome = run_serial(alloc, opened.manager, store, &opened.script)?;
-    let status = show(alloc, &outcome, out)?;
+    let status = show(alloc, &outcome.left, out)?;
     Ok((outcome.left, status))
 }

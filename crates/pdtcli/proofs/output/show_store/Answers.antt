@@ -1,5 +1,4 @@
 use Rattle.std.proofs.Common.{◌≡◌, ◌∙◌, ap, length, sym, subst, arith}
-use Rattle.values.specs.declared.limits.TheConstants.{MAX_ROWS}
 use Rattle.stable.specs.Stable.{IsStable}
 use Rattle.delta.specs.Tree.{Tree}
 use Rattle.merge.specs.Image.{AreStacked, image_rows, stack_of}

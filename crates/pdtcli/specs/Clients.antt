@@ -1,0 +1,123 @@
+-- A run of clients on threads of their own: what each call of a session may be answered, and what all of them leave.
+use Rattle.std.specs.Prelude.{◌≡◌, ◌⊎◌, ℕ, ◌+◌, ◌<◌, ◌==◌, cond, Some, IsNone, IsSome, Result, List, [], ◌∷◌, ◌++◌, All, filter, flat_map, length, map}
+use Rattle.std.specs.List.{range_with_len}
+use mathlib.Core.List.{IsPrefix}
+use Rattle.values.specs.declared.row.Row.{Row}
+use Rattle.inputs.specs.declared.call.Call.{Call}
+use Rattle.inputs.specs.declared.call.Call.TheVariants as call
+use Rattle.inputs.specs.declared.call.ClientCall.{ClientCall}
+use Rattle.manager.specs.Managed.{Managed}
+use Rattle.manager.specs.declared.fault.CheckpointFault.{CheckpointFault}
+use Rattle.publishing.specs.Commits.{commits_made}
+use Rattle.publishing.specs.Lists.{number_in}
+use Rattle.shared.specs.Sessions.{Seat, WasReplied, AreBeginnings, begun_in, commits_above, new_seat}
+use Rattle.pdtcli.specs.declared.reply.Reply.{Reply}
+use Rattle.pdtcli.specs.declared.reply.Reply.TheVariants.{Begun, AlreadyOpen, NotOpen, Decided, Folded, Cut, Ended, Stranger, NoMemory}
+use Rattle.pdtcli.specs.declared.reply.ReplyLine.{ReplyLine}
+use Rattle.pdtcli.specs.Outcome.{Left}
+use Rattle.pdtcli.specs.Reads.{ReadStep}
+use Rattle.pdtcli.specs.Run.{Side, WriteStep, AbortStep, checkpoint_reply, is_decided, lines_of}
+
+-- ---- one call
+
+-- the session's transaction, beside the manager that the sessions were opened over
+abbrev pub side_of_seat : Managed → Seat → Side
+side_of_seat o seat = record { manager = o; own = seat.txn }
+
+-- a begin: over the version of all that the session has then seen
+abbrev pub SeatBegin : Managed → Seat → Reply → Seat → Type 0
+SeatBegin o old Begun new = IsNone old.txn × IsPrefix old.seen new.seen × (new ≡ record old { seen = new.seen; txn = Some (begun_in o new.seen old.client) })
+SeatBegin o old AlreadyOpen new = IsSome old.txn × (new ≡ old)
+SeatBegin o old Ended new = IsNone old.txn × (new ≡ old)
+SeatBegin o old NoMemory new = IsNone old.txn × (new ≡ old)
+SeatBegin o old reply new = ⊥
+
+-- a commit: the reply is the one that is due where it stands in the published list. A stranger has seen more commits than
+-- were held at the opening
+abbrev pub SeatCommit : Managed → Seat → Reply → Seat → Type 0
+SeatCommit o old (Decided reply) new = WasReplied o old new reply × IsNone new.txn
+SeatCommit o old NotOpen new = IsNone old.txn × (new ≡ old)
+SeatCommit o old NoMemory new = IsSome old.txn × (new ≡ old)
+SeatCommit o old Stranger new = IsSome old.txn × (number_in o [] < number_in o old.seen) × (new ≡ old)
+SeatCommit o old reply new = ⊥
+
+-- a cut tells how many records it handed out
+abbrev pub IsCutReply : Reply → Type 0
+IsCutReply reply = ((count : ℕ) × (reply ≡ Cut count)) ⊎ (reply ≡ NoMemory)
+
+-- the session's call may show these rows, be answered so, and leave this
+abbrev pub SeatAnswers : Managed → Call → Seat → List Row → Reply → Seat → Type 0
+SeatAnswers o call.Begin old rows reply new = (rows ≡ []) × SeatBegin o old reply new
+SeatAnswers o (call.Write write) old rows reply new = (rows ≡ []) × WriteStep old.txn write (side_of_seat o old) reply (side_of_seat o new) × (new ≡ record old { txn = new.txn })
+SeatAnswers o (call.Read read) old rows reply new = ReadStep old.txn read rows reply × (new ≡ old)
+SeatAnswers o call.Commit old rows reply new = (rows ≡ []) × SeatCommit o old reply new
+SeatAnswers o call.Abort old rows reply new = (rows ≡ []) × AbortStep old.txn (side_of_seat o old) reply (side_of_seat o new) × (new ≡ record old { txn = new.txn })
+SeatAnswers o call.Fold old rows reply new = (rows ≡ []) × ((reply ≡ Folded) ⊎ (reply ≡ NoMemory)) × (new ≡ old)
+SeatAnswers o call.Checkpoint old rows reply new = (rows ≡ []) × ((answer : Result ℕ CheckpointFault) × (reply ≡ checkpoint_reply answer)) × (new ≡ old)
+SeatAnswers o call.Cut old rows reply new = (rows ≡ []) × IsCutReply reply × (new ≡ old)
+
+-- how many commits a reply decides
+abbrev pub decided_by : Reply → ℕ
+decided_by reply = cond (is_decided reply) 1 0
+
+-- and the session counts each commit that is decided, and nothing else
+pub record SeatStep (o : Managed) (asked : Call) (old : Seat) (rows : List Row) (reply : Reply) (new : Seat) : Type 0 where
+  pub answers : SeatAnswers o asked old rows reply new
+  pub counted : new.count ≡ old.count + decided_by reply
+  pub client : new.client ≡ old.client
+
+-- ---- one client
+
+-- a call's lines are those of such a step
+pub record SeatServed (o : Managed) (old : Seat) (asked : ClientCall) (lines : List ReplyLine) (new : Seat) : Type 0 where
+  pub rows : List Row
+  pub reply : Reply
+  pub step : SeatStep o asked.call old rows reply new
+  pub told : lines ≡ lines_of asked rows reply
+
+-- the lines of each call, in order
+abbrev pub IsSeatRun : Managed → Seat → List ClientCall → List ReplyLine → Seat → Type 0
+IsSeatRun o old [] lines new = (lines ≡ []) × (new ≡ old)
+IsSeatRun o old (asked ∷ calls) lines new = (mid : Seat) × (these : List ReplyLine) × (rest : List ReplyLine) × (lines ≡ these ++ rest) × SeatServed o old asked these mid × IsSeatRun o mid calls rest new
+
+-- a client's calls
+abbrev pub calls_of : ℕ → List ClientCall → List ClientCall
+calls_of client calls = filter (λ (asked : ClientCall). asked.client == client) calls
+
+-- how many of the lines decide a commit
+abbrev pub decided_in : List ReplyLine → ℕ
+decided_in lines = length (filter (λ (line : ReplyLine). is_decided line.reply) lines)
+
+-- all calls of a session's client were made and answered in their order, and the session has counted the commits among them
+-- that were decided
+pub record HasMade (o : Managed) (old : Seat) (calls : List ClientCall) (lines : List ReplyLine) (new : Seat) : Type 0 where
+  pub run : IsSeatRun o old (calls_of old.client calls) lines new
+  pub counted : new.count ≡ old.count + decided_in lines
+
+-- ---- all clients
+
+-- each session has made its calls among these, and was left so
+abbrev pub HaveMade : Managed → List (Seat × List ClientCall) → List (List ReplyLine) → List Seat → Type 0
+HaveMade o [] [] [] = Unit {0}
+HaveMade o (given ∷ givens) (lines ∷ groups) (seat ∷ seats) = HasMade o given.0 given.1 lines seat × HaveMade o givens groups seats
+HaveMade o [] [] (seat ∷ seats) = ⊥
+HaveMade o [] (lines ∷ groups) seats = ⊥
+HaveMade o (given ∷ givens) [] seats = ⊥
+HaveMade o (given ∷ givens) (lines ∷ groups) [] = ⊥
+
+abbrev pub each_with : List ClientCall → List Seat → List (Seat × List ClientCall)
+each_with calls seats = map (λ (seat : Seat). (seat, calls)) seats
+
+-- the lines of all clients, one client after the other
+abbrev pub joined_lines : List (List ReplyLine) → List ReplyLine
+joined_lines groups = flat_map (λ (lines : List ReplyLine). lines) groups
+
+-- what is left of so many clients: a group of lines for each, which its session made; the counts are the sessions', and the
+-- commits that each session has seen at the end and those of the manager's history are beginnings of one list
+pub record IsLeft (o : Managed) (calls : List ClientCall) (clients : ℕ) (left : Left) : Type 0 where
+  pub groups : List (List ReplyLine)
+  pub seats : List Seat
+  pub made : HaveMade o (each_with calls (map new_seat (range_with_len 0 clients))) groups seats
+  pub lines : left.lines ≡ joined_lines groups
+  pub counts : left.counts ≡ map (λ (seat : Seat). seat.count) seats
+  pub lists : All (λ (seat : Seat). AreBeginnings (commits_above o seat.seen left.manager.start.base) (commits_made left.manager)) seats

@@ -1,0 +1,167 @@
+//! A client's session: the reply to each of its calls, of which the commits and what changes layers or the store wait for
+//! the lock.
+ghost use Rattle.std.specs.Prelude.{◌≡◌, ◌≤◌, ◌+◌, ◌++◌, [], List, IfOk, IfSome, IsTrue, OnErr, vec_len, vec_capacity};
+ghost use Rattle.values.specs.declared.row.Row.{Row};
+ghost use Rattle.inputs.specs.Typed.{is_typed_call, is_typed_read, is_typed_write};
+ghost use Rattle.inputs.specs.declared.call.Call.TheVariants as call;
+ghost use Rattle.manager.specs.Managed.{Managed};
+ghost use Rattle.shared.specs.Sessions.{HasWritten, Seat};
+ghost use Rattle.pdtcli.specs.Run.{shown_lines};
+ghost use Rattle.pdtcli.specs.Clients.{SeatStep};
+
+use crate::caller::reply_of;
+use crate::reads::read_in;
+use crate::reply::{Reply, ReplyLine};
+use crate::shape::refused_shape;
+use inputs::{Call, ClientCall, Read};
+use model::{Write, WriteReply};
+use publishing::Opening;
+use shared::{BeginFault, CommitFault, ImageStore, Session, SessionFault, Shared};
+use std::sync::Wait;
+use values::NoMemory;
+
+/// Makes a call of the client: adds the line of each row that it shows, and answers what ends them. There is room for so
+/// many lines after those.
+pub(crate) fn serve<O: Opening, S: ImageStore, R: Wait>(
+    rt: &R,
+    shared: &Shared<O, S>,
+    session: &mut Session<O>,
+    asked: &ClientCall,
+    lines: &mut Vec<ReplyLine>,
+    left: usize,
+) -> Reply
+    requires typed { IsTrue (is_typed_call O.opened.manager.schema asked.now.call) }
+    requires room { vec_len lines.old + left ≤ vec_capacity lines.old }
+    ensures step { (rows : List Row) × SeatStep O.opened.manager asked.now.call session.old rows result session.new × (lines.new.items ≡ lines.old.items ++ shown_lines asked.now rows) }
+    ensures room { vec_len lines.new + left ≤ vec_capacity lines.new }
+{
+    match &asked.call {
+        Call::Begin => begin(session),
+        Call::Write(write) => write_down(session, write),
+        Call::Read(read) => look(session, asked, read, lines, left),
+        Call::Commit => commit(rt, shared, session),
+        Call::Abort => abort(session),
+        Call::Fold => fold(rt, shared),
+        Call::Checkpoint => checkpoint(rt, shared),
+        Call::Cut => cut(rt, shared),
+    }
+}
+
+/// Opens a transaction.
+fn begin<O: Opening>(session: &mut Session<O>) -> Reply
+    ensures { SeatStep O.opened.manager call.Begin session.old [] result session.new }
+{
+    match session.begin() {
+        Ok(()) => Reply::Begun,
+        Err(BeginFault::AlreadyOpen) => Reply::AlreadyOpen,
+        Err(BeginFault::Ended) => Reply::Ended,
+        Err(BeginFault::NoMemory) => Reply::NoMemory,
+    }
+}
+
+/// Writes in the open transaction.
+fn write_down<O: Opening>(session: &mut Session<O>, write: &Write) -> Reply
+    requires typed { IsTrue (is_typed_write O.opened.manager.schema write.now) }
+    ensures { SeatStep O.opened.manager (call.Write write.now) session.old [] result session.new }
+{
+    let Ok(txn) = session.txn() else {
+        return Reply::NotOpen;
+    };
+    if let Some(refused) = refused_shape(txn.schema(), write) {
+        return refused;
+    }
+    match answer(session, write) {
+        Ok(reply) => Reply::Wrote(reply),
+        Err(_) => Reply::NoMemory,
+    }
+}
+
+/// What the session answers to a write.
+fn answer<O: Opening>(session: &mut Session<O>, write: &Write) -> Result<WriteReply, SessionFault>
+    ensures ok { IfOk result (λ reply. HasWritten session.old write.now reply session.new) }
+    ensures err { OnErr result (session.new ≡ session.old) }
+{
+    match write {
+        Write::Insert(row) => match row.copy() {
+            Ok(row) => session.insert(row),
+            Err(NoMemory) => Err(SessionFault::NoMemory),
+        },
+        Write::Delete(key) => session.delete(key),
+        Write::Set(key, col, value) => match value.copy() {
+            Ok(value) => session.set(key, *col, value),
+            Err(NoMemory) => Err(SessionFault::NoMemory),
+        },
+    }
+}
+
+/// Reads in the open transaction.
+fn look<O: Opening>(
+    session: &Session<O>,
+    asked: &ClientCall,
+    read: &Read,
+    lines: &mut Vec<ReplyLine>,
+    left: usize,
+) -> Reply
+    requires typed { IsTrue (is_typed_read O.opened.manager.schema read.now) }
+    requires room { vec_len lines.old + left ≤ vec_capacity lines.old }
+    ensures step { (rows : List Row) × SeatStep O.opened.manager (call.Read read.now) session.now rows result session.now × (lines.new.items ≡ lines.old.items ++ shown_lines asked.now rows) }
+    ensures room { vec_len lines.new + left ≤ vec_capacity lines.new }
+{
+    match session.txn() {
+        Ok(txn) => read_in(txn, asked, read, lines, left),
+        Err(_) => Reply::NotOpen,
+    }
+}
+
+/// Commits the open transaction. Where it isn't decided, it stays open.
+fn commit<O: Opening, S: ImageStore, R: Wait>(
+    rt: &R,
+    shared: &Shared<O, S>,
+    session: &mut Session<O>,
+) -> Reply
+    ensures { SeatStep O.opened.manager call.Commit session.old [] result session.new }
+{
+    match shared.commit(session, rt) {
+        Ok(reply) => Reply::Decided(reply),
+        Err(CommitFault::NotOpen) => Reply::NotOpen,
+        Err(CommitFault::NoMemory) => Reply::NoMemory,
+        Err(CommitFault::Stranger) => Reply::Stranger,
+    }
+}
+
+/// Ends the open transaction.
+fn abort<O: Opening>(session: &mut Session<O>) -> Reply
+    ensures { SeatStep O.opened.manager call.Abort session.old [] result session.new }
+{
+    match session.abort() {
+        Ok(()) => Reply::Aborted,
+        Err(_) => Reply::NotOpen,
+    }
+}
+
+/// Folds the Write-PDT into the Read-PDT.
+fn fold<O: Opening, S: ImageStore, R: Wait>(rt: &R, shared: &Shared<O, S>) -> Reply
+    ensures { (o : Managed) (seat : Seat) → SeatStep o call.Fold seat [] result seat }
+{
+    match shared.fold(rt) {
+        Ok(()) => Reply::Folded,
+        Err(NoMemory) => Reply::NoMemory,
+    }
+}
+
+/// Writes the newest image to the store.
+fn checkpoint<O: Opening, S: ImageStore, R: Wait>(rt: &R, shared: &Shared<O, S>) -> Reply
+    ensures { (o : Managed) (seat : Seat) → SeatStep o call.Checkpoint seat [] result seat }
+{
+    reply_of(shared.checkpoint(rt))
+}
+
+/// Cuts the history, and drops what it hands out.
+fn cut<O: Opening, S: ImageStore, R: Wait>(rt: &R, shared: &Shared<O, S>) -> Reply
+    ensures { (o : Managed) (seat : Seat) → SeatStep o call.Cut seat [] result seat }
+{
+    match shared.cut(rt) {
+        Ok(history) => Reply::Cut(history.records().len() as u64),
+        Err(NoMemory) => Reply::NoMemory,
+    }
+}

@@ -1,0 +1,147 @@
+//! Runs whose clients have threads of their own. What they write is the same whatever the schedule.
+
+use super::memory::memory_column;
+use super::{BASE_TEXT, USUAL};
+use devices::{ColumnDevice, Store, StoreFault, have_failed};
+use pdtcli::{Gate, OpenGate, Refusal, open_texts, run_clients, show};
+use std::alloc::Global;
+use std::process::Abort;
+use std::sync::Wait;
+use std::sync::atomic::{AtomicBool, Ordering};
+use std::test::Fail;
+use std::thread;
+use std::thread::Threads;
+
+/// How often a thread looks for what it waits for.
+const MAX_TURNS: u32 = 1_000_000;
+
+/// A gate at which the first two clients meet before their second calls, and which holds the first one's third call back
+/// until the second one's is answered.
+#[derive(Drop)]
+struct Meeting {
+    first: AtomicBool,
+    second: AtomicBool,
+    answered: AtomicBool,
+    /// Whether a thread has waited in vain.
+    missed: AtomicBool,
+}
+
+impl Meeting {
+    fn new() -> Meeting {
+        Meeting {
+            first: AtomicBool::new(false),
+            second: AtomicBool::new(false),
+            answered: AtomicBool::new(false),
+            missed: AtomicBool::new(false),
+        }
+    }
+
+    /// Waits until the flag is raised, for so many turns at most.
+    fn wait_for(&self, flag: &AtomicBool) {
+        for _ in 0..MAX_TURNS {
+            if flag.load(Ordering::SeqCst) {
+                return;
+            }
+            thread::yield_now();
+        }
+        self.missed.store(true, Ordering::SeqCst);
+    }
+}
+
+impl Gate for Meeting {
+    fn before(&self, client: u32, call: usize) {
+        match (client, call) {
+            (0, 1) => {
+                self.first.store(true, Ordering::SeqCst);
+                self.wait_for(&self.second);
+            }
+            (1, 1) => {
+                self.second.store(true, Ordering::SeqCst);
+                self.wait_for(&self.first);
+            }
+            (0, 2) => self.wait_for(&self.answered),
+            _ => {}
+        }
+    }
+
+    fn after(&self, client: u32, call: usize) {
+        if client == 1 && call == 2 {
+            self.answered.store(true, Ordering::SeqCst);
+        }
+    }
+}
+
+/// What a run of the script over the base table writes, its clients on threads of their own.
+fn written<G: Gate, R: Threads + Wait + Sync>(
+    rt: &R,
+    alloc: Global,
+    script: &[u8],
+    gate: &G,
+) -> Result<Vec<u8>, Refusal> {
+    let opened = open_texts(alloc, Ok(BASE_TEXT), Ok(script), USUAL)?;
+    let mut devices: Vec<Box<dyn ColumnDevice + Send>> = Vec::new(alloc);
+    for _ in 0..opened.schema().width() {
+        devices.push(Box::new(alloc, memory_column(alloc)?)?)?;
+    }
+    if have_failed(devices.as_slice()) {
+        return Err(Refusal::Store(StoreFault::StoreFailed));
+    }
+    let store = Store::new(alloc, devices, opened.schema(), 1)?;
+    let outcome = run_clients(rt, alloc, opened.manager, store, &opened.script, gate)?;
+    let mut out = Vec::new(alloc);
+    show(alloc, &outcome.left, &mut out)?;
+    Ok(out)
+}
+
+/// Both clients have begun before either writes, so neither could be answered so on one thread.
+const MET: (&[u8], &str) = (
+    b"a,begin\na,set,10,qty,7\na,commit\na,begin\na,get,10\na,abort\nb,begin\nb,set,20,qty,8\nb,commit\n",
+    "a,begin,Begun\na,set,Done\na,commit,Committed,2\na,begin,Begun\na,get,Row,10,Ann,7\na,abort,Aborted\nb,begin,Begun\nb,set,Done\nb,commit,Committed,1\n\nid:int:key,name:text,qty:int\n10,Ann,7\n20,Bob,8\n30,Cid,3\n",
+);
+
+/// Fails where this isn't the text.
+fn assert_text(rt: &impl Abort, out: &[u8], want: &str) {
+    assert!(rt; out == want.as_bytes(), "the text");
+}
+
+#[test]
+fn clients_meet_on_threads_of_their_own(rt: HostRuntime) -> Result<(), Fail> {
+    let gate = Meeting::new();
+    let out = written(&rt, rt.alloc(), MET.0, &gate)?;
+    assert_text(&rt, out.as_slice(), MET.1);
+    assert!(&rt;
+        !gate.missed.load(Ordering::SeqCst),
+        "a client that didn't come"
+    );
+    Ok(())
+}
+
+/// Scripts whose lines are the same in every schedule: grouped by client, with a store, folds and cuts among them, what is
+/// not open, and no client at all.
+const CASES: [(&[u8], &str); 4] = [
+    (
+        b"a,begin\na,insert,25,Dee,4\na,commit\na,fold\na,checkpoint\na,cut\na,begin\na,scan,0,9\n",
+        "a,begin,Begun\na,insert,Done\na,commit,Committed,1\na,fold,Done\na,checkpoint,Done,1\na,cut,Done,1\na,begin,Begun\na,scan,Row,10,Ann,1\na,scan,Row,20,Bob,2\na,scan,Row,25,Dee,4\na,scan,Row,30,Cid,3\na,scan,End,4\n\nid:int:key,name:text,qty:int\n10,Ann,1\n20,Bob,2\n25,Dee,4\n30,Cid,3\n",
+    ),
+    (
+        b"a,begin\nb,len\na,begin\nb,abort\na,set,20,id,9\nb,commit\na,rank,20\nb,begin\na,abort\nb,at,0\n",
+        "a,begin,Begun\na,begin,AlreadyOpen\na,set,KeyColumn\na,rank,Place,1,true\na,abort,Aborted\nb,len,NotOpen\nb,abort,NotOpen\nb,commit,NotOpen\nb,begin,Begun\nb,at,Row,10,Ann,1\n\nid:int:key,name:text,qty:int\n10,Ann,1\n20,Bob,2\n30,Cid,3\n",
+    ),
+    (
+        b"b,begin\na,begin\nb,delete,20\na,abort\n",
+        "b,begin,Begun\nb,delete,Done\na,begin,Begun\na,abort,Aborted\n\nid:int:key,name:text,qty:int\n10,Ann,1\n20,Bob,2\n30,Cid,3\n",
+    ),
+    (
+        b"",
+        "\nid:int:key,name:text,qty:int\n10,Ann,1\n20,Bob,2\n30,Cid,3\n",
+    ),
+];
+
+#[test]
+fn lines_are_grouped_by_client(rt: HostRuntime) -> Result<(), Fail> {
+    for (script, want) in &CASES {
+        let out = written(&rt, rt.alloc(), script, &OpenGate)?;
+        assert_text(&rt, out.as_slice(), want);
+    }
+    Ok(())
+}
