@@ -71,7 +71,7 @@ fn begun<O: Opening>(session: &mut Session<O>) -> Result<(), BeginFault> {
 }
 
 /// What a write answers, which is made of its parts where there is memory.
-fn written<O: Opening>(
+pub(crate) fn written<O: Opening>(
     alloc: Global,
     session: &mut Session<O>,
     named: ItemWrite,
