@@ -3,7 +3,7 @@ ghost use Rattle.std.specs.Prelude.{◌≡◌, ◌≢◌, ℕ, ◌<◌, ◌≤�
 ghost use Rattle.devices.specs.Appending.{Appends, MayFollow, Stores};
 ghost use Rattle.devices.specs.Image.{headers_of};
 ghost use Rattle.devices.specs.Ready.{AreReady, AreWhole};
-ghost use Rattle.devices.specs.Store.{StopsAt, appended, have_failed};
+ghost use Rattle.devices.specs.Store.{IsNotMade, StopsAt, appended, have_failed};
 ghost use Rattle.devices.specs.Stored.{stored_image};
 ghost use Rattle.devices.specs.declared.fault.StoreFault.TheVariants as fault;
 
@@ -85,6 +85,7 @@ impl Store {
         ensures stored { IfOk result (λ store. AreWhole first schema.now.types (map (λ b. contents b) devices.items) → stored_image schema.now (map (λ b. contents b) store.devices.items) ≡ stored_image schema.now (map (λ b. contents b) devices.items)) }
         ensures ready { IfOk result (λ store. AreWhole first schema.now.types (map (λ b. contents b) devices.items) → AreReady first schema.now.types (map (λ b. contents b) store.devices.items)) }
         ensures count { length devices.items ≢ length schema.now.types → result ≡ Err fault.WrongCount }
+        ensures refused { IfErr result (IsNotMade (length devices.items) (length schema.now.types)) }
     {
         if devices.len() != schema.width() {
             return Err(StoreFault::WrongCount);
