@@ -37,19 +37,21 @@ module _ (stable : Stable) (read write trans : Tree) (len : ℕ) (h : AreKept st
       let small : length stable.rows < 2 ^ 62 = omega (arith, h.few) in
       places stable.rows (subst (λ n. IsOver n 0 (length stable.rows) read.entries) (sym h.stacked.lower.key_cols) levels.lower) h.read_lawful small low
 
--- what is left under each layer
-module _ (rows : List Row) (read write trans : List Entry) (r w t : TreeCursor) (rid : ℕ) (hr : IsCursorAt rows w.sid r) (hw : IsCursorAt (merged_rows rows read) t.sid w) (ht : IsCursorAt (merged_rows (merged_rows rows read) write) rid t) (r_is : r.tree.entries ≡ read) (w_is : w.tree.entries ≡ write) (t_is : t.tree.entries ≡ trans) where
+-- what is left under the two lower layers
+module _ (rows : List Row) (read write : List Entry) (r w : TreeCursor) (rid : ℕ) (hr : IsCursorAt rows w.sid r) (hw : IsCursorAt (merged_rows rows read) rid w) (r_is : r.tree.entries ≡ read) (w_is : w.tree.entries ≡ write) where
   read_is : rows_left r (drop r.sid rows) ≡ drop w.sid (merged_rows rows read)
   read_is = hr.rows ∙ ap (λ (es : List Entry). drop w.sid (merged_rows rows es)) r_is
 
-  write_is : rows_left w (rows_left r (drop r.sid rows)) ≡ drop t.sid (merged_rows (merged_rows rows read) write)
-  write_is = ap (rows_left w) read_is ∙ hw.rows ∙ ap (λ (es : List Entry). drop t.sid (merged_rows (merged_rows rows read) es)) w_is
-
-  pub image_is : rows_left t (rows_left w (rows_left r (drop r.sid rows))) ≡ drop rid (merged_rows (merged_rows (merged_rows rows read) write) trans)
-  image_is = ap (rows_left t) write_is ∙ ht.rows ∙ ap (λ (es : List Entry). drop rid (merged_rows (merged_rows (merged_rows rows read) write) es)) t_is
+  pub write_is : rows_left w (rows_left r (drop r.sid rows)) ≡ drop rid (merged_rows (merged_rows rows read) write)
+  write_is = ap (rows_left w) read_is ∙ hw.rows ∙ ap (λ (es : List Entry). drop rid (merged_rows (merged_rows rows read) es)) w_is
 
   pub write_stands : IsCursor (length (rows_left r (drop r.sid rows))) w
   write_stands = subst (λ (xs : List Row). IsCursor (length xs) w) (sym read_is) hw.cursor
 
-  pub trans_stands : IsCursor (length (rows_left w (rows_left r (drop r.sid rows)))) t
-  trans_stands = subst (λ (xs : List Row). IsCursor (length xs) t) (sym write_is) ht.cursor
+-- and under a tree over them
+module _ (base left : List Row) (trans : List Entry) (t : TreeCursor) (rid : ℕ) (ht : IsCursorAt base rid t) (left_is : left ≡ drop t.sid base) (t_is : t.tree.entries ≡ trans) where
+  pub own_is : rows_left t left ≡ drop rid (merged_rows base trans)
+  own_is = ap (rows_left t) left_is ∙ ht.rows ∙ ap (λ (es : List Entry). drop rid (merged_rows base es)) t_is
+
+  pub own_stands : IsCursor (length left) t
+  own_stands = subst (λ (xs : List Row). IsCursor (length xs) t) (sym left_is) ht.cursor

@@ -1,5 +1,5 @@
 -- The layers of a stack, as entries over rows and as effects on tables.
-use Rattle.std.proofs.Common.{◌≡◌, ℕ, suc, ◌<◌, ◌≤◌, Bool, true, false, cond, ◌&&◌, T, is_some, Some, List, [], ◌∷◌, ◌++◌, map, length, Ordering, Less, Equal, Greater, is_lt, is_eq, refl, sym, ap, ◌∙◌, subst, arith}
+use Rattle.std.proofs.Common.{◌≡◌, ℕ, suc, ◌<◌, ◌≤◌, Bool, true, false, cond, ◌&&◌, T, is_some, Some, None, List, [], ◌∷◌, ◌++◌, map, length, Ordering, Less, Equal, Greater, is_lt, is_eq, refl, sym, ap, ◌∙◌, subst, arith}
 use Rattle.std.specs.Prelude.{nat_lt, nat_le}
 use Rattle.std.specs.Bool.{passes}
 use Rattle.std.specs.List.{list_all}
@@ -16,12 +16,12 @@ use Rattle.model.specs.declared.effect.Effect.TheVariants as effect
 use Rattle.model.specs.Maps.{is_sorted}
 use Rattle.model.specs.Table.{Table, rows_of, row_at, rank, table_of, is_keyed_table, IsTable}
 use Rattle.model.specs.Effects.{Cells, Effects, AreOver, fits, all_fit, are_keyed_effects, is_keyed_effect, table_with}
-use Rattle.model.specs.Entries.{entry_at, entries_of, canonical_entries}
+use Rattle.model.specs.Entries.{entry_at, entries_of, canonical_entries, IsLawful}
 use Rattle.model.specs.Merging.{merged_rows}
-use Rattle.model.proofs.CallerLemmas.{both, first, second, is_below, one_if, rank-cons, rank-le-length, ordered-canonical_entries, rows_of-table_of, table_of-rows_of, merged_rows-canonical_entries, leaves}
+use Rattle.model.proofs.CallerLemmas.{both, first, second, is_below, one_if, rank-cons, rank-le-length, ordered-canonical_entries, rows_of-table_of, table_of-rows_of, merged_rows-canonical_entries, merged_rows_from_nothing, leaves}
 use Rattle.stable.specs.Stable.{Stable, table_in}
 use Rattle.delta.specs.Tree.{Tree}
-use Rattle.merge.specs.Image.{Stack, stack_of, read_rows, write_rows, image_rows, image_table, IsLayer, AreStacked}
+use Rattle.merge.specs.Image.{Stack, stack_of, stack_below, tree_over, read_rows, write_rows, image_rows, image_table, IsLayer, AreBothStacked, AreStacked}
 use Rattle.merge.specs.Level.{stands_within, IsOver, AreLevels}
 
 of_le : (n m : ℕ) → n ≤ m → T (nat_le n m)
@@ -145,6 +145,44 @@ module _ (stable : Stable) (read write trans : Tree) (h : AreStacked stable read
   image_is_table =
       subst (IsTable stable.schema) (sym image_table_is)
       (leaves stable.schema (table_with (table_with (table_in stable) h.lower.effects) h.middle.effects) h.upper.effects h.upper.over)
+
+-- ---- no tree on top
+
+merged_rows-nothing : (rows : List Row) → merged_rows rows [] ≡ rows
+merged_rows-nothing rows = merged_rows_from_nothing 0 rows
+
+pub image_rows-none : (stable : Stable) (read write : Tree) → image_rows (stack_below stable read write) ≡ write_rows (stack_below stable read write)
+image_rows-none stable read write = merged_rows-nothing (write_rows (stack_below stable read write))
+
+pub nothing_lawful : (key_cols : ℕ) → IsLawful key_cols []
+nothing_lawful key_cols = record { ordered = refl; placed = λ k d within. absurd (omega arith); counted = omega arith }
+
+module _ (stable : Stable) (read write : Tree) (h : AreBothStacked stable read write) where
+  abbrev pub under : Table
+  under = table_with (table_with (table_in stable) h.lower.effects) h.middle.effects
+
+  pub under_is_table : IsTable stable.schema under
+  under_is_table = leaves stable.schema (table_with (table_in stable) h.lower.effects) h.middle.effects h.middle.over
+
+  -- no entries are those of no effects
+  abbrev pub none_stacked : AreStacked stable read write (tree_over stable.schema.key_cols None)
+  none_stacked = record {
+    lower = h.lower;
+    middle = h.middle;
+    upper = record {
+      key_cols = refl;
+      effects = [];
+      over = record { table = under_is_table; effects_are = record { keyed = refl; fitting = refl }; fit = refl };
+      entries = refl;
+    };
+  }
+
+-- the image is then the table under the two lower layers
+pub image_table-none : (stable : Stable) (read write : Tree) (h : AreBothStacked stable read write) → image_table (stack_below stable read write) ≡ table_with (table_with (table_in stable) h.lower.effects) h.middle.effects
+image_table-none stable read write h =
+    let t = table_with (table_with (table_in stable) h.lower.effects) h.middle.effects in
+    ap (table_of stable.schema.key_cols) (image_rows-none stable read write ∙ write_rows_is stable read write (tree_over stable.schema.key_cols None) (none_stacked stable read write h))
+    ∙ table_of-rows_of stable.schema.key_cols t (passes (is_keyed_table stable.schema.key_cols t) (under_is_table stable read write h).keyed)
 
 -- no rank in a table is past the rows that it has
 pub rank-few : (k : Key) (t : Table) (rows : List Row) → rows ≡ rows_of t → rank k t ≤ length rows

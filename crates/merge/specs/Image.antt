@@ -1,5 +1,5 @@
 -- The image of a stable table under stacked layers of entries.
-use Rattle.std.specs.Prelude.{◌≡◌, List}
+use Rattle.std.specs.Prelude.{◌≡◌, ℕ, Option, Some, None, List, []}
 use Rattle.values.specs.Shape.{Columns}
 use Rattle.values.specs.declared.row.Row.{Row}
 use Rattle.model.specs.declared.entry.Entry.{Entry}
@@ -23,6 +23,16 @@ pub record Stack : Type 0 where
 abbrev pub stack_of : Stable → Tree → Tree → Tree → Stack
 stack_of stable read write trans =
     record { schema = stable.schema; rows = stable.rows; read = read.entries; write = write.entries; trans = trans.entries }
+
+-- the tree on top, or no entries where there is none
+abbrev pub tree_over : ℕ → Option Tree → Tree
+tree_over key_cols None = record { key_cols = key_cols; entries = [] }
+tree_over key_cols (Some tree) = tree
+
+-- with no tree on top
+abbrev pub stack_below : Stable → Tree → Tree → Stack
+stack_below stable read write =
+    record { schema = stable.schema; rows = stable.rows; read = read.entries; write = write.entries; trans = [] }
 
 -- the rows under the Read-PDT
 abbrev pub read_rows : Stack → List Row
@@ -48,6 +58,11 @@ pub record IsLayer (schema : Columns) (t : Table) (tree : Tree) : Type 0 where
   pub effects : Effects
   pub over : AreOver schema t effects
   pub entries : tree.entries ≡ canonical_entries t effects
+
+-- the Read-PDT is a layer over the stable table, and the Write-PDT one over the table that the Read-PDT leaves
+pub record AreBothStacked (stable : Stable) (read write : Tree) : Type 0 where
+  pub lower : IsLayer stable.schema (table_in stable) read
+  pub middle : IsLayer stable.schema (table_with (table_in stable) lower.effects) write
 
 -- each layer is one over the table that those below it leave
 pub record AreStacked (stable : Stable) (read write trans : Tree) : Type 0 where

@@ -1,4 +1,4 @@
--- What is left under all three layers.
+-- What is left under the layers that are there.
 use Rattle.std.specs.Prelude.{◌≡◌, ◌≤◌, List, length, drop}
 use Rattle.values.specs.declared.row.Row.{Row}
 use Rattle.values.specs.declared.limits.TheConstants.{MAX_ROWS}
@@ -6,6 +6,8 @@ use Rattle.merge.specs.Cursor.{rows_left, IsCursor}
 use Rattle.merge.specs.declared.view.Layer.TheVariants.{Read, Write, Trans}
 use Rattle.merge.specs.declared.level.StableRows.{StableRows}
 use Rattle.merge.specs.declared.level.Level.{Level}
+use Rattle.merge.specs.declared.image.Image.{Image}
+use Rattle.merge.specs.declared.image.Image.TheVariants.{Committed, Own}
 
 abbrev pub stable_left : StableRows → List Row
 stable_left r = drop r.sid r.table.now.rows
@@ -16,15 +18,26 @@ read_left l = rows_left l.cursor (stable_left l.below)
 abbrev pub write_left : Level (Level StableRows) → List Row
 write_left l = rows_left l.cursor (read_left l.below)
 
-abbrev pub image_left : Level (Level (Level StableRows)) → List Row
-image_left l = rows_left l.cursor (write_left l.below)
+-- under a transaction's tree too, where there is one
+abbrev pub image_left : Image → List Row
+image_left (Committed l) = write_left l
+image_left (Own l) = rows_left l.cursor (write_left l.below)
+
+-- the cursors of the two lower layers stand over what is left below them
+pub record AreLowerCursors (l : Level (Level StableRows)) : Type 0 where
+  pub few : length l.below.below.table.now.rows ≤ MAX_ROWS
+  pub read : IsCursor (length (stable_left l.below.below)) l.below.cursor
+  pub write : IsCursor (length (read_left l.below)) l.cursor
+  pub read_layer : l.below.layer ≡ Read
+  pub write_layer : l.layer ≡ Write
+
+-- and that of a transaction's tree over what is left below it
+pub record AreOwnCursors (l : Level (Level (Level StableRows))) : Type 0 where
+  pub lower : AreLowerCursors l.below
+  pub trans : IsCursor (length (write_left l.below)) l.cursor
+  pub trans_layer : l.layer ≡ Trans
 
 -- the cursors stand over what is left below them, layer by layer
-pub record AreCursors (l : Level (Level (Level StableRows))) : Type 0 where
-  pub few : length l.below.below.below.table.now.rows ≤ MAX_ROWS
-  pub read : IsCursor (length (stable_left l.below.below.below)) l.below.below.cursor
-  pub write : IsCursor (length (read_left l.below.below)) l.below.cursor
-  pub trans : IsCursor (length (write_left l.below)) l.cursor
-  pub read_layer : l.below.below.layer ≡ Read
-  pub write_layer : l.below.layer ≡ Write
-  pub trans_layer : l.layer ≡ Trans
+abbrev pub AreCursors : Image → Type 0
+AreCursors (Committed l) = AreLowerCursors l
+AreCursors (Own l) = AreOwnCursors l

@@ -6,8 +6,9 @@ ghost use Rattle.merge.specs.Image.{image_rows, image_table};
 ghost use Rattle.merge.specs.View.{row_of};
 
 use crate::cursor::Cursor;
+use crate::image::{CommittedRows, Image};
 use crate::key_row::{find_in, find_over};
-use crate::level::{Image, Level, Rows, StableRows, grown, locate_over};
+use crate::level::{Level, StableRows, grown, locate_over};
 use crate::scan::{MergeScan, Stretches};
 use crate::view::{Layer, RowView};
 use delta::DeltaTree;
@@ -15,32 +16,35 @@ use stable::StableTable;
 use std::marker::Model;
 use values::{Key, Schema, Value};
 
-/// A stable table under its Read-, Write- and Trans-PDT, all lent (Héman et al. 2010, "Transaction management").
+/// A stable table under its Read- and its Write-PDT, and under a Trans-PDT where a transaction stands on top; all lent
+/// (Héman et al. 2010, "Transaction management").
 #[derive(Drop)]
 pub struct Layers<'a> {
     stable: &'a StableTable,
     read: &'a DeltaTree,
     write: &'a DeltaTree,
-    trans: &'a DeltaTree,
+    /// None where no transaction stands on top.
+    trans: Option<&'a DeltaTree>,
     /// How many rows the image has.
     len: u64,
 }
 
 impl<'a> Model for Layers<'a> {
     ghost use Rattle.std.specs.Prelude.{◌≡◌};
-    ghost use Rattle.merge.specs.Image.{Stack, stack_of};
+    ghost use Rattle.std.specs.Option.{option_copied};
+    ghost use Rattle.merge.specs.Image.{Stack, stack_of, tree_over};
     ghost use Rattle.merge.specs.Level.{AreKept};
 
     ghost Value = { Stack };
 
-    ghost view = { λ l. stack_of l.stable.now l.read.now l.write.now l.trans.now };
+    ghost view = { λ l. stack_of l.stable.now l.read.now l.write.now (tree_over l.stable.now.schema.key_cols (option_copied l.trans)) };
 
-    ghost invariant = { λ l. AreKept l.stable.now l.read.now l.write.now l.trans.now l.len };
+    ghost invariant = { λ l. AreKept l.stable.now l.read.now l.write.now (tree_over l.stable.now.schema.key_cols (option_copied l.trans)) l.len };
 }
 
 impl<'a> Layers<'a> {
-    ghost use Rattle.merge.specs.Image.{AreStacked, stack_of};
-    ghost use Rattle.merge.specs.Left.{AreCursors, image_left};
+    ghost use Rattle.merge.specs.Image.{AreBothStacked, AreStacked, stack_below, stack_of, write_rows};
+    ghost use Rattle.merge.specs.Left.{AreCursors, AreLowerCursors, image_left, write_left};
 
     /// The layers over the table, each tree over the image of those below it. It takes no memory.
     pub fn new(
@@ -58,8 +62,27 @@ impl<'a> Layers<'a> {
             stable,
             read,
             write,
-            trans,
+            trans: Some(trans),
             len: grown(under_write, trans),
+        }
+    }
+
+    /// The layers over the table with no transaction on top, each tree over the image of those below it. It takes no memory.
+    pub fn committed(
+        stable: &'a StableTable,
+        read: &'a DeltaTree,
+        write: &'a DeltaTree,
+    ) -> Layers<'a>
+        requires { AreBothStacked stable.now read.now write.now }
+        ensures { result ≡ stack_below stable.now read.now write.now }
+    {
+        let under_read = grown(stable.len(), read);
+        Layers {
+            stable,
+            read,
+            write,
+            trans: None,
+            len: grown(under_read, write),
         }
     }
 
@@ -94,7 +117,7 @@ impl<'a> Layers<'a> {
     {
         if rid < self.len {
             let mut rows = self.rows_from(rid);
-            Some(rows.next_stretch(1).first(self.trans))
+            Some(rows.next_stretch(1).first(self.read))
         } else {
             None
         }
@@ -106,10 +129,13 @@ impl<'a> Layers<'a> {
         ensures { option_map row_of result ≡ row_at (image_table self.now) key.now }
     {
         let cells = key.cells();
-        let in_stable = find_in(self.stable, self.trans, cells);
+        let in_stable = find_in(self.stable, self.read, cells);
         let in_read = find_over(self.read, Layer::Read, in_stable, cells);
         let in_write = find_over(self.write, Layer::Write, in_read, cells);
-        find_over(self.trans, Layer::Trans, in_write, cells).row
+        match self.trans {
+            None => in_write.row,
+            Some(trans) => find_over(trans, Layer::Trans, in_write, cells).row,
+        }
     }
 
     /// The stretches of the rows from one position up to another, and without that; both are cut to the length of the image.
@@ -126,7 +152,7 @@ impl<'a> Layers<'a> {
     pub fn scan(&self, from: u64, to: u64) -> MergeScan<'a>
         ensures { result ≡ drop from (take to (image_rows self.now)) }
     {
-        MergeScan::new(self.stable, self.stretches(from, to), self.trans)
+        MergeScan::new(self.stable, self.stretches(from, to), self.read)
     }
 
     /// How many rows have a key below this one, and whether a row has the key: by halving in the stable table and one descent
@@ -146,7 +172,10 @@ impl<'a> Layers<'a> {
         let in_stable = self.stable.locate(key);
         let in_read = locate_over(self.read, in_stable, key);
         let in_write = locate_over(self.write, in_read, key);
-        locate_over(self.trans, in_write, key)
+        match self.trans {
+            None => in_write,
+            Some(trans) => locate_over(trans, in_write, key),
+        }
     }
 
     /// What is left of the image from a position on.
@@ -155,8 +184,26 @@ impl<'a> Layers<'a> {
         ensures rows { image_left result ≡ drop rid (image_rows self.now) }
         ensures cursors { AreCursors result }
     {
-        let trans = Cursor::at(self.trans, rid);
-        let write = Cursor::at(self.write, trans.sid());
+        match self.trans {
+            None => Image::Committed(self.committed_from(rid)),
+            Some(trans) => {
+                let cursor = Cursor::at(trans, rid);
+                Image::Own(Level {
+                    below: self.committed_from(cursor.sid()),
+                    cursor,
+                    layer: Layer::Trans,
+                })
+            }
+        }
+    }
+
+    /// What is left under the Read- and the Write-PDT from a position on.
+    fn committed_from(&self, rid: u64) -> CommittedRows<'a>
+        requires { rid ≤ length (write_rows self.now) }
+        ensures rows { write_left result ≡ drop rid (write_rows self.now) }
+        ensures cursors { AreLowerCursors result }
+    {
+        let write = Cursor::at(self.write, rid);
         let read = Cursor::at(self.read, write.sid());
         let stable = StableRows {
             table: self.stable,
@@ -167,15 +214,10 @@ impl<'a> Layers<'a> {
             cursor: read,
             layer: Layer::Read,
         };
-        let under_write = Level {
+        Level {
             below: under_read,
             cursor: write,
             layer: Layer::Write,
-        };
-        Level {
-            below: under_write,
-            cursor: trans,
-            layer: Layer::Trans,
         }
     }
 }

@@ -119,9 +119,6 @@ impl<'a, B: Rows<'a> + Drop> Rows<'a> for Level<'a, B> {
     }
 }
 
-/// The rows under all three layers.
-pub(crate) type Image<'a> = Level<'a, Level<'a, Level<'a, StableRows<'a>>>>;
-
 /// How many rows the image of a tree over so many rows has.
 pub fn grown(count: u64, tree: &DeltaTree) -> u64
     requires few { count < 2 ^ 62 }

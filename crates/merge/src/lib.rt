@@ -8,6 +8,7 @@
 #![tactic(auto)]
 
 mod cursor;
+mod image;
 mod key_row;
 mod layers;
 mod level;

@@ -4,7 +4,7 @@ ghost use Rattle.std.specs.Iterator.{YieldsFirstBy, at_most};
 ghost use Rattle.merge.specs.View.{row_of};
 ghost use Rattle.merge.specs.Stretches.{YieldsStretch};
 
-use crate::level::{Image, Rows};
+use crate::image::Image;
 use crate::stretch::{StableStretch, Stretch};
 use crate::view::RowView;
 use delta::DeltaTree;

@@ -9,7 +9,7 @@ use Rattle.model.specs.Merging.{merged_rows}
 use Rattle.model.proofs.CallerLemmas.{leaves, merged_rows_from_nothing, rows_of-table_of, table_of-rows_of}
 use Rattle.delta.specs.Tree.{Tree}
 use Rattle.stable.specs.Stable.{Stable, IsStable, table_in}
-use Rattle.merge.specs.Image.{IsLayer, AreStacked, stack_of, image_rows, image_table}
+use Rattle.merge.specs.Image.{IsLayer, AreStacked, stack_of, stack_below, image_rows, image_table}
 use Rattle.merge.proofs.CallerLemmas.{layer_rows}
 use Rattle.txn.specs.Version.{Lower, lower_rows, lower_table, AreLower, alone, version_of, version_at, empty_tree}
 
@@ -39,11 +39,9 @@ version_of-alone s number =
     let rows : merged_rows (merged_rows s.rows []) [] ≡ s.rows = merged_rows-nothing (merged_rows s.rows []) ∙ merged_rows-nothing s.rows in
     λ i. record { schema = s.schema; table = table_of s.schema.key_cols (rows i); number = number }
 
--- with no entries on top the image is the table below
-pub image_table-none : (l : Lower) (none : Tree) (key_cols : ℕ) → none ≡ empty_tree key_cols → image_table (stack_of l.stable l.read l.write none) ≡ lower_table l
-image_table-none l none key_cols is =
-    ap (λ (t : Tree). image_table (stack_of l.stable l.read l.write t)) is
-    ∙ ap (table_of l.stable.schema.key_cols) (merged_rows-nothing (lower_rows l))
+-- with no tree on top the image is the table below
+pub image_table-below : (l : Lower) → image_table (stack_below l.stable l.read l.write) ≡ lower_table l
+image_table-below l = ap (table_of l.stable.schema.key_cols) (merged_rows-nothing (lower_rows l))
 
 -- ---- the table under both trees
 
@@ -74,9 +72,6 @@ module _ (l : Lower) (h : AreLower l) where
     middle = h.middle;
     upper = subst (λ (t : Table). IsLayer l.stable.schema t trans) lower_table_is k;
   }
-
-  pub none_stacked : (none : Tree) → none ≡ empty_tree l.stable.schema.key_cols → IsLayer l.stable.schema (lower_table l) none
-  none_stacked none is = subst (IsLayer l.stable.schema (lower_table l)) (sym is) (no_layer l.stable.schema (lower_table l) lower_IsTable)
 
 -- the rows with a tree on top
 pub layered_rows : (l : Lower) (trans : Tree) → image_rows (stack_of l.stable l.read l.write trans) ≡ merged_rows (rows_of (lower_table l)) trans.entries

@@ -2,7 +2,7 @@
 ghost use Rattle.std.specs.Prelude.{◌≡◌, IfOk, is_some, length};
 ghost use Rattle.model.specs.Table.{IsTable, rank, row_at, rows_of};
 ghost use Rattle.model.specs.Merging.{merged_rows};
-ghost use Rattle.merge.specs.Image.{IsLayer, image_rows, stack_of};
+ghost use Rattle.merge.specs.Image.{IsLayer, image_rows, image_table, stack_of};
 
 use delta::DeltaTree;
 use merge::Layers;
@@ -18,20 +18,16 @@ struct Base {
     stable: Arc<StableTable>,
     read: Arc<DeltaTree>,
     write: Arc<DeltaTree>,
-    /// A tree with no entries, for look-ups with no transaction on top.
-    none: DeltaTree,
 }
 
 impl Model for Base {
-    ghost use Rattle.std.specs.Prelude.{◌≡◌};
-    ghost use Rattle.txn.specs.Version.{Lower, AreLower, empty_tree};
+    ghost use Rattle.txn.specs.Version.{Lower, AreLower};
 
     ghost Value = { Lower };
 
     ghost view = { λ b. record { stable = b.stable.value; read = b.read.value; write = b.write.value } };
 
-    ghost invariant = { λ b. AreLower (record { stable = b.stable.value; read = b.read.value; write = b.write.value })
-        × (b.none ≡ empty_tree b.stable.value.schema.key_cols) };
+    ghost invariant = { λ b. AreLower (record { stable = b.stable.value; read = b.read.value; write = b.write.value }) };
 }
 
 impl Base {
@@ -58,22 +54,23 @@ impl Base {
         ensures rank { result.0 ≡ rank key.now (lower_table self.now) }
         ensures there { result.1 ≡ is_some (row_at (lower_table self.now) key.now) }
     {
-        self.layers(&self.none).locate(key)
+        self.image().locate(key)
     }
 
     /// How many rows there are.
     fn len(&self) -> u64
         ensures { result ≡ length (lower_table self.now) }
     {
-        self.layers(&self.none).len()
+        self.image().len()
     }
 
     /// The layers with no transaction on top.
     fn image(&self) -> Layers<'_>
         ensures schema { result.schema ≡ self.now.stable.schema }
         ensures rows { image_rows result ≡ rows_of (lower_table self.now) }
+        ensures table { image_table result ≡ lower_table self.now }
     {
-        self.layers(&self.none)
+        Layers::committed(&self.stable, &self.read, &self.write)
     }
 }
 
@@ -124,12 +121,10 @@ impl Version {
         requires { AreLower (record { stable = stable.value; read = read.value; write = write.value }) }
         ensures { IfOk result (λ version. version ≡ version_of (record { stable = stable.value; read = read.value; write = write.value }) number) }
     {
-        let none = DeltaTree::new(alloc, stable.schema().key_cols());
         let base = Base {
             stable,
             read,
             write,
-            none,
         };
         Ok(Version {
             base: Arc::new(alloc, base)?,

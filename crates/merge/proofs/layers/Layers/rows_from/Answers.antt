@@ -1,64 +1,72 @@
-use Rattle.std.proofs.Common.{◌∙◌, ◌≤◌, length, drop, ap, sym, refl, subst, arith}
-use Rattle.merge.specs.Image.{Stack, stack_of, read_rows, write_rows, image_rows}
-use Rattle.merge.specs.Cursor.{rows_left, IsCursor, IsCursorAt}
-use Rattle.merge.proofs.LeftLemmas.{trans_at, write_at, read_at, image_is, write_stands, trans_stands}
+use Rattle.std.proofs.Common.{◌≡◌, ◌∙◌, ◌≤◌, Option, Some, None, length, drop, ap, sym, refl, subst}
+use Rattle.std.specs.Option.{option_copied}
+use Rattle.delta.specs.Tree.{Tree}
+use Rattle.merge.specs.Image.{Stack, stack_of, tree_over, write_rows, image_rows}
+use Rattle.merge.specs.Level.{AreKept}
+use Rattle.merge.specs.Left.{write_left}
+use Rattle.merge.proofs.LeftLemmas.{trans_at, own_is, own_stands}
+use Rattle.merge.proofs.StackLemmas.{image_rows-none}
 use Rattle.merge.proofs.layers.Layers.rows_from.Goals as goal
 
-pub at-write-requires : goal.at-write-requires
-at-write-requires c =
+pub committed_from-requires : goal.committed_from-requires
+committed_from-requires c =
     let l = c.self.inside in
-    let low : c.args.rid ≤ length (image_rows (stack_of l.stable.now l.read.now l.write.now l.trans.now)) = subst (λ (s : Stack). c.args.rid ≤ length (image_rows s)) (sym c.self.view_is) c.requires in
-    let t = trans_at l.stable.now l.read.now l.write.now l.trans.now l.len c.self.invariant c.args.rid c.at-trans.result low c.at-trans.ensures.at in
-    record { few = omega (arith, t.within, c.sid.ensures, c.self.invariant.write_few) }
+    let none : option_copied l.trans ≡ option_copied None = ap option_copied c.in-None.is in
+    let view = ap (λ (o : Option Tree). stack_of l.stable.now l.read.now l.write.now (tree_over l.stable.now.schema.key_cols o)) (sym none) ∙ c.self.view_is in
+    subst (λ (s : Stack). c.args.rid ≤ length (write_rows s)) view
+    (subst (λ rows. c.args.rid ≤ length rows) (image_rows-none l.stable.now l.read.now l.write.now) (subst (λ (s : Stack). c.args.rid ≤ length (image_rows s)) (sym view) c.requires))
 
-pub at-read-requires : goal.at-read-requires
-at-read-requires c =
+pub returns-in-None-clause-rows : goal.returns-in-None-clause-rows
+returns-in-None-clause-rows c =
     let l = c.self.inside in
-    let low : c.args.rid ≤ length (image_rows (stack_of l.stable.now l.read.now l.write.now l.trans.now)) = subst (λ (s : Stack). c.args.rid ≤ length (image_rows s)) (sym c.self.view_is) c.requires in
-    let t = trans_at l.stable.now l.read.now l.write.now l.trans.now l.len c.self.invariant c.args.rid c.at-trans.result low c.at-trans.ensures.at in
-    let t_low = subst (λ n. n ≤ length (write_rows (stack_of l.stable.now l.read.now l.write.now l.trans.now))) (sym c.sid.ensures) t.within in
-    let w = write_at l.stable.now l.read.now l.write.now l.trans.now l.len c.self.invariant c.sid.result c.at-write.result t_low c.at-write.ensures.at in
-    record { few = omega (arith, w.within, c.sid-2.ensures, c.self.invariant.read_few) }
+    let none : option_copied l.trans ≡ option_copied None = ap option_copied c.in-None.is in
+    let view = ap (λ (o : Option Tree). stack_of l.stable.now l.read.now l.write.now (tree_over l.stable.now.schema.key_cols o)) (sym none) ∙ c.self.view_is in
+    c.committed_from.ensures.rows
+    ∙ ap (λ (s : Stack). drop c.args.rid (write_rows s)) (sym view)
+    ∙ ap (drop c.args.rid) (sym (image_rows-none l.stable.now l.read.now l.write.now))
+    ∙ ap (λ (s : Stack). drop c.args.rid (image_rows s)) view
 
-pub returns-clause-rows : goal.returns-clause-rows
-returns-clause-rows c =
+pub committed_from-requires-in-Some : goal.committed_from-requires-in-Some
+committed_from-requires-in-Some c =
     let l = c.self.inside in
-    let low : c.args.rid ≤ length (image_rows (stack_of l.stable.now l.read.now l.write.now l.trans.now)) = subst (λ (s : Stack). c.args.rid ≤ length (image_rows s)) (sym c.self.view_is) c.requires in
-    let t = trans_at l.stable.now l.read.now l.write.now l.trans.now l.len c.self.invariant c.args.rid c.at-trans.result low c.at-trans.ensures.at in
-    let t_low = subst (λ n. n ≤ length (write_rows (stack_of l.stable.now l.read.now l.write.now l.trans.now))) (sym c.sid.ensures) t.within in
-    let w = write_at l.stable.now l.read.now l.write.now l.trans.now l.len c.self.invariant c.sid.result c.at-write.result t_low c.at-write.ensures.at in
-    let w_low = subst (λ n. n ≤ length (read_rows (stack_of l.stable.now l.read.now l.write.now l.trans.now))) (sym c.sid-2.ensures) w.within in
-    let r = read_at l.stable.now l.read.now l.write.now l.trans.now l.len c.self.invariant c.sid-2.result c.at-read.result w_low c.at-read.ensures.at in
-    let r_here = subst (λ n. IsCursorAt l.stable.now.rows n c.at-read.result) c.sid-2.ensures r in
-    let w_here = subst (λ n. IsCursorAt (read_rows (stack_of l.stable.now l.read.now l.write.now l.trans.now)) n c.at-write.result) c.sid.ensures w in
-    let r_is = ap (λ x. x.entries) c.at-read.ensures.tree in
-    let w_is = ap (λ x. x.entries) c.at-write.ensures.tree in
-    let t_is = ap (λ x. x.entries) c.at-trans.ensures.tree in
-    ap (λ n. rows_left c.at-trans.result (rows_left c.at-write.result (rows_left c.at-read.result (drop n l.stable.now.rows)))) c.sid-3.ensures
-    ∙ image_is l.stable.now.rows l.read.now.entries l.write.now.entries l.trans.now.entries c.at-read.result c.at-write.result c.at-trans.result c.args.rid r_here w_here t r_is w_is t_is
-    ∙ ap (λ (s : Stack). drop c.args.rid (image_rows s)) c.self.view_is
+    let key_cols = l.stable.now.schema.key_cols in
+    let trans = c.in-Some.trans.now in
+    let some : option_copied l.trans ≡ Some trans = ap option_copied c.in-Some.is in
+    let kept = subst (λ (o : Option Tree). AreKept l.stable.now l.read.now l.write.now (tree_over key_cols o) l.len) some c.self.invariant in
+    let view = ap (λ (o : Option Tree). stack_of l.stable.now l.read.now l.write.now (tree_over key_cols o)) (sym some) ∙ c.self.view_is in
+    let low : c.args.rid ≤ length (image_rows (stack_of l.stable.now l.read.now l.write.now trans)) = subst (λ (s : Stack). c.args.rid ≤ length (image_rows s)) (sym view) c.requires in
+    let t = trans_at l.stable.now l.read.now l.write.now trans l.len kept c.args.rid c.at-cursor.result low c.at-cursor.ensures.at in
+    subst (λ (s : Stack). c.sid.result ≤ length (write_rows s)) view (subst (λ n. n ≤ length (write_rows (stack_of l.stable.now l.read.now l.write.now trans))) (sym c.sid.ensures) t.within)
 
-pub returns-clause-cursors : goal.returns-clause-cursors
-returns-clause-cursors c =
+pub returns-in-Some-clause-rows : goal.returns-in-Some-clause-rows
+returns-in-Some-clause-rows c =
     let l = c.self.inside in
-    let low : c.args.rid ≤ length (image_rows (stack_of l.stable.now l.read.now l.write.now l.trans.now)) = subst (λ (s : Stack). c.args.rid ≤ length (image_rows s)) (sym c.self.view_is) c.requires in
-    let t = trans_at l.stable.now l.read.now l.write.now l.trans.now l.len c.self.invariant c.args.rid c.at-trans.result low c.at-trans.ensures.at in
-    let t_low = subst (λ n. n ≤ length (write_rows (stack_of l.stable.now l.read.now l.write.now l.trans.now))) (sym c.sid.ensures) t.within in
-    let w = write_at l.stable.now l.read.now l.write.now l.trans.now l.len c.self.invariant c.sid.result c.at-write.result t_low c.at-write.ensures.at in
-    let w_low = subst (λ n. n ≤ length (read_rows (stack_of l.stable.now l.read.now l.write.now l.trans.now))) (sym c.sid-2.ensures) w.within in
-    let r = read_at l.stable.now l.read.now l.write.now l.trans.now l.len c.self.invariant c.sid-2.result c.at-read.result w_low c.at-read.ensures.at in
-    let r_here = subst (λ n. IsCursorAt l.stable.now.rows n c.at-read.result) c.sid-2.ensures r in
-    let w_here = subst (λ n. IsCursorAt (read_rows (stack_of l.stable.now l.read.now l.write.now l.trans.now)) n c.at-write.result) c.sid.ensures w in
-    let r_is = ap (λ x. x.entries) c.at-read.ensures.tree in
-    let w_is = ap (λ x. x.entries) c.at-write.ensures.tree in
-    let t_is = ap (λ x. x.entries) c.at-trans.ensures.tree in
-    let here = sym c.sid-3.ensures in
+    let key_cols = l.stable.now.schema.key_cols in
+    let trans = c.in-Some.trans.now in
+    let some : option_copied l.trans ≡ Some trans = ap option_copied c.in-Some.is in
+    let kept = subst (λ (o : Option Tree). AreKept l.stable.now l.read.now l.write.now (tree_over key_cols o) l.len) some c.self.invariant in
+    let view = ap (λ (o : Option Tree). stack_of l.stable.now l.read.now l.write.now (tree_over key_cols o)) (sym some) ∙ c.self.view_is in
+    let s = stack_of l.stable.now l.read.now l.write.now trans in
+    let low : c.args.rid ≤ length (image_rows s) = subst (λ (s : Stack). c.args.rid ≤ length (image_rows s)) (sym view) c.requires in
+    let t = trans_at l.stable.now l.read.now l.write.now trans l.len kept c.args.rid c.at-cursor.result low c.at-cursor.ensures.at in
+    let left_is = c.committed_from-in-Some.ensures.rows ∙ ap (λ (s : Stack). drop c.sid.result (write_rows s)) (sym view) ∙ ap (λ n. drop n (write_rows s)) c.sid.ensures in
+    own_is (write_rows s) (write_left c.committed_from-in-Some.result) trans.entries c.at-cursor.result c.args.rid t left_is (ap (λ (x : Tree). x.entries) c.at-cursor.ensures.tree)
+    ∙ ap (λ (s : Stack). drop c.args.rid (image_rows s)) view
+
+pub returns-in-Some-clause-cursors : goal.returns-in-Some-clause-cursors
+returns-in-Some-clause-cursors c =
+    let l = c.self.inside in
+    let key_cols = l.stable.now.schema.key_cols in
+    let trans = c.in-Some.trans.now in
+    let some : option_copied l.trans ≡ Some trans = ap option_copied c.in-Some.is in
+    let kept = subst (λ (o : Option Tree). AreKept l.stable.now l.read.now l.write.now (tree_over key_cols o) l.len) some c.self.invariant in
+    let view = ap (λ (o : Option Tree). stack_of l.stable.now l.read.now l.write.now (tree_over key_cols o)) (sym some) ∙ c.self.view_is in
+    let s = stack_of l.stable.now l.read.now l.write.now trans in
+    let low : c.args.rid ≤ length (image_rows s) = subst (λ (s : Stack). c.args.rid ≤ length (image_rows s)) (sym view) c.requires in
+    let t = trans_at l.stable.now l.read.now l.write.now trans l.len kept c.args.rid c.at-cursor.result low c.at-cursor.ensures.at in
+    let left_is = c.committed_from-in-Some.ensures.rows ∙ ap (λ (s : Stack). drop c.sid.result (write_rows s)) (sym view) ∙ ap (λ n. drop n (write_rows s)) c.sid.ensures in
     record {
-      few = c.self.invariant.few;
-      read = subst (λ n. IsCursor (length (drop n l.stable.now.rows)) c.at-read.result) here r.cursor;
-      write = subst (λ n. IsCursor (length (rows_left c.at-read.result (drop n l.stable.now.rows))) c.at-write.result) here (write_stands l.stable.now.rows l.read.now.entries l.write.now.entries l.trans.now.entries c.at-read.result c.at-write.result c.at-trans.result c.args.rid r_here w_here t r_is w_is t_is);
-      trans = subst (λ n. IsCursor (length (rows_left c.at-write.result (rows_left c.at-read.result (drop n l.stable.now.rows)))) c.at-trans.result) here (trans_stands l.stable.now.rows l.read.now.entries l.write.now.entries l.trans.now.entries c.at-read.result c.at-write.result c.at-trans.result c.args.rid r_here w_here t r_is w_is t_is);
-      read_layer = refl;
-      write_layer = refl;
+      lower = c.committed_from-in-Some.ensures.cursors;
+      trans = own_stands (write_rows s) (write_left c.committed_from-in-Some.result) trans.entries c.at-cursor.result c.args.rid t left_is (ap (λ (x : Tree). x.entries) c.at-cursor.ensures.tree);
       trans_layer = refl;
     }

@@ -1,7 +1,6 @@
-use Rattle.std.proofs.Common.{◌≡◌, ◌∙◌, ◌-◌, ◌<◌, ◌++◌, List, suc, length, take, ap, sym, subst, arith, length-append}
+use Rattle.std.proofs.Common.{◌≡◌, ◌∙◌, ◌-◌, ◌<◌, ◌++◌, List, length, take, ap, sym, arith, length-append}
 use Rattle.values.specs.declared.row.Row.{Row}
-use Rattle.merge.specs.View.{layer_number}
-use Rattle.merge.specs.Stretches.{stretch_rows, IsStretch}
+use Rattle.merge.specs.Stretches.{stretch_rows}
 use Rattle.merge.specs.Left.{image_left}
 use Rattle.merge.proofs.StretchLemmas.{take_append, stretch_some}
 use Rattle.merge.proofs.scan.StretchesIterator.next.Goals as goal
@@ -10,8 +9,7 @@ pub returns-clause-steps : goal.returns-clause-steps
 returns-clause-steps c =
     let stretch = c.next_stretch-stretch.result in
     let left : List Row = image_left c.next_stretch-stretch.new.self in
-    let depth = ap (λ l. suc (layer_number l)) c.self.invariant.0.trans_layer in
-    let is = subst (λ d. IsStretch d stretch) depth c.next_stretch-stretch.ensures.stretch in (
+    let is = c.next_stretch-stretch.ensures.stretch in (
       sym c.self.view_is
           ∙ ap (take c.self.inside.left) c.next_stretch-stretch.ensures.rows
           ∙ take_append c.self.inside.left (stretch_rows stretch) left c.next_stretch-stretch.ensures.most
@@ -25,8 +23,7 @@ returns-clause-goes c =
     let stretch = c.next_stretch-stretch.result in
     let left : List Row = image_left c.next_stretch-stretch.new.self in
     let rest : List Row = take (c.self.inside.left - c.count.result) left in
-    let depth = ap (λ l. suc (layer_number l)) c.self.invariant.0.trans_layer in
-    let is = subst (λ d. IsStretch d stretch) depth c.next_stretch-stretch.ensures.stretch in
+    let is = c.next_stretch-stretch.ensures.stretch in
     let some = stretch_some 3 stretch is in
     let all : c.args.self.now ≡ stretch_rows stretch ++ rest =
     sym c.self.view_is

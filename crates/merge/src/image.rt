@@ -1,0 +1,35 @@
+//! The rows of the image that are left, under the layers that are there.
+ghost use Rattle.std.specs.Prelude.{◌≡◌, ◌<◌, ◌≤◌, ◌++◌, length};
+ghost use Rattle.merge.specs.Left.{AreCursors, image_left};
+ghost use Rattle.merge.specs.Stretches.{IsStretch, stretch_rows};
+
+use crate::level::{Level, Rows, StableRows};
+use crate::stretch::Stretch;
+
+/// The rows under the Read- and the Write-PDT.
+pub(crate) type CommittedRows<'a> = Level<'a, Level<'a, StableRows<'a>>>;
+
+/// The rows that are left of an image, with a transaction's tree on top or with none.
+#[derive(Drop)]
+pub(crate) enum Image<'a> {
+    Committed(CommittedRows<'a>),
+    Own(Level<'a, CommittedRows<'a>>),
+}
+
+impl<'a> Image<'a> {
+    /// The next rows that come from one place: at least one, and at most so many.
+    pub(crate) fn next_stretch(&mut self, most: u64) -> Stretch<'a>
+        requires cursors { AreCursors self.old }
+        requires some { 0 < most }
+        requires most { most ≤ length (image_left self.old) }
+        ensures rows { image_left self.old ≡ stretch_rows result ++ image_left self.new }
+        ensures stretch { IsStretch 3 result }
+        ensures most { length (stretch_rows result) ≤ most }
+        ensures cursors { AreCursors self.new }
+    {
+        match self {
+            Image::Committed(rows) => rows.next_stretch(most),
+            Image::Own(rows) => rows.next_stretch(most),
+        }
+    }
+}
