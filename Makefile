@@ -9,13 +9,13 @@ try:
 run:
 	cd crates/pdt && rt run -- run data/table.csv data/script.csv
 
-# the gate: every proof from nothing, the must-fail edits, the tests and the program; and then the examples
+# the gate: every proof from nothing, the must-fail edits, the tests and the program; and then the examples through that program
 test:
 	rt ci && examples/check
 
-# each example through the proved program, against its replies
-examples:
-	examples/check proved
+# each example through the program as `make run` proves and builds it, against its replies
+examples: run
+	examples/check
 
 fmt:
 	for crate in crates/*/; do (cd $$crate && rt fmt); done
