@@ -1,6 +1,6 @@
 -- What sessions and the manager have in common at the end.
-use Rattle.std.proofs.Common.{◌≡◌, ℕ, zero, suc, ◌-◌, List, [], ◌∷◌, drop, refl, sym, ap, subst, arith}
-use Rattle.std.specs.Prelude.{All}
+use Rattle.std.proofs.Common.{◌≡◌, ℕ, zero, suc, ◌-◌, List, [], ◌∷◌, drop, refl, sym, ap, subst}
+use Rattle.std.specs.Prelude.{All, get_or}
 use mathlib.Core.List.{IsPrefix}
 use Rattle.model.specs.History.{Start}
 use Rattle.manager.specs.Managed.{Managed}
@@ -8,7 +8,8 @@ use Rattle.publishing.specs.declared.item.Item.{Item}
 use Rattle.publishing.specs.Commits.{Commit, commits_made}
 use Rattle.publishing.specs.Lists.{all_commits, IsListed}
 use Rattle.publishing.proofs.CallerLemmas.{all_commits-prefix}
-use Rattle.shared.specs.Sessions.{AreBeginnings, commits_above}
+use Rattle.shared.specs.Endings.{AreOfOneList}
+use Rattle.shared.specs.Sessions.{Seat, AreBeginnings, commits_above}
 
 prefix_drop : {A : Type 0} (n : ℕ) (xs ys : List A) → IsPrefix xs ys → IsPrefix (drop n xs) (drop n ys)
 prefix_drop zero xs ys p = p
@@ -29,6 +30,9 @@ are_beginnings o seen list both m l p q =
           (prefix_drop n (all_commits o list) (all_commits o both) (all_commits-prefix o list both q)),
     )
 
-pub all_one : {A : Type 0} (P : A → Type 0) (x : A) → P x → All P (x ∷ [])
-all_one P x p zero d lt = p
-all_one P x p (suc k) d lt = absurd (omega arith)
+-- and those of each session
+pub all_are_beginnings : (o : Managed) (list : List Item) (m : Managed) → IsListed o list m → (seats : List Seat) → All (λ (s : Seat). AreOfOneList s.seen list) seats →
+    All (λ (s : Seat). AreBeginnings (commits_above o s.seen m.start.base) (commits_made m)) seats
+all_are_beginnings o list m l seats seen k d inside =
+    let one = seen k d inside in
+    are_beginnings o (get_or seats k d).seen list one.0 m l one.1 one.2

@@ -1,4 +1,5 @@
 pub mod Faults
 pub mod Sessions
+pub mod Endings
 pub mod Stands
 pub mod Laws

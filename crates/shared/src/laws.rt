@@ -1,7 +1,13 @@
-//! What the contracts of sessions give together, as the contract of a function that does nothing.
-ghost use Rattle.shared.specs.Laws.{BeginsAfterItsCommits};
+//! What the contracts of sessions give together, as contracts of functions that do nothing.
+ghost use Rattle.shared.specs.Laws.{BeginsAfterItsCommits, KeepsWhatItHad};
 
 /// A client never begins twice at one number with a Committed between: it has seen its own commit.
 pub fn begins_after_its_commits()
     ensures { BeginsAfterItsCommits }
+{}
+
+/// Where no cut took a record, the manager that comes back starts where it started at the opening, over the same table, and
+/// its history begins with the one that it had.
+pub fn keeps_what_it_had()
+    ensures { KeepsWhatItHad }
 {}

@@ -18,7 +18,7 @@ mod store;
 mod told;
 
 pub use fault::{BeginFault, CommitFault, NotOpen, SessionFault, ShareFault};
-pub use laws::begins_after_its_commits;
+pub use laws::{begins_after_its_commits, keeps_what_it_had};
 pub use session::Session;
 pub use shared::{Closed, NewOpening, Shared, open};
 pub use store::ImageStore;

@@ -6,6 +6,7 @@ ghost use Rattle.manager.specs.Prepared.{IsPrepared};
 ghost use Rattle.model.specs.History.{IsLegal};
 ghost use Rattle.publishing.specs.Lists.{IsBegun, IsListed, number_in, version_in, with_item};
 ghost use Rattle.publishing.specs.declared.item.Item.TheVariants.{Same, Cuts};
+ghost use Rattle.shared.specs.Endings.{GoesOn};
 ghost use Rattle.shared.specs.Sessions.{IsReplied, number_of};
 ghost use Rattle.shared.specs.Stands.{IsGrown};
 
@@ -169,8 +170,9 @@ pub struct Locked<O: Opening, S: ImageStore> {
 }
 
 impl<O: Opening, S: ImageStore> Model for Locked<O, S> {
-    ghost use Rattle.std.specs.Prelude.{◌≡◌, ◌+◌, ◌≤◌, IfSome, IsSome, length};
+    ghost use Rattle.std.specs.Prelude.{◌≡◌, ◌+◌, IfSome, IsSome};
     ghost use Rattle.publishing.specs.Lists.{IsListed};
+    ghost use Rattle.shared.specs.Endings.{GoesOn};
     ghost use Rattle.shared.specs.Stands.{Stand};
 
     ghost Value = { Stand };
@@ -184,7 +186,7 @@ impl<O: Opening, S: ImageStore> Model for Locked<O, S> {
         × ((s.rest.parts ≡ 0) × (s.rest.amount ≡ 0))
         × (IsSome s.writer × IfSome s.writer (λ w. w.desk.shown.value ≡ s.list))
         × (S.columns s.store ≡ s.manager.schema)
-        × (O.opened.manager.made + length s.manager.history ≤ length O.opened.manager.history + s.manager.made) };
+        × GoesOn O.opened.manager s.manager };
 }
 
 /// Why a commit isn't decided. The transaction stays open.
@@ -389,7 +391,7 @@ impl<O: Opening, S: ImageStore> Locked<O, S> {
         ensures list { (result.4.list ≡ self.list) × (result.4.opening ≡ O.opened) }
         ensures store { S.columns result.1 ≡ result.0.schema }
         ensures book { result.0.made ≡ O.opened.manager.made + result.2.total }
-        ensures handed { O.opened.manager.made + length result.0.history ≤ length O.opened.manager.history + result.0.made }
+        ensures goes_on { GoesOn O.opened.manager result.0 }
         ensures rest { (result.3.parts ≡ 0) × (result.3.amount ≡ 0) }
     {
         let Locked {

@@ -8,6 +8,7 @@ ghost use Rattle.publishing.specs.Commits.{commits_made};
 ghost use Rattle.publishing.specs.Lists.{number_in};
 ghost use Rattle.std.specs.List.{range_with_len};
 ghost use Rattle.values.specs.declared.limits.TheConstants.{MAX_ROWS};
+ghost use Rattle.shared.specs.Endings.{IsClosed};
 ghost use Rattle.shared.specs.Sessions.{AreBeginnings, WasReplied, WasTold, commits_above, new_seat, number_of};
 ghost use Rattle.shared.specs.declared.fault.CommitFault.TheVariants as commit_fault;
 ghost use Rattle.shared.specs.declared.fault.ShareFault.{ShareFault};
@@ -287,6 +288,7 @@ impl<O: Opening, S: ImageStore> Shared<O, S> {
         ensures counts { result.counts.items ≡ map (λ s. s.count) sessions.items }
         ensures handed { O.opened.manager.made + length result.manager.history ≤ length O.opened.manager.history + result.manager.made }
         ensures records { vec_len sessions ≡ O.clients → result.manager.made ≡ O.opened.manager.made + sum result.counts.items }
+        ensures closed { IsClosed O.opened.manager sessions.items result.manager }
         ensures lists { All (λ s. AreBeginnings (commits_above O.opened.manager s.seen result.manager.start.base) (commits_made result.manager)) sessions.items }
         ensures store { S.columns result.store ≡ result.manager.schema }
     {

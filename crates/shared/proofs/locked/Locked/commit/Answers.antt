@@ -1,7 +1,10 @@
 use Rattle.std.proofs.Common.{sym, ap, ◌∙◌, subst, arith}
 use Rattle.model.specs.declared.write.CommitReply.{CommitReply}
-use Rattle.publishing.specs.Lists.{Known, number_in}
+use Rattle.manager.specs.Managed.{Managed, record_of, with_record}
+use Rattle.publishing.specs.Lists.{Known, IsListed, number_in}
+use Rattle.shared.specs.Endings.{GoesOn}
 use Rattle.shared.specs.Stands.{IsGrown}
+use Rattle.shared.proofs.EndingLemmas.{goes_on-record}
 use Rattle.shared.proofs.RepliesLemmas.{numbers_held, own_held, reached_by, replied}
 use Rattle.shared.proofs.locked.Locked.commit.Goals as goal
 
@@ -54,3 +57,25 @@ returns-clause-reached g c =
     let told = ap (λ (k : Known). number_in o k.list) c.again.ensures in
     let reached = reached_by o ys zs c.self.inside.manager c.args.txn reply c.self.invariant.0 due grown in
     omega (arith, told, reached)
+
+pub invariant_of-self-2 : goal.invariant_of-self-2
+invariant_of-self-2 g c =
+    let o = g.O.Opening.opened.manager in
+    let i = c.self.invariant in
+    let m = c.self.inside.manager in
+    let txn = c.args.txn in
+    let reply = c.install-reply.result in
+    let kept = c.install-reply.ensures.kept in
+    let same = c.in-Ok.ensures.prepared.due ∙ sym c.install-reply.ensures.due in
+    let shown = c.in-Ok-show_commit.ensures in
+    let list = c.show_commit.new.list.list in
+    let listed = subst (λ (r : CommitReply). IsListed o list (with_record m (record_of txn r))) same shown.listed in
+    let made = ap (λ (n : Managed). n.made) kept in (
+      subst (λ (n : Managed). IsListed o list n) (sym kept) listed,
+      shown.opening,
+      omega (arith, made, i.2, c.add.ensures.total, c.audit.ensures.total),
+      i.3,
+      shown.writer,
+      i.5 ∙ sym (ap (λ (n : Managed). n.schema) kept),
+      subst (λ (n : Managed). GoesOn o n) (sym kept) (goes_on-record o m i.6 (record_of txn reply)),
+    )

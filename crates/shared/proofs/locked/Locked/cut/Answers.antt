@@ -5,6 +5,8 @@ use Rattle.manager.proofs.CallerLemmas.{newest_within}
 use Rattle.publishing.specs.declared.item.Item.{Item}
 use Rattle.publishing.specs.Lists.{Known, IsListed}
 use Rattle.publishing.proofs.CallerLemmas.{listed_cut, version_cut, version_is}
+use Rattle.shared.specs.Endings.{GoesOn}
+use Rattle.shared.proofs.EndingLemmas.{goes_on-cut}
 use Rattle.shared.proofs.locked.Locked.cut.Goals as goal
 
 pub show-requires-clause-version : goal.show-requires-clause-version
@@ -31,8 +33,6 @@ invariant_of-self-2 g c =
     let next = c.cut-history.ensures.next in
     let number = c.number-base.ensures ∙ ap (λ (v : TableVersion). v.number) (c.in_ok-version.ensures ∙ c.version.ensures) in
     let cut = listed_cut o list m i.0 c.number-base.result number in
-    let kept = ap (λ (n : Managed). n.made) next in
-    let none = ap (λ (n : Managed). length n.history) next in
     let more = subst (λ (l : List Item). IsListed o l (cut_of m)) (sym (ap (λ (k : Known). k.list) now)) cut in (
       subst (λ (n : Managed). IsListed o c.show.new.list.list n) (sym next) more,
       ap (λ (k : Known). k.opening) now ∙ i.1,
@@ -40,5 +40,5 @@ invariant_of-self-2 g c =
       i.3,
       c.in_ok-show.ensures.writer,
       i.5 ∙ sym (ap (λ (n : Managed). n.schema) next),
-      omega (arith, i.6, kept, none),
+      subst (λ (n : Managed). GoesOn o n) (sym next) (goes_on-cut o m i.6),
     )

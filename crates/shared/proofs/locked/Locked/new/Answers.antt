@@ -1,8 +1,10 @@
-use Rattle.std.proofs.Common.{[], List, length, refl, sym, ap, subst, arith}
+use Rattle.std.proofs.Common.{[], List, refl, sym, ap, subst, arith}
 use Rattle.manager.specs.Managed.{Managed}
 use Rattle.publishing.specs.declared.item.Item.{Item}
 use Rattle.publishing.specs.Lists.{IsListed}
 use Rattle.publishing.proofs.CallerLemmas.{listed_at_opening}
+use Rattle.shared.specs.Endings.{GoesOn}
+use Rattle.shared.proofs.EndingLemmas.{goes_on-self}
 use Rattle.shared.proofs.locked.Locked.new.Goals as goal
 
 pub invariant_of-result : goal.invariant_of-result
@@ -11,13 +13,12 @@ invariant_of-result g c =
     let m = c.args.manager in
     let r = c.requires.opening in
     let none = subst (λ (n : Managed). IsListed o [] n) r.2 (listed_at_opening o) in
-    let made = ap (λ (n : Managed). n.made) r.2 in
-    let held = ap (λ (n : Managed). length n.history) r.2 in (
+    let made = ap (λ (n : Managed). n.made) r.2 in (
       subst (λ (l : List Item). IsListed o l m) (sym r.1) none,
       r.0,
       omega (arith, made, c.requires.book.0),
       (c.requires.book.1, c.requires.book.2),
       (refl, c.requires.writer),
       c.requires.store,
-      omega (arith, made, held),
+      subst (λ (n : Managed). GoesOn o n) r.2 (goes_on-self o),
     )

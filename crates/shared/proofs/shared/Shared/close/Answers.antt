@@ -1,29 +1,25 @@
-use Rattle.std.proofs.Common.{◌≡◌, ◌∷◌, [], List, ◌∙◌, sym, subst, rules, arith}
+use Rattle.std.proofs.Common.{◌≡◌, List, ◌∙◌, sym, subst, rules, arith}
 use Rattle.std.proofs.lemmas.Grind.{common_steps}
 use Rattle.std.proofs.lemmas.List.{map-id}
-use Rattle.std.proofs.lemmas.List.Elements.{All-append}
+use Rattle.std.specs.Prelude.{All}
+use Rattle.std.proofs.lemmas.List.Elements.{All-push}
 use Rattle.std.proofs.lemmas.Iterator.Adapters.{YieldsList-from_vec}
 use Rattle.std.proofs.lemmas.Iterator.Consumers.{YieldsList-end}
 use mathlib.Core.List.{IsPrefix}
 use Rattle.publishing.specs.declared.item.Item.{Item}
-use Rattle.publishing.specs.Commits.{commits_made}
 use Rattle.publishing.specs.Lists.{IsListed}
-use Rattle.shared.specs.Sessions.{Seat, AreBeginnings, commits_above}
-use Rattle.shared.proofs.CloseLemmas.{are_beginnings, all_one}
+use Rattle.shared.specs.Endings.{AreOfOneList}
+use Rattle.shared.specs.Sessions.{Seat}
+use Rattle.shared.proofs.CloseLemmas.{all_are_beginnings}
+use Rattle.shared.proofs.EndingLemmas.{goes_on-made}
 use Rattle.shared.proofs.shared.Shared.close.Goals as goal
 
 pub loop-session-preserved : goal.loop-session-preserved
 loop-session-preserved g c =
-    let o = g.O.Opening.opened.manager in
-    let e = c.close-manager.ensures in
-    let m = c.close-manager.result.0 in
     let list = c.close-manager.result.4.list in
     let s = c.in-Some.session in
-    let p = c.into_parts-count in
     let both = c.longer-both.result.list in
-    let listed = subst (λ (l : List Item). IsListed o l m) (sym e.list.0) e.listed in
-    let seen = subst (λ (l : List Item). IsPrefix l both) p.ensures.list.0 c.longer-both.ensures.this in
-    let here = are_beginnings o s.seen list both m listed seen c.longer-both.ensures.that in
+    let seen = subst (λ (l : List Item). IsPrefix l both) c.into_parts-count.ensures.list.0 c.longer-both.ensures.this in
     record {
       can = search rules;
       finite = search rules;
@@ -31,8 +27,22 @@ loop-session-preserved g c =
       amount = grind (arith, common_steps);
       counts = grind (arith, common_steps);
       room = grind (arith, common_steps);
-      lists = All-append (λ (s : Seat). AreBeginnings (commits_above o s.seen m.start.base) (commits_made m)) c.loop-session.yielded (s ∷ []) c.loop-session.invariant.lists
-          (all_one (λ (s : Seat). AreBeginnings (commits_above o s.seen m.start.base) (commits_made m)) s here);
+      seen = All-push (λ (s : Seat). AreOfOneList s.seen list) c.loop-session.yielded s c.loop-session.invariant.seen (both, seen, c.longer-both.ensures.that);
+    }
+
+pub returns-clause-closed : goal.returns-clause-closed
+returns-clause-closed g c =
+    let all : c.loop-session.yielded ≡ c.args.sessions.items =
+    sym (map-id _)
+    ∙ (YieldsList-end (YieldsList-from_vec c.args.sessions.items (search rules) (search rules)) c.loop-session.yielded _ c.loop-session.yielded_by _ c.next.new.self c.in-None.is
+    c.next.ensures.steps).0 in
+    let e = c.close-manager.ensures in
+    let list = c.close-manager.result.4.list in
+    record {
+      list = list;
+      listed = subst (λ (l : List Item). IsListed g.O.Opening.opened.manager l c.close-manager.result.0) (sym e.list.0) e.listed;
+      seen = subst (All (λ (s : Seat). AreOfOneList s.seen list)) all c.loop-session.invariant.seen;
+      goes_on = e.goes_on;
     }
 
 pub returns-clause-lists : goal.returns-clause-lists
@@ -41,4 +51,12 @@ returns-clause-lists g c =
     sym (map-id _)
     ∙ (YieldsList-end (YieldsList-from_vec c.args.sessions.items (search rules) (search rules)) c.loop-session.yielded _ c.loop-session.yielded_by _ c.next.new.self c.in-None.is
     c.next.ensures.steps).0 in
-    rw (← all) c.loop-session.invariant.lists
+    let o = g.O.Opening.opened.manager in
+    let e = c.close-manager.ensures in
+    let m = c.close-manager.result.0 in
+    let list = c.close-manager.result.4.list in
+    let listed = subst (λ (l : List Item). IsListed o l m) (sym e.list.0) e.listed in
+    all_are_beginnings o list m listed c.args.sessions.items (subst (All (λ (s : Seat). AreOfOneList s.seen list)) all c.loop-session.invariant.seen)
+
+pub returns-clause-handed : goal.returns-clause-handed
+returns-clause-handed g c = goes_on-made g.O.Opening.opened.manager c.close-manager.result.0 c.close-manager.ensures.goes_on

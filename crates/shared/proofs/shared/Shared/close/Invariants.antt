@@ -1,7 +1,6 @@
 use Rattle.std.proofs.Common.{◌≡◌, ◌≤◌, length, map, vec_capacity}
 use Rattle.std.specs.Prelude.{sum, All}
-use Rattle.publishing.specs.Commits.{commits_made}
-use Rattle.shared.specs.Sessions.{AreBeginnings, commits_above}
+use Rattle.shared.specs.Endings.{AreOfOneList}
 use Rattle.shared.proofs.shared.Shared.close.Given as goal
 
 abbrev pub invariant-loop-session : goal.invariant-loop-session
@@ -12,5 +11,5 @@ invariant-loop-session g l = record {
   amount : l.all.amount ≡ sum l.counts.items;
   counts : l.counts.items ≡ map (λ s. s.count) l.yielded;
   room : g.O.Opening.clients ≤ vec_capacity l.counts;
-  lists : All (λ s. AreBeginnings (commits_above g.O.Opening.opened.manager s.seen l.manager.start.base) (commits_made l.manager)) l.yielded;
+  seen : All (λ s. AreOfOneList s.seen l.list.list) l.yielded;
 }
