@@ -1,5 +1,5 @@
 //! What a session writes and reads: the calls of its transaction.
-ghost use Rattle.std.specs.Prelude.{◌≡◌, IfOk, IsErr, IsOkUnless, MatchOption, OnErr, Err, drop, is_some, length, slice_get, take};
+ghost use Rattle.std.specs.Prelude.{◌≡◌, IfOk, IsErr, IsOkAnd, IsOkUnless, MatchOption, OnErr, Err, drop, is_some, length, slice_get, take};
 ghost use Rattle.std.specs.Option.{option_map};
 ghost use Rattle.values.specs.Shape.{cell_fault, key_fault, or_fault, row_fault};
 ghost use Rattle.model.specs.Table.{rank, row_at, rows_of};
@@ -74,7 +74,7 @@ impl<O: Opening> Session<O> {
     ///
     /// `NotOpen` where no transaction is open.
     pub fn get(&self, key: &Key) -> Result<Option<RowView<'_>>, NotOpen>
-        ensures { MatchOption self.now.txn (IsErr result) (λ txn. IfOk result (λ found. option_map row_of found ≡ row_at (image_of txn) key.now)) }
+        ensures { MatchOption self.now.txn (IsErr result) (λ txn. IsOkAnd result (λ found. option_map row_of found ≡ row_at (image_of txn) key.now)) }
     {
         Ok(self.txn()?.get(key))
     }
@@ -85,7 +85,7 @@ impl<O: Opening> Session<O> {
     ///
     /// `NotOpen` where no transaction is open.
     pub fn row_at(&self, rid: u64) -> Result<Option<RowView<'_>>, NotOpen>
-        ensures { MatchOption self.now.txn (IsErr result) (λ txn. IfOk result (λ found. option_map row_of found ≡ slice_get (rows_of (image_of txn)) rid)) }
+        ensures { MatchOption self.now.txn (IsErr result) (λ txn. IsOkAnd result (λ found. option_map row_of found ≡ slice_get (rows_of (image_of txn)) rid)) }
     {
         Ok(self.txn()?.row_at(rid))
     }
@@ -96,7 +96,7 @@ impl<O: Opening> Session<O> {
     ///
     /// `NotOpen` where no transaction is open.
     pub fn rank(&self, key: &Key) -> Result<(u64, bool), NotOpen>
-        ensures { MatchOption self.now.txn (IsErr result) (λ txn. IfOk result (λ found. (found.0 ≡ rank key.now (image_of txn)) × (found.1 ≡ is_some (row_at (image_of txn) key.now)))) }
+        ensures { MatchOption self.now.txn (IsErr result) (λ txn. IsOkAnd result (λ found. (found.0 ≡ rank key.now (image_of txn)) × (found.1 ≡ is_some (row_at (image_of txn) key.now)))) }
     {
         Ok(self.txn()?.rank(key))
     }
@@ -107,7 +107,7 @@ impl<O: Opening> Session<O> {
     ///
     /// `NotOpen` where no transaction is open.
     pub fn scan(&self, from: u64, to: u64) -> Result<MergeScan<'_>, NotOpen>
-        ensures { MatchOption self.now.txn (IsErr result) (λ txn. IfOk result (λ found. found ≡ drop from (take to (rows_of (image_of txn))))) }
+        ensures { MatchOption self.now.txn (IsErr result) (λ txn. IsOkAnd result (λ found. found ≡ drop from (take to (rows_of (image_of txn))))) }
     {
         Ok(self.txn()?.scan(from, to))
     }
@@ -118,7 +118,7 @@ impl<O: Opening> Session<O> {
     ///
     /// `NotOpen` where no transaction is open.
     pub fn len(&self) -> Result<u64, NotOpen>
-        ensures { MatchOption self.now.txn (IsErr result) (λ txn. IfOk result (λ found. found ≡ length (image_of txn))) }
+        ensures { MatchOption self.now.txn (IsErr result) (λ txn. IsOkAnd result (λ found. found ≡ length (image_of txn))) }
     {
         Ok(self.txn()?.len())
     }

@@ -1,6 +1,7 @@
 //! Why a call of a session, or of what sessions share, is refused. Nothing has changed then.
 ghost use Rattle.std.specs.Prelude.{◌≡◌};
 ghost use Rattle.shared.specs.declared.fault.BeginFault.TheVariants as begin_fault;
+ghost use Rattle.shared.specs.declared.fault.ShareFault.TheVariants as share_fault;
 
 use publishing::ReadingFault;
 use std::alloc::AllocError;
@@ -23,12 +24,16 @@ pub enum ShareFault {
 }
 
 impl From<NoMemory> for ShareFault {
+    ghost from_gives = { λ _ fault. fault ≡ share_fault.NoMemory };
+
     fn from(_: NoMemory) -> ShareFault {
         ShareFault::NoMemory
     }
 }
 
 impl From<AllocError> for ShareFault {
+    ghost from_gives = { λ _ fault. fault ≡ share_fault.NoMemory };
+
     fn from(_: AllocError) -> ShareFault {
         ShareFault::NoMemory
     }

@@ -1,5 +1,5 @@
 //! What the sessions share: the lock, and the calls that take it.
-ghost use Rattle.std.specs.Prelude.{◌≡◌, ◌+◌, ◌<◌, ◌≤◌, [], length, map, sum, All, IfErr, IfOk, IfSome, OnErr, OnOk, None, Some, Err, vec_capacity, vec_len};
+ghost use Rattle.std.specs.Prelude.{◌≡◌, ◌≢◌, ◌+◌, ◌<◌, ◌≤◌, [], length, map, sum, All, IfErr, IfOk, IfSome, OnErr, OnOk, None, Some, Err, vec_capacity, vec_len};
 ghost use mathlib.Core.List.{IsPrefix};
 ghost use Rattle.left_right.specs.Sides.{view};
 ghost use Rattle.model.specs.History.{IsLegal};
@@ -11,7 +11,7 @@ ghost use Rattle.values.specs.declared.limits.TheConstants.{MAX_ROWS};
 ghost use Rattle.shared.specs.Endings.{IsClosed};
 ghost use Rattle.shared.specs.Sessions.{AreBeginnings, WasReplied, WasTold, commits_above, new_seat, number_of};
 ghost use Rattle.shared.specs.declared.fault.CommitFault.TheVariants as commit_fault;
-ghost use Rattle.shared.specs.declared.fault.ShareFault.{ShareFault};
+ghost use Rattle.shared.specs.declared.fault.ShareFault.TheVariants as share_fault;
 
 use crate::fault::{CommitFault, ShareFault};
 use crate::locked::{Locked, VersionWriter};
@@ -81,7 +81,8 @@ fn published_at(manager: &Manager, list: &SeenList) -> Result<Published, NoMemor
 
 /// A reader that has seen nothing.
 fn place_of(writer: &VersionWriter) -> Result<VersionReader, ShareFault>
-    ensures { IfOk result (λ r. (view r.place ≡ None) × (r.place.table_id ≡ writer.now.desk.place.table_id)) }
+    ensures reader { IfOk result (λ r. (view r.place ≡ None) × (r.place.table_id ≡ writer.now.desk.place.table_id)) }
+    ensures refused { IfErr result (λ fault. fault ≡ share_fault.NoReader) }
 {
     for _ in 0..MAX_TRIES {
         if let Ok(reader) = writer.factory().reader() {
@@ -95,6 +96,7 @@ fn place_of(writer: &VersionWriter) -> Result<VersionReader, ShareFault>
 fn reader_of(writer: &mut VersionWriter) -> Result<VersionReader, ShareFault>
     ensures writer { (writer.new.desk.shown ≡ writer.old.desk.shown) × (view writer.new.desk.place ≡ view writer.old.desk.place) }
     ensures reader { IfOk result (λ r. view r.place ≡ view writer.old.desk.place) }
+    ensures refused { IfErr result (λ fault. fault ≡ share_fault.NoReader) }
 {
     let mut reader = place_of(writer)?;
     let note = writer.tell::<Notes>();
@@ -109,7 +111,8 @@ fn first_publish<R: Wait>(
     again: Published,
 ) -> (VersionWriter, Result<(), ShareFault>)
     requires { writer.desk.shown.value ≡ again }
-    ensures { IfOk result.1 (λ _. (result.0.desk.shown.value ≡ again) × (view result.0.desk.place ≡ Some again)) }
+    ensures published { IfOk result.1 (λ _. (result.0.desk.shown.value ≡ again) × (view result.0.desk.place ≡ Some again)) }
+    ensures refused { IfErr result.1 (λ fault. fault ≡ share_fault.NoMemory) }
 {
     let Ok(()) = writer.append(again) else {
         return (writer, Err(ShareFault::NoMemory));
@@ -136,6 +139,7 @@ fn sessions_of<O: Opening>(
     ensures sessions { IfOk result (λ v. v.items ≡ map new_seat (range_with_len 0 clients)) }
     ensures rest { OnOk result ((rest.new.parts ≡ 0) × (rest.new.amount ≡ 0)) }
     ensures writer { writer.new.desk.shown ≡ writer.old.desk.shown }
+    ensures refused { IfErr result (λ fault. fault ≢ share_fault.BadLimit) }
 {
     let mut sessions = Vec::with_capacity(alloc, clients as usize)?;
     for client in 0..clients {
@@ -167,6 +171,9 @@ pub fn open<O: Opening, S: ImageStore, R: Wait>(
     requires store { S.columns store ≡ manager.schema }
     ensures sessions { IfOk result (λ r. r.1.items ≡ map new_seat (range_with_len 0 clients)) }
     ensures limit { OnOk result ((1 ≤ clients) × (clients ≤ 64)) }
+    ensures none { clients ≡ 0 → result ≡ Err share_fault.BadLimit }
+    ensures many { 64 < clients → result ≡ Err share_fault.BadLimit }
+    ensures refused { IfErr result (λ fault. 1 ≤ clients → clients ≤ 64 → fault ≢ share_fault.BadLimit) }
 {
     if clients == 0 || clients > MAX_CLIENTS {
         return Err(ShareFault::BadLimit);

@@ -8,7 +8,7 @@ tell-note-requires c = forks _ _
 pub learn-requires : goal.learn-requires
 learn-requires c =
     let note = c.tell-note.ensures.given in
-    record { own = (note.0 ∙ sym c.in_ok-reader.ensures.1, note.2); rule = merges _ _ _ _ }
+    record { own = (note.0 ∙ sym c.in_ok-reader.ensures.reader.1, note.2); rule = merges _ _ _ _ }
 
 pub returns-clause-writer : goal.returns-clause-writer
 returns-clause-writer c = let kept = c.tell-note.ensures.kept in (kept.0, kept.3)
