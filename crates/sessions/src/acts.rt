@@ -48,6 +48,7 @@ pub(crate) enum Act {
     Fold,
     /// The generation that is written.
     Checkpoint(u32),
+    NoCheckpoint(CheckpointFault),
     /// How many records are handed out, and the number at which they start.
     Cut(usize, u64),
 }
@@ -236,6 +237,23 @@ fn has_left<O: Opening>(sessions: &mut Vec<Session<O>>, client: Client) -> bool 
     }
 }
 
+/// Whether a checkpoint is refused so.
+///
+/// # Errors
+///
+/// The fault, where it is refused in another way.
+fn is_refused<O: Opening, S: ImageStore, R: Wait>(
+    rt: &R,
+    shared: &Shared<O, S>,
+    due: CheckpointFault,
+) -> Result<bool, CheckpointFault> {
+    match checkpointed(rt, shared) {
+        Ok(_) => Ok(false),
+        Err(fault) if fault == due => Ok(true),
+        Err(fault) => Err(fault),
+    }
+}
+
 /// Whether the history that is cut has so many records from a number on.
 fn is_cut<O: Opening, S: ImageStore, R: Wait>(
     rt: &R,
@@ -265,6 +283,7 @@ pub(crate) fn is_answered<O: Opening, S: ImageStore, R: Wait>(
     Ok(match act {
         Act::Fold => folded(rt, shared) == Ok(()),
         Act::Checkpoint(generation) => checkpointed(rt, shared)? == generation,
+        Act::NoCheckpoint(fault) => is_refused(rt, shared, fault)?,
         Act::Cut(count, base) => is_cut(rt, shared, count, base),
         Act::Told(other) => is_told(sessions, client, other),
         Act::Leave => has_left(sessions, client),

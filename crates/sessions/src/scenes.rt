@@ -8,6 +8,7 @@ mod folds;
 mod openings;
 mod readings;
 mod refusals;
+mod swaps;
 mod tellings;
 
 use crate::acts::{Act, Client, is_answered, is_done};
