@@ -6,7 +6,9 @@ use Rattle.std.proofs.lemmas.List.Elements.{filter-append, filter_more}
 use Rattle.values.specs.declared.row.Row.{Row}
 use Rattle.inputs.specs.declared.call.ClientCall.{ClientCall}
 use Rattle.manager.specs.Managed.{Managed}
+use Rattle.shared.specs.Endings.{IsClosed}
 use Rattle.shared.specs.Sessions.{Seat}
+use Rattle.shared.proofs.CallerLemmas.{closed_at_opening}
 use Rattle.pdtcli.specs.declared.reply.Reply.{Reply}
 use Rattle.pdtcli.specs.declared.reply.Reply.TheVariants.{Row as Shown}
 use Rattle.pdtcli.specs.declared.reply.ReplyLine.{ReplyLine}
@@ -136,13 +138,14 @@ own_most client calls i =
     let parts = ap length (ap (λ (cs : List ClientCall). calls_of client cs) (sym (take-append-drop i calls)) ∙ filter-append (is_of client) (take i calls) (drop i calls)) in
     omega (arith, parts, length-append (calls_of client (take i calls)) (calls_of client (drop i calls)))
 
--- where there is no client, nothing is left but the manager
-pub none_made : (o : Managed) (calls : List ClientCall) (clients : ℕ) (left : Left) → clients ≡ 0 → left.lines ≡ [] → left.counts ≡ [] → IsLeft o calls clients left
-none_made o calls clients left none lines counts = record {
+-- where there is no client, nothing is left but the manager, as it was
+pub none_made : (o : Managed) (calls : List ClientCall) (clients : ℕ) (left : Left) → clients ≡ 0 → left.manager ≡ o → left.lines ≡ [] → left.counts ≡ [] → IsLeft o calls clients left
+none_made o calls clients left none manager lines counts = record {
   groups = [];
   seats = [];
   made = rw none tt;
   lines = lines;
   counts = counts;
+  closed = subst (IsClosed o []) (sym manager) (closed_at_opening o);
   lists = λ k d inside. absurd (omega (arith, inside));
 }

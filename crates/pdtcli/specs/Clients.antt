@@ -10,6 +10,7 @@ use Rattle.manager.specs.Managed.{Managed}
 use Rattle.manager.specs.declared.fault.CheckpointFault.{CheckpointFault}
 use Rattle.publishing.specs.Commits.{commits_made}
 use Rattle.publishing.specs.Lists.{number_in}
+use Rattle.shared.specs.Endings.{IsClosed}
 use Rattle.shared.specs.Sessions.{Seat, WasReplied, AreBeginnings, begun_in, commits_above, new_seat}
 use Rattle.pdtcli.specs.declared.reply.Reply.{Reply}
 use Rattle.pdtcli.specs.declared.reply.Reply.TheVariants.{Begun, AlreadyOpen, NotOpen, Decided, Folded, Cut, Ended, Stranger, NoMemory}
@@ -112,12 +113,14 @@ each_with calls seats = map (λ (seat : Seat). (seat, calls)) seats
 abbrev pub joined_lines : List (List ReplyLine) → List ReplyLine
 joined_lines groups = flat_map (λ (lines : List ReplyLine). lines) groups
 
--- what is left of so many clients: a group of lines for each, which its session made; the counts are the sessions', and the
--- commits that each session has seen at the end and those of the manager's history are beginnings of one list
+-- what is left of so many clients: a group of lines for each, which its session made; the counts are the sessions'; the manager
+-- is the one that was handed in, as the published list has left it; and the commits that each session has seen at the end and
+-- those of the manager's history are beginnings of one list
 pub record IsLeft (o : Managed) (calls : List ClientCall) (clients : ℕ) (left : Left) : Type 0 where
   pub groups : List (List ReplyLine)
   pub seats : List Seat
   pub made : HaveMade o (each_with calls (map new_seat (range_with_len 0 clients))) groups seats
   pub lines : left.lines ≡ joined_lines groups
   pub counts : left.counts ≡ map (λ (seat : Seat). seat.count) seats
+  pub closed : IsClosed o seats left.manager
   pub lists : All (λ (seat : Seat). AreBeginnings (commits_above o seat.seen left.manager.start.base) (commits_made left.manager)) seats

@@ -20,6 +20,7 @@ returns-in_ok-lines-in-Ok-run_all-clause-made g c =
       made = subst (λ (givens : List (Seat × List ClientCall)). HaveMade o givens groups seats) (λ j. each_with (c.calls.ensures.calls j) (c.in-Ok.ensures.sessions j)) c.in-Ok-run_all.ensures;
       lines = c.in_ok-lines-in-Ok-run_all.ensures;
       counts = c.close-closed.ensures.counts;
+      closed = c.close-closed.ensures.closed;
       lists = c.close-closed.ensures.lists;
     }))
 
