@@ -1,7 +1,7 @@
 # Each target is one line; the work is done by the toolchain's command rt.
 .PHONY: try run test examples fmt check
 
-# runs the program on its example, unproved: a look, in about a minute
+# runs the program on its example, unproved: a look, in two to three minutes
 try:
 	cd crates/pdt && rt try -- run data/table.csv data/script.csv
 
