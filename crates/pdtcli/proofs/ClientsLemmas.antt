@@ -1,13 +1,15 @@
 -- A client's run goes on by one call, and all clients' by one client.
 use Rattle.std.proofs.Common.{◌≡◌, ℕ, suc, ◌+◌, ◌<◌, ◌≤◌, Bool, true, false, cond, List, [], ◌∷◌, ◌++◌, length, take, drop, get_or, map, refl, sym, ap, ◌∙◌, subst, append_assoc, arith}
 use Rattle.std.specs.Prelude.{◌==◌, filter}
+use Rattle.std.specs.List.{All, range_with_len}
+use Rattle.std.proofs.lemmas.List.FromFn.{get_or-map-range_with_len, length-map-range_with_len}
 use Rattle.std.proofs.lemmas.List.{append-nil, length-append, map-append, take-append-drop}
 use Rattle.std.proofs.lemmas.List.Elements.{filter-append, filter_more}
 use Rattle.values.specs.declared.row.Row.{Row}
 use Rattle.inputs.specs.declared.call.ClientCall.{ClientCall}
 use Rattle.manager.specs.Managed.{Managed}
 use Rattle.shared.specs.Endings.{IsClosed}
-use Rattle.shared.specs.Sessions.{Seat}
+use Rattle.shared.specs.Sessions.{Seat, new_seat}
 use Rattle.shared.proofs.CallerLemmas.{closed_at_opening}
 use Rattle.pdtcli.specs.declared.reply.Reply.{Reply}
 use Rattle.pdtcli.specs.declared.reply.Reply.TheVariants.{Row as Shown}
@@ -149,3 +151,10 @@ none_made o calls clients left none manager lines counts = record {
   closed = subst (IsClosed o []) (sym manager) (closed_at_opening o);
   lists = λ k d inside. absurd (omega (arith, inside));
 }
+
+-- the sessions of an opening are its clients'
+pub numbered : (clients : ℕ) → All (λ (s : Seat). s.client < clients) (map new_seat (range_with_len 0 clients))
+numbered clients i d inside =
+    let many = length-map-range_with_len new_seat 0 clients in
+    let below : i < clients = omega (arith, inside, many) in
+    subst (λ (s : Seat). s.client < clients) (sym (get_or-map-range_with_len new_seat 0 clients i i d below refl)) below

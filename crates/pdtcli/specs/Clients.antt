@@ -1,5 +1,5 @@
 -- A run of clients on threads of their own: what each call of a session may be answered, and what all of them leave.
-use Rattle.std.specs.Prelude.{◌≡◌, ◌⊎◌, ℕ, ◌+◌, ◌<◌, ◌==◌, cond, Some, IsNone, IsSome, Result, List, [], ◌∷◌, ◌++◌, All, filter, flat_map, length, map}
+use Rattle.std.specs.Prelude.{◌≡◌, ◌≢◌, ◌⊎◌, ℕ, ◌+◌, ◌<◌, ◌≤◌, ◌==◌, cond, Some, IsNone, IsSome, Result, List, [], ◌∷◌, ◌++◌, All, filter, flat_map, length, map}
 use Rattle.std.specs.List.{range_with_len}
 use mathlib.Core.List.{IsPrefix}
 use Rattle.values.specs.declared.row.Row.{Row}
@@ -17,6 +17,9 @@ use Rattle.pdtcli.specs.declared.reply.Reply.TheVariants.{Begun, AlreadyOpen, No
 use Rattle.pdtcli.specs.declared.reply.ReplyLine.{ReplyLine}
 use Rattle.pdtcli.specs.Outcome.{Left}
 use Rattle.pdtcli.specs.Reads.{ReadStep}
+use Rattle.shared.specs.declared.fault.ShareFault.TheVariants as share_fault
+use Rattle.pdtcli.specs.declared.clients.RunFault.{RunFault}
+use Rattle.pdtcli.specs.declared.clients.RunFault.TheVariants as run_fault
 use Rattle.pdtcli.specs.Run.{Side, WriteStep, AbortStep, checkpoint_reply, is_decided, lines_of}
 
 -- ---- one call
@@ -124,3 +127,17 @@ pub record IsLeft (o : Managed) (calls : List ClientCall) (clients : ℕ) (left 
   pub counts : left.counts ≡ map (λ (seat : Seat). seat.count) seats
   pub closed : IsClosed o seats left.manager
   pub lists : All (λ (seat : Seat). AreBeginnings (commits_above o seat.seen left.manager.start.base) (commits_made left.manager)) seats
+
+-- ---- refusals
+
+-- why not all of so many clients are started: a place or a thread is refused
+abbrev pub IsStartRefusal : ℕ → RunFault → Type 0
+IsStartRefusal clients (run_fault.Open fault) = ⊥
+IsStartRefusal clients (run_fault.NoThread client) = client < clients
+IsStartRefusal clients run_fault.NoMemory = Unit {0}
+
+-- why nothing is left of so many clients. There are too many exactly above 64; where there are none, only memory can be wanted
+abbrev pub IsClientsRefusal : ℕ → RunFault → Type 0
+IsClientsRefusal clients (run_fault.Open fault) = (1 ≤ clients) × (clients ≤ 64 → fault ≢ share_fault.BadLimit) × (64 < clients → fault ≡ share_fault.BadLimit)
+IsClientsRefusal clients (run_fault.NoThread client) = client < clients
+IsClientsRefusal clients run_fault.NoMemory = Unit {0}

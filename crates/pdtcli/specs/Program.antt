@@ -15,7 +15,7 @@ use Rattle.inputs.specs.declared.fault.ScriptFault.TheVariants as script_fault
 use Rattle.inputs.specs.declared.fault.TableFault.{TableFault}
 use Rattle.inputs.specs.declared.fault.TableFault.TheVariants as table_fault
 use Rattle.manager.specs.Managed.{Managed, IsManaged, fault_of_opening, opened}
-use Rattle.pdtcli.specs.Clients.{IsLeft}
+use Rattle.pdtcli.specs.Clients.{IsClientsRefusal, IsLeft}
 use Rattle.pdtcli.specs.Outcome.{Left}
 use Rattle.pdtcli.specs.Run.{IsRun, State}
 use Rattle.manager.specs.declared.fault.OpenFault.TheVariants as open_fault
@@ -23,7 +23,7 @@ use Rattle.pdtcli.specs.declared.program.FileFault.{FileFault}
 use Rattle.pdtcli.specs.declared.program.FileFault.TheVariants as file
 use Rattle.pdtcli.specs.declared.program.OpenOptions.{OpenOptions}
 use Rattle.pdtcli.specs.declared.refusal.Refusal.{Refusal}
-use Rattle.pdtcli.specs.declared.refusal.Refusal.TheVariants.{UnreadableTable, Table, UnreadableScript, Script, Open, Run, Output}
+use Rattle.pdtcli.specs.declared.refusal.Refusal.TheVariants.{UnreadableTable, Table, UnreadableScript, Script, Open, Run, Threads, Output}
 
 -- ---- what the files say
 
@@ -85,6 +85,12 @@ abbrev pub IsRunRefusal : Managed → Typed → Taken → Refusal → Type 0
 IsRunRefusal manager script store (Run fault) = Unit {0}
 IsRunRefusal manager script store (Output fault) = (left : Left) × IsRunFrom manager script store left
 IsRunRefusal manager script store refusal = ⊥
+
+-- the clients' threads leave nothing, or what they leave isn't written whole
+abbrev pub IsThreadsRefusal : Managed → Typed → Refusal → Type 0
+IsThreadsRefusal manager script (Threads fault) = IsClientsRefusal (length script.clients) fault
+IsThreadsRefusal manager script (Output fault) = (left : Left) × IsRunOnThreads manager script left
+IsThreadsRefusal manager script refusal = ⊥
 
 -- ---- refusals
 

@@ -2,6 +2,7 @@
 ghost use Rattle.std.specs.Prelude.{◌≡◌, ◌≤◌, ◌+◌, ◌++◌, List, Option, Some, None, IfOk, OnErr, IsTrue, IfSome, map, vec_len, vec_capacity};
 ghost use Rattle.devices.specs.Store.{have_failed};
 ghost use Rattle.values.specs.declared.row.Row.{Row};
+ghost use Rattle.model.specs.Writes.{write_fits_schema};
 ghost use Rattle.pdtcli.specs.Reads.{ReadStep};
 ghost use Rattle.pdtcli.specs.declared.reply.Reply.TheVariants as reply;
 ghost use Rattle.inputs.specs.Typed.{is_typed_call, is_typed_read, is_typed_write};
@@ -11,13 +12,13 @@ ghost use Rattle.pdtcli.specs.Run.{IsServed, shown_lines, BeginStep, WriteStep, 
 
 use crate::reads::read_in;
 use crate::reply::{Reply, ReplyLine};
-use crate::shape::refused_shape;
+use crate::shape::{copy_of, refused_shape};
 use devices::{ColumnDevice, Store};
 use inputs::{Call, ClientCall, Read};
 use manager::{CheckpointFault, Manager};
 use model::{Write, WriteReply};
 use std::marker::Model;
-use txn::{Txn, WriteFault};
+use txn::Txn;
 use values::NoMemory;
 
 /// A client, with the transaction that it has open. A transaction that is open where the client is let go ends there.
@@ -217,18 +218,15 @@ fn write_in(txn: &mut Txn, write: &Write) -> Reply
     }
     match answer(txn, write) {
         Ok(reply) => Reply::Wrote(reply),
-        Err(_) => Reply::NoMemory,
+        Err(NoMemory) => Reply::NoMemory,
     }
 }
 
-/// What the transaction answers to a write.
-fn answer(txn: &mut Txn, write: &Write) -> Result<WriteReply, WriteFault>
+/// What the transaction answers to a write that fits.
+fn answer(txn: &mut Txn, write: &Write) -> Result<WriteReply, NoMemory>
+    requires fits { IsTrue (write_fits_schema txn.old.schema write.now) }
     ensures ok { IfOk result (λ reply. IsAnswered txn.old write.now reply txn.new) }
     ensures err { OnErr result (txn.new ≡ txn.old) }
 {
-    match write {
-        Write::Insert(row) => txn.insert(row.copy()?),
-        Write::Delete(key) => txn.delete(key),
-        Write::Set(key, col, value) => txn.set(key, *col, value.copy()?),
-    }
+    txn.write(copy_of(write)?)
 }

@@ -1,11 +1,12 @@
 //! A run of a script's clients, each on a thread of its own.
-ghost use Rattle.std.specs.Prelude.{◌≡◌, ◌+◌, ◌≤◌, ◌++◌, [], All, IfErr, IfOk, IsTrue, OnOk, length, map, sum, vec_items, vec_len, vec_capacity};
+ghost use Rattle.std.specs.Prelude.{◌≡◌, ◌⊎◌, ◌+◌, ◌<◌, ◌≤◌, ◌++◌, [], All, IfErr, IfOk, IsTrue, OnOk, length, map, sum, vec_items, vec_len, vec_capacity};
 ghost use Rattle.std.specs.List.{range_with_len};
 ghost use Rattle.inputs.specs.Typed.{is_typed_call};
 ghost use Rattle.manager.specs.Managed.{IsManaged};
 ghost use Rattle.shared.specs.Sessions.{new_seat};
-ghost use Rattle.pdtcli.specs.Clients.{HasMade, HaveMade, IsLeft, calls_of, each_with, joined_lines};
+ghost use Rattle.pdtcli.specs.Clients.{HasMade, HaveMade, IsClientsRefusal, IsLeft, IsStartRefusal, calls_of, each_with, joined_lines};
 ghost use Rattle.pdtcli.specs.Run.{AreHanded};
+ghost use Rattle.pdtcli.specs.declared.clients.RunFault.TheVariants as run_fault;
 
 use crate::client::{count_calls, run_client};
 use crate::gate::Gate;
@@ -40,12 +41,16 @@ pub enum RunFault {
 }
 
 impl From<NoMemory> for RunFault {
+    ghost from_gives = { λ _ fault. fault ≡ run_fault.NoMemory };
+
     fn from(_: NoMemory) -> RunFault {
         RunFault::NoMemory
     }
 }
 
 impl From<AllocError> for RunFault {
+    ghost from_gives = { λ _ fault. fault ≡ run_fault.NoMemory };
+
     fn from(_: AllocError) -> RunFault {
         RunFault::NoMemory
     }
@@ -89,6 +94,7 @@ pub fn run_clients<S: ImageStore + Send, G: Gate, R: Threads + Wait + Sync>(
     ensures lawful { IfOk result (λ outcome. IsManaged outcome.left.manager) }
     ensures handed { IfOk result (λ outcome. AreHanded manager outcome.left.manager outcome.left.handed) }
     ensures store { IfOk result (λ outcome. S.columns outcome.store ≡ outcome.left.manager.schema) }
+    ensures refused { IfErr result (IsClientsRefusal (length script.now.clients)) }
 {
     let names = copy_texts(alloc, script.clients())?;
     if names.is_empty() {
@@ -117,12 +123,14 @@ fn run_shared<O: Opening + Send + Sync, S: ImageStore + Send, G: Gate, R: Thread
     requires opening { (fresh.book.list.opening ≡ O.opened) × (fresh.book.list.list ≡ []) × (O.opened.manager ≡ manager) }
     requires script { script.now.schema ≡ manager.schema }
     requires store { S.columns store ≡ manager.schema }
+    requires some { 1 ≤ clients }
     ensures made { IfOk result (λ outcome. IsLeft manager script.now.calls clients outcome.left) }
     ensures clients { IfOk result (λ outcome. outcome.left.clients ≡ names.items) }
     ensures records { IfOk result (λ outcome. outcome.left.manager.made ≡ manager.made + sum outcome.left.counts) }
     ensures lawful { IfOk result (λ outcome. IsManaged outcome.left.manager) }
     ensures handed { IfOk result (λ outcome. AreHanded manager outcome.left.manager outcome.left.handed) }
     ensures store { IfOk result (λ outcome. S.columns outcome.store ≡ outcome.left.manager.schema) }
+    ensures refused { IfErr result (IsClientsRefusal clients) }
 {
     let alloc = *names.allocator();
     let handed_before = handed_out(&manager);
@@ -158,14 +166,18 @@ fn run_all<O: Opening + Send + Sync, S: ImageStore + Send, G: Gate, R: Threads +
     calls: &[ClientCall],
 ) -> Result<(Vec<Session<O>>, Vec<Vec<ReplyLine>>), RunFault>
     requires typed { All (λ asked. IsTrue (is_typed_call O.opened.manager.schema asked.call)) calls.now }
-    ensures { IfOk result (λ r. HaveMade O.opened.manager (each_with calls.now sessions.items) (map vec_items r.1.items) r.0.items) }
+    requires numbered { All (λ session. session.client < O.clients) sessions.items }
+    ensures made { IfOk result (λ r. HaveMade O.opened.manager (each_with calls.now sessions.items) (map vec_items r.1.items) r.0.items) }
+    ensures refused { IfErr result (IsStartRefusal O.clients) }
 {
     thread::scope(
         thread::scope_env(),
         rt,
         |scope| -> Result<(Vec<Session<O>>, Vec<Vec<ReplyLine>>), RunFault>
-            requires { All (λ asked. IsTrue (is_typed_call O.opened.manager.schema asked.call)) calls.now }
-            ensures { IfOk result (λ r. HaveMade O.opened.manager (each_with calls.entry.now sessions.items) (map vec_items r.1.items) r.0.items) }
+            requires typed { All (λ asked. IsTrue (is_typed_call O.opened.manager.schema asked.call)) calls.now }
+            requires numbered { All (λ session. session.client < O.clients) sessions.items }
+            ensures made { IfOk result (λ r. HaveMade O.opened.manager (each_with calls.entry.now sessions.items) (map vec_items r.1.items) r.0.items) }
+            ensures refused { IfErr result (IsStartRefusal O.clients) }
         { run_in(scope, rt, alloc, shared, gate, sessions, calls) },
     )
 }
@@ -188,7 +200,9 @@ fn run_in<
     calls: &'e [ClientCall],
 ) -> Result<(Vec<Session<O>>, Vec<Vec<ReplyLine>>), RunFault>
     requires typed { All (λ asked. IsTrue (is_typed_call O.opened.manager.schema asked.call)) calls.now }
-    ensures { IfOk result (λ r. HaveMade O.opened.manager (each_with calls.now sessions.items) (map vec_items r.1.items) r.0.items) }
+    requires numbered { All (λ session. session.client < O.clients) sessions.items }
+    ensures made { IfOk result (λ r. HaveMade O.opened.manager (each_with calls.now sessions.items) (map vec_items r.1.items) r.0.items) }
+    ensures refused { IfErr result (IsStartRefusal O.clients) }
 {
     let count = sessions.len();
     let mut handles = Vec::with_capacity(alloc, count)?;
@@ -230,10 +244,12 @@ fn start_all<
     handles: &mut Vec<PromisedHandle<(Session<O>, Vec<ReplyLine>), Making<'e, O>>>,
 ) -> Result<(), RunFault>
     requires typed { All (λ asked. IsTrue (is_typed_call O.opened.manager.schema asked.call)) calls.now }
+    requires numbered { All (λ session. session.client < O.clients) sessions.items }
     requires empty { handles.old.items ≡ [] }
     requires room { vec_len sessions ≤ vec_capacity handles.old }
     ensures started { OnOk result (map (λ h. (h.promise.start.value, h.promise.calls.now)) handles.new.items ≡ each_with calls.now sessions.items) }
     ensures len { vec_len handles.new ≤ vec_len sessions }
+    ensures refused { IfErr result (IsStartRefusal O.clients) }
 {
     for session in sessions {
         handles.push_reserved(start(scope, rt, alloc, shared, gate, session, calls)?);
@@ -259,7 +275,8 @@ fn start<
     calls: &'e [ClientCall],
 ) -> Result<PromisedHandle<(Session<O>, Vec<ReplyLine>), Making<'e, O>>, RunFault>
     requires typed { All (λ asked. IsTrue (is_typed_call O.opened.manager.schema asked.call)) calls.now }
-    ensures { IfOk result (λ h. (h.promise.start.value ≡ session) × (h.promise.calls.now ≡ calls.now)) }
+    ensures started { IfOk result (λ h. (h.promise.start.value ≡ session) × (h.promise.calls.now ≡ calls.now)) }
+    ensures refused { IfErr result (λ fault. (fault ≡ run_fault.NoMemory) ⊎ (fault ≡ run_fault.NoThread session.client)) }
 {
     let client = session.client();
     let lines = Vec::with_capacity(alloc, count_calls(calls, client))?;

@@ -5,7 +5,7 @@ ghost use Rattle.std.specs.Io.KnownBytes.{Appends};
 ghost use Rattle.devices.specs.Store.{have_failed};
 ghost use Rattle.pdtcli.specs.Outcome.{Left};
 ghost use Rattle.pdtcli.specs.Output.{exit_status, shown};
-ghost use Rattle.pdtcli.specs.Program.{bytes_of, status_of, HasScript, HasTable, IsOpening, IsRefusalOf, IsRunFrom, IsRunOnThreads, IsRunRefusal, IsScriptRefusal, IsTableRefusal};
+ghost use Rattle.pdtcli.specs.Program.{bytes_of, status_of, HasScript, HasTable, IsOpening, IsRefusalOf, IsRunFrom, IsRunOnThreads, IsRunRefusal, IsScriptRefusal, IsTableRefusal, IsThreadsRefusal};
 ghost use Rattle.pdtcli.specs.Refusals.{is_output};
 
 use crate::clients::run_clients;
@@ -141,6 +141,7 @@ pub fn run_opened_on_threads<S: ImageStore + Send, W: Write, R: Threads + Wait +
         × IsRunOnThreads opened.manager opened.script left
         × Appends (W.contents out.old) (W.contents out.new) (shown left)
         × (status ≡ exit_status left.lines)) }
+    ensures refused { IfErr result (IsThreadsRefusal opened.manager opened.script) }
     ensures silent { IfErr result (λ refusal. is_output refusal ≡ false → out.new ≡ out.old) }
 {
     let Opened { manager, script } = opened;

@@ -2,6 +2,7 @@
 //! the lock.
 ghost use Rattle.std.specs.Prelude.{◌≡◌, ◌≤◌, ◌+◌, ◌++◌, [], List, IfOk, IfSome, IsTrue, OnErr, vec_len, vec_capacity};
 ghost use Rattle.values.specs.declared.row.Row.{Row};
+ghost use Rattle.model.specs.Writes.{write_fits_schema};
 ghost use Rattle.inputs.specs.Typed.{is_typed_call, is_typed_read, is_typed_write};
 ghost use Rattle.inputs.specs.declared.call.Call.TheVariants as call;
 ghost use Rattle.manager.specs.Managed.{Managed};
@@ -12,7 +13,7 @@ ghost use Rattle.pdtcli.specs.Clients.{SeatStep};
 use crate::caller::reply_of;
 use crate::reads::read_in;
 use crate::reply::{Reply, ReplyLine};
-use crate::shape::refused_shape;
+use crate::shape::{copy_of, refused_shape};
 use inputs::{Call, ClientCall, Read};
 use model::{Write, WriteReply};
 use publishing::Opening;
@@ -76,22 +77,13 @@ fn write_down<O: Opening>(session: &mut Session<O>, write: &Write) -> Reply
     }
 }
 
-/// What the session answers to a write.
+/// What the session answers to a write that fits.
 fn answer<O: Opening>(session: &mut Session<O>, write: &Write) -> Result<WriteReply, SessionFault>
+    requires fits { IfSome session.old.txn (λ txn. IsTrue (write_fits_schema txn.schema write.now)) }
     ensures ok { IfOk result (λ reply. HasWritten session.old write.now reply session.new) }
     ensures err { OnErr result (session.new ≡ session.old) }
 {
-    match write {
-        Write::Insert(row) => match row.copy() {
-            Ok(row) => session.insert(row),
-            Err(NoMemory) => Err(SessionFault::NoMemory),
-        },
-        Write::Delete(key) => session.delete(key),
-        Write::Set(key, col, value) => match value.copy() {
-            Ok(value) => session.set(key, *col, value),
-            Err(NoMemory) => Err(SessionFault::NoMemory),
-        },
-    }
+    session.write(copy_of(write)?)
 }
 
 /// Reads in the open transaction.

@@ -1,8 +1,9 @@
 //! What a session writes and reads: the calls of its transaction.
-ghost use Rattle.std.specs.Prelude.{◌≡◌, IfOk, IsErr, IsOkAnd, IsOkUnless, MatchOption, OnErr, Err, drop, is_some, length, slice_get, take};
+ghost use Rattle.std.specs.Prelude.{◌≡◌, IfOk, IfSome, IsErr, IsOkAnd, IsOkUnless, IsTrue, MatchOption, OnErr, Err, drop, is_some, length, slice_get, take};
 ghost use Rattle.std.specs.Option.{option_map};
 ghost use Rattle.values.specs.Shape.{cell_fault, key_fault, or_fault, row_fault};
 ghost use Rattle.model.specs.Table.{rank, row_at, rows_of};
+ghost use Rattle.model.specs.Writes.{write_fits_schema};
 ghost use Rattle.model.specs.declared.write.Write.TheVariants as asked;
 ghost use Rattle.merge.specs.View.{row_of};
 ghost use Rattle.txn.specs.Txn.{image_of};
@@ -12,7 +13,7 @@ ghost use Rattle.shared.specs.declared.fault.SessionFault.TheVariants as fault;
 use crate::fault::{NotOpen, SessionFault};
 use crate::session::Session;
 use merge::{MergeScan, RowView};
-use model::WriteReply;
+use model::{Write, WriteReply};
 use publishing::Opening;
 use values::{Key, Row, Value};
 
@@ -64,6 +65,23 @@ impl<O: Opening> Session<O> {
     {
         match &mut self.txn {
             Some(txn) => Ok(txn.set(key, col, value)?),
+            None => Err(SessionFault::NotOpen),
+        }
+    }
+
+    /// Answers a write that fits the schema, as `Txn::write` does: for a caller that has tested the shape.
+    ///
+    /// # Errors
+    ///
+    /// `NotOpen` where no transaction is open, and `NoMemory` where a growth is refused: nothing changes.
+    pub fn write(&mut self, write: Write) -> Result<WriteReply, SessionFault>
+        requires { IfSome self.old.txn (λ txn. IsTrue (write_fits_schema txn.schema write)) }
+        ensures ok { IfOk result (λ reply. HasWritten self.old write reply self.new) }
+        ensures fault { MatchOption self.old.txn (result ≡ Err fault.NotOpen) (λ txn. IsOkUnless result SessionFault.NoMemory) }
+        ensures err { OnErr result (self.new ≡ self.old) }
+    {
+        match &mut self.txn {
+            Some(txn) => Ok(txn.write(write)?),
             None => Err(SessionFault::NotOpen),
         }
     }

@@ -1,6 +1,7 @@
 //! Why a call of a session, or of what sessions share, is refused. Nothing has changed then.
 ghost use Rattle.std.specs.Prelude.{◌≡◌};
 ghost use Rattle.shared.specs.declared.fault.BeginFault.TheVariants as begin_fault;
+ghost use Rattle.shared.specs.declared.fault.SessionFault.TheVariants as session_fault;
 ghost use Rattle.shared.specs.declared.fault.ShareFault.TheVariants as share_fault;
 
 use publishing::ReadingFault;
@@ -103,6 +104,14 @@ impl From<WriteFault> for SessionFault {
             WriteFault::Shape(fault) => SessionFault::Shape(fault),
             WriteFault::NoMemory => SessionFault::NoMemory,
         }
+    }
+}
+
+impl From<NoMemory> for SessionFault {
+    ghost from_gives = { λ _ fault. fault ≡ session_fault.NoMemory };
+
+    fn from(_: NoMemory) -> SessionFault {
+        SessionFault::NoMemory
     }
 }
 

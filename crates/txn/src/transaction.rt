@@ -198,8 +198,12 @@ impl Txn {
         Ok(self.write(Write::Set(key.copy()?, col, value))?)
     }
 
-    /// Answers a write that fits the schema, and records it. On want of memory nothing changes.
-    fn write(&mut self, write: Write) -> Result<WriteReply, NoMemory>
+    /// Answers a write that fits the schema, and records it: for a caller that has tested the shape.
+    ///
+    /// # Errors
+    ///
+    /// `NoMemory` where a growth is refused: nothing changes.
+    pub fn write(&mut self, write: Write) -> Result<WriteReply, NoMemory>
         requires { IsTrue (write_fits_schema self.old.schema write) }
         ensures ok { IfOk result (λ reply. IsAnswered self.old write reply self.new) }
         ensures err { OnErr result (self.new ≡ self.old) }

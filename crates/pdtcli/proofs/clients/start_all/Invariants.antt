@@ -1,5 +1,6 @@
 use Rattle.std.proofs.Common.{◌≡◌, ◌+◌, ◌≤◌, ◌++◌, map, vec_capacity}
-use Rattle.std.specs.Prelude.{vec_len, vec_items}
+use Rattle.std.specs.Prelude.{◌<◌, vec_len, vec_items}
+use Rattle.std.specs.List.{All}
 use Rattle.std.specs.Vec.Iter.{into_iter_items, into_iter_len}
 use Rattle.pdtcli.specs.Clients.{each_with}
 use Rattle.pdtcli.proofs.clients.start_all.Given as goal
@@ -10,3 +11,4 @@ invariant-loop-session g l =
     (map (λ h. (h.promise.start.value, h.promise.calls.now)) (vec_items l.handles) ++ each_with l.calls (into_iter_items l.session-iterator) ≡ each_with l.calls (vec_items l.fn.sessions))
     × (vec_len l.handles + into_iter_len l.session-iterator ≡ vec_len l.fn.sessions)
     × (vec_len l.fn.sessions ≤ vec_capacity l.handles)
+    × All (λ session. session.client < g.O.Opening.clients) (into_iter_items l.session-iterator)
