@@ -1,5 +1,4 @@
 -- A tree may go to another thread, and several may read it: from the same of what its nodes hold, through each level.
-use Prim.Native.Nat.{ℕ}
 use mathlib.Core.Path.{◌≡◌}
 use denote.RattleType.{RattleType}
 use denote.Struct.Field.{Field, row_field, usize-field, i64-field}

@@ -2,6 +2,7 @@ mod Boundaries
 mod BulkLemmas
 mod GapSteps
 mod Heads
+mod InPlace
 mod Leaves
 mod Places
 mod Runs

@@ -7,6 +7,7 @@ mod edit;
 mod entry;
 mod gap;
 mod grown;
+mod in_place;
 mod iter;
 mod leaf;
 mod node;
