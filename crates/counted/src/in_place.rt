@@ -1,22 +1,48 @@
 //! Edits in place: a node that nobody shares is changed where it stands, and no node is made.
-ghost use Rattle.std.specs.Prelude.{◌≡◌, ◌+◌, ◌-◌, ◌^◌, ◌<◌, ◌≤◌, ◌+ℤ◌, ◌≤ℤ◌, pos, length, IfOk, IfErr, IfSome, IfNone};
-ghost use Rattle.counted.specs.Edits.{IsPut};
+ghost use Rattle.std.specs.Prelude.{◌≡◌, ◌∷◌, [], ◌+◌, ◌-◌, ◌^◌, ◌<◌, ◌≤◌, ◌+ℤ◌, ◌≤ℤ◌, pos, length, IfOk, IfErr, IfSome, IfNone};
+ghost use Rattle.counted.specs.Edits.{IsPut, edited};
 
-use crate::SharedEntry;
 use crate::children::child_at;
 use crate::node::{Body, Child, Node};
+use crate::{CountedTree, SharedEntry};
 use std::alloc::AllocError;
 use std::sync::Arc;
 
-impl Node {
-    /// Puts an entry in the place of so many from an index on, one at most, where nobody shares a node on the path to them and
-    /// the leaf has room: what that adds. Otherwise nothing is changed, and the entry comes back.
+impl CountedTree {
+    /// Puts an entry in the place of so many from an index on, one at most, where nobody shares a node on the path to
+    /// them and the leaf has room. Otherwise nothing is changed, and the entry comes back.
     pub(crate) fn put_in_place(
         &mut self,
         at: usize,
         gone: usize,
-        put: SharedEntry,
-    ) -> Result<i64, SharedEntry>
+        entry: SharedEntry,
+    ) -> Option<SharedEntry>
+        requires one { gone ≤ 1 }
+        requires within { at + gone ≤ length self.old.entries }
+        requires few { length self.old.entries < 2 ^ 60 }
+        ensures none { IfNone result (self.new.entries ≡ edited at gone (entry ∷ []) self.old.entries) }
+        ensures some { IfSome result (λ back. (self.new ≡ self.old) × (back ≡ entry)) }
+    {
+        let Some(root) = &mut self.root else {
+            return Some(entry);
+        };
+        let Some(node) = Arc::get_mut(root) else {
+            return Some(entry);
+        };
+        match node.put_in_place(at, gone, entry) {
+            Ok(added) => {
+                self.len += 1 - gone;
+                self.net += added;
+                None
+            }
+            Err(entry) => Some(entry),
+        }
+    }
+}
+
+impl Node {
+    /// The same below a node that nobody shares: what the entry adds beyond what it replaces.
+    fn put_in_place(&mut self, at: usize, gone: usize, put: SharedEntry) -> Result<i64, SharedEntry>
         requires one { gone ≤ 1 }
         requires within { at + gone ≤ length self.old.items }
         requires few { length self.old.items < 2 ^ 61 }
@@ -45,7 +71,7 @@ impl Node {
 }
 
 impl Child {
-    /// Keeps of its node what an edit in it changed: so many entries more, what they add, and its first entry where that is
+    /// Keeps what an edit in its node changed: so many entries more, what they add, and the first entry where that is
     /// another.
     fn mend(&mut self, more: usize, added: i64, head: Option<SharedEntry>)
         requires more { more ≤ 1 }
@@ -66,7 +92,7 @@ impl Child {
     }
 }
 
-/// The entry, shared, where it comes to be the first.
+/// The entry once more, where it comes to be the first. It is made before the first change, since it may be refused.
 fn first_of(put: &SharedEntry, at: usize) -> Result<Option<SharedEntry>, AllocError>
     ensures some { IfOk result (λ o. IfSome o (λ entry. (at ≡ 0) × (entry ≡ put.now))) }
     ensures none { IfOk result (λ o. IfNone o (1 ≤ at)) }
@@ -78,7 +104,8 @@ fn first_of(put: &SharedEntry, at: usize) -> Result<Option<SharedEntry>, AllocEr
     }
 }
 
-/// Puts an entry in the place of so many from an index on, one at most, unless the leaf is full.
+/// Puts an entry in the place of so many from an index on, one at most, unless the leaf is full: what that adds. A leaf
+/// gets room for sixteen at once.
 fn put_in_leaf(
     entries: &mut Vec<SharedEntry>,
     at: usize,

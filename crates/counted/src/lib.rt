@@ -1,4 +1,4 @@
-//! A counted tree of entries: nodes are shared, and a writing call copies the path that it changes.
+//! A counted tree of entries: nodes are shared, and a writing call copies the path that it changes, unless nobody shares it.
 #![tactic(auto)]
 
 mod bulk;

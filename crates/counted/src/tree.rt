@@ -1,5 +1,5 @@
 //! The tree.
-ghost use Rattle.std.specs.Prelude.{◌≡◌, pos, Some, ◌+◌, ◌-◌, ◌*◌, ◌^◌, ◌<◌, ◌≤◌, [], ◌∷◌, ◌++◌, take, drop, slice_get, length, OnOk, OnErr, IfOk, IfSome, IfNone};
+ghost use Rattle.std.specs.Prelude.{◌≡◌, pos, Some, ◌+◌, ◌-◌, ◌*◌, ◌^◌, ◌<◌, ◌≤◌, [], ◌∷◌, ◌++◌, take, drop, slice_get, length, OnOk, OnErr, IfOk};
 ghost use Rattle.std.specs.Arc.{arc_value};
 ghost use Rattle.std.specs.List.{insert, remove};
 ghost use Rattle.counted.specs.Edits.{put_items, edited};
@@ -309,7 +309,8 @@ impl CountedTree {
         Ok(())
     }
 
-    /// Puts an entry in the place of so many from an index on, one at most: in place where that can be done, and else by a new path.
+    /// Puts an entry in the place of so many from an index on, one at most: in place where that can be done, and else by
+    /// a new path.
     fn put(
         &mut self,
         alloc: Global,
@@ -327,31 +328,6 @@ impl CountedTree {
             *self = self.edited(alloc, at, gone, Some(entry))?;
         }
         Ok(())
-    }
-
-    /// The same with no node made, where nobody shares those on the path and the leaf has room. Otherwise nothing is changed, and the
-    /// entry comes back.
-    fn put_in_place(&mut self, at: usize, gone: usize, entry: SharedEntry) -> Option<SharedEntry>
-        requires one { gone ≤ 1 }
-        requires within { at + gone ≤ length self.old.entries }
-        requires few { length self.old.entries < 2 ^ 60 }
-        ensures none { IfNone result (self.new.entries ≡ edited at gone (entry ∷ []) self.old.entries) }
-        ensures some { IfSome result (λ back. (self.new ≡ self.old) × (back ≡ entry)) }
-    {
-        let Some(root) = &mut self.root else {
-            return Some(entry);
-        };
-        let Some(node) = Arc::get_mut(root) else {
-            return Some(entry);
-        };
-        match node.put_in_place(at, gone, entry) {
-            Ok(added) => {
-                self.len += 1 - gone;
-                self.net += added;
-                None
-            }
-            Err(entry) => Some(entry),
-        }
     }
 
     /// The tree with so many entries from an index on, one at most, replaced by another, if there is one. It shares all
