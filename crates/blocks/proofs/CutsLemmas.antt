@@ -1,11 +1,15 @@
 -- Texts in one buffer are what lies between their ends, and each ends at a character boundary.
-use Rattle.std.proofs.Common.{◌≡◌, ℕ, zero, suc, ◌+◌, ◌-◌, ◌*◌, ◌<◌, ◌≤◌, List, [], ◌∷◌, ◌++◌, length, get_or, take, drop, slice_get, Some, IsUtf8, IsCharBoundary, append_assoc, refl, sym, ap, subst, ◌∙◌, arith}
-use Rattle.std.specs.List.{AllByRecursion}
+use Rattle.std.proofs.Common.{◌≡◌, ℕ, zero, suc, ◌+◌, ◌-◌, ◌*◌, ◌<◌, ◌≤◌, List, [], ◌∷◌, ◌++◌, length, get_or, take, drop, map, slice_get, Some, IsUtf8, IsCharBoundary, append_assoc, refl, sym, ap, subst, ◌∙◌, arith}
+use Rattle.std.specs.List.{All, AllByRecursion}
 use Rattle.std.proofs.lemmas.List.{append-nil, length-append, take_at, drop_at}
+use Rattle.std.proofs.lemmas.Grind.{flat_map-append}
+use Rattle.std.proofs.lemmas.List.Elements.{All-nil, All-cons}
 use Rattle.std.proofs.lemmas.Option.{slice_get-get_or}
+use Rattle.std.proofs.Math.Seq.{take-add}
 use Rattle.std.proofs.lemmas.Str.{IsUtf8-nil, IsUtf8-append, IsCharBoundary-at_seam}
 use Rattle.values.specs.declared.limits.TheConstants.{MAX_TEXT_BYTES, MAX_BLOCK_VALUES}
 use Rattle.blocks.specs.Cuts.{joined, ends_of, cut, IsText, IsCut}
+use Rattle.blocks.proofs.RunLemmas.{all_append, all_take, all_drop}
 
 -- ---- lengths
 
@@ -35,45 +39,43 @@ cut_after (t ∷ ts) front bytes start counted spelt =
 pub cut-ends_of : (ts : List (List ℕ)) → cut 0 (ends_of 0 ts) (joined ts) ≡ ts
 cut-ends_of ts = cut_after ts [] (joined ts) 0 refl refl
 
--- ---- one text more
+-- ---- texts more
 
-ends_of-push : (start : ℕ) (ts : List (List ℕ)) (t : List ℕ) → ends_of start (ts ++ t ∷ []) ≡ ends_of start ts ++ (start + length (joined ts) + length t) ∷ []
-ends_of-push start [] t =
-    let e : start + length t ≡ start + 0 + length t = omega arith in
-    ap (λ n. n ∷ []) e
-ends_of-push start (s ∷ ts) t =
-    let e : start + length s + length (joined ts) + length t ≡ start + length (s ++ joined ts) + length t = omega (arith, length-append s (joined ts)) in
-    ap (λ ends. (start + length s) ∷ ends) (ends_of-push (start + length s) ts t ∙ ap (λ n. ends_of (start + length s) ts ++ n ∷ []) e)
+ends_of-append : (start : ℕ) (ts us : List (List ℕ)) → ends_of start (ts ++ us) ≡ ends_of start ts ++ ends_of (start + length (joined ts)) us
+ends_of-append start [] us =
+    let e : start ≡ start + 0 = omega arith in
+    ap (λ n. ends_of n us) e
+ends_of-append start (t ∷ ts) us =
+    let e : start + length t + length (joined ts) ≡ start + length (t ++ joined ts) = omega (arith, length-append t (joined ts)) in
+    ap (λ ends. (start + length t) ∷ ends) (ends_of-append (start + length t) ts us ∙ ap (λ n. ends_of (start + length t) ts ++ ends_of n us) e)
 
-joined-push : (ts : List (List ℕ)) (t : List ℕ) → joined (ts ++ t ∷ []) ≡ joined ts ++ t
-joined-push [] t = append-nil t
-joined-push (s ∷ ts) t = ap (λ bytes. s ++ bytes) (joined-push ts t) ∙ sym (append_assoc s (joined ts) t)
+-- the ends and the buffer with texts more
+pub record Longer (ends bytes longer whole : List ℕ) (run : List (List ℕ)) : Type 0 where
+  pub keeps : IsCut longer whole
+  pub shows : cut 0 longer whole ≡ cut 0 ends bytes ++ run
 
-fit_push : (ts : List (List ℕ)) (t : List ℕ) → AllByRecursion IsText ts → IsText t → AllByRecursion IsText (ts ++ t ∷ [])
-fit_push [] t fit one = (one, tt)
-fit_push (s ∷ ts) t fit one = (fit.0, fit_push ts t fit.1 one)
-
--- the ends and the buffer with a text more
-pub record Pushed (ends bytes : List ℕ) (t : List ℕ) : Type 0 where
-  pub keeps : IsCut (ends ++ length (bytes ++ t) ∷ []) (bytes ++ t)
-  pub shows : cut 0 (ends ++ length (bytes ++ t) ∷ []) (bytes ++ t) ≡ cut 0 ends bytes ++ t ∷ []
-
-pub push_text : (ends bytes t : List ℕ) → IsCut ends bytes → length (cut 0 ends bytes) < MAX_BLOCK_VALUES → IsText t → Pushed ends bytes t
-push_text ends bytes t kept few one =
+pub push_texts : (ends bytes longer whole : List ℕ) (run : List (List ℕ)) → longer ≡ ends ++ ends_of (length bytes) run → whole ≡ bytes ++ joined run
+    → IsCut ends bytes → length (cut 0 ends bytes) + length run ≤ MAX_BLOCK_VALUES → AllByRecursion IsText run → Longer ends bytes longer whole run
+push_texts ends bytes longer whole run longer-is whole-is kept few fit =
     let ts = cut 0 ends bytes in
-    let end : 0 + length (joined ts) + length t ≡ length (bytes ++ t) = omega (arith, length-append bytes t, ap length kept.whole) in
-    let ends-are : ends ++ length (bytes ++ t) ∷ [] ≡ ends_of 0 (ts ++ t ∷ []) = sym (ends_of-push 0 ts t ∙ ap (λ n. ends_of 0 ts ++ n ∷ []) end ∙ ap (λ es. es ++ length (bytes ++ t) ∷ []) (sym kept.ended)) in
-    let bytes-are : bytes ++ t ≡ joined (ts ++ t ∷ []) = ap (λ bs. bs ++ t) kept.whole ∙ sym (joined-push ts t) in
-    let shows : cut 0 (ends ++ length (bytes ++ t) ∷ []) (bytes ++ t) ≡ ts ++ t ∷ [] = ap (λ es. cut 0 es (bytes ++ t)) ends-are ∙ ap (cut 0 (ends_of 0 (ts ++ t ∷ []))) bytes-are ∙ cut-ends_of (ts ++ t ∷ []) in
+    let end : 0 + length (joined ts) ≡ length bytes = omega (arith, ap length kept.whole) in
+    let ends-are : longer ≡ ends_of 0 (ts ++ run) = longer-is ∙ sym (ends_of-append 0 ts run ∙ ap (λ n. ends_of 0 ts ++ ends_of n run) end ∙ ap (λ es. es ++ ends_of (length bytes) run) (sym kept.ended)) in
+    let bytes-are : whole ≡ joined (ts ++ run) = whole-is ∙ ap (λ bs. bs ++ joined run) kept.whole ∙ sym (flat_map-append (λ t. t) ts run) in
+    let shows : cut 0 longer whole ≡ ts ++ run = ap (λ es. cut 0 es whole) ends-are ∙ ap (cut 0 (ends_of 0 (ts ++ run))) bytes-are ∙ cut-ends_of (ts ++ run) in
     record {
       keeps = record {
         whole = bytes-are ∙ ap joined (sym shows);
         ended = ends-are ∙ ap (ends_of 0) (sym shows);
-        texts = subst (AllByRecursion IsText) (sym shows) (fit_push ts t kept.texts one);
-        few = omega (arith, length-append ends (length (bytes ++ t) ∷ []), length-cut 0 ends bytes);
+        texts = subst (AllByRecursion IsText) (sym shows) (all_append IsText ts run kept.texts fit);
+        few = omega (arith, ap length longer-is, length-append ends (ends_of (length bytes) run), length-ends_of (length bytes) run, length-cut 0 ends bytes, few);
       };
       shows = shows;
     }
+
+-- one text
+pub push_text : (ends bytes t : List ℕ) → IsCut ends bytes → length (cut 0 ends bytes) < MAX_BLOCK_VALUES → IsText t → Longer ends bytes (ends ++ length (bytes ++ t) ∷ []) (bytes ++ t) (t ∷ [])
+push_text ends bytes t kept few one =
+    push_texts ends bytes (ends ++ length (bytes ++ t) ∷ []) (bytes ++ t) (t ∷ []) (ap (λ n. ends ++ n ∷ []) (length-append bytes t)) (ap (λ bs. bytes ++ bs) (sym (append-nil t))) kept (omega (arith, few)) (one, tt)
 
 -- the end of a text that is pushed fits 32 bits
 pub end_fits : (ends bytes t : List ℕ) → IsCut ends bytes → length t ≤ MAX_TEXT_BYTES → length (bytes ++ t) < 4294967296
@@ -98,11 +100,6 @@ IsUtf8-joined : (ts : List (List ℕ)) → AllByRecursion IsText ts → IsUtf8 (
 IsUtf8-joined [] fit = IsUtf8-nil
 IsUtf8-joined (t ∷ ts) fit = IsUtf8-append t (joined ts) fit.0.utf8 (IsUtf8-joined ts fit.1)
 
-fit_drop : (i : ℕ) (ts : List (List ℕ)) → AllByRecursion IsText ts → AllByRecursion IsText (drop i ts)
-fit_drop zero ts fit = fit
-fit_drop (suc i) [] fit = tt
-fit_drop (suc i) (t ∷ ts) fit = fit_drop i ts fit.1
-
 joined-split : (i : ℕ) (ts : List (List ℕ)) → joined ts ≡ joined (take i ts) ++ joined (drop i ts)
 joined-split zero ts = refl
 joined-split (suc i) [] = refl
@@ -114,7 +111,7 @@ boundary ends bytes i kept le =
     let ts = cut 0 ends bytes in
     let at : get_or (0 ∷ ends_of 0 ts) i 0 ≡ 0 + length (joined (take i ts)) = begin_at ts 0 i (omega (arith, length-cut 0 ends bytes)) in
     let place : length (joined (take i ts)) ≡ get_or (0 ∷ ends) i 0 = omega (arith, at, ap (λ es. get_or (0 ∷ es) i 0) kept.ended) in
-    subst (IsCharBoundary bytes) place (IsCharBoundary-at_seam bytes (joined (take i ts)) (joined (drop i ts)) (kept.whole ∙ joined-split i ts) (IsUtf8-joined (drop i ts) (fit_drop i ts kept.texts)))
+    subst (IsCharBoundary bytes) place (IsCharBoundary-at_seam bytes (joined (take i ts)) (joined (drop i ts)) (kept.whole ∙ joined-split i ts) (IsUtf8-joined (drop i ts) (all_drop IsText i ts kept.texts)))
 
 -- no beginning lies past the last byte
 pub begin_within : (ends bytes : List ℕ) (i : ℕ) → IsCut ends bytes → i ≤ length ends → get_or (0 ∷ ends) i 0 ≤ length bytes
@@ -162,3 +159,76 @@ lies ends bytes i start end kept lt start-is stop-is =
 pub buffer-short : (ends bytes : List ℕ) → IsCut ends bytes → length bytes ≤ MAX_TEXT_BYTES * MAX_BLOCK_VALUES
 buffer-short ends bytes kept =
     omega (arith, ap length kept.whole, joined-short (cut 0 ends bytes) kept.texts, length-cut 0 ends bytes, kept.few)
+
+-- ---- a run of the texts of others
+
+-- ends behind one place as ends behind another
+pub ends_moved : (from to at : ℕ) (ts : List (List ℕ)) → from ≤ at → map (λ end. to + (end - from)) (ends_of at ts) ≡ ends_of (to + (at - from)) ts
+ends_moved from to at [] le = refl
+ends_moved from to at (t ∷ ts) le =
+    let first : to + (at + length t - from) ≡ to + (at - from) + length t = omega (arith, le) in
+    (λ i. first i ∷ ends_moved from to (at + length t) ts (omega (arith, le)) i)
+    ∙ ap (λ n. (to + (at - from) + length t) ∷ ends_of n ts) first
+
+-- and each of them is small
+pub ends_small : (from to at : ℕ) (ts : List (List ℕ)) → from ≤ at → to + (at - from) + length (joined ts) < 4294967296 → All (λ end. (from ≤ end) × (to + (end - from) < 4294967296)) (ends_of at ts)
+ends_small from to at [] le lt = All-nil (λ end. (from ≤ end) × (to + (end - from) < 4294967296))
+ends_small from to at (t ∷ ts) le lt =
+    All-cons (λ end. (from ≤ end) × (to + (end - from) < 4294967296)) (at + length t) (ends_of (at + length t) ts) (omega (arith, le), omega (arith, le, lt, length-append t (joined ts)))
+    (ends_small from to (at + length t) ts (omega (arith, le)) (omega (arith, le, lt, length-append t (joined ts))))
+
+ends_of-drop : (i start : ℕ) (ts : List (List ℕ)) → drop i (ends_of start ts) ≡ ends_of (start + length (joined (take i ts))) (drop i ts)
+ends_of-drop zero start ts =
+    let e : start ≡ start + 0 = omega arith in
+    ap (λ n. ends_of n ts) e
+ends_of-drop (suc i) start [] = refl
+ends_of-drop (suc i) start (t ∷ ts) =
+    let e : start + length t + length (joined (take i ts)) ≡ start + length (t ++ joined (take i ts)) = omega (arith, length-append t (joined (take i ts))) in
+    ends_of-drop i (start + length t) ts ∙ ap (λ n. ends_of n (drop i ts)) e
+
+ends_of-take : (i start : ℕ) (ts : List (List ℕ)) → take i (ends_of start ts) ≡ ends_of start (take i ts)
+ends_of-take zero start ts = refl
+ends_of-take (suc i) start [] = refl
+ends_of-take (suc i) start (t ∷ ts) = ap (λ ends. (start + length t) ∷ ends) (ends_of-take i (start + length t) ts)
+
+-- where a run of the texts begins and ends, and that it lies there
+pub record RunLies (ends bytes : List ℕ) (start count from to : ℕ) (run : List (List ℕ)) : Type 0 where
+  pub ordered : from ≤ to
+  pub begins : IsCharBoundary bytes from
+  pub stops : IsCharBoundary bytes to
+  pub text : take (to - from) (drop from bytes) ≡ joined run
+  pub ended : take count (drop start ends) ≡ ends_of from run
+  pub fit : AllByRecursion IsText run
+  pub within : length (joined run) ≤ length bytes
+
+pub run_lies : (ends bytes : List ℕ) (start count from to : ℕ) → IsCut ends bytes → start + count ≤ length ends → from ≡ get_or (0 ∷ ends) start 0 → to ≡ get_or (0 ∷ ends) (start + count) 0
+    → RunLies ends bytes start count from to (take count (drop start (cut 0 ends bytes)))
+run_lies ends bytes start count from to kept le from-is to-is =
+    let ts = cut 0 ends bytes in
+    let run = take count (drop start ts) in
+    let front = joined (take start ts) in
+    let rest = joined (drop count (drop start ts)) in
+    let here : get_or (0 ∷ ends_of 0 ts) start 0 ≡ 0 + length front = begin_at ts 0 start (omega (arith, le, length-cut 0 ends bytes)) in
+    let next : get_or (0 ∷ ends_of 0 ts) (start + count) 0 ≡ 0 + length (joined (take (start + count) ts)) = begin_at ts 0 (start + count) (omega (arith, le, length-cut 0 ends bytes)) in
+    let from-at : length front ≡ from = omega (arith, here, from-is, ap (λ es. get_or (0 ∷ es) start 0) kept.ended) in
+    let both : joined (take (start + count) ts) ≡ front ++ joined run = ap joined (take-add start count ts) ∙ flat_map-append (λ t. t) (take start ts) run in
+    let to-at : to ≡ from + length (joined run) = omega (arith, next, to-is, ap (λ es. get_or (0 ∷ es) (start + count) 0) kept.ended, ap length both, length-append front (joined run), from-at) in
+    let spelt : bytes ≡ front ++ (joined run ++ rest) = kept.whole ∙ joined-split start ts ∙ ap (λ bs. front ++ bs) (joined-split count (drop start ts)) in
+    let behind : drop from bytes ≡ joined run ++ rest = ap (drop from) spelt ∙ drop_at front (joined run ++ rest) from from-at in
+    record {
+      ordered = omega (arith, to-at);
+      begins = subst (IsCharBoundary bytes) (sym from-is) (boundary ends bytes start kept (omega (arith, le)));
+      stops = subst (IsCharBoundary bytes) (sym to-is) (boundary ends bytes (start + count) kept le);
+      text = ap (take (to - from)) behind ∙ take_at (joined run) rest (to - from) (omega (arith, to-at));
+      ended = ap (λ es. take count (drop start es)) kept.ended ∙ ap (take count) (ends_of-drop start 0 ts) ∙ ends_of-take count (0 + length front) (drop start ts) ∙ ap (λ n. ends_of n run) (omega (arith, from-at));
+      fit = all_take IsText count (drop start ts) (all_drop IsText start ts kept.texts);
+      within = omega (arith, ap length spelt, length-append front (joined run ++ rest), length-append (joined run) rest);
+    }
+
+-- the texts with the run more
+pub push_lying : (ends bytes others text more longer whole : List ℕ) (start count from to before : ℕ) (run : List (List ℕ)) → IsCut ends bytes → RunLies others text start count from to run → length (cut 0 ends bytes) + length run ≤ MAX_BLOCK_VALUES
+    → before ≡ length bytes → more ≡ take count (drop start others) → longer ≡ ends ++ map (λ end. before + (end - from)) more → whole ≡ bytes ++ take (to - from) (drop from text) → Longer ends bytes longer whole run
+push_lying ends bytes others text more longer whole start count from to before run kept lies few before-is more-is longer-is whole-is =
+    let moved : map (λ end. before + (end - from)) more ≡ ends_of (length bytes) run =
+    ap (map (λ end. before + (end - from))) (more-is ∙ lies.ended) ∙ ends_moved from before from run (omega arith) ∙ ap (λ n. ends_of n run) (omega (arith, before-is)) in
+    push_texts ends bytes longer whole run (longer-is ∙ ap (λ es. ends ++ es) moved) (whole-is ∙ ap (λ bs. bytes ++ bs) lies.text) kept few lies.fit

@@ -5,6 +5,7 @@ mod FitLemmas
 mod IntsLemmas
 mod LawsLemmas
 mod ReadLemmas
+mod RunLemmas
 mod TextsLemmas
 mod PushLemmas
 pub mod CallerLemmas

@@ -1,5 +1,5 @@
 -- Truths in bytes, and one truth more.
-use Rattle.std.proofs.Common.{◌≡◌, ℕ, zero, suc, ◌+◌, ◌-◌, ◌*◌, ◌/◌, ◌%◌, ◌^◌, ◌<◌, Bool, true, false, cond, List, [], ◌∷◌, ◌++◌, length, take, get_or, slice_set, refl, sym, ap, subst, ◌∙◌, arith}
+use Rattle.std.proofs.Common.{◌≡◌, ℕ, zero, suc, ◌+◌, ◌-◌, ◌*◌, ◌/◌, ◌%◌, ◌^◌, ◌<◌, ◌≤◌, Bool, true, false, cond, List, [], ◌∷◌, ◌++◌, length, take, get_or, slice_set, refl, sym, ap, subst, ◌∙◌, arith}
 use Rattle.std.proofs.lemmas.List.{get_or_default, length-append}
 use Rattle.values.specs.declared.limits.TheConstants.{MAX_BLOCK_VALUES}
 use Rattle.blocks.specs.Payload.{ArePacked, IsPacked, all_bits, byte_count, byte_of, packed}
@@ -125,14 +125,14 @@ module _ (count : ℕ) (bytes : List ℕ) (h : IsPacked count bytes) where
   pub are_packed : ArePacked count bytes
   are_packed = (truths, length-truths count bytes h.whole, sym (packed-truths count bytes h.small h.whole h.unused))
 
-  module _ (t : Bool) (longer : List ℕ) (is : longer ≡ packed (byte_count (count + 1)) (truths ++ t ∷ [])) where
-    counted : length (truths ++ t ∷ []) ≡ count + 1
-    counted = length-append truths (t ∷ []) ∙ ap (λ n. n + 1) (length-truths count bytes h.whole)
+  module _ (ts : List Bool) (longer : List ℕ) (is : longer ≡ packed (byte_count (count + length ts)) (truths ++ ts)) where
+    counted : length (truths ++ ts) ≡ count + length ts
+    counted = length-append truths ts ∙ ap (λ n. n + length ts) (length-truths count bytes h.whole)
 
-    pub longer_IsPacked : count < MAX_BLOCK_VALUES → IsPacked (count + 1) longer
+    pub longer_IsPacked : count + length ts ≤ MAX_BLOCK_VALUES → IsPacked (count + length ts) longer
     longer_IsPacked few =
-        subst (IsPacked (count + 1)) (sym is)
-        (subst (λ n. IsPacked n (packed (byte_count n) (truths ++ t ∷ []))) counted (packed-IsPacked (truths ++ t ∷ []) (omega (arith, counted, few))))
+        subst (IsPacked (count + length ts)) (sym is)
+        (subst (λ n. IsPacked n (packed (byte_count n) (truths ++ ts))) counted (packed-IsPacked (truths ++ ts) (omega (arith, counted, few))))
 
-    pub longer_truths : take (count + 1) (all_bits longer) ≡ truths ++ t ∷ []
-    longer_truths = ap (λ xs. take (count + 1) (all_bits xs)) is ∙ subst (λ n. take n (all_bits (packed (byte_count n) (truths ++ t ∷ []))) ≡ truths ++ t ∷ []) counted (truths-packed (truths ++ t ∷ []))
+    pub longer_truths : take (count + length ts) (all_bits longer) ≡ truths ++ ts
+    longer_truths = ap (λ xs. take (count + length ts) (all_bits xs)) is ∙ subst (λ n. take n (all_bits (packed (byte_count n) (truths ++ ts))) ≡ truths ++ ts) counted (truths-packed (truths ++ ts))

@@ -1,5 +1,5 @@
 //! Truth values, eight a byte.
-ghost use Rattle.std.specs.Prelude.{◌≡◌, ◌<◌, ◌≤◌, ◌+◌, ◌-◌, ◌*◌, ◌^◌, ◌++◌, ◌∷◌, [], Bool, List, cond, length, map, take, Some, slice_get, IfOk, OnOk, OnErr, IsTrue};
+ghost use Rattle.std.specs.Prelude.{◌≡◌, ◌<◌, ◌≤◌, ◌+◌, ◌-◌, ◌*◌, ◌^◌, ◌++◌, ◌∷◌, [], Bool, List, cond, length, map, take, drop, Some, slice_get, IfOk, IsOk, OnOk, OnErr, IsTrue, vec_capacity};
 ghost use Rattle.values.specs.declared.limits.TheConstants.{MAX_BLOCK_VALUES};
 ghost use Rattle.blocks.specs.Payload.{ArePacked, all_bits, is_true, IsPacked, bit_of, byte_of, byte_count, packed, has_set_padding};
 
@@ -70,6 +70,31 @@ impl Bits {
         Ok(())
     }
 
+    /// Puts so many truths of others, from one of them on, after these. With `NoMemory` the truths are as they were.
+    ///
+    /// # Errors
+    ///
+    /// `NoMemory` where the growth is refused.
+    pub(crate) fn push_run(
+        &mut self,
+        others: &Bits,
+        start: usize,
+        count: usize,
+    ) -> Result<(), NoMemory>
+        requires few { length self.old + count ≤ MAX_BLOCK_VALUES }
+        requires within { start + count ≤ length others.now }
+        ensures ok { OnOk result (self.new ≡ self.old ++ take count (drop start others.now)) }
+        ensures err { OnErr result (self.new ≡ self.old) }
+    {
+        let Bits {
+            bytes,
+            count: before,
+        } = self;
+        add_run(bytes, *before, others, start, count)?;
+        *before += count;
+        Ok(())
+    }
+
     /// The truths among the values; what is none counts as false.
     ///
     /// # Errors
@@ -137,12 +162,38 @@ fn add_bit(bytes: &mut Vec<u8>, count: usize, truth: bool) -> Result<(), NoMemor
     requires packed { ArePacked count bytes.old.items }
     ensures ok { OnOk result ((bs : List Bool) → length bs ≡ count → bytes.old.items ≡ packed (byte_count count) bs → bytes.new.items ≡ packed (byte_count (count + 1)) (bs ++ truth ∷ [])) }
     ensures err { OnErr result (bytes.new.items ≡ bytes.old.items) }
+    ensures capacity { vec_capacity bytes.old ≤ vec_capacity bytes.new }
+    ensures succeeds { byte_count (count + 1) ≤ vec_capacity bytes.old → IsOk result }
 {
     let bit = bit_in(truth, count % 8);
     if count % 8 == 0 {
         bytes.push(bit)?;
     } else {
         bytes[count / 8] += bit;
+    }
+    Ok(())
+}
+
+/// Puts the bits of so many other truths after those of so many truths. All of the room is made first.
+fn add_run(
+    bytes: &mut Vec<u8>,
+    count: usize,
+    others: &Bits,
+    start: usize,
+    more: usize,
+) -> Result<(), NoMemory>
+    requires few { count + more ≤ MAX_BLOCK_VALUES }
+    requires packed { ArePacked count bytes.old.items }
+    requires within { start + more ≤ length others.now }
+    ensures ok { OnOk result ((bs : List Bool) → length bs ≡ count → bytes.old.items ≡ packed (byte_count count) bs → bytes.new.items ≡ packed (byte_count (count + more)) (bs ++ take more (drop start others.now))) }
+    ensures err { OnErr result (bytes.new.items ≡ bytes.old.items) }
+{
+    let length = others.len();
+    prove!(start + more <= length);
+    let room = byte_count(count + more) - bytes.len();
+    bytes.reserve(room)?;
+    for i in 0..more {
+        add_bit(bytes, count + i, others.get(start + i))?;
     }
     Ok(())
 }

@@ -1,5 +1,5 @@
 //! One column's values, up to 1,024 of them, kept by type.
-ghost use Rattle.std.specs.Prelude.{◌≡◌, ◌<◌, ◌≤◌, ◌++◌, ◌∷◌, [], length, map, Some, slice_get, IfOk, OnOk, OnErr, IsTrue, IsFalse};
+ghost use Rattle.std.specs.Prelude.{◌≡◌, ◌<◌, ◌≤◌, ◌+◌, ◌++◌, ◌∷◌, [], length, map, take, drop, Some, slice_get, IfOk, OnOk, OnErr, IsTrue, IsFalse};
 ghost use Rattle.std.specs.List.{All, list_all, list_any};
 ghost use Rattle.values.specs.Lent.{value_of};
 ghost use Rattle.values.specs.Shape.{has_type, is_too_long};
@@ -81,6 +81,32 @@ impl Block {
             (Cells::Ints(ints), ValueRef::Int(number)) => ints.push(number)?,
             (Cells::Texts(texts), ValueRef::Text(text)) => texts.push(text)?,
             (Cells::Truths(truths), ValueRef::Bool(truth)) => truths.push(truth)?,
+            _ => unreachable!(),
+        }
+        Ok(())
+    }
+
+    /// Puts so many values of another block of the same type, from one of them on, after these; there are at most 1,024
+    /// then.
+    ///
+    /// # Errors
+    ///
+    /// `NoMemory` where a growth is refused: the block is as it was.
+    pub fn push_run(&mut self, other: &Block, start: usize, count: usize) -> Result<(), NoMemory>
+        requires few { length self.old.values + count ≤ MAX_BLOCK_VALUES }
+        requires typed { other.now.ty ≡ self.old.ty }
+        requires within { start + count ≤ length other.now.values }
+        ensures ok { OnOk result (self.new ≡ record self.old { values = self.old.values ++ take count (drop start other.now.values) }) }
+        ensures err { OnErr result (self.new ≡ self.old) }
+    {
+        match (&mut self.cells, &other.cells) {
+            (Cells::Ints(ints), Cells::Ints(others)) => {
+                ints.extend_from_slice(&others.as_slice()[start..start + count])?
+            }
+            (Cells::Texts(texts), Cells::Texts(others)) => texts.push_run(others, start, count)?,
+            (Cells::Truths(truths), Cells::Truths(others)) => {
+                truths.push_run(others, start, count)?
+            }
             _ => unreachable!(),
         }
         Ok(())

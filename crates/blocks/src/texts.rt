@@ -1,6 +1,6 @@
 //! Texts in one buffer, with the offset at which each ends.
-ghost use Rattle.std.specs.Prelude.{◌≡◌, ◌<◌, ◌≤◌, ◌*◌, ◌++◌, ◌∷◌, [], List, ℕ, length, Some, slice_get, slice_index_or, IfOk, OnOk, OnErr, string_bytes};
-ghost use Rattle.std.specs.List.{AllByRecursion};
+ghost use Rattle.std.specs.Prelude.{◌≡◌, ◌<◌, ◌≤◌, ◌+◌, ◌-◌, ◌*◌, ◌^◌, ◌++◌, ◌∷◌, [], List, ℕ, length, map, take, drop, Some, slice_get, slice_index_or, IfOk, OnOk, OnErr, string_bytes, vec_len, vec_capacity};
+ghost use Rattle.std.specs.List.{All, AllByRecursion};
 ghost use Rattle.blocks.specs.Cuts.{IsText};
 ghost use Rattle.values.specs.declared.limits.TheConstants.{MAX_TEXT_BYTES, MAX_BLOCK_VALUES};
 
@@ -99,6 +99,36 @@ impl Texts {
         Ok(())
     }
 
+    /// Puts so many texts of others, from one of them on, after these: one copy of their bytes, and an end for each. With
+    /// `NoMemory` the texts are as they were.
+    ///
+    /// # Errors
+    ///
+    /// `NoMemory` where a growth is refused.
+    pub(crate) fn push_run(
+        &mut self,
+        others: &Texts,
+        start: usize,
+        count: usize,
+    ) -> Result<(), NoMemory>
+        requires few { length self.old + count ≤ MAX_BLOCK_VALUES }
+        requires within { start + count ≤ length others.now }
+        ensures ok { OnOk result (self.new ≡ self.old ++ take count (drop start others.now)) }
+        ensures err { OnErr result (self.new ≡ self.old) }
+        ensures fit { AllByRecursion IsText self.new }
+    {
+        let ends = others.ends.as_slice();
+        let length = ends.len();
+        prove!(start + count <= length);
+        let from = begin_of(ends, start);
+        let to = begin_of(ends, start + count);
+        let before = self.text.len();
+        self.ends.reserve(count)?;
+        self.text.push_str(&others.text.as_str()[from..to])?;
+        add_ends(&mut self.ends, &ends[start..start + count], from, before);
+        Ok(())
+    }
+
     /// The same texts, in memory of their own.
     ///
     /// # Errors
@@ -120,4 +150,15 @@ fn begin_of(ends: &[u32], i: usize) -> usize
     ensures { result ≡ slice_index_or (0 ∷ ends.now) i 0 }
 {
     if i == 0 { 0 } else { ends[i - 1] as usize }
+}
+
+/// Puts ends after the others: what ended so far behind `from` ends as far behind `to`. There is room for them.
+fn add_ends(ends: &mut Vec<u32>, more: &[u32], from: usize, to: usize)
+    requires room { vec_len ends.old + length more.now ≤ vec_capacity ends.old }
+    requires moved { All (λ end. (from ≤ end) × (to + (end - from) < 2 ^ 32)) more.now }
+    ensures { ends.new.items ≡ ends.old.items ++ map (λ end. to + (end - from)) more.now }
+{
+    for end in more {
+        ends.push_reserved((to + (*end as usize - from)) as u32);
+    }
 }

@@ -1,0 +1,33 @@
+use Rattle.std.proofs.Common.{◌≡◌, ◌++◌, take, drop, sym, subst, arith, rules}
+use Rattle.blocks.specs.Cells.{column_of}
+use Rattle.blocks.specs.Column.{Column, IsBlock, AllFit, Fits}
+use Rattle.blocks.proofs.RunLemmas.{map-with_run, all_with_run, length-with_run}
+use Rattle.blocks.proofs.block.Block.push_run.Goals as goal
+use Rattle.blocks.proofs.block.Block.push_run.Goals.{in-Ints-Ints+in_ok-extend_from_slice-in-Ints-Ints, in-Texts-Texts+in_ok-push_run-in-Texts-Texts, in-Truths-Truths+in_ok-push_run-in-Truths-Truths}
+
+pub returns-clause-ok : goal.returns-clause-ok
+returns-clause-ok c =
+    elim c.match-self.branch [
+      | in-Ints-Ints+in_ok-extend_from_slice-in-Ints-Ints w ↦ search (rules, map-with_run)
+      | in-Texts-Texts+in_ok-push_run-in-Texts-Texts w ↦ search (rules, map-with_run)
+      | in-Truths-Truths+in_ok-push_run-in-Truths-Truths w ↦ search (rules, map-with_run)
+    ]
+
+pub invariant_of-self-2 : goal.invariant_of-self-2
+invariant_of-self-2 c =
+    let run = take c.args.count (drop c.args.start c.args.other.now.values) in
+    let typed : c.args.other.now.ty ≡ c.args.self.now.ty = c.requires.typed in
+    let mine : IsBlock c.args.self.now = subst IsBlock c.self.view_is c.self.invariant in
+    let theirs : IsBlock c.args.other.now = subst IsBlock c.other.view_is c.other.invariant in
+    let longer : Column = record { ty = c.args.self.now.ty; values = c.args.self.now.values ++ run } in
+    let kept : IsBlock longer = record {
+      few = omega (arith, c.requires.few, length-with_run c.args.self.now.values c.args.other.now.values c.args.start c.args.count c.requires.within);
+      fit = all_with_run (Fits c.args.self.now.ty) c.args.self.now.values c.args.other.now.values c.args.start c.args.count mine.fit (subst (λ ty. AllFit ty c.args.other.now.values) typed theirs.fit);
+    } in
+    let grown : column_of c.match-self.self-inside.cells ≡ longer =
+    elim c.match-self.branch [
+      | in-Ints-Ints+in_ok-extend_from_slice-in-Ints-Ints w ↦ search (rules, map-with_run)
+      | in-Texts-Texts+in_ok-push_run-in-Texts-Texts w ↦ search (rules, map-with_run)
+      | in-Truths-Truths+in_ok-push_run-in-Truths-Truths w ↦ search (rules, map-with_run)
+    ] in
+    subst IsBlock (sym grown) kept
