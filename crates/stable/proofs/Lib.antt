@@ -7,6 +7,7 @@ mod ColumnsLemmas
 mod PushLemmas
 mod RankLemmas
 mod RowsLemmas
+mod RunLemmas
 mod StableLemmas
 mod StandLemmas
 mod WholeLemmas

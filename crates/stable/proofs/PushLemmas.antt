@@ -61,7 +61,7 @@ module _ (ty : ColumnType) (count : ℕ) (blocks : List Column) (h : IsInBlocks 
       (blocks_more ty values more q (omega (arith, all)) (omega (arith, all, few)) (omega (arith, all, some))
       ∙ (λ i. (ap (first_blocks ty values) (sym counts) ∙ sym h.cut) i ++ (record { ty = ty; values = last i }) ∷ []))
 
-  -- and one value in the last block where that isn't full
+  -- and in the last block where that isn't full and has room for them
   module _ (part : count % 1024 ≡ 0 → ⊥) where
     pub last_there : count / 1024 < length blocks
     last_there = omega (arith, length_blocks ty count blocks h, part)
@@ -85,21 +85,21 @@ module _ (ty : ColumnType) (count : ℕ) (blocks : List Column) (h : IsInBlocks 
       rest : drop (1024 * place) values ≡ take 1024 (drop (1024 * place) values)
       rest = sym (take_all 1024 (drop (1024 * place) values) (omega (arith, length-drop (1024 * place) values, h.counted)))
 
-      pub last_room : length b.values < 1024
-      last_room =
+      pub last_filled : length b.values ≡ count % 1024
+      last_filled =
           omega (arith, ap (λ (c : Column). length c.values) last_is, length-take 1024 (drop (1024 * place) values), length-drop (1024 * place) values, h.counted, part)
 
-      pub in_last : length more ≡ 1 → slice_set blocks place (record b { values = b.values ++ more }) ≡ all_blocks ty (values ++ more)
-      in_last one =
+      pub in_last : 0 < length more → count % 1024 + length more ≤ 1024 → slice_set blocks place (record b { values = b.values ++ more }) ≡ all_blocks ty (values ++ more)
+      in_last some fits =
           let low : 1024 * place ≤ length values = omega (arith, h.counted) in
           let filled : block_at ty (values ++ more) place ≡ record b { values = b.values ++ more } =
           ap (λ vs. record { ty = ty; values = vs })
           (ap (take 1024) (drop-append-le (1024 * place) values more low)
-          ∙ take_all 1024 (drop (1024 * place) values ++ more) (omega (arith, length-append (drop (1024 * place) values) more, length-drop (1024 * place) values, h.counted, one, part))
+          ∙ take_all 1024 (drop (1024 * place) values ++ more) (omega (arith, length-append (drop (1024 * place) values) more, length-drop (1024 * place) values, h.counted, fits, part))
           ∙ ap (λ vs. vs ++ more) rest)
           ∙ ap (λ (c : Column). record c { values = c.values ++ more }) (sym last_is) in
           ap (λ bs. slice_set bs place (record b { values = b.values ++ more })) split
           ∙ ap (λ n. slice_set (first_blocks ty values place ++ block_at ty values place ∷ []) n (record b { values = b.values ++ more })) (sym front)
           ∙ set-append_seam (first_blocks ty values place) (block_at ty values place) [] (record b { values = b.values ++ more })
           ∙ ap (λ c. first_blocks ty values place ++ c ∷ []) (sym filled)
-          ∙ sym (blocks_more ty values more place low (omega (arith, h.counted, one, part)) (omega (arith, h.counted, one)))
+          ∙ sym (blocks_more ty values more place low (omega (arith, h.counted, fits, part)) (omega (arith, h.counted, some)))

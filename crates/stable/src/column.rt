@@ -93,8 +93,37 @@ impl Column {
         Ok(())
     }
 
+    /// Puts so many values of a block of the same type, from one of them on, after the others, which are fewer than 2^63.
+    /// They are one at least, and the others' last block has room for them, or is full.
+    ///
+    /// # Errors
+    ///
+    /// `NoMemory` where a growth is refused: the column is as it was.
+    fn push_run(&mut self, block: &Block, start: usize, run: usize) -> Result<(), NoMemory>
+        requires room { length self.old.values < 2 ^ 63 }
+        requires typed { block.now.ty ≡ self.old.ty }
+        requires some { 0 < run }
+        requires within { start + run ≤ length block.now.values }
+        requires fits { length self.old.values % MAX_BLOCK_VALUES + run ≤ MAX_BLOCK_VALUES }
+        ensures ok { OnOk result (self.new ≡ record self.old { values = self.old.values ++ take run (drop start block.now.values) }) }
+        ensures err { OnErr result (self.new ≡ self.old) }
+    {
+        // A block tells with its length that each value fits its type.
+        let length = block.len();
+        prove!(start + run <= length);
+        let Column {
+            ty,
+            blocks,
+            count,
+            alloc,
+        } = self;
+        add_run(*alloc, *ty, blocks, *count, block, start, run)?;
+        *count += run;
+        Ok(())
+    }
+
     /// Puts so many values of another column of the same type, from one place of it on, after the others; there are fewer
-    /// than 2^63 then. Texts go from one block's buffer into another's.
+    /// than 2^63 then. They go by runs from one block into another, as far as both reach.
     ///
     /// # Errors
     ///
@@ -108,8 +137,16 @@ impl Column {
     {
         let length = other.len();
         prove!(from + count <= length);
-        for i in from..from + count {
-            self.push(other.get(i))?;
+        let mut moved = 0;
+        while moved < count {
+            let at = from + moved;
+            let run = run_len(self.len(), at, count - moved);
+            self.push_run(
+                other.block(at / MAX_BLOCK_VALUES),
+                at % MAX_BLOCK_VALUES,
+                run,
+            )?;
+            moved += run;
         }
         Ok(())
     }
@@ -201,4 +238,63 @@ fn block_of(alloc: Global, ty: ColumnType, value: ValueRef<'_>) -> Result<Block,
     let mut block = Block::new(alloc, ty);
     block.push(value)?;
     Ok(block)
+}
+
+/// How many values go at once after so many, from this place of a column on, where so many are left: as many as the last
+/// block has room for and the block of that place has.
+fn run_len(count: usize, at: usize, left: usize) -> usize
+    requires { 0 < left }
+    ensures some { 0 < result }
+    ensures left { result ≤ left }
+    ensures fits { count % MAX_BLOCK_VALUES + result ≤ MAX_BLOCK_VALUES }
+    ensures there { at % MAX_BLOCK_VALUES + result ≤ MAX_BLOCK_VALUES }
+{
+    let room = MAX_BLOCK_VALUES - count % MAX_BLOCK_VALUES;
+    let there = MAX_BLOCK_VALUES - at % MAX_BLOCK_VALUES;
+    room.min(there).min(left)
+}
+
+/// Puts so many values of a block, from one of them on, into the last of the blocks of so many values, or into a new one
+/// where that is full.
+fn add_run(
+    alloc: Global,
+    ty: ColumnType,
+    blocks: &mut Vec<Block>,
+    count: usize,
+    block: &Block,
+    start: usize,
+    run: usize,
+) -> Result<(), NoMemory>
+    requires kept { IsInBlocks ty count blocks.old.items }
+    requires typed { block.now.ty ≡ ty }
+    requires some { 0 < run }
+    requires within { start + run ≤ length block.now.values }
+    requires fits { count % MAX_BLOCK_VALUES + run ≤ MAX_BLOCK_VALUES }
+    ensures ok { OnOk result (blocks.new.items ≡ all_blocks ty (joined blocks.old.items ++ take run (drop start block.now.values))) }
+    ensures err { OnErr result (blocks.new.items ≡ blocks.old.items) }
+{
+    if count % MAX_BLOCK_VALUES == 0 {
+        blocks.push(run_of(alloc, ty, block, start, run)?)?;
+    } else {
+        blocks[count / MAX_BLOCK_VALUES].push_run(block, start, run)?;
+    }
+    Ok(())
+}
+
+/// A block of so many values of another, from one of them on.
+fn run_of(
+    alloc: Global,
+    ty: ColumnType,
+    block: &Block,
+    start: usize,
+    run: usize,
+) -> Result<Block, NoMemory>
+    requires typed { block.now.ty ≡ ty }
+    requires few { run ≤ MAX_BLOCK_VALUES }
+    requires within { start + run ≤ length block.now.values }
+    ensures { IfOk result (λ made. made ≡ record { ty = ty; values = take run (drop start block.now.values) }) }
+{
+    let mut made = Block::new(alloc, ty);
+    made.push_run(block, start, run)?;
+    Ok(made)
 }

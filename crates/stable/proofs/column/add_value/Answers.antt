@@ -1,9 +1,9 @@
-use Rattle.std.proofs.Common.{◌/◌, ◌++◌, ◌∷◌, [], slice_set, refl, sym, ap, subst, ◌∙◌, arith, IsTrue}
+use Rattle.std.proofs.Common.{◌/◌, ◌++◌, ◌∷◌, [], slice_set, sym, ap, subst, ◌∙◌, arith, IsTrue}
 use Rattle.values.specs.Lent.{value_of}
 use Rattle.values.specs.Shape.{has_type}
 use Rattle.values.specs.declared.value.ColumnType.{ColumnType}
 use Rattle.blocks.specs.Column.{Column}
-use Rattle.stable.proofs.PushLemmas.{in_new, in_last, last_there, last_is, last_room}
+use Rattle.stable.proofs.PushLemmas.{in_new, in_last, last_there, last_is, last_filled}
 use Rattle.stable.proofs.column.add_value.Goals as goal
 
 pub index_mut-requires : goal.index_mut-requires
@@ -13,7 +13,7 @@ index_mut-requires c =
 
 pub push-requires-else-count-eq0-clause-few : goal.push-requires-else-count-eq0-clause-few
 push-requires-else-count-eq0-clause-few c =
-    last_room c.args.ty c.args.count c.args.blocks.now.items c.requires.kept (value_of c.args.value ∷ []) c.if-count-eq0.false c.index_mut.result.now c.index_mut.ensures.value
+    omega (arith, last_filled c.args.ty c.args.count c.args.blocks.now.items c.requires.kept (value_of c.args.value ∷ []) c.if-count-eq0.false c.index_mut.result.now c.index_mut.ensures.value)
 
 pub push-requires-else-count-eq0-clause-typed : goal.push-requires-else-count-eq0-clause-typed
 push-requires-else-count-eq0-clause-typed c =
@@ -31,4 +31,4 @@ pub returns-in_ok-push-2-clause-ok : goal.returns-in_ok-push-2-clause-ok
 returns-in_ok-push-2-clause-ok c =
     let v = value_of c.args.value in
     ap (λ (b : Column). slice_set c.args.blocks.now.items (c.args.count / 1024) b) c.in_ok-push-2.ensures.ok
-    ∙ in_last c.args.ty c.args.count c.args.blocks.now.items c.requires.kept (v ∷ []) c.if-count-eq0.false c.index_mut.result.now c.index_mut.ensures.value refl
+    ∙ in_last c.args.ty c.args.count c.args.blocks.now.items c.requires.kept (v ∷ []) c.if-count-eq0.false c.index_mut.result.now c.index_mut.ensures.value (omega arith) (omega (arith, c.if-count-eq0.false))
