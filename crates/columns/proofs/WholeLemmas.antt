@@ -13,7 +13,7 @@ use Rattle.columns.specs.declared.frame.Frame.TheVariants.{Header}
 use Rattle.columns.specs.declared.frame.Head.{Head}
 use Rattle.columns.specs.declared.frame.Kind.{Kind}
 use Rattle.columns.specs.declared.seam.Seam.{Seam}
-use Rattle.columns.specs.Column.{AreFramesAt, IsColumn, column_bytes, frame_bytes, head_at, is_cut_block, is_rest, may_stand, seam_after, seam_after_all, start}
+use Rattle.columns.specs.Column.{AreFramesAt, column_bytes, frame_bytes, head_at, is_cut_block, is_rest, may_stand, seam_after, seam_after_all, start}
 use Rattle.columns.specs.Laws.{WhatReadsIsAColumn}
 use Rattle.columns.specs.Reading.{◌>>=◌, Found, format_of, type_of, found_then, frame_at, frames_at, header_at, header_of, is_wanted, part_at, part_of}
 use Rattle.columns.proofs.FrameLemmas.{ok_is}

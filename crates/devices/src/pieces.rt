@@ -27,7 +27,7 @@ fn write_column(
     let count = column.len();
     if count == 0 {
         let none = Block::new(alloc, column.column_type());
-        return write_part(alloc, generation, 0, true, &none, out);
+        return write_part(generation, 0, true, &none, out);
     }
     let blocks = count.div_ceil(MAX_BLOCK_VALUES);
     for k in 0..blocks {
@@ -35,7 +35,7 @@ fn write_column(
         // A block tells with its length that each value fits its type: so what is written reads back.
         let held = block.len();
         prove!(held <= MAX_BLOCK_VALUES);
-        write_part(alloc, generation, k as u32, k + 1 == blocks, block, out)?;
+        write_part(generation, k as u32, k + 1 == blocks, block, out)?;
     }
     Ok(())
 }
