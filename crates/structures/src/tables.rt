@@ -6,6 +6,7 @@
 mod faults;
 mod keys;
 mod kinds;
+mod runs;
 
 use crate::assertions::assert_count;
 use blocks::Block;
