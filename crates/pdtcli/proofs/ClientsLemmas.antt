@@ -16,7 +16,7 @@ use Rattle.pdtcli.specs.declared.reply.Reply.TheVariants.{Row as Shown}
 use Rattle.pdtcli.specs.declared.reply.ReplyLine.{ReplyLine}
 use Rattle.pdtcli.specs.Run.{is_decided, line_of, lines_of, shown_lines}
 use Rattle.pdtcli.specs.Outcome.{Left}
-use Rattle.pdtcli.specs.Clients.{SeatStep, SeatServed, IsSeatRun, HasMade, HaveMade, IsLeft, calls_of, decided_by, decided_in}
+use Rattle.pdtcli.specs.Clients.{SeatStep, SeatServed, IsSeatRun, HasMade, HaveMade, IsLeft, calls_of, decided_by, decided_in, each_with}
 
 -- ---- the lines that decide a commit
 
@@ -157,4 +157,17 @@ pub numbered : (clients : ℕ) → All (λ (s : Seat). s.client < clients) (map 
 numbered clients i d inside =
     let many = length-map-range_with_len new_seat 0 clients in
     let below : i < clients = omega (arith, inside, many) in
-    subst (λ (s : Seat). s.client < clients) (sym (get_or-map-range_with_len new_seat 0 clients i i d below refl)) below
+    let client : 0 + i < clients = omega (arith, below) in
+    subst (λ (s : Seat). s.client < clients) (sym (get_or-map-range_with_len new_seat 0 clients i (0 + i) d below refl)) client
+
+-- one thread is started, and the sessions behind it are left
+pub started_more : {H : Type 0} (f : H → Seat × List ClientCall) (calls : List ClientCall) (handles handles' : List H) (rest left all : List Seat) (h : H) (seat : Seat)
+    → rest ≡ seat ∷ left → f h ≡ (seat, calls) → handles' ≡ handles ++ h ∷ [] → map f handles ++ each_with calls rest ≡ each_with calls all
+    → map f handles' ++ each_with calls left ≡ each_with calls all
+started_more f calls handles handles' rest left all h seat is made more was =
+    rw more (
+    ap (λ (xs : List (Seat × List ClientCall)). xs ++ each_with calls left) (map-append f handles (h ∷ []))
+    ∙ push_move (map f handles) (f h) (each_with calls left)
+    ∙ ap (λ (x : Seat × List ClientCall). map f handles ++ x ∷ each_with calls left) made
+    ∙ subst (λ (r : List Seat). map f handles ++ each_with calls r ≡ each_with calls all) is was
+    )

@@ -1,4 +1,5 @@
-use Rattle.std.proofs.Common.{◌≡◌, ◌+◌, ◌∙◌, List, length, map, ap, arith, subst}
+use Rattle.std.proofs.Common.{◌≡◌, ℕ, ◌+◌, ◌<◌, ◌∙◌, List, length, map, ap, sym, arith, subst}
+use Rattle.std.specs.List.{All}
 use Rattle.std.specs.Prelude.{sum, vec_items, vec_len}
 use Rattle.std.proofs.lemmas.List.{length-map}
 use Rattle.std.proofs.lemmas.List.FromFn.{length-map-range_with_len}
@@ -6,7 +7,7 @@ use Rattle.inputs.specs.declared.call.ClientCall.{ClientCall}
 use Rattle.manager.specs.Managed.{Managed}
 use Rattle.shared.specs.Sessions.{Seat, new_seat}
 use Rattle.pdtcli.specs.Clients.{HaveMade, IsLeft, each_with}
-use Rattle.pdtcli.proofs.ClientsLemmas.{HaveMade-many}
+use Rattle.pdtcli.proofs.ClientsLemmas.{HaveMade-many, numbered}
 use Rattle.pdtcli.proofs.clients.run_shared.Goals as goal
 
 pub returns-in_ok-lines-in-Ok-run_all-clause-made : goal.returns-in_ok-lines-in-Ok-run_all-clause-made
@@ -17,7 +18,7 @@ returns-in_ok-lines-in-Ok-run_all-clause-made g c =
     subst (λ (m : Managed). IsLeft m c.args.script.now.calls c.args.clients c.new-left.result) c.requires.opening.2 (rw c.new-left.ensures (record {
       groups = groups;
       seats = seats;
-      made = subst (λ (givens : List (Seat × List ClientCall)). HaveMade o givens groups seats) (λ j. each_with (c.calls.ensures.calls j) (c.in-Ok.ensures.sessions j)) c.in-Ok-run_all.ensures;
+      made = subst (λ (givens : List (Seat × List ClientCall)). HaveMade o givens groups seats) (λ j. each_with (c.calls.ensures.calls j) (c.in-Ok.ensures.sessions j)) c.in-Ok-run_all.ensures.made;
       lines = c.in_ok-lines-in-Ok-run_all.ensures;
       counts = c.close-closed.ensures.counts;
       closed = c.close-closed.ensures.closed;
@@ -29,7 +30,7 @@ returns-in_ok-lines-in-Ok-run_all-clause-records g c =
     let o = g.O.Opening.opened.manager in
     let sessions = c.in-Ok.opened.1 in
     let back = c.in-Ok-run_all.back in
-    let many = HaveMade-many o (each_with c.calls.result.now sessions.items) (map vec_items c.in-Ok-run_all.groups.items) back.items c.in-Ok-run_all.ensures in
+    let many = HaveMade-many o (each_with c.calls.result.now sessions.items) (map vec_items c.in-Ok-run_all.groups.items) back.items c.in-Ok-run_all.ensures.made in
     let given = length-map {B = Seat × List ClientCall} sessions.items (λ (seat : Seat). (seat, c.calls.result.now)) in
     let opened = ap (λ (seats : List Seat). length seats) c.in-Ok.ensures.sessions ∙ length-map-range_with_len new_seat 0 c.args.clients in
     let all : vec_len back ≡ g.O.Opening.clients = omega (arith, many, given, opened, back.ok.0, c.requires.name.3) in
@@ -37,3 +38,9 @@ returns-in_ok-lines-in-Ok-run_all-clause-records g c =
 
 pub returns-in_ok-lines-in-Ok-run_all-clause-store : goal.returns-in_ok-lines-in-Ok-run_all-clause-store
 returns-in_ok-lines-in-Ok-run_all-clause-store g c = rw c.new-left.ensures c.close-closed.ensures.store
+
+pub run_all-requires-clause-numbered : goal.run_all-requires-clause-numbered
+run_all-requires-clause-numbered g c κs within =
+    let clients = c.args.clients in
+    let sessions = subst (λ (seats : List Seat). All (λ (s : Seat). s.client < clients) seats) (sym c.in-Ok.ensures.sessions) (numbered clients) in
+    subst (λ (n : ℕ). All (λ (s : Seat). s.client < n) c.in-Ok.opened.1.items) (sym c.requires.name.3) sessions

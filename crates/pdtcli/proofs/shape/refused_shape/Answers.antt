@@ -15,5 +15,5 @@ none_left KeyColumn told not_key not_long = not_key refl
 
 pub unreachable-requires : goal.unreachable-requires
 unreachable-requires c =
-    let told = told_of c.args.schema.now c.args.write.now c.in-Err.fault c.requires.typed (sym c.check_shape.ensures ∙ c.in-Err.is) in
+    let told = told_of c.args.schema.now c.args.write.now c.in-Err.fault c.requires.typed (sym c.check_shape.ensures.fault ∙ c.in-Err.is) in
     none_left c.in-Err.fault told c.in_default.not-KeyColumn c.in_default.not-TextTooLong
