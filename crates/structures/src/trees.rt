@@ -11,6 +11,7 @@ ghost use Rattle.delta.specs.Lookups.{inserted_row};
 
 mod bulk;
 mod depths;
+mod in_place;
 mod lists;
 mod places;
 mod removals;
