@@ -1,4 +1,5 @@
-//! The tests of what tries to break the product: bytes that claim what they don't have, and long runs of many clients.
+//! The tests of what tries to break the product: bytes that claim what they don't have, long runs of many clients, and
+//! scripts drawn by chance.
 #![tactic(auto)]
 
 #[cfg(test)]
@@ -7,6 +8,8 @@ mod assertions;
 mod claims;
 #[cfg(test)]
 mod damaged;
+#[cfg(test)]
+mod drawn;
 #[cfg(test)]
 mod images;
 #[cfg(test)]

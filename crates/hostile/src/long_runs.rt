@@ -4,13 +4,12 @@ mod by_key;
 
 use crate::assertions::assert_holds;
 use crate::images::has_rows;
-use crate::yielding::Yielding;
+use crate::yielding::run_yielding;
 use by_key::ByKey;
-use devices::{ColumnDevice, Store, have_failed};
-use fixtures::{BASE, device_over, empty_slots, items};
+use fixtures::{BASE, empty_slots, items};
 use manager::Manager;
 use model::{CommitReply, ConflictRule, WriteReply};
-use pdtcli::{Left, OpenOptions, Reply, open_texts, run_clients};
+use pdtcli::{Left, OpenOptions, Reply};
 use std::alloc::Global;
 use std::process::Abort;
 use std::sync::Wait;
@@ -74,19 +73,8 @@ fn long_script(alloc: Global, asked: Asked) -> Result<String, Fail> {
 /// What is left of the run.
 fn run_long<R: Threads + Wait + Sync>(rt: &R, alloc: Global, asked: Asked) -> Result<Left, Fail> {
     let script = long_script(alloc, asked)?;
-    let opened = open_texts(alloc, Ok(TABLE), Ok(script.as_str().as_bytes()), OPTIONS)?;
-    let slots = empty_slots(alloc, 3)?;
-    let mut devices: Vec<Box<dyn ColumnDevice + Send>> = Vec::new(alloc);
-    for (device, slot) in slots.iter().enumerate() {
-        devices.push(Box::new(alloc, device_over(alloc, slot, device, None)?)?)?;
-    }
-    if have_failed(devices.as_slice()) {
-        return Err(Fail::new("a device has failed before its first append"));
-    }
-    let store = Store::new(alloc, devices, opened.schema(), 1)?;
-    let gate = Yielding::new(CLIENTS);
-    let outcome = run_clients(rt, alloc, opened.manager, store, &opened.script, &gate)?;
-    Ok(outcome.left)
+    let texts = (TABLE, script.as_str().as_bytes(), OPTIONS);
+    run_yielding(rt, alloc, texts, empty_slots(alloc, 3)?.as_slice(), CLIENTS)
 }
 
 /// The commit replies of the lines, by client; none where another call is not answered by `Begun` or `Done`.

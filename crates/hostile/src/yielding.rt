@@ -1,14 +1,20 @@
-//! A gate at which the clients' first transactions overlap, and which hands the processor on at each call.
-use pdtcli::Gate;
+//! A gate at which the clients' first transactions overlap, and which hands the processor on at each call; and runs by it.
+use devices::{ColumnDevice, Store, have_failed};
+use fixtures::{Slot, device_over};
+use pdtcli::{Gate, Left, OpenOptions, open_texts, run_clients};
+use std::alloc::Global;
+use std::sync::Wait;
 use std::sync::atomic::{AtomicU64, Ordering};
+use std::test::Fail;
 use std::thread;
+use std::thread::Threads;
 
 /// How often a thread looks whether the others have come.
 const MAX_TURNS: u32 = 1_000_000;
 
 /// A gate that yields round each call, and before its second call holds each client back until all have made their first.
 #[derive(Drop)]
-pub(crate) struct Yielding {
+struct Yielding {
     clients: u64,
     /// How many clients have made their first call.
     begun: AtomicU64,
@@ -16,7 +22,7 @@ pub(crate) struct Yielding {
 
 impl Yielding {
     /// A gate for so many clients.
-    pub(crate) fn new(clients: u64) -> Yielding {
+    fn new(clients: u64) -> Yielding {
         Yielding {
             clients,
             begun: AtomicU64::new(0),
@@ -48,4 +54,27 @@ impl Gate for Yielding {
         }
         thread::yield_now();
     }
+}
+
+/// What is left of a run of the script's clients over a table that is opened so, with a slot for each column. All are held
+/// at the gate.
+pub(crate) fn run_yielding<R: Threads + Wait + Sync>(
+    rt: &R,
+    alloc: Global,
+    (table, script, options): (&[u8], &[u8], OpenOptions),
+    slots: &[Slot],
+    clients: u64,
+) -> Result<Left, Fail> {
+    let opened = open_texts(alloc, Ok(table), Ok(script), options)?;
+    let mut devices: Vec<Box<dyn ColumnDevice + Send>> = Vec::new(alloc);
+    for (device, slot) in slots.iter().enumerate() {
+        devices.push(Box::new(alloc, device_over(alloc, slot, device, None)?)?)?;
+    }
+    if have_failed(devices.as_slice()) {
+        return Err(Fail::new("a device has failed before its first append"));
+    }
+    let store = Store::new(alloc, devices, opened.schema(), 1)?;
+    let gate = Yielding::new(clients);
+    let outcome = run_clients(rt, alloc, opened.manager, store, &opened.script, &gate)?;
+    Ok(outcome.left)
 }
