@@ -181,16 +181,31 @@ fn judge_in_order(rt: &impl Abort, alloc: Global, (first, end): (u64, u64)) -> R
 }
 
 #[test]
-fn five_hundred_drawn_scripts_run_on_threads(rt: HostRuntime) -> Result<(), Fail> {
-    judge_on_threads(&rt, rt.alloc(), (0, 100))
+fn drawn_scripts_run_on_threads(rt: HostRuntime) -> Result<(), Fail> {
+    judge_on_threads(&rt, rt.alloc(), (0, 250))
 }
 
 #[test]
-fn five_hundred_more_drawn_scripts_run_on_threads(rt: HostRuntime) -> Result<(), Fail> {
-    judge_on_threads(&rt, rt.alloc(), (500, 501))
+fn drawn_scripts_run_on_threads_a_second_time(rt: HostRuntime) -> Result<(), Fail> {
+    judge_on_threads(&rt, rt.alloc(), (250, 500))
 }
 
 #[test]
-fn five_hundred_drawn_scripts_run_in_order(rt: HostRuntime) -> Result<(), Fail> {
-    judge_in_order(&rt, rt.alloc(), (1_000, 1_500))
+fn drawn_scripts_run_on_threads_a_third_time(rt: HostRuntime) -> Result<(), Fail> {
+    judge_on_threads(&rt, rt.alloc(), (500, 750))
+}
+
+#[test]
+fn drawn_scripts_run_on_threads_a_fourth_time(rt: HostRuntime) -> Result<(), Fail> {
+    judge_on_threads(&rt, rt.alloc(), (750, 1_000))
+}
+
+#[test]
+fn drawn_scripts_run_in_order(rt: HostRuntime) -> Result<(), Fail> {
+    judge_in_order(&rt, rt.alloc(), (1_000, 1_200))
+}
+
+#[test]
+fn drawn_scripts_run_in_order_a_second_time(rt: HostRuntime) -> Result<(), Fail> {
+    judge_in_order(&rt, rt.alloc(), (1_200, 1_400))
 }

@@ -98,7 +98,7 @@ fn is_of_some_number(
         return Ok(false);
     }
     for table in past.tables() {
-        if image_of(past.alloc(), table)? == *image {
+        if image_of(past.alloc(), Some(table))? == *image {
             return Ok(true);
         }
     }
@@ -113,8 +113,8 @@ fn are_told<'a>(
 ) -> Result<bool, NoMemory> {
     for (client, own) in decided.iter().enumerate() {
         seat.turn_to(own.as_slice())?;
-        for call in calls {
-            if call.0 == client && !seat.call(*call)? {
+        for (place, call) in calls.iter().enumerate() {
+            if call.0 == client && !seat.call(*call, &calls[place..])? {
                 return Ok(false);
             }
         }

@@ -5,11 +5,10 @@ use fixtures::{ItemWrite, key, push_cell, write_of};
 use model::{CommitReply, WriteReply};
 use oracle::{Effects, OrderedTable};
 use std::alloc::Global;
-use std::test::Fail;
 use values::{NoMemory, Row};
 
 /// The header of the base table.
-pub(crate) const HEADER: &str = "id:int:key,name:text,qty:int\n";
+const HEADER: &str = "id:int:key,name:text,qty:int\n";
 
 /// An open transaction.
 #[derive(Drop)]
@@ -69,9 +68,12 @@ fn push_row(
     }
 }
 
-/// The table as a file.
-pub(crate) fn image_of(alloc: Global, table: &OrderedTable) -> Result<String, NoMemory> {
+/// The table as a file, if there is one.
+pub(crate) fn image_of(alloc: Global, table: Option<&OrderedTable>) -> Result<String, NoMemory> {
     let mut text = String::from_str(alloc, HEADER)?;
+    let Some(table) = table else {
+        return Ok(text);
+    };
     for row in table.by_key().values() {
         text.push_str(cells_of(alloc, row)?.as_str())?;
         text.push_str("\n")?;
@@ -161,12 +163,30 @@ impl Open {
         }
     }
 
+    /// Adds the lines of a look.
+    fn push_look(
+        &self,
+        past: &Past,
+        text: &mut String,
+        (client, look): (usize, Look),
+    ) -> Result<(), NoMemory> {
+        let Some(table) = past.table_at(self.begin) else {
+            return Ok(());
+        };
+        let image = table.with(&self.effects)?;
+        push_look(past.alloc(), text, (client, &image), look)
+    }
+
     /// What a write is answered.
     fn write(&mut self, past: &Past, write: ItemWrite) -> Result<&'static str, NoMemory> {
         let write = write_of(past.alloc(), write)?;
-        let table = past.table_at(self.begin);
-        let reply = table.write(1, past.limit(), &mut self.effects, &write)?;
-        Ok(word_of(reply))
+        match past.table_at(self.begin) {
+            Some(table) => {
+                let reply = table.write(1, past.limit(), &mut self.effects, &write)?;
+                Ok(word_of(reply))
+            }
+            None => Ok("no table"),
+        }
     }
 }
 
@@ -187,8 +207,7 @@ pub(crate) fn push_call(
         }
         (Asked::Write(write), Some(own)) => own.write(past, write)?,
         (Asked::Look(look), Some(own)) => {
-            let image = past.table_at(own.begin).with(&own.effects)?;
-            return push_look(past.alloc(), text, (client, &image), look);
+            return own.push_look(past, text, (client, look));
         }
         (Asked::Abort, Some(_)) => {
             *open = None;

@@ -1,6 +1,4 @@
 //! The commits so far, as the slow program has them.
-ghost use Rattle.std.specs.Prelude.{◌<◌};
-
 use model::{CommitReply, Record};
 use oracle::{Effects, OrderedTable, Start, due_reply};
 use pdtcli::OpenOptions;
@@ -12,21 +10,12 @@ use values::{NoMemory, Row};
 pub(crate) struct Past {
     alloc: Global,
     options: OpenOptions,
-    start: Start,
-    commits: Vec<Effects>,
-    tables: Vec<OrderedTable>,
+    /// The number at which the history starts.
+    base: u32,
     /// The number of the newest table.
     number: u32,
-}
-
-/// A history's start at this table.
-fn start_at(options: OpenOptions, number: u32, table: OrderedTable) -> Start {
-    let OpenOptions {
-        recent,
-        limit,
-        conflicts,
-    } = options;
-    Start::new(table, u64::from(number), limit, recent, conflicts)
+    tables: Vec<OrderedTable>,
+    commits: Vec<Effects>,
 }
 
 impl Past {
@@ -36,16 +25,15 @@ impl Past {
         options: OpenOptions,
         rows: Vec<Row>,
     ) -> Result<Past, NoMemory> {
-        let first = OrderedTable::from_rows(alloc, 1, rows)?;
         let mut tables = Vec::new(alloc);
-        tables.push(first.copy()?)?;
+        tables.push(OrderedTable::from_rows(alloc, 1, rows)?)?;
         Ok(Past {
             alloc,
             options,
-            start: start_at(options, 0, first),
-            commits: Vec::new(alloc),
-            tables,
+            base: 0,
             number: 0,
+            tables,
+            commits: Vec::new(alloc),
         })
     }
 
@@ -69,24 +57,45 @@ impl Past {
         self.tables.as_slice()
     }
 
-    /// The table of a number, or the first.
-    pub(crate) fn table_at(&self, number: u64) -> &OrderedTable {
-        match self.tables.get(number as usize) {
-            Some(table) => table,
-            None => self.start.table(),
-        }
+    /// The table of a number.
+    pub(crate) fn table_at(&self, number: u64) -> Option<&OrderedTable> {
+        self.tables.get(number as usize)
     }
 
     /// The newest table.
-    pub(crate) fn newest(&self) -> &OrderedTable {
+    pub(crate) fn newest(&self) -> Option<&OrderedTable> {
         self.table_at(self.number())
     }
 
+    /// The reply that is due to effects over the table of a number. It is decided from that table on, or where that is older
+    /// than the history or than the recent commits, from the first that isn't: nothing before matters to it.
+    fn due(&self, begin: u64, effects: &Effects) -> Result<Option<CommitReply>, NoMemory> {
+        let recent = self.options.recent;
+        let oldest = self.number.saturating_sub(recent as u32).max(self.base);
+        let from = u64::from(oldest).max(begin) as u32;
+        let Some(table) = self.table_at(u64::from(from)) else {
+            return Ok(None);
+        };
+        let start = Start::new(
+            table.copy()?,
+            u64::from(from),
+            self.options.limit,
+            recent,
+            self.options.conflicts,
+        );
+        let since = (from.wrapping_sub(self.base) as usize).min(self.commits.len());
+        Ok(Some(due_reply(&start, &self.commits[since..], begin, effects)?))
+    }
+
     /// The reply that is due to effects over the table of a number. They are added where they are committed.
-    pub(crate) fn commit(&mut self, begin: u64, effects: Effects) -> Result<CommitReply, NoMemory> {
-        let reply = due_reply(&self.start, self.commits.as_slice(), begin, &effects)?;
-        if let CommitReply::Committed(_) = reply {
-            let next = self.newest().with(&effects)?;
+    pub(crate) fn commit(
+        &mut self,
+        begin: u64,
+        effects: Effects,
+    ) -> Result<Option<CommitReply>, NoMemory> {
+        let reply = self.due(begin, &effects)?;
+        if let (Some(CommitReply::Committed(_)), Some(newest)) = (reply, self.newest()) {
+            let next = newest.with(&effects)?;
             self.tables.push(next)?;
             self.commits.push(effects)?;
             self.number = self.number.wrapping_add(1);
@@ -94,44 +103,43 @@ impl Past {
         Ok(reply)
     }
 
-    /// Whether a record is due after those before it.
+    /// Whether a record is due after those before it: its snapshot is there, and its writes and its commit were answered as
+    /// is due.
     pub(crate) fn takes(&mut self, entry: &Record) -> Result<bool, NoMemory> {
-        let begin = entry.begin();
-        if self.number() < begin {
-            return Ok(false);
-        }
-        let limit = self.limit();
-        let found = self
-            .table_at(begin)
-            .answered_effects(1, limit, entry.writes())?;
+        let (begin, limit) = (entry.begin(), self.limit());
+        let found = match self.table_at(begin) {
+            Some(table) => table.answered_effects(1, limit, entry.writes())?,
+            None => None,
+        };
         match found {
-            Some(effects) => Ok(self.commit(begin, effects)? == entry.reply()),
+            Some(effects) => Ok(self.commit(begin, effects)? == Some(entry.reply())),
             None => Ok(false),
         }
     }
 
     /// Starts the history anew.
-    pub(crate) fn cut(&mut self) -> Result<(), NoMemory> {
-        self.start = start_at(self.options, self.number, self.newest().copy()?);
+    pub(crate) fn cut(&mut self) {
+        self.base = self.number;
         self.commits = Vec::new(self.alloc);
-        Ok(())
     }
 
     /// What was known at the last cut.
     pub(crate) fn at_cut(&self) -> Result<Past, NoMemory> {
         let mut tables = Vec::new(self.alloc);
-        for table in self.tables.iter().take(self.start.base() as usize) {
+        for table in self
+            .tables
+            .iter()
+            .take((self.base as usize).wrapping_add(1))
+        {
             tables.push(table.copy()?)?;
         }
-        let number = tables.len() as u32;
-        tables.push(self.start.table().copy()?)?;
         Ok(Past {
             alloc: self.alloc,
             options: self.options,
-            start: start_at(self.options, number, self.start.table().copy()?),
-            commits: Vec::new(self.alloc),
+            base: self.base,
+            number: self.base,
             tables,
-            number,
+            commits: Vec::new(self.alloc),
         })
     }
 }

@@ -52,15 +52,21 @@ impl<'a> Seat<'a> {
         Ok(())
     }
 
-    /// A transaction at each snapshot that it may have: none is newer than that of the next record.
-    fn begin(&mut self, call: Call) -> Result<bool, NoMemory> {
+    /// A transaction at each snapshot that it may have: that of the next record where it asks to commit, and else none
+    /// newer.
+    fn begin(&mut self, call: Call, later: &[Call]) -> Result<bool, NoMemory> {
         let alloc = self.past.alloc();
         let newest = match self.decided.clone()?.next() {
             Some((begin, _)) => *begin,
             None => self.past.number(),
         };
+        let oldest = if asks_to_commit(call.0, later) {
+            newest.max(self.seen)
+        } else {
+            self.seen
+        };
         self.open = Vec::new(alloc);
-        for number in self.seen..newest.wrapping_add(1) {
+        for number in oldest..newest.wrapping_add(1) {
             self.open.push(Some(Open::new(alloc, number)))?;
         }
         let mut text = String::new(alloc);
@@ -108,10 +114,10 @@ impl<'a> Seat<'a> {
         Ok(self.hears(heard.as_str()) && !self.open.is_empty())
     }
 
-    /// Whether the call was answered as is due.
-    pub(crate) fn call(&mut self, call: Call) -> Result<bool, NoMemory> {
+    /// Whether the call, with these from there on, was answered as is due.
+    pub(crate) fn call(&mut self, call: Call, later: &[Call]) -> Result<bool, NoMemory> {
         match call.1 {
-            Asked::Begin if !self.has_open() => self.begin(call),
+            Asked::Begin if !self.has_open() => self.begin(call, later),
             Asked::Commit if self.has_open() => self.commit(call),
             Asked::Checkpoint => self.checkpoint(call),
             Asked::Abort if self.has_open() => {
@@ -131,6 +137,18 @@ fn has_begun(open: &[Option<Open>], begin: u64) -> bool {
             if own.begin == begin {
                 return true;
             }
+        }
+    }
+    false
+}
+
+/// Whether a client's transaction asks to commit.
+fn asks_to_commit(client: usize, later: &[Call]) -> bool {
+    for (other, asked) in later {
+        match asked {
+            Asked::Commit if *other == client => return true,
+            Asked::Abort if *other == client => return false,
+            _ => {}
         }
     }
     false

@@ -71,9 +71,11 @@ impl Serial {
         let Some(own) = own else {
             return push_line(&mut self.lines, call, "NotOpen");
         };
-        let reply = self.past.commit(own.begin, own.effects)?;
         self.count(client);
-        push_counted(&mut self.lines, call, decision_of(reply))
+        match self.past.commit(own.begin, own.effects)? {
+            Some(reply) => push_counted(&mut self.lines, call, decision_of(reply)),
+            None => Ok(()),
+        }
     }
 
     fn checkpoint(&mut self, client: usize) -> Result<(), NoMemory> {
@@ -97,7 +99,7 @@ impl Serial {
 
     fn cut(&mut self, client: usize) -> Result<(), NoMemory> {
         let kept = self.kept;
-        self.past.cut()?;
+        self.past.cut();
         self.handed = self.handed.wrapping_add(kept);
         self.kept = 0;
         push_counted(&mut self.lines, (client, Asked::Cut), ("Done", kept))
