@@ -43,8 +43,8 @@ struct Drawn {
 /// So few rows and recent commits that an insert or a commit is Full now and then, and a transaction comes too late.
 fn draw_options(draws: &mut Draws) -> OpenOptions {
     OpenOptions {
-        recent: draws.below(6).wrapping_add(1) as usize,
-        limit: draws.below(6).wrapping_add(4),
+        recent: draws.below(20).wrapping_add(1) as usize,
+        limit: draws.below(5).wrapping_add(4),
         conflicts: match draws.below(2) {
             0 => ConflictRule::ByColumn,
             _ => ConflictRule::ByRow,

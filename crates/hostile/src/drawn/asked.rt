@@ -38,8 +38,8 @@ pub(crate) const WITHOUT_CUTS: u64 = 40;
 /// The same, where one number is that of a cut.
 pub(crate) const WITH_CUTS: u64 = 41;
 
-/// The keys are the numbers from 0 up to this one, and without it.
-const KEYS: u64 = 32;
+/// There are so many keys, those of the base table among them, that most writes and commits meet.
+const KEYS: [i64; 8] = [5, 10, 12, 15, 20, 25, 30, 35];
 
 const NAMES: [&str; 4] = ["Ann", "Bob", "", "a longer name"];
 
@@ -103,7 +103,7 @@ pub(crate) fn script_of(alloc: Global, calls: &[Call]) -> Result<String, Fail> {
 
 /// A drawn write.
 fn draw_write(draws: &mut Draws) -> ItemWrite {
-    let id = draws.below(KEYS) as i64;
+    let id = KEYS[draws.below(8) as usize];
     let number = draws.below(9) as i64;
     let name = NAMES[draws.below(4) as usize];
     match draws.below(8) {
@@ -116,7 +116,7 @@ fn draw_write(draws: &mut Draws) -> ItemWrite {
 
 /// A drawn look.
 fn draw_look(draws: &mut Draws) -> Look {
-    let id = draws.below(KEYS) as i64;
+    let id = KEYS[draws.below(8) as usize];
     let from = draws.below(12) as usize;
     let to = draws.below(12) as usize;
     match draws.below(5) {
@@ -128,23 +128,40 @@ fn draw_look(draws: &mut Draws) -> Look {
     }
 }
 
-/// A drawn call.
-fn draw_call(draws: &mut Draws, kinds: u64) -> Asked
+/// A drawn call of a client with an open transaction.
+fn draw_open(draws: &mut Draws, kinds: u64) -> Asked
     requires { 0 < kinds }
 {
     match draws.below(kinds) {
-        0 | 1 | 2 | 3 | 4 | 5 | 6 | 7 | 8 => Asked::Begin,
-        9 | 10 | 11 | 12 | 13 | 14 => Asked::Commit,
-        15 => Asked::Abort,
-        16 | 17 => Asked::Fold,
-        18 | 19 => Asked::Checkpoint,
-        20 | 21 | 22 | 23 | 24 | 25 => Asked::Look(draw_look(draws)),
+        0 => Asked::Begin,
+        1 | 2 | 3 | 4 | 5 | 6 => Asked::Commit,
+        7 => Asked::Abort,
+        8 | 9 => Asked::Fold,
+        10 | 11 => Asked::Checkpoint,
+        12 | 13 | 14 | 15 | 16 | 17 => Asked::Look(draw_look(draws)),
         40 => Asked::Cut,
         _ => Asked::Write(draw_write(draws)),
     }
 }
 
-/// So many drawn calls of so many clients, which make their first calls in order.
+/// A drawn call of a client: most often a begin where nothing is open.
+fn draw_call(draws: &mut Draws, kinds: u64, open: &mut bool) -> Asked
+    requires { 0 < kinds }
+{
+    let asked = if *open || draws.below(4) == 0 {
+        draw_open(draws, kinds)
+    } else {
+        Asked::Begin
+    };
+    match asked {
+        Asked::Begin => *open = true,
+        Asked::Commit | Asked::Abort => *open = false,
+        _ => {}
+    }
+    asked
+}
+
+/// So many drawn calls of at most eight clients, which make their first calls in order.
 pub(crate) fn drawn_calls(
     alloc: Global,
     draws: &mut Draws,
@@ -155,6 +172,7 @@ pub(crate) fn drawn_calls(
     requires clients { 0 < clients }
     requires kinds { 0 < kinds }
 {
+    let mut open = [false; 8];
     let mut calls = Vec::new(alloc);
     for number in 0..count {
         let client = if number < clients {
@@ -162,7 +180,8 @@ pub(crate) fn drawn_calls(
         } else {
             draws.below(clients)
         };
-        calls.push((client as usize, draw_call(draws, kinds)))?;
+        let client = client as usize % 8;
+        calls.push((client, draw_call(draws, kinds, &mut open[client])))?;
     }
     Ok(calls)
 }
