@@ -9,6 +9,7 @@ mod past;
 mod seat;
 mod serial;
 
+use crate::assertions::assert_holds;
 use crate::yielding::run_yielding;
 use asked::{Call, WITH_CUTS, WITHOUT_CUTS, drawn_calls, script_of};
 use devices::{ColumnDevice, ReadFault, Store, have_failed, read_store};
@@ -27,8 +28,20 @@ use std::thread::Threads;
 /// The base table as a file.
 const TABLE: &[u8] = b"id:int:key,name:text,qty:int\n10,Ann,1\n20,Bob,2\n30,Cid,3\n";
 
-/// How many calls are drawn for each client.
+/// How many calls are drawn for each client, and how many in each hundredth script.
 const CALLS: u64 = 20;
+
+const MANY_CALLS: u64 = 250;
+
+/// Replies that have to be met in the runs of a test.
+const REPLIES: [&str; 6] = [
+    ",Committed,",
+    ",Conflict,",
+    ",TooOld,",
+    ",commit,Full,",
+    ",insert,Full",
+    ",Duplicate",
+];
 
 /// What is drawn by a seed.
 #[derive(Drop)]
@@ -73,7 +86,8 @@ fn draw(alloc: Global, seed: u64, kinds: u64) -> Result<Drawn, Fail>
     let clients = draws.below(7) + 2;
     let options = draw_options(&mut draws);
     let failing = draw_failure(&mut draws);
-    let count = clients.wrapping_mul(CALLS);
+    let each = if seed % 100 == 0 { MANY_CALLS } else { CALLS };
+    let count = clients.wrapping_mul(each);
     let calls = drawn_calls(alloc, &mut draws, clients, count, kinds)?;
     let past = Past::new(alloc, options, items(alloc, &BASE)?)?;
     Ok(Drawn {
@@ -147,23 +161,36 @@ fn assert_same(rt: &impl Abort, seed: u64, difference: Option<&'static str>) {
     }
 }
 
+/// Marks the replies that are met.
+fn meet(met: &mut [bool; 6], ran: &Ran) {
+    for (place, reply) in REPLIES.iter().enumerate() {
+        if ran.told().contains(*reply) {
+            met[place] = true;
+        }
+    }
+}
+
 /// Judges the runs of the scripts of these seeds on threads.
 fn judge_on_threads<R: Threads + Wait + Sync + Abort>(
     rt: &R,
     alloc: Global,
     (first, end): (u64, u64),
 ) -> Result<(), Fail> {
+    let mut met = [false; 6];
     for seed in first..end {
         let mut drawn = draw(alloc, seed, WITHOUT_CUTS)?;
         let ran = run_on_threads(rt, alloc, &drawn)?;
         let difference = difference_on_threads(&mut drawn.past, drawn.calls.as_slice(), &ran)?;
         assert_same(rt, seed, difference);
+        meet(&mut met, &ran);
     }
+    assert_holds(rt, met == [true; 6], "each reply is met");
     Ok(())
 }
 
 /// Judges the runs of the scripts of these seeds in order.
 fn judge_in_order(rt: &impl Abort, alloc: Global, (first, end): (u64, u64)) -> Result<(), Fail> {
+    let mut met = [false; 6];
     for seed in first..end {
         let drawn = draw(alloc, seed, WITH_CUTS)?;
         let ran = run_in_order(alloc, &drawn)?;
@@ -176,7 +203,9 @@ fn judge_in_order(rt: &impl Abort, alloc: Global, (first, end): (u64, u64)) -> R
         } = drawn;
         let serial = Serial::new(alloc, past, clients, failing)?.after(calls.as_slice())?;
         assert_same(rt, seed, difference_in_order(&serial, &ran)?);
+        meet(&mut met, &ran);
     }
+    assert_holds(rt, met == [true; 6], "each reply is met");
     Ok(())
 }
 

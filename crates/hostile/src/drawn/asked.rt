@@ -77,8 +77,9 @@ fn push_write(text: &mut String, write: ItemWrite) -> Result<(), Fail> {
 /// Adds what a look says, each value after a comma.
 fn push_look(text: &mut String, look: Look) -> Result<(), Fail> {
     match look {
-        Look::Get(id) | Look::Rank(id) => write!(text, ",{id}")?,
+        Look::Get(id) => write!(text, ",{id}")?,
         Look::At(place) => write!(text, ",{place}")?,
+        Look::Rank(id) => write!(text, ",{id}")?,
         Look::Len => {}
         Look::Scan(from, to) => write!(text, ",{from},{to}")?,
     }

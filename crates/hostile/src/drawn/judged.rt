@@ -23,7 +23,7 @@ pub(crate) struct Ran {
 
 impl Ran {
     /// What it wrote.
-    fn told(&self) -> &str {
+    pub(crate) fn told(&self) -> &str {
         match str::from_utf8(self.out.as_slice()) {
             Ok(told) => told,
             Err(_) => "",
@@ -76,8 +76,9 @@ fn generations_of(alloc: Global, left: &Left) -> Result<Vec<u32>, NoMemory> {
 
 /// Whether each number from 1 on is there once.
 fn are_numbered(generations: &[u32]) -> bool {
-    for place in 0..generations.len() {
-        let next = (place as u32).wrapping_add(1);
+    let mut next = 0_u32;
+    for _ in generations {
+        next = next.wrapping_add(1);
         if !generations.contains(&next) {
             return false;
         }

@@ -71,9 +71,9 @@ impl Past {
     /// than the history or than the recent commits, from the first that isn't: nothing before matters to it.
     fn due(&self, begin: u64, effects: &Effects) -> Result<Option<CommitReply>, NoMemory> {
         let recent = self.options.recent;
-        let oldest = self.number.saturating_sub(recent as u32).max(self.base);
-        let from = u64::from(oldest).max(begin) as u32;
-        let Some(table) = self.table_at(u64::from(from)) else {
+        let oldest = self.number().saturating_sub(recent as u64);
+        let from = oldest.max(u64::from(self.base)).max(begin);
+        let (Some(table), Ok(from)) = (self.table_at(from), u32::try_from(from)) else {
             return Ok(None);
         };
         let start = Start::new(
