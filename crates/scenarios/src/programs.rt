@@ -7,7 +7,6 @@ mod long_run;
 mod memory;
 mod outcomes;
 mod quotes;
-mod random_runs;
 mod refusals;
 mod refused;
 mod regrown;
