@@ -178,9 +178,14 @@ fn judge_on_threads<R: Threads + Wait + Sync + Abort>(
 ) -> Result<(), Fail> {
     let mut met = [false; 6];
     for seed in first..end {
-        let mut drawn = draw(alloc, seed, WITHOUT_CUTS)?;
+        let drawn = draw(alloc, seed, WITHOUT_CUTS)?;
         let ran = run_on_threads(rt, alloc, &drawn)?;
-        let difference = difference_on_threads(&mut drawn.past, drawn.calls.as_slice(), &ran)?;
+        let Drawn {
+            calls,
+            mut past,
+            ..
+        } = drawn;
+        let difference = difference_on_threads(&mut past, calls.as_slice(), &ran)?;
         assert_same(rt, seed, difference);
         meet(&mut met, &ran);
     }
