@@ -145,7 +145,8 @@ impl DeltaTree {
     ///
     /// # Errors
     ///
-    /// `NoMemory` where a growth is refused, for the nodes on the way to it are made anew: the tree is as it was.
+    /// `NoMemory` where a growth is refused, for its row is made anew, and the nodes on the way to it where another tree shares
+    /// them: the tree is as it was.
     pub fn set_at(&mut self, at: usize, col: usize, value: Value) -> Result<(), NoMemory>
         requires within { at < length self.old.entries }
         requires there { (e : Entry) → slice_get self.old.entries at ≡ Some e → has_cell col e.change }
@@ -162,7 +163,8 @@ impl DeltaTree {
     ///
     /// # Errors
     ///
-    /// `NoMemory` where a growth is refused, for the nodes on the way to it are made anew: the tree is as it was.
+    /// `NoMemory` where a growth is refused, for its row is made anew, and the nodes on the way to it where another tree shares
+    /// them: the tree is as it was.
     pub fn set_ins(&mut self, sid: u64, key: &Key, col: usize, value: Value) -> Result<(), NoMemory>
         requires there { IsSomeAnd (inserted_row self.old.key_cols sid key.now self.old.entries) (λ row. col < length row) }
         requires outside_key { self.old.key_cols ≤ col }

@@ -10,5 +10,6 @@ mod RangeLemmas
 mod StretchLemmas
 mod KeyLemmas
 mod TableLemmas
+mod BetweenLemmas
 mod KeyRowLemmas
 pub mod CallerLemmas

@@ -1,5 +1,5 @@
-//! What a transaction reads: its version's table with its own writes. No read but that of the whole table takes
-//! memory or copies a row.
+//! What a transaction reads: its version's table with its own writes. No read but those that give a table takes memory
+//! or copies a row.
 ghost use Rattle.std.specs.Prelude.{◌≡◌, IfOk, drop, is_some, slice_get, take};
 ghost use Rattle.std.specs.Option.{option_map};
 ghost use Rattle.model.specs.Table.{rank, row_at, rows_of};
@@ -51,7 +51,7 @@ impl Txn {
         self.layers().stretches(from, to)
     }
 
-    /// Those rows as a stable table, column by column.
+    /// All rows as a stable table, column by column.
     ///
     /// # Errors
     ///
@@ -60,5 +60,16 @@ impl Txn {
         ensures { IfOk result (λ table. table ≡ record { schema = self.now.schema; rows = rows_of (image_of self.now) }) }
     {
         self.layers().to_table(alloc)
+    }
+    /// The rows from one position up to another, and without that, as a stable table, column by column; both are cut to the
+    /// number of rows.
+    ///
+    /// # Errors
+    ///
+    /// `NoMemory` where a growth is refused.
+    pub fn table_between(&self, alloc: Global, from: u64, to: u64) -> Result<StableTable, NoMemory>
+        ensures { IfOk result (λ table. table ≡ record { schema = self.now.schema; rows = drop from (take to (rows_of (image_of self.now))) }) }
+    {
+        self.layers().table_between(alloc, from, to)
     }
 }

@@ -1,8 +1,0 @@
-use Rattle.std.proofs.Common.{◌≡◌}
-use Rattle.stable.specs.Rows.{first_columns}
-use Rattle.merge.specs.Image.{image_rows}
-use Rattle.merge.proofs.layers.Layers.to_table.Given as goal
-
--- the columns so far
-abbrev pub invariant-loop-col : goal.invariant-loop-col
-invariant-loop-col l = l.columns.items ≡ first_columns l.self.schema.types (image_rows l.self) l.col
