@@ -13,6 +13,12 @@ use std::alloc::Global;
 use values::limits::MAX_BLOCK_VALUES;
 use values::{ColumnType, NoMemory};
 
+/// What stands before the payload of a block.
+const HEAD_BYTES: usize = 16;
+
+/// The most that a number's payload takes.
+const INT_BYTES: usize = 8;
+
 /// Appends a column's values, each block as a frame of this generation.
 fn write_column(
     alloc: Global,
@@ -30,12 +36,26 @@ fn write_column(
         return write_part(generation, 0, true, &none, out);
     }
     let blocks = count.div_ceil(MAX_BLOCK_VALUES);
+    reserve_numbers(column, out)?;
     for k in 0..blocks {
         let block = column.block(k);
         // A block tells with its length that each value fits its type: so what is written reads back.
         let held = block.len();
         prove!(held <= MAX_BLOCK_VALUES);
         write_part(generation, k as u32, k + 1 == blocks, block, out)?;
+    }
+    Ok(())
+}
+
+/// Makes room for all frames of a column of numbers at once, whose payloads are at most so long. Texts tell how long theirs are
+/// block by block.
+fn reserve_numbers(column: &Column, out: &mut Vec<u8>) -> Result<(), NoMemory>
+    requires { length column.now.values ≤ MAX_ROWS }
+    ensures { OnOk result (out.new.items ≡ out.old.items) }
+{
+    if column.column_type() == ColumnType::Int {
+        let count = column.len();
+        out.reserve(HEAD_BYTES * count.div_ceil(MAX_BLOCK_VALUES) + INT_BYTES * count)?;
     }
     Ok(())
 }

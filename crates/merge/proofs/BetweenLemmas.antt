@@ -63,7 +63,7 @@ between_stable schema from to rows is =
     record {
       table = record {
         keyed = is_true _ (is_keyed_table-table_of keys (drop from (take to rows)) (sorted_past keys from (take to rows) (sorted_first keys to rows (first _ _ (holds _ is.table.keyed)))));
-        fitting = is_true _ (all_past keys fits from (take to rows) (all_first keys fits to rows (holds _ is.table.fitting)))
+        fitting = is_true _ (all_past keys fits from (take to rows) (all_first keys fits to rows (holds _ is.table.fitting)));
       };
-      few = omega (arith, few_past from (take to rows), few_first to rows, is.few)
+      few = omega (arith, few_past from (take to rows), few_first to rows, is.few);
     }
