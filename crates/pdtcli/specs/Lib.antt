@@ -10,3 +10,4 @@ pub mod Replies
 pub mod Run
 pub mod Told
 pub mod Shown
+pub mod ShownRows

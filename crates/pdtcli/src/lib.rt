@@ -25,6 +25,7 @@ mod reply;
 mod seat;
 mod serial;
 mod shape;
+mod shown;
 
 pub use clients::{RunFault, run_clients};
 pub use devices::{ReadFault, Store, StoreFault, StoredImage};
@@ -43,5 +44,6 @@ pub use recovery::{read_header, recover};
 pub use refusal::Refusal;
 pub use reply::{Reply, ReplyLine};
 pub use serial::run_serial;
+pub use shown::ShownRow;
 pub use stable::{BuildFault, StableTable};
 pub use txn::{Parts, Txn, Version, WriteFault};

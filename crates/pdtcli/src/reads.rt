@@ -1,5 +1,5 @@
 //! The reads of an open transaction: what each is answered, and the lines of the rows that a scan shows.
-ghost use Rattle.std.specs.Prelude.{◌≡◌, ◌≤◌, ◌+◌, ◌++◌, List, IsTrue, vec_len, vec_capacity};
+ghost use Rattle.std.specs.Prelude.{◌≡◌, ◌≤◌, ◌+◌, ◌++◌, IfOk, List, IsTrue, vec_len, vec_capacity};
 ghost use Rattle.std.specs.Option.{option_map};
 ghost use Rattle.values.specs.Shape.{key_fault};
 ghost use Rattle.values.specs.declared.fault.ShapeFault.TheVariants as shape;
@@ -7,16 +7,19 @@ ghost use Rattle.values.specs.declared.row.Row.{Row as Cells};
 ghost use Rattle.inputs.specs.Typed.{is_typed_read, are_of_types};
 ghost use Rattle.inputs.specs.Calls.{key_types};
 ghost use Rattle.merge.specs.View.{row_of};
-ghost use Rattle.pdtcli.specs.Reads.{IsFoundRow, IsScan, OpenReadStep, read_fault};
+ghost use Rattle.pdtcli.specs.Reads.{IsFoundRow, IsScan, OpenReadStep, read_fault, rows_between};
 ghost use Rattle.pdtcli.specs.Run.{shown_lines};
 
 use crate::reply::{Reply, ReplyLine};
 use crate::serial::line_of;
+use crate::shown::ShownRow;
 use inputs::{ClientCall, Read};
-use merge::{MergeScan, RowView};
+use merge::RowView;
+use stable::StableTable;
 use std::alloc::Global;
+use std::sync::Arc;
 use txn::Txn;
-use values::{Key, Schema, ShapeFault};
+use values::{Key, NoMemory, Schema, ShapeFault};
 
 /// What an open transaction answers to a read, after the lines of the rows that it shows. There is room for so many lines
 /// after those.
@@ -44,7 +47,7 @@ pub(crate) fn read_in(
             Reply::Place(below, there)
         }
         Read::Len => Reply::Rows(txn.len()),
-        Read::Scan(from, to) => show_rows(alloc, txn.scan(*from, *to), asked, lines, left),
+        Read::Scan(from, to) => show_rows(txn, *from, *to, asked, lines, left),
     }
 }
 
@@ -82,35 +85,64 @@ fn found(alloc: Global, view: Option<RowView<'_>>, absent: Reply) -> Reply
     match view {
         None => absent,
         Some(view) => match view.copy(alloc) {
-            Ok(row) => Reply::Row(row),
+            Ok(row) => Reply::Row(ShownRow::own(row)),
             Err(_) => Reply::NoMemory,
         },
     }
 }
 
-/// Adds a line for each row of a scan, and answers their number; on want of memory, which a row or its line may meet,
-/// the rows so far stand.
+/// Shows the rows from one position up to another, and answers their number. The rows are copied together, column by
+/// column, before the first line: a row takes no allocation of its own.
 fn show_rows(
-    alloc: Global,
-    scan: MergeScan<'_>,
+    txn: &Txn,
+    from: u64,
+    to: u64,
     asked: &ClientCall,
     lines: &mut Vec<ReplyLine>,
     left: usize,
 ) -> Reply
     requires room { vec_len lines.old + left ≤ vec_capacity lines.old }
-    ensures step { (rows : List Cells) × IsScan scan.entry rows result × (lines.new.items ≡ lines.old.items ++ shown_lines asked.now rows) }
+    ensures step { (rows : List Cells) × IsScan (rows_between txn.now from to) rows result × (lines.new.items ≡ lines.old.items ++ shown_lines asked.now rows) }
     ensures room { vec_len lines.new + left ≤ vec_capacity lines.new }
 {
-    let mut count = 0;
-    for view in scan {
-        let Ok(row) = view.copy(alloc) else {
+    if txn.stretches(from, to).rows_left() == 0 {
+        return Reply::End(0);
+    }
+    match rows_of(*lines.allocator(), txn, from, to) {
+        Ok(rows) => add_lines(&rows, asked, lines, left),
+        Err(NoMemory) => Reply::NoMemory,
+    }
+}
+
+/// The rows from one position up to another, for lines to share.
+fn rows_of(alloc: Global, txn: &Txn, from: u64, to: u64) -> Result<Arc<StableTable>, NoMemory>
+    ensures { IfOk result (λ rows. rows.value.rows ≡ rows_between txn.now from to) }
+{
+    let table = txn.table_between(alloc, from, to)?;
+    Ok(Arc::new(alloc, table)?)
+}
+
+/// Adds a line for each of the rows, and answers their number; on want of memory the rows so far stand.
+fn add_lines(
+    rows: &Arc<StableTable>,
+    asked: &ClientCall,
+    lines: &mut Vec<ReplyLine>,
+    left: usize,
+) -> Reply
+    requires room { vec_len lines.old + left ≤ vec_capacity lines.old }
+    ensures step { (shown : List Cells) × IsScan rows.now.value.rows shown result × (lines.new.items ≡ lines.old.items ++ shown_lines asked.now shown) }
+    ensures room { vec_len lines.new + left ≤ vec_capacity lines.new }
+{
+    let count = rows.len();
+    for sid in 0..count {
+        let Ok(shared) = rows.clone() else {
             return Reply::NoMemory;
         };
         if lines.try_reserve(left + 1).is_err() {
             return Reply::NoMemory;
         }
+        let row = ShownRow::among(shared, sid);
         lines.push_reserved(line_of(asked, Reply::Row(row)));
-        count += 1;
     }
     Reply::End(count)
 }

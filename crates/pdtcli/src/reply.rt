@@ -6,11 +6,12 @@ ghost use Rattle.pdtcli.specs.Replies.{client_name, commit_fields, line_fields, 
 ghost use Rattle.pdtcli.specs.Shown.{row_fields};
 
 use crate::image::push_cell;
+use crate::shown::ShownRow;
 use csv::ByteRecord;
 use inputs::Verb;
 use itoa::Buffer;
 use model::{CommitReply, WriteReply};
-use values::{NoMemory, Row, Text, ValueRef};
+use values::{NoMemory, Text, ValueRef};
 
 /// The answer to a call. A scan is answered by a line for each of its rows, and then by their number.
 #[derive(Debug, Drop)]
@@ -28,7 +29,7 @@ pub enum Reply {
     /// The text of this cell, of the row or the key, or of this column, has more than 4,096 bytes.
     TextTooLong(usize),
     /// A row of the image.
-    Row(Row),
+    Row(ShownRow),
     /// The image has no row of the key.
     Missing,
     /// The image has no row at the position.
@@ -159,14 +160,14 @@ fn push_decided(fields: &mut ByteRecord, answer: CommitReply) -> Result<(), NoMe
 }
 
 /// Adds the word of a row, and its cells.
-fn push_row(fields: &mut ByteRecord, row: &Row) -> Result<(), NoMemory>
+fn push_row(fields: &mut ByteRecord, row: &ShownRow) -> Result<(), NoMemory>
     requires whole { partial_of fields.old ≡ [] }
     ensures fields { OnOk result (fields_of fields.new ≡ fields_of fields.old ++ codes "Row" ∷ row_fields row.now) }
     ensures whole { OnOk result (partial_of fields.new ≡ []) }
 {
     push_word(fields, "Row")?;
-    for cell in row.cells() {
-        push_cell(fields, cell.as_ref())?;
+    for col in 0..row.width() {
+        push_cell(fields, row.value(col))?;
     }
     Ok(())
 }
