@@ -3,7 +3,7 @@ ghost use Rattle.std.specs.Prelude.{◌≡◌, ◌+◌, ◌-◌, ◌*◌, ◌^�
 ghost use Rattle.std.specs.Option.{option_copied};
 ghost use Rattle.model.specs.declared.entry.Change.{Change};
 ghost use Rattle.counted.specs.declared.node.Child.{Child};
-ghost use Rattle.counted.specs.Gaps.{Leads, Follows, IsGap};
+ghost use Rattle.counted.specs.Gaps.{AreNext, Leads, Follows, IsGap};
 ghost use Rattle.counted.specs.Shapes.{AreChildren, all_items, items_of};
 ghost use Rattle.counted.specs.Spots.{ArePlaced};
 ghost use Rattle.counted.specs.Sums.{total};
@@ -25,28 +25,33 @@ pub trait Gap {
 }
 
 impl Node {
-    /// Where it comes to stand at the position, among entries that stand `shift` above the rows below.
+    /// Where it comes to stand at the position, among entries that stand `shift` above the rows below, and those from there
+    /// on in the leaf that the descent ends at.
     pub(crate) fn find_gap<G: Gap, L: Ledger>(
         &self,
         rid: i64,
         shift: i64,
         gap: &G,
         steps: &mut Steps<L>,
-    ) -> Boundary<'_>
+    ) -> (Boundary<'_>, &[SharedEntry])
         requires placed { ArePlaced self.now.items }
         requires above { (shift +ℤ pos (length self.now.items)) ≤ℤ pos (2 ^ 61) }
         requires below { pos (length self.now.items) ≤ℤ (shift +ℤ pos (2 ^ 61)) }
-        ensures gap { IsGap (G.after gap.now) rid shift self.now.items result.index }
-        ensures shift { result.shift ≡ total (take result.index self.now.items) }
-        ensures entry { option_copied result.entry ≡ slice_get self.now.items result.index }
+        ensures gap { IsGap (G.after gap.now) rid shift self.now.items result.0.index }
+        ensures shift { result.0.shift ≡ total (take result.0.index self.now.items) }
+        ensures entry { option_copied result.0.entry ≡ slice_get self.now.items result.0.index }
+        ensures leaf { AreNext self.now.items result.0.index result.1.now }
         ensures steps { steps.new ≡ steps.old + self.now.depth }
     {
         match self.read(steps) {
-            Body::Leaf(entries) => in_leaf(entries, gap_in(entries, rid, shift, gap)),
+            Body::Leaf(entries) => {
+                let index = gap_in(entries, rid, shift, gap);
+                (in_leaf(entries, index), &entries[index..])
+            }
             Body::Inner(children) => {
                 let (index, up) = child_at_gap(children, rid, shift, gap);
-                let found = children[index].node.find_gap(rid, up, gap, steps);
-                among(children, index, found)
+                let (found, leaf) = children[index].node.find_gap(rid, up, gap, steps);
+                (among(children, index, found), leaf)
             }
         }
     }

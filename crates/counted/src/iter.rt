@@ -1,6 +1,7 @@
 //! The entries of a tree in order, lent.
 ghost use Rattle.std.specs.Prelude.{◌≡◌, ◌+◌, ◌^◌, ◌<◌, ◌≤◌, ◌++◌, length, take, drop};
 ghost use Rattle.std.specs.Iterator.{YieldsFirstRef, item_count};
+ghost use Rattle.counted.specs.Gaps.{AreNext};
 
 use crate::SharedEntry;
 use crate::tree::CountedTree;
@@ -57,6 +58,21 @@ impl CountedTree {
             leaf: &[],
             next: from,
             left: count,
+        }
+    }
+
+    /// The entries from an index on, where those next in a leaf are at hand.
+    pub(crate) fn iter_in<'a>(&'a self, from: usize, leaf: &'a [SharedEntry]) -> Iter<'a>
+        requires { AreNext self.now.entries from leaf.now }
+        ensures { result ≡ drop from self.now.entries }
+    {
+        let len = self.len();
+        let next = from + leaf.len();
+        Iter {
+            tree: self,
+            leaf,
+            next,
+            left: len - next,
         }
     }
 }

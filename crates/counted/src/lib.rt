@@ -13,6 +13,7 @@ mod leaf;
 mod node;
 mod search;
 mod spot;
+mod starts;
 mod steps;
 mod tree;
 
@@ -21,5 +22,6 @@ pub use gap::Gap;
 pub use iter::Iter;
 pub use search::{Boundary, Probe};
 pub use spot::Spot;
+pub use starts::Start;
 pub use steps::Steps;
 pub use tree::CountedTree;

@@ -139,10 +139,7 @@ impl CountedTree {
         ensures entry { option_copied result.entry ≡ slice_get self.now.entries result.index }
         ensures steps { steps.new ≡ steps.old + self.now.depth }
     {
-        match &self.root {
-            None => Boundary::first(steps),
-            Some(root) => root.find_gap(rid as i64, 0, gap, steps),
-        }
+        self.gap_and_leaf(rid, gap, steps).0
     }
 
     /// Where something comes to stand at a position, where nobody counts nodes.

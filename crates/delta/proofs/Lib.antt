@@ -10,6 +10,7 @@ mod RangesLemmas
 mod PositionsLemmas
 mod GapLemmas
 mod GapWalkLemmas
+mod StartLemmas
 mod LengthLemmas
 mod LawsLemmas
 mod CountedLemmas

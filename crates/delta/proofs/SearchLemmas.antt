@@ -85,7 +85,8 @@ module _ (key_cols : ℕ) (cmp : Change → Ordering) (closed : (x y : Change) �
 -- ---- a partition point, as a split
 
 module _ (test : Entry → Bool) where
-  all_before : (n : ℕ) (xs : List Entry) → ((k : ℕ) (d : Entry) → 0 ≤ k → k < n → test (get_or xs k d) ≡ true) → T (list_all test (take n xs))
+  pub all_before : (n : ℕ) (xs : List Entry) → ((k : ℕ) (d : Entry) → 0 ≤ k → k < n → test (get_or xs k d) ≡ true)
+      → T (list_all test (take n xs))
   all_before zero xs h = tt
   all_before (suc n) [] h = tt
   all_before (suc n) (x ∷ xs) h =
@@ -96,7 +97,8 @@ module _ (test : Entry → Bool) where
   not_true true e = cc
   not_true false e = tt
 
-  all_after : (n : ℕ) (xs : List Entry) → ((k : ℕ) (d : Entry) → n ≤ k → k < length xs → test (get_or xs k d) ≡ false) → T (list_all (λ e. not (test e)) (drop n xs))
+  pub all_after : (n : ℕ) (xs : List Entry) → ((k : ℕ) (d : Entry) → n ≤ k → k < length xs → test (get_or xs k d) ≡ false)
+      → T (list_all (λ e. not (test e)) (drop n xs))
   all_after zero [] h = tt
   all_after (suc n) [] h = tt
   all_after zero (x ∷ xs) h =

@@ -6,3 +6,4 @@ pub mod Changes
 pub mod Laws
 pub mod Depth
 pub mod ByPlace
+pub mod Starts

@@ -21,5 +21,5 @@ pub use by_place::{BaseChange, KeyPlace};
 pub use counted::{CountedTree, Iter, SharedEntry, Steps};
 pub use laws::{a_write_is_one_call, canonical_look_ups, inserts_ascend_at_a_sid};
 pub use model::{Change, Entry};
-pub use places::{ChangeIndex, Place};
+pub use places::{ChangeIndex, Place, Start};
 pub use tree::DeltaTree;

@@ -1,16 +1,17 @@
 //! Positions in the image above: how far the entries move what stands at a SID, and what stands at a position.
-ghost use Rattle.std.specs.Prelude.{◌≡◌, ◌<◌, ◌≤◌, ◌^◌, ◌+ℤ◌, ◌≤ℤ◌, IsTrue, length, pos, take};
+ghost use Rattle.std.specs.Prelude.{◌≡◌, ◌<◌, ◌≤◌, ◌^◌, ◌+ℤ◌, ◌≤ℤ◌, IsTrue, drop, length, pos, take};
 ghost use Rattle.std.specs.List.{All};
 ghost use Rattle.values.specs.Shape.{key_of};
-ghost use Rattle.model.specs.Entries.{change_cmp};
+ghost use Rattle.model.specs.Entries.{change_cmp, is_delete};
 ghost use Rattle.model.specs.Folding.{added_by, gone_by};
 ghost use Rattle.model.specs.Places.{rid_of_insert};
 ghost use Rattle.delta.specs.Positions.{shift_before, IsAtRid, deletes_below, deletes_ascend, is_passed, gap_from};
 ghost use Rattle.delta.specs.Depth.{CountsEachLevel};
 ghost use Rattle.delta.specs.Search.{stands_before, IsSplit};
+ghost use Rattle.delta.specs.Starts.{IsStart};
 
 use crate::tree::DeltaTree;
-use counted::{Gap, Steps};
+use counted::{Gap, Iter, Steps};
 use model::Change;
 use std::marker::Brand;
 use std::sync::ledger::{Blank, Ledger};
@@ -32,6 +33,28 @@ pub struct ChangeIndex {
     pub index: usize,
     /// The position of its row in the image; of a deleted row, that of the next one.
     pub rid: u64,
+}
+
+/// Where a walk over the image starts.
+#[derive(Drop)]
+pub struct Start<'a> {
+    /// How many entries it has passed.
+    pub index: usize,
+    /// The base row that is next.
+    pub sid: u64,
+    /// The entries from there on.
+    pub entries: Iter<'a>,
+}
+
+/// The row at a position, which stands after the deletes there, and before its own modifies.
+struct RowThere;
+
+impl Gap for RowThere {
+    ghost after = { λ p. is_delete };
+
+    fn is_after(&self, change: &Change) -> bool {
+        is_delete(change)
+    }
 }
 
 /// A row to come, which stands after the deletes of smaller keys.
@@ -94,6 +117,22 @@ impl DeltaTree {
         find_uncounted::<Brand>(self, rid, Blank::new(1))
     }
 
+    /// Where a walk over the image starts at a position: at the insert whose row stands there, or before the modifies of the
+    /// base row; the base is thought to go on without end. One descent finds the place and hands over the entries; it takes
+    /// no memory.
+    pub fn find_start(&self, rid: u64) -> Start<'_>
+        requires { rid < 2 ^ 63 }
+        ensures start { IsStart self.now.entries rid result.sid result.index }
+        ensures rest { result.entries ≡ drop result.index self.now.entries }
+    {
+        let start = self.tree.start(rid, &RowThere);
+        Start {
+            index: start.index,
+            sid: moved(rid, -start.shift),
+            entries: start.entries,
+        }
+    }
+
     /// Where a change stands at a SID, or would stand, and the position of its row: behind the inserts there, or of an
     /// insert behind those of smaller keys. One descent; it takes no memory.
     pub fn find_change(&self, sid: u64, change: &Change) -> ChangeIndex
@@ -145,6 +184,16 @@ fn find_uncounted<L: Ledger>(tree: &DeltaTree, rid: u64, blank: Blank) -> Place
 {
     let mut steps = Steps::<L>::new(blank);
     tree.find_rid(rid, &mut steps)
+}
+
+/// Whether the change is a delete.
+fn is_delete(change: &Change) -> bool
+    ensures { result ≡ is_delete change.now }
+{
+    match change {
+        Change::Del(_) => true,
+        Change::Ins(_) | Change::Mod(..) => false,
+    }
 }
 
 /// Whether the change deletes a row of a smaller key.

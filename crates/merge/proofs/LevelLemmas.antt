@@ -54,7 +54,7 @@ all_from-append n (e ∷ es) fs p q = both (nat_le n e.sid) _ (first (nat_le n e
 -- ---- the order
 
 -- what stands first is at a smaller place, or first at the same one
-pub sid_first : (a b : ℕ) (o : Ordering) → T (is_lt (ordering_then (nat_cmp a b) o)) → (a < b) ⊎ ((a ≡ b) × T (is_lt o))
+sid_first : (a b : ℕ) (o : Ordering) → T (is_lt (ordering_then (nat_cmp a b) o)) → (a < b) ⊎ ((a ≡ b) × T (is_lt o))
 sid_first a b o h =
     elim (nat_lt a b) as (λ l. nat_lt a b ≡ l → T (is_lt (ordering_then (cond l Less (cond (a == b) Equal Greater)) o)) → (a < b) ⊎ ((a ≡ b) × T (is_lt o))) [
       | true ↦ λ is g. inl (grind (arith, nat_tests))

@@ -8,7 +8,7 @@ ghost use Rattle.values.specs.declared.row.Row.{Row as Cells};
 ghost use Rattle.merge.specs.Level.{IsOver};
 ghost use Rattle.merge.specs.Cursor.{DeletesNext, DeletesNone, IsCursor, IsCursorAt, StepGives, entries_left, entries_past, is_past, moved, starts_with_delete};
 
-use delta::{Change, DeltaTree, Iter, Place, SharedEntry};
+use delta::{Change, DeltaTree, Iter, SharedEntry, Start};
 use std::marker::Model;
 use values::Row;
 
@@ -54,28 +54,18 @@ impl<'a> Cursor<'a> {
         ensures tree { result.tree ≡ tree.now }
         ensures at { (base : List Cells) → IsOver tree.now.key_cols 0 (length base) tree.now.entries → IsLawful tree.now.key_cols tree.now.entries → length base < 2 ^ 62 → rid ≤ length (merged_rows base tree.now.entries) → IsCursorAt base rid result }
     {
-        match tree.find_row(rid) {
-            Place::Inserted(index) => {
-                let (next, rest) = entries_from(tree, index);
-                Cursor {
-                    tree,
-                    index,
-                    sid: next.unwrap().sid(),
-                    next,
-                    rest,
-                }
-            }
-            Place::Base(sid) => {
-                let index = tree.base_index(sid);
-                let (next, rest) = entries_from(tree, index);
-                Cursor {
-                    tree,
-                    index,
-                    sid,
-                    next,
-                    rest,
-                }
-            }
+        let Start {
+            index,
+            sid,
+            entries: mut rest,
+        } = tree.find_start(rid);
+        let next = rest.next();
+        Cursor {
+            tree,
+            index,
+            sid,
+            next,
+            rest,
         }
     }
 
@@ -190,17 +180,6 @@ impl<'a> Cursor<'a> {
         self.index += 1;
         self.next = self.rest.next();
     }
-}
-
-/// The entry at an index of the tree, and those after it.
-fn entries_from(tree: &DeltaTree, index: usize) -> (Option<&SharedEntry>, Iter<'_>)
-    requires { index ≤ length tree.now.entries }
-    ensures next { option_copied result.0 ≡ slice_get tree.now.entries index }
-    ensures rest { result.1 ≡ drop (index + 1) tree.now.entries }
-{
-    let mut rest = tree.iter_from(index);
-    let next = rest.next();
-    (next, rest)
 }
 
 /// Whether the change is a delete.

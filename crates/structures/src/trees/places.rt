@@ -302,6 +302,43 @@ fn each_position_has_its_place(rt: HostRuntime) -> Result<(), Fail> {
     assert_places(&rt, rt.alloc(), "trans", &TRANS, &TRANS_PLACES)
 }
 
+/// A position; how many entries a walk passes to start there, the base row that is next, and the entries that are left.
+type StartCase<'a> = (u64, usize, u64, &'a str);
+
+/// That a walk starts so.
+fn assert_start(
+    rt: &impl Abort,
+    alloc: Global,
+    tree: &DeltaTree,
+    (rid, index, sid, want): StartCase<'_>,
+) -> Result<(), NoMemory> {
+    assert!(rt; rid <= MOST);
+    let start = tree.find_start(rid);
+    assert!(rt; (start.index, start.sid) == (index, sid), "at {rid}");
+    let text = entries_text(alloc, start.entries)?;
+    assert_text_at(rt, text.as_str(), want, rid);
+    Ok(())
+}
+
+#[test]
+fn a_walk_starts_past_deletes_and_before_modifies(rt: HostRuntime) -> Result<(), Fail> {
+    const CASES: [StartCase<'static>; 6] = [
+        (0, 0, 0, "1+20,Bea,8 1-20 2:1=Cy 2:2=7 3+40,Gus,9"),
+        (1, 0, 1, "1+20,Bea,8 1-20 2:1=Cy 2:2=7 3+40,Gus,9"),
+        (2, 2, 2, "2:1=Cy 2:2=7 3+40,Gus,9"),
+        (3, 4, 3, "3+40,Gus,9"),
+        (4, 5, 3, ""),
+        (MOST, 5, MOST - 1, ""),
+    ];
+    let Some(tree) = changed(&rt, rt.alloc(), MIXED.as_slice())? else {
+        return Ok(());
+    };
+    for case in &CASES {
+        assert_start(&rt, rt.alloc(), &tree, *case)?;
+    }
+    Ok(())
+}
+
 /// That a tree of these changes finds each key so.
 fn assert_keys(
     rt: &impl Abort,
