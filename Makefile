@@ -9,11 +9,11 @@ try:
 run:
 	cd crates/pdt && rt run -- run data/table.csv data/script.csv
 
-# the gate: every proof from nothing, the must-fail edits, the tests and the program; and then the examples through that program
+# the gate: every proof from nothing, the must-fail edits, the tests and the program; then the examples and the cases through that
 test:
 	rt ci && examples/check
 
-# each example through the program as `make run` proves and builds it, against its replies
+# each example and case through the program as `make run` proves and builds it, against its replies
 examples: run
 	examples/check
 

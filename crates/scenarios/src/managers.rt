@@ -8,14 +8,14 @@ mod cuts;
 mod openings;
 mod refusals;
 
-use fixtures::{ItemWrite, base_table, key, write_of};
+use fixtures::{ItemWrite, base_table, write_of};
 use model::{CommitReply, ConflictRule, Write, WriteReply};
 use pdtcli::{Manager, Txn, WriteFault};
 use std::alloc::Global;
 use std::test::Fail;
 use txn::RowView;
 use values::limits::MAX_ROWS;
-use values::{NoMemory, Value, ValueRef};
+use values::{NoMemory, ValueRef};
 
 /// A manager of the base table.
 fn opened(alloc: Global, recent: usize, limit: u64) -> Result<Manager, Fail> {
@@ -92,51 +92,36 @@ fn one_write(alloc: Global, manager: &mut Manager, named: ItemWrite) -> Option<C
     }
 }
 
-/// The quantity of a row that is read, or less than none.
-fn quantity_of(found: Option<RowView<'_>>) -> i64 {
-    match found {
-        Some(view) if view.width() > 2 => match view.value(2) {
-            ValueRef::Int(quantity) => quantity,
-            _ => -1,
-        },
-        _ => -1,
-    }
+/// The numbers of a table's rows, with their quantities.
+type Rows = &'static [(i64, i64)];
+
+fn is_row(view: &RowView<'_>, row: (i64, i64)) -> bool {
+    view.width() == 3
+        && view.value(0) == ValueRef::Int(row.0)
+        && view.value(2) == ValueRef::Int(row.1)
 }
 
-/// The numbers of the first and the last column of the newest table, row by row.
-fn numbers(alloc: Global, manager: &Manager) -> Result<String, Fail> {
+/// Whether the newest table has these rows.
+pub(crate) fn has_rows(manager: &Manager, rows: &[(i64, i64)]) -> bool {
     let newest = manager.newest();
-    let mut text = String::new(alloc);
+    let mut place = 0_usize;
     for view in newest.scan(0, newest.len()) {
-        let row = view.copy(alloc)?;
-        if let [Value::Int(id), _, Value::Int(quantity)] = row.cells() {
-            text.push_str(format!(in alloc; "{id} {quantity};")?.as_str())?;
+        match rows.get(place) {
+            Some(row) if is_row(&view, *row) => place = place.wrapping_add(1),
+            _ => return false,
         }
     }
-    Ok(text)
+    place == rows.len()
 }
 
-#[test]
-fn write_skew_commits(rt: HostRuntime) -> Result<(), Fail> {
-    let alloc = rt.alloc();
-    let ten = key(alloc, 10)?;
-    let twenty = key(alloc, 20)?;
-    let mut manager = opened(alloc, 64, MAX_ROWS)?;
-    let (mut a, mut b) = begin_both(&manager)?;
-    let a_read = quantity_of(a.get(&ten));
-    let a_set = wrote(alloc, &mut a, ItemWrite::Set(20, 9));
-    let b_read = quantity_of(b.get(&twenty));
-    let b_set = wrote(alloc, &mut b, ItemWrite::Set(10, 9));
-    let first = decided(&mut manager, a);
-    let second = decided(&mut manager, b);
-    assert_eq!(&rt; a_read, 1);
-    assert!(&rt; a_set == Ok(WriteReply::Done));
-    assert_eq!(&rt; b_read, 2);
-    assert!(&rt; b_set == Ok(WriteReply::Done));
-    assert!(&rt; first == Some(CommitReply::Committed(1)));
-    assert!(&rt; second == Some(CommitReply::Committed(2)));
-    assert_eq!(&rt; numbers(alloc, &manager)?.as_str(), "10 9;20 9;30 3;");
-    Ok(())
+/// Whether the history has these replies to one write that was done, of the clients from 0 on, all over the opening table.
+fn has_records(manager: &Manager, replies: &[CommitReply]) -> bool {
+    let records = manager.history().records();
+    records.len() == replies.len()
+        && records.iter().zip(replies.iter().enumerate()).all(|(record, (client, reply))| {
+            record.client() as usize == client && record.begin() == 0 && record.reply() == *reply
+        })
+        && records.iter().all(|record| matches!(record.writes(), [(_, WriteReply::Done)]))
 }
 
 #[test]
@@ -152,25 +137,13 @@ fn a_row_that_both_delete_conflicts(rt: HostRuntime) -> Result<(), Fail> {
     assert!(&rt; b_deleted == Ok(WriteReply::Done));
     assert!(&rt; first == Some(CommitReply::Committed(1)));
     assert!(&rt; second == Some(CommitReply::Conflict(1)));
-    assert_eq!(&rt; numbers(alloc, &manager)?.as_str(), "10 1;30 3;");
-    let history = manager.history().records();
-    assert_eq!(&rt; history.len(), 2);
-    for (client, (record, want)) in history
-        .iter()
-        .zip([CommitReply::Committed(1), CommitReply::Conflict(1)].iter())
-        .enumerate()
-    {
-        assert_eq!(&rt; record.client() as usize, client);
-        assert_eq!(&rt; record.begin(), 0);
-        assert_eq!(&rt; record.writes().len(), 1);
-        assert!(&rt;
-            record
-                .writes()
-                .iter()
-                .all(|write| write.1 == WriteReply::Done)
-        );
-        assert!(&rt; record.reply() == *want);
-    }
+    assert!(&rt; has_rows(&manager, &[(10, 1), (30, 3)]));
+    assert!(&rt;
+        has_records(
+            &manager,
+            &[CommitReply::Committed(1), CommitReply::Conflict(1)]
+        )
+    );
     Ok(())
 }
 
@@ -190,31 +163,12 @@ fn two_commits_since_the_begin_are_too_many_where_one_is_kept(rt: HostRuntime) -
     assert!(&rt; first == Some(CommitReply::Committed(1)));
     assert!(&rt; second == Some(CommitReply::Committed(2)));
     assert!(&rt; third == Some(CommitReply::TooOld(2)));
-    assert_eq!(&rt; numbers(alloc, &manager)?.as_str(), "10 1;20 2;30 3;");
+    assert!(&rt; has_rows(&manager, &[(10, 1), (20, 2), (30, 3)]));
     let begins = manager
         .history()
         .records()
         .iter()
         .map(|record| record.begin());
     assert!(&rt; begins.eq([0_u64, 1, 0].iter().copied()));
-    Ok(())
-}
-
-#[test]
-fn a_commit_past_the_row_limit_is_full(rt: HostRuntime) -> Result<(), Fail> {
-    let alloc = rt.alloc();
-    let mut manager = opened(alloc, 64, 4)?;
-    let (mut a, mut b) = begin_both(&manager)?;
-    let a_inserted = wrote(alloc, &mut a, ItemWrite::Insert(40, "Dee", 4));
-    let a_more = wrote(alloc, &mut a, ItemWrite::Insert(41, "Dee", 4));
-    let b_inserted = wrote(alloc, &mut b, ItemWrite::Insert(50, "Dee", 4));
-    let first = decided(&mut manager, a);
-    let second = decided(&mut manager, b);
-    assert!(&rt; a_inserted == Ok(WriteReply::Done));
-    assert!(&rt; a_more == Ok(WriteReply::Full));
-    assert!(&rt; b_inserted == Ok(WriteReply::Done));
-    assert!(&rt; first == Some(CommitReply::Committed(1)));
-    assert!(&rt; second == Some(CommitReply::Full(1)));
-    assert_eq!(&rt; numbers(alloc, &manager)?.as_str(), "10 1;20 2;30 3;40 4;");
     Ok(())
 }

@@ -8,19 +8,15 @@ ghost use Rattle.std.specs.Prelude.{IfOk};
 ghost use Rattle.txn.specs.Txn.{Transaction};
 ghost use Rattle.manager.specs.Managed.{IsOwn};
 
-use super::{begun_with, decided, one_write, opened, wrote};
+use super::{Rows, begun_with, decided, has_rows, one_write, opened, wrote};
 use fixtures::ItemWrite;
 use model::{CommitReply, WriteReply};
 use pdtcli::{Manager, Txn, WriteFault};
 use std::alloc::Global;
 use std::process::Abort;
 use std::test::Fail;
-use txn::RowView;
+use values::NoMemory;
 use values::limits::MAX_ROWS;
-use values::{NoMemory, ValueRef};
-
-/// The numbers of a table's rows, with their quantities.
-pub(super) type Rows = &'static [(i64, i64)];
 
 /// What a manager shows: the rows of its newest table, and how many commits and records made them.
 #[derive(Clone, Copy)]
@@ -46,7 +42,7 @@ struct Case {
 pub(super) const BASE: Rows = &[(10, 1), (20, 2), (30, 3)];
 
 /// The first commit of all.
-const FIRST: Case = Case {
+static FIRST: Case = Case {
     folded: false,
     others: (None, None),
     own: ItemWrite::Insert(25, "Dee", 4),
@@ -64,7 +60,7 @@ const FIRST: Case = Case {
 };
 
 /// The others insert and delete the key that it inserts.
-const UNDONE: Case = Case {
+static UNDONE: Case = Case {
     folded: false,
     others: (
         Some(ItemWrite::Insert(25, "Dee", 4)),
@@ -85,7 +81,7 @@ const UNDONE: Case = Case {
 };
 
 /// Another one inserts a row before its own, after a fold.
-const SHIFTED: Case = Case {
+static SHIFTED: Case = Case {
     folded: true,
     others: (Some(ItemWrite::Insert(5, "Eve", 0)), None),
     own: ItemWrite::Set(30, 9),
@@ -101,25 +97,6 @@ const SHIFTED: Case = Case {
         records: 2,
     },
 };
-
-fn is_row(view: &RowView<'_>, row: (i64, i64)) -> bool {
-    view.width() == 3
-        && view.value(0) == ValueRef::Int(row.0)
-        && view.value(2) == ValueRef::Int(row.1)
-}
-
-/// Whether the newest table has these rows.
-fn has_rows(manager: &Manager, rows: &[(i64, i64)]) -> bool {
-    let newest = manager.newest();
-    let mut place = 0_usize;
-    for view in newest.scan(0, newest.len()) {
-        match rows.get(place) {
-            Some(row) if is_row(&view, *row) => place = place.wrapping_add(1),
-            _ => return false,
-        }
-    }
-    place == rows.len()
-}
 
 /// Whether the manager shows this and nothing else.
 pub(super) fn is_shown(manager: &Manager, want: &Shown) -> bool {
@@ -256,7 +233,7 @@ fn a_write_succeeds_when_it_is_made_again(rt: HostRuntime) -> Result<(), Fail> {
         let writes = txn.writes().len();
         txn.abort();
         assert!(&rt; reply == Ok(WriteReply::Done));
-        assert_eq!(&rt; writes, 2);
+        assert!(&rt; writes == 2);
     }
     Ok(())
 }

@@ -37,10 +37,10 @@ fn ten_thousand_calls_over_ten_thousand_rows(rt: HostRuntime) -> Result<(), Fail
         USUAL,
         &mut out,
     )?;
-    assert_eq!(&rt; status, 0);
+    assert!(&rt; status == 0);
     let lines = out.iter().filter(|byte| **byte == b'\n').count();
     // A line for each call, the empty line, the header, and a row for each key.
-    assert_eq!(&rt; lines, 10_000 + 1 + 1 + 19_998);
+    assert!(&rt; lines == 10_000 + 1 + 1 + 19_998);
     // The odd keys go up to 19,995.
     assert!(&rt;
         out.as_slice()

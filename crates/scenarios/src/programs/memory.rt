@@ -1,8 +1,9 @@
 //! Runs whose store is in memory.
 ghost use Rattle.std.specs.Prelude.{◌≡◌, IfOk};
 
+use super::{BASE_TEXT, USUAL};
 use devices::{ColumnDevice, MemColumn, Store, StoreFault, have_failed};
-use pdtcli::{FileFault, Left, OpenOptions, Refusal, open_texts, run_opened, run_serial, show};
+use pdtcli::{FileFault, Left, OpenOptions, Refusal, open_texts, run_opened, run_serial};
 use std::alloc::Global;
 use std::io::Write;
 use std::sync::{Arc, OnceLock};
@@ -14,7 +15,7 @@ pub(crate) fn memory_column(alloc: Global) -> Result<MemColumn, Refusal>
     Ok(MemColumn::new(Vec::new(alloc), Arc::new(alloc, OnceLock::new())?)?)
 }
 
-/// Opens the table, and runs the script over it, as the program does.
+/// Runs the script over a table that is opened so, as the program does.
 pub(crate) fn run_texts<W: Write>(
     alloc: Global,
     table: Result<&[u8], FileFault>,
@@ -34,13 +35,9 @@ pub(crate) fn run_texts<W: Write>(
     run_opened(alloc, opened, store, out)
 }
 
-/// What is left of a run of the script over a table that is opened so, with its output and its status.
-pub(crate) fn run_whole(
-    alloc: Global,
-    (table, script, options): (&[u8], &[u8], OpenOptions),
-    out: &mut Vec<u8>,
-) -> Result<(Left, u8), Refusal> {
-    let opened = open_texts(alloc, Ok(table), Ok(script), options)?;
+/// What is left of a run of the script over the base table.
+pub(crate) fn left_of(alloc: Global, script: &[u8]) -> Result<Left, Refusal> {
+    let opened = open_texts(alloc, Ok(BASE_TEXT), Ok(script), USUAL)?;
     let mut devices: Vec<Box<dyn ColumnDevice + Send>> = Vec::new(alloc);
     for _ in 0..opened.schema().width() {
         devices.push(Box::new(alloc, memory_column(alloc)?)?)?;
@@ -49,7 +46,5 @@ pub(crate) fn run_whole(
         return Err(Refusal::Store(StoreFault::StoreFailed));
     }
     let store = Store::new(alloc, devices, opened.schema(), 1)?;
-    let outcome = run_serial(alloc, opened.manager, store, &opened.script)?;
-    let status = show(alloc, &outcome.left, out)?;
-    Ok((outcome.left, status))
+    Ok(run_serial(alloc, opened.manager, store, &opened.script)?.left)
 }

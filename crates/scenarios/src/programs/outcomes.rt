@@ -1,18 +1,9 @@
 //! What a run hands on: its clients, its lines, its manager and how many commits were decided.
-use crate::programs::memory::run_whole;
-use crate::programs::{BASE_TEXT, USUAL};
-use model::{CommitReply, Write, WriteReply};
-use pdtcli::{Left, Refusal, Reply, ReplyLine};
-use std::alloc::Global;
+use crate::managers::has_rows;
+use crate::programs::memory::left_of;
+use model::{CommitReply, Record, Write, WriteReply};
+use pdtcli::{Reply, ReplyLine};
 use std::test::Fail;
-use values::Value;
-
-/// What is left of a run of the script over the base table.
-fn left_of(alloc: Global, script: &[u8]) -> Result<Left, Refusal> {
-    let mut out = Vec::new(alloc);
-    let (left, _) = run_whole(alloc, (BASE_TEXT, script, USUAL), &mut out)?;
-    Ok(left)
-}
 
 /// Whether a write was answered so.
 fn is_written(line: &ReplyLine, want: WriteReply) -> bool {
@@ -30,12 +21,9 @@ fn is_decided(line: &ReplyLine, want: CommitReply) -> bool {
     }
 }
 
-#[test]
-fn the_record_of_two_refused_writes_holds_both(rt: HostRuntime) -> Result<(), Fail> {
-    let script = b"a,begin\na,insert,20,Bob,2\na,delete,25\na,set,20,id,21\na,commit\n";
-    let left = left_of(rt.alloc(), script.as_slice())?;
-    assert!(&rt; left.lines().iter().all(|line| line.client == 0));
-    let told = match left.lines() {
+/// Whether these are the replies to a begin, three refused writes and a commit.
+fn are_refused(lines: &[ReplyLine]) -> bool {
+    match lines {
         [begun, inserted, deleted, set, committed] => {
             matches!(begun.reply, Reply::Begun)
                 && is_written(inserted, WriteReply::Duplicate)
@@ -44,24 +32,31 @@ fn the_record_of_two_refused_writes_holds_both(rt: HostRuntime) -> Result<(), Fa
                 && is_decided(committed, CommitReply::Committed(1))
         }
         _ => false,
-    };
-    assert!(&rt; told);
-    let history = left.manager().history().records();
-    assert_eq!(&rt; history.len(), 1);
-    for record in history {
-        assert_eq!(&rt; record.client(), 0);
-        assert_eq!(&rt; record.begin(), 0);
-        assert!(&rt; record.reply() == CommitReply::Committed(1));
-        assert!(&rt;
-            matches!(
-                record.writes(),
-                [
-                    (Write::Insert(_), WriteReply::Duplicate),
-                    (Write::Delete(_), WriteReply::Missing)
-                ]
-            )
-        );
     }
+}
+
+/// Whether the record has the two writes that the table answered.
+fn has_both(record: &Record) -> bool {
+    record.client() == 0
+        && record.begin() == 0
+        && record.reply() == CommitReply::Committed(1)
+        && matches!(
+            record.writes(),
+            [
+                (Write::Insert(_), WriteReply::Duplicate),
+                (Write::Delete(_), WriteReply::Missing)
+            ]
+        )
+}
+
+#[test]
+fn the_record_of_two_refused_writes_holds_both(rt: HostRuntime) -> Result<(), Fail> {
+    let script = b"a,begin\na,insert,20,Bob,2\na,delete,25\na,set,20,id,21\na,commit\n";
+    let left = left_of(rt.alloc(), script.as_slice())?;
+    assert!(&rt; are_refused(left.lines()));
+    let records = left.manager().history().records();
+    assert!(&rt; records.len() == 1);
+    assert!(&rt; records.iter().all(|record| has_both(record)));
     Ok(())
 }
 
@@ -69,26 +64,12 @@ fn the_record_of_two_refused_writes_holds_both(rt: HostRuntime) -> Result<(), Fa
 fn commits_that_are_decided_are_counted(rt: HostRuntime) -> Result<(), Fail> {
     let script =
         b"a,commit\na,begin\na,commit\na,begin\na,delete,20\na,commit\na,begin\na,abort\na,begin\na,delete,10\n";
-    let mut out = Vec::new(rt.alloc());
-    let (left, status) = run_whole(rt.alloc(), (BASE_TEXT, script.as_slice(), USUAL), &mut out)?;
-    assert_eq!(&rt; left.clients().len(), 1);
-    for name in left.clients() {
-        assert_eq!(&rt; name.as_str(), "a");
-    }
-    assert_eq!(&rt; left.lines().len(), 10);
+    let left = left_of(rt.alloc(), script.as_slice())?;
+    assert!(&rt; left.clients().iter().all(|name| name.as_str() == "a"));
+    assert!(&rt; left.lines().len() == 10);
     assert!(&rt; left.counts() == [2_u64].as_slice());
-    assert_eq!(&rt; left.manager().history().records().len(), 2);
-    let newest = left.manager().newest();
-    assert_eq!(&rt; newest.len(), 2);
-    for (rid, id) in [10, 30].iter().enumerate() {
-        let row = match newest.row_at(rid as u64) {
-            Some(view) => view.copy(rt.alloc())?,
-            None => return Err(Fail::new("no row")),
-        };
-        assert!(&rt; row.cells().first() == Some(&Value::Int(*id)));
-    }
-    assert_eq!(&rt; status, 0);
-    assert!(&rt; out.ends_with(b"\n\nid:int:key,name:text,qty:int\n10,Ann,1\n30,Cid,3\n"));
+    assert!(&rt; left.manager().history().records().len() == 2);
+    assert!(&rt; has_rows(left.manager(), &[(10, 1), (30, 3)]));
     Ok(())
 }
 
@@ -97,12 +78,11 @@ fn records_that_cuts_hand_out_are_counted(rt: HostRuntime) -> Result<(), Fail> {
     let script =
         b"a,begin\na,commit\na,cut\na,begin\na,delete,20\na,commit\na,begin\na,commit\na,cut\na,begin\na,commit\n";
     let left = left_of(rt.alloc(), script.as_slice())?;
-    assert_eq!(&rt; left.handed(), 3);
+    assert!(&rt; left.handed() == 3);
     assert!(&rt; left.counts() == [4_u64].as_slice());
     let manager = left.manager();
-    assert_eq!(&rt; manager.base(), 3);
-    assert_eq!(&rt; manager.made(), 4);
-    assert_eq!(&rt; manager.history().records().len(), 1);
-    assert_eq!(&rt; manager.version().number(), 4);
+    assert!(&rt; (manager.base(), manager.made()) == (3, 4));
+    assert!(&rt; manager.history().records().len() == 1);
+    assert!(&rt; manager.version().number() == 4);
     Ok(())
 }

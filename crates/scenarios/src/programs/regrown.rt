@@ -10,7 +10,7 @@ const SCRIPT: &[u8] =
 
 /// What is written where nothing is refused, or a growth of the first begin, delete, get or commit, or of the second
 /// delete or get.
-const WRITTEN: [(u8, &str); 7] = [
+static WRITTEN: [(u8, &str); 7] = [
     (
         0,
         "a,begin,Begun\na,begin,AlreadyOpen\na,delete,Done\na,delete,Missing\na,get,Row,30,Cid,3\na,get,Row,30,Cid,3\na,commit,Committed,1\na,commit,NotOpen\n",

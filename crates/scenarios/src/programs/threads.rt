@@ -1,11 +1,10 @@
-//! Runs whose clients have threads of their own. What they write is the same whatever the schedule.
+//! A run whose clients have threads of their own, and meet.
 
 use super::memory::memory_column;
 use super::{BASE_TEXT, USUAL};
 use devices::{ColumnDevice, Store, StoreFault, have_failed};
-use pdtcli::{Gate, OpenGate, Refusal, open_texts, run_clients, show};
+use pdtcli::{Gate, Refusal, open_texts, run_clients, show};
 use std::alloc::Global;
-use std::process::Abort;
 use std::sync::Wait;
 use std::sync::atomic::{AtomicBool, Ordering};
 use std::test::Fail;
@@ -99,49 +98,14 @@ const MET: (&[u8], &str) = (
     "a,begin,Begun\na,set,Done\na,commit,Committed,2\na,begin,Begun\na,get,Row,10,Ann,7\na,abort,Aborted\nb,begin,Begun\nb,set,Done\nb,commit,Committed,1\n\nid:int:key,name:text,qty:int\n10,Ann,7\n20,Bob,8\n30,Cid,3\n",
 );
 
-/// Fails where this isn't the text.
-fn assert_text(rt: &impl Abort, out: &[u8], want: &str) {
-    assert!(rt; out == want.as_bytes(), "the text");
-}
-
 #[test]
 fn clients_meet_on_threads_of_their_own(rt: HostRuntime) -> Result<(), Fail> {
     let gate = Meeting::new();
     let out = written(&rt, rt.alloc(), MET.0, &gate)?;
-    assert_text(&rt, out.as_slice(), MET.1);
+    assert!(&rt; out.as_slice() == MET.1.as_bytes(), "the text");
     assert!(&rt;
         !gate.missed.load(Ordering::SeqCst),
         "a client that didn't come"
     );
-    Ok(())
-}
-
-/// Scripts whose lines are the same in every schedule: grouped by client, with a store, folds and cuts among them, what is
-/// not open, and no client at all.
-const CASES: [(&[u8], &str); 4] = [
-    (
-        b"a,begin\na,insert,25,Dee,4\na,commit\na,fold\na,checkpoint\na,cut\na,begin\na,scan,0,9\n",
-        "a,begin,Begun\na,insert,Done\na,commit,Committed,1\na,fold,Done\na,checkpoint,Done,1\na,cut,Done,1\na,begin,Begun\na,scan,Row,10,Ann,1\na,scan,Row,20,Bob,2\na,scan,Row,25,Dee,4\na,scan,Row,30,Cid,3\na,scan,End,4\n\nid:int:key,name:text,qty:int\n10,Ann,1\n20,Bob,2\n25,Dee,4\n30,Cid,3\n",
-    ),
-    (
-        b"a,begin\nb,len\na,begin\nb,abort\na,set,20,id,9\nb,commit\na,rank,20\nb,begin\na,abort\nb,at,0\n",
-        "a,begin,Begun\na,begin,AlreadyOpen\na,set,KeyColumn\na,rank,Place,1,true\na,abort,Aborted\nb,len,NotOpen\nb,abort,NotOpen\nb,commit,NotOpen\nb,begin,Begun\nb,at,Row,10,Ann,1\n\nid:int:key,name:text,qty:int\n10,Ann,1\n20,Bob,2\n30,Cid,3\n",
-    ),
-    (
-        b"b,begin\na,begin\nb,delete,20\na,abort\n",
-        "b,begin,Begun\nb,delete,Done\na,begin,Begun\na,abort,Aborted\n\nid:int:key,name:text,qty:int\n10,Ann,1\n20,Bob,2\n30,Cid,3\n",
-    ),
-    (
-        b"",
-        "\nid:int:key,name:text,qty:int\n10,Ann,1\n20,Bob,2\n30,Cid,3\n",
-    ),
-];
-
-#[test]
-fn lines_are_grouped_by_client(rt: HostRuntime) -> Result<(), Fail> {
-    for (script, want) in &CASES {
-        let out = written(&rt, rt.alloc(), script, &OpenGate)?;
-        assert_text(&rt, out.as_slice(), want);
-    }
     Ok(())
 }

@@ -1,6 +1,6 @@
-//! Tables of several blocks whose rows stand in no order, and numbers of many digits.
+//! Tables of several blocks whose rows stand in no order.
 use crate::readings::shown::write_cells;
-use inputs::{TableFault, load_table, read_table};
+use inputs::{TableFault, load_table};
 use std::alloc::Global;
 use std::process::Abort;
 use std::test::Fail;
@@ -27,7 +27,7 @@ fn shuffled(alloc: Global) -> Result<String, Fail> {
 fn assert_cells(rt: &impl Abort, alloc: Global, row: &Row, want: &str) -> Result<(), Fail> {
     let mut found = String::new(alloc);
     write_cells(&mut found, row.cells())?;
-    assert_eq!(rt; found.as_str(), want);
+    assert!(rt; found.as_str() == want);
     Ok(())
 }
 
@@ -35,36 +35,12 @@ fn assert_cells(rt: &impl Abort, alloc: Global, row: &Row, want: &str) -> Result
 fn rows_of_several_blocks_are_sorted(rt: HostRuntime) -> Result<(), Fail> {
     let text = shuffled(rt.alloc())?;
     let table = load_table(rt.alloc(), text.as_bytes()).expect(&rt, "in no order");
-    assert_eq!(&rt; table.len(), ROWS);
+    assert!(&rt; table.len() == ROWS);
     for sid in 0..table.len() {
         let row = table.row(rt.alloc(), sid)?;
         let even = sid % 2 == 0;
         let want = format!(in rt.alloc(); "{sid},<name {sid}>,{even}")?;
         assert_cells(&rt, rt.alloc(), &row, want.as_str())?;
-    }
-    Ok(())
-}
-
-const NUMBERS: [(&[u8], &str); 6] = [
-    (b"id:int:key\n999999999999999999\n", "999999999999999999"),
-    (b"id:int:key\n-999999999999999999\n", "-999999999999999999"),
-    (b"id:int:key\n1000000000000000000\n", "1000000000000000000"),
-    (
-        b"id:int:key\n-1000000000000000000\n",
-        "-1000000000000000000",
-    ),
-    (b"id:int:key\n0000000000000000000007\n", "7"),
-    (b"id:int:key\n-0000000000000000000007\n", "-7"),
-];
-
-#[test]
-fn numbers_of_many_digits_are_read(rt: HostRuntime) -> Result<(), Fail> {
-    for (text, want) in NUMBERS {
-        let (_, rows) = read_table(rt.alloc(), text).expect(&rt, want);
-        assert_eq!(&rt; rows.len(), 1);
-        for row in &rows {
-            assert_cells(&rt, rt.alloc(), row, want)?;
-        }
     }
     Ok(())
 }
@@ -75,6 +51,6 @@ fn a_key_of_another_block_is_repeated(rt: HostRuntime) -> Result<(), Fail> {
     text.push_str("7,again,true\n")?;
     let fault = load_table(rt.alloc(), text.as_bytes()).err();
     // The header is record 1, and the rows are those behind it.
-    assert_eq!(&rt; fault, Some(TableFault::RepeatedKey(ROWS + 2)));
+    assert!(&rt; fault == Some(TableFault::RepeatedKey(ROWS + 2)));
     Ok(())
 }
