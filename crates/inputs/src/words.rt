@@ -189,26 +189,19 @@ fn program<'a>(alloc: Global) -> Result<Command<'a>, Error>
     ensures ok { IfOk result (λ command. app_of command ≡ usage) }
     ensures err { IfErr result (λ error. kind_of error ≡ OutOfMemory) }
 {
-    let table = file(alloc, "table", "TABLE", TABLE_HELP);
-    let script = file(alloc, "script", "SCRIPT", SCRIPT_HELP);
-    let threads = flag(alloc, "threads", THREADS_HELP);
-    let store = option(alloc, "store", "DIR", STORE_HELP);
-    let recent = number(alloc, "recent", RECENT_HELP, MAX_RECENT_COMMITS as u64);
-    let limit = number(alloc, "limit", LIMIT_HELP, MAX_ROWS);
-    let conflicts = option(alloc, "conflicts", "RULE", CONFLICTS_HELP);
+    // Each argument is made where it is taken, so that none is kept while another one may be refused.
     let run = Command::new(alloc, "run")
         .about(RUN_ABOUT)
-        .arg(table)?
-        .arg(script)?
-        .arg(threads)?
-        .arg(store)?
-        .arg(recent)?
-        .arg(limit)?
-        .arg(conflicts)?;
-    let dir = file(alloc, "dir", "DIR", DIR_HELP);
+        .arg(file(alloc, "table", "TABLE", TABLE_HELP))?
+        .arg(file(alloc, "script", "SCRIPT", SCRIPT_HELP))?
+        .arg(flag(alloc, "threads", THREADS_HELP))?
+        .arg(option(alloc, "store", "DIR", STORE_HELP))?
+        .arg(number(alloc, "recent", RECENT_HELP, MAX_RECENT_COMMITS as u64))?
+        .arg(number(alloc, "limit", LIMIT_HELP, MAX_ROWS))?
+        .arg(option(alloc, "conflicts", "RULE", CONFLICTS_HELP))?;
     let recover = Command::new(alloc, "recover")
         .about(RECOVER_ABOUT)
-        .arg(dir)?;
+        .arg(file(alloc, "dir", "DIR", DIR_HELP))?;
     Ok(
         Command::new(alloc, "pdt")
             .about(ABOUT)

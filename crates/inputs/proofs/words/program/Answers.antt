@@ -16,30 +16,30 @@ returns-clause-ok c =
     let seven : App = with_rule six (option_rule (codes "conflicts")) in
     let bare = ap app_of_fields c.about.ensures ∙ c.new.ensures.app in
     let with_table : app_of c.in_ok-arg.field-0 ≡ one =
-    c.in_ok-arg.ensures.shape c.file-table.ensures.local ∙ ap₂ with_rule bare c.file-table.ensures.rule in
+    c.in_ok-arg.ensures.shape c.file.ensures.local ∙ ap₂ with_rule bare c.file.ensures.rule in
     let with_script : app_of c.in_ok-arg-2.field-0 ≡ two =
-    c.in_ok-arg-2.ensures.shape c.file-script.ensures.local ∙ ap₂ with_rule with_table c.file-script.ensures.rule in
+    c.in_ok-arg-2.ensures.shape c.file-2.ensures.local ∙ ap₂ with_rule with_table c.file-2.ensures.rule in
     let with_threads : app_of c.in_ok-arg-3.field-0 ≡ three =
-    c.in_ok-arg-3.ensures.shape c.flag-threads.ensures.local ∙ ap₂ with_rule with_script c.flag-threads.ensures.rule in
+    c.in_ok-arg-3.ensures.shape c.flag.ensures.local ∙ ap₂ with_rule with_script c.flag.ensures.rule in
     let with_store : app_of c.in_ok-arg-4.field-0 ≡ four =
-    c.in_ok-arg-4.ensures.shape c.option-store.ensures.local ∙ ap₂ with_rule with_threads c.option-store.ensures.rule in
+    c.in_ok-arg-4.ensures.shape c.option.ensures.local ∙ ap₂ with_rule with_threads c.option.ensures.rule in
     let with_recent : app_of c.in_ok-arg-5.field-0 ≡ five =
-    c.in_ok-arg-5.ensures.shape c.number-recent.ensures.local ∙ ap₂ with_rule with_store c.number-recent.ensures.rule in
+    c.in_ok-arg-5.ensures.shape c.number.ensures.local ∙ ap₂ with_rule with_store c.number.ensures.rule in
     let with_limit : app_of c.in_ok-arg-6.field-0 ≡ six =
-    c.in_ok-arg-6.ensures.shape c.number-limit.ensures.local ∙ ap₂ with_rule with_recent c.number-limit.ensures.rule in
+    c.in_ok-arg-6.ensures.shape c.number-2.ensures.local ∙ ap₂ with_rule with_recent c.number-2.ensures.rule in
     let run_is : app_of c.in_ok-run.run' ≡ seven =
-    c.in_ok-run.ensures.shape c.option-conflicts.ensures.local ∙ ap₂ with_rule with_limit c.option-conflicts.ensures.rule in
-    let one_local = rw (c.about.ensures, c.new.ensures.local, c.file-table.ensures.local) at c.in_ok-arg.ensures.globals in
-    let two_local = rw (one_local, c.file-script.ensures.local) at c.in_ok-arg-2.ensures.globals in
-    let three_local = rw (two_local, c.flag-threads.ensures.local) at c.in_ok-arg-3.ensures.globals in
-    let four_local = rw (three_local, c.option-store.ensures.local) at c.in_ok-arg-4.ensures.globals in
-    let five_local = rw (four_local, c.number-recent.ensures.local) at c.in_ok-arg-5.ensures.globals in
-    let six_local = rw (five_local, c.number-limit.ensures.local) at c.in_ok-arg-6.ensures.globals in
-    let run_local = rw (six_local, c.option-conflicts.ensures.local) at c.in_ok-run.ensures.globals in
+    c.in_ok-run.ensures.shape c.option-2.ensures.local ∙ ap₂ with_rule with_limit c.option-2.ensures.rule in
+    let one_local = rw (c.about.ensures, c.new.ensures.local, c.file.ensures.local) at c.in_ok-arg.ensures.globals in
+    let two_local = rw (one_local, c.file-2.ensures.local) at c.in_ok-arg-2.ensures.globals in
+    let three_local = rw (two_local, c.flag.ensures.local) at c.in_ok-arg-3.ensures.globals in
+    let four_local = rw (three_local, c.option.ensures.local) at c.in_ok-arg-4.ensures.globals in
+    let five_local = rw (four_local, c.number.ensures.local) at c.in_ok-arg-5.ensures.globals in
+    let six_local = rw (five_local, c.number-2.ensures.local) at c.in_ok-arg-6.ensures.globals in
+    let run_local = rw (six_local, c.option-2.ensures.local) at c.in_ok-run.ensures.globals in
     let recover_is : app_of c.in_ok-recover.recover ≡ with_rule (new_app (codes "recover")) (placed_rule (codes "dir")) =
-    c.in_ok-recover.ensures.shape c.file-dir.ensures.local
-    ∙ ap₂ with_rule (ap app_of_fields c.about-2.ensures ∙ c.new-2.ensures.app) c.file-dir.ensures.rule in
-    let recover_local = rw (c.about-2.ensures, c.new-2.ensures.local, c.file-dir.ensures.local) at c.in_ok-recover.ensures.globals in
+    c.in_ok-recover.ensures.shape c.file-3.ensures.local
+    ∙ ap₂ with_rule (ap app_of_fields c.about-2.ensures ∙ c.new-2.ensures.app) c.file-3.ensures.rule in
+    let recover_local = rw (c.about-2.ensures, c.new-2.ensures.local, c.file-3.ensures.local) at c.in_ok-recover.ensures.globals in
     let required = on_top (λ s. record s { subcommand_required = true }) in
     let top_is : app_of c.subcommand_required.result ≡ required (new_app (codes "pdt")) =
     ap app_of_fields c.subcommand_required.ensures ∙ ap required (ap app_of_fields c.about-3.ensures ∙ c.new-3.ensures.app) in
