@@ -9,8 +9,8 @@ mod files;
 use crate::files::{bytes_of, column_path, header_path, make_column, make_header, stored_bytes};
 use devices::{ColumnDevice, MemColumn, Store, StoreFault, have_failed};
 use pdtcli::{
-    OpenOptions, Refusal, Settings, open_texts, read_header, read_words, recover, run_opened,
-    run_opened_on_threads, status_of,
+    OpenOptions, Opened, Refusal, Settings, open_texts, read_header, read_words, recover,
+    run_opened, run_opened_on_threads, status_of,
 };
 use std::alloc::Global;
 use std::process::ExitCode;
@@ -88,19 +88,30 @@ fn done<T: Threads + Wait + Sync>(
     }
 }
 
+/// Opens the table's file, and reads the script's. Their bytes are let go before a call is made.
+fn open_files(
+    rt: &HostRuntime,
+    files: (&str, &str),
+    options: OpenOptions,
+) -> Result<Opened, Refusal>
+    ensures { IfOk result (λ opened. opened.script.schema ≡ opened.manager.schema) }
+{
+    let table = fs::read(rt, files.0);
+    let script = fs::read(rt, files.1);
+    open_texts(rt.alloc(), bytes_of(&table), bytes_of(&script), options)
+}
+
 /// Runs the script's file over the table's, its clients on threads of their own where these may be started, with a store in the
 /// folder, or in memory where none is named.
 fn run<T: Threads + Wait + Sync>(
     rt: &HostRuntime,
     starter: Option<&T>,
-    (table, script): (&str, &str),
+    files: (&str, &str),
     folder: Option<&str>,
     options: OpenOptions,
 ) -> Result<u8, Refusal> {
     let alloc = rt.alloc();
-    let table = fs::read(rt, table);
-    let script = fs::read(rt, script);
-    let opened = open_texts(alloc, bytes_of(&table), bytes_of(&script), options)?;
+    let opened = open_files(rt, files, options)?;
     if let Some(dir) = folder {
         make_header(rt, dir, opened.schema())?;
     }
