@@ -2,9 +2,10 @@
 //! newest table is shown.
 #![tactic(auto)]
 
+use inputs::load_table;
+use manager::Manager;
 use model::CommitReply;
 use model::ConflictRule::ByColumn;
-use pdtcli::{Manager, load_table};
 use values::limits::MAX_ROWS;
 use values::{Key, NoMemory, Value};
 
