@@ -46,7 +46,7 @@ fn repeated(alloc: Global, (head, unit, count, tail): Parts) -> Result<String, N
 /// What a text is made of: a head, a unit and how often it stands, and a tail.
 type Parts = (&'static str, &'static str, u32, &'static str);
 
-const TABLES: [(&str, Parts, TableFault); 4] = [
+static TABLES: [(&str, Parts, TableFault); 4] = [
     (
         "a header of 10,000 cells",
         ("id:int:key", ",a:int", 9_999, "\n"),
@@ -81,7 +81,7 @@ fn tables_take_no_more_than_they_have(rt: HostRuntime) -> Result<(), Fail> {
     Ok(())
 }
 
-const SCRIPTS: [(&str, Parts, Option<ScriptFault>); 5] = [
+static SCRIPTS: [(&str, Parts, Option<ScriptFault>); 5] = [
     (
         "a client of 1 MB",
         ("", "x", 1_000_000, ",begin\n"),
@@ -123,7 +123,7 @@ fn scripts_take_no_more_than_they_have(rt: HostRuntime) -> Result<(), Fail> {
 }
 
 /// Columns of numbers, texts and truths whose header claims a payload of 4 GiB, and of 1,024 values in a byte.
-const COLUMNS: [(&str, &[u8], ColumnType); 6] = [
+static COLUMNS: [(&str, &[u8], ColumnType); 6] = [
     (
         "numbers of 4 GiB",
         &[

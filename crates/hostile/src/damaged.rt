@@ -8,7 +8,7 @@ use std::test::Fail;
 use values::{ColumnType, Schema};
 
 /// One row of the number ten in format 1: a header, a block of generation 1, and a clean end.
-const TEN: [u8; 28] = [
+static TEN: [u8; 28] = [
     0x48, 1, 1, 0x42, 0, 0, 0, 1, 0, 0, 0, 0, 1, 0, 1, 0, 0, 0, 8, 0, 0, 0, 0, 0, 0, 0, 10, 0x45,
 ];
 
@@ -26,7 +26,7 @@ fn generation(alloc: Global, schema: &Schema, bytes: &[u8]) -> Result<u32, ReadF
 }
 
 /// Columns of texts that end after a block's header and some of its payload, with their faults.
-const TEXTS: [(&str, &[u8], ReadFault); 5] = [
+static TEXTS: [(&str, &[u8], ReadFault); 5] = [
     (
         "three texts in no bytes",
         &[

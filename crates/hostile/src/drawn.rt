@@ -34,7 +34,7 @@ const CALLS: u64 = 20;
 const MANY_CALLS: u64 = 250;
 
 /// Replies that have to be met in the runs of a test.
-const REPLIES: [&str; 6] = [
+static REPLIES: [&str; 6] = [
     ",Committed,",
     ",Conflict,",
     ",TooOld,",

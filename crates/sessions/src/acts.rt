@@ -147,13 +147,14 @@ fn cut<O: Opening, S: ImageStore, R: Wait>(
 /// Whether all that reads of it is refused.
 fn reads_nothing<O: Opening>(alloc: Global, session: &Session<O>) -> Result<bool, NoMemory> {
     let ten = key(alloc, 10)?;
+    // No test waits for the one before it, so that the key is let go in one place.
     Ok(
         matches!(session.get(&ten), Err(NotOpen))
-            && matches!(session.row_at(0), Err(NotOpen))
-            && matches!(session.rank(&ten), Err(NotOpen))
-            && matches!(session.scan(0, 9), Err(NotOpen))
-            && matches!(session.len(), Err(NotOpen))
-            && matches!(session.txn(), Err(NotOpen)),
+            & matches!(session.row_at(0), Err(NotOpen))
+            & matches!(session.rank(&ten), Err(NotOpen))
+            & matches!(session.scan(0, 9), Err(NotOpen))
+            & matches!(session.len(), Err(NotOpen))
+            & matches!(session.txn(), Err(NotOpen)),
     )
 }
 
@@ -169,27 +170,56 @@ fn has_entries<O: Opening>(
     }
 }
 
+/// Whether the row of a number is this one.
+fn gets<O: Opening>(
+    alloc: Global,
+    session: &Session<O>,
+    id: i64,
+    due: Option<Item>,
+) -> Result<bool, NoMemory> {
+    let key = key(alloc, id)?;
+    Ok(match session.get(&key) {
+        Ok(found) => is_found(found, due),
+        Err(NotOpen) => false,
+    })
+}
+
+/// Whether so many rows come before a number, and whether it is there.
+fn ranks<O: Opening>(
+    alloc: Global,
+    session: &Session<O>,
+    id: i64,
+    due: (u64, bool),
+) -> Result<bool, NoMemory> {
+    let key = key(alloc, id)?;
+    Ok(session.rank(&key) == Ok(due))
+}
+
 /// Whether it reads so.
 fn is_read<O: Opening>(alloc: Global, session: &Session<O>, act: Act) -> Result<bool, NoMemory> {
-    Ok(match act {
-        Act::Get(id, due) => match session.get(&key(alloc, id)?) {
-            Ok(found) => is_found(found, due),
-            Err(NotOpen) => false,
-        },
+    match act {
+        Act::Get(id, due) => gets(alloc, session, id, due),
+        Act::Rank(id, below, there) => ranks(alloc, session, id, (below, there)),
+        Act::Entries(due) => has_entries(alloc, session, due),
+        Act::NoRead => reads_nothing(alloc, session),
+        act => Ok(is_lent(session, act)),
+    }
+}
+
+/// Whether it reads so, where that takes no memory.
+fn is_lent<O: Opening>(session: &Session<O>, act: Act) -> bool {
+    match act {
         Act::At(rid, due) => match session.row_at(rid) {
             Ok(found) => is_found(found, due),
             Err(NotOpen) => false,
         },
-        Act::Rank(id, below, there) => session.rank(&key(alloc, id)?) == Ok((below, there)),
         Act::Scan(from, to, due) => match session.scan(from, to) {
             Ok(rows) => are_items(rows, due),
             Err(NotOpen) => false,
         },
         Act::Len(count) => session.len() == Ok(count),
-        Act::Entries(due) => has_entries(alloc, session, due)?,
-        Act::NoRead => reads_nothing(alloc, session)?,
         _ => false,
-    })
+    }
 }
 
 /// Whether its transaction begins, writes, reads and ends so.
@@ -280,18 +310,31 @@ pub(crate) fn is_answered<O: Opening, S: ImageStore, R: Wait>(
     client: Client,
     act: Act,
 ) -> Result<bool, Fail> {
-    Ok(match act {
-        Act::Fold => folded(rt, shared) == Ok(()),
-        Act::Checkpoint(generation) => checkpointed(rt, shared)? == generation,
-        Act::NoCheckpoint(fault) => is_refused(rt, shared, fault)?,
-        Act::Cut(count, base) => is_cut(rt, shared, count, base),
-        Act::Told(other) => is_told(sessions, client, other),
-        Act::Leave => has_left(sessions, client),
-        act => match (act, sessions.get_mut(client)) {
-            (_, None) => false,
-            (Act::Commit(reply), Some(session)) => committed(rt, shared, session) == Ok(reply),
-            (Act::NoCommit(fault), Some(session)) => committed(rt, shared, session) == Err(fault),
-            (act, Some(session)) => is_done(alloc, session, act)?,
+    match act {
+        Act::Fold => Ok(folded(rt, shared) == Ok(())),
+        Act::Checkpoint(generation) => Ok(checkpointed(rt, shared)? == generation),
+        Act::NoCheckpoint(fault) => Ok(is_refused(rt, shared, fault)?),
+        Act::Cut(count, base) => Ok(is_cut(rt, shared, count, base)),
+        Act::Told(other) => Ok(is_told(sessions, client, other)),
+        Act::Leave => Ok(has_left(sessions, client)),
+        act => match sessions.get_mut(client) {
+            None => Ok(false),
+            Some(session) => Ok(is_own(rt, alloc, shared, session, act)?),
         },
-    })
+    }
+}
+
+/// Whether the act of a session is answered so.
+fn is_own<O: Opening, S: ImageStore, R: Wait>(
+    rt: &R,
+    alloc: Global,
+    shared: &Shared<O, S>,
+    session: &mut Session<O>,
+    act: Act,
+) -> Result<bool, NoMemory> {
+    match act {
+        Act::Commit(reply) => Ok(committed(rt, shared, session) == Ok(reply)),
+        Act::NoCommit(fault) => Ok(committed(rt, shared, session) == Err(fault)),
+        act => is_done(alloc, session, act),
+    }
 }

@@ -209,14 +209,6 @@ fn play<O: Opening + Send + Sync, S: ImageStore + Send, R: Threads + Wait + Abor
 #[test]
 fn a_thousand_commits_on_eight_threads_are_replayed(rt: HostRuntime) -> Result<(), Fail> {
     let alloc = rt.alloc();
-    let table = base_table(alloc)?;
-    let manager = Manager::open(
-        alloc,
-        table,
-        RECENT as usize,
-        MAX_ROWS,
-        ConflictRule::ByColumn,
-    )?;
     let slots = empty_slots(alloc, 3)?;
     let mut devices: Vec<Box<dyn ColumnDevice + Send>> = Vec::new(alloc);
     for (number, slot) in slots.iter().enumerate() {
@@ -225,6 +217,9 @@ fn a_thousand_commits_on_eight_threads_are_replayed(rt: HostRuntime) -> Result<(
     if have_failed(&devices) {
         return Err(Fail::new("a device has failed before its first append"));
     }
+    let table = base_table(alloc)?;
+    let recent = RECENT as usize;
+    let manager = Manager::open(alloc, table, recent, MAX_ROWS, ConflictRule::ByColumn)?;
     let store = Store::new(alloc, devices, manager.version().schema(), 1)?;
     let fresh = NewOpening::new(&manager, CLIENTS);
     play::<Brand, Store, _>(&rt, alloc, manager, store, fresh)

@@ -214,14 +214,18 @@ fn assert_stored(
 
 /// Plays the scene over a manager of the base table and a new store of its columns.
 fn play<R: Wait + Abort>(rt: &R, alloc: Global, scene: &Scene) -> Result<(), Fail> {
-    let manager = Manager::open(
-        alloc,
-        base_table(alloc)?,
-        scene.recent,
-        scene.limit,
-        ConflictRule::ByColumn,
-    )?;
     let slots = empty_slots(alloc, 3)?;
+    play_over(rt, alloc, scene, &slots)?;
+    assert_stored(rt, alloc, &slots, scene.stored)
+}
+
+/// The same, each device leaving its bytes in a slot.
+fn play_over<R: Wait + Abort>(
+    rt: &R,
+    alloc: Global,
+    scene: &Scene,
+    slots: &[Slot],
+) -> Result<(), Fail> {
     let mut devices: Vec<Box<dyn ColumnDevice + Send>> = Vec::new(alloc);
     for (number, slot) in slots.iter().enumerate() {
         devices.push(Box::new(alloc, device_over(alloc, slot, number, None)?)?)?;
@@ -229,8 +233,10 @@ fn play<R: Wait + Abort>(rt: &R, alloc: Global, scene: &Scene) -> Result<(), Fai
     if have_failed(&devices) {
         return Err(Fail::new("a device has failed before its first append"));
     }
+    let table = base_table(alloc)?;
+    let by_column = ConflictRule::ByColumn;
+    let manager = Manager::open(alloc, table, scene.recent, scene.limit, by_column)?;
     let store = Store::new(alloc, devices, manager.version().schema(), 1)?;
     let fresh = NewOpening::new(&manager, scene.clients);
-    play_in::<Brand, Store, R>(rt, alloc, manager, store, fresh, scene)?;
-    assert_stored(rt, alloc, &slots, scene.stored)
+    play_in::<Brand, Store, R>(rt, alloc, manager, store, fresh, scene)
 }

@@ -142,8 +142,6 @@ fn play<O: Opening + Send + Sync, S: ImageStore + Send, R: Threads + Wait + Abor
 #[test]
 fn sessions_on_two_threads_wait_for_nobody(rt: HostRuntime) -> Result<(), Fail> {
     let alloc = rt.alloc();
-    let table = base_table(alloc)?;
-    let manager = Manager::open(alloc, table, 64, MAX_ROWS, ConflictRule::ByColumn)?;
     let slots = empty_slots(alloc, 3)?;
     let mut devices: Vec<Box<dyn ColumnDevice + Send>> = Vec::new(alloc);
     for (number, slot) in slots.iter().enumerate() {
@@ -152,6 +150,8 @@ fn sessions_on_two_threads_wait_for_nobody(rt: HostRuntime) -> Result<(), Fail> 
     if have_failed(&devices) {
         return Err(Fail::new("a device has failed before its first append"));
     }
+    let table = base_table(alloc)?;
+    let manager = Manager::open(alloc, table, 64, MAX_ROWS, ConflictRule::ByColumn)?;
     let store = Store::new(alloc, devices, manager.version().schema(), 1)?;
     let fresh = NewOpening::new(&manager, 2);
     play::<Brand, Store, _>(&rt, alloc, manager, store, fresh)

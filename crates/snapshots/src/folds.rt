@@ -72,7 +72,7 @@ fn make_tree(
     })
 }
 
-const BASE: [ItemWrite; 3] = [
+static BASE: [ItemWrite; 3] = [
     ItemWrite::Insert(10, "Ann", 1),
     ItemWrite::Insert(20, "Bob", 2),
     ItemWrite::Insert(30, "Cid", 3),
@@ -163,7 +163,7 @@ fn assert_fold(
     assert_entries(rt, alloc, &tree, want, "the entries folded")
 }
 
-const FOLDS: [Fold; 8] = [
+static FOLDS: [Fold; 8] = [
     (
         &[ItemWrite::Delete(20)],
         &[
@@ -267,7 +267,7 @@ fn assert_beside(
 
 #[test]
 fn trees_pass_or_clash(rt: HostRuntime) -> Result<(), Fail> {
-    const CASES: [Beside; 9] = [
+    static CASES: [Beside; 9] = [
         (
             &[ItemWrite::Insert(25, "Dee", 4)],
             &[ItemWrite::Delete(30)],
@@ -334,7 +334,7 @@ fn trees_pass_or_clash(rt: HostRuntime) -> Result<(), Fail> {
 
 #[test]
 fn modifies_of_one_row_clash_by_row(rt: HostRuntime) -> Result<(), Fail> {
-    const CASES: [Beside; 7] = [
+    static CASES: [Beside; 7] = [
         (
             &[ItemWrite::Set(20, 7)],
             &[ItemWrite::Name(20, "Bea")],
@@ -390,7 +390,7 @@ fn modifies_of_one_row_clash_by_row(rt: HostRuntime) -> Result<(), Fail> {
 
 #[test]
 fn serialize_passes_smaller_inserts_alone(rt: HostRuntime) -> Result<(), Fail> {
-    const CASE: Beside = (
+    static CASE: Beside = (
         &[
             ItemWrite::Insert(15, "Flo", 5),
             ItemWrite::Insert(18, "Gus", 8),

@@ -180,7 +180,7 @@ fn assert_rank(
     place: (u64, bool),
 ) -> Result<(), NoMemory> {
     let key = key(alloc, id)?;
-    assert!(rt; layers.rank(&key) == place, "of {id}");
+    assert!(rt; layers.rank(&key) == place);
     Ok(())
 }
 
@@ -201,17 +201,17 @@ fn assert_range(
 fn three_layers(alloc: Global) -> Result<Stack, Fail>
     ensures { IfOk result (λ made. AreStacked made.stable made.read made.write made.trans) }
 {
-    const READ: [ItemWrite; 2] = [ItemWrite::Insert(15, "Flo", 5), ItemWrite::Delete(30)];
-    const WRITE: [ItemWrite; 2] = [ItemWrite::Set(15, 6), ItemWrite::Insert(30, "Zed", 7)];
-    const TRANS: [ItemWrite; 2] = [ItemWrite::Delete(10), ItemWrite::Insert(35, "Gus", 8)];
+    static READ: [ItemWrite; 2] = [ItemWrite::Insert(15, "Flo", 5), ItemWrite::Delete(30)];
+    static WRITE: [ItemWrite; 2] = [ItemWrite::Set(15, 6), ItemWrite::Insert(30, "Zed", 7)];
+    static TRANS: [ItemWrite; 2] = [ItemWrite::Delete(10), ItemWrite::Insert(35, "Gus", 8)];
     let rows = items(alloc, &BASE)?;
     named_stack(alloc, rows.as_slice(), [&READ, &WRITE, &TRANS])
 }
 
 #[test]
 fn three_layers_make_one_image(rt: HostRuntime) -> Result<(), Fail> {
-    const ROWS: [(u64, &str); 4] = [(0, "15,Flo,6"), (1, "20,Bob,2"), (3, "35,Gus,8"), (4, "")];
-    const RANGES: [((u64, u64), &str); 4] = [
+    static ROWS: [(u64, &str); 4] = [(0, "15,Flo,6"), (1, "20,Bob,2"), (3, "35,Gus,8"), (4, "")];
+    static RANGES: [((u64, u64), &str); 4] = [
         ((1, 9), "20,Bob,2 30,Zed,7 35,Gus,8"),
         ((3, 1), ""),
         ((0, u64::MAX), "15,Flo,6 20,Bob,2 30,Zed,7 35,Gus,8"),
@@ -230,7 +230,7 @@ fn three_layers_make_one_image(rt: HostRuntime) -> Result<(), Fail> {
 
 #[test]
 fn keys_have_their_ranks_in_three_layers(rt: HostRuntime) -> Result<(), Fail> {
-    const RANKS: [(i64, (u64, bool)); 4] = [
+    static RANKS: [(i64, (u64, bool)); 4] = [
         (10, (0, false)),
         (16, (1, false)),
         (30, (2, true)),
@@ -290,7 +290,7 @@ fn assert_image(
 
 #[test]
 fn images_at_the_edges(rt: HostRuntime) -> Result<(), Fail> {
-    const CASES: [Case; 4] = [
+    static CASES: [Case; 4] = [
         (
             "inserts into no rows",
             &[],

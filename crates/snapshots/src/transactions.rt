@@ -110,7 +110,7 @@ fn the_first_row_of_an_empty_table_stands_at_place_0(rt: HostRuntime) -> Result<
 
 #[test]
 fn refused_writes_leave_no_entry(rt: HostRuntime) -> Result<(), Fail> {
-    const ANSWERS: [Answer; 3] = [
+    static ANSWERS: [Answer; 3] = [
         Ok(WriteReply::Duplicate),
         Ok(WriteReply::Missing),
         Err(WriteFault::Shape(ShapeFault::KeyColumn)),
@@ -123,7 +123,7 @@ fn refused_writes_leave_no_entry(rt: HostRuntime) -> Result<(), Fail> {
 
 #[test]
 fn a_replaced_row_is_an_insert_and_a_delete(rt: HostRuntime) -> Result<(), Fail> {
-    const ANSWERS: [Answer; 2] = [Ok(WriteReply::Done), Ok(WriteReply::Done)];
+    static ANSWERS: [Answer; 2] = [Ok(WriteReply::Done), Ok(WriteReply::Done)];
     let named = [ItemWrite::Delete(20), ItemWrite::Insert(20, "Bea", 9)];
     assert_over_base(&rt, rt.alloc(), &named, &ANSWERS, "1+20,Bea,9 1-20")
 }
@@ -136,12 +136,12 @@ fn a_cell_set_to_what_it_is_leaves_a_modify(rt: HostRuntime) -> Result<(), Fail>
 
 #[test]
 fn an_insert_changed_and_deleted_leaves_no_entry(rt: HostRuntime) -> Result<(), Fail> {
-    const ANSWERS: [Answer; 3] = [
+    static ANSWERS: [Answer; 3] = [
         Ok(WriteReply::Done),
         Ok(WriteReply::Done),
         Ok(WriteReply::Done),
     ];
-    const NAMED: [ItemWrite; 3] = [
+    static NAMED: [ItemWrite; 3] = [
         ItemWrite::Insert(25, "Dee", 4),
         ItemWrite::Set(25, 5),
         ItemWrite::Delete(25),
@@ -152,7 +152,7 @@ fn an_insert_changed_and_deleted_leaves_no_entry(rt: HostRuntime) -> Result<(), 
 
 #[test]
 fn a_shape_is_refused_before_the_table_is_looked_at(rt: HostRuntime) -> Result<(), Fail> {
-    const ANSWERS: [Answer; 3] = [
+    static ANSWERS: [Answer; 3] = [
         Err(WriteFault::Shape(ShapeFault::KeyColumn)),
         Err(WriteFault::Shape(ShapeFault::WrongCount)),
         Err(WriteFault::Shape(ShapeFault::WrongCount)),
@@ -167,13 +167,13 @@ fn a_shape_is_refused_before_the_table_is_looked_at(rt: HostRuntime) -> Result<(
 
 #[test]
 fn a_key_that_is_there_comes_before_the_row_limit(rt: HostRuntime) -> Result<(), Fail> {
-    const ANSWERS: [Answer; 4] = [
+    static ANSWERS: [Answer; 4] = [
         Ok(WriteReply::Duplicate),
         Ok(WriteReply::Done),
         Ok(WriteReply::Full),
         Ok(WriteReply::Duplicate),
     ];
-    const NAMED: [ItemWrite; 4] = [
+    static NAMED: [ItemWrite; 4] = [
         ItemWrite::Insert(20, "Bob", 2),
         ItemWrite::Insert(40, "Flo", 4),
         ItemWrite::Insert(41, "Gus", 4),
@@ -232,12 +232,12 @@ fn a_version_and_its_copy_are_one_table_and_number(rt: HostRuntime) -> Result<()
 
 /// A transaction that has deleted 10, put 25 in and given 20 another quantity.
 fn changed(rt: &impl Abort, alloc: Global) -> Result<Txn, Fail> {
-    const ANSWERS: [Answer; 3] = [
+    static ANSWERS: [Answer; 3] = [
         Ok(WriteReply::Done),
         Ok(WriteReply::Done),
         Ok(WriteReply::Done),
     ];
-    const NAMED: [ItemWrite; 3] = [
+    static NAMED: [ItemWrite; 3] = [
         ItemWrite::Delete(10),
         ItemWrite::Insert(25, "Dee", 4),
         ItemWrite::Set(20, 7),
@@ -250,15 +250,15 @@ fn changed(rt: &impl Abort, alloc: Global) -> Result<Txn, Fail> {
 
 /// That the keys 10, 20 and 25 have these rows and ranks.
 fn assert_by_key(rt: &impl Abort, alloc: Global, txn: &Txn) -> Result<(), NoMemory> {
-    const KEYS: [(i64, i64, (u64, bool)); 3] = [
+    static KEYS: [(i64, i64, (u64, bool)); 3] = [
         (10, -1, (0, false)),
         (20, 20, (0, true)),
         (25, 25, (1, true)),
     ];
     for (id, row, rank) in &KEYS {
         let key = key(alloc, *id)?;
-        assert!(rt; number_of(txn.get(&key)) == *row, "of {id}");
-        assert!(rt; txn.rank(&key) == *rank, "of {id}");
+        assert!(rt; number_of(txn.get(&key)) == *row);
+        assert!(rt; txn.rank(&key) == *rank);
     }
     Ok(())
 }
@@ -267,7 +267,7 @@ fn assert_by_key(rt: &impl Abort, alloc: Global, txn: &Txn) -> Result<(), NoMemo
 fn assert_by_place(rt: &impl Abort, txn: &Txn) {
     assert!(rt; txn.len() == 3);
     for (rid, row) in &[(0, 20), (2, 30), (3, -1)] {
-        assert!(rt; number_of(txn.row_at(*rid)) == *row, "at {rid}");
+        assert!(rt; number_of(txn.row_at(*rid)) == *row);
     }
     let mut scan = txn.scan(1, 9);
     for row in &[25, 30, -1] {
@@ -310,13 +310,13 @@ fn assert_row(
     assert!(rt; sid < table.len());
     let found = table.row(alloc, sid)?;
     let want = item(alloc, id, name, quantity)?;
-    assert!(rt; found.cells() == want.cells(), "at {sid}");
+    assert!(rt; found.cells() == want.cells());
     Ok(())
 }
 
 #[test]
 fn its_rows_stand_in_stretches_and_make_a_table(rt: HostRuntime) -> Result<(), Fail> {
-    const ROWS: [(u64, Item); 3] = [
+    static ROWS: [(u64, Item); 3] = [
         (0, (20, "Bob", 7)),
         (1, (25, "Dee", 4)),
         (2, (30, "Cid", 3)),

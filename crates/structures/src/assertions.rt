@@ -12,9 +12,9 @@ pub(crate) fn assert_text_at(rt: &impl Abort, found: &str, want: &str, place: u6
     assert_eq!(rt; found, want, "at {place}");
 }
 
-/// That there are so many.
-pub(crate) fn assert_count(rt: &impl Abort, found: u64, want: u64, at: &str) {
-    assert_eq!(rt; found, want, "{at}");
+/// That it holds at a place.
+pub(crate) fn assert_holds_at(rt: &impl Abort, holds: bool, place: u64) {
+    assert!(rt; holds, "at {place}");
 }
 
 /// That it holds.

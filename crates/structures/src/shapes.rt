@@ -107,7 +107,7 @@ fn assert_columns(
     Ok(())
 }
 
-const COLUMN_FAULTS: [ColumnsCase; 15] = [
+static COLUMN_FAULTS: [ColumnsCase; 15] = [
     ("no columns", "", 1, Some(SchemaFault::NoColumns)),
     ("no columns and no key", "", 0, Some(SchemaFault::NoColumns)),
     ("33 columns", TOO_WIDE, 1, Some(SchemaFault::TooManyColumns)),
@@ -170,7 +170,7 @@ fn the_first_fault_of_columns_is_named(rt: HostRuntime) -> Result<(), Fail> {
 
 /// That a schema shows the three columns.
 fn assert_base(rt: &impl Abort, schema: &Schema) {
-    const TYPES: [ColumnType; 3] = [ColumnType::Int, ColumnType::Text, ColumnType::Bool];
+    static TYPES: [ColumnType; 3] = [ColumnType::Int, ColumnType::Text, ColumnType::Bool];
     assert!(rt; schema.width() == 3);
     assert!(rt; schema.key_cols() == 1);
     assert!(rt; schema.types() == TYPES.as_slice());
@@ -195,7 +195,7 @@ type CellsCase = (&'static str, &'static [Given], Result<(), ShapeFault>);
 #[test]
 fn the_first_fault_of_a_row_is_named(rt: HostRuntime) -> Result<(), Fail> {
     use Given::{Longest, Name, Number, TooLong, Truth};
-    const CASES: [CellsCase; 9] = [
+    static CASES: [CellsCase; 9] = [
         ("fits", &[Number, Name, Truth], Ok(())),
         ("4,096 bytes", &[Number, Longest, Truth], Ok(())),
         (
@@ -241,7 +241,7 @@ fn the_first_fault_of_a_row_is_named(rt: HostRuntime) -> Result<(), Fail> {
 #[test]
 fn the_first_fault_of_a_key_is_named(rt: HostRuntime) -> Result<(), Fail> {
     use Given::{Name, Number, Truth};
-    const CASES: [CellsCase; 4] = [
+    static CASES: [CellsCase; 4] = [
         ("fits", &[Number], Ok(())),
         ("none", &[], Err(ShapeFault::WrongCount)),
         (
@@ -261,7 +261,7 @@ fn the_first_fault_of_a_key_is_named(rt: HostRuntime) -> Result<(), Fail> {
 
 #[test]
 fn the_first_fault_of_a_cell_is_named(rt: HostRuntime) -> Result<(), Fail> {
-    const CASES: [(&str, usize, Given, Result<(), ShapeFault>); 8] = [
+    static CASES: [(&str, usize, Given, Result<(), ShapeFault>); 8] = [
         ("a text", 1, Given::Name, Ok(())),
         ("4,096 bytes", 1, Given::Longest, Ok(())),
         (
@@ -300,7 +300,7 @@ fn the_first_fault_of_a_cell_is_named(rt: HostRuntime) -> Result<(), Fail> {
 }
 
 /// Values from the least to the greatest. Bytes put the accent after z, and the character past the first 65,536 last.
-const ASCENDING: [ValueRef<'static>; 15] = [
+static ASCENDING: [ValueRef<'static>; 15] = [
     ValueRef::Int(i64::MIN),
     ValueRef::Int(-10),
     ValueRef::Int(-9),
@@ -327,14 +327,11 @@ fn assert_order(
 ) -> Result<(), NoMemory> {
     let value = lower.copy(alloc)?;
     let other = upper.copy(alloc)?;
-    assert!(rt; lower.cmp(&upper) == i.cmp(&j), "lent, at {i} and {j}");
-    assert!(rt; value.cmp(&other) == i.cmp(&j), "at {i} and {j}");
-    assert!(rt; (value == other) == (i == j), "at {i} and {j}");
-    assert!(rt; (value < other) == (i < j), "at {i} and {j}");
-    assert!(rt;
-        (value.as_ref() == upper) == (i == j),
-        "lent again, at {i} and {j}"
-    );
+    assert!(rt; lower.cmp(&upper) == i.cmp(&j));
+    assert!(rt; value.cmp(&other) == i.cmp(&j));
+    assert!(rt; (value == other) == (i == j));
+    assert!(rt; (value < other) == (i < j));
+    assert!(rt; (value.as_ref() == upper) == (i == j));
     Ok(())
 }
 
@@ -349,7 +346,7 @@ fn values_ascend_by_type_and_then_by_size_bytes_or_truth(rt: HostRuntime) -> Res
 }
 
 /// Keys from the least to the greatest.
-const KEYS: [&[ValueRef<'static>]; 5] = [
+static KEYS: [&[ValueRef<'static>]; 5] = [
     &[],
     &[ValueRef::Int(1)],
     &[ValueRef::Int(1), ValueRef::Text("a")],
@@ -366,8 +363,8 @@ fn assert_key_order(
 ) -> Result<(), NoMemory> {
     let key = Key::new(values_of(alloc, lower)?);
     let other = Key::new(values_of(alloc, upper)?);
-    assert!(rt; key.cmp(&other) == i.cmp(&j), "at {i} and {j}");
-    assert!(rt; (key == other) == (i == j), "at {i} and {j}");
+    assert!(rt; key.cmp(&other) == i.cmp(&j));
+    assert!(rt; (key == other) == (i == j));
     Ok(())
 }
 
@@ -412,7 +409,7 @@ fn a_copied_text_gives_the_string_back(rt: HostRuntime) -> Result<(), Fail> {
 
 #[test]
 fn schema_faults_show_as_their_names_and_numbers(rt: HostRuntime) -> Result<(), Fail> {
-    const CASES: [(SchemaFault, &str); 5] = [
+    static CASES: [(SchemaFault, &str); 5] = [
         (SchemaFault::NoColumns, "NoColumns"),
         (SchemaFault::TooManyColumns, "TooManyColumns"),
         (SchemaFault::BadKeyCount, "BadKeyCount"),
@@ -428,7 +425,7 @@ fn schema_faults_show_as_their_names_and_numbers(rt: HostRuntime) -> Result<(), 
 
 #[test]
 fn shape_faults_show_as_their_names_and_numbers(rt: HostRuntime) -> Result<(), Fail> {
-    const CASES: [(ShapeFault, &str); 5] = [
+    static CASES: [(ShapeFault, &str); 5] = [
         (ShapeFault::WrongCount, "WrongCount"),
         (ShapeFault::WrongType(0), "WrongType 0"),
         (ShapeFault::TextTooLong(7), "TextTooLong 7"),

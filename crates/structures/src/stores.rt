@@ -83,7 +83,7 @@ fn has_items(table: &StableTable, rows: &[Item]) -> bool {
 }
 
 /// The bytes of that table's column: its header, a frame of one row, and a clean end.
-const NAMED: [u8; 29] = [
+static NAMED: [u8; 29] = [
     0x48, 2, 1, 0x42, 0, 0, 0, 1, 0, 0, 0, 0, 1, 0, 1, 0, 0, 0, 9, 0, 0, 0, 0, 0, 0, 0, 0, 10, 0x45,
 ];
 

@@ -8,7 +8,7 @@ mod keys;
 mod kinds;
 mod runs;
 
-use crate::assertions::assert_count;
+use crate::assertions::assert_holds;
 use blocks::Block;
 use fixtures::{key, row_with, schema};
 use stable::{Column, StableTable};
@@ -54,14 +54,14 @@ fn even_table(alloc: Global, count: u16) -> Result<StableTable, Fail> {
 fn assert_edge(rt: &impl Abort, alloc: Global, label: &str, count: u16) -> Result<(), Fail> {
     let table = even_table(alloc, count)?;
     let past = key(alloc, 5_000)?;
-    assert_count(rt, table.len(), u64::from(count), label);
-    assert_count(rt, table.rank(&past), u64::from(count), label);
+    assert_holds(rt, table.len() == u64::from(count), label);
+    assert_holds(rt, table.rank(&past) == u64::from(count), label);
     Ok(())
 }
 
 #[test]
 fn tables_at_the_edges_of_a_block(rt: HostRuntime) -> Result<(), Fail> {
-    const CASES: [(&str, u16); 5] = [
+    static CASES: [(&str, u16); 5] = [
         ("no row", 0),
         ("one row", 1),
         ("a full block", 1_024),
@@ -104,9 +104,9 @@ fn assert_row(
     assert!(rt; sid < table.len());
     let row = table.row(alloc, sid)?;
     let cells = row.cells();
-    assert!(rt; cells.len() == 2, "at {sid}");
-    assert!(rt; cells[0] == Value::Int(id), "at {sid}");
-    assert!(rt; cells[1] == Value::Bool(true), "at {sid}");
+    assert!(rt; cells.len() == 2);
+    assert!(rt; cells[0] == Value::Int(id));
+    assert!(rt; cells[1] == Value::Bool(true));
     Ok(())
 }
 
@@ -153,13 +153,13 @@ fn assert_rank(
     (label, id, rank): (&str, i64, u64),
 ) -> Result<(), NoMemory> {
     let key = key(alloc, id)?;
-    assert_count(rt, table.rank(&key), rank, label);
+    assert_holds(rt, table.rank(&key) == rank, label);
     Ok(())
 }
 
 #[test]
 fn ranks_of_numbers(rt: HostRuntime) -> Result<(), Fail> {
-    const CASES: [(&str, i64, u64); 7] = [
+    static CASES: [(&str, i64, u64); 7] = [
         ("below all", -1, 0),
         ("at the first", 0, 0),
         ("between the first two", 1, 1),

@@ -16,7 +16,7 @@ mod lists;
 mod places;
 mod removals;
 
-use crate::assertions::assert_text;
+use crate::assertions::{assert_holds_at, assert_text};
 use delta::DeltaTree;
 use fixtures::{Step, entries_text, item, key};
 use std::alloc::Global;
@@ -150,7 +150,7 @@ fn changed(
 
 #[test]
 fn each_change_leaves_its_list(rt: HostRuntime) -> Result<(), Fail> {
-    const CASES: [(Step, &str); 9] = [
+    static CASES: [(Step, &str); 9] = [
         (Step::Insert(1, 15, "Flo", 5), "1+15,Flo,5"),
         (Step::Insert(0, 5, "Eve", 4), "0+5,Eve,4 1+15,Flo,5"),
         (
@@ -179,7 +179,7 @@ fn each_change_leaves_its_list(rt: HostRuntime) -> Result<(), Fail> {
 
 #[test]
 fn inserts_stand_by_key_before_a_delete(rt: HostRuntime) -> Result<(), Fail> {
-    const CASES: [(Step, &str); 4] = [
+    static CASES: [(Step, &str); 4] = [
         (Step::Delete(1, 20), "1-20"),
         (Step::Insert(1, 25, "Hal", 6), "1+25,Hal,6 1-20"),
         (Step::Insert(1, 15, "Flo", 5), "1+15,Flo,5 1+25,Hal,6 1-20"),
@@ -194,7 +194,7 @@ fn inserts_stand_by_key_before_a_delete(rt: HostRuntime) -> Result<(), Fail> {
 
 #[test]
 fn modifies_stand_by_column_until_their_row_is_deleted(rt: HostRuntime) -> Result<(), Fail> {
-    const CASES: [(Step, &str); 6] = [
+    static CASES: [(Step, &str); 6] = [
         (Step::Modify(1, 2, ValueRef::Int(7)), "1:2=7"),
         (Step::Modify(1, 1, ValueRef::Text("Bo")), "1:1=Bo 1:2=7"),
         (Step::Insert(1, 15, "Flo", 5), "1+15,Flo,5 1:1=Bo 1:2=7"),
@@ -214,7 +214,7 @@ fn modifies_stand_by_column_until_their_row_is_deleted(rt: HostRuntime) -> Resul
 
 #[test]
 fn an_insert_changed_and_deleted_leaves_no_entry(rt: HostRuntime) -> Result<(), Fail> {
-    const CASES: [(Step, &str); 3] = [
+    static CASES: [(Step, &str); 3] = [
         (Step::Insert(1, 15, "Flo", 5), "1+15,Flo,5"),
         (
             Step::SetInsert(1, 15, 1, ValueRef::Text("Fay")),
@@ -228,7 +228,7 @@ fn an_insert_changed_and_deleted_leaves_no_entry(rt: HostRuntime) -> Result<(), 
 
 #[test]
 fn a_replaced_row_is_an_insert_and_a_delete_at_one_sid(rt: HostRuntime) -> Result<(), Fail> {
-    const CASES: [(Step, &str); 5] = [
+    static CASES: [(Step, &str); 5] = [
         (Step::Modify(1, 2, ValueRef::Int(7)), "1:2=7"),
         (Step::Delete(1, 20), "1-20"),
         (Step::Insert(1, 20, "Bea", 8), "1+20,Bea,8 1-20"),
@@ -261,20 +261,20 @@ fn assert_insert(
 ) -> Result<(), NoMemory> {
     let key = key(alloc, id)?;
     let found = tree.find_insert(sid, key.cells()).is_some();
-    assert!(rt; found == there, "of {id} at {sid}");
+    assert_holds_at(rt, found == there, sid);
     Ok(())
 }
 
 #[test]
 fn a_tree_says_what_is_in_it(rt: HostRuntime) -> Result<(), Fail> {
-    const STEPS: [(Step, &str); 4] = [
+    static STEPS: [(Step, &str); 4] = [
         (Step::Delete(1, 20), "1-20"),
         (Step::Modify(2, 2, ValueRef::Int(7)), "1-20 2:2=7"),
         (Step::Delete(0, 10), "0-10 1-20 2:2=7"),
         (Step::Insert(1, 20, "Bea", 8), "0-10 1+20,Bea,8 1-20 2:2=7"),
     ];
-    const DELETES: [(u64, bool); 4] = [(0, true), (1, true), (2, false), (3, false)];
-    const INSERTS: [(u64, i64, bool); 6] = [
+    static DELETES: [(u64, bool); 4] = [(0, true), (1, true), (2, false), (3, false)];
+    static INSERTS: [(u64, i64, bool); 6] = [
         (1, 20, true),
         (1, 15, false),
         (1, 25, false),
@@ -289,7 +289,7 @@ fn a_tree_says_what_is_in_it(rt: HostRuntime) -> Result<(), Fail> {
     assert!(rt; tree.len() == 4);
     assert!(rt; tree.total() == -1);
     for (sid, deleted) in &DELETES {
-        assert!(rt; tree.has_delete(*sid) == *deleted, "at {sid}");
+        assert_holds_at(&rt, tree.has_delete(*sid) == *deleted, *sid);
     }
     for case in &INSERTS {
         assert_insert(&rt, rt.alloc(), &tree, *case)?;

@@ -39,9 +39,9 @@ pub(crate) const WITHOUT_CUTS: u64 = 40;
 pub(crate) const WITH_CUTS: u64 = 41;
 
 /// There are so many keys, those of the base table among them, that most writes and commits meet.
-const KEYS: [i64; 8] = [5, 10, 12, 15, 20, 25, 30, 35];
+static KEYS: [i64; 8] = [5, 10, 12, 15, 20, 25, 30, 35];
 
-const NAMES: [&str; 4] = ["Ann", "Bob", "", "a longer name"];
+static NAMES: [&str; 4] = ["Ann", "Bob", "", "a longer name"];
 
 /// The word of a call.
 pub(crate) fn verb_of(asked: Asked) -> &'static str {

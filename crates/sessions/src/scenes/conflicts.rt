@@ -10,7 +10,7 @@ use std::test::Fail;
 
 #[test]
 fn a_replaced_row_conflicts_with_a_modify(rt: HostRuntime) -> Result<(), Fail> {
-    const SCENE: Scene = Scene {
+    static SCENE: Scene = Scene {
         steps: &[
             (0, Begin),
             (1, Begin),
@@ -37,7 +37,7 @@ fn a_replaced_row_conflicts_with_a_modify(rt: HostRuntime) -> Result<(), Fail> {
 
 #[test]
 fn modifies_of_two_columns_both_commit(rt: HostRuntime) -> Result<(), Fail> {
-    const SCENE: Scene = Scene {
+    static SCENE: Scene = Scene {
         steps: &[
             (0, Begin),
             (1, Begin),
@@ -59,7 +59,7 @@ fn modifies_of_two_columns_both_commit(rt: HostRuntime) -> Result<(), Fail> {
 
 #[test]
 fn same_value_modifies_conflict(rt: HostRuntime) -> Result<(), Fail> {
-    const SCENE: Scene = Scene {
+    static SCENE: Scene = Scene {
         steps: &[
             (0, Begin),
             (1, Begin),
@@ -80,7 +80,7 @@ fn same_value_modifies_conflict(rt: HostRuntime) -> Result<(), Fail> {
 
 #[test]
 fn only_inserts_of_one_key_conflict(rt: HostRuntime) -> Result<(), Fail> {
-    const SCENE: Scene = Scene {
+    static SCENE: Scene = Scene {
         clients: 3,
         steps: &[
             (0, Begin),
@@ -116,7 +116,7 @@ fn only_inserts_of_one_key_conflict(rt: HostRuntime) -> Result<(), Fail> {
 
 #[test]
 fn a_commit_undone_by_another_still_conflicts(rt: HostRuntime) -> Result<(), Fail> {
-    const SCENE: Scene = Scene {
+    static SCENE: Scene = Scene {
         clients: 3,
         steps: &[
             (0, Begin),
@@ -145,7 +145,7 @@ fn a_commit_undone_by_another_still_conflicts(rt: HostRuntime) -> Result<(), Fai
 
 #[test]
 fn write_skew_commits(rt: HostRuntime) -> Result<(), Fail> {
-    const SCENE: Scene = Scene {
+    static SCENE: Scene = Scene {
         steps: &[
             (0, Begin),
             (1, Begin),
@@ -169,7 +169,7 @@ fn write_skew_commits(rt: HostRuntime) -> Result<(), Fail> {
 
 #[test]
 fn an_old_begin_is_decided_or_too_old(rt: HostRuntime) -> Result<(), Fail> {
-    const SCENE: Scene = Scene {
+    static SCENE: Scene = Scene {
         recent: 2,
         clients: 3,
         steps: &[
@@ -201,7 +201,7 @@ fn an_old_begin_is_decided_or_too_old(rt: HostRuntime) -> Result<(), Fail> {
 
 #[test]
 fn the_row_limit_holds_in_and_across_transactions(rt: HostRuntime) -> Result<(), Fail> {
-    const SCENE: Scene = Scene {
+    static SCENE: Scene = Scene {
         limit: 4,
         steps: &[
             (0, Begin),

@@ -9,7 +9,7 @@ use std::test::Fail;
 
 #[test]
 fn numbers_go_on_after_a_cut(rt: HostRuntime) -> Result<(), Fail> {
-    const SCENE: Scene = Scene {
+    static SCENE: Scene = Scene {
         clients: 4,
         steps: &[
             (0, Begin),
@@ -46,7 +46,7 @@ fn numbers_go_on_after_a_cut(rt: HostRuntime) -> Result<(), Fail> {
 
 #[test]
 fn commits_since_a_cut_are_decided_and_kept(rt: HostRuntime) -> Result<(), Fail> {
-    const SCENE: Scene = Scene {
+    static SCENE: Scene = Scene {
         clients: 3,
         steps: &[
             (0, Begin),

@@ -13,7 +13,7 @@ use std::test::Fail;
 
 #[test]
 fn no_session_begins_after_the_end(rt: HostRuntime) -> Result<(), Fail> {
-    const SCENE: Scene = Scene {
+    static SCENE: Scene = Scene {
         steps: &[
             (0, Begin),
             (0, Write(Delete(20), Done)),
@@ -40,7 +40,7 @@ fn no_session_begins_after_the_end(rt: HostRuntime) -> Result<(), Fail> {
 
 #[test]
 fn an_open_transaction_is_read_after_the_end(rt: HostRuntime) -> Result<(), Fail> {
-    const SCENE: Scene = Scene {
+    static SCENE: Scene = Scene {
         steps: &[
             (1, Begin),
             (0, Begin),
@@ -69,7 +69,7 @@ fn an_open_transaction_is_read_after_the_end(rt: HostRuntime) -> Result<(), Fail
 
 #[test]
 fn a_dropped_session_aborts_and_its_count_is_lost(rt: HostRuntime) -> Result<(), Fail> {
-    const SCENE: Scene = Scene {
+    static SCENE: Scene = Scene {
         steps: &[
             (1, Begin),
             (1, Write(Set(10, 7), Done)),
@@ -95,7 +95,7 @@ fn a_dropped_session_aborts_and_its_count_is_lost(rt: HostRuntime) -> Result<(),
 
 #[test]
 fn replies_are_counted_by_session(rt: HostRuntime) -> Result<(), Fail> {
-    const SCENE: Scene = Scene {
+    static SCENE: Scene = Scene {
         clients: 3,
         steps: &[
             (0, Begin),

@@ -10,7 +10,7 @@ use std::test::Fail;
 
 #[test]
 fn fold_and_checkpoint_spare_an_open_transaction(rt: HostRuntime) -> Result<(), Fail> {
-    const SCENE: Scene = Scene {
+    static SCENE: Scene = Scene {
         steps: &[
             (0, Begin),
             (0, Fold),
@@ -44,7 +44,7 @@ const CHANGED: [Item; 3] = [(10, "Ann", 1), (25, "Dee", 4), (30, "Cid", 3)];
 
 #[test]
 fn the_table_stays_when_its_layers_are_folded_and_stored(rt: HostRuntime) -> Result<(), Fail> {
-    const SCENE: Scene = Scene {
+    static SCENE: Scene = Scene {
         steps: &[
             (0, Begin),
             (0, Write(Insert(25, "Dee", 4), Done)),

@@ -16,7 +16,7 @@ use std::test::Fail;
 use values::limits::MAX_ROWS;
 
 /// The headers of the base table's columns, each with a clean end.
-const ENDED: [[u8; 4]; 3] = [[0x48, 2, 1, 0x45], [0x48, 2, 2, 0x45], [0x48, 2, 1, 0x45]];
+static ENDED: [[u8; 4]; 3] = [[0x48, 2, 1, 0x45], [0x48, 2, 2, 0x45], [0x48, 2, 1, 0x45]];
 
 /// Whether these are the sessions of the clients from 0 on.
 fn are_in_order<O: Opening>(sessions: &[Session<O>]) -> bool {
@@ -63,9 +63,19 @@ fn opened<R: Wait + Abort>(
     alloc: Global,
     clients: u32,
 ) -> Result<Result<usize, ShareFault>, Fail> {
-    let table = base_table(alloc)?;
-    let manager = Manager::open(alloc, table, 64, MAX_ROWS, ConflictRule::ByColumn)?;
     let slots = empty_slots(alloc, 3)?;
+    let answer = opened_over(rt, alloc, clients, &slots)?;
+    assert_holds(rt, have_ended(&slots), "columns");
+    Ok(answer)
+}
+
+/// The same, each device leaving its bytes in a slot.
+fn opened_over<R: Wait + Abort>(
+    rt: &R,
+    alloc: Global,
+    clients: u32,
+    slots: &[Slot],
+) -> Result<Result<usize, ShareFault>, Fail> {
     let mut devices: Vec<Box<dyn ColumnDevice + Send>> = Vec::new(alloc);
     for (number, slot) in slots.iter().enumerate() {
         devices.push(Box::new(alloc, device_over(alloc, slot, number, None)?)?)?;
@@ -73,16 +83,16 @@ fn opened<R: Wait + Abort>(
     if have_failed(&devices) {
         return Err(Fail::new("a device has failed before its first append"));
     }
+    let table = base_table(alloc)?;
+    let manager = Manager::open(alloc, table, 64, MAX_ROWS, ConflictRule::ByColumn)?;
     let store = Store::new(alloc, devices, manager.version().schema(), 1)?;
     let fresh = NewOpening::new(&manager, clients);
-    let answer = opened_in::<Brand, Store, R>(rt, alloc, manager, store, clients, fresh);
-    assert_holds(rt, have_ended(&slots), "columns");
-    Ok(answer)
+    Ok(opened_in::<Brand, Store, R>(rt, alloc, manager, store, clients, fresh))
 }
 
 #[test]
 fn there_are_one_to_sixty_four_sessions(rt: HostRuntime) -> Result<(), Fail> {
-    const CASES: [(u32, Result<usize, ShareFault>); 5] = [
+    static CASES: [(u32, Result<usize, ShareFault>); 5] = [
         (0, Err(ShareFault::BadLimit)),
         (1, Ok(1)),
         (3, Ok(3)),

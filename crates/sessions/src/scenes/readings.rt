@@ -14,7 +14,7 @@ use std::test::Fail;
 
 #[test]
 fn reads_and_refusals_of_one_session(rt: HostRuntime) -> Result<(), Fail> {
-    const SCENE: Scene = Scene {
+    static SCENE: Scene = Scene {
         clients: 1,
         steps: &[
             (0, NoRead),
@@ -37,7 +37,7 @@ fn reads_and_refusals_of_one_session(rt: HostRuntime) -> Result<(), Fail> {
 
 #[test]
 fn a_session_with_no_transaction_changes_nothing(rt: HostRuntime) -> Result<(), Fail> {
-    const SCENE: Scene = Scene {
+    static SCENE: Scene = Scene {
         clients: 1,
         steps: &[
             (0, NoWrite(Insert(25, "Dee", 4), SessionFault::NotOpen)),
@@ -64,7 +64,7 @@ const CHANGED: [Item; 3] = [(20, "Bea", 2), (25, "Dee", 5), (30, "Cid", 3)];
 
 #[test]
 fn a_session_reads_its_own_writes_and_no_others(rt: HostRuntime) -> Result<(), Fail> {
-    const SCENE: Scene = Scene {
+    static SCENE: Scene = Scene {
         steps: &[
             (0, Begin),
             (1, Begin),
@@ -109,7 +109,7 @@ fn a_session_reads_its_own_writes_and_no_others(rt: HostRuntime) -> Result<(), F
 
 #[test]
 fn an_aborted_transaction_leaves_no_record(rt: HostRuntime) -> Result<(), Fail> {
-    const SCENE: Scene = Scene {
+    static SCENE: Scene = Scene {
         clients: 1,
         steps: &[
             (0, Begin),

@@ -76,7 +76,7 @@ const SHIFTED: Scene = Scene {
 
 #[test]
 fn a_session_goes_on_after_a_refused_commit(rt: HostRuntime) -> Result<(), Fail> {
-    const SCENES: [Scene; 2] = [
+    static SCENES: [Scene; 2] = [
         Scene {
             last: Some(Last {
                 client: 0,
@@ -131,7 +131,7 @@ fn a_session_goes_on_after_a_refused_commit(rt: HostRuntime) -> Result<(), Fail>
 
 #[test]
 fn a_session_aborts_after_a_refused_commit(rt: HostRuntime) -> Result<(), Fail> {
-    const SCENES: [Scene; 2] = [
+    static SCENES: [Scene; 2] = [
         Scene {
             last: Some(Last {
                 client: 0,
@@ -178,7 +178,7 @@ fn a_session_aborts_after_a_refused_commit(rt: HostRuntime) -> Result<(), Fail> 
 
 #[test]
 fn every_call_succeeds_when_it_is_made_again(rt: HostRuntime) -> Result<(), Fail> {
-    const SCENE: Scene = Scene {
+    static SCENE: Scene = Scene {
         steps: &[
             (1, Begin),
             (1, Write(Insert(25, "Dee", 4), Done)),

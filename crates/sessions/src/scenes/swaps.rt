@@ -38,7 +38,7 @@ const FOUR: [Item; 4] = [
 ];
 
 /// The second device fails in the second image.
-const FAILED: Swap = Swap {
+static FAILED: Swap = Swap {
     failing: Some(Failure {
         device: 1,
         turn: 3,
@@ -57,7 +57,7 @@ const FAILED: Swap = Swap {
 };
 
 /// The store that is offered is of other columns.
-const REFUSED: Swap = Swap {
+static REFUSED: Swap = Swap {
     failing: None,
     before: &[(0, Act::Checkpoint(1))],
     is_taken: false,
@@ -114,8 +114,6 @@ fn play<R: Wait + Abort>(
     columns: &Schema,
     swap: &Swap,
 ) -> Result<(), Fail> {
-    let table = base_table(alloc)?;
-    let manager = Manager::open(alloc, table, 64, MAX_ROWS, ConflictRule::ByColumn)?;
     let mut devices: Vec<Box<dyn ColumnDevice + Send>> = Vec::new(alloc);
     for (number, slot) in slots.iter().enumerate() {
         devices.push(Box::new(alloc, device_over(alloc, slot, number, swap.failing)?)?)?;
@@ -127,8 +125,10 @@ fn play<R: Wait + Abort>(
     if have_failed(&devices) || have_failed(&second) {
         return Err(Fail::new("a device has failed before its first append"));
     }
-    let store = Store::new(alloc, devices, manager.version().schema(), 1)?;
     let other = Store::new(alloc, second, columns, 1)?;
+    let table = base_table(alloc)?;
+    let manager = Manager::open(alloc, table, 64, MAX_ROWS, ConflictRule::ByColumn)?;
+    let store = Store::new(alloc, devices, manager.version().schema(), 1)?;
     let fresh = NewOpening::new(&manager, 1);
     swap_in::<Brand, Store, R>(rt, alloc, manager, store, other, fresh, swap)
 }

@@ -9,7 +9,7 @@ use std::test::Fail;
 
 #[test]
 fn a_told_session_sees_the_commit(rt: HostRuntime) -> Result<(), Fail> {
-    const SCENE: Scene = Scene {
+    static SCENE: Scene = Scene {
         steps: &[
             (1, NoTell),
             (1, Begin),
@@ -38,7 +38,7 @@ fn a_told_session_sees_the_commit(rt: HostRuntime) -> Result<(), Fail> {
 
 #[test]
 fn each_reply_is_told_once(rt: HostRuntime) -> Result<(), Fail> {
-    const SCENE: Scene = Scene {
+    static SCENE: Scene = Scene {
         steps: &[
             (0, Begin),
             (1, Begin),

@@ -100,16 +100,13 @@ fn drawn_stack(alloc: Global) -> Result<Stack, Fail>
 
 #[test]
 fn a_thousand_rows_are_as_the_plain_program_merges_them(rt: HostRuntime) -> Result<(), Fail> {
-    const RANGES: [(u64, u64); 5] = [(0, 2_000), (1, 999), (500, 501), (333, 777), (998, 1_400)];
+    static RANGES: [(u64, u64); 5] = [(0, 2_000), (1, 999), (500, 501), (333, 777), (998, 1_400)];
     let stack = drawn_stack(rt.alloc())?;
     let rows = stack.rows.as_slice();
     let layers = Layers::new(&stack.stable, &stack.read, &stack.write, &stack.trans);
     assert!(rt; has_places(rt.alloc(), &layers, rows)?);
     for (from, to) in &RANGES {
-        assert!(rt;
-            agrees(rt.alloc(), &layers, rows, *from, *to)?,
-            "from {from} to {to}"
-        );
+        assert!(rt; agrees(rt.alloc(), &layers, rows, *from, *to)?);
     }
     assert!(rt; layers.len() <= 2_000);
     let table = layers.to_table(rt.alloc())?;

@@ -11,7 +11,7 @@ use std::sync::Arc;
 use std::test::Fail;
 use values::{NoMemory, Value};
 
-const SIZES: [u16; 4] = [0, 1, 257, 10_000];
+static SIZES: [u16; 4] = [0, 1, 257, 10_000];
 
 /// The SID of an insert, and its number.
 type Spot = (u64, i64);
@@ -120,14 +120,8 @@ fn trees_of_each_size_fold_and_pass(rt: HostRuntime) -> Result<(), Fail> {
     let stable = Arc::new(alloc, table_of(alloc, Vec::new(alloc))?)?;
     for count in &SIZES {
         for other in &SIZES {
-            assert!(rt;
-                takes_in(alloc, &stable, *count, *other)?,
-                "{count} takes in {other}"
-            );
-            assert!(rt;
-                passes(alloc, &stable, *count, *other)?,
-                "{count} passes {other}"
-            );
+            assert!(rt; takes_in(alloc, &stable, *count, *other)?);
+            assert!(rt; passes(alloc, &stable, *count, *other)?);
         }
     }
     Ok(())

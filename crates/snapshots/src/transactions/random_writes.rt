@@ -150,7 +150,7 @@ fn first_difference(
 fn assert_entries(rt: &impl Abort, tree: &DeltaTree, entries: &[Entry]) {
     assert!(rt; tree.len() == entries.len());
     for (place, (found, want)) in tree.iter().zip(entries.iter()).enumerate() {
-        assert!(rt; is_same(found, want), "at entry {place}");
+        assert!(rt; is_same(found, want));
     }
 }
 

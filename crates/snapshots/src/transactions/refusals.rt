@@ -5,6 +5,7 @@
 //! test ends well; where it is one of what the test makes for itself, the test ends with that error. What a transaction
 //! shows is compared cell by cell and takes no memory.
 use super::{answer, opened};
+use crate::assertions::assert_holds;
 use fixtures::{Item, base_table, item, key};
 use model::{Change, Write};
 use std::alloc::Global;
@@ -43,7 +44,7 @@ const DOT: Item = (25, "Dot", 4);
 const NEW_NAME: ValueRef<'static> = ValueRef::Text("Ben");
 
 /// The replies of the writes here, in turn.
-const REPLIES: [WriteReply; 8] = [
+static REPLIES: [WriteReply; 8] = [
     WriteReply::Done,
     WriteReply::Duplicate,
     WriteReply::Done,
@@ -69,7 +70,7 @@ const CHANGED: (u64, Kind) = (2, Kind::Inserts(DOT));
 const LAST: (u64, Kind) = (2, Kind::Deletes(30));
 
 /// What is shown before the first of these writes, and after each.
-const STATES: [Shown; 9] = [
+static STATES: [Shown; 9] = [
     Shown {
         entries: &[],
         rows: &[ANN, BOB, CID],
@@ -109,7 +110,7 @@ const STATES: [Shown; 9] = [
 ];
 
 /// The keys that a test asks for: those of all rows that are ever there, and one that never is.
-const IDS: [i64; 5] = [10, 20, 25, 30, 99];
+static IDS: [i64; 5] = [10, 20, 25, 30, 99];
 
 fn is_row(view: &RowView<'_>, row: Item) -> bool {
     view.width() == 3
@@ -198,19 +199,21 @@ fn make(
 ) {
     let reply = match answer(txn, write) {
         Err(WriteFault::NoMemory) => {
-            assert!(rt;
+            assert_holds(
+                rt,
                 is_shown(txn, keys, count, before),
-                "write {count} is refused"
+                "a write that is refused",
             );
             answer(txn, again)
         }
         answered => answered,
     };
     let is_due = matches!((reply, REPLIES.get(count)), (Ok(found), Some(due)) if found == *due);
-    assert!(rt; is_due, "the reply to write {count}");
-    assert!(rt;
+    assert_holds(rt, is_due, "the reply to a write");
+    assert_holds(
+        rt,
         is_shown(txn, keys, count.wrapping_add(1), after),
-        "after write {count}"
+        "after a write",
     );
 }
 

@@ -135,25 +135,25 @@ fn assert_key(
 ) -> Result<(), NoMemory> {
     let key = key(alloc, id)?;
     let text = row_text(alloc, txn.get(&key))?;
-    assert!(rt; txn.rank(&key) == rank, "of {id}");
+    assert!(rt; txn.rank(&key) == rank);
     assert_text(rt, text.as_str(), want, "a row by its key");
     Ok(())
 }
 
 fn assert_reads(rt: &impl Abort, alloc: Global, txn: &Txn) -> Result<(), NoMemory> {
-    const PLACES: [(u64, &str); 5] = [
+    static PLACES: [(u64, &str); 5] = [
         (0, "15,Flo,6"),
         (1, "20,Bob,2"),
         (2, "30,Zed,7"),
         (3, "35,Gus,8"),
         (4, ""),
     ];
-    const RANGES: [((u64, u64), &str); 3] = [
+    static RANGES: [((u64, u64), &str); 3] = [
         ((1, 9), "20,Bob,2 30,Zed,7 35,Gus,8"),
         ((3, 1), ""),
         ((0, 4), "15,Flo,6 20,Bob,2 30,Zed,7 35,Gus,8"),
     ];
-    const KEYS: [(i64, (u64, bool), &str); 5] = [
+    static KEYS: [(i64, (u64, bool), &str); 5] = [
         (10, (0, false), ""),
         (15, (0, true), "15,Flo,6"),
         (16, (1, false), ""),
@@ -188,9 +188,9 @@ fn assert_tree(
 
 #[test]
 fn reads_are_of_all_layers(rt: HostRuntime) -> Result<(), Fail> {
-    const READ: [ItemWrite; 2] = [ItemWrite::Insert(15, "Flo", 5), ItemWrite::Delete(30)];
-    const WRITE: [ItemWrite; 2] = [ItemWrite::Set(15, 6), ItemWrite::Insert(30, "Zed", 7)];
-    const TRANS: [ItemWrite; 2] = [ItemWrite::Delete(10), ItemWrite::Insert(35, "Gus", 8)];
+    static READ: [ItemWrite; 2] = [ItemWrite::Insert(15, "Flo", 5), ItemWrite::Delete(30)];
+    static WRITE: [ItemWrite; 2] = [ItemWrite::Set(15, 6), ItemWrite::Insert(30, "Zed", 7)];
+    static TRANS: [ItemWrite; 2] = [ItemWrite::Delete(10), ItemWrite::Insert(35, "Gus", 8)];
     let alloc = rt.alloc();
     let lower = make_lower(alloc, &BASE, [&READ, &WRITE])?;
     let txn = over(&rt, alloc, &lower, &TRANS)?;
@@ -254,7 +254,7 @@ fn assert_layers(
 
 #[test]
 fn images_at_the_edges(rt: HostRuntime) -> Result<(), Fail> {
-    const CASES: [Case; 3] = [
+    static CASES: [Case; 3] = [
         (
             "inserts into no rows",
             &[],

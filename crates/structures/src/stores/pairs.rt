@@ -107,7 +107,7 @@ fn assert_pair(
 
 #[test]
 fn an_image_is_whole_in_every_column(rt: HostRuntime) -> Result<(), Fail> {
-    const CASES: [Pair; 6] = [
+    static CASES: [Pair; 6] = [
         (
             "equal keys",
             &[INTS, SEVENS, END],

@@ -17,7 +17,7 @@ use std::test::Fail;
 use values::{NoMemory, Schema};
 
 /// What the devices are handed in turn, each at its column: the headers, the base table, and a table of one row more.
-const PIECES: [[&[u8]; 3]; 3] = [
+static PIECES: [[&[u8]; 3]; 3] = [
     [
         &[0x48, 2, 1],
         b"\x42\0\0\0\x01\0\0\0\0\x01\0\x03\0\0\0\x19\0\0\0\0\0\0\0\0\x0a\0\0\0\0\0\0\0\x14\0\0\0\0\0\0\0\x1e",

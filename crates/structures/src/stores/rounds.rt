@@ -1,6 +1,9 @@
 //! Stores of the base table one of whose devices fails: each device, each of its appends up to the third, and each number of
 //! bytes that this one still takes.
 
+ghost use Rattle.std.specs.Prelude.{◌≡◌};
+ghost use Rattle.fixtures.specs.Named.{base_columns};
+
 use crate::assertions::assert_holds;
 use devices::{ColumnDevice, ReadFault, Store, StoreFault, have_failed, read_store};
 use fixtures::{
@@ -12,7 +15,7 @@ use std::process::Abort;
 use std::test::Fail;
 
 /// The base table's rows and one more.
-pub(super) const MORE: [Item; 4] = [
+pub(super) static MORE: [Item; 4] = [
     (5, "Eve", 0),
     (10, "Ann", 1),
     (20, "Bob", 2),
@@ -20,7 +23,7 @@ pub(super) const MORE: [Item; 4] = [
 ];
 
 /// The length of each device's piece: its header, its column of the base table, and its column of one row more.
-const SIZES: [[usize; 3]; 3] = [[3, 3, 3], [41, 32, 41], [49, 37, 49]];
+static SIZES: [[usize; 3]; 3] = [[3, 3, 3], [41, 32, 41], [49, 37, 49]];
 
 /// What a store answers to the base table and twice to one row more, or why it wasn't made.
 pub(super) type Answers = Result<[Result<u32, StoreFault>; 3], StoreFault>;
@@ -34,8 +37,6 @@ pub(super) fn answers(
     slots: &[Slot],
     failing: Option<Failure>,
 ) -> Result<Answers, Fail> {
-    let base = base_table(alloc)?;
-    let more = item_table(alloc, &MORE)?;
     let mut devices: Vec<Box<dyn ColumnDevice + Send>> = Vec::new(alloc);
     for (number, slot) in slots.iter().enumerate() {
         devices.push(Box::new(alloc, device_over(alloc, slot, number, failing)?)?)?;
@@ -43,14 +44,22 @@ pub(super) fn answers(
     if have_failed(&devices) {
         return Err(Fail::new("a device has failed before its first append"));
     }
-    match Store::new(alloc, devices, base.schema(), 1) {
-        Ok(mut store) => {
-            let first = store.append_image(&base);
-            let second = store.append_image(&more);
-            Ok(Ok([first, second, store.append_image(&more)]))
-        }
+    match Store::new(alloc, devices, &item_columns(alloc)?, 1) {
+        Ok(store) => appended(alloc, store),
         Err(fault) => Ok(Err(fault)),
     }
+}
+
+/// What the store answers.
+fn appended(alloc: Global, store: Store) -> Result<Answers, Fail>
+    requires { store.schema ≡ base_columns }
+{
+    let mut store = store;
+    let base = base_table(alloc)?;
+    let more = item_table(alloc, &MORE)?;
+    let first = store.append_image(&base);
+    let second = store.append_image(&more);
+    Ok(Ok([first, second, store.append_image(&more)]))
 }
 
 /// What the columns store.
@@ -114,7 +123,7 @@ fn every_device_fails_at_every_byte(rt: HostRuntime) -> Result<(), Fail> {
 /// What a store leaves: the append that fails, the lengths of its columns, how each of them ends, and what they store.
 type Worked = (Option<Failure>, [usize; 3], [&'static [u8]; 3], Stored);
 
-const WORKED: [Worked; 6] = [
+static WORKED: [Worked; 6] = [
     (
         None,
         [143, 110, 143],

@@ -21,7 +21,7 @@ type Case = (
     Result<u32, ReadFault>,
 );
 
-const CASES: [Case; 12] = [
+static CASES: [Case; 12] = [
     ("as it is", &[], &[], Ok(1)),
     (
         "version 2",

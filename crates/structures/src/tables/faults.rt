@@ -32,7 +32,7 @@ fn built(alloc: Global, cases: &[(i64, bool)]) -> Result<String, Fail> {
 
 #[test]
 fn rows_that_make_no_table_are_refused(rt: HostRuntime) -> Result<(), Fail> {
-    const CASES: [(&str, [(i64, bool); 3], &str); 6] = [
+    static CASES: [(&str, [(i64, bool); 3], &str); 6] = [
         ("ascending", [(1, true), (2, true), (3, true)], "Ok"),
         (
             "equal keys",

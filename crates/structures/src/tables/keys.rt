@@ -1,4 +1,5 @@
 //! The rank of keys of one text, of one truth, of a text and a truth, of three columns and of four.
+use crate::assertions::assert_holds;
 use ValueRef::{Bool, Int, Text};
 use fixtures::{key_with, row_with, schema};
 use stable::StableTable;
@@ -40,8 +41,8 @@ fn assert_ranks(
 ) -> Result<(), NoMemory> {
     for (label, cells, rank, there) in cases {
         let key = key_with(alloc, *cells)?;
-        assert!(rt; table.rank(&key) == *rank, "{label}");
-        assert!(rt; table.locate(key.cells()) == (*rank, *there), "{label}");
+        assert_holds(rt, table.rank(&key) == *rank, label);
+        assert_holds(rt, table.locate(key.cells()) == (*rank, *there), label);
     }
     Ok(())
 }
@@ -61,8 +62,8 @@ fn ranks(
 
 #[test]
 fn ranks_of_texts(rt: HostRuntime) -> Result<(), Fail> {
-    const ROWS: [Cells; 4] = [&[Text("")], &[Text("Ann")], &[Text("Bob")], &[Text("Zoë")]];
-    const CASES: [Case; 6] = [
+    static ROWS: [Cells; 4] = [&[Text("")], &[Text("Ann")], &[Text("Bob")], &[Text("Zoë")]];
+    static CASES: [Case; 6] = [
         ("no character", &[Text("")], 0, true),
         ("A", &[Text("A")], 1, false),
         ("Ann", &[Text("Ann")], 1, true),
@@ -75,8 +76,8 @@ fn ranks_of_texts(rt: HostRuntime) -> Result<(), Fail> {
 
 #[test]
 fn ranks_of_truths(rt: HostRuntime) -> Result<(), Fail> {
-    const ROWS: [Cells; 1] = [&[Bool(true)]];
-    const CASES: [Case; 2] = [
+    static ROWS: [Cells; 1] = [&[Bool(true)]];
+    static CASES: [Case; 2] = [
         ("false", &[Bool(false)], 0, false),
         ("true", &[Bool(true)], 0, true),
     ];
@@ -85,13 +86,13 @@ fn ranks_of_truths(rt: HostRuntime) -> Result<(), Fail> {
 
 #[test]
 fn ranks_of_pairs(rt: HostRuntime) -> Result<(), Fail> {
-    const TYPES: [ColumnType; 2] = [ColumnType::Text, ColumnType::Bool];
-    const ROWS: [Cells; 3] = [
+    static TYPES: [ColumnType; 2] = [ColumnType::Text, ColumnType::Bool];
+    static ROWS: [Cells; 3] = [
         &[Text("a"), Bool(false)],
         &[Text("a"), Bool(true)],
         &[Text("b"), Bool(true)],
     ];
-    const CASES: [Case; 6] = [
+    static CASES: [Case; 6] = [
         ("below all", &[Text(""), Bool(true)], 0, false),
         ("at the first", &[Text("a"), Bool(false)], 0, true),
         ("at the second", &[Text("a"), Bool(true)], 1, true),
@@ -109,13 +110,13 @@ fn ranks_of_pairs(rt: HostRuntime) -> Result<(), Fail> {
 
 #[test]
 fn ranks_of_three_cells(rt: HostRuntime) -> Result<(), Fail> {
-    const TYPES: [ColumnType; 3] = [ColumnType::Int, ColumnType::Text, ColumnType::Bool];
-    const ROWS: [Cells; 3] = [
+    static TYPES: [ColumnType; 3] = [ColumnType::Int, ColumnType::Text, ColumnType::Bool];
+    static ROWS: [Cells; 3] = [
         &[Int(1), Text("a"), Bool(true)],
         &[Int(1), Text("b"), Bool(false)],
         &[Int(2), Text("a"), Bool(false)],
     ];
-    const CASES: [Case; 5] = [
+    static CASES: [Case; 5] = [
         ("below all", &[Int(0), Text("z"), Bool(true)], 0, false),
         (
             "below by the truth",
@@ -137,18 +138,18 @@ fn ranks_of_three_cells(rt: HostRuntime) -> Result<(), Fail> {
 
 #[test]
 fn ranks_of_four_cells(rt: HostRuntime) -> Result<(), Fail> {
-    const TYPES: [ColumnType; 4] = [
+    static TYPES: [ColumnType; 4] = [
         ColumnType::Int,
         ColumnType::Text,
         ColumnType::Bool,
         ColumnType::Int,
     ];
-    const ROWS: [Cells; 3] = [
+    static ROWS: [Cells; 3] = [
         &[Int(1), Text("a"), Bool(false), Int(5)],
         &[Int(1), Text("a"), Bool(true), Int(-5)],
         &[Int(1), Text("a"), Bool(true), Int(0)],
     ];
-    const CASES: [Case; 6] = [
+    static CASES: [Case; 6] = [
         (
             "below all by the last cell",
             &[Int(1), Text("a"), Bool(false), Int(4)],

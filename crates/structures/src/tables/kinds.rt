@@ -1,6 +1,7 @@
 //! Columns that are filled value by value, and by a block, and what becomes of them as a table.
 
 use super::number;
+use crate::assertions::assert_text;
 use blocks::Block;
 use stable::{Column, StableTable};
 use std::alloc::Global;
@@ -60,7 +61,7 @@ fn columns_that_ascend_are_a_table(rt: HostRuntime) -> Result<(), Fail> {
     ];
     for (label, first, second, becomes) in cases {
         let found = of_two(rt.alloc(), first, second)?;
-        assert_eq!(&rt; found.as_str(), becomes, "at {label}");
+        assert_text(&rt, found.as_str(), becomes, label);
     }
     Ok(())
 }

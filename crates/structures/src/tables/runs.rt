@@ -16,9 +16,9 @@ type Run = (usize, usize);
 const COUNT: u16 = 2_500;
 
 /// Texts of several lengths, one of them empty, and one with a character of two bytes.
-const NAMES: [&str; 4] = ["Ann", "", "Zoë", "a longer text than the others"];
+static NAMES: [&str; 4] = ["Ann", "", "Zoë", "a longer text than the others"];
 
-const RUNS: [(&str, &[Run]); 5] = [
+static RUNS: [(&str, &[Run]); 5] = [
     ("nothing", &[(0, 0), (2_500, 0)]),
     ("all at once", &[(0, 2_500)]),
     ("whole blocks", &[(0, 1_024), (1_024, 1_024)]),

@@ -15,45 +15,71 @@ pub(super) fn entry(alloc: Global, key: u32) -> Result<Entry, AllocError> {
     })
 }
 
-fn depths(rt: &(impl Abort + AllocGlobal), count: u32, depth: usize) -> Result<(), Fail> {
-    let alloc = rt.alloc();
-    let mut up = CountedTree::new();
-    let mut down = CountedTree::new();
-    let mut all = Vec::new(alloc);
-    for i in 0..count {
-        let len = up.len();
+/// A tree of so many entries, each put in behind the others.
+fn ascending(rt: &impl Abort, alloc: Global, count: u32) -> Result<CountedTree, Fail> {
+    let mut tree = CountedTree::new();
+    for key in 0..count {
+        let len = tree.len();
         assert!(rt; len < 1000);
-        up.insert(alloc, len, entry(alloc, i)?)?;
-        assert!(rt; down.len() < 1000);
-        down.insert(alloc, 0, entry(alloc, count - i)?)?;
-        all.push(entry(alloc, i)?)?;
+        tree.insert(alloc, len, entry(alloc, key)?)?;
     }
-    assert!(rt; all.len() < 1000);
-    let made = CountedTree::from_sorted(alloc, all)?;
-    assert!(rt; up.depth() == depth);
-    assert!(rt; down.depth() == depth);
-    assert!(rt; made.depth() == depth);
-    assert!(rt; made.len() == count as usize);
-    let kept = up.copy()?;
-    for _ in 0..count {
-        let len = up.len();
+    Ok(tree)
+}
+
+/// The same, each put in before the others.
+fn descending(rt: &impl Abort, alloc: Global, count: u32) -> Result<CountedTree, Fail> {
+    let mut tree = CountedTree::new();
+    for key in 0..count {
+        assert!(rt; tree.len() < 1000);
+        tree.insert(alloc, 0, entry(alloc, count - key)?)?;
+    }
+    Ok(tree)
+}
+
+/// The same, made of their list.
+fn at_once(rt: &impl Abort, alloc: Global, count: u32) -> Result<CountedTree, Fail> {
+    let mut list = Vec::new(alloc);
+    for key in 0..count {
+        list.push(entry(alloc, key)?)?;
+    }
+    assert!(rt; list.len() < 1000);
+    Ok(CountedTree::from_sorted(alloc, list)?)
+}
+
+/// That the tree has so many entries and levels.
+fn assert_depth(rt: &impl Abort, tree: &CountedTree, count: u32, depth: usize) {
+    assert!(rt; tree.len() == count as usize);
+    assert!(rt; tree.depth() == depth);
+}
+
+/// Takes the entries away from the front.
+fn drain(rt: &impl Abort, alloc: Global, tree: &mut CountedTree) -> Result<(), Fail> {
+    for _ in 0..tree.len() {
+        let len = tree.len();
         assert!(rt; len > 0);
         assert!(rt; len < 1000);
-        up.remove(alloc, 0)?;
+        tree.remove(alloc, 0)?;
     }
-    assert!(rt; up.len() == 0);
-    assert!(rt; up.depth() == 1);
-    assert!(rt; up.total() == 0);
-    assert!(rt; kept.len() == count as usize);
-    assert!(rt; kept.depth() == depth);
+    assert!(rt; tree.total() == 0);
+    Ok(())
+}
+
+/// That each of these trees has so many levels, and that one keeps its entries when a copy of it is drained.
+fn assert_depths(rt: &impl Abort, alloc: Global, (count, depth): (u32, usize)) -> Result<(), Fail> {
+    assert_depth(rt, &descending(rt, alloc, count)?, count, depth);
+    assert_depth(rt, &at_once(rt, alloc, count)?, count, depth);
+    let kept = ascending(rt, alloc, count)?;
+    let mut drained = kept.copy()?;
+    drain(rt, alloc, &mut drained)?;
+    assert_depth(rt, &drained, 0, 1);
+    assert_depth(rt, &kept, count, depth);
     Ok(())
 }
 
 #[test]
 fn depth_follows_the_count(rt: HostRuntime) -> Result<(), Fail> {
-    depths(&rt, 0, 1)?;
-    depths(&rt, 15, 1)?;
-    depths(&rt, 17, 2)?;
-    depths(&rt, 127, 2)?;
-    depths(&rt, 257, 3)
+    for case in [(0, 1), (15, 1), (17, 2), (127, 2), (257, 3)] {
+        assert_depths(&rt, rt.alloc(), case)?;
+    }
+    Ok(())
 }

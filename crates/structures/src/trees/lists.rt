@@ -259,7 +259,7 @@ fn wide(rt: &impl Abort, alloc: Global) -> Result<Pair, Fail>
 
 #[test]
 fn a_refused_change_of_257_entries_leaves_them(rt: HostRuntime) -> Result<(), Fail> {
-    const STEPS: [Step; 6] = [
+    static STEPS: [Step; 6] = [
         Step::Insert(100, 50, "y", 1),
         Step::SetInsert(100, 100, 2, ValueRef::Int(2)),
         Step::TakeInsert(128, 128),

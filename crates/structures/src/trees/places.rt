@@ -3,7 +3,7 @@
 ghost use Rattle.std.specs.Prelude.{◌≡◌};
 
 use super::changed;
-use crate::assertions::{assert_text, assert_text_at};
+use crate::assertions::{assert_holds, assert_holds_at, assert_text, assert_text_at};
 use delta::{DeltaTree, Place};
 use fixtures::{Step, copy_entry, entries_text, key};
 use std::alloc::Global;
@@ -19,25 +19,25 @@ const MOST: u64 = 9_223_372_036_854_775_807;
 pub(super) type KeyCase = (u64, i64, usize, u64, bool);
 
 /// Inserts (15, Flo, 5) and deletes 30: the image has the keys 10, 15 and 20.
-const READ: [(Step, &str); 2] = [
+static READ: [(Step, &str); 2] = [
     (Step::Insert(1, 15, "Flo", 5), "1+15,Flo,5"),
     (Step::Delete(2, 30), "1+15,Flo,5 2-30"),
 ];
 
 /// Modifies 15 and inserts (30, Zed, 7): the keys 10, 15, 20 and 30.
-const WRITE: [(Step, &str); 2] = [
+static WRITE: [(Step, &str); 2] = [
     (Step::Modify(1, 2, ValueRef::Int(6)), "1:2=6"),
     (Step::Insert(3, 30, "Zed", 7), "1:2=6 3+30,Zed,7"),
 ];
 
 /// Deletes 10 and inserts (35, Gus, 8): the keys 15, 20, 30 and 35.
-const TRANS: [(Step, &str); 2] = [
+static TRANS: [(Step, &str); 2] = [
     (Step::Delete(0, 10), "0-10"),
     (Step::Insert(4, 35, "Gus", 8), "0-10 4+35,Gus,8"),
 ];
 
 /// An insert, a delete, another insert and two modifies: three SIDs, of which one has two entries.
-const MIXED: [(Step, &str); 5] = [
+static MIXED: [(Step, &str); 5] = [
     (Step::Insert(1, 20, "Bea", 8), "1+20,Bea,8"),
     (Step::Delete(1, 20), "1+20,Bea,8 1-20"),
     (Step::Insert(3, 40, "Gus", 9), "1+20,Bea,8 1-20 3+40,Gus,9"),
@@ -89,7 +89,7 @@ fn assert_entries_at(
 
 #[test]
 fn the_entries_at_a_sid_are_found(rt: HostRuntime) -> Result<(), Fail> {
-    const CASES: [(u64, &str); 5] = [
+    static CASES: [(u64, &str); 5] = [
         (0, ""),
         (1, "1+20,Bea,8 1-20"),
         (2, "2:1=Cy 2:2=7"),
@@ -121,7 +121,7 @@ fn assert_entries_from(
 
 #[test]
 fn the_entries_from_a_place_on_follow_those_before_it(rt: HostRuntime) -> Result<(), Fail> {
-    const CASES: [(usize, &str); 4] = [
+    static CASES: [(usize, &str); 4] = [
         (0, "1+20,Bea,8 1-20 2:1=Cy 2:2=7 3+40,Gus,9"),
         (1, "1-20 2:1=Cy 2:2=7 3+40,Gus,9"),
         (4, "3+40,Gus,9"),
@@ -138,7 +138,7 @@ fn the_entries_from_a_place_on_follow_those_before_it(rt: HostRuntime) -> Result
 
 #[test]
 fn an_entry_is_found_by_its_place(rt: HostRuntime) -> Result<(), Fail> {
-    const CASES: [(usize, Option<u64>); 6] = [
+    static CASES: [(usize, Option<u64>); 6] = [
         (0, Some(1)),
         (1, Some(1)),
         (2, Some(2)),
@@ -150,9 +150,10 @@ fn an_entry_is_found_by_its_place(rt: HostRuntime) -> Result<(), Fail> {
         return Ok(());
     };
     for (index, sid) in &CASES {
-        assert!(rt;
+        assert_holds_at(
+            &rt,
             tree.entry(*index).map(|entry| entry.sid()) == *sid,
-            "at {index}"
+            *index as u64,
         );
     }
     Ok(())
@@ -160,12 +161,12 @@ fn an_entry_is_found_by_its_place(rt: HostRuntime) -> Result<(), Fail> {
 
 #[test]
 fn a_base_rows_changes_stand_past_the_inserts_at_its_sid(rt: HostRuntime) -> Result<(), Fail> {
-    const CASES: [(u64, usize); 5] = [(0, 0), (1, 1), (2, 2), (3, 5), (4, 5)];
+    static CASES: [(u64, usize); 5] = [(0, 0), (1, 1), (2, 2), (3, 5), (4, 5)];
     let Some(tree) = changed(&rt, rt.alloc(), MIXED.as_slice())? else {
         return Ok(());
     };
     for (sid, index) in &CASES {
-        assert!(rt; tree.base_index(*sid) == *index, "at {sid}");
+        assert_holds_at(&rt, tree.base_index(*sid) == *index, *sid);
     }
     Ok(())
 }
@@ -180,8 +181,7 @@ fn assert_mixed(
     const ALL: &str = "1+20,Bea,8 1-20 2:1=Cy 2:2=7 3+40,Gus,9";
     let text = entries_text(alloc, tree.iter())?;
     assert_text(rt, text.as_str(), ALL, label);
-    assert!(rt; tree.len() == 5, "{label}");
-    assert!(rt; tree.total() == 1, "{label}");
+    assert_holds(rt, tree.len() == 5 && tree.total() == 1, label);
     Ok(())
 }
 
@@ -207,9 +207,10 @@ pub(super) fn assert_key(
     assert!(rt; sid <= MOST);
     let key = key(alloc, id)?;
     let there = tree.find_key(sid, key.cells());
-    assert!(rt;
+    assert_holds(
+        rt,
         (there.index, there.rid, there.row.is_some()) == (index, rid, found),
-        "{label}: {id} at {sid}"
+        label,
     );
     Ok(())
 }
@@ -219,8 +220,8 @@ fn a_tree_with_no_entries_moves_nothing(rt: HostRuntime) -> Result<(), Fail> {
     let tree = DeltaTree::new(rt.alloc(), 1);
     for at in [0, 7, MOST] {
         assert!(rt; at <= MOST);
-        assert!(rt; tree.shift_at(at) == 0, "at {at}");
-        assert!(rt; tree.find_row(at) == Place::Base(at), "at {at}");
+        assert_holds_at(&rt, tree.shift_at(at) == 0, at);
+        assert_holds_at(&rt, tree.find_row(at) == Place::Base(at), at);
         assert_key(&rt, rt.alloc(), &tree, "no entries", (at, 15, 0, at, false))?;
     }
     Ok(())
@@ -238,16 +239,16 @@ fn assert_shifts(
         return Ok(());
     };
     for (sid, shift) in cases {
-        assert!(rt; tree.shift_at(*sid) == *shift, "{label} at {sid}");
+        assert_holds(rt, tree.shift_at(*sid) == *shift, label);
     }
     Ok(())
 }
 
 #[test]
 fn entries_move_what_stands_at_greater_sids(rt: HostRuntime) -> Result<(), Fail> {
-    const READ_SHIFTS: [(u64, i64); 6] = [(0, 0), (1, 0), (2, 1), (3, 0), (4, 0), (MOST, 0)];
-    const WRITE_SHIFTS: [(u64, i64); 6] = [(0, 0), (1, 0), (2, 0), (3, 0), (4, 1), (MOST, 1)];
-    const TRANS_SHIFTS: [(u64, i64); 6] = [(0, 0), (1, -1), (3, -1), (4, -1), (5, 0), (MOST, 0)];
+    static READ_SHIFTS: [(u64, i64); 6] = [(0, 0), (1, 0), (2, 1), (3, 0), (4, 0), (MOST, 0)];
+    static WRITE_SHIFTS: [(u64, i64); 6] = [(0, 0), (1, 0), (2, 0), (3, 0), (4, 1), (MOST, 1)];
+    static TRANS_SHIFTS: [(u64, i64); 6] = [(0, 0), (1, -1), (3, -1), (4, -1), (5, 0), (MOST, 0)];
     assert_shifts(&rt, rt.alloc(), "read", &READ, &READ_SHIFTS)?;
     assert_shifts(&rt, rt.alloc(), "write", &WRITE, &WRITE_SHIFTS)?;
     assert_shifts(&rt, rt.alloc(), "trans", &TRANS, &TRANS_SHIFTS)
@@ -266,14 +267,14 @@ fn assert_places(
     };
     for (rid, place) in cases {
         assert!(rt; *rid <= MOST);
-        assert!(rt; tree.find_row(*rid) == *place, "{label} at {rid}");
+        assert_holds(rt, tree.find_row(*rid) == *place, label);
     }
     Ok(())
 }
 
 #[test]
 fn each_position_has_its_place(rt: HostRuntime) -> Result<(), Fail> {
-    const READ_PLACES: [(u64, Place); 6] = [
+    static READ_PLACES: [(u64, Place); 6] = [
         (0, Place::Base(0)),
         (1, Place::Inserted(0)),
         (2, Place::Base(1)),
@@ -281,7 +282,7 @@ fn each_position_has_its_place(rt: HostRuntime) -> Result<(), Fail> {
         (4, Place::Base(4)),
         (MOST, Place::Base(MOST)),
     ];
-    const WRITE_PLACES: [(u64, Place); 6] = [
+    static WRITE_PLACES: [(u64, Place); 6] = [
         (0, Place::Base(0)),
         (1, Place::Base(1)),
         (2, Place::Base(2)),
@@ -289,7 +290,7 @@ fn each_position_has_its_place(rt: HostRuntime) -> Result<(), Fail> {
         (4, Place::Base(3)),
         (MOST, Place::Base(9_223_372_036_854_775_806)),
     ];
-    const TRANS_PLACES: [(u64, Place); 6] = [
+    static TRANS_PLACES: [(u64, Place); 6] = [
         (0, Place::Base(1)),
         (1, Place::Base(2)),
         (2, Place::Base(3)),
@@ -314,7 +315,7 @@ fn assert_start(
 ) -> Result<(), NoMemory> {
     assert!(rt; rid <= MOST);
     let start = tree.find_start(rid);
-    assert!(rt; (start.index, start.sid) == (index, sid), "at {rid}");
+    assert_holds_at(rt, (start.index, start.sid) == (index, sid), rid);
     let text = entries_text(alloc, start.entries)?;
     assert_text_at(rt, text.as_str(), want, rid);
     Ok(())
@@ -322,7 +323,7 @@ fn assert_start(
 
 #[test]
 fn a_walk_starts_past_deletes_and_before_modifies(rt: HostRuntime) -> Result<(), Fail> {
-    const CASES: [StartCase<'static>; 6] = [
+    static CASES: [StartCase<'static>; 6] = [
         (0, 0, 0, "1+20,Bea,8 1-20 2:1=Cy 2:2=7 3+40,Gus,9"),
         (1, 0, 1, "1+20,Bea,8 1-20 2:1=Cy 2:2=7 3+40,Gus,9"),
         (2, 2, 2, "2:1=Cy 2:2=7 3+40,Gus,9"),
@@ -358,7 +359,7 @@ fn assert_keys(
 
 #[test]
 fn a_key_has_its_place_among_the_inserts_at_a_sid(rt: HostRuntime) -> Result<(), Fail> {
-    const READ_KEYS: [KeyCase; 6] = [
+    static READ_KEYS: [KeyCase; 6] = [
         (0, 5, 0, 0, false),
         (1, 12, 0, 1, false),
         (1, 15, 0, 1, true),
@@ -366,7 +367,7 @@ fn a_key_has_its_place_among_the_inserts_at_a_sid(rt: HostRuntime) -> Result<(),
         (2, 25, 1, 3, false),
         (3, 40, 2, 3, false),
     ];
-    const WRITE_KEYS: [KeyCase; 6] = [
+    static WRITE_KEYS: [KeyCase; 6] = [
         (0, 5, 0, 0, false),
         (1, 12, 0, 1, false),
         (2, 18, 1, 2, false),
@@ -374,7 +375,7 @@ fn a_key_has_its_place_among_the_inserts_at_a_sid(rt: HostRuntime) -> Result<(),
         (3, 30, 1, 3, true),
         (3, 35, 2, 4, false),
     ];
-    const TRANS_KEYS: [KeyCase; 6] = [
+    static TRANS_KEYS: [KeyCase; 6] = [
         (0, 5, 0, 0, false),
         (1, 12, 1, 0, false),
         (3, 25, 1, 2, false),

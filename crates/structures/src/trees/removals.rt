@@ -33,7 +33,7 @@ impl Taken {
 fn assert_sids(rt: &impl Abort, tree: &CountedTree, sids: &[u64]) {
     assert!(rt; tree.len() == sids.len());
     for (entry, sid) in tree.iter(0, tree.len()).zip(sids.iter()) {
-        assert!(rt; entry.sid() == *sid, "at {sid}");
+        assert!(rt; entry.sid() == *sid);
     }
 }
 

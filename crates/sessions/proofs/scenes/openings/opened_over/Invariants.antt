@@ -1,5 +1,5 @@
 -- The opening is the one of its book and its ledger.
-use Rattle.sessions.proofs.scenes.openings.opened.Given as goal
+use Rattle.sessions.proofs.scenes.openings.opened_over.Given as goal
 
 abbrev pub ghosts-opened_in-O-Ledger : goal.ghosts-opened_in-O-Ledger
 ghosts-opened_in-O-Ledger g a = record { name = a.fresh.blank.name; parts = a.fresh.blank.parts }
