@@ -123,6 +123,34 @@ fn first_publish<R: Wait>(
     }
 }
 
+/// A writer that has published the manager's newest version, with the list at its opening and a reader's place for each client.
+fn writer_over<R: Wait>(
+    alloc: Global,
+    manager: &Manager,
+    list: &SeenList,
+    clients: u32,
+    wait: &R,
+) -> Result<VersionWriter, ShareFault>
+    requires opening { (list.now.opening.manager ≡ manager.now) × (list.now.list ≡ []) }
+    requires some { 0 < clients }
+    requires limit { clients ≤ 64 }
+    ensures published { IfOk result (λ w. (w.desk.shown.value ≡ list.now) × (view w.desk.place ≡ Some list.now)) }
+    ensures refused { IfErr result (λ fault. fault ≢ share_fault.BadLimit) }
+{
+    let first = published_at(manager, list)?;
+    let second = published_at(manager, list)?;
+    let again = published_at(manager, list)?;
+    let writer = VersionWriter::new(alloc, first, second, clients as usize)?;
+    let (mut writer, outcome) = first_publish(wait, writer, again);
+    match outcome {
+        Ok(()) => Ok(writer),
+        Err(fault) => {
+            writer.take(wait);
+            Err(fault)
+        }
+    }
+}
+
 /// A session for each client, which has seen a list with no items.
 fn sessions_of<O: Opening>(
     alloc: Global,
@@ -182,16 +210,8 @@ pub fn open<O: Opening, S: ImageStore, R: Wait>(
     let NewOpening { book, blank } = fresh;
     let (head, list) = book.named::<O>();
     let row_limit = manager.row_limit();
-    let first = published_at(&manager, &list)?;
-    let second = published_at(&manager, &list)?;
-    let again = published_at(&manager, &list)?;
-    let writer = VersionWriter::new(alloc, first, second, clients as usize)?;
-    let (mut writer, outcome) = first_publish(wait, writer, again);
+    let mut writer = writer_over(alloc, &manager, &list, clients, wait)?;
     let (book, mut rest) = blank.open::<O>();
-    if let Err(fault) = outcome {
-        writer.take(wait);
-        return Err(fault);
-    }
     match sessions_of(alloc, clients, row_limit, &mut writer, &list, &mut rest) {
         Ok(sessions) => {
             let state = Mutex::new(Locked::new(manager, store, book, rest, head, list, writer));
