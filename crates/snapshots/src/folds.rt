@@ -265,124 +265,128 @@ fn assert_beside(
     Ok(())
 }
 
+/// Trees over the same rows, and what becomes of the first one where changes to different columns pass.
+static BESIDE: [Beside; 9] = [
+    (
+        &[ItemWrite::Insert(25, "Dee", 4)],
+        &[ItemWrite::Delete(30)],
+        ["2+25,Dee,4", "2-30"],
+        "2+25,Dee,4",
+    ),
+    (
+        &[ItemWrite::Set(30, 9)],
+        &[
+            ItemWrite::Insert(5, "Eve", 0),
+            ItemWrite::Insert(25, "Dee", 4),
+        ],
+        ["2:2=9", "0+5,Eve,0 2+25,Dee,4"],
+        "4:2=9",
+    ),
+    (
+        &[ItemWrite::Delete(30)],
+        &[ItemWrite::Delete(10)],
+        ["2-30", "0-10"],
+        "1-30",
+    ),
+    (
+        &[ItemWrite::Name(20, "Bea"), ItemWrite::Set(20, 7)],
+        &[ItemWrite::Set(20, 8)],
+        ["1:1=Bea 1:2=7", "1:2=8"],
+        "ModifyModify x 1 y 0",
+    ),
+    (
+        &[ItemWrite::Delete(20)],
+        &[ItemWrite::Name(20, "Bea"), ItemWrite::Set(20, 7)],
+        ["1-20", "1:1=Bea 1:2=7"],
+        "DeleteModify x 0 y 0",
+    ),
+    (
+        &[ItemWrite::Delete(20), ItemWrite::Insert(20, "Bea", 9)],
+        &[ItemWrite::Delete(20)],
+        ["1+20,Bea,9 1-20", "1-20"],
+        "DeleteDelete x 1 y 0",
+    ),
+    (
+        &[ItemWrite::Delete(20), ItemWrite::Insert(20, "Bea", 9)],
+        &[ItemWrite::Delete(20), ItemWrite::Insert(20, "Bob", 2)],
+        ["1+20,Bea,9 1-20", "1+20,Bob,2 1-20"],
+        "InsertInsert x 0 y 0",
+    ),
+    (
+        &[ItemWrite::Name(20, "Bea")],
+        &[ItemWrite::Set(20, 7)],
+        ["1:1=Bea", "1:2=7"],
+        "1:1=Bea",
+    ),
+    (
+        &[ItemWrite::Set(20, 2)],
+        &[ItemWrite::Set(20, 2)],
+        ["1:2=2", "1:2=2"],
+        "ModifyModify x 0 y 0",
+    ),
+];
+
 #[test]
 fn trees_pass_or_clash(rt: HostRuntime) -> Result<(), Fail> {
-    static CASES: [Beside; 9] = [
-        (
-            &[ItemWrite::Insert(25, "Dee", 4)],
-            &[ItemWrite::Delete(30)],
-            ["2+25,Dee,4", "2-30"],
-            "2+25,Dee,4",
-        ),
-        (
-            &[ItemWrite::Set(30, 9)],
-            &[
-                ItemWrite::Insert(5, "Eve", 0),
-                ItemWrite::Insert(25, "Dee", 4),
-            ],
-            ["2:2=9", "0+5,Eve,0 2+25,Dee,4"],
-            "4:2=9",
-        ),
-        (
-            &[ItemWrite::Delete(30)],
-            &[ItemWrite::Delete(10)],
-            ["2-30", "0-10"],
-            "1-30",
-        ),
-        (
-            &[ItemWrite::Name(20, "Bea"), ItemWrite::Set(20, 7)],
-            &[ItemWrite::Set(20, 8)],
-            ["1:1=Bea 1:2=7", "1:2=8"],
-            "ModifyModify x 1 y 0",
-        ),
-        (
-            &[ItemWrite::Delete(20)],
-            &[ItemWrite::Name(20, "Bea"), ItemWrite::Set(20, 7)],
-            ["1-20", "1:1=Bea 1:2=7"],
-            "DeleteModify x 0 y 0",
-        ),
-        (
-            &[ItemWrite::Delete(20), ItemWrite::Insert(20, "Bea", 9)],
-            &[ItemWrite::Delete(20)],
-            ["1+20,Bea,9 1-20", "1-20"],
-            "DeleteDelete x 1 y 0",
-        ),
-        (
-            &[ItemWrite::Delete(20), ItemWrite::Insert(20, "Bea", 9)],
-            &[ItemWrite::Delete(20), ItemWrite::Insert(20, "Bob", 2)],
-            ["1+20,Bea,9 1-20", "1+20,Bob,2 1-20"],
-            "InsertInsert x 0 y 0",
-        ),
-        (
-            &[ItemWrite::Name(20, "Bea")],
-            &[ItemWrite::Set(20, 7)],
-            ["1:1=Bea", "1:2=7"],
-            "1:1=Bea",
-        ),
-        (
-            &[ItemWrite::Set(20, 2)],
-            &[ItemWrite::Set(20, 2)],
-            ["1:2=2", "1:2=2"],
-            "ModifyModify x 0 y 0",
-        ),
-    ];
-    for case in &CASES {
+    for case in &BESIDE {
         assert_beside(&rt, rt.alloc(), ConflictRule::ByColumn, *case)?;
     }
     Ok(())
 }
 
+/// Trees over the same rows, and what becomes of the first one where any two modifies of a row clash.
+static BESIDE_BY_ROW: [Beside; 7] = [
+    (
+        &[ItemWrite::Set(20, 7)],
+        &[ItemWrite::Name(20, "Bea")],
+        ["1:2=7", "1:1=Bea"],
+        "ModifyModify x 0 y 0",
+    ),
+    (
+        &[ItemWrite::Set(10, 4), ItemWrite::Set(20, 7)],
+        &[
+            ItemWrite::Insert(15, "Flo", 5),
+            ItemWrite::Name(20, "Bea"),
+            ItemWrite::Set(20, 8),
+        ],
+        ["0:2=4 1:2=7", "1+15,Flo,5 1:1=Bea 1:2=8"],
+        "ModifyModify x 1 y 1",
+    ),
+    (
+        &[ItemWrite::Name(20, "Bea")],
+        &[ItemWrite::Delete(20)],
+        ["1:1=Bea", "1-20"],
+        "DeleteModify x 0 y 0",
+    ),
+    (
+        &[ItemWrite::Delete(20)],
+        &[ItemWrite::Set(20, 7)],
+        ["1-20", "1:2=7"],
+        "DeleteModify x 0 y 0",
+    ),
+    (
+        &[ItemWrite::Set(30, 9)],
+        &[ItemWrite::Name(20, "Bea"), ItemWrite::Insert(25, "Dee", 4)],
+        ["2:2=9", "1:1=Bea 2+25,Dee,4"],
+        "3:2=9",
+    ),
+    (
+        &[ItemWrite::Set(30, 9)],
+        &[ItemWrite::Delete(10), ItemWrite::Set(20, 7)],
+        ["2:2=9", "0-10 1:2=7"],
+        "1:2=9",
+    ),
+    (
+        &[ItemWrite::Delete(20), ItemWrite::Insert(20, "Bea", 9)],
+        &[ItemWrite::Set(20, 7)],
+        ["1+20,Bea,9 1-20", "1:2=7"],
+        "DeleteModify x 1 y 0",
+    ),
+];
+
 #[test]
 fn modifies_of_one_row_clash_by_row(rt: HostRuntime) -> Result<(), Fail> {
-    static CASES: [Beside; 7] = [
-        (
-            &[ItemWrite::Set(20, 7)],
-            &[ItemWrite::Name(20, "Bea")],
-            ["1:2=7", "1:1=Bea"],
-            "ModifyModify x 0 y 0",
-        ),
-        (
-            &[ItemWrite::Set(10, 4), ItemWrite::Set(20, 7)],
-            &[
-                ItemWrite::Insert(15, "Flo", 5),
-                ItemWrite::Name(20, "Bea"),
-                ItemWrite::Set(20, 8),
-            ],
-            ["0:2=4 1:2=7", "1+15,Flo,5 1:1=Bea 1:2=8"],
-            "ModifyModify x 1 y 1",
-        ),
-        (
-            &[ItemWrite::Name(20, "Bea")],
-            &[ItemWrite::Delete(20)],
-            ["1:1=Bea", "1-20"],
-            "DeleteModify x 0 y 0",
-        ),
-        (
-            &[ItemWrite::Delete(20)],
-            &[ItemWrite::Set(20, 7)],
-            ["1-20", "1:2=7"],
-            "DeleteModify x 0 y 0",
-        ),
-        (
-            &[ItemWrite::Set(30, 9)],
-            &[ItemWrite::Name(20, "Bea"), ItemWrite::Insert(25, "Dee", 4)],
-            ["2:2=9", "1:1=Bea 2+25,Dee,4"],
-            "3:2=9",
-        ),
-        (
-            &[ItemWrite::Set(30, 9)],
-            &[ItemWrite::Delete(10), ItemWrite::Set(20, 7)],
-            ["2:2=9", "0-10 1:2=7"],
-            "1:2=9",
-        ),
-        (
-            &[ItemWrite::Delete(20), ItemWrite::Insert(20, "Bea", 9)],
-            &[ItemWrite::Set(20, 7)],
-            ["1+20,Bea,9 1-20", "1:2=7"],
-            "DeleteModify x 1 y 0",
-        ),
-    ];
-    for case in &CASES {
+    for case in &BESIDE_BY_ROW {
         assert_beside(&rt, rt.alloc(), ConflictRule::ByRow, *case)?;
     }
     Ok(())

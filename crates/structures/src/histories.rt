@@ -185,3 +185,64 @@ fn a_table_stands_after_its_commits(rt: HostRuntime) -> Result<(), Fail> {
     assert!(rt; found == [4, 3, 4]);
     Ok(())
 }
+
+/// A client's writes, all of them done, from where it began, and the reply to its commit.
+type Step = (u32, u64, &'static [ItemWrite], CommitReply);
+
+/// What stands before a cut, and after it: an insert; a set that began at the cut, one that began before it, and no write.
+static BEFORE: [Step; 1] = [(1, 0, &[ItemWrite::Insert(25, "Dee", 4)], Committed(1))];
+
+static AFTER: [Step; 3] = [
+    (2, 1, &[ItemWrite::Set(30, 9)], Committed(2)),
+    (0, 0, &[ItemWrite::Set(10, 9)], TooOld(2)),
+    (1, 2, &[], Committed(3)),
+];
+
+/// The record of a step.
+fn record_of(alloc: Global, (client, begin, named, reply): Step) -> Result<Record, NoMemory> {
+    let mut writes = Vec::new(alloc);
+    for write in writes_of(alloc, named)? {
+        writes.push((write, Done))?;
+    }
+    Ok(Record::new(client, begin, writes, reply))
+}
+
+/// The history of the steps.
+fn history_of(alloc: Global, steps: &[Step]) -> Result<Vec<Record>, NoMemory> {
+    let mut history = Vec::new(alloc);
+    for step in steps {
+        history.push(record_of(alloc, *step)?)?;
+    }
+    Ok(history)
+}
+
+/// Whether the history after the cut is legal where these are the older tables.
+fn is_legal_after(alloc: Global, older: &[OrderedTable]) -> Result<bool, NoMemory> {
+    let history = history_of(alloc, &AFTER)?;
+    let table = base(alloc)?;
+    let cut = table.with(&effects_of(alloc, &table, &INSERT)?)?;
+    let start = Start::new(cut, 1, AMPLE, RECENT, ByColumn);
+    is_legal(alloc, 1, &start, older, history.as_slice())
+}
+
+/// The same where this is the one older table.
+fn is_legal_over(alloc: Global, table: OrderedTable) -> Result<bool, NoMemory> {
+    let mut older = Vec::new(alloc);
+    older.push(table)?;
+    is_legal_after(alloc, older.as_slice())
+}
+
+#[test]
+fn numbers_go_on_after_a_cut(rt: HostRuntime) -> Result<(), Fail> {
+    let alloc = rt.alloc();
+    let history = history_of(alloc, &BEFORE)?;
+    let start = Start::new(base(alloc)?, 0, AMPLE, RECENT, ByColumn);
+    let before = is_legal(alloc, 1, &start, &[], history.as_slice())?;
+    assert_holds(&rt, before, "before the cut");
+    // The second record began at the base table, which the cut took away.
+    assert_holds(&rt, !is_legal_after(alloc, &[])?, "over no table");
+    assert_holds(&rt, is_legal_over(alloc, base(alloc)?)?, "over its table");
+    let another = is_legal_over(alloc, OrderedTable::new(alloc))?;
+    assert_holds(&rt, !another, "over another table");
+    Ok(())
+}

@@ -60,95 +60,97 @@ fn assert_read(
     assert_wanted(rt, &read, want, label)
 }
 
+/// The payloads that have names.
+static NAMED: [Case; 10] = [
+    (
+        "three truths",
+        ColumnType::Bool,
+        3,
+        &[0xa0],
+        Ok(&[
+            ValueRef::Bool(true),
+            ValueRef::Bool(false),
+            ValueRef::Bool(true),
+        ]),
+    ),
+    (
+        "set padding",
+        ColumnType::Bool,
+        3,
+        &[0xa1],
+        Err(BlockFault::BadPadding),
+    ),
+    (
+        "nine truths",
+        ColumnType::Bool,
+        9,
+        &[0xff, 0x80],
+        Ok(&[
+            ValueRef::Bool(true),
+            ValueRef::Bool(true),
+            ValueRef::Bool(true),
+            ValueRef::Bool(true),
+            ValueRef::Bool(true),
+            ValueRef::Bool(true),
+            ValueRef::Bool(true),
+            ValueRef::Bool(true),
+            ValueRef::Bool(true),
+        ]),
+    ),
+    (
+        "a byte short",
+        ColumnType::Bool,
+        9,
+        &[0xff],
+        Err(BlockFault::Short(0)),
+    ),
+    (
+        "minus one",
+        ColumnType::Int,
+        1,
+        &[0xff; 8],
+        Ok(&[ValueRef::Int(-1)]),
+    ),
+    (
+        "least number",
+        ColumnType::Int,
+        1,
+        &[0x80, 0, 0, 0, 0, 0, 0, 0],
+        Ok(&[ValueRef::Int(i64::MIN)]),
+    ),
+    (
+        "empty text",
+        ColumnType::Text,
+        1,
+        &[0, 0],
+        Ok(&[ValueRef::Text("")]),
+    ),
+    (
+        "text cut short",
+        ColumnType::Text,
+        1,
+        &[0, 3, 0x41, 0x6e],
+        Err(BlockFault::Short(0)),
+    ),
+    (
+        "no UTF-8",
+        ColumnType::Text,
+        1,
+        &[0, 1, 0xff],
+        Err(BlockFault::BadText(0)),
+    ),
+    (
+        "byte left over",
+        ColumnType::Text,
+        1,
+        &[0, 1, 0x61, 0],
+        Err(BlockFault::Long(3)),
+    ),
+];
+
 #[test]
 fn payloads_are_read_or_refused(rt: HostRuntime) -> Result<(), Fail> {
-    static CASES: [Case; 10] = [
-        (
-            "three truths",
-            ColumnType::Bool,
-            3,
-            &[0xa0],
-            Ok(&[
-                ValueRef::Bool(true),
-                ValueRef::Bool(false),
-                ValueRef::Bool(true),
-            ]),
-        ),
-        (
-            "set padding",
-            ColumnType::Bool,
-            3,
-            &[0xa1],
-            Err(BlockFault::BadPadding),
-        ),
-        (
-            "nine truths",
-            ColumnType::Bool,
-            9,
-            &[0xff, 0x80],
-            Ok(&[
-                ValueRef::Bool(true),
-                ValueRef::Bool(true),
-                ValueRef::Bool(true),
-                ValueRef::Bool(true),
-                ValueRef::Bool(true),
-                ValueRef::Bool(true),
-                ValueRef::Bool(true),
-                ValueRef::Bool(true),
-                ValueRef::Bool(true),
-            ]),
-        ),
-        (
-            "a byte short",
-            ColumnType::Bool,
-            9,
-            &[0xff],
-            Err(BlockFault::Short(0)),
-        ),
-        (
-            "minus one",
-            ColumnType::Int,
-            1,
-            &[0xff; 8],
-            Ok(&[ValueRef::Int(-1)]),
-        ),
-        (
-            "least number",
-            ColumnType::Int,
-            1,
-            &[0x80, 0, 0, 0, 0, 0, 0, 0],
-            Ok(&[ValueRef::Int(i64::MIN)]),
-        ),
-        (
-            "empty text",
-            ColumnType::Text,
-            1,
-            &[0, 0],
-            Ok(&[ValueRef::Text("")]),
-        ),
-        (
-            "text cut short",
-            ColumnType::Text,
-            1,
-            &[0, 3, 0x41, 0x6e],
-            Err(BlockFault::Short(0)),
-        ),
-        (
-            "no UTF-8",
-            ColumnType::Text,
-            1,
-            &[0, 1, 0xff],
-            Err(BlockFault::BadText(0)),
-        ),
-        (
-            "byte left over",
-            ColumnType::Text,
-            1,
-            &[0, 1, 0x61, 0],
-            Err(BlockFault::Long(3)),
-        ),
-    ];
-    for case in &CASES {
+    for case in &NAMED {
         assert_read(&rt, rt.alloc(), *case)?;
     }
     Ok(())
