@@ -8,9 +8,7 @@ mod FittingLemmas
 mod ScriptLemmas
 mod ClientsLemmas
 mod CallsLemmas
-mod WordsLemmas
 mod PositionLemmas
-mod WorkedWords
 mod WorkedTables
 mod FillingLemmas
 mod AscentLemmas

@@ -6,6 +6,5 @@ pub mod Input
 pub mod Order
 pub mod Reading
 pub mod Script
-pub mod Words
 pub mod Typed
 pub mod Filling

@@ -1,13 +1,11 @@
-//! What the program is given: the words of its command line, a table and a script, each read from text and refused by a
-//! fault that names its place.
+//! What the program is given: a table and a script, each read from text and refused by a fault that names its place.
 //!
 //! *What a contract sees.* The records of a text are those that the crate `csv` reads of it. A table is a function of
 //! its records, the first fault from the start or the schema and the rows; so is a script, whose answer is the clients'
-//! names and the calls. A command line's settings are those that its words say.
+//! names and the calls.
 //!
 //! *What it stands on.* `values` for schemas, rows and limits, `blocks` and `stable` for the columns of a table, `model`
-//! for writes and for what a table is, `csv` for records, `clap` for the command line, and `thiserror` for what a fault
-//! shows.
+//! for writes and for what a table is, `csv` for records, and `thiserror` for what a fault shows.
 #![tactic(auto)]
 
 mod arguments;
@@ -25,7 +23,6 @@ mod row;
 mod script;
 mod table;
 mod verb;
-mod words;
 
 pub use call::{Call, ClientCall, Read};
 pub use fault::{ScriptFault, TableFault};
@@ -34,4 +31,3 @@ pub use loading::load_table;
 pub use script::{Script, read_script};
 pub use table::read_table;
 pub use verb::Verb;
-pub use words::{Settings, read_words};

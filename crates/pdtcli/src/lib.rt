@@ -7,7 +7,8 @@
 //!
 //! *What it stands on.* `values` for schemas, rows and limits, `model` for tables, writes and histories, `stable` for the
 //! table, `txn` for transactions, `devices` for stores, `manager` for commits, `publishing` and `shared` for sessions,
-//! `inputs` for what the program is given, `csv` for records, `itoa` for numbers, and `thiserror` for what a fault shows.
+//! `words` and `inputs` for what the program is given, `csv` for records, `itoa` for numbers, and `thiserror` for what a
+//! fault shows.
 #![tactic(auto)]
 
 mod caller;
@@ -31,8 +32,7 @@ pub use clients::{RunFault, run_clients};
 pub use devices::{ReadFault, Store, StoreFault, StoredImage};
 pub use gate::{Gate, OpenGate};
 pub use inputs::{
-    Call, ClientCall, Script, ScriptFault, Settings, TableFault, Verb, load_table, read_script,
-    read_table, read_words,
+    Call, ClientCall, Script, ScriptFault, TableFault, Verb, load_table, read_script, read_table,
 };
 pub use manager::{Manager, OpenFault};
 pub use outcome::{Left, Outcome};
@@ -47,3 +47,4 @@ pub use serial::run_serial;
 pub use shown::ShownRow;
 pub use stable::{BuildFault, StableTable};
 pub use txn::{Parts, Txn, Version, WriteFault};
+pub use words::{Settings, read_words};

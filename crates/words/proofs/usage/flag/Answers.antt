@@ -1,7 +1,7 @@
 use Rattle.std.proofs.Common.{Some, ap}
 use Rattle.clap.specs.Words.{Rule}
 use Rattle.clap.specs.declared.builder.ArgAction.TheVariants.{SetTrue}
-use Rattle.inputs.proofs.words.flag.Goals as goal
+use Rattle.words.proofs.usage.flag.Goals as goal
 
 pub returns-clause-rule : goal.returns-clause-rule
 returns-clause-rule c =

@@ -1,7 +1,7 @@
 use Rattle.std.proofs.Common.{◌≡◌, Some, ap, true}
 use Rattle.clap.specs.Words.{Rule}
 use Rattle.clap.specs.declared.builder.ArgAction.TheVariants.{Set}
-use Rattle.inputs.proofs.words.file.Goals as goal
+use Rattle.words.proofs.usage.file.Goals as goal
 
 pub returns-clause-rule : goal.returns-clause-rule
 returns-clause-rule c =

@@ -9,9 +9,9 @@ use Rattle.clap.specs.declared.builder.value_parser.ValueParser.TheVariants.{Uns
 use Rattle.values.specs.declared.limits.TheConstants.{MAX_RECENT_COMMITS, MAX_ROWS}
 use Rattle.model.specs.declared.clash.ConflictRule.{ConflictRule}
 use Rattle.model.specs.declared.clash.ConflictRule.TheVariants.{ByColumn, ByRow}
-use Rattle.inputs.specs.declared.words.TheConstants.{RECENT_COMMITS}
-use Rattle.inputs.specs.declared.words.Settings.{Settings}
-use Rattle.inputs.specs.declared.words.Settings.TheVariants.{Run, Recover}
+use Rattle.words.specs.declared.settings.TheConstants.{RECENT_COMMITS}
+use Rattle.words.specs.declared.settings.Settings.{Settings}
+use Rattle.words.specs.declared.settings.Settings.TheVariants.{Run, Recover}
 
 -- ---- the usage: `pdt run TABLE SCRIPT [--threads] [--store DIR] [--recent N] [--limit N] [--conflicts column|row]`, `pdt recover DIR`
 

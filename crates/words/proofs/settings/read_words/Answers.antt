@@ -1,10 +1,9 @@
 use Rattle.std.proofs.Common.{◌≡◌, ◌∙◌, ap, map, sym}
 use Rattle.std.specs.Option.{option_map}
-use Rattle.clap.specs.Words.{App, app_of, fault_of, is_simple, is_simple_and_free, subcommand_of, takes}
-use Rattle.inputs.specs.Words.{usage, word_in}
-use Rattle.inputs.proofs.ReadLemmas.{passed-up}
-use Rattle.inputs.proofs.WordsLemmas.{usage-simple, usage-free, AreOf-same, if-told}
-use Rattle.inputs.proofs.words.read_words.Goals as goal
+use Rattle.clap.specs.Words.{App, app_of, fault_of, kind_of, is_simple, is_simple_and_free, subcommand_of, takes}
+use Rattle.words.specs.Words.{usage, word_in}
+use Rattle.words.proofs.WordsLemmas.{usage-simple, usage-free, AreOf-same, if-told}
+use Rattle.words.proofs.settings.read_words.Goals as goal
 
 pub returns-in-Some-clause-said : goal.returns-in-Some-clause-said
 returns-in-Some-clause-said c =
@@ -18,8 +17,9 @@ pub returns-in_err-matches-clause-taken : goal.returns-in_err-matches-clause-tak
 returns-in_err-matches-clause-taken c =
     let is : app_of c.in_ok-command.command ≡ usage = c.in_ok-command.ensures.ok in
     let words = map (λ word. word.now) c.args.words.now in
-    passed-up c.from_residual-in_err-matches.result _ _ c.from_residual-in_err-matches.ensures.1
-    (λ settings asked. c.in_err-matches.ensures.passes (ap (λ (a : App). takes a words) is ∙ asked.taken))
+    if-told c.from_residual-in_err-matches.result _ _
+    (λ error told settings asked. ap kind_of told ∙ c.in_err-matches.ensures.passes (ap (λ (a : App). takes a words) is ∙ asked.taken))
+    c.from_residual-in_err-matches.ensures.1
 
 pub returns-in_err-error-in-None-clause-taken : goal.returns-in_err-error-in-None-clause-taken
 returns-in_err-error-in-None-clause-taken c =

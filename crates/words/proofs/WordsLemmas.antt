@@ -11,9 +11,9 @@ use Rattle.clap.specs.declared.parser.matches.ArgMatches.{ArgMatches}
 use Rattle.clap.specs.declared.parser.matches.ArgMatches.TheViews.{out-ArgMatches, out-SubCommand}
 use Rattle.clap.specs.declared.parser.matches.SubCommand.{SubCommand}
 use Rattle.clap.proofs.OnLiterals.{clap_on_literals}
-use Rattle.inputs.specs.Words.{usage, AreOf}
-use Rattle.inputs.specs.declared.words.Settings.{Settings}
-use Rattle.inputs.specs.declared.words.Settings.TheVariants.{Run, Recover}
+use Rattle.words.specs.Words.{usage, AreOf}
+use Rattle.words.specs.declared.settings.Settings.{Settings}
+use Rattle.words.specs.declared.settings.Settings.TheVariants.{Run, Recover}
 
 -- of such a usage `clap` says which word is which
 pub usage-simple : is_simple usage ≡ true

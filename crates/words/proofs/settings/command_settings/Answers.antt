@@ -2,9 +2,9 @@ use Rattle.std.proofs.Common.{◌≡◌, ◌∙◌, Some, ap, codes, sym}
 use Rattle.std.specs.Option.{option_map}
 use Rattle.clap.specs.Words.{Text, first_value, found_of, rows_of, subcommand_rows_of}
 use Rattle.clap.proofs.WalkLemmas.{first_value-rows}
-use Rattle.inputs.specs.Words.{word_in}
-use Rattle.inputs.proofs.WordsLemmas.{AreOf-same, if-AreOf-same, named}
-use Rattle.inputs.proofs.words.command_settings.Goals as goal
+use Rattle.words.specs.Words.{word_in}
+use Rattle.words.proofs.WordsLemmas.{AreOf-same, if-AreOf-same, named}
+use Rattle.words.proofs.settings.command_settings.Goals as goal
 
 pub returns-in-run-clause-said : goal.returns-in-run-clause-said
 returns-in-run-clause-said c =

@@ -2,8 +2,8 @@ use Rattle.std.proofs.Common.{◌≡◌, ◌∙◌, ap, ap₂, codes, true}
 use Rattle.clap.specs.Simple.{app_of_fields, on_top}
 use Rattle.clap.specs.Words.{App, app_of, new_app, with_rule, with_subcommand}
 use Rattle.values.specs.declared.limits.TheConstants.{MAX_RECENT_COMMITS, MAX_ROWS}
-use Rattle.inputs.specs.Words.{flag_rule, number_rule, option_rule, placed_rule}
-use Rattle.inputs.proofs.words.program.Goals as goal
+use Rattle.words.specs.Words.{flag_rule, number_rule, option_rule, placed_rule}
+use Rattle.words.proofs.usage.program.Goals as goal
 
 pub returns-clause-ok : goal.returns-clause-ok
 returns-clause-ok c =

@@ -3,8 +3,8 @@
 use Rattle.std.proofs.Common.{◌≡◌, ◌∷◌, [], List, Some, false, codes, refl}
 use Rattle.clap.specs.Words.{Text, takes}
 use Rattle.clap.proofs.OnLiterals.{clap_on_literals}
-use Rattle.inputs.specs.Words.{usage, word_for}
-use Rattle.inputs.specs.declared.words.TheConstants.{RECENT_COMMITS}
+use Rattle.words.specs.Words.{usage, word_for}
+use Rattle.words.specs.declared.settings.TheConstants.{RECENT_COMMITS}
 
 -- how many recent commits are kept where nothing is said
 recent_commits : RECENT_COMMITS ≡ 64
