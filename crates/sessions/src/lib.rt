@@ -10,6 +10,8 @@ mod acts;
 #[cfg(test)]
 mod assertions;
 #[cfg(test)]
+mod managers;
+#[cfg(test)]
 mod replays;
 #[cfg(test)]
 mod scenes;

@@ -6,10 +6,11 @@ mod replay;
 
 use crate::acts::written;
 use crate::assertions::{assert_holds, assert_holds_at};
+use crate::managers::base_manager;
 use devices::{ColumnDevice, Store, have_failed};
-use fixtures::{BASE, ItemWrite, base_table, device_over, empty_slots, items};
+use fixtures::{BASE, ItemWrite, device_over, empty_slots, items};
 use manager::{History, Manager};
-use model::{CommitReply, ConflictRule};
+use model::CommitReply;
 use publishing::Opening;
 use replay::Replay;
 use shared::{Closed, ImageStore, NewOpening, Session, Shared, open};
@@ -217,9 +218,7 @@ fn a_thousand_commits_on_eight_threads_are_replayed(rt: HostRuntime) -> Result<(
     if have_failed(&devices) {
         return Err(Fail::new("a device has failed before its first append"));
     }
-    let table = base_table(alloc)?;
-    let recent = RECENT as usize;
-    let manager = Manager::open(alloc, table, recent, MAX_ROWS, ConflictRule::ByColumn)?;
+    let manager = base_manager(alloc, RECENT as usize, MAX_ROWS)?;
     let store = Store::new(alloc, devices, manager.version().schema(), 1)?;
     let fresh = NewOpening::new(&manager, CLIENTS);
     play::<Brand, Store, _>(&rt, alloc, manager, store, fresh)

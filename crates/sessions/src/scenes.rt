@@ -13,9 +13,10 @@ mod tellings;
 
 use crate::acts::{Act, Client, is_answered, is_done};
 use crate::assertions::{assert_holds, assert_holds_at};
+use crate::managers::base_manager;
 use crate::shown::{Recorded, are_records, has_items};
 use devices::{ColumnDevice, ReadFault, Store, have_failed, read_store};
-use fixtures::{BASE, Item, Slot, all_left_in, base_table, device_over, empty_slots, item_columns};
+use fixtures::{BASE, Item, Slot, all_left_in, device_over, empty_slots, item_columns};
 use manager::Manager;
 use model::{CommitReply, ConflictRule};
 use publishing::Opening;
@@ -233,9 +234,7 @@ fn play_over<R: Wait + Abort>(
     if have_failed(&devices) {
         return Err(Fail::new("a device has failed before its first append"));
     }
-    let table = base_table(alloc)?;
-    let by_column = ConflictRule::ByColumn;
-    let manager = Manager::open(alloc, table, scene.recent, scene.limit, by_column)?;
+    let manager = base_manager(alloc, scene.recent, scene.limit)?;
     let store = Store::new(alloc, devices, manager.version().schema(), 1)?;
     let fresh = NewOpening::new(&manager, scene.clients);
     play_in::<Brand, Store, R>(rt, alloc, manager, store, fresh, scene)

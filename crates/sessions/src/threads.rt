@@ -2,13 +2,14 @@
 ghost use Rattle.std.specs.Prelude.{◌≡◌, []};
 
 use crate::assertions::assert_holds;
+use crate::managers::base_manager;
 use crate::shown::{has_items, is_item};
 use devices::{ColumnDevice, Store, have_failed};
-use fixtures::{base_table, device_over, empty_slots, item, key};
+use fixtures::{device_over, empty_slots, item, key};
 use manager::Manager;
-use model::{CommitReply, ConflictRule, WriteReply};
+use model::{CommitReply, WriteReply};
 use publishing::Opening;
-use shared::{ImageStore, NewOpening, Session, Shared, open};
+use shared::{Closed, ImageStore, NewOpening, Session, Shared, open};
 use std::alloc::Global;
 use std::marker::Brand;
 use std::process::Abort;
@@ -86,6 +87,58 @@ fn rows(alloc: Global) -> Result<Vec<Row>, NoMemory> {
     Ok(rows)
 }
 
+/// How many times each of two sessions does so, both at once on two threads.
+fn both_glance<O: Opening + Send + Sync, R: Threads + Sync>(
+    rt: &R,
+    alloc: Global,
+    a: &mut Session<O>,
+    b: &mut Session<O>,
+) -> Result<(u64, u64), NoMemory> {
+    let (own, other) = (rows(alloc)?, rows(alloc)?);
+    let both = join(rt, || glances_at_all(a, own), || glances_at_all(b, other));
+    Ok(both)
+}
+
+/// How many times the one does so while the other one commits, and how many times that does.
+fn one_works<O: Opening + Send + Sync, S: ImageStore + Send, R: Threads + Wait + Sync>(
+    rt: &R,
+    alloc: Global,
+    shared: &Shared<O, S>,
+    a: &mut Session<O>,
+    b: &mut Session<O>,
+) -> Result<(u64, u64), NoMemory> {
+    let (ten, last) = (key(alloc, 10)?, rows(alloc)?);
+    let one = join(
+        rt,
+        || glances_at_all(a, last),
+        || works_often(rt, shared, b, &ten),
+    );
+    Ok(one)
+}
+
+/// Whether two sessions do all that at each turn.
+fn are_quick<O: Opening + Send + Sync, S: ImageStore + Send, R: Threads + Wait + Sync>(
+    rt: &R,
+    alloc: Global,
+    shared: &Shared<O, S>,
+    sessions: &mut Vec<Session<O>>,
+) -> Result<bool, NoMemory> {
+    let [a, b] = sessions.as_mut_slice() else {
+        return Ok(false);
+    };
+    let both = both_glance(rt, alloc, a, b)?;
+    let one = one_works(rt, alloc, shared, a, b)?;
+    Ok(both == (TURNS, TURNS) && one == (TURNS, TURNS))
+}
+
+/// That the other one's commits are counted, and the last of them is the newest.
+fn assert_closed<S: ImageStore>(rt: &impl Abort, closed: &Closed<S>) {
+    let counts = closed.counts.as_slice();
+    assert_holds(rt, counts == [0, TURNS].as_slice(), "counts");
+    let rows = [(10, "Ann", 7), (20, "Bob", 2), (30, "Cid", 3)];
+    assert_holds(rt, has_items(&closed.manager, &rows), "rows");
+}
+
 /// Two sessions on two threads: both begin and abort, and then one does while the other one commits.
 fn play<O: Opening + Send + Sync, S: ImageStore + Send, R: Threads + Wait + Abort + Sync>(
     rt: &R,
@@ -98,44 +151,11 @@ fn play<O: Opening + Send + Sync, S: ImageStore + Send, R: Threads + Wait + Abor
     requires opening { (fresh.book.list.opening ≡ O.opened) × (fresh.book.list.list ≡ []) × (O.opened.manager ≡ manager) }
     requires store { S.columns store ≡ manager.schema }
 {
-    let (ten, own, other, last) = (key(alloc, 10)?, rows(alloc)?, rows(alloc)?, rows(alloc)?);
     let (shared, mut sessions) = open::<O, S, R>(alloc, manager, store, 2, fresh, rt)?;
-    let to = &shared;
-    let mut seen = None;
-    let (b, a) = (sessions.pop(), sessions.pop());
-    if let (Some(mut a), Some(mut b)) = (a, b) {
-        let both = join(
-            rt,
-            || glances_at_all(&mut a, own),
-            || glances_at_all(&mut b, other),
-        );
-        let one = join(
-            rt,
-            || glances_at_all(&mut a, last),
-            || works_often(rt, to, &mut b, &ten),
-        );
-        let back = sessions.push(a).is_ok() && sessions.push(b).is_ok();
-        seen = Some((both, one, back));
-    }
+    let quick = are_quick(rt, alloc, &shared, &mut sessions);
     let closed = shared.close(sessions, rt);
-    assert_holds(
-        rt,
-        seen == Some(((TURNS, TURNS), (TURNS, TURNS), true)),
-        "turns",
-    );
-    assert_holds(
-        rt,
-        closed.counts.as_slice() == [0, TURNS].as_slice(),
-        "counts",
-    );
-    assert_holds(
-        rt,
-        has_items(
-            &closed.manager,
-            &[(10, "Ann", 7), (20, "Bob", 2), (30, "Cid", 3)],
-        ),
-        "rows",
-    );
+    assert_closed(rt, &closed);
+    assert_holds(rt, quick?, "turns");
     Ok(())
 }
 
@@ -150,8 +170,7 @@ fn sessions_on_two_threads_wait_for_nobody(rt: HostRuntime) -> Result<(), Fail> 
     if have_failed(&devices) {
         return Err(Fail::new("a device has failed before its first append"));
     }
-    let table = base_table(alloc)?;
-    let manager = Manager::open(alloc, table, 64, MAX_ROWS, ConflictRule::ByColumn)?;
+    let manager = base_manager(alloc, 64, MAX_ROWS)?;
     let store = Store::new(alloc, devices, manager.version().schema(), 1)?;
     let fresh = NewOpening::new(&manager, 2);
     play::<Brand, Store, _>(&rt, alloc, manager, store, fresh)

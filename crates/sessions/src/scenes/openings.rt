@@ -2,10 +2,10 @@
 ghost use Rattle.std.specs.Prelude.{◌≡◌, []};
 
 use crate::assertions::{assert_holds, assert_holds_at};
+use crate::managers::base_manager;
 use devices::{ColumnDevice, Store, have_failed};
-use fixtures::{Slot, base_table, device_over, empty_slots, left_in};
+use fixtures::{Slot, device_over, empty_slots, left_in};
 use manager::Manager;
-use model::ConflictRule;
 use publishing::Opening;
 use shared::{ImageStore, NewOpening, Session, ShareFault, open};
 use std::alloc::Global;
@@ -83,8 +83,7 @@ fn opened_over<R: Wait + Abort>(
     if have_failed(&devices) {
         return Err(Fail::new("a device has failed before its first append"));
     }
-    let table = base_table(alloc)?;
-    let manager = Manager::open(alloc, table, 64, MAX_ROWS, ConflictRule::ByColumn)?;
+    let manager = base_manager(alloc, 64, MAX_ROWS)?;
     let store = Store::new(alloc, devices, manager.version().schema(), 1)?;
     let fresh = NewOpening::new(&manager, clients);
     Ok(opened_in::<Brand, Store, R>(rt, alloc, manager, store, clients, fresh))

@@ -4,12 +4,12 @@ ghost use Rattle.std.specs.Prelude.{◌≡◌, []};
 use super::{assert_steps, assert_stored};
 use crate::acts::{Act, Client};
 use crate::assertions::assert_holds;
+use crate::managers::base_manager;
 use devices::{ColumnDevice, Store, have_failed};
 use fixtures::ItemWrite::Insert;
 use fixtures::{BASE, Failure, Item, Slot, base_table, device_over, empty_slots, schema};
 use manager::{CheckpointFault, Manager};
 use model::CommitReply::Committed;
-use model::ConflictRule;
 use model::WriteReply::Done;
 use publishing::Opening;
 use shared::{ImageStore, NewOpening, Session, Shared, open};
@@ -126,8 +126,7 @@ fn play<R: Wait + Abort>(
         return Err(Fail::new("a device has failed before its first append"));
     }
     let other = Store::new(alloc, second, columns, 1)?;
-    let table = base_table(alloc)?;
-    let manager = Manager::open(alloc, table, 64, MAX_ROWS, ConflictRule::ByColumn)?;
+    let manager = base_manager(alloc, 64, MAX_ROWS)?;
     let store = Store::new(alloc, devices, manager.version().schema(), 1)?;
     let fresh = NewOpening::new(&manager, 1);
     swap_in::<Brand, Store, R>(rt, alloc, manager, store, other, fresh, swap)

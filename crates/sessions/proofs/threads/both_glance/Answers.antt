@@ -3,17 +3,11 @@ use denote.Param.Send.{sendable}
 use Rattle.std.proofs.Crossing.{crosses}
 use Rattle.values.proofs.row.Row.TheSendSync as row
 use Rattle.shared.proofs.Crossing.{session_send}
-use Rattle.sessions.proofs.threads.play.Goals as goal
+use Rattle.sessions.proofs.threads.both_glance.Goals as goal
 
 -- a session and its rows go to another thread
 pub join-both-requires-send-F : goal.join-both-requires-send-F
 join-both-requires-send-F g c κs within =
-    let a = session_send (param 0 g.row.O) g.O.Opening g.O.Ledger in
-    let b = row.the_send in
-    search (crosses, sendable) depth 40
-
-pub join-one-requires-send-F : goal.join-one-requires-send-F
-join-one-requires-send-F g c κs within =
     let a = session_send (param 0 g.row.O) g.O.Opening g.O.Ledger in
     let b = row.the_send in
     search (crosses, sendable) depth 40
