@@ -44,11 +44,10 @@ struct Layered {
 #[derive(Drop)]
 struct Stack {
     stable: StableTable,
-    read: DeltaTree,
-    write: DeltaTree,
-    trans: DeltaTree,
-    /// The rows of the image, as the plain program merges them.
-    rows: Vec<Row>,
+    read: Layered,
+    write: Layered,
+    /// Its rows are those of the image.
+    trans: Layered,
 }
 
 /// Whether the write fits the schema.
@@ -106,7 +105,7 @@ fn make_layer(
 
 /// The rows under three transactions' writes.
 fn stacked(alloc: Global, rows: &[Row], writes: [&[Write]; 3]) -> Result<Stack, Fail>
-    ensures { IfOk result (λ made. AreStacked made.stable made.read made.write made.trans) }
+    ensures { IfOk result (λ made. AreStacked made.stable made.read.tree made.write.tree made.trans.tree) }
 {
     let stable = StableTable::build(alloc, item_columns(alloc)?, copy_rows(alloc, rows)?)?;
     let schema = stable.schema();
@@ -116,10 +115,9 @@ fn stacked(alloc: Global, rows: &[Row], writes: [&[Write]; 3]) -> Result<Stack, 
     let trans = make_layer(alloc, schema, &write.after, writes[2])?;
     Ok(Stack {
         stable,
-        read: read.tree,
-        write: write.tree,
-        trans: trans.tree,
-        rows: trans.rows,
+        read,
+        write,
+        trans,
     })
 }
 
@@ -133,7 +131,7 @@ type Case = (
 
 /// The rows under the named writes of three transactions.
 fn named_stack(alloc: Global, rows: &[Row], named: [&[ItemWrite]; 3]) -> Result<Stack, Fail>
-    ensures { IfOk result (λ made. AreStacked made.stable made.read made.write made.trans) }
+    ensures { IfOk result (λ made. AreStacked made.stable made.read.tree made.write.tree made.trans.tree) }
 {
     let read = writes_of(alloc, named[0])?;
     let write = writes_of(alloc, named[1])?;
@@ -199,7 +197,7 @@ fn assert_range(
 
 /// Three layers over the base table, whose image has the keys 15, 20, 30 and 35.
 fn three_layers(alloc: Global) -> Result<Stack, Fail>
-    ensures { IfOk result (λ made. AreStacked made.stable made.read made.write made.trans) }
+    ensures { IfOk result (λ made. AreStacked made.stable made.read.tree made.write.tree made.trans.tree) }
 {
     static READ: [ItemWrite; 2] = [ItemWrite::Insert(15, "Flo", 5), ItemWrite::Delete(30)];
     static WRITE: [ItemWrite; 2] = [ItemWrite::Set(15, 6), ItemWrite::Insert(30, "Zed", 7)];
@@ -208,8 +206,10 @@ fn three_layers(alloc: Global) -> Result<Stack, Fail>
     named_stack(alloc, rows.as_slice(), [&READ, &WRITE, &TRANS])
 }
 
-#[test]
-fn three_layers_make_one_image(rt: HostRuntime) -> Result<(), Fail> {
+/// That they have these rows, at positions and in ranges.
+fn assert_rows(rt: &impl Abort, alloc: Global, stack: &Stack) -> Result<(), Fail>
+    requires { AreStacked stack.now.stable stack.now.read.tree stack.now.write.tree stack.now.trans.tree }
+{
     static ROWS: [(u64, &str); 4] = [(0, "15,Flo,6"), (1, "20,Bob,2"), (3, "35,Gus,8"), (4, "")];
     static RANGES: [((u64, u64), &str); 4] = [
         ((1, 9), "20,Bob,2 30,Zed,7 35,Gus,8"),
@@ -217,15 +217,21 @@ fn three_layers_make_one_image(rt: HostRuntime) -> Result<(), Fail> {
         ((0, u64::MAX), "15,Flo,6 20,Bob,2 30,Zed,7 35,Gus,8"),
         ((u64::MAX, u64::MAX), ""),
     ];
-    let stack = three_layers(rt.alloc())?;
-    let layers = Layers::new(&stack.stable, &stack.read, &stack.write, &stack.trans);
+    let (read, write, trans) = (&stack.read.tree, &stack.write.tree, &stack.trans.tree);
+    let layers = Layers::new(&stack.stable, read, write, trans);
     for (rid, want) in &ROWS {
-        assert_row_at(&rt, rt.alloc(), &layers, *rid, *want)?;
+        assert_row_at(rt, alloc, &layers, *rid, *want)?;
     }
     for (range, want) in &RANGES {
-        assert_range(&rt, rt.alloc(), &layers, *range, *want)?;
+        assert_range(rt, alloc, &layers, *range, *want)?;
     }
     Ok(())
+}
+
+#[test]
+fn three_layers_make_one_image(rt: HostRuntime) -> Result<(), Fail> {
+    let stack = three_layers(rt.alloc())?;
+    assert_rows(&rt, rt.alloc(), &stack)
 }
 
 #[test]
@@ -237,40 +243,40 @@ fn keys_have_their_ranks_in_three_layers(rt: HostRuntime) -> Result<(), Fail> {
         (99, (4, false)),
     ];
     let stack = three_layers(rt.alloc())?;
-    let layers = Layers::new(&stack.stable, &stack.read, &stack.write, &stack.trans);
+    let (read, write, trans) = (&stack.read.tree, &stack.write.tree, &stack.trans.tree);
+    let layers = Layers::new(&stack.stable, read, write, trans);
     for (id, place) in &RANKS {
         assert_rank(&rt, rt.alloc(), &layers, *id, *place)?;
     }
     Ok(())
 }
 
+/// That layers of four rows count those past the first.
+fn assert_scan_counted(rt: &impl Abort, layers: &Layers<'_>) {
+    assert_holds(rt, layers.len() == 4, "the rows");
+    assert_holds(rt, !layers.is_empty(), "some row");
+    assert_holds(rt, layers.scan(1, 9).len() == 3, "the rows of a scan");
+    let told = layers.scan(1, 9).size_hint();
+    assert_holds(rt, told == (3, Some(3)), "as told before");
+}
+
+/// The same, in stretches.
+fn assert_stretches_counted(rt: &impl Abort, layers: &Layers<'_>) {
+    let told = layers.stretches(1, 9).size_hint();
+    assert_holds(rt, told == (1, Some(3)), "the stretches");
+    let left = layers.stretches(1, 9).rows_left();
+    assert_holds(rt, left == 3, "the rows left");
+    let rows = rows_in_stretches(layers, 1, 9);
+    assert_holds(rt, rows == 3, "the rows in stretches");
+}
+
 #[test]
 fn three_layers_count_their_rows(rt: HostRuntime) -> Result<(), Fail> {
     let stack = three_layers(rt.alloc())?;
-    let layers = Layers::new(&stack.stable, &stack.read, &stack.write, &stack.trans);
-    assert_holds(&rt, layers.len() == 4, "the rows");
-    assert_holds(&rt, !layers.is_empty(), "some row");
-    assert_holds(&rt, layers.scan(1, 9).len() == 3, "the rows of a scan");
-    assert_holds(
-        &rt,
-        layers.scan(1, 9).size_hint() == (3, Some(3)),
-        "as told before",
-    );
-    assert_holds(
-        &rt,
-        layers.stretches(1, 9).size_hint() == (1, Some(3)),
-        "the stretches",
-    );
-    assert_holds(
-        &rt,
-        layers.stretches(1, 9).rows_left() == 3,
-        "the rows left",
-    );
-    assert_holds(
-        &rt,
-        rows_in_stretches(&layers, 1, 9) == 3,
-        "the rows in stretches",
-    );
+    let (read, write, trans) = (&stack.read.tree, &stack.write.tree, &stack.trans.tree);
+    let layers = Layers::new(&stack.stable, read, write, trans);
+    assert_scan_counted(&rt, &layers);
+    assert_stretches_counted(&rt, &layers);
     Ok(())
 }
 
@@ -282,7 +288,8 @@ fn assert_image(
 ) -> Result<(), Fail> {
     let rows = items(alloc, named)?;
     let stack = named_stack(alloc, rows.as_slice(), steps)?;
-    let layers = Layers::new(&stack.stable, &stack.read, &stack.write, &stack.trans);
+    let (read, write, trans) = (&stack.read.tree, &stack.write.tree, &stack.trans.tree);
+    let layers = Layers::new(&stack.stable, read, write, trans);
     let text = rows_text(alloc, layers.scan(0, u64::MAX))?;
     assert_text(rt, text.as_str(), image, label);
     Ok(())

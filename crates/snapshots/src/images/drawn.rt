@@ -8,6 +8,7 @@ use merge::Layers;
 use model::Write;
 use stable::StableTable;
 use std::alloc::Global;
+use std::process::Abort;
 use std::test::Fail;
 use values::{NoMemory, Row};
 
@@ -84,7 +85,7 @@ fn old_rows(alloc: Global) -> Result<Vec<Row>, NoMemory> {
 
 /// Those rows under the writes of three transactions.
 fn drawn_stack(alloc: Global) -> Result<Stack, Fail>
-    ensures { IfOk result (λ made. AreStacked made.stable made.read made.write made.trans) }
+    ensures { IfOk result (λ made. AreStacked made.stable made.read.tree made.write.tree made.trans.tree) }
 {
     let rows = old_rows(alloc)?;
     let mut draws = Draws::new(2_010);
@@ -98,18 +99,41 @@ fn drawn_stack(alloc: Global) -> Result<Stack, Fail>
     )
 }
 
+/// Whether each range has its rows.
+fn has_ranges(alloc: Global, layers: &Layers<'_>, rows: &[Row]) -> Result<bool, Fail> {
+    static RANGES: [(u64, u64); 5] = [(0, 2_000), (1, 999), (500, 501), (333, 777), (998, 1_400)];
+    for (from, to) in &RANGES {
+        if !agrees(alloc, layers, rows, *from, *to)? {
+            return Ok(false);
+        }
+    }
+    Ok(true)
+}
+
+/// Whether the layers, as a table, have just these rows.
+fn makes_table(alloc: Global, layers: &Layers<'_>, rows: &[Row]) -> Result<bool, Fail> {
+    if layers.len() > 2_000 {
+        return Ok(false);
+    }
+    let table = layers.to_table(alloc)?;
+    is_table_of(alloc, &table, rows)
+}
+
+/// That the image has its rows at each place, in ranges and as a table.
+fn assert_rows(rt: &impl Abort, alloc: Global, stack: &Stack) -> Result<(), Fail>
+    requires { AreStacked stack.now.stable stack.now.read.tree stack.now.write.tree stack.now.trans.tree }
+{
+    let rows = stack.trans.rows.as_slice();
+    let (read, write, trans) = (&stack.read.tree, &stack.write.tree, &stack.trans.tree);
+    let layers = Layers::new(&stack.stable, read, write, trans);
+    assert!(rt; has_places(alloc, &layers, rows)?);
+    assert!(rt; has_ranges(alloc, &layers, rows)?);
+    assert!(rt; makes_table(alloc, &layers, rows)?);
+    Ok(())
+}
+
 #[test]
 fn a_thousand_rows_are_as_the_plain_program_merges_them(rt: HostRuntime) -> Result<(), Fail> {
-    static RANGES: [(u64, u64); 5] = [(0, 2_000), (1, 999), (500, 501), (333, 777), (998, 1_400)];
     let stack = drawn_stack(rt.alloc())?;
-    let rows = stack.rows.as_slice();
-    let layers = Layers::new(&stack.stable, &stack.read, &stack.write, &stack.trans);
-    assert!(rt; has_places(rt.alloc(), &layers, rows)?);
-    for (from, to) in &RANGES {
-        assert!(rt; agrees(rt.alloc(), &layers, rows, *from, *to)?);
-    }
-    assert!(rt; layers.len() <= 2_000);
-    let table = layers.to_table(rt.alloc())?;
-    assert!(rt; is_table_of(rt.alloc(), &table, rows)?);
-    Ok(())
+    assert_rows(&rt, rt.alloc(), &stack)
 }

@@ -1,6 +1,6 @@
 //! A thousand pairs of transactions of writes drawn by chance, over three hundred keys: folded, passed and refused as the
 //! slow program composes them and finds that they conflict.
-ghost use Rattle.std.specs.Prelude.{◌<◌};
+ghost use Rattle.std.specs.Prelude.{◌<◌, IfOk};
 ghost use Rattle.stable.specs.Stable.{table_in};
 ghost use Rattle.merge.specs.Image.{IsLayer};
 
@@ -151,6 +151,28 @@ fn folds(
     Ok(has_entries(&tree, entries.as_slice()))
 }
 
+/// What a transaction of drawn writes over the table leaves.
+fn drawn_over(alloc: Global, stable: &Arc<StableTable>, draws: &mut Draws) -> Result<Leavings, Fail>
+    ensures { IfOk result (λ made. IsLayer stable.now.value.schema (table_in stable.now.value) made.tree) }
+{
+    let writes = drawn_writes(alloc, draws)?;
+    Ok(written_over(alloc, stable, writes)?)
+}
+
+/// Whether two pass each other.
+fn pass(
+    alloc: Global,
+    stable: &Arc<StableTable>,
+    table: &OrderedTable,
+    x: &Leavings,
+    y: &Leavings,
+) -> Result<bool, Fail>
+    requires first { IsLayer stable.now.value.schema (table_in stable.now.value) x.now.tree }
+    requires second { IsLayer stable.now.value.schema (table_in stable.now.value) y.now.tree }
+{
+    Ok(passes(alloc, stable, table, x, y)? && passes(alloc, stable, table, y, x)?)
+}
+
 /// Whether a pair of transactions agrees with the slow program.
 fn agrees(
     alloc: Global,
@@ -159,14 +181,11 @@ fn agrees(
     seed: u64,
 ) -> Result<bool, Fail> {
     let mut draws = Draws::new(seed);
-    let x = written_over(alloc, stable, drawn_writes(alloc, &mut draws)?)?;
-    let y = written_over(alloc, stable, drawn_writes(alloc, &mut draws)?)?;
+    let x = drawn_over(alloc, stable, &mut draws)?;
+    let y = drawn_over(alloc, stable, &mut draws)?;
+    let both_pass = pass(alloc, stable, table, &x, &y)?;
     let above = drawn_writes(alloc, &mut draws)?;
-    Ok(
-        passes(alloc, stable, table, &x, &y)?
-            && passes(alloc, stable, table, &y, &x)?
-            && folds(alloc, stable, table, &x, above)?,
-    )
+    Ok(both_pass && folds(alloc, stable, table, &x, above)?)
 }
 
 #[test]

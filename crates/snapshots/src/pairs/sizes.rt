@@ -1,5 +1,9 @@
 //! Trees of no entries, of one, of a leaf and a few, and of ten thousand, folded and made consecutive: over a table of no
 //! rows, where each place is known.
+ghost use Rattle.std.specs.Prelude.{IfOk};
+ghost use Rattle.stable.specs.Stable.{table_in};
+ghost use Rattle.merge.specs.Image.{IsLayer};
+
 use super::{folded, passed, table_of, written_over};
 use delta::{Change, DeltaTree, SharedEntry};
 use fixtures::{ItemWrite, writes_of};
@@ -88,30 +92,87 @@ fn kept(alloc: Global, count: u16, gone: u16) -> Result<Vec<Spot>, NoMemory> {
     Ok(spots)
 }
 
-/// Whether a tree of the one size takes in one of the other size: inserts between its own, and deletes of its rows.
+/// The tree that a transaction of these writes over the table leaves.
+fn tree_over(
+    alloc: Global,
+    stable: &Arc<StableTable>,
+    writes: Vec<Write>,
+) -> Result<DeltaTree, Fail>
+    ensures { IfOk result (λ tree. IsLayer stable.now.value.schema (table_in stable.now.value) tree) }
+{
+    Ok(written_over(alloc, stable, writes)?.tree)
+}
+
+/// The tree with one folded into it that a transaction of these writes over its image leaves.
+fn tree_with(
+    alloc: Global,
+    stable: &Arc<StableTable>,
+    lower: &DeltaTree,
+    writes: Vec<Write>,
+) -> Result<DeltaTree, Fail>
+    requires { IsLayer stable.now.value.schema (table_in stable.now.value) lower.now }
+{
+    Ok(folded(alloc, stable, lower, writes)?.0)
+}
+
+/// Whether a tree of the one size takes in so many inserts between its own.
+fn takes_inserts(
+    alloc: Global,
+    stable: &Arc<StableTable>,
+    lower: &DeltaTree,
+    count: u16,
+    other: u16,
+) -> Result<bool, Fail>
+    requires { IsLayer stable.now.value.schema (table_in stable.now.value) lower.now }
+{
+    let spots = merged(alloc, count, other)?;
+    let tree = tree_with(alloc, stable, lower, inserts(alloc, other, 1)?)?;
+    Ok(stands(&tree, spots.as_slice()))
+}
+
+/// Whether it takes in so many deletes of its rows.
+fn takes_deletes(
+    alloc: Global,
+    stable: &Arc<StableTable>,
+    lower: &DeltaTree,
+    count: u16,
+    other: u16,
+) -> Result<bool, Fail>
+    requires { IsLayer stable.now.value.schema (table_in stable.now.value) lower.now }
+{
+    let spots = kept(alloc, count, other)?;
+    let tree = tree_with(alloc, stable, lower, deletes(alloc, other)?)?;
+    Ok(stands(&tree, spots.as_slice()))
+}
+
+/// Whether a tree of the one size takes in one of the other size.
 fn takes_in(
     alloc: Global,
     stable: &Arc<StableTable>,
     count: u16,
     other: u16,
 ) -> Result<bool, Fail> {
-    let lower = written_over(alloc, stable, inserts(alloc, count, 0)?)?.tree;
-    let (more, _upper) = folded(alloc, stable, &lower, inserts(alloc, other, 1)?)?;
-    let (fewer, _upper) = folded(alloc, stable, &lower, deletes(alloc, other)?)?;
-    Ok(
-        stands(&more, merged(alloc, count, other)?.as_slice())
-            && stands(&fewer, kept(alloc, count, other)?.as_slice()),
-    )
+    let lower = tree_over(alloc, stable, inserts(alloc, count, 0)?)?;
+    let takes_more = takes_inserts(alloc, stable, &lower, count, other)?;
+    let takes_less = takes_deletes(alloc, stable, &lower, count, other)?;
+    Ok(takes_more && takes_less)
+}
+
+/// Whether this is a tree of so many inserts that has passed one of so many others.
+fn has_moved(serialized: &Serialized, spots: &[Spot]) -> bool {
+    match serialized {
+        Serialized::Tree(tree) => stands(tree, spots),
+        Serialized::Conflict(_) => false,
+    }
 }
 
 /// Whether a tree of the one size passes one of the other size.
 fn passes(alloc: Global, stable: &Arc<StableTable>, count: u16, other: u16) -> Result<bool, Fail> {
-    let x = written_over(alloc, stable, inserts(alloc, count, 1)?)?.tree;
-    let y = written_over(alloc, stable, inserts(alloc, other, 0)?)?.tree;
-    match passed(alloc, stable, &x, &y, ConflictRule::ByColumn)? {
-        Serialized::Tree(tree) => Ok(stands(&tree, moved(alloc, count, other)?.as_slice())),
-        Serialized::Conflict(_) => Ok(false),
-    }
+    let spots = moved(alloc, count, other)?;
+    let x = tree_over(alloc, stable, inserts(alloc, count, 1)?)?;
+    let y = tree_over(alloc, stable, inserts(alloc, other, 0)?)?;
+    let serialized = passed(alloc, stable, &x, &y, ConflictRule::ByColumn)?;
+    Ok(has_moved(&serialized, spots.as_slice()))
 }
 
 #[test]
