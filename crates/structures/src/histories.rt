@@ -216,6 +216,13 @@ fn history_of(alloc: Global, steps: &[Step]) -> Result<Vec<Record>, NoMemory> {
     Ok(history)
 }
 
+/// Whether the history before the cut is legal.
+fn is_legal_before(alloc: Global) -> Result<bool, NoMemory> {
+    let history = history_of(alloc, &BEFORE)?;
+    let start = Start::new(base(alloc)?, 0, AMPLE, RECENT, ByColumn);
+    is_legal(alloc, 1, &start, &[], history.as_slice())
+}
+
 /// Whether the history after the cut is legal where these are the older tables.
 fn is_legal_after(alloc: Global, older: &[OrderedTable]) -> Result<bool, NoMemory> {
     let history = history_of(alloc, &AFTER)?;
@@ -235,10 +242,7 @@ fn is_legal_over(alloc: Global, table: OrderedTable) -> Result<bool, NoMemory> {
 #[test]
 fn numbers_go_on_after_a_cut(rt: HostRuntime) -> Result<(), Fail> {
     let alloc = rt.alloc();
-    let history = history_of(alloc, &BEFORE)?;
-    let start = Start::new(base(alloc)?, 0, AMPLE, RECENT, ByColumn);
-    let before = is_legal(alloc, 1, &start, &[], history.as_slice())?;
-    assert_holds(&rt, before, "before the cut");
+    assert_holds(&rt, is_legal_before(alloc)?, "before the cut");
     // The second record began at the base table, which the cut took away.
     assert_holds(&rt, !is_legal_after(alloc, &[])?, "over no table");
     assert_holds(&rt, is_legal_over(alloc, base(alloc)?)?, "over its table");

@@ -7,8 +7,8 @@ mod refusals;
 mod rounds;
 mod vectors;
 
-use devices::{ColumnDevice, FailAt, MemColumn, Store};
-use fixtures::{Item, left_in, row_with, schema};
+use devices::{ColumnDevice, FailAt, MemColumn, Store, StoreFault};
+use fixtures::{Item, Slot, left_in, row_with, schema};
 use stable::StableTable;
 use std::alloc::Global;
 use std::sync::{Arc, OnceLock};
@@ -87,17 +87,28 @@ static NAMED: [u8; 29] = [
     0x48, 2, 1, 0x42, 0, 0, 0, 1, 0, 0, 0, 0, 1, 0, 1, 0, 0, 0, 9, 0, 0, 0, 0, 0, 0, 0, 0, 10, 0x45,
 ];
 
+/// What a store answers to the image of a table of one column, from this generation on. Its device begins with these bytes, and
+/// leaves its own in the slot.
+fn stored(
+    alloc: Global,
+    slot: &Slot,
+    before: &[u8],
+    table: &StableTable,
+    first: u32,
+) -> Result<Result<u32, StoreFault>, Fail> {
+    let column = MemColumn::new(Vec::from_slice(alloc, before)?, Arc::try_clone(slot)?)?;
+    let mut devices: Vec<Box<dyn ColumnDevice + Send>> = Vec::new(alloc);
+    devices.push(Box::new(alloc, column)?)?;
+    let mut store = Store::new(alloc, devices, table.schema(), first)?;
+    Ok(store.append_image(table))
+}
+
 #[test]
 fn one_row_is_stored_as_it_is_named(rt: HostRuntime) -> Result<(), Fail> {
     let out = Arc::new(rt.alloc(), OnceLock::new())?;
     let table = one_row(rt.alloc())?;
-    let column = MemColumn::new(Vec::new(rt.alloc()), Arc::try_clone(&out)?)?;
-    let mut devices: Vec<Box<dyn ColumnDevice + Send>> = Vec::new(rt.alloc());
-    devices.push(Box::new(rt.alloc(), column)?)?;
-    let schema = table.schema().copy()?;
-    let mut store = Store::new(rt.alloc(), devices, &schema, 1)?;
-    assert!(rt; store.append_image(&table) == Ok(1));
-    drop(store);
+    let answer = stored(rt.alloc(), &out, &[], &table, 1)?;
+    assert!(rt; answer == Ok(1));
     assert!(rt; left_in(&out) == NAMED.as_slice());
     Ok(())
 }

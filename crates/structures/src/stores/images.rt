@@ -2,9 +2,10 @@
 
 use crate::assertions::assert_holds;
 use crate::stores::vectors::{TEN, generation};
-use crate::stores::{numbers, one_column, one_row};
-use devices::{ColumnDevice, MemColumn, Store, StoreFault, read_store};
+use crate::stores::{numbers, one_column, one_row, stored};
+use devices::{ColumnDevice, Store, StoreFault, read_store};
 use fixtures::{Slot, device_over, left_in};
+use stable::StableTable;
 use std::alloc::Global;
 use std::sync::{Arc, OnceLock};
 use std::test::Fail;
@@ -18,12 +19,21 @@ fn twice(
     rows: i64,
 ) -> Result<[Result<u32, StoreFault>; 2], Fail> {
     let table = numbers(alloc, 0, rows)?;
-    let schema = table.schema().copy()?;
+    stored_twice(alloc, slot, first, &table)
+}
+
+/// The same of a table.
+fn stored_twice(
+    alloc: Global,
+    slot: &Slot,
+    first: u32,
+    table: &StableTable,
+) -> Result<[Result<u32, StoreFault>; 2], Fail> {
     let mut devices: Vec<Box<dyn ColumnDevice + Send>> = Vec::new(alloc);
     devices.push(Box::new(alloc, device_over(alloc, slot, 0, None)?)?)?;
-    let mut store = Store::new(alloc, devices, &schema, first)?;
-    let one = store.append_image(&table);
-    let other = store.append_image(&table);
+    let mut store = Store::new(alloc, devices, table.schema(), first)?;
+    let one = store.append_image(table);
+    let other = store.append_image(table);
     Ok([one, other])
 }
 
@@ -76,18 +86,11 @@ fn no_rows_are_one_block(rt: HostRuntime) -> Result<(), Fail> {
 #[test]
 fn both_formats_in_one_column(rt: HostRuntime) -> Result<(), Fail> {
     let out = Arc::new(rt.alloc(), OnceLock::new())?;
-    let mut before = Vec::new(rt.alloc());
-    before.extend_from_slice(&TEN)?;
-    let column = MemColumn::new(before, Arc::try_clone(&out)?)?;
-    let mut devices: Vec<Box<dyn ColumnDevice + Send>> = Vec::new(rt.alloc());
-    devices.push(Box::new(rt.alloc(), column)?)?;
     let table = one_row(rt.alloc())?;
-    let schema = table.schema().copy()?;
-    let mut store = Store::new(rt.alloc(), devices, &schema, 2)?;
-    assert_holds(&rt, store.append_image(&table) == Ok(2), "answer");
-    drop(store);
+    let answer = stored(rt.alloc(), &out, &TEN, &table, 2)?;
+    assert_holds(&rt, answer == Ok(2), "answer");
     assert_holds(&rt, left_in(&out).len() == 57, "length");
-    let read = generation(rt.alloc(), &schema, left_in(&out));
+    let read = generation(rt.alloc(), table.schema(), left_in(&out));
     assert_holds(&rt, read == Ok(2), "read");
     Ok(())
 }

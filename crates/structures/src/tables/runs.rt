@@ -119,8 +119,8 @@ fn runs_begin_and_end_anywhere(rt: HostRuntime) -> Result<(), Fail> {
     let table = table_of_all(rt.alloc())?;
     for col in 0..3 {
         assert!(&rt; col < table.schema().width());
-        for case in RUNS {
-            assert_extended(&rt, rt.alloc(), table.column(col), case)?;
+        for case in &RUNS {
+            assert_extended(&rt, rt.alloc(), table.column(col), *case)?;
         }
     }
     Ok(())

@@ -3,6 +3,7 @@ use crate::assertions::assert_holds_at;
 use counted::CountedTree;
 use model::{Change, Entry};
 use std::alloc::{AllocError, Global};
+use std::process::Abort;
 use std::test::Fail;
 use values::{Row, Value};
 
@@ -55,6 +56,29 @@ fn a_list_fills_the_fewest_levels(rt: HostRuntime) -> Result<(), Fail> {
     Ok(())
 }
 
+/// Takes the last entry away, or the one in the midst, in turn.
+fn take_one(
+    rt: &impl Abort,
+    alloc: Global,
+    tree: &mut CountedTree,
+    turn: usize,
+) -> Result<(), Fail> {
+    let len = tree.len();
+    assert!(rt; len > 0);
+    assert!(rt; len < 2000);
+    let at = if turn % 2 == 0 { len / 2 } else { len - 1 };
+    tree.remove(alloc, at)?;
+    Ok(())
+}
+
+/// That the one tree has no entries any more, and its copy all of them.
+fn assert_taken(rt: &impl Abort, tree: &CountedTree, kept: &CountedTree) {
+    assert!(rt; tree.len() == 0);
+    assert!(rt; tree.depth() == 1);
+    assert!(rt; kept.depth() == 3);
+    assert!(rt; counts_up(kept, 0, 257));
+}
+
 #[test]
 fn a_copy_keeps_the_entries_that_an_edit_takes(rt: HostRuntime) -> Result<(), Fail> {
     let alloc = rt.alloc();
@@ -63,15 +87,8 @@ fn a_copy_keeps_the_entries_that_an_edit_takes(rt: HostRuntime) -> Result<(), Fa
     let mut tree = CountedTree::from_sorted(alloc, list)?;
     let kept = tree.copy()?;
     for left in 0..257_usize {
-        let len = tree.len();
-        assert!(&rt; len > 0);
-        assert!(&rt; len < 2000);
-        let at = if left % 2 == 0 { len / 2 } else { len - 1 };
-        tree.remove(alloc, at)?;
+        take_one(&rt, alloc, &mut tree, left)?;
     }
-    assert!(&rt; tree.len() == 0);
-    assert!(&rt; tree.depth() == 1);
-    assert!(&rt; kept.depth() == 3);
-    assert!(&rt; counts_up(&kept, 0, 257));
+    assert_taken(&rt, &tree, &kept);
     Ok(())
 }

@@ -82,6 +82,26 @@ fn edit_both(
     Ok(())
 }
 
+/// Makes four hundred such edits.
+fn edit_often(
+    rt: &impl Abort,
+    alloc: Global,
+    draws: &mut Draws,
+    pair: &mut Pair,
+) -> Result<(), Fail> {
+    for _ in 0..400 {
+        edit_both(rt, alloc, draws, pair)?;
+    }
+    Ok(())
+}
+
+/// A copy of both.
+fn copied(alloc: Global, pair: &Pair) -> Result<Pair, Fail> {
+    let tree = pair.tree.copy()?;
+    let list = Vec::from_slice(alloc, pair.list.as_slice())?;
+    Ok(Pair { tree, list })
+}
+
 #[test]
 fn random_edits_leave_the_list_and_each_copy(rt: HostRuntime) -> Result<(), Fail> {
     let alloc = rt.alloc();
@@ -92,17 +112,12 @@ fn random_edits_leave_the_list_and_each_copy(rt: HostRuntime) -> Result<(), Fail
         list: Vec::new(alloc),
     };
     for _ in 0..10 {
-        for _ in 0..400 {
-            edit_both(&rt, alloc, &mut draws, &mut pair)?;
-        }
+        edit_often(&rt, alloc, &mut draws, &mut pair)?;
         assert_list(&rt, &pair.tree, pair.list.as_slice());
-        copies.push((
-            pair.tree.copy()?,
-            Vec::from_slice(alloc, pair.list.as_slice())?,
-        ))?;
+        copies.push(copied(alloc, &pair)?)?;
     }
-    for (tree, list) in &copies {
-        assert_list(&rt, tree, list.as_slice());
+    for kept in &copies {
+        assert_list(&rt, &kept.tree, kept.list.as_slice());
     }
     assert!(&rt; pair.tree.depth() == 3);
     Ok(())

@@ -183,6 +183,13 @@ fn change_randomly(
     Ok(())
 }
 
+/// A copy of both.
+fn copied(alloc: Global, pair: &Pair) -> Result<Pair, Fail> {
+    let tree = pair.tree.copy()?;
+    let list = Vec::from_slice(alloc, pair.list.as_slice())?;
+    Ok(Pair { tree, list })
+}
+
 #[test]
 fn ten_thousand_random_changes_leave_the_list_and_each_copy(rt: HostRuntime) -> Result<(), Fail> {
     let alloc = rt.alloc();
@@ -195,13 +202,10 @@ fn ten_thousand_random_changes_leave_the_list_and_each_copy(rt: HostRuntime) -> 
     for _ in 0..100 {
         change_randomly(&rt, alloc, &mut draws, &mut pair, 100)?;
         assert_list(&rt, &pair.tree, pair.list.as_slice());
-        copies.push((
-            pair.tree.copy()?,
-            Vec::from_slice(alloc, pair.list.as_slice())?,
-        ))?;
+        copies.push(copied(alloc, &pair)?)?;
     }
-    for (tree, list) in &copies {
-        assert_list(&rt, tree, list.as_slice());
+    for kept in &copies {
+        assert_list(&rt, &kept.tree, kept.list.as_slice());
     }
     assert!(&rt; pair.tree.depth() == 3);
     Ok(())

@@ -62,15 +62,21 @@ pub(super) fn made_again(alloc: Global, tree: &DeltaTree) -> Result<DeltaTree, N
     DeltaTree::from_sorted(alloc, 1, entries)
 }
 
+/// Whether no look-up finds an entry.
+fn has_none(tree: &DeltaTree) -> bool {
+    let at_sid = tree.entries_at(0).next().is_none();
+    let from_first = tree.iter_from(0).next().is_none();
+    at_sid & from_first & tree.entry(0).is_none() & (tree.base_index(3) == 0)
+}
+
 #[test]
 fn a_tree_with_no_entries_has_none_anywhere(rt: HostRuntime) -> Result<(), Fail> {
     let tree = DeltaTree::new(rt.alloc(), 1);
-    assert!(rt; tree.entries_at(0).next().is_none());
-    assert!(rt; tree.iter_from(0).next().is_none());
-    assert!(rt; tree.entry(0).is_none());
-    assert!(rt; tree.base_index(3) == 0);
-    assert!(rt; tree.copy()?.is_empty());
-    assert!(rt; made_again(rt.alloc(), &tree)?.is_empty());
+    assert_holds(&rt, has_none(&tree), "look-ups");
+    let copied = tree.copy()?;
+    assert_holds(&rt, copied.is_empty(), "copied");
+    let again = made_again(rt.alloc(), &tree)?;
+    assert_holds(&rt, again.is_empty(), "made again");
     Ok(())
 }
 
@@ -185,14 +191,28 @@ fn assert_mixed(
     Ok(())
 }
 
+/// That a copy of such a tree has them.
+fn assert_copied(rt: &impl Abort, alloc: Global, tree: &DeltaTree) -> Result<(), NoMemory> {
+    let copied = tree.copy()?;
+    assert_mixed(rt, alloc, &copied, "copied")
+}
+
+/// That a tree made of them has them.
+fn assert_made_again(rt: &impl Abort, alloc: Global, tree: &DeltaTree) -> Result<(), NoMemory>
+    requires keyed { tree.now.key_cols ≡ 1 }
+{
+    let again = made_again(alloc, tree)?;
+    assert_mixed(rt, alloc, &again, "made again")
+}
+
 #[test]
 fn a_copy_and_a_tree_made_again_have_the_same_entries(rt: HostRuntime) -> Result<(), Fail> {
     let alloc = rt.alloc();
     let Some(tree) = changed(&rt, alloc, MIXED.as_slice())? else {
         return Ok(());
     };
-    assert_mixed(&rt, alloc, &tree.copy()?, "copied")?;
-    assert_mixed(&rt, alloc, &made_again(alloc, &tree)?, "made again")?;
+    assert_copied(&rt, alloc, &tree)?;
+    assert_made_again(&rt, alloc, &tree)?;
     Ok(())
 }
 

@@ -37,26 +37,50 @@ fn assert_sids(rt: &impl Abort, tree: &CountedTree, sids: &[u64]) {
     }
 }
 
+/// Puts an entry at the end.
+fn put_one(
+    rt: &impl Abort,
+    alloc: Global,
+    tree: &mut CountedTree,
+    sids: &mut Vec<u64>,
+    sid: u32,
+) -> Result<(), Fail> {
+    let len = tree.len();
+    assert!(rt; len < 1000);
+    tree.insert(alloc, len, entry(alloc, sid)?)?;
+    sids.push(u64::from(sid))?;
+    Ok(())
+}
+
+/// Takes an entry away.
+fn take_one(
+    rt: &impl Abort,
+    alloc: Global,
+    tree: &mut CountedTree,
+    sids: &mut Vec<u64>,
+    taken: Taken,
+) -> Result<(), Fail> {
+    let len = tree.len();
+    assert!(rt; 0 < len);
+    assert!(rt; len < 1000);
+    assert!(rt; len == sids.len());
+    let at = taken.index(len);
+    tree.remove(alloc, at)?;
+    sids.remove(at);
+    assert_sids(rt, tree, sids.as_slice());
+    Ok(())
+}
+
 /// Puts 257 entries in one by one, and takes them away again.
 fn take_all(rt: &impl Abort, alloc: Global, taken: Taken) -> Result<(), Fail> {
     let mut tree = CountedTree::new();
     let mut sids = Vec::new(alloc);
-    for sid in 0..257_u32 {
-        let len = tree.len();
-        assert!(rt; len < 1000);
-        tree.insert(alloc, len, entry(alloc, sid)?)?;
-        sids.push(u64::from(sid))?;
+    for sid in 0..257 {
+        put_one(rt, alloc, &mut tree, &mut sids, sid)?;
     }
     assert!(rt; tree.depth() == 3);
     for _ in 0..257 {
-        let len = tree.len();
-        assert!(rt; 0 < len);
-        assert!(rt; len < 1000);
-        assert!(rt; len == sids.len());
-        let at = taken.index(len);
-        tree.remove(alloc, at)?;
-        sids.remove(at);
-        assert_sids(rt, &tree, sids.as_slice());
+        take_one(rt, alloc, &mut tree, &mut sids, taken)?;
     }
     assert!(rt; tree.depth() == 1);
     Ok(())
