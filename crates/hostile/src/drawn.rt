@@ -1,6 +1,6 @@
 //! Scripts drawn by chance, of two to eight clients, beside the slow program: on threads of their own, where a replay of
 //! the history gives what each was told, and in order, with cuts and failing devices among the calls.
-ghost use Rattle.std.specs.Prelude.{◌<◌};
+ghost use Rattle.std.specs.Prelude.{◌<◌, ◌≡◌};
 
 mod asked;
 mod judged;
@@ -17,7 +17,7 @@ use fixtures::{BASE, Draws, Failure, Slot, all_left_in, device_over, empty_slots
 use judged::{Ran, difference_in_order, difference_on_threads};
 use model::ConflictRule;
 use past::Past;
-use pdtcli::{Left, OpenOptions, Outcome, open_texts, run_serial, show, show_store};
+use pdtcli::{Left, OpenOptions, Opened, open_texts, run_serial, show, show_store};
 use serial::Serial;
 use std::alloc::Global;
 use std::process::Abort;
@@ -128,17 +128,38 @@ fn run_in_order(alloc: Global, drawn: &Drawn) -> Result<Ran, Fail> {
     let texts = (TABLE, script.as_str().as_bytes());
     let opened = open_texts(alloc, Ok(texts.0), Ok(texts.1), drawn.options)?;
     let slots = empty_slots(alloc, 3)?;
+    let left = left_in_order(alloc, opened, slots.as_slice(), drawn.failing)?;
+    ran(alloc, left, slots.as_slice())
+}
+
+/// What is left of a run in order over what was opened, with a slot for each column.
+fn left_in_order(
+    alloc: Global,
+    opened: Opened,
+    slots: &[Slot],
+    failing: Option<Failure>,
+) -> Result<Left, Fail>
+    requires { opened.script.schema ≡ opened.manager.schema }
+{
     let mut devices: Vec<Box<dyn ColumnDevice + Send>> = Vec::new(alloc);
     for (device, slot) in slots.iter().enumerate() {
-        devices.push(Box::new(alloc, device_over(alloc, slot, device, drawn.failing)?)?)?;
+        devices.push(Box::new(alloc, device_over(alloc, slot, device, failing)?)?)?;
     }
     if have_failed(devices.as_slice()) {
         return Err(Fail::new("a device has failed before its first append"));
     }
     let store = Store::new(alloc, devices, opened.schema(), 1)?;
-    let Outcome { left, store } = run_serial(alloc, opened.manager, store, &opened.script)?;
-    drop(store);
-    ran(alloc, left, slots.as_slice())
+    left_over(alloc, opened, store)
+}
+
+/// The same over this store.
+fn left_over(alloc: Global, opened: Opened, store: Store) -> Result<Left, Fail>
+    requires script { opened.script.schema ≡ opened.manager.schema }
+    requires store { store.schema ≡ opened.manager.schema }
+{
+    let Opened { manager, script } = opened;
+    let outcome = run_serial(alloc, manager, store, &script)?;
+    Ok(outcome.left)
 }
 
 /// Runs the script with each client on a thread of its own.
@@ -170,6 +191,30 @@ fn meet(met: &mut [bool; 6], ran: &Ran) {
     }
 }
 
+/// What differs between a run on threads and a replay of its history.
+fn replayed(drawn: Drawn, ran: &Ran) -> Result<Option<&'static str>, Fail> {
+    let Drawn {
+        calls,
+        mut past,
+        ..
+    } = drawn;
+    Ok(difference_on_threads(&mut past, calls.as_slice(), ran)?)
+}
+
+/// Judges the run of a seed's script on threads.
+fn judge_one_on_threads<R: Threads + Wait + Sync + Abort>(
+    rt: &R,
+    alloc: Global,
+    seed: u64,
+    met: &mut [bool; 6],
+) -> Result<(), Fail> {
+    let drawn = draw(alloc, seed, WITHOUT_CUTS)?;
+    let ran = run_on_threads(rt, alloc, &drawn)?;
+    assert_same(rt, seed, replayed(drawn, &ran)?);
+    meet(met, &ran);
+    Ok(())
+}
+
 /// Judges the runs of the scripts of these seeds on threads.
 fn judge_on_threads<R: Threads + Wait + Sync + Abort>(
     rt: &R,
@@ -178,18 +223,36 @@ fn judge_on_threads<R: Threads + Wait + Sync + Abort>(
 ) -> Result<(), Fail> {
     let mut met = [false; 6];
     for seed in first..end {
-        let drawn = draw(alloc, seed, WITHOUT_CUTS)?;
-        let ran = run_on_threads(rt, alloc, &drawn)?;
-        let Drawn {
-            calls,
-            mut past,
-            ..
-        } = drawn;
-        let difference = difference_on_threads(&mut past, calls.as_slice(), &ran)?;
-        assert_same(rt, seed, difference);
-        meet(&mut met, &ran);
+        judge_one_on_threads(rt, alloc, seed, &mut met)?;
     }
     assert_holds(rt, met == [true; 6], "each reply is met");
+    Ok(())
+}
+
+/// What the slow program makes of what was drawn.
+fn serial_of(alloc: Global, drawn: Drawn) -> Result<Serial, Fail> {
+    let Drawn {
+        clients,
+        failing,
+        calls,
+        past,
+        ..
+    } = drawn;
+    Ok(Serial::new(alloc, past, clients, failing)?.after(calls.as_slice())?)
+}
+
+/// Judges the run of a seed's script in order.
+fn judge_one_in_order(
+    rt: &impl Abort,
+    alloc: Global,
+    seed: u64,
+    met: &mut [bool; 6],
+) -> Result<(), Fail> {
+    let drawn = draw(alloc, seed, WITH_CUTS)?;
+    let ran = run_in_order(alloc, &drawn)?;
+    let serial = serial_of(alloc, drawn)?;
+    assert_same(rt, seed, difference_in_order(&serial, &ran)?);
+    meet(met, &ran);
     Ok(())
 }
 
@@ -197,18 +260,7 @@ fn judge_on_threads<R: Threads + Wait + Sync + Abort>(
 fn judge_in_order(rt: &impl Abort, alloc: Global, (first, end): (u64, u64)) -> Result<(), Fail> {
     let mut met = [false; 6];
     for seed in first..end {
-        let drawn = draw(alloc, seed, WITH_CUTS)?;
-        let ran = run_in_order(alloc, &drawn)?;
-        let Drawn {
-            clients,
-            failing,
-            calls,
-            past,
-            ..
-        } = drawn;
-        let serial = Serial::new(alloc, past, clients, failing)?.after(calls.as_slice())?;
-        assert_same(rt, seed, difference_in_order(&serial, &ran)?);
-        meet(&mut met, &ran);
+        judge_one_in_order(rt, alloc, seed, &mut met)?;
     }
     assert_holds(rt, met == [true; 6], "each reply is met");
     Ok(())

@@ -1,7 +1,9 @@
 //! A gate at which the clients' first transactions overlap, and which hands the processor on at each call; and runs by it.
+ghost use Rattle.std.specs.Prelude.{◌≡◌};
+
 use devices::{ColumnDevice, Store, have_failed};
 use fixtures::{Slot, device_over};
-use pdtcli::{Gate, Left, OpenOptions, open_texts, run_clients};
+use pdtcli::{Gate, Left, OpenOptions, Opened, open_texts, run_clients};
 use std::alloc::Global;
 use std::sync::Wait;
 use std::sync::atomic::{AtomicU64, Ordering};
@@ -74,7 +76,22 @@ pub(crate) fn run_yielding<R: Threads + Wait + Sync>(
         return Err(Fail::new("a device has failed before its first append"));
     }
     let store = Store::new(alloc, devices, opened.schema(), 1)?;
+    left_at_gate(rt, alloc, opened, store, clients)
+}
+
+/// The same over what was opened, and this store.
+fn left_at_gate<R: Threads + Wait + Sync>(
+    rt: &R,
+    alloc: Global,
+    opened: Opened,
+    store: Store,
+    clients: u64,
+) -> Result<Left, Fail>
+    requires script { opened.script.schema ≡ opened.manager.schema }
+    requires store { store.schema ≡ opened.manager.schema }
+{
+    let Opened { manager, script } = opened;
     let gate = Yielding::new(clients);
-    let outcome = run_clients(rt, alloc, opened.manager, store, &opened.script, &gate)?;
+    let outcome = run_clients(rt, alloc, manager, store, &script, &gate)?;
     Ok(outcome.left)
 }
