@@ -124,19 +124,28 @@ fn has_records(manager: &Manager, replies: &[CommitReply]) -> bool {
         && records.iter().all(|record| matches!(record.writes(), [(_, WriteReply::Done)]))
 }
 
+/// Whether both of two transactions delete a row, and the replies to their commits.
+fn both_delete(
+    alloc: Global,
+    manager: &mut Manager,
+) -> Result<(bool, [Option<CommitReply>; 2]), NoMemory> {
+    let (mut a, mut b) = begin_both(manager)?;
+    let a_deleted = wrote(alloc, &mut a, ItemWrite::Delete(20));
+    let b_deleted = wrote(alloc, &mut b, ItemWrite::Delete(20));
+    let first = decided(manager, a);
+    let second = decided(manager, b);
+    let done = a_deleted == Ok(WriteReply::Done) && b_deleted == Ok(WriteReply::Done);
+    Ok((done, [first, second]))
+}
+
 #[test]
 fn a_row_that_both_delete_conflicts(rt: HostRuntime) -> Result<(), Fail> {
     let alloc = rt.alloc();
     let mut manager = opened(alloc, 64, MAX_ROWS)?;
-    let (mut a, mut b) = begin_both(&manager)?;
-    let a_deleted = wrote(alloc, &mut a, ItemWrite::Delete(20));
-    let b_deleted = wrote(alloc, &mut b, ItemWrite::Delete(20));
-    let first = decided(&mut manager, a);
-    let second = decided(&mut manager, b);
-    assert!(&rt; a_deleted == Ok(WriteReply::Done));
-    assert!(&rt; b_deleted == Ok(WriteReply::Done));
-    assert!(&rt; first == Some(CommitReply::Committed(1)));
-    assert!(&rt; second == Some(CommitReply::Conflict(1)));
+    let (done, replies) = both_delete(alloc, &mut manager)?;
+    assert!(&rt; done);
+    assert!(&rt; replies[0] == Some(CommitReply::Committed(1)));
+    assert!(&rt; replies[1] == Some(CommitReply::Conflict(1)));
     assert!(&rt; has_rows(&manager, &[(10, 1), (30, 3)]));
     assert!(&rt;
         has_records(
@@ -147,28 +156,43 @@ fn a_row_that_both_delete_conflicts(rt: HostRuntime) -> Result<(), Fail> {
     Ok(())
 }
 
-#[test]
-fn two_commits_since_the_begin_are_too_many_where_one_is_kept(rt: HostRuntime) -> Result<(), Fail> {
-    let alloc = rt.alloc();
-    let mut manager = opened(alloc, 1, MAX_ROWS)?;
-    let (mut a, b) = begin_both(&manager)?;
+/// Whether the first of two transactions sets a cell, and the replies to the commits of the other one, of one that begins then,
+/// and of the first.
+fn one_waits(
+    alloc: Global,
+    manager: &mut Manager,
+) -> Result<(bool, [Option<CommitReply>; 3]), NoMemory> {
+    let (mut a, b) = begin_both(manager)?;
     let a_set = wrote(alloc, &mut a, ItemWrite::Set(30, 9));
-    let first = decided(&mut manager, b);
+    let first = decided(manager, b);
     let second = match manager.begin(1) {
-        Ok(c) => decided(&mut manager, c),
+        Ok(c) => decided(manager, c),
         Err(NoMemory) => None,
     };
-    let third = decided(&mut manager, a);
-    assert!(&rt; a_set == Ok(WriteReply::Done));
-    assert!(&rt; first == Some(CommitReply::Committed(1)));
-    assert!(&rt; second == Some(CommitReply::Committed(2)));
-    assert!(&rt; third == Some(CommitReply::TooOld(2)));
-    assert!(&rt; has_rows(&manager, &[(10, 1), (20, 2), (30, 3)]));
+    let third = decided(manager, a);
+    Ok((a_set == Ok(WriteReply::Done), [first, second, third]))
+}
+
+/// Whether the records began at these numbers.
+fn began_at(manager: &Manager, numbers: &[u64]) -> bool {
     let begins = manager
         .history()
         .records()
         .iter()
         .map(|record| record.begin());
-    assert!(&rt; begins.eq([0_u64, 1, 0].iter().copied()));
+    begins.eq(numbers.iter().copied())
+}
+
+#[test]
+fn two_commits_since_the_begin_are_too_many_where_one_is_kept(rt: HostRuntime) -> Result<(), Fail> {
+    let alloc = rt.alloc();
+    let mut manager = opened(alloc, 1, MAX_ROWS)?;
+    let (done, replies) = one_waits(alloc, &mut manager)?;
+    assert!(&rt; done);
+    assert!(&rt; replies[0] == Some(CommitReply::Committed(1)));
+    assert!(&rt; replies[1] == Some(CommitReply::Committed(2)));
+    assert!(&rt; replies[2] == Some(CommitReply::TooOld(2)));
+    assert!(&rt; has_rows(&manager, &[(10, 1), (20, 2), (30, 3)]));
+    assert!(&rt; began_at(&manager, &[0, 1, 0]));
     Ok(())
 }

@@ -83,21 +83,31 @@ static BASE_SHOWN: Shown = Shown {
     records: 0,
 };
 
+/// The answers of a store to a checkpoint behind a fold, and the replies to a commit after it, and to one that began before.
+fn folded_and_stored(
+    rt: &impl Abort,
+    alloc: Global,
+    manager: &mut Manager,
+    slots: &[Slot],
+) -> Result<(Answers, [Option<CommitReply>; 2]), Fail> {
+    let a = begun_with(alloc, manager, ItemWrite::Set(30, 9))?;
+    let folded = manager.fold();
+    let stored = answers(rt, alloc, manager, slots, &BASE_SHOWN);
+    let first = one_write(alloc, manager, ItemWrite::Insert(5, "Eve", 0));
+    let second = decided(manager, a);
+    assert!(rt; folded == Ok(()));
+    Ok((stored?, [first, second]))
+}
+
 #[test]
 fn a_fold_and_a_checkpoint_spare_an_open_transaction(rt: HostRuntime) -> Result<(), Fail> {
     let alloc = rt.alloc();
     let slots = empty_slots(alloc, 3)?;
     let mut manager = opened(alloc, 64, MAX_ROWS)?;
-    let a = begun_with(alloc, &manager, ItemWrite::Set(30, 9))?;
-    let folded = manager.fold();
-    let stored = answers(&rt, alloc, &mut manager, slots.as_slice(), &BASE_SHOWN);
-    let first = one_write(alloc, &mut manager, ItemWrite::Insert(5, "Eve", 0));
-    let second = decided(&mut manager, a);
-    let stored = stored?;
-    assert!(&rt; folded == Ok(()));
+    let (stored, replies) = folded_and_stored(&rt, alloc, &mut manager, slots.as_slice())?;
     assert!(&rt; are_due(&stored));
-    assert!(&rt; first == Some(CommitReply::Committed(1)));
-    assert!(&rt; second == Some(CommitReply::Committed(2)));
+    assert!(&rt; replies[0] == Some(CommitReply::Committed(1)));
+    assert!(&rt; replies[1] == Some(CommitReply::Committed(2)));
     assert!(&rt; has_rows(&manager, &[(5, 0), (10, 1), (20, 2), (30, 9)]));
     Ok(())
 }

@@ -1,25 +1,42 @@
 //! What folds and cuts leave, and commits in two parts.
 use super::{begun_with, decided, has_rows, one_write, opened};
 use fixtures::ItemWrite;
+use manager::History;
 use model::CommitReply;
+use pdtcli::Manager;
+use std::alloc::Global;
 use std::test::Fail;
 use values::NoMemory;
 use values::limits::MAX_ROWS;
+
+/// The replies to a commit, to one after a cut, and to one that began before both; and what the cut handed out: the number at
+/// which it starts, and how many records.
+fn below_a_cut(
+    alloc: Global,
+    manager: &mut Manager,
+) -> Result<([Option<CommitReply>; 3], (u64, usize)), NoMemory> {
+    let a = begun_with(alloc, manager, ItemWrite::Set(10, 9))?;
+    let first = one_write(alloc, manager, ItemWrite::Insert(25, "Dee", 4));
+    let handed = lengths_of(manager.cut());
+    let second = one_write(alloc, manager, ItemWrite::Set(30, 9));
+    let third = decided(manager, a);
+    Ok(([first, second, third], handed))
+}
+
+/// The number at which a history starts, and how many records it has.
+fn lengths_of(history: History) -> (u64, usize) {
+    (history.base(), history.records().len())
+}
 
 #[test]
 fn a_begin_below_the_cut_is_too_old(rt: HostRuntime) -> Result<(), Fail> {
     let alloc = rt.alloc();
     let mut manager = opened(alloc, 64, MAX_ROWS)?;
-    let a = begun_with(alloc, &manager, ItemWrite::Set(10, 9))?;
-    let first = one_write(alloc, &mut manager, ItemWrite::Insert(25, "Dee", 4));
-    let handed = manager.cut();
-    let second = one_write(alloc, &mut manager, ItemWrite::Set(30, 9));
-    let third = decided(&mut manager, a);
-    assert!(&rt; first == Some(CommitReply::Committed(1)));
-    assert!(&rt; second == Some(CommitReply::Committed(2)));
-    assert!(&rt; third == Some(CommitReply::TooOld(2)));
-    assert!(&rt; handed.base() == 0);
-    assert!(&rt; handed.records().len() == 1);
+    let (replies, handed) = below_a_cut(alloc, &mut manager)?;
+    assert!(&rt; replies[0] == Some(CommitReply::Committed(1)));
+    assert!(&rt; replies[1] == Some(CommitReply::Committed(2)));
+    assert!(&rt; replies[2] == Some(CommitReply::TooOld(2)));
+    assert!(&rt; handed == (0, 1));
     assert!(&rt; manager.base() == 1);
     assert!(&rt; manager.history().records().len() == 2);
     assert!(&rt; has_rows(&manager, &[(10, 1), (20, 2), (25, 4), (30, 9)]));
@@ -43,26 +60,36 @@ fn a_begin_at_the_cut_is_decided(rt: HostRuntime) -> Result<(), Fail> {
     Ok(())
 }
 
-#[test]
-fn what_was_prepared_is_installed(rt: HostRuntime) -> Result<(), Fail> {
-    let alloc = rt.alloc();
-    let mut manager = opened(alloc, 64, MAX_ROWS)?;
-    let txn = begun_with(alloc, &manager, ItemWrite::Delete(20))?;
+/// The reply that a prepared commit tells and the one at its install, and how many rows its version has and the newest one
+/// before the install.
+fn prepared_and_installed(
+    alloc: Global,
+    manager: &mut Manager,
+) -> Result<([CommitReply; 2], [Option<u64>; 2]), NoMemory> {
+    let txn = begun_with(alloc, manager, ItemWrite::Delete(20))?;
     let prepared = match manager.prepare(&txn) {
         Ok(prepared) => prepared,
         Err(fault) => {
             txn.abort();
-            return Err(fault.into());
+            return Err(fault);
         }
     };
     let told = prepared.reply();
     let rows = prepared.version().map(|version| version.len());
     let before = manager.version().len();
     let reply = manager.install(txn, prepared);
-    assert!(&rt; told == CommitReply::Committed(1));
-    assert!(&rt; rows == Some(2));
-    assert!(&rt; before == 3);
-    assert!(&rt; reply == CommitReply::Committed(1));
+    Ok(([told, reply], [rows, Some(before)]))
+}
+
+#[test]
+fn what_was_prepared_is_installed(rt: HostRuntime) -> Result<(), Fail> {
+    let alloc = rt.alloc();
+    let mut manager = opened(alloc, 64, MAX_ROWS)?;
+    let (replies, rows) = prepared_and_installed(alloc, &mut manager)?;
+    assert!(&rt; replies[0] == CommitReply::Committed(1));
+    assert!(&rt; replies[1] == CommitReply::Committed(1));
+    assert!(&rt; rows[0] == Some(2));
+    assert!(&rt; rows[1] == Some(3));
     assert!(&rt; has_rows(&manager, &[(10, 1), (30, 3)]));
     Ok(())
 }
