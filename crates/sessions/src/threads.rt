@@ -116,8 +116,8 @@ fn one_works<O: Opening + Send + Sync, S: ImageStore + Send, R: Threads + Wait +
     Ok(one)
 }
 
-/// Whether two sessions do all that at each turn.
-fn are_quick<O: Opening + Send + Sync, S: ImageStore + Send, R: Threads + Wait + Sync>(
+/// Whether two sessions take all their turns, first both and then the one while the other one commits.
+fn take_turns<O: Opening + Send + Sync, S: ImageStore + Send, R: Threads + Wait + Sync>(
     rt: &R,
     alloc: Global,
     shared: &Shared<O, S>,
@@ -152,10 +152,10 @@ fn play<O: Opening + Send + Sync, S: ImageStore + Send, R: Threads + Wait + Abor
     requires store { S.columns store ≡ manager.schema }
 {
     let (shared, mut sessions) = open::<O, S, R>(alloc, manager, store, 2, fresh, rt)?;
-    let quick = are_quick(rt, alloc, &shared, &mut sessions);
+    let taken = take_turns(rt, alloc, &shared, &mut sessions);
     let closed = shared.close(sessions, rt);
     assert_closed(rt, &closed);
-    assert_holds(rt, quick?, "turns");
+    assert_holds(rt, taken?, "turns");
     Ok(())
 }
 
