@@ -20,7 +20,8 @@ use Rattle.columns.specs.declared.frame.Kind.{Kind}
 use Rattle.columns.specs.declared.frame.Part.{Part}
 use Rattle.columns.specs.declared.seam.Seam.{Seam}
 use Rattle.columns.specs.Column.{flag_byte, payload_in, part_payload, kind_of, head_of, head_bytes, frame_bytes, column_bytes, may_stand, IsPartAt, IsFrameAt, AreFramesAt, IsColumn, start, seam_after, seam_after_all, head_at, is_cut_block, is_rest}
-use Rattle.columns.specs.Reading.{◌>>=◌, found_then, AreWanted, header_at, reading_in, no_kind, part_of, payload_at, part_at, frame_at, frames_at, frames_of}
+use Rattle.columns.specs.Reading.{◌>>=◌, found_then, AreWanted, header_at, no_kind, part_of, payload_at, part_at, frame_at, frames_at, frames_of}
+use Rattle.columns.specs.Stored.{reading_in}
 use Rattle.columns.proofs.FrameLemmas.{ok_is, header_again, head_again, part_at-stands}
 
 -- ---- how long a payload is

@@ -25,7 +25,8 @@ use Rattle.columns.specs.declared.frame.Part.{Part}
 use Rattle.columns.specs.declared.seam.Seam.{Seam}
 use Rattle.columns.specs.Bytes.{type_byte, version_byte}
 use Rattle.columns.specs.Column.{flag_byte, payload_in, head_of, head_bytes, frame_bytes, has_due_count, is_in_turn, may_stand, IsPartAt, IsFrameAt, word_at, half_at, head_at}
-use Rattle.columns.specs.Reading.{format_of, type_of, is_wanted, header_of, header_at, reading_in, part_with, no_kind, part_of, payload_at, part_at}
+use Rattle.columns.specs.Reading.{format_of, type_of, is_wanted, header_of, header_at, part_with, no_kind, part_of, payload_at, part_at}
+use Rattle.columns.specs.Stored.{reading_in, values_or_none, values_read, IsRead}
 
 -- ---- what a step answered
 
@@ -276,6 +277,13 @@ is_stored First ty count bytes values small e =
 is_stored Second ty count bytes values small e =
     let p = is_encoded ty count bytes values small e in
     record { counted = p.counted; fit = p.fit; spelt = p.spelt }
+
+-- what reads as values may be read again
+pub is_read : (kind : Kind) (count : ℕ) (bytes : List ℕ) (values : List Value) → AreBytes bytes → count ≤ MAX_BLOCK_VALUES
+    → reading_in kind.format kind.ty count bytes ≡ Ok values → IsRead kind count bytes
+is_read kind count bytes values small few e =
+    let same : values_read kind count bytes ≡ values = ap values_or_none e in
+    record { few = few; read = e ∙ ap (λ vs. Ok vs) (sym same); counted = ap length same ∙ (is_stored kind.format kind.ty count bytes values small e).counted }
 
 -- the flag is one of two bytes, and the values fill a block at most
 count_says : (h : Head) → has_due_count h ≡ true → (flag_byte (eqb h.flag 1) ≡ h.flag) × (h.count ≤ MAX_BLOCK_VALUES)

@@ -5,8 +5,6 @@ use Rattle.values.specs.declared.value.ColumnType.{ColumnType}
 use Rattle.values.specs.declared.value.ColumnType.TheVariants as column
 use Rattle.values.specs.declared.value.Value.{Value}
 use Rattle.blocks.specs.declared.fault.BlockFault.{BlockFault}
-use Rattle.blocks.specs.Encoding.{decoding_of}
-use Rattle.blocks.specs.Reading.{reading_of}
 use Rattle.columns.specs.declared.fault.ReadFault.{ReadFault}
 use Rattle.columns.specs.declared.fault.ReadFault.TheVariants.{WrongCount, BadFrame, TypesDiffer, BadBlock, NoImage, CountsDiffer, TooManyRows, NotAscending, NoMemory}
 use Rattle.columns.specs.declared.frame.Frame.{Frame}
@@ -19,6 +17,7 @@ use Rattle.columns.specs.declared.frame.Part.{Part}
 use Rattle.columns.specs.declared.seam.Seam.{Seam}
 use Rattle.columns.specs.Bytes.{type_byte}
 use Rattle.columns.specs.Column.{start, head_at, may_stand, seam_after}
+use Rattle.columns.specs.Stored.{reading_in}
 
 -- a frame and the bytes after it, or none where the bytes are a rest
 abbrev pub Found : Type 0
@@ -56,11 +55,6 @@ unfoldable pub header_at : ℕ → ℕ → Option ColumnType → List ℕ → Re
 header_at col at wanted bytes =
     if nat_lt (length bytes) 3 then Ok None
     else header_of col at wanted (format_of (get_or bytes 1 0)) (type_of (get_or bytes 2 0)) (drop 3 bytes)
-
--- so many values of the type by a payload of the format
-abbrev pub reading_in : Format → ColumnType → ℕ → List ℕ → Result (List Value) BlockFault
-reading_in First ty count bytes = reading_of ty count bytes
-reading_in Second ty count bytes = decoding_of ty count bytes
 
 -- a block with these numbers, of this kind, and with these values
 abbrev pub part_with : Head → Kind → List Value → Part

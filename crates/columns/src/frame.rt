@@ -2,7 +2,7 @@
 ghost use Rattle.std.specs.Prelude.{◌≡◌};
 ghost use Rattle.columns.specs.Bytes.{type_byte};
 
-use blocks::Block;
+use crate::stored::StoredBlock;
 use values::ColumnType;
 
 /// How the payloads after a header are stored.
@@ -37,22 +37,22 @@ pub struct Head {
 
 /// One block of a generation.
 #[derive(Drop)]
-pub struct Part {
+pub struct Part<'a> {
     pub format: Format,
     pub generation: u32,
     /// Which block of its generation, from 0.
     pub number: u32,
     /// Whether it is the last of its generation.
     pub last: bool,
-    pub block: Block,
+    pub block: StoredBlock<'a>,
 }
 
 /// A piece of a column that has a meaning of its own.
 #[derive(Drop)]
-pub enum Frame {
+pub enum Frame<'a> {
     /// The blocks that follow are of this kind, up to the next header.
     Header(Kind),
-    Block(Part),
+    Block(Part<'a>),
     /// What a device writes at its end where it never failed.
     End,
 }

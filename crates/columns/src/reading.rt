@@ -1,28 +1,29 @@
 //! A column, read frame by frame.
-ghost use Rattle.std.specs.Prelude.{◌≡◌, ◌<◌, ◌≤◌, ◌++◌, ◌∷◌, [], Some, length, OnOk, IfOk, IfErr};
+ghost use Rattle.std.specs.Prelude.{◌≡◌, ◌<◌, ◌≤◌, ◌++◌, ◌∷◌, [], Some, length, OnOk, IfErr};
 ghost use Rattle.columns.specs.Column.{head_at};
-ghost use Rattle.columns.specs.Reading.{Gives, found_now, format_of, frame_at, frames_of, header_at, part_at, parts_after, parts_of, payload_at, reading_in, type_of};
-ghost use Rattle.blocks.specs.Reading.{Gives as GivesValues};
+ghost use Rattle.columns.specs.Reading.{Gives, found_now, format_of, frame_at, frames_of, header_at, part_at, parts_after, parts_of, payload_at, type_of};
 
 use crate::fault::ReadFault;
 use crate::frame::{Format, Frame, Head, Kind, Part, type_byte};
 use crate::seam::Seam;
-use blocks::{Block, BlockFault, read_block, read_block2};
+use crate::stored::StoredBlock;
+use blocks::BlockFault;
 use std::alloc::Global;
 use values::ColumnType;
 use values::limits::MAX_BLOCK_VALUES;
 
-/// The blocks of a column of this type, in order.
+/// The blocks of a column of this type, in order, their payloads lent from its bytes. Each payload is read once, for the
+/// fault that it may have; its values are not kept.
 ///
 /// # Errors
 ///
 /// The first fault from the left, or `NoMemory` where a growth is refused.
-pub fn read_column(
+pub fn read_column<'a>(
     alloc: Global,
     col: usize,
     ty: ColumnType,
-    bytes: &[u8],
-) -> Result<Vec<Part>, ReadFault>
+    bytes: &'a [u8],
+) -> Result<Vec<Part<'a>>, ReadFault>
     ensures { Gives (λ parts. parts.items) result (parts_after [] (frames_of col (Some ty) bytes.now)) }
 {
     let mut parts = Vec::new(alloc);
@@ -41,8 +42,8 @@ pub fn read_column(
 }
 
 /// Keeps the frame where it is a block.
-fn keep_block(parts: &mut Vec<Part>, frame: Frame) -> Result<(), ReadFault>
-    ensures ok { OnOk result (parts.new.items ≡ parts.old.items ++ parts_of (frame ∷ [])) }
+fn keep_block<'a>(parts: &mut Vec<Part<'a>>, frame: Frame<'a>) -> Result<(), ReadFault>
+    ensures ok { OnOk result (parts.new.items ≡ parts.old.items ++ parts_of (frame.entry ∷ [])) }
     ensures err { IfErr result (λ fault. fault ≡ ReadFault.NoMemory) }
 {
     match frame {
@@ -61,7 +62,7 @@ fn frame_at<'a>(
     ty: ColumnType,
     seam: &Seam,
     bytes: &'a [u8],
-) -> Result<Option<(Frame, &'a [u8])>, ReadFault>
+) -> Result<Option<(Frame<'a>, &'a [u8])>, ReadFault>
     requires { 0 < length bytes.now }
     ensures { Gives found_now result (frame_at col at (Some ty) seam.now bytes.now) }
 {
@@ -75,12 +76,12 @@ fn frame_at<'a>(
 
 /// The header at the front of the bytes.
 #[tactic(auto, unfolding(crate::specs::Reading::header_at))]
-fn header_at(
+fn header_at<'a>(
     col: usize,
     at: usize,
     ty: ColumnType,
-    bytes: &[u8],
-) -> Result<Option<(Frame, &[u8])>, ReadFault>
+    bytes: &'a [u8],
+) -> Result<Option<(Frame<'a>, &'a [u8])>, ReadFault>
     ensures { Gives found_now result (header_at col at (Some ty) bytes.now) }
 {
     if bytes.len() < 3 {
@@ -107,7 +108,7 @@ fn part_at<'a>(
     at: usize,
     seam: &Seam,
     bytes: &'a [u8],
-) -> Result<Option<(Frame, &'a [u8])>, ReadFault>
+) -> Result<Option<(Frame<'a>, &'a [u8])>, ReadFault>
     ensures { Gives found_now result (part_at col at seam.now bytes.now) }
 {
     if bytes.len() < 16 {
@@ -133,7 +134,7 @@ fn payload_at<'a>(
     head: &Head,
     kind: Kind,
     bytes: &'a [u8],
-) -> Result<Option<(Frame, &'a [u8])>, ReadFault>
+) -> Result<Option<(Frame<'a>, &'a [u8])>, ReadFault>
     requires { head.now.count ≤ 1024 }
     ensures { Gives found_now result (payload_at col at head.now kind bytes.now) }
 {
@@ -142,7 +143,7 @@ fn payload_at<'a>(
         return Ok(None);
     }
     let (payload, rest) = bytes.split_at(size);
-    match block_in(alloc, kind, head.count as usize, payload) {
+    match StoredBlock::tested(alloc, kind, head.count as usize, payload) {
         Ok(block) => {
             let part = Part {
                 format: kind.format,
@@ -155,18 +156,6 @@ fn payload_at<'a>(
         }
         Err(BlockFault::NoMemory) => Err(ReadFault::NoMemory),
         Err(fault) => Err(ReadFault::BadBlock(col, at, fault)),
-    }
-}
-
-/// The block of so many values whose payload the bytes are, in the format of its header.
-fn block_in(alloc: Global, kind: Kind, count: usize, payload: &[u8]) -> Result<Block, BlockFault>
-    requires { count ≤ 1024 }
-    ensures ty { IfOk result (λ block. block.ty ≡ kind.ty) }
-    ensures first { GivesValues (λ block. block.values) result (reading_in kind.format kind.ty count payload.now) }
-{
-    match kind.format {
-        Format::First => read_block(alloc, kind.ty, count, payload),
-        Format::Second => read_block2(alloc, kind.ty, count, payload),
     }
 }
 

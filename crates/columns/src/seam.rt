@@ -77,7 +77,7 @@ impl Seam {
     }
 
     /// The seam after a frame.
-    pub fn after(self, frame: &Frame) -> Seam
+    pub fn after(self, frame: &Frame<'_>) -> Seam
         ensures { result ≡ seam_after self frame.now }
     {
         match frame {

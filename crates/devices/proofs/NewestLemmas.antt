@@ -1,7 +1,8 @@
 -- The newest generation of columns that can be read is the greatest that is whole in each of them.
-use Rattle.std.proofs.Common.{◌≡◌, ℕ, zero, suc, ◌<◌, ◌≤◌, ◌⊎◌, true, false, cond, ◌&&◌, ◌||◌, eqb, Option, Some, None, List, [], ◌∷◌, ◌++◌, Result, Ok, Err, refl, sym, ap, subst, ◌∙◌, inl, inr, arith}
+use Rattle.std.proofs.Common.{◌≡◌, ℕ, zero, suc, ◌+◌, ◌-◌, ◌<◌, ◌≤◌, ◌⊎◌, true, false, cond, ◌&&◌, ◌||◌, eqb, Option, Some, None, List, [], ◌∷◌, ◌++◌, length, take, get_or, Result, Ok, Err, refl, sym, ap, subst, ◌∙◌, inl, inr, arith}
 use Rattle.std.specs.List.{list_all}
 use Rattle.std.proofs.lemmas.Bool.{eqb-true, eq-eqb, and_parts, cases_Bool}
+use Rattle.std.proofs.lemmas.List.{take_more}
 use Rattle.values.specs.declared.value.ColumnType.{ColumnType}
 use Rattle.columns.specs.declared.fault.ReadFault.{ReadFault}
 use Rattle.columns.specs.declared.frame.Part.{Part}
@@ -17,6 +18,16 @@ pub newest_of-push : (others : List (List Part)) (best : Option ℕ) (front : Li
     → newest_of others best (front ++ part ∷ []) ≡ cond (ends_image others part) (Some part.generation) (newest_of others best front)
 newest_of-push others best [] part = refl
 newest_of-push others best (first ∷ front) part = newest_of-push others (cond (ends_image others first) (Some first.generation) best) front part
+
+-- of the first blocks, by the last of them
+pub newest_of-take : (others : List (List Part)) (parts : List Part) (end : ℕ) (part : Part) → 0 < end → end ≤ length parts → part ≡ get_or parts (end - 1) part
+    → newest_of others None (take end parts) ≡ cond (ends_image others part) (Some part.generation) (newest_of others None (take (end - 1) parts))
+newest_of-take others parts end part some le is =
+    let front = take (end - 1) parts in
+    let on : end ≡ end - 1 + 1 = omega (arith, some) in
+    let split : take end parts ≡ front ++ part ∷ [] =
+    ap (λ n. take n parts) on ∙ take_more parts (end - 1) part (omega (arith, some, le)) ∙ ap (λ p. front ++ p ∷ []) (sym is) in
+    ap (newest_of others None) split ∙ newest_of-push others None front part
 
 -- numbers of the same kind have one greatest
 greatest_same : (P Q : ℕ → Type 0) → ((g : ℕ) → P g → Q g) → ((g : ℕ) → Q g → P g) → (o : Option ℕ) → IsGreatest P o → IsGreatest Q o

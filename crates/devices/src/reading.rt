@@ -95,11 +95,11 @@ fn columns_in(
     alloc: Global,
     generation: u32,
     types: &[ColumnType],
-    columns: Vec<Vec<Part>>,
+    columns: Vec<Vec<Part<'_>>>,
 ) -> Result<Vec<Column>, NoMemory>
     requires even { length columns.items ≡ length types.now }
     requires turn { AreAllInTurn types.now (map (λ p. p.items) columns.items) }
-    ensures { IfOk result (λ made. made.items ≡ columns_in generation types.now (map (λ p. p.items) columns.items)) }
+    ensures { IfOk result (λ made. made.items ≡ columns_in generation types.now (map (λ p. p.items) columns.entry.items)) }
 {
     let mut made = Vec::with_capacity(alloc, types.len())?;
     for parts in columns {
@@ -109,31 +109,31 @@ fn columns_in(
     Ok(made)
 }
 
-/// The column of a generation: its blocks, moved. Those of other generations are let go.
+/// The column of a generation: its blocks, read and kept. Those of other generations are passed over.
 fn column_in(
     alloc: Global,
     generation: u32,
     ty: ColumnType,
-    parts: Vec<Part>,
+    parts: Vec<Part<'_>>,
 ) -> Result<Column, NoMemory>
     requires { AreInTurn ty parts.items }
-    ensures { IfOk result (λ column. column ≡ record { ty = ty; values = values_in generation parts.items }) }
+    ensures { IfOk result (λ column. column ≡ record { ty = ty; values = values_in generation parts.entry.items }) }
 {
     let mut column = Column::new(alloc, ty);
     for part in parts {
         if part.generation == generation && part.block.len() > 0 {
-            column.push_block(part.block)?;
+            column.push_block(part.block.read(alloc)?)?;
         }
     }
     Ok(column)
 }
 
-/// The blocks of each column, in order.
-fn read_parts(
+/// The blocks of each column, in order, their payloads lent.
+fn read_parts<'a>(
     alloc: Global,
     types: &[ColumnType],
-    columns: &[&[u8]],
-) -> Result<Vec<Vec<Part>>, ReadFault>
+    columns: &[&'a [u8]],
+) -> Result<Vec<Vec<Part<'a>>>, ReadFault>
     requires { length columns.now ≡ length types.now }
     ensures parts { Gives (λ parts. map (λ p. p.items) parts.items) result (all_parts 0 types.now (map (λ c. c.now) columns.now)) }
     ensures turn { IfOk result (λ parts. AreAllInTurn types.now (map (λ p. p.items) parts.items)) }
@@ -147,12 +147,12 @@ fn read_parts(
 }
 
 /// The blocks of a column, in order, each where it may stand.
-fn read_in_turn(
+fn read_in_turn<'a>(
     alloc: Global,
     col: usize,
     ty: ColumnType,
-    bytes: &[u8],
-) -> Result<Vec<Part>, ReadFault>
+    bytes: &'a [u8],
+) -> Result<Vec<Part<'a>>, ReadFault>
     ensures parts { Gives (λ parts. parts.items) result (parts_after [] (frames_of col (Some ty) bytes.now)) }
     ensures turn { IfOk result (λ parts. AreInTurn ty parts.items) }
 {
@@ -161,7 +161,7 @@ fn read_in_turn(
 }
 
 /// The greatest generation that is whole in each of the columns.
-fn newest_whole(columns: &[Vec<Part>]) -> Option<u32>
+fn newest_whole(columns: &[Vec<Part<'_>>]) -> Option<u32>
     requires { AreEachInTurn (map (λ p. p.items) columns.now) }
     ensures { result ≡ newest_whole (map (λ p. p.items) columns.now) }
 {
@@ -173,22 +173,23 @@ fn newest_whole(columns: &[Vec<Part>]) -> Option<u32>
 
 /// The last generation among the blocks of a column that is whole in each of the others. It is sought from the last block
 /// on back, so that no older one is tested where the newest is whole.
-fn newest_among(parts: &[Part], others: &[Vec<Part>]) -> Option<u32>
+fn newest_among(parts: &[Part<'_>], others: &[Vec<Part<'_>>]) -> Option<u32>
     requires { AreEachInTurn (map (λ p. p.items) others.now) }
     ensures { result ≡ newest_of (map (λ p. p.items) others.now) None parts.now }
 {
-    let mut rest = parts;
-    while let Some((part, before)) = rest.split_last() {
+    let mut end = parts.len();
+    while end > 0 {
+        let part = &parts[end - 1];
         if ends_image(part, others) {
             return Some(part.generation);
         }
-        rest = before;
+        end -= 1;
     }
     None
 }
 
 /// Whether the block ends a generation that is whole in each of the columns.
-fn ends_image(part: &Part, columns: &[Vec<Part>]) -> bool
+fn ends_image(part: &Part<'_>, columns: &[Vec<Part<'_>>]) -> bool
     requires { AreEachInTurn (map (λ p. p.items) columns.now) }
     ensures { result ≡ ends_image (map (λ p. p.items) columns.now) part.now }
 {
@@ -196,7 +197,7 @@ fn ends_image(part: &Part, columns: &[Vec<Part>]) -> bool
 }
 
 /// Whether a generation is whole in each of the columns.
-fn is_whole_in_all(generation: u32, columns: &[Vec<Part>]) -> bool
+fn is_whole_in_all(generation: u32, columns: &[Vec<Part<'_>>]) -> bool
     requires { AreEachInTurn (map (λ p. p.items) columns.now) }
     ensures { result ≡ list_all (is_whole generation) (map (λ p. p.items) columns.now) }
 {
@@ -209,7 +210,7 @@ fn is_whole_in_all(generation: u32, columns: &[Vec<Part>]) -> bool
 }
 
 /// Whether a generation is whole among the blocks of a column, found by halving.
-fn is_whole(generation: u32, parts: &[Part]) -> bool
+fn is_whole(generation: u32, parts: &[Part<'_>]) -> bool
     requires { IsInTurn parts.now }
     ensures { result ≡ is_whole generation parts.now }
 {

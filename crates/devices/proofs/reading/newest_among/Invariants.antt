@@ -1,10 +1,13 @@
-use Rattle.std.proofs.Common.{◌≡◌, None, length, map}
+use Rattle.std.proofs.Common.{◌≡◌, ◌≤◌, None, length, map, take}
 use Rattle.devices.specs.Stored.{newest_of}
 use Rattle.devices.proofs.reading.newest_among.Given as goal
 
 -- no later block ends an image
-abbrev pub invariant-loop-part : goal.invariant-loop-part
-invariant-loop-part l = newest_of (map (λ p. p.items) l.others) None l.rest ≡ newest_of (map (λ p. p.items) l.others) None l.parts
+abbrev pub invariant-loop-end : goal.invariant-loop-end
+invariant-loop-end l = record {
+  left : l.end ≤ length l.parts;
+  found : newest_of (map (λ p. p.items) l.others) None (take l.end l.parts) ≡ newest_of (map (λ p. p.items) l.others) None l.parts;
+}
 
-abbrev pub decreases-loop-part : goal.decreases-loop-part
-decreases-loop-part l = length l.rest
+abbrev pub decreases-loop-end : goal.decreases-loop-end
+decreases-loop-end l = l.end
