@@ -175,14 +175,14 @@ layer_row schema t tree h key r n below inserted made place split below_is inser
     ∙ (λ i. row_above (place i) (h.entries i) (row_at t key) (inserted_row (h.key_cols i) (place i) key (h.entries i)) (base_change (place i) (slice_get (h.entries i) n)))
     ∙ row_above-table_with schema t h.effects h.over key n split'
 
-is_some-row_above : (sid : ℕ) (es : List Entry) (below inserted : Option Row) (made : BaseChange) → is_some (row_above sid es below inserted made) ≡ (is_some inserted || (is_some below && not (is_deleted made)))
-is_some-row_above sid es below (Some row) made = refl
-is_some-row_above sid es None None Kept = refl
-is_some-row_above sid es None None Deleted = refl
-is_some-row_above sid es None None Modified = refl
-is_some-row_above sid es (Some row) None Kept = refl
-is_some-row_above sid es (Some row) None Deleted = refl
-is_some-row_above sid es (Some row) None Modified = refl
+is_some-row_above : (sid : ℕ) (listed : List Entry) (below inserted : Option Row) (made : BaseChange) → is_some (row_above sid listed below inserted made) ≡ (is_some inserted || (is_some below && not (is_deleted made)))
+is_some-row_above sid listed below (Some row) made = refl
+is_some-row_above sid listed None None Kept = refl
+is_some-row_above sid listed None None Deleted = refl
+is_some-row_above sid listed None None Modified = refl
+is_some-row_above sid listed (Some row) None Kept = refl
+is_some-row_above sid listed (Some row) None Deleted = refl
+is_some-row_above sid listed (Some row) None Modified = refl
 
 -- so whether the image of a layer has the key
 pub layer_there : (schema : Columns) (t : Table) (tree : Tree) (h : IsLayer schema t tree) (key : Key) (r n : ℕ) (there found : Bool) (made : BaseChange) → r ≡ rank key t

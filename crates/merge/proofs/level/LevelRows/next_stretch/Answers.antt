@@ -1,4 +1,5 @@
 use Rattle.std.proofs.Common.{◌≡◌, ◌∙◌, ◌≤◌, suc, length, sym, ap, subst, arith, length-append}
+use Rattle.std.proofs.lemmas.Grind.{common_steps}
 use Rattle.merge.specs.Cursor.{TreeCursor, IsCursor, rows_left}
 use Rattle.merge.specs.View.{layer_number}
 use Rattle.merge.specs.Stretches.{stretch_rows}
@@ -28,3 +29,6 @@ returns-in-Modified-clause-sound g c =
       c.in-Modified.ensures.step.cursor (length left) (subst (λ n. IsCursor n skipped.cursor) count c.skip_deleted.ensures.cursor),
       c.next_stretch.ensures.depth ∙ c.skip_deleted.ensures.depth ∙ c.requires.sound.2 ∙ ap layer_number (sym c.skip_deleted.ensures.layer),
     )
+
+pub returns-in-Modified-clause-rows : goal.returns-in-Modified-clause-rows
+returns-in-Modified-clause-rows c = grind (arith, common_steps)
