@@ -1,6 +1,9 @@
 # Each target is one line; the work is done by the toolchain's command rt.
 .PHONY: try run test examples fmt check
 
+# how many checks the gate does at a time: each takes up to 6 GB
+RT_JOBS ?= 2
+
 # runs the program on its example, unproved: a look, in two to three minutes
 try:
 	cd crates/pdt && rt try -- run data/table.csv data/script.csv
@@ -9,9 +12,10 @@ try:
 run:
 	cd crates/pdt && rt run -- run data/table.csv data/script.csv
 
-# the gate: every proof from nothing, the must-fail edits, the tests and the program; then the examples and the cases through that
+# the gate: every proof from nothing, the must-fail edits, the tests and the program; then the examples and the cases through that.
+# RT_JOBS checks go on at a time, each on one processor, since a check that has several takes more processor time
 test:
-	rt ci && examples/check
+	RT_JOBS=$(RT_JOBS) rt ci && examples/check
 
 # each example and case through the program as `make run` proves and builds it, against its replies
 examples: run
