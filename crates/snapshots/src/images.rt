@@ -130,7 +130,7 @@ type Case = (
 );
 
 /// The rows under the named writes of three transactions.
-fn named_stack(alloc: Global, rows: &[Row], named: [&[ItemWrite]; 3]) -> Result<Stack, Fail>
+fn written_stack(alloc: Global, rows: &[Row], named: [&[ItemWrite]; 3]) -> Result<Stack, Fail>
     ensures { IfOk result (λ made. AreStacked made.stable made.read.tree made.write.tree made.trans.tree) }
 {
     let read = writes_of(alloc, named[0])?;
@@ -141,6 +141,13 @@ fn named_stack(alloc: Global, rows: &[Row], named: [&[ItemWrite]; 3]) -> Result<
         rows,
         [read.as_slice(), write.as_slice(), trans.as_slice()],
     )
+}
+
+/// The named rows under them.
+fn named_stack(alloc: Global, rows: &[Item], named: [&[ItemWrite]; 3]) -> Result<Stack, Fail>
+    ensures { IfOk result (λ made. AreStacked made.stable made.read.tree made.write.tree made.trans.tree) }
+{
+    written_stack(alloc, items(alloc, rows)?.as_slice(), named)
 }
 
 /// How many rows the stretches of a range have.
@@ -202,8 +209,7 @@ fn three_layers(alloc: Global) -> Result<Stack, Fail>
     static READ: [ItemWrite; 2] = [ItemWrite::Insert(15, "Flo", 5), ItemWrite::Delete(30)];
     static WRITE: [ItemWrite; 2] = [ItemWrite::Set(15, 6), ItemWrite::Insert(30, "Zed", 7)];
     static TRANS: [ItemWrite; 2] = [ItemWrite::Delete(10), ItemWrite::Insert(35, "Gus", 8)];
-    let rows = items(alloc, &BASE)?;
-    named_stack(alloc, rows.as_slice(), [&READ, &WRITE, &TRANS])
+    named_stack(alloc, &BASE, [&READ, &WRITE, &TRANS])
 }
 
 /// That they have these rows, at positions and in ranges.
@@ -234,21 +240,28 @@ fn three_layers_make_one_image(rt: HostRuntime) -> Result<(), Fail> {
     assert_rows(&rt, rt.alloc(), &stack)
 }
 
-#[test]
-fn keys_have_their_ranks_in_three_layers(rt: HostRuntime) -> Result<(), Fail> {
+/// That keys have their ranks in them.
+fn assert_ranks(rt: &impl Abort, alloc: Global, stack: &Stack) -> Result<(), Fail>
+    requires { AreStacked stack.now.stable stack.now.read.tree stack.now.write.tree stack.now.trans.tree }
+{
     static RANKS: [(i64, (u64, bool)); 4] = [
         (10, (0, false)),
         (16, (1, false)),
         (30, (2, true)),
         (99, (4, false)),
     ];
-    let stack = three_layers(rt.alloc())?;
     let (read, write, trans) = (&stack.read.tree, &stack.write.tree, &stack.trans.tree);
     let layers = Layers::new(&stack.stable, read, write, trans);
     for (id, place) in &RANKS {
-        assert_rank(&rt, rt.alloc(), &layers, *id, *place)?;
+        assert_rank(rt, alloc, &layers, *id, *place)?;
     }
     Ok(())
+}
+
+#[test]
+fn keys_have_their_ranks_in_three_layers(rt: HostRuntime) -> Result<(), Fail> {
+    let stack = three_layers(rt.alloc())?;
+    assert_ranks(&rt, rt.alloc(), &stack)
 }
 
 /// That layers of four rows count those past the first.
@@ -270,13 +283,37 @@ fn assert_stretches_counted(rt: &impl Abort, layers: &Layers<'_>) {
     assert_holds(rt, rows == 3, "the rows in stretches");
 }
 
+/// The same, of what is lent.
+fn assert_counted(rt: &impl Abort, stack: &Stack)
+    requires { AreStacked stack.now.stable stack.now.read.tree stack.now.write.tree stack.now.trans.tree }
+{
+    let (read, write, trans) = (&stack.read.tree, &stack.write.tree, &stack.trans.tree);
+    let layers = Layers::new(&stack.stable, read, write, trans);
+    assert_scan_counted(rt, &layers);
+    assert_stretches_counted(rt, &layers);
+}
+
 #[test]
 fn three_layers_count_their_rows(rt: HostRuntime) -> Result<(), Fail> {
     let stack = three_layers(rt.alloc())?;
+    assert_counted(&rt, &stack);
+    Ok(())
+}
+
+/// That the image has these rows.
+fn assert_shown(
+    rt: &impl Abort,
+    alloc: Global,
+    stack: &Stack,
+    want: &str,
+    label: &str,
+) -> Result<(), Fail>
+    requires { AreStacked stack.now.stable stack.now.read.tree stack.now.write.tree stack.now.trans.tree }
+{
     let (read, write, trans) = (&stack.read.tree, &stack.write.tree, &stack.trans.tree);
     let layers = Layers::new(&stack.stable, read, write, trans);
-    assert_scan_counted(&rt, &layers);
-    assert_stretches_counted(&rt, &layers);
+    let text = rows_text(alloc, layers.scan(0, u64::MAX))?;
+    assert_text(rt, text.as_str(), want, label);
     Ok(())
 }
 
@@ -284,15 +321,10 @@ fn three_layers_count_their_rows(rt: HostRuntime) -> Result<(), Fail> {
 fn assert_image(
     rt: &impl Abort,
     alloc: Global,
-    (label, named, steps, image): Case,
+    (label, rows, steps, image): Case,
 ) -> Result<(), Fail> {
-    let rows = items(alloc, named)?;
-    let stack = named_stack(alloc, rows.as_slice(), steps)?;
-    let (read, write, trans) = (&stack.read.tree, &stack.write.tree, &stack.trans.tree);
-    let layers = Layers::new(&stack.stable, read, write, trans);
-    let text = rows_text(alloc, layers.scan(0, u64::MAX))?;
-    assert_text(rt, text.as_str(), image, label);
-    Ok(())
+    let stack = named_stack(alloc, rows, steps)?;
+    assert_shown(rt, alloc, &stack, image, label)
 }
 
 #[test]

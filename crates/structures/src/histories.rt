@@ -169,19 +169,20 @@ fn effects_are_read(rt: HostRuntime) -> Result<(), Fail> {
     Ok(())
 }
 
-/// How many rows a table has after a commit, and how many at the two numbers of a history with that commit.
-fn lengths(alloc: Global, commits: &[Effects]) -> Result<[usize; 3], NoMemory> {
-    let start = Start::new(base(alloc)?, 5, AMPLE, RECENT, ByColumn);
+/// How many rows the table has after all commits, and how many at the two numbers of a history of one.
+fn lengths(start: &Start, commits: &[Effects]) -> Result<[usize; 3], NoMemory> {
     let all = start.table().with_all(commits)?.len();
-    let before = table_after(&start, commits, 5)?.len();
-    Ok([all, before, table_after(&start, commits, 6)?.len()])
+    let before = table_after(start, commits, 5)?.len();
+    let after = table_after(start, commits, 6)?.len();
+    Ok([all, before, after])
 }
 
 #[test]
 fn a_table_stands_after_its_commits(rt: HostRuntime) -> Result<(), Fail> {
     let mut commits = Vec::new(rt.alloc());
     commits.push(effects_of(rt.alloc(), &base(rt.alloc())?, &INSERT)?)?;
-    let found = lengths(rt.alloc(), commits.as_slice())?;
+    let start = Start::new(base(rt.alloc())?, 5, AMPLE, RECENT, ByColumn);
+    let found = lengths(&start, commits.as_slice())?;
     assert!(rt; found == [4, 3, 4]);
     Ok(())
 }

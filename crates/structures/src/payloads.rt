@@ -350,6 +350,18 @@ fn has_values(block: &Block, values: &[Value]) -> bool {
     block.len() == values.len()
 }
 
+/// The payload of a block of these values.
+fn written(alloc: Global, ty: ColumnType, values: &[Value]) -> Result<Vec<u8>, NoMemory>
+    requires few { length values.now ≤ MAX_BLOCK_VALUES }
+    requires typed { IsTrue (list_all (has_type ty) values.now) }
+    requires short { IsFalse (list_any is_too_long values.now) }
+{
+    let block = Block::from_values(alloc, ty, values)?;
+    let mut bytes = Vec::new(alloc);
+    write_block(&block, &mut bytes)?;
+    Ok(bytes)
+}
+
 /// That a block of so many values is read as it is written.
 fn assert_read_again(
     rt: &impl Abort,
@@ -360,12 +372,9 @@ fn assert_read_again(
     requires { count ≤ MAX_BLOCK_VALUES }
 {
     let values = samples(alloc, ty, count)?;
-    let block = Block::from_values(alloc, ty, &values)?;
-    let mut bytes = Vec::new(alloc);
-    write_block(&block, &mut bytes)?;
+    let bytes = written(alloc, ty, &values)?;
     let read = read_block(alloc, ty, count, &bytes).map_err(|_| NoMemory)?;
-    assert!(rt; read.column_type() == ty);
-    assert!(rt; has_values(&read, values.as_slice()));
+    assert!(rt; read.column_type() == ty && has_values(&read, values.as_slice()));
     Ok(())
 }
 
@@ -403,6 +412,20 @@ fn has_at(run: BlockValues<'_>, i: usize, want: ValueRef<'_>) -> bool {
     }
 }
 
+/// That a block of three values and its copy lend these.
+fn assert_lent(
+    rt: &impl Abort,
+    alloc: Global,
+    ty: ColumnType,
+    want: &[ValueRef<'_>],
+) -> Result<(), NoMemory> {
+    let block = Block::from_values(alloc, ty, &samples(alloc, ty, 3)?)?;
+    assert_holds(rt, lends(block.values(), want), "what a block lends");
+    let copy = block.copy()?;
+    assert_holds(rt, lends(copy.values(), want), "what its copy lends");
+    Ok(())
+}
+
 #[test]
 fn a_block_and_its_copy_lend_their_values(rt: HostRuntime) -> Result<(), Fail> {
     static CASES: [(ColumnType, &[ValueRef<'static>]); 3] = [
@@ -432,11 +455,7 @@ fn a_block_and_its_copy_lend_their_values(rt: HostRuntime) -> Result<(), Fail> {
         ),
     ];
     for (ty, lent) in &CASES {
-        let values = samples(rt.alloc(), *ty, 3)?;
-        let block = Block::from_values(rt.alloc(), *ty, &values)?;
-        assert_holds(&rt, lends(block.values(), *lent), "what a block lends");
-        let copy = block.copy()?;
-        assert_holds(&rt, lends(copy.values(), *lent), "what its copy lends");
+        assert_lent(&rt, rt.alloc(), *ty, *lent)?;
     }
     Ok(())
 }
@@ -449,6 +468,23 @@ fn sampled(alloc: Global, ty: ColumnType) -> Result<Block, NoMemory>
     Block::from_values(alloc, ty, &values)
 }
 
+/// That the bytes are these once the block is written behind those before, or as they were where a growth is refused.
+fn assert_appended(
+    rt: &impl Abort,
+    alloc: Global,
+    block: &Block,
+    before: &[u8],
+    written: &[u8],
+) -> Result<(), NoMemory> {
+    let mut bytes = Vec::from_slice(alloc, before)?;
+    let left = match write_block(block, &mut bytes) {
+        Ok(()) => written,
+        Err(NoMemory) => before,
+    };
+    assert_holds(rt, bytes.as_slice() == left, "the bytes");
+    Ok(())
+}
+
 #[test]
 fn a_refused_growth_leaves_the_bytes(rt: HostRuntime) -> Result<(), Fail> {
     static BEFORE: [u8; 2] = [1, 2];
@@ -459,12 +495,7 @@ fn a_refused_growth_leaves_the_bytes(rt: HostRuntime) -> Result<(), Fail> {
     ];
     for (ty, written) in &CASES {
         let block = sampled(rt.alloc(), *ty)?;
-        let mut bytes = Vec::from_slice(rt.alloc(), &BEFORE)?;
-        let left = match write_block(&block, &mut bytes) {
-            Ok(()) => *written,
-            Err(NoMemory) => BEFORE.as_slice(),
-        };
-        assert_holds(&rt, bytes.as_slice() == left, "the bytes");
+        assert_appended(&rt, rt.alloc(), &block, &BEFORE, *written)?;
     }
     Ok(())
 }

@@ -318,6 +318,14 @@ static ASCENDING: [ValueRef<'static>; 15] = [
     ValueRef::Bool(true),
 ];
 
+/// Whether two values stand to each other as their places do, by each of their comparisons.
+fn are_in_order(value: &Value, other: &Value, i: usize, j: usize) -> bool {
+    value.cmp(other) == i.cmp(&j)
+        && (value == other) == (i == j)
+        && (value < other) == (i < j)
+        && (value.as_ref() == other.as_ref()) == (i == j)
+}
+
 /// That two of these values stand to each other as their places do.
 fn assert_order(
     rt: &impl Abort,
@@ -325,13 +333,10 @@ fn assert_order(
     (i, lower): (usize, ValueRef<'_>),
     (j, upper): (usize, ValueRef<'_>),
 ) -> Result<(), NoMemory> {
+    assert!(rt; lower.cmp(&upper) == i.cmp(&j));
     let value = lower.copy(alloc)?;
     let other = upper.copy(alloc)?;
-    assert!(rt; lower.cmp(&upper) == i.cmp(&j));
-    assert!(rt; value.cmp(&other) == i.cmp(&j));
-    assert!(rt; (value == other) == (i == j));
-    assert!(rt; (value < other) == (i < j));
-    assert!(rt; (value.as_ref() == upper) == (i == j));
+    assert!(rt; are_in_order(&value, &other, i, j));
     Ok(())
 }
 

@@ -7,6 +7,7 @@ use devices::{ColumnDevice, Store, StoreFault, read_store};
 use fixtures::{Slot, device_over, left_in};
 use stable::StableTable;
 use std::alloc::Global;
+use std::process::Abort;
 use std::sync::{Arc, OnceLock};
 use std::test::Fail;
 
@@ -52,23 +53,33 @@ fn generations_run_out(rt: HostRuntime) -> Result<(), Fail> {
     Ok(())
 }
 
+/// The generation that a column of numbers stores, and its number of rows.
+fn read_of(alloc: Global, column: &[u8]) -> Result<(u32, u64), Fail> {
+    let schema = one_column(alloc)?;
+    let image = read_store(alloc, &schema, &[column])?;
+    Ok((image.generation, image.table.len()))
+}
+
+/// That a column has a header of 3 bytes, then twice a block of 1,024 values, which isn't the last, and one of 1 value, which
+/// is.
+fn assert_two_blocks(rt: &impl Abort, column: &[u8]) {
+    assert_holds(
+        rt,
+        column.len() == 3 + 2 * (17 + 8192 + 17 + 8) + 1,
+        "length",
+    );
+    assert_holds(rt, column.get(12) == Some(&0), "not the last");
+    assert_holds(rt, column.get(8212 + 9) == Some(&1), "the last");
+}
+
 #[test]
 fn a_second_block(rt: HostRuntime) -> Result<(), Fail> {
     let slot = Arc::new(rt.alloc(), OnceLock::new())?;
     let answers = twice(rt.alloc(), &slot, 1, 1025)?;
     assert_holds(&rt, answers == [Ok(1), Ok(2)], "answers");
-    let all = left_in(&slot);
-    // A header of 3 bytes, then twice a block of 1,024 values, which isn't the last, and one of 1 value, which is.
-    assert_holds(&rt, all.len() == 3 + 2 * (17 + 8192 + 17 + 8) + 1, "length");
-    assert_holds(&rt, all.get(12) == Some(&0), "not the last");
-    assert_holds(&rt, all.get(8212 + 9) == Some(&1), "the last");
-    let schema = one_column(rt.alloc())?;
-    let image = read_store(rt.alloc(), &schema, &[all])?;
-    assert_holds(
-        &rt,
-        image.generation == 2 && image.table.len() == 1025,
-        "read",
-    );
+    assert_two_blocks(&rt, left_in(&slot));
+    let read = read_of(rt.alloc(), left_in(&slot))?;
+    assert_holds(&rt, read == (2, 1025), "read");
     Ok(())
 }
 
@@ -77,9 +88,8 @@ fn no_rows_are_one_block(rt: HostRuntime) -> Result<(), Fail> {
     let slot = Arc::new(rt.alloc(), OnceLock::new())?;
     let answers = twice(rt.alloc(), &slot, 1, 0)?;
     assert_holds(&rt, answers == [Ok(1), Ok(2)], "answers");
-    let schema = one_column(rt.alloc())?;
-    let image = read_store(rt.alloc(), &schema, &[left_in(&slot)])?;
-    assert_holds(&rt, image.generation == 2 && image.table.len() == 0, "read");
+    let read = read_of(rt.alloc(), left_in(&slot))?;
+    assert_holds(&rt, read == (2, 0), "read");
     Ok(())
 }
 

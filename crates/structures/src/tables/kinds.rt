@@ -1,12 +1,14 @@
 //! Columns that are filled value by value, and by a block, and what becomes of them as a table.
+ghost use Rattle.std.specs.Prelude.{◌≡◌, IfOk};
 
 use super::number;
-use crate::assertions::assert_text;
+use crate::assertions::assert_holds;
 use blocks::Block;
-use stable::{Column, StableTable};
+use fixtures::schema;
+use stable::{BuildFault, Column, StableTable};
 use std::alloc::Global;
 use std::test::Fail;
-use values::{ColumnType, Schema, ValueRef};
+use values::{ColumnType, ValueRef};
 
 #[test]
 fn a_value_stands_after_the_others(rt: HostRuntime) -> Result<(), Fail> {
@@ -36,32 +38,40 @@ fn a_block_is_taken_whole(rt: HostRuntime) -> Result<(), Fail> {
     Ok(())
 }
 
-/// What becomes of two numbers as the one column of a table: the fault, or `Ok`.
-fn of_two(alloc: Global, first: i64, second: i64) -> Result<String, Fail> {
-    let mut named = Vec::new(alloc);
-    named.push((String::from_str(alloc, "id")?, ColumnType::Int))?;
-    let schema = Schema::new(alloc, named, 1)?;
+/// A column of two numbers.
+fn of_two(alloc: Global, first: i64, second: i64) -> Result<Column, Fail>
+    ensures { IfOk result (λ column. column.ty ≡ ColumnType.Int) }
+{
     let mut column = Column::new(alloc, ColumnType::Int);
     column.push(ValueRef::Int(first))?;
     column.push(ValueRef::Int(second))?;
+    Ok(column)
+}
+
+/// How many rows the table of such a column has, or its fault.
+fn made_alone(alloc: Global, column: Column) -> Result<Result<u64, BuildFault>, Fail>
+    requires { column.ty ≡ ColumnType.Int }
+{
+    let schema = schema(alloc, &[("id", ColumnType::Int)], 1)?;
     let mut columns = Vec::new(alloc);
     columns.push(column)?;
     match StableTable::from_columns(schema, columns) {
-        Ok(table) => Ok(format!(in alloc; "Ok {}", table.len())?),
-        Err(fault) => Ok(format!(in alloc; "{fault}")?),
+        Ok(table) => Ok(Ok(table.len())),
+        Err(fault) => Ok(Err(fault)),
     }
 }
 
 #[test]
 fn columns_that_ascend_are_a_table(rt: HostRuntime) -> Result<(), Fail> {
-    let cases: [(&str, i64, i64, &str); 3] = [
-        ("ascending", 1, 2, "Ok 2"),
-        ("equal keys", 2, 2, "NotAscending 1"),
-        ("a descent", 2, 1, "NotAscending 1"),
+    static CASES: [(&str, i64, i64, Result<u64, BuildFault>); 3] = [
+        ("ascending", 1, 2, Ok(2)),
+        ("equal keys", 2, 2, Err(BuildFault::NotAscending(1))),
+        ("a descent", 2, 1, Err(BuildFault::NotAscending(1))),
     ];
-    for (label, first, second, becomes) in cases {
-        let found = of_two(rt.alloc(), first, second)?;
-        assert_text(&rt, found.as_str(), becomes, label);
+    for (label, first, second, becomes) in &CASES {
+        let column = of_two(rt.alloc(), *first, *second)?;
+        let found = made_alone(rt.alloc(), column)?;
+        assert_holds(&rt, found == *becomes, *label);
     }
     Ok(())
 }
