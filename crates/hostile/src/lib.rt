@@ -15,4 +15,6 @@ mod images;
 #[cfg(test)]
 mod long_runs;
 #[cfg(test)]
+mod stores;
+#[cfg(test)]
 mod yielding;
