@@ -10,11 +10,10 @@ mod seat;
 mod serial;
 
 use crate::assertions::assert_holds;
-use crate::stores::store_over;
 use crate::yielding::run_yielding;
 use asked::{Call, WITH_CUTS, WITHOUT_CUTS, drawn_calls, script_of};
-use devices::{ReadFault, Store, read_store};
-use fixtures::{BASE, Draws, Failure, Slot, all_left_in, empty_slots, items};
+use devices::{ColumnDevice, ReadFault, Store, have_failed, read_store};
+use fixtures::{BASE, Draws, Failure, Slot, all_left_in, device_over, empty_slots, items};
 use judged::{Ran, difference_in_order, difference_on_threads};
 use model::ConflictRule;
 use past::Past;
@@ -142,7 +141,14 @@ fn left_in_order(
 ) -> Result<Left, Fail>
     requires { opened.script.schema ≡ opened.manager.schema }
 {
-    let store = store_over(alloc, opened.schema(), slots, failing)?;
+    let mut devices: Vec<Box<dyn ColumnDevice + Send>> = Vec::new(alloc);
+    for (device, slot) in slots.iter().enumerate() {
+        devices.push(Box::new(alloc, device_over(alloc, slot, device, failing)?)?)?;
+    }
+    if have_failed(devices.as_slice()) {
+        return Err(Fail::new("a device has failed before its first append"));
+    }
+    let store = Store::new(alloc, devices, opened.schema(), 1)?;
     left_over(alloc, opened, store)
 }
 

@@ -15,6 +15,4 @@ mod images;
 #[cfg(test)]
 mod long_runs;
 #[cfg(test)]
-mod stores;
-#[cfg(test)]
 mod yielding;

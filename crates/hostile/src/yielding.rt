@@ -1,9 +1,8 @@
 //! A gate at which the clients' first transactions overlap, and which hands the processor on at each call; and runs by it.
 ghost use Rattle.std.specs.Prelude.{◌≡◌};
 
-use crate::stores::store_over;
-use devices::Store;
-use fixtures::Slot;
+use devices::{ColumnDevice, Store, have_failed};
+use fixtures::{Slot, device_over};
 use pdtcli::{Gate, Left, OpenOptions, Opened, open_texts, run_clients};
 use std::alloc::Global;
 use std::sync::Wait;
@@ -69,7 +68,14 @@ pub(crate) fn run_yielding<R: Threads + Wait + Sync>(
     clients: u64,
 ) -> Result<Left, Fail> {
     let opened = open_texts(alloc, Ok(table), Ok(script), options)?;
-    let store = store_over(alloc, opened.schema(), slots, None)?;
+    let mut devices: Vec<Box<dyn ColumnDevice + Send>> = Vec::new(alloc);
+    for (device, slot) in slots.iter().enumerate() {
+        devices.push(Box::new(alloc, device_over(alloc, slot, device, None)?)?)?;
+    }
+    if have_failed(devices.as_slice()) {
+        return Err(Fail::new("a device has failed before its first append"));
+    }
+    let store = Store::new(alloc, devices, opened.schema(), 1)?;
     left_at_gate(rt, alloc, opened, store, clients)
 }
 

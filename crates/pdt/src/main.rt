@@ -17,7 +17,7 @@ use std::process::ExitCode;
 use std::sync::{Arc, OnceLock, Wait};
 use std::thread::Threads;
 use std::{env, fs, io};
-use values::{NoMemory, Schema};
+use values::NoMemory;
 
 /// The status of a command line that asks for nothing.
 const MISUSED: u8 = 2;
@@ -110,25 +110,13 @@ fn run<T: Threads + Wait + Sync>(
     folder: Option<&str>,
     options: OpenOptions,
 ) -> Result<u8, Refusal> {
-    let opened = open_files(rt, files, options)?;
-    let store = make_store(rt, folder, opened.schema())?;
-    let mut out = io::writer(rt);
-    match starter {
-        Some(starter) => run_opened_on_threads(starter, rt.alloc(), opened, store, &mut out),
-        None => run_opened(rt.alloc(), opened, store, &mut out),
-    }
-}
-
-/// Makes a store of these columns in the folder, or in memory where none is named.
-fn make_store(rt: &HostRuntime, folder: Option<&str>, schema: &Schema) -> Result<Store, Refusal>
-    ensures { IfOk result (λ store. store.schema ≡ schema.now) }
-{
     let alloc = rt.alloc();
+    let opened = open_files(rt, files, options)?;
     if let Some(dir) = folder {
-        make_header(rt, dir, schema)?;
+        make_header(rt, dir, opened.schema())?;
     }
     let mut devices: Vec<Box<dyn ColumnDevice + Send>> = Vec::new(alloc);
-    for col in 0..schema.width() {
+    for col in 0..opened.schema().width() {
         match folder {
             Some(dir) => devices.push(Box::new(alloc, make_column(rt, dir, col)?)?)?,
             None => devices.push(Box::new(alloc, memory_column(alloc)?)?)?,
@@ -137,7 +125,12 @@ fn make_store(rt: &HostRuntime, folder: Option<&str>, schema: &Schema) -> Result
     if have_failed(devices.as_slice()) {
         return Err(Refusal::Store(StoreFault::StoreFailed));
     }
-    Ok(Store::new(alloc, devices, schema, FIRST_GENERATION)?)
+    let store = Store::new(alloc, devices, opened.schema(), FIRST_GENERATION)?;
+    let mut out = io::writer(rt);
+    match starter {
+        Some(starter) => run_opened_on_threads(starter, alloc, opened, store, &mut out),
+        None => run_opened(alloc, opened, store, &mut out),
+    }
 }
 
 /// A device in memory, whose bytes nobody reads.

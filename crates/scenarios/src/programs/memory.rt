@@ -7,27 +7,12 @@ use pdtcli::{FileFault, Left, OpenOptions, Refusal, open_texts, run_opened, run_
 use std::alloc::Global;
 use std::io::Write;
 use std::sync::{Arc, OnceLock};
-use values::Schema;
 
 /// A device in memory, whose bytes nobody reads.
-fn memory_column(alloc: Global) -> Result<MemColumn, Refusal>
+pub(crate) fn memory_column(alloc: Global) -> Result<MemColumn, Refusal>
     ensures { IfOk result (λ column. column.failures ≡ 0) }
 {
     Ok(MemColumn::new(Vec::new(alloc), Arc::new(alloc, OnceLock::new())?)?)
-}
-
-/// A store of these columns in memory.
-pub(crate) fn memory_store(alloc: Global, schema: &Schema) -> Result<Store, Refusal>
-    ensures { IfOk result (λ store. store.schema ≡ schema.now) }
-{
-    let mut devices: Vec<Box<dyn ColumnDevice + Send>> = Vec::new(alloc);
-    for _ in 0..schema.width() {
-        devices.push(Box::new(alloc, memory_column(alloc)?)?)?;
-    }
-    if have_failed(devices.as_slice()) {
-        return Err(Refusal::Store(StoreFault::StoreFailed));
-    }
-    Ok(Store::new(alloc, devices, schema, 1)?)
 }
 
 /// Runs the script over a table that is opened so, as the program does.
@@ -39,13 +24,27 @@ pub(crate) fn run_texts<W: Write>(
     out: &mut W,
 ) -> Result<u8, Refusal> {
     let opened = open_texts(alloc, table, script, options)?;
-    let store = memory_store(alloc, opened.schema())?;
+    let mut devices: Vec<Box<dyn ColumnDevice + Send>> = Vec::new(alloc);
+    for _ in 0..opened.schema().width() {
+        devices.push(Box::new(alloc, memory_column(alloc)?)?)?;
+    }
+    if have_failed(devices.as_slice()) {
+        return Err(Refusal::Store(StoreFault::StoreFailed));
+    }
+    let store = Store::new(alloc, devices, opened.schema(), 1)?;
     run_opened(alloc, opened, store, out)
 }
 
 /// What is left of a run of the script over the base table.
 pub(crate) fn left_of(alloc: Global, script: &[u8]) -> Result<Left, Refusal> {
     let opened = open_texts(alloc, Ok(BASE_TEXT), Ok(script), USUAL)?;
-    let store = memory_store(alloc, opened.schema())?;
+    let mut devices: Vec<Box<dyn ColumnDevice + Send>> = Vec::new(alloc);
+    for _ in 0..opened.schema().width() {
+        devices.push(Box::new(alloc, memory_column(alloc)?)?)?;
+    }
+    if have_failed(devices.as_slice()) {
+        return Err(Refusal::Store(StoreFault::StoreFailed));
+    }
+    let store = Store::new(alloc, devices, opened.schema(), 1)?;
     Ok(run_serial(alloc, opened.manager, store, &opened.script)?.left)
 }

@@ -1,8 +1,9 @@
 //! A run whose clients have threads of their own, and meet.
 
-use super::memory::memory_store;
+use super::memory::memory_column;
 use super::{BASE_TEXT, USUAL};
-use pdtcli::{Gate, Left, Refusal, open_texts, run_clients, show};
+use devices::{ColumnDevice, Store, StoreFault, have_failed};
+use pdtcli::{Gate, Refusal, open_texts, run_clients, show};
 use std::alloc::Global;
 use std::sync::Wait;
 use std::sync::atomic::{AtomicBool, Ordering};
@@ -69,28 +70,25 @@ impl Gate for Meeting {
     }
 }
 
-/// What is left of a run of the script over the base table, its clients on threads of their own.
-fn left_on_threads<G: Gate, R: Threads + Wait + Sync>(
-    rt: &R,
-    alloc: Global,
-    script: &[u8],
-    gate: &G,
-) -> Result<Left, Refusal> {
-    let opened = open_texts(alloc, Ok(BASE_TEXT), Ok(script), USUAL)?;
-    let store = memory_store(alloc, opened.schema())?;
-    Ok(run_clients(rt, alloc, opened.manager, store, &opened.script, gate)?.left)
-}
-
-/// What such a run writes.
+/// What a run of the script over the base table writes, its clients on threads of their own.
 fn written<G: Gate, R: Threads + Wait + Sync>(
     rt: &R,
     alloc: Global,
     script: &[u8],
     gate: &G,
 ) -> Result<Vec<u8>, Refusal> {
-    let left = left_on_threads(rt, alloc, script, gate)?;
+    let opened = open_texts(alloc, Ok(BASE_TEXT), Ok(script), USUAL)?;
+    let mut devices: Vec<Box<dyn ColumnDevice + Send>> = Vec::new(alloc);
+    for _ in 0..opened.schema().width() {
+        devices.push(Box::new(alloc, memory_column(alloc)?)?)?;
+    }
+    if have_failed(devices.as_slice()) {
+        return Err(Refusal::Store(StoreFault::StoreFailed));
+    }
+    let store = Store::new(alloc, devices, opened.schema(), 1)?;
+    let outcome = run_clients(rt, alloc, opened.manager, store, &opened.script, gate)?;
     let mut out = Vec::new(alloc);
-    show(alloc, &left, &mut out)?;
+    show(alloc, &outcome.left, &mut out)?;
     Ok(out)
 }
 
