@@ -1,7 +1,7 @@
 -- The words of a command line.
 use Rattle.std.proofs.Common.{◌≡◌, ◌∙◌, true, Option, Some, None, Result, Ok, Err, codes, refl, sym}
 use Rattle.std.specs.Option.{IfSome}
-use Rattle.std.specs.Result.{IsErrAnd, IfErr}
+use Rattle.std.specs.Result.{IsErrAnd, IfErr, IfOk}
 use Rattle.std.specs.Prelude.{Box}
 use Rattle.std.specs.Option.{option_map}
 use Rattle.std.specs.Box.{box_value}
@@ -33,6 +33,11 @@ AreOf-same a b f g command same (Run table script threads store recent limit con
 pub if-AreOf-same : (a b : Option Text) (f g : Text → Option Text) → a ≡ b → ((id : Text) → f id ≡ g id) → (o : Option Settings) → IfSome o (AreOf a f) → IfSome o (AreOf b g)
 if-AreOf-same a b f g command same None h = h
 if-AreOf-same a b f g command same (Some settings) h = AreOf-same a b f g command same settings h
+
+-- what was answered is what the answer says, and what that says with it
+pub if-done : {T E : Type 0} (r : Result T E) (P Q : T → Type 0) → ((x : T) → P x → Q x) → IfOk r P → IfOk r Q
+if-done (Ok x) P Q f h = f x h
+if-done (Err e) P Q f h = tt
 
 -- what an error that was made is
 pub if-told : {T E : Type 0} (r : Result T E) (P Q : E → Type 0) → ((e : E) → P e → Q e) → IsErrAnd r P → IfErr r Q

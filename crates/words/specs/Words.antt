@@ -3,7 +3,8 @@ use Rattle.std.specs.Prelude.{◌≡◌, ◌≤◌, ℕ, Bool, true, false, Opti
 use Rattle.std.specs.Option.{option_map, option_and_then}
 use Rattle.std.specs.Str.Parse.{IsNumeral, digits_value, without_leading_plus}
 use Rattle.clap.specs.Simple.{on_top}
-use Rattle.clap.specs.Words.{App, Row, Rule, Text, first_of, new_app, new_rule, subcommand_of, takes, with_rule, with_subcommand}
+use Rattle.clap.specs.Words.{App, Row, Rule, Text, AddsSubcommand, app_of, first_of, new_app, new_rule, subcommand_of, takes, with_rule, with_subcommand}
+use Rattle.clap.specs.declared.builder.command.Command.{Command}
 use Rattle.clap.specs.declared.builder.ArgAction.TheVariants.{Set, SetTrue}
 use Rattle.clap.specs.declared.builder.value_parser.ValueParser.TheVariants.{Unsigned}
 use Rattle.values.specs.declared.limits.TheConstants.{MAX_RECENT_COMMITS, MAX_ROWS}
@@ -49,6 +50,11 @@ abbrev pub usage : App
 usage =
     let top = on_top (λ s. record s { subcommand_required = true }) (new_app (codes "pdt")) in
     with_subcommand (with_subcommand top run_usage.top) recover_usage.top
+
+-- a command is of this usage, alone and among another one's commands
+pub record IsCommandOf (said : App) (command : Command) : Type 0 where
+  pub alone : app_of command ≡ said
+  pub among : (top added : Command) → AddsSubcommand top command added → app_of added ≡ with_subcommand (app_of top) said.top
 
 -- the name of the command that the crate `clap` reads, by the usage
 abbrev pub command_for : List Text → Option Text

@@ -1,6 +1,6 @@
 //! The settings that a command line's words say.
 ghost use Rattle.std.specs.Prelude.{◌≡◌, ◌≤◌, ℕ, Bool, [], Some, IfErr, IfOk, IfSome, IsNone, codes, map, option_map};
-ghost use Rattle.clap.specs.Words.{fault_of, first_value, found_of, kind_of, subcommand_rows_of};
+ghost use Rattle.clap.specs.Words.{app_of, fault_of, first_value, found_of, kind_of, subcommand_rows_of};
 ghost use Rattle.clap.specs.declared.error.kind.ErrorKind.TheVariants.{OutOfMemory};
 ghost use Rattle.model.specs.declared.clash.ConflictRule.{ConflictRule as Rule};
 ghost use Rattle.words.specs.Words.{flag_word, usage, command_for, word_for, word_in, AreAsked, AreOf, IsNumberOf, IsRuleOf, IsWithinLimits};
@@ -8,7 +8,7 @@ ghost use Rattle.words.specs.declared.settings.Settings.{Settings as Asked};
 
 use crate::usage::program;
 use clap::error::ErrorKind;
-use clap::{ArgMatches, Error};
+use clap::{ArgMatches, Command, Error};
 use model::ConflictRule;
 use std::alloc::Global;
 use values::limits::{MAX_RECENT_COMMITS, MAX_ROWS};
@@ -57,9 +57,19 @@ pub fn read_words<'a>(alloc: Global, words: &'a [&'a str]) -> Result<Settings<'a
     ensures taken { IfErr result (λ error. (settings : Asked) → AreAsked (map (λ word. word.now) words.now) settings → kind_of error ≡ OutOfMemory) }
 {
     let mut command = program(alloc)?;
+    settings_by(&mut command, words)
+}
+
+/// The settings that the words say by the program's command line.
+fn settings_by<'a>(command: &mut Command<'a>, words: &'a [&'a str]) -> Result<Settings<'a>, Error>
+    requires { app_of command.old ≡ usage }
+    ensures said { IfOk result (AreOf (command_for (map (λ word. word.now) words.now)) (word_for (map (λ word. word.now) words.now))) }
+    ensures within { IfOk result (λ settings. IsWithinLimits settings) }
+    ensures faultless { IfOk result (λ settings. fault_of usage (map (λ word. word.now) words.now) ≡ []) }
+    ensures taken { IfErr result (λ error. (settings : Asked) → AreAsked (map (λ word. word.now) words.now) settings → kind_of error ≡ OutOfMemory) }
+{
     let matches = command.try_get_matches_from_mut(words)?;
-    let given = command_settings(&matches);
-    match given {
+    match command_settings(&matches) {
         Some(settings) => Ok(settings),
         None => Err(command.error(
             ErrorKind::ValueValidation,

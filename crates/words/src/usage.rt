@@ -1,12 +1,11 @@
 //! The usage of the program, as `clap` has it.
-ghost use Rattle.std.specs.Prelude.{◌≡◌, false, IfErr, IfOk};
-ghost use Rattle.clap.specs.Words.{app_of, kind_of, rule_of};
-ghost use Rattle.clap.specs.declared.error.kind.ErrorKind.TheVariants.{OutOfMemory};
-ghost use Rattle.words.specs.Words.{flag_rule, number_rule, option_rule, placed_rule, usage};
+ghost use Rattle.std.specs.Prelude.{◌≡◌, false, IfOk};
+ghost use Rattle.clap.specs.Words.{app_of, rule_of};
+ghost use Rattle.words.specs.Words.{flag_rule, number_rule, option_rule, placed_rule, recover_usage, run_usage, usage, IsCommandOf};
 
 use clap::builder::ValueParser;
-use clap::{Arg, ArgAction, Command, Error};
-use std::alloc::Global;
+use clap::{Arg, ArgAction, Command};
+use std::alloc::{AllocError, Global};
 use values::limits::{MAX_RECENT_COMMITS, MAX_ROWS};
 
 const ABOUT: &str =
@@ -39,12 +38,21 @@ const CONFLICTS_HELP: &str =
     "Which modifies of one row conflict: column, those of one column, or row, all";
 
 /// The command line that the program has.
-pub(crate) fn program<'a>(alloc: Global) -> Result<Command<'a>, Error>
-    ensures ok { IfOk result (λ command. app_of command ≡ usage) }
-    ensures err { IfErr result (λ error. kind_of error ≡ OutOfMemory) }
+pub(crate) fn program<'a>(alloc: Global) -> Result<Command<'a>, AllocError>
+    ensures { IfOk result (λ command. app_of command ≡ usage) }
 {
-    // Each argument is made where it is taken, so that none is kept while another one may be refused.
-    let run = Command::new(alloc, "run")
+    Command::new(alloc, "pdt")
+        .about(ABOUT)
+        .subcommand_required(true)
+        .subcommand(run_command(alloc)?)?
+        .subcommand(recover_command(alloc)?)
+}
+
+/// The command that runs a script over a table.
+fn run_command<'a>(alloc: Global) -> Result<Command<'a>, AllocError>
+    ensures { IfOk result (IsCommandOf run_usage) }
+{
+    Command::new(alloc, "run")
         .about(RUN_ABOUT)
         .arg(file(alloc, "table", "TABLE", TABLE_HELP))?
         .arg(file(alloc, "script", "SCRIPT", SCRIPT_HELP))?
@@ -52,17 +60,16 @@ pub(crate) fn program<'a>(alloc: Global) -> Result<Command<'a>, Error>
         .arg(option(alloc, "store", "DIR", STORE_HELP))?
         .arg(number(alloc, "recent", RECENT_HELP, MAX_RECENT_COMMITS as u64))?
         .arg(number(alloc, "limit", LIMIT_HELP, MAX_ROWS))?
-        .arg(option(alloc, "conflicts", "RULE", CONFLICTS_HELP))?;
-    let recover = Command::new(alloc, "recover")
+        .arg(option(alloc, "conflicts", "RULE", CONFLICTS_HELP))
+}
+
+/// The command that prints the table of a store.
+fn recover_command<'a>(alloc: Global) -> Result<Command<'a>, AllocError>
+    ensures { IfOk result (IsCommandOf recover_usage) }
+{
+    Command::new(alloc, "recover")
         .about(RECOVER_ABOUT)
-        .arg(file(alloc, "dir", "DIR", DIR_HELP))?;
-    Ok(
-        Command::new(alloc, "pdt")
-            .about(ABOUT)
-            .subcommand_required(true)
-            .subcommand(run)?
-            .subcommand(recover)?,
-    )
+        .arg(file(alloc, "dir", "DIR", DIR_HELP))
 }
 
 /// A file or a folder that has to be named, by its place.

@@ -1,6 +1,6 @@
-use Rattle.std.proofs.Common.{◌≡◌, ◌∙◌, Some, ap, codes, sym}
+use Rattle.std.proofs.Common.{◌≡◌, ◌∙◌, Some, ap, sym}
 use Rattle.std.specs.Option.{option_map}
-use Rattle.clap.specs.Words.{Text, first_value, found_of, rows_of, subcommand_rows_of}
+use Rattle.clap.specs.Words.{first_value, found_of, rows_of, subcommand_rows_of}
 use Rattle.clap.proofs.WalkLemmas.{first_value-rows}
 use Rattle.words.specs.Words.{word_in}
 use Rattle.words.proofs.WordsLemmas.{AreOf-same, if-AreOf-same, named}

@@ -1,4 +1,4 @@
-use Rattle.std.proofs.Common.{◌≡◌, Some, ap}
+use Rattle.std.proofs.Common.{Some, ap}
 use Rattle.clap.specs.Words.{Rule}
 use Rattle.clap.specs.declared.builder.ArgAction.TheVariants.{Set}
 use Rattle.words.proofs.usage.option.Goals as goal
