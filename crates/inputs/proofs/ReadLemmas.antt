@@ -40,6 +40,10 @@ pub passed-up : {T E : Type 0} (r : Result T E) (e : E) (P : E → Type 0) → I
 passed-up (Ok x) e P is p = tt
 passed-up (Err y) e P is p = subst P (sym is) p
 
+pub then-err : {T E : Type 0} (r : Result T E) (P Q : E → Type 0) → ((e : E) → P e → Q e) → IfErr r P → IfErr r Q
+then-err (Ok x) P Q f h = tt
+then-err (Err e) P Q f h = f e h
+
 pub then-ok : {T E : Type 0} (r : Result T E) (P Q : T → Type 0) → ((x : T) → P x → Q x) → IfOk r P → IfOk r Q
 then-ok (Ok x) P Q f h = f x h
 then-ok (Err e) P Q f h = tt

@@ -1,10 +1,13 @@
 //! The header: the columns that the first record names, as a schema.
-ghost use Rattle.std.specs.Prelude.{◌≡◌, ◌≢◌, ◌<◌, IfOk, IfErr, IfSome, Ok, Err, Some, true, length, position};
+ghost use Rattle.std.specs.Prelude.{◌≡◌, ◌≢◌, ◌<◌, ◌∷◌, ℕ, List, [], IfOk, IfErr, IfSome, Ok, Err, Some, true, length, position};
 ghost use Rattle.csv.specs.Records.{fields_of};
+ghost use Rattle.inputs.specs.Input.{IsFaultOf};
+ghost use Rattle.inputs.specs.Reading.{Fields, IsReading};
 ghost use Rattle.inputs.specs.Header.{as_schema, headings_of, heading_of, is_colon, kind_of, kind_word, named, placed, schema_of};
 
 use crate::fault::TableFault;
-use csv::ByteRecord;
+use crate::reading::next_record;
+use csv::{ByteRecord, Reader};
 use std::alloc::Global;
 use values::limits::MAX_NAME_BYTES;
 use values::{ColumnType, NoMemory, Schema, SchemaFault, Text};
@@ -27,8 +30,25 @@ pub(crate) struct Heading {
     is_key: bool,
 }
 
+/// The schema of the first record that the reader gives.
+pub(crate) fn first_schema<'a>(
+    alloc: Global,
+    reader: &mut Reader<&'a [u8]>,
+    fields: &mut ByteRecord,
+) -> Result<Schema, TableFault>
+    requires { (text : List ℕ) × IsReading text [] reader.old }
+    ensures ok { IfOk result (λ schema. (header : Fields) × (schema_of header ≡ Ok schema) × ((text : List ℕ) → IsReading text [] reader.old → IsReading text (header ∷ []) reader.new)) }
+    ensures err { IfErr result (λ fault. fault ≢ TableFault.NoMemory → (text : List ℕ) → IsReading text [] reader.old → IsFaultOf text fault) }
+{
+    let found = next_record(reader, fields)?;
+    if !found {
+        return Err(TableFault::NoHeader);
+    }
+    read_header(alloc, fields)
+}
+
 /// The schema that the header names.
-pub(crate) fn read_header(alloc: Global, fields: &ByteRecord) -> Result<Schema, TableFault>
+fn read_header(alloc: Global, fields: &ByteRecord) -> Result<Schema, TableFault>
     ensures ok { IfOk result (λ schema. schema_of (fields_of fields.now) ≡ Ok schema) }
     ensures err { IfErr result (λ fault. fault ≢ TableFault.NoMemory → schema_of (fields_of fields.now) ≡ Err fault) }
 {

@@ -1,13 +1,14 @@
 //! A whole table, read from text into its columns.
-ghost use Rattle.std.specs.Prelude.{◌≢◌, IfOk, IfErr};
+ghost use Rattle.std.specs.Prelude.{◌≢◌, ℕ, List, [], IfOk, IfErr};
 ghost use Rattle.inputs.specs.Input.{IsTableOf, IsFaultOf};
+ghost use Rattle.inputs.specs.Reading.{IsReading};
 
 use crate::ascent::in_ascending_key;
 use crate::columns::{add_record, empty_columns};
 use crate::fault::TableFault;
-use crate::header::read_header;
+use crate::header::first_schema;
 use crate::reading::{next_record, records_of};
-use csv::ByteRecord;
+use csv::{ByteRecord, Reader};
 use stable::StableTable;
 use std::alloc::Global;
 
@@ -23,20 +24,29 @@ pub fn load_table(alloc: Global, text: &[u8]) -> Result<StableTable, TableFault>
 {
     let mut reader = records_of(alloc, text);
     let mut fields = ByteRecord::new(alloc);
-    let found = next_record(&mut reader, &mut fields)?;
-    if !found {
-        return Err(TableFault::NoHeader);
-    }
-    let schema = read_header(alloc, &fields)?;
+    load_records(alloc, &mut reader, &mut fields)
+}
+
+/// The table of the records that the reader gives, which has given none yet.
+fn load_records<'a>(
+    alloc: Global,
+    reader: &mut Reader<&'a [u8]>,
+    fields: &mut ByteRecord,
+) -> Result<StableTable, TableFault>
+    requires { (text : List ℕ) × IsReading text [] reader.old }
+    ensures ok { IfOk result (λ table. (text : List ℕ) → IsReading text [] reader.old → IsTableOf text table.schema table.rows) }
+    ensures err { IfErr result (λ fault. fault ≢ TableFault.NoMemory → (text : List ℕ) → IsReading text [] reader.old → IsFaultOf text fault) }
+{
+    let schema = first_schema(alloc, reader, fields)?;
     let mut columns = empty_columns(alloc, schema.types())?;
     for number in 2..u64::MAX {
-        let more = next_record(&mut reader, &mut fields)?;
+        let more = next_record(reader, fields)?;
         if !more {
             let count = (number - 2) as usize;
             let sorted = in_ascending_key(alloc, schema.key_cols(), columns, count)?;
             return Ok(StableTable::of_columns(schema, sorted));
         }
-        add_record(&mut columns, number, &fields)?;
+        add_record(&mut columns, number, fields)?;
     }
     unreachable!()
 }

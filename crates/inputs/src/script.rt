@@ -1,9 +1,10 @@
 //! A whole script, read from text.
-ghost use Rattle.std.specs.Prelude.{◌≡◌, ◌≢◌, ◌≤◌, length, IfOk, IfErr, Ok, Err};
+ghost use Rattle.std.specs.Prelude.{◌≡◌, ◌≢◌, ◌≤◌, ℕ, List, [], length, IfOk, IfErr, Ok, Err};
 ghost use Rattle.std.specs.List.{list_all};
 ghost use Rattle.std.specs.Str.{is_utf8};
 ghost use Rattle.csv.specs.Records.{fields_of};
 ghost use Rattle.values.specs.declared.limits.TheConstants.{MAX_CLIENTS};
+ghost use Rattle.inputs.specs.Reading.{IsReading};
 ghost use Rattle.inputs.specs.Typed.{IsTyped};
 ghost use Rattle.inputs.specs.Script.{call_of, IsScriptOf, IsScriptFaultOf};
 
@@ -12,7 +13,7 @@ use crate::call::ClientCall;
 use crate::client::{add_client, read_client};
 use crate::fault::ScriptFault;
 use crate::reading::{next_record, records_of};
-use csv::ByteRecord;
+use csv::{ByteRecord, Reader};
 use std::alloc::Global;
 use std::marker::Model;
 use values::{Schema, Text};
@@ -76,19 +77,36 @@ pub fn read_script(alloc: Global, schema: &Schema, text: &[u8]) -> Result<Script
     let under = schema.copy()?;
     let mut reader = records_of(alloc, text);
     let mut fields = ByteRecord::new(alloc);
+    let (clients, calls) = read_calls(alloc, schema, &mut reader, &mut fields)?;
+    Ok(Script {
+        schema: under,
+        clients,
+        calls,
+    })
+}
+
+/// The clients and the calls of the records that the reader gives, which has given none yet.
+fn read_calls<'a>(
+    alloc: Global,
+    schema: &Schema,
+    reader: &mut Reader<&'a [u8]>,
+    fields: &mut ByteRecord,
+) -> Result<(Vec<Text>, Vec<ClientCall>), ScriptFault>
+    requires { (text : List ℕ) × IsReading text [] reader.old }
+    ensures ok { IfOk result (λ r. (text : List ℕ) → IsReading text [] reader.old → IsScriptOf schema.now text r.0.items r.1.items) }
+    ensures typed { IfOk result (λ r. IsTyped (record { schema = schema.now; clients = r.0.items; calls = r.1.items })) }
+    ensures few { IfOk result (λ r. length r.0.items ≤ MAX_CLIENTS) }
+    ensures err { IfErr result (λ fault. fault ≢ ScriptFault.NoMemory → (text : List ℕ) → IsReading text [] reader.old → IsScriptFaultOf schema.now text fault) }
+{
     let mut clients = Vec::new(alloc);
     let mut calls = Vec::new(alloc);
     for number in 1..u64::MAX {
-        let more = next_record(&mut reader, &mut fields)?;
+        let more = next_record(reader, fields)?;
         if !more {
-            return Ok(Script {
-                schema: under,
-                clients,
-                calls,
-            });
+            return Ok((clients, calls));
         }
-        let call = read_call(alloc, schema, clients.as_slice(), number, &fields)?;
-        add_client(alloc, &mut clients, &fields)?;
+        let call = read_call(alloc, schema, clients.as_slice(), number, fields)?;
+        add_client(alloc, &mut clients, fields)?;
         calls.push(call)?;
     }
     unreachable!()

@@ -1,4 +1,4 @@
-use Rattle.std.proofs.Common.{◌≡◌, ◌≤◌, ◌+◌, ◌-◌, ◌++◌, ◌∷◌, List, Ok}
+use Rattle.std.proofs.Common.{◌≡◌, ◌≤◌, ◌+◌, ◌-◌, ◌++◌, ◌∷◌, ℕ, List, [], Ok}
 use Rattle.values.specs.declared.limits.TheConstants.{MAX_ROWS}
 use Rattle.inputs.specs.Cells.{prepend}
 use Rattle.inputs.specs.Filling.{rows_in, types_in}
@@ -6,7 +6,7 @@ use Rattle.inputs.specs.Header.{schema_of}
 use Rattle.inputs.specs.Input.{rows_of}
 use Rattle.inputs.specs.Reading.{Fields, IsReading}
 use Rattle.inputs.proofs.FillingLemmas.{AreLong}
-use Rattle.inputs.proofs.loading.load_table.Given as goal
+use Rattle.inputs.proofs.loading.load_records.Given as goal
 
 -- the records so far lead to where the reader stands, and their rows are those that the columns show
 abbrev pub invariant-loop-number : goal.invariant-loop-number
@@ -15,6 +15,6 @@ invariant-loop-number l = record {
   few : l.number ≤ MAX_ROWS + 2;
   typed : types_in l.columns.items ≡ l.schema.types;
   long : AreLong (l.number - 2) l.columns.items;
-  reading : (header : Fields) × (read : List Fields) × IsReading l.fn.text (header ∷ read) l.reader × (schema_of header ≡ Ok l.schema)
+  reading : (header : Fields) × (read : List Fields) × ((text : List ℕ) → IsReading text [] l.fn.reader → IsReading text (header ∷ read) l.reader) × (schema_of header ≡ Ok l.schema)
       × ((more : List Fields) → rows_of l.schema.types 2 (read ++ more) ≡ prepend (rows_in (l.number - 2) l.columns.items) (rows_of l.schema.types l.number more));
 }
