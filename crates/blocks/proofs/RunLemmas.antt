@@ -1,8 +1,9 @@
 -- A run of a list put after another list.
-use Rattle.std.proofs.Common.{◌≡◌, ℕ, zero, suc, ◌+◌, ◌<◌, ◌≤◌, List, [], ◌∷◌, ◌++◌, length, map, take, drop, get_or, slice_get, Some, append_assoc, sym, ap, ◌∙◌, arith}
+use Rattle.std.proofs.Common.{◌≡◌, ℕ, zero, suc, ◌+◌, ◌<◌, ◌≤◌, List, [], ◌∷◌, ◌++◌, length, map, take, drop, get_or, slice_get, Some, Result, Ok, Err, OnOk, OnErr, append_assoc, sym, ap, subst, ◌∙◌, arith}
 use Rattle.std.specs.List.{AllByRecursion}
 use Rattle.std.proofs.lemmas.List.{take_more, take-map, drop-map, map-append, get_or-drop, length-append, length-drop, length-take}
 use Rattle.std.proofs.lemmas.Option.{slice_get_within, get_or_from_slice_get}
+use Rattle.blocks.specs.Column.{Column, IsBlock}
 
 -- one more of the run
 pub run_more : {X : Type 0} (front xs : List X) (start i : ℕ) (x : X) → slice_get xs (start + i) ≡ Some x → (front ++ take i (drop start xs)) ++ x ∷ [] ≡ front ++ take (i + 1) (drop start xs)
@@ -43,3 +44,9 @@ all_drop P (suc i) (x ∷ xs) h = all_drop P i xs h.1
 
 pub all_with_run : {X : Type 0} (P : X → Type 0) (front xs : List X) (start i : ℕ) → AllByRecursion P front → AllByRecursion P xs → AllByRecursion P (front ++ take i (drop start xs))
 all_with_run P front xs start i h k = all_append P front (take i (drop start xs)) h (all_take P i (drop start xs) (all_drop P start xs k))
+
+-- a block that took values, or stayed as it was, is a block
+pub block_after : {A E : Type 0} (answer : Result A E) (now before longer : Column) → IsBlock before → IsBlock longer
+    → OnOk answer (now ≡ longer) → OnErr answer (now ≡ before) → IsBlock now
+block_after (Ok x) now before longer mine kept ok err = subst IsBlock (sym ok) kept
+block_after (Err e) now before longer mine kept ok err = subst IsBlock (sym err) mine

@@ -78,12 +78,11 @@ impl Block {
         ensures err { OnErr result (self.new ≡ self.old) }
     {
         match (&mut self.cells, value) {
-            (Cells::Ints(ints), ValueRef::Int(number)) => ints.push(number)?,
-            (Cells::Texts(texts), ValueRef::Text(text)) => texts.push(text)?,
-            (Cells::Truths(truths), ValueRef::Bool(truth)) => truths.push(truth)?,
+            (Cells::Ints(ints), ValueRef::Int(number)) => Ok(ints.push(number)?),
+            (Cells::Texts(texts), ValueRef::Text(text)) => texts.push(text),
+            (Cells::Truths(truths), ValueRef::Bool(truth)) => truths.push(truth),
             _ => unreachable!(),
         }
-        Ok(())
     }
 
     /// Puts so many values of another block of the same type, from one of them on, after these; there are at most 1,024
@@ -101,15 +100,12 @@ impl Block {
     {
         match (&mut self.cells, &other.cells) {
             (Cells::Ints(ints), Cells::Ints(others)) => {
-                ints.extend_from_slice(&others.as_slice()[start..start + count])?
+                Ok(ints.extend_from_slice(&others.as_slice()[start..start + count])?)
             }
-            (Cells::Texts(texts), Cells::Texts(others)) => texts.push_run(others, start, count)?,
-            (Cells::Truths(truths), Cells::Truths(others)) => {
-                truths.push_run(others, start, count)?
-            }
+            (Cells::Texts(texts), Cells::Texts(others)) => texts.push_run(others, start, count),
+            (Cells::Truths(truths), Cells::Truths(others)) => truths.push_run(others, start, count),
             _ => unreachable!(),
         }
-        Ok(())
     }
 
     /// The values as a block. They are at most 1,024, all of the type, no text of them above 4,096 bytes.

@@ -1,9 +1,9 @@
-use Rattle.std.proofs.Common.{◌≡◌, ◌+◌, ◌-◌, ◌++◌, ◌∷◌, [], length, map, ap, ◌∙◌, arith}
+use Rattle.std.proofs.Common.{◌≡◌, ◌+◌, ◌-◌, ◌++◌, ◌∷◌, [], length, map, ap, ◌∙◌, arith, rules}
 use Rattle.std.proofs.lemmas.List.{map_push, length_push}
 use Rattle.values.specs.declared.value.Value.TheVariants.{Text}
-use Rattle.blocks.specs.Reading.{texts_at}
+use Rattle.blocks.specs.Reading.{texts_at, Fails}
 use Rattle.blocks.proofs.TextsLemmas.{text_measured}
-use Rattle.blocks.proofs.ReadLemmas.{reads_on}
+use Rattle.blocks.proofs.ReadLemmas.{reads_on, fails_on}
 use Rattle.blocks.proofs.reading.read_texts.Goals as goal
 
 pub push-requires-clause-short : goal.push-requires-clause-short
@@ -23,3 +23,14 @@ loop-i-preserved c =
       counted = ap length c.in_ok-push.ensures.ok ∙ length_push c.loop-i.texts t ∙ ap (λ n. n + 1) so_far.counted;
       read = rw pushed (reads_on (map Text c.loop-i.texts) c.loop-i.i at (length c.args.bytes.now - length rest) c.args.count c.loop-i.rest.now t rest (texts_at 0 0 c.args.count c.args.bytes.now) c.loop-i-test.true place c.in_ok-text.ensures so_far.read);
     }
+
+pub returns-in_err-text : goal.returns-in_err-text
+returns-in_err-text c =
+    let rest = c.loop-i.rest.now in
+    let at = length c.args.bytes.now - length rest in
+    let so_far = c.loop-i.invariant.read in
+    let total = texts_at 0 0 c.args.count c.args.bytes.now in
+    let fault = c.in_err-text.field-0.0 in
+    let fails : Fails fault total =
+    fails_on fault (map Text c.loop-i.texts) c.loop-i.i at c.args.count rest total c.loop-i-test.true so_far c.in_err-text.ensures in
+    search rules

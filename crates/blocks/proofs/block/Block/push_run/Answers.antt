@@ -1,16 +1,16 @@
-use Rattle.std.proofs.Common.{◌≡◌, ◌++◌, take, drop, sym, subst, arith, rules}
+use Rattle.std.proofs.Common.{◌≡◌, ◌++◌, take, drop, subst, OnOk, OnErr, arith, rules}
 use Rattle.blocks.specs.Cells.{column_of}
 use Rattle.blocks.specs.Column.{Column, IsBlock, AllFit, Fits}
-use Rattle.blocks.proofs.RunLemmas.{map-with_run, all_with_run, length-with_run}
+use Rattle.blocks.proofs.RunLemmas.{map-with_run, all_with_run, length-with_run, block_after}
 use Rattle.blocks.proofs.block.Block.push_run.Goals as goal
-use Rattle.blocks.proofs.block.Block.push_run.Goals.{in-Ints-Ints+in_ok-extend_from_slice-in-Ints-Ints, in-Texts-Texts+in_ok-push_run-in-Texts-Texts, in-Truths-Truths+in_ok-push_run-in-Truths-Truths}
+use Rattle.blocks.proofs.block.Block.push_run.Goals.{in-Ints-Ints+in_ok-extend_from_slice-in-Ints-Ints, in-Texts-Texts, in-Truths-Truths}
 
 pub returns-clause-ok : goal.returns-clause-ok
 returns-clause-ok c =
     elim c.match-self.branch [
       | in-Ints-Ints+in_ok-extend_from_slice-in-Ints-Ints w ↦ search (rules, map-with_run)
-      | in-Texts-Texts+in_ok-push_run-in-Texts-Texts w ↦ search (rules, map-with_run)
-      | in-Truths-Truths+in_ok-push_run-in-Truths-Truths w ↦ search (rules, map-with_run)
+      | in-Texts-Texts w ↦ search (rules, map-with_run)
+      | in-Truths-Truths w ↦ search (rules, map-with_run)
     ]
 
 pub invariant_of-self-2 : goal.invariant_of-self-2
@@ -24,10 +24,16 @@ invariant_of-self-2 c =
       few = omega (arith, c.requires.few, length-with_run c.args.self.now.values c.args.other.now.values c.args.start c.args.count c.requires.within);
       fit = all_with_run (Fits c.args.self.now.ty) c.args.self.now.values c.args.other.now.values c.args.start c.args.count mine.fit (subst (λ ty. AllFit ty c.args.other.now.values) typed theirs.fit);
     } in
-    let grown : column_of c.match-self.self-inside.cells ≡ longer =
+    let ok : OnOk c.match-self.result (column_of c.match-self.self-inside.cells ≡ longer) =
     elim c.match-self.branch [
       | in-Ints-Ints+in_ok-extend_from_slice-in-Ints-Ints w ↦ search (rules, map-with_run)
-      | in-Texts-Texts+in_ok-push_run-in-Texts-Texts w ↦ search (rules, map-with_run)
-      | in-Truths-Truths+in_ok-push_run-in-Truths-Truths w ↦ search (rules, map-with_run)
+      | in-Texts-Texts w ↦ search (rules, map-with_run)
+      | in-Truths-Truths w ↦ search (rules, map-with_run)
     ] in
-    subst IsBlock (sym grown) kept
+    let err : OnErr c.match-self.result (column_of c.match-self.self-inside.cells ≡ c.args.self.now) =
+    elim c.match-self.branch [
+      | in-Ints-Ints+in_ok-extend_from_slice-in-Ints-Ints w ↦ search rules
+      | in-Texts-Texts w ↦ search rules
+      | in-Truths-Truths w ↦ search rules
+    ] in
+    block_after c.match-self.result (column_of c.match-self.self-inside.cells) c.args.self.now longer mine kept ok err
