@@ -3,6 +3,9 @@ ghost use Rattle.std.specs.Prelude.{◌≡◌, ℕ, ◌∷◌, [], map, IfOk, On
 ghost use Rattle.model.specs.Writes.{key_of_write, effect_of_write, is_done};
 ghost use Rattle.model.specs.Writes.{reply_to, effects_after, replies_to, effects_after_all};
 ghost use Rattle.model.specs.Table.{Table};
+ghost use Rattle.model.specs.Maps.{alter};
+ghost use Rattle.model.specs.Composition.{composed_effect};
+ghost use Rattle.values.specs.Orders.{key_cmp};
 ghost use Rattle.oracle.specs.Replay.{AreAnswered, GotDueReplies, effects_when_all};
 
 use crate::effect::copy_values;
@@ -47,9 +50,7 @@ impl OrderedTable {
     {
         let reply = self.reply_to(key_cols, limit, effects, write)?;
         if is_done(reply) {
-            let key = written_key(self.alloc, key_cols, write)?;
-            let effect = effect_of_write(self.alloc, write)?;
-            effects.compose(&key, &effect)?;
+            add_write(self.alloc, key_cols, effects, write)?;
         }
         Ok(reply)
     }
@@ -110,11 +111,26 @@ pub fn effects_of_writes(
     let mut effects = Effects::new(alloc);
     for (write, reply) in writes {
         if is_done(*reply) {
-            let key = written_key(alloc, key_cols, write)?;
-            effects.compose(&key, &effect_of_write(alloc, write)?)?;
+            add_write(alloc, key_cols, &mut effects, write)?;
         }
     }
     Ok(effects)
+}
+
+/// Adds what a write that is done does to its key. On want of memory the effects stay.
+fn add_write(
+    alloc: Global,
+    key_cols: usize,
+    effects: &mut Effects,
+    write: &Write,
+) -> Result<(), NoMemory>
+    ensures ok { OnOk result (effects.new ≡ alter key_cmp (key_of_write key_cols write.now)
+        (composed_effect (effect_of_write write.now)) effects.old) }
+    ensures err { OnErr result (effects.new ≡ effects.old) }
+{
+    let key = written_key(alloc, key_cols, write)?;
+    let effect = effect_of_write(alloc, write)?;
+    effects.compose(&key, &effect)
 }
 
 /// The key that a write is about, copied.
