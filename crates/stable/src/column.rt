@@ -222,11 +222,10 @@ fn add_value(
     ensures err { OnErr result (blocks.new.items ≡ blocks.old.items) }
 {
     if count % MAX_BLOCK_VALUES == 0 {
-        blocks.push(block_of(alloc, ty, value)?)?;
+        Ok(blocks.push(block_of(alloc, ty, value)?)?)
     } else {
-        blocks[count / MAX_BLOCK_VALUES].push(value)?;
+        blocks[count / MAX_BLOCK_VALUES].push(value)
     }
-    Ok(())
 }
 
 /// A block of one value.
@@ -274,11 +273,10 @@ fn add_run(
     ensures err { OnErr result (blocks.new.items ≡ blocks.old.items) }
 {
     if count % MAX_BLOCK_VALUES == 0 {
-        blocks.push(run_of(alloc, ty, block, start, run)?)?;
+        Ok(blocks.push(run_of(alloc, ty, block, start, run)?)?)
     } else {
-        blocks[count / MAX_BLOCK_VALUES].push_run(block, start, run)?;
+        blocks[count / MAX_BLOCK_VALUES].push_run(block, start, run)
     }
-    Ok(())
 }
 
 /// A block of so many values of another, from one of them on.

@@ -1,4 +1,5 @@
 use Rattle.std.proofs.Common.{◌≡◌, ◌/◌, ◌++◌, ◌∷◌, [], length, take, drop, slice_set, sym, ap, ◌∙◌, arith}
+use Rattle.std.proofs.lemmas.Result.{on_ok_weaker}
 use Rattle.blocks.specs.Column.{Column}
 use Rattle.stable.proofs.PushLemmas.{in_new, in_last, last_there, last_is, last_filled}
 use Rattle.stable.proofs.RunLemmas.{length-run}
@@ -25,9 +26,13 @@ returns-in_ok-push-clause-ok c =
     ∙ ap (λ (b : Column). c.args.blocks.now.items ++ b ∷ []) c.in_ok-run_of.ensures
     ∙ in_new c.args.ty c.args.count c.args.blocks.now.items c.requires.kept run c.if-count-eq0.true (omega (arith, long, c.requires.fits)) (omega (arith, long, c.requires.some))
 
-pub returns-in_ok-push_run-clause-ok : goal.returns-in_ok-push_run-clause-ok
-returns-in_ok-push_run-clause-ok c =
+pub returns-else-count-eq0-clause-ok : goal.returns-else-count-eq0-clause-ok
+returns-else-count-eq0-clause-ok c =
     let run = take c.args.run (drop c.args.start c.args.block.now.values) in
     let long : length run ≡ c.args.run = length-run c.args.block.now.values c.args.start c.args.run c.requires.within in
-    ap (λ (b : Column). slice_set c.args.blocks.now.items (c.args.count / 1024) b) c.in_ok-push_run.ensures.ok
-    ∙ in_last c.args.ty c.args.count c.args.blocks.now.items c.requires.kept run c.if-count-eq0.false c.index_mut.result.now c.index_mut.ensures.value (omega (arith, long, c.requires.some)) (omega (arith, long, c.requires.fits))
+    let blocks = c.args.blocks.now.items in
+    let last = c.index_mut in
+    let put =
+    in_last c.args.ty c.args.count blocks c.requires.kept run c.if-count-eq0.false last.result.now last.ensures.value
+    (omega (arith, long, c.requires.some)) (omega (arith, long, c.requires.fits)) in
+    on_ok_weaker c.push_run.result (λ e. ap (λ (b : Column). slice_set blocks (c.args.count / 1024) b) e ∙ put) c.push_run.ensures.ok

@@ -2,6 +2,7 @@ use Rattle.std.proofs.Common.{◌/◌, ◌++◌, ◌∷◌, [], slice_set, sym, 
 use Rattle.values.specs.Lent.{value_of}
 use Rattle.values.specs.Shape.{has_type}
 use Rattle.values.specs.declared.value.ColumnType.{ColumnType}
+use Rattle.std.proofs.lemmas.Result.{on_ok_weaker}
 use Rattle.blocks.specs.Column.{Column}
 use Rattle.stable.proofs.PushLemmas.{in_new, in_last, last_there, last_is, last_filled}
 use Rattle.stable.proofs.column.add_value.Goals as goal
@@ -27,8 +28,13 @@ returns-in_ok-push-clause-ok c =
     ∙ ap (λ (b : Column). c.args.blocks.now.items ++ b ∷ []) c.in_ok-block_of.ensures
     ∙ in_new c.args.ty c.args.count c.args.blocks.now.items c.requires.kept (v ∷ []) c.if-count-eq0.true (omega arith) (omega arith)
 
-pub returns-in_ok-push-2-clause-ok : goal.returns-in_ok-push-2-clause-ok
-returns-in_ok-push-2-clause-ok c =
+pub returns-else-count-eq0-clause-ok : goal.returns-else-count-eq0-clause-ok
+returns-else-count-eq0-clause-ok c =
     let v = value_of c.args.value in
-    ap (λ (b : Column). slice_set c.args.blocks.now.items (c.args.count / 1024) b) c.in_ok-push-2.ensures.ok
-    ∙ in_last c.args.ty c.args.count c.args.blocks.now.items c.requires.kept (v ∷ []) c.if-count-eq0.false c.index_mut.result.now c.index_mut.ensures.value (omega arith) (omega (arith, c.if-count-eq0.false))
+    let blocks = c.args.blocks.now.items in
+    let last = c.index_mut in
+    let pushed = c.push-else-count-eq0 in
+    let put =
+    in_last c.args.ty c.args.count blocks c.requires.kept (v ∷ []) c.if-count-eq0.false last.result.now last.ensures.value
+    (omega arith) (omega (arith, c.if-count-eq0.false)) in
+    on_ok_weaker pushed.result (λ e. ap (λ (b : Column). slice_set blocks (c.args.count / 1024) b) e ∙ put) pushed.ensures.ok
