@@ -1,6 +1,6 @@
 -- Edits of nodes where they stand.
 use Rattle.std.proofs.Common.{◌≡◌, ℕ, zero, suc, ◌+◌, ◌-◌, ◌<◌, ◌≤◌, List, [], ◌∷◌, ◌++◌, length, take, drop, get_or, refl, ap, sym, subst, ◌∙◌, arith, append_assoc, length-set}
-use Rattle.std.specs.Prelude.{ℤ, ◌+ℤ◌, ◌-ℤ◌, Option, Some, None, IfSome, IfNone, slice_get, slice_set}
+use Rattle.std.specs.Prelude.{Result, Ok, Err, IfOk, IfErr, ℤ, ◌+ℤ◌, ◌-ℤ◌, Option, Some, None, IfSome, IfNone, slice_get, slice_set}
 use Rattle.std.specs.Arc.{arc_with_value}
 use Rattle.std.proofs.lemmas.Int.{ints}
 use Rattle.std.proofs.lemmas.List.{drop_more, drop-set, take-set, set-get_or, take-append-drop}
@@ -49,6 +49,20 @@ put_same at gone gone' put old old' new new' added added' g o n a h = record {
   low = omega (arith, ints, h.low);
   high = omega (arith, ints, h.high);
 }
+
+-- a leaf in which an entry was put, or which stayed as it was, has no fewer entries
+pub leaf_widened : (at gone : ℕ) (put : Entry) (old new : List Entry) (r : Result ℤ Entry) → gone ≤ 1 → at + gone ≤ length old
+    → IfOk r (IsPut at gone put old new) → IfErr r (λ e. (new ≡ old) × (e ≡ put))
+    → length old ≤ length new
+leaf_widened at gone put old new (Ok added) one le ok err = omega (arith, length-edited at gone (put ∷ []) old le, ap length ok.items)
+leaf_widened at gone put old new (Err e) one le ok err = omega (arith, ap length err.0)
+
+-- a leaf that gave its entry back is seen as before
+pub leaf_kept : (r : Result ℤ Entry) (put : Entry) (old new : List Entry) (v : View)
+    → record { depth = 1; width = length old; items = old } ≡ v → IfErr r (λ e. (new ≡ old) × (e ≡ put))
+    → IfErr r (λ e. (record { depth = 1; width = length new; items = new } ≡ v) × (e ≡ put))
+leaf_kept (Ok added) put old new v is err = tt
+leaf_kept (Err e) put old new v is err = (ap (λ (es : List Entry). record { depth = 1; width = length es; items = es }) err.0 ∙ is, err.1)
 
 -- ---- in a child
 
@@ -109,7 +123,9 @@ child_mended depth gone rest put added c x h m =
       head = m.head;
     }
 
-depth_set : (children : List Child) (i : ℕ) (c x : Child) → i < length children → c ≡ get_or children i c → x.node.value.depth ≡ c.node.value.depth → depth_of (slice_set children i x) ≡ depth_of children
+-- the depth of children of which one is written over by another as deep
+pub depth_set : (children : List Child) (i : ℕ) (c x : Child) → i < length children → c ≡ get_or children i c
+    → x.node.value.depth ≡ c.node.value.depth → depth_of (slice_set children i x) ≡ depth_of children
 depth_set [] i c x lt at e = refl
 depth_set (y ∷ ys) zero c x lt at e = e ∙ ap (λ (z : Child). z.node.value.depth) at
 depth_set (y ∷ ys) (suc i) c x lt at e = refl

@@ -1,5 +1,5 @@
 -- The steps of a walk to a position, over the entries of a leaf and over children.
-use Rattle.std.proofs.Common.{◌≡◌, ℕ, zero, suc, ◌+◌, ◌<◌, ◌≤◌, ◌^◌, inl, inr, List, [], ◌∷◌, ◌++◌, length, take, drop, get_or, refl, sym, subst, arith}
+use Rattle.std.proofs.Common.{◌≡◌, ℕ, zero, suc, ◌+◌, ◌<◌, ◌≤◌, ◌^◌, inl, inr, List, [], ◌∷◌, ◌++◌, length, take, drop, get_or, refl, sym, subst, arith, to_z, of_z, w64}
 use Rattle.std.specs.Prelude.{ℤ, pos, ◌+ℤ◌, ◌≤ℤ◌, ◌<ℤ◌, Bool, false}
 use Rattle.std.proofs.lemmas.Int.{ints}
 use Rattle.std.proofs.lemmas.Bool.{cases_lt}
@@ -10,8 +10,41 @@ use Rattle.counted.specs.declared.node.Child.{Child}
 use Rattle.counted.specs.Shapes.{items_of, all_items, AreChildren}
 use Rattle.counted.specs.Sums.{weight_of, total, first_sid, IsOrdered}
 use Rattle.counted.specs.Spots.{Passes, Stops, IsSpot, ArePlaced}
-use Rattle.counted.proofs.Places.{split_items, items_from, first_from, some_from, ordered_from}
+use Rattle.counted.proofs.Places.{split_items, items_from, first_from, some_from, ordered_from, child_fits}
+use Rattle.counted.proofs.Totals.{total_within}
 use Rattle.counted.proofs.Spots.{EndsBy, spot-left, spot-right}
+
+-- ---- the way down
+
+-- entries that stand so far above the rows below that each position fits
+pub record IsBounded (es : List Entry) (shift : ℤ) : Type 0 where
+  pub above : (shift +ℤ pos (length es)) ≤ℤ pos (2 ^ 61)
+  pub below : pos (length es) ≤ℤ (shift +ℤ pos (2 ^ 61))
+
+-- what bounds the entries below a node bounds those below its child
+pub child_bounded : (children : List Child) (i : ℕ) (d : Child) (shift up : ℤ) → i < length children
+    → up ≡ total (all_items (take i children)) +ℤ shift → IsBounded (all_items children) shift
+    → IsBounded (items_of (get_or children i d)) up
+child_bounded children i d shift up lt is h =
+    let fits = child_fits children i d lt in
+    let sum = total_within (all_items (take i children)) in
+    record { above = omega (arith, ints, h.above, h.below); below = omega (arith, ints, h.above, h.below) }
+
+-- what is bounded is passed on as it is
+pub passed : (es : List Entry) (shift : ℤ) → IsBounded es shift → to_z w64 (of_z w64 shift) ≡ shift
+passed es shift h = omega (arith, ints, h.above, h.below)
+
+-- what was passed here is bounded
+pub given_bounded : (es items : List Entry) (shift : ℤ) → items ≡ es → IsBounded items shift → IsBounded es (to_z w64 (of_z w64 shift))
+given_bounded es items shift e h = subst (IsBounded es) (sym (passed items shift h)) (subst (λ xs. IsBounded xs shift) e h)
+
+-- what goes into a child is bounded
+pub passed_bounded : (children : List Child) (i : ℕ) (d : Child) (es : List Entry) (shift up : ℤ) → es ≡ items_of (get_or children i d)
+    → i < length children → up ≡ total (all_items (take i children)) +ℤ shift → IsBounded (all_items children) shift
+    → IsBounded es (to_z w64 (of_z w64 up))
+passed_bounded children i d es shift up e lt is h =
+    let own = child_bounded children i d shift up lt is h in
+    subst (IsBounded es) (sym (passed _ up own)) (subst (λ xs. IsBounded xs up) (sym e) own)
 
 -- ---- places
 

@@ -6,6 +6,7 @@ ghost use Rattle.counted.specs.Shapes.{IsChild, all_items, depth_of};
 ghost use Rattle.counted.specs.Trees.{IsRoot};
 
 use crate::SharedEntry;
+use crate::grown::push_node;
 use crate::node::{Body, Child, Node};
 use model::Entry;
 use std::alloc::{AllocError, Global};
@@ -58,7 +59,7 @@ fn leaves(alloc: Global, entries: Vec<SharedEntry>) -> Result<Vec<Child>, AllocE
         let leaf = Node {
             body: Body::Leaf(entries),
         };
-        children.push(Child::new(alloc, leaf)?)?;
+        push_node(alloc, &mut children, leaf)?;
     }
     Ok(children)
 }
@@ -81,7 +82,7 @@ fn parents(alloc: Global, children: Vec<Child>) -> Result<Vec<Child>, AllocError
         let inner = Node {
             body: Body::Inner(children),
         };
-        out.push(Child::new(alloc, inner)?)?;
+        push_node(alloc, &mut out, inner)?;
     }
     Ok(out)
 }

@@ -106,15 +106,39 @@ pub(crate) fn with_grown(
 {
     let mut out = Vec::with_capacity(alloc, children.len() + 2)?;
     push_children(&mut out, &children[..from])?;
-    match grown {
-        Grown::One(node) => out.push(Child::new(alloc, node)?)?,
-        Grown::Two(left, right) => {
-            out.push(Child::new(alloc, left)?)?;
-            out.push(Child::new(alloc, right)?)?;
-        }
-    }
+    push_grown(alloc, &mut out, grown)?;
     push_children(&mut out, &children[to..])?;
     Ok(out)
+}
+
+/// What a node grew to, at the end of a vector.
+fn push_grown(alloc: Global, out: &mut Vec<Child>, grown: Grown) -> Result<(), AllocError>
+    requires few { length (grown_items grown) < 2 ^ 62 }
+    requires full { 8 ≤ grown_width grown }
+    ensures items { OnOk result (all_items out.new.items ≡ all_items out.old.items ++ grown_items grown) }
+    ensures some { OnOk result (length out.old.items + 1 ≤ length out.new.items) }
+    ensures few_more { OnOk result (length out.new.items ≤ length out.old.items + 2) }
+    ensures each { OnOk result ((depth : ℕ) → AreGrown depth grown → All (IsChild depth) out.old.items → All (IsChild depth) out.new.items) }
+{
+    match grown {
+        Grown::One(node) => push_node(alloc, out, node),
+        Grown::Two(left, right) => {
+            push_node(alloc, out, left)?;
+            push_node(alloc, out, right)
+        }
+    }
+}
+
+/// A node as a child, at the end of a vector.
+pub(crate) fn push_node(alloc: Global, out: &mut Vec<Child>, node: Node) -> Result<(), AllocError>
+    requires full { 8 ≤ node.width }
+    requires few { length node.items < 2 ^ 62 }
+    ensures items { OnOk result (all_items out.new.items ≡ all_items out.old.items ++ node.items) }
+    ensures count { OnOk result (length out.new.items ≡ length out.old.items + 1) }
+    ensures each { OnOk result (All (IsChild node.depth) out.old.items → All (IsChild node.depth) out.new.items) }
+{
+    out.push(Child::new(alloc, node)?)?;
+    Ok(())
 }
 
 /// The same children, at the end of a vector.
@@ -185,8 +209,8 @@ pub(crate) fn above(alloc: Global, left: Node, right: Node) -> Result<Node, Allo
     ensures items { IfOk result (λ n. n.items ≡ left.items ++ right.items) }
 {
     let mut children = Vec::with_capacity(alloc, 2)?;
-    children.push(Child::new(alloc, left)?)?;
-    children.push(Child::new(alloc, right)?)?;
+    push_node(alloc, &mut children, left)?;
+    push_node(alloc, &mut children, right)?;
     Ok(Node {
         body: Body::Inner(children),
     })

@@ -1,9 +1,6 @@
-use Rattle.std.proofs.Common.{◌++◌, [], ◌∷◌, length, ap, sym, ◌∙◌, subst, arith, append_assoc, length-append}
-use Rattle.std.specs.List.{All}
+use Rattle.std.proofs.Common.{◌++◌, length, ap, sym, ◌∙◌, arith, append_assoc, length-append}
 use Rattle.std.specs.Vec.Iter.{into_iter_items}
-use Rattle.std.proofs.lemmas.List.Elements.{All-push}
-use Rattle.counted.specs.Shapes.{IsChild, all_items}
-use Rattle.counted.proofs.Places.{items-push}
+use Rattle.counted.specs.Shapes.{all_items}
 use Rattle.counted.proofs.bulk.leaves.Goals as goal
 
 pub loop-alloc-preserved : goal.loop-alloc-preserved
@@ -16,16 +13,14 @@ loop-alloc-preserved c =
     let n = c.in_ok-entries.ensures.count in
     let room = c.share_of-count.ensures.room in
     let made = c.loop-alloc.children.items in
-    let child = c.in_ok-new.field-0 in
-    let grown = ap length c.in_ok-push.ensures.items ∙ length-append made (child ∷ []) in
+    let grown = c.in_ok-push_node.ensures.count in
     record {
       left = omega arith;
       enough = λ some. (let h = c.share_of-count.ensures.rest (omega arith) in omega arith);
       some = omega arith;
-      items = ap (λ cs. all_items cs ++ rest) c.in_ok-push.ensures.items
-          ∙ ap (λ es. es ++ rest) (items-push made child ∙ ap (λ es. all_items made ++ es) c.in_ok-new.ensures.items)
+      items = ap (λ es. es ++ rest) c.in_ok-push_node.ensures.items
           ∙ append_assoc (all_items made) group rest
           ∙ ap (λ es. all_items made ++ es) (sym cut)
           ∙ c.loop-alloc.invariant.items;
-      each = subst (All (IsChild 1)) (sym c.in_ok-push.ensures.items) (All-push (IsChild 1) made child c.loop-alloc.invariant.each c.in_ok-new.ensures.counts);
+      each = c.in_ok-push_node.ensures.each c.loop-alloc.invariant.each;
     }

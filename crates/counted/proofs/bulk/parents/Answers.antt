@@ -1,10 +1,9 @@
-use Rattle.std.proofs.Common.{ℕ, suc, ◌++◌, [], ◌∷◌, length, ap, sym, ◌∙◌, subst, arith, append_assoc, length-append}
+use Rattle.std.proofs.Common.{ℕ, suc, ◌++◌, length, ap, sym, ◌∙◌, subst, arith, append_assoc, length-append}
 use Rattle.std.specs.List.{All}
 use Rattle.std.specs.Vec.Iter.{into_iter_items}
 use Rattle.std.proofs.lemmas.List.Concat.{flat_map-append}
-use Rattle.std.proofs.lemmas.List.Elements.{All-push}
 use Rattle.counted.specs.Shapes.{IsChild, items_of, all_items, depth_of}
-use Rattle.counted.proofs.Places.{depth_all, items-push}
+use Rattle.counted.proofs.Places.{depth_all}
 use Rattle.counted.proofs.BulkLemmas.{all-front, all-back, group_of}
 use Rattle.counted.proofs.bulk.parents.Goals as goal
 
@@ -31,19 +30,17 @@ loop-alloc-preserved c =
     let n = c.in_ok-children.ensures.count in
     let full = c.share_of-count.ensures.full in
     let level = depth_all depth group here (omega arith) in
-    let child = c.in_ok-new.field-0 in
-    let grown = ap length c.in_ok-push.ensures.items ∙ length-append c.loop-alloc.out.items (child ∷ []) in
-    let P : ℕ → Type 0 = λ d. IsChild (suc d) child in
+    let grown = c.in_ok-push_node.ensures.count in
+    let P : ℕ → Type 0 = λ d. All (IsChild (suc d)) c.loop-alloc.out.items → All (IsChild (suc d)) c.push_node.new.out.items in
     record {
       left = omega arith;
       enough = λ some. (let h = c.share_of-count.ensures.rest (omega arith) in omega arith);
       some = omega arith;
       fewer = omega arith;
-      items = ap (λ cs. all_items cs ++ all_items rest) c.in_ok-push.ensures.items
-          ∙ ap (λ es. es ++ all_items rest) (items-push c.loop-alloc.out.items child ∙ ap (λ es. all_items c.loop-alloc.out.items ++ es) c.in_ok-new.ensures.items)
+      items = ap (λ es. es ++ all_items rest) c.in_ok-push_node.ensures.items
           ∙ append_assoc (all_items c.loop-alloc.out.items) (all_items group) (all_items rest)
           ∙ ap (λ es. all_items c.loop-alloc.out.items ++ es) (sym (flat_map-append items_of group rest) ∙ ap all_items (sym cut))
           ∙ c.loop-alloc.invariant.items;
       rest = all-back depth group rest all;
-      each = subst (All (IsChild (suc depth))) (sym c.in_ok-push.ensures.items) (All-push (IsChild (suc depth)) c.loop-alloc.out.items child c.loop-alloc.invariant.each (subst P level c.in_ok-new.ensures.counts));
+      each = subst P level c.in_ok-push_node.ensures.each c.loop-alloc.invariant.each;
     }

@@ -1,6 +1,6 @@
 use Rattle.std.proofs.Common.{◌+◌, length, take, drop, get_or, ap, ◌∙◌, refl, arith, length-append, to_z, of_z, w64}
 use Rattle.std.specs.Prelude.{◌+ℤ◌}
-use Rattle.std.proofs.lemmas.Int.{ints}
+use Rattle.std.proofs.lemmas.Int.{ints, to_z-of_z}
 use Rattle.std.proofs.lemmas.List.{get_or_default}
 use Rattle.counted.specs.declared.node.Child.{Child}
 use Rattle.counted.specs.Shapes.{all_items}
@@ -48,4 +48,7 @@ loop-index-preserved g c =
     }
 
 pub returns-else-next_leads-clause-low : goal.returns-else-next_leads-clause-low
-returns-else-next_leads-clause-low g c = λ d some. leads_moved (g.G.Gap.after c.args.gap.now) (to_z w64 (of_z w64 c.args.rid)) c.args.rid (get_or c.args.children.now c.loop-index.index d).head (get_or c.args.children.now c.loop-index.index d).head (to_z w64 c.loop-index.up-bits) (to_z w64 c.loop-index.up-bits) (omega (arith, ints)) refl (omega (arith, ints)) (c.loop-index.invariant.low d some)
+returns-else-next_leads-clause-low g c = λ d some. leads_moved (g.G.Gap.after c.args.gap.now)
+    (to_z w64 (of_z w64 c.args.rid)) c.args.rid (get_or c.args.children.now c.loop-index.index d).head
+    (get_or c.args.children.now c.loop-index.index d).head (to_z w64 c.loop-index.up-bits) (to_z w64 c.loop-index.up-bits)
+    (to_z-of_z w64 c.args.rid c.ranges.rid) refl refl (c.loop-index.invariant.low d some)

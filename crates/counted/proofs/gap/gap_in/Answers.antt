@@ -1,6 +1,6 @@
 use Rattle.std.proofs.Common.{◌≡◌, ◌+◌, take, get_or, ap, ◌∙◌, refl, arith, length-take, to_z, of_z, w64}
 use Rattle.std.specs.Prelude.{◌+ℤ◌}
-use Rattle.std.proofs.lemmas.Int.{ints}
+use Rattle.std.proofs.lemmas.Int.{ints, to_z-of_z}
 use Rattle.std.proofs.lemmas.List.{get_or_default}
 use Rattle.model.specs.declared.entry.Entry.{Entry}
 use Rattle.counted.specs.Sums.{weight_of, total}
@@ -60,7 +60,11 @@ returns-else-leads g c =
     let up = c.loop-index.invariant.up in
     record {
       within = omega arith;
-      low = λ m d is. leads_moved (g.G.Gap.after c.args.gap.now) (to_z w64 (of_z w64 c.args.rid)) c.args.rid (get_or c.args.entries.now m d) (get_or c.args.entries.now m d) (total (take m c.args.entries.now) +ℤ to_z w64 (of_z w64 c.args.shift)) (total (take m c.args.entries.now) +ℤ c.args.shift) (omega (arith, ints)) refl (omega (arith, ints)) (c.loop-index.invariant.low m d is);
+      low = λ m d is. leads_moved (g.G.Gap.after c.args.gap.now) (to_z w64 (of_z w64 c.args.rid)) c.args.rid
+          (get_or c.args.entries.now m d) (get_or c.args.entries.now m d)
+          (total (take m c.args.entries.now) +ℤ to_z w64 (of_z w64 c.args.shift)) (total (take m c.args.entries.now) +ℤ c.args.shift)
+          (to_z-of_z w64 c.args.rid c.ranges.rid) refl
+          (ap (λ z. total (take m c.args.entries.now) +ℤ z) (to_z-of_z w64 c.args.shift c.ranges.shift)) (c.loop-index.invariant.low m d is);
       high = λ d lt.
           let item = c.index-entries-index.is ∙ get_or_default xs i a d c.loop-index-test.true in
           follows_moved (g.G.Gap.after c.args.gap.now) _ _ _ _ _ _ (omega (arith, ints)) item (omega (arith, ints)) (c.leads.ensures.no c.if-leads.false);
@@ -72,6 +76,10 @@ returns-after-loop-index g c =
     let within = c.loop-index.invariant.within in
     record {
       within = omega arith;
-      low = λ m d is. leads_moved (g.G.Gap.after c.args.gap.now) (to_z w64 (of_z w64 c.args.rid)) c.args.rid (get_or c.args.entries.now m d) (get_or c.args.entries.now m d) (total (take m c.args.entries.now) +ℤ to_z w64 (of_z w64 c.args.shift)) (total (take m c.args.entries.now) +ℤ c.args.shift) (omega (arith, ints)) refl (omega (arith, ints)) (c.loop-index.invariant.low m d is);
+      low = λ m d is. leads_moved (g.G.Gap.after c.args.gap.now) (to_z w64 (of_z w64 c.args.rid)) c.args.rid
+          (get_or c.args.entries.now m d) (get_or c.args.entries.now m d)
+          (total (take m c.args.entries.now) +ℤ to_z w64 (of_z w64 c.args.shift)) (total (take m c.args.entries.now) +ℤ c.args.shift)
+          (to_z-of_z w64 c.args.rid c.ranges.rid) refl
+          (ap (λ z. total (take m c.args.entries.now) +ℤ z) (to_z-of_z w64 c.args.shift c.ranges.shift)) (c.loop-index.invariant.low m d is);
       high = λ d lt. absurd (omega arith);
     }

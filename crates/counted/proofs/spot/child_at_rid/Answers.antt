@@ -1,5 +1,5 @@
-use Rattle.std.proofs.Common.{◌+◌, ◌<◌, length, take, drop, get_or, ap, ◌∙◌, refl, arith, length-append}
-use Rattle.std.proofs.lemmas.Int.{ints}
+use Rattle.std.proofs.Common.{◌+◌, ◌<◌, length, take, drop, get_or, ap, ◌∙◌, refl, arith, length-append, w64}
+use Rattle.std.proofs.lemmas.Int.{ints, to_z-of_z}
 use Rattle.std.proofs.lemmas.List.{get_or_default}
 use Rattle.counted.specs.declared.node.Child.{Child}
 use Rattle.counted.specs.Shapes.{all_items}
@@ -61,10 +61,12 @@ loop-index-preserved c =
 
 pub returns-else-begins_by-clause-spot : goal.returns-else-begins_by-clause-spot
 returns-else-begins_by-clause-spot c = λ d place z inserted h.
-    spot_same _ _ _ _ _ _ _ _ _ inserted (omega (arith, ints)) (omega (arith, ints)) refl refl (c.loop-index.invariant.spot place z inserted
+    spot_same _ _ _ _ _ _ _ _ _ inserted (to_z-of_z w64 c.args.rid c.ranges.rid) (to_z-of_z w64 c.args.shift c.ranges.shift) refl refl
+    (c.loop-index.invariant.spot place z inserted
     (children_stop _ _ c.args.children.now c.loop-index.index d place z inserted c.requires.children c.loop-index.invariant.within (λ lt. let past = c.begins_by.ensures.no c.if-begins_by.false d in omega (arith, ints)) (spot_same _ _ _ _ _ _ _ _ _ inserted (omega (arith, ints)) refl refl refl h)))
 
 pub returns-after-loop-index-clause-spot : goal.returns-after-loop-index-clause-spot
 returns-after-loop-index-clause-spot c = λ d place z inserted h.
-    spot_same _ _ _ _ _ _ _ _ _ inserted (omega (arith, ints)) (omega (arith, ints)) refl refl (c.loop-index.invariant.spot place z inserted
+    spot_same _ _ _ _ _ _ _ _ _ inserted (to_z-of_z w64 c.args.rid c.ranges.rid) (to_z-of_z w64 c.args.shift c.ranges.shift) refl refl
+    (c.loop-index.invariant.spot place z inserted
     (children_stop _ _ c.args.children.now c.loop-index.index d place z inserted c.requires.children c.loop-index.invariant.within (λ lt. let no = c.loop-index-test.false in absurd (omega arith)) (spot_same _ _ _ _ _ _ _ _ _ inserted (omega (arith, ints)) refl refl refl h)))

@@ -1,6 +1,6 @@
-use Rattle.std.proofs.Common.{zero, suc, ◌+◌, take, ap, ◌∙◌, refl, arith, length-take}
+use Rattle.std.proofs.Common.{zero, suc, ◌+◌, take, ap, sym, ◌∙◌, refl, arith, length-take, w64}
 use Rattle.std.specs.Prelude.{◌<ℤ◌, true, false}
-use Rattle.std.proofs.lemmas.Int.{ints}
+use Rattle.std.proofs.lemmas.Int.{ints, to_z-of_z}
 use Rattle.model.specs.declared.entry.Entry.{Entry}
 use Rattle.counted.specs.Sums.{weight_of}
 use Rattle.counted.proofs.Totals.{total_within, total-more}
@@ -39,8 +39,10 @@ returns-then-rid-next c =
     let lt : c.args.rid <ℤ c.row_above-next.result = omega (arith, ints) in
     let sid = c.sid.ensures ∙ ap (λ (a : Entry). a.sid) c.index-entries-index.is in
     let next = c.row_above-next.ensures in
-    let stop = stops_same false _ _ _ _ _ _ here (omega (arith, ints)) (omega (arith, ints)) lt in
-    spot_same _ _ _ _ _ _ _ _ _ false (omega (arith, ints)) (omega (arith, ints)) (omega arith) refl (c.loop-index.invariant.spot zero _ false (leaf_stop _ _ c.args.entries.now c.loop-index.index c.index-entries-index.result false c.loop-index-test.true stop))
+    let stop = stops_same false _ _ _ _ _ _ here (omega (arith, ints)) (sym (to_z-of_z w64 c.args.rid c.ranges.rid)) lt in
+    spot_same _ _ _ _ _ _ _ _ _ false (to_z-of_z w64 c.args.rid c.ranges.rid) (to_z-of_z w64 c.args.shift c.ranges.shift)
+    (omega arith) refl (c.loop-index.invariant.spot zero _ false
+    (leaf_stop _ _ c.args.entries.now c.loop-index.index c.index-entries-index.result false c.loop-index-test.true stop))
 
 pub returns-then-is_row : goal.returns-then-is_row
 returns-then-is_row c =
@@ -48,10 +50,14 @@ returns-then-is_row c =
     let sid = c.sid.ensures ∙ ap (λ (a : Entry). a.sid) c.index-entries-index.is in
     let next = c.row_above-next.ensures in
     let stop = stops_same true _ _ _ _ _ _ here (omega (arith, ints)) (omega (arith, ints)) (c.is_row.ensures.yes c.if-is_row.true) in
-    spot_same _ _ _ _ _ _ _ _ _ true (omega (arith, ints)) (omega (arith, ints)) (omega arith) refl (c.loop-index.invariant.spot zero _ true (leaf_stop _ _ c.args.entries.now c.loop-index.index c.index-entries-index.result true c.loop-index-test.true stop))
+    spot_same _ _ _ _ _ _ _ _ _ true (to_z-of_z w64 c.args.rid c.ranges.rid) (to_z-of_z w64 c.args.shift c.ranges.shift)
+    (omega arith) refl (c.loop-index.invariant.spot zero _ true
+    (leaf_stop _ _ c.args.entries.now c.loop-index.index c.index-entries-index.result true c.loop-index-test.true stop))
 
 pub returns : goal.returns
-returns c = spot_same _ _ _ _ _ _ _ _ _ false (omega (arith, ints)) (omega (arith, ints)) (omega arith) refl (c.loop-index.invariant.spot zero _ false (leaf_end _ _ c.args.entries.now c.loop-index.index c.loop-index-test.false))
+returns c = spot_same _ _ _ _ _ _ _ _ _ false (to_z-of_z w64 c.args.rid c.ranges.rid) (to_z-of_z w64 c.args.shift c.ranges.shift)
+    (omega arith) refl (c.loop-index.invariant.spot zero _ false
+    (leaf_end _ _ c.args.entries.now c.loop-index.index c.loop-index-test.false))
 
 pub loop-index-preserved : goal.loop-index-preserved
 loop-index-preserved c =

@@ -1,4 +1,4 @@
-use Rattle.std.proofs.Common.{refl, rules, ◌≡◌, suc, List, ◌-◌, length, ap, sym, subst, ◌∙◌, arith}
+use Rattle.std.proofs.Common.{refl, rules, ◌≡◌, suc, List, ◌-◌, length, ap, sym, subst, ◌∙◌, arith, length-set}
 use Rattle.std.specs.Prelude.{◌+ℤ◌, IfOk}
 use Rattle.std.proofs.lemmas.Int.{ints}
 use Rattle.counted.specs.Edits.{IsPut}
@@ -10,7 +10,7 @@ use Rattle.counted.specs.declared.node.Child.{Child}
 use Rattle.counted.specs.Shapes.{items_of, all_items, depth_of, view_of, AreChildren, IsBalanced}
 use Rattle.counted.specs.Sums.{total}
 use Rattle.counted.specs.Views.{View}
-use Rattle.counted.proofs.InPlace.{mended_by, put_same, children_mended, children_put, unchanged}
+use Rattle.counted.proofs.InPlace.{mended_by, put_same, children_mended, children_put, depth_set, leaf_widened, leaf_kept, unchanged}
 use Rattle.counted.proofs.Leaves.{gone_within}
 use Rattle.counted.proofs.Places.{at_inner, at_leaf, child_few}
 use Rattle.counted.proofs.Totals.{total_within}
@@ -111,4 +111,39 @@ returns-clause-ok t c =
           let own = gone_within c.args.at c.args.gone w.child_at-index.result.1 c.requires.one w.child_at-index.ensures.some in
           let put_in = children_put w.in-Inner.children.items w.child_at-index.result.0 c.args.at c.args.gone (w.child_at-index.result.1 - c.args.gone) c.args.put w.in_ok-added-in-Inner.added w.index_mut-child.result.now w.mend.new.self child w.index_mut-child.ensures.value (omega arith) mended in
           rw (w.result-is, w.self-inside-is) (put_same _ _ _ _ _ _ _ _ _ _ refl (sym at.items) refl (omega (arith, ints, ok.low, ok.high)) put_in)
+    ]
+
+pub returns-clause-depth : goal.returns-clause-depth
+returns-clause-depth t c =
+    elim c.match-self.branch [
+      | in-Leaf w ↦ let at = at_leaf c.self.view_is c.self.invariant w.in-Leaf.is in rw w.self-inside-is (sym at.depth)
+      | in-Inner+in-Ok+in-Some+in_ok-added-in-Inner w ↦
+          let at = at_inner c.self.view_is c.self.invariant w.in-Inner.is in
+          let child = rw w.deref.ensures.value at w.child_at-index.ensures.child in
+          let same = ap (λ a. a.value.depth) w.mend.ensures.node ∙ w.put_in_place.ensures.depth
+          ∙ ap (λ v. v.depth) w.in-Some.ensures.value in
+          let deep = depth_set w.in-Inner.children.items w.child_at-index.result.0 w.index_mut-child.result.now w.mend.new.self child w.index_mut-child.ensures.value same in
+          rw w.self-inside-is (ap suc deep ∙ sym at.depth)
+    ]
+
+pub returns-clause-width : goal.returns-clause-width
+returns-clause-width t c =
+    elim c.match-self.branch [
+      | in-Leaf w ↦
+          let at = at_leaf c.self.view_is c.self.invariant w.in-Leaf.is in
+          let le = leaf_widened c.args.at c.args.gone c.args.put w.in-Leaf.entries.items w.put_in_leaf.new.entries.items w.put_in_leaf.result c.requires.one (omega (arith, c.requires.within, ap length at.items)) w.put_in_leaf.ensures.ok w.put_in_leaf.ensures.err in
+          rw w.self-inside-is (omega (arith, at.width, le))
+      | in-Inner+in-Ok+in-Some+in_ok-added-in-Inner w ↦
+          let at = at_inner c.self.view_is c.self.invariant w.in-Inner.is in
+          let n = length-set w.in-Inner.children.items w.child_at-index.result.0 w.mend.new.self in
+          rw w.self-inside-is (omega (arith, at.width))
+    ]
+
+pub returns-clause-err : goal.returns-clause-err
+returns-clause-err t c =
+    elim c.match-self.branch [
+      | in-Leaf w ↦
+          let same = ap view_of (sym w.in-Leaf.is) ∙ c.self.view_is in
+          rw (w.result-is, w.self-inside-is) (leaf_kept w.put_in_leaf.result c.args.put w.in-Leaf.entries.items w.put_in_leaf.new.entries.items c.args.self.now same w.put_in_leaf.ensures.err)
+      | in-Inner+in-Ok+in-Some+in_ok-added-in-Inner w ↦ rw w.result-is tt
     ]
