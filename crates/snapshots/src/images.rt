@@ -103,6 +103,22 @@ fn make_layer(
     })
 }
 
+/// The layers of three transactions' writes, the first over the table and each other one over what those below it leave.
+fn make_layers(
+    alloc: Global,
+    schema: &Schema,
+    table: &OrderedTable,
+    writes: [&[Write]; 3],
+) -> Result<(Layered, Layered, Layered), Fail>
+    requires { IsTable schema.now table.now }
+    ensures { IfOk result (λ made. (lower : IsLayer schema.now table.now made.0.tree) × (made.0.after ≡ table_with table.now lower.effects) × (middle : IsLayer schema.now made.0.after made.1.tree) × (made.1.after ≡ table_with made.0.after middle.effects) × IsLayer schema.now made.1.after made.2.tree) }
+{
+    let read = make_layer(alloc, schema, table, writes[0])?;
+    let write = make_layer(alloc, schema, &read.after, writes[1])?;
+    let trans = make_layer(alloc, schema, &write.after, writes[2])?;
+    Ok((read, write, trans))
+}
+
 /// The rows under three transactions' writes.
 fn stacked(alloc: Global, rows: &[Row], writes: [&[Write]; 3]) -> Result<Stack, Fail>
     ensures { IfOk result (λ made. AreStacked made.stable made.read.tree made.write.tree made.trans.tree) }
@@ -110,9 +126,7 @@ fn stacked(alloc: Global, rows: &[Row], writes: [&[Write]; 3]) -> Result<Stack, 
     let stable = StableTable::build(alloc, item_columns(alloc)?, copy_rows(alloc, rows)?)?;
     let schema = stable.schema();
     let table = OrderedTable::from_rows(alloc, schema.key_cols(), copy_rows(alloc, rows)?)?;
-    let read = make_layer(alloc, schema, &table, writes[0])?;
-    let write = make_layer(alloc, schema, &read.after, writes[1])?;
-    let trans = make_layer(alloc, schema, &write.after, writes[2])?;
+    let (read, write, trans) = make_layers(alloc, schema, &table, writes)?;
     Ok(Stack {
         stable,
         read,

@@ -14,7 +14,7 @@ use std::alloc::Global;
 use std::process::Abort;
 use std::sync::Arc;
 use std::test::Fail;
-use txn::{Txn, Version, WriteReply};
+use txn::{Parts, Txn, Version, WriteReply};
 use values::NoMemory;
 
 /// A stable table with the trees of two transactions over it, the second over what the first left.
@@ -186,27 +186,45 @@ fn assert_tree(
     Ok(())
 }
 
+/// That the trees of a transaction's layers have these entries.
+fn assert_trees(
+    rt: &impl Abort,
+    alloc: Global,
+    (lower, own): (&Lower, &DeltaTree),
+    changes: [&str; 3],
+    label: &str,
+) -> Result<(), NoMemory> {
+    assert_tree(rt, alloc, &lower.read, changes[0], label)?;
+    assert_tree(rt, alloc, &lower.write, changes[1], label)?;
+    assert_tree(rt, alloc, own, changes[2], label)
+}
+
+/// The parts of a transaction of the steps over those layers, after what it reads is looked at.
+fn parts_after_reads(
+    rt: &impl Abort,
+    alloc: Global,
+    lower: &Lower,
+    steps: &[ItemWrite],
+) -> Result<Parts, Fail>
+    requires { AreLower (record { stable = lower.now.stable.value; read = lower.now.read.value; write = lower.now.write.value }) }
+{
+    let txn = over(rt, alloc, lower, steps)?;
+    let reads = assert_reads(rt, alloc, &txn);
+    let parts = txn.into_parts();
+    reads?;
+    Ok(parts)
+}
+
 #[test]
 fn reads_are_of_all_layers(rt: HostRuntime) -> Result<(), Fail> {
     static READ: [ItemWrite; 2] = [ItemWrite::Insert(15, "Flo", 5), ItemWrite::Delete(30)];
     static WRITE: [ItemWrite; 2] = [ItemWrite::Set(15, 6), ItemWrite::Insert(30, "Zed", 7)];
     static TRANS: [ItemWrite; 2] = [ItemWrite::Delete(10), ItemWrite::Insert(35, "Gus", 8)];
-    let alloc = rt.alloc();
-    let lower = make_lower(alloc, &BASE, [&READ, &WRITE])?;
-    let txn = over(&rt, alloc, &lower, &TRANS)?;
-    let reads = assert_reads(&rt, alloc, &txn);
-    let parts = txn.into_parts();
-    reads?;
+    let entries = ["1+15,Flo,5 2-30", "1:2=6 3+30,Zed,7", "0-10 4+35,Gus,8"];
+    let lower = make_lower(rt.alloc(), &BASE, [&READ, &WRITE])?;
+    let parts = parts_after_reads(&rt, rt.alloc(), &lower, &TRANS)?;
     assert!(&rt; parts.begin == 2);
-    assert_tree(&rt, alloc, &lower.read, "1+15,Flo,5 2-30", "the Read-PDT")?;
-    assert_tree(
-        &rt,
-        alloc,
-        &lower.write,
-        "1:2=6 3+30,Zed,7",
-        "the Write-PDT",
-    )?;
-    assert_tree(&rt, alloc, &parts.tree, "0-10 4+35,Gus,8", "its own tree")?;
+    assert_trees(&rt, rt.alloc(), (&lower, &parts.tree), entries, "the trees")?;
     Ok(())
 }
 
@@ -246,9 +264,7 @@ fn assert_layers(
     let shown = assert_image(rt, alloc, &txn, (label, rows, image));
     let parts = txn.into_parts();
     shown?;
-    assert_tree(rt, alloc, &lower.read, changes[0], label)?;
-    assert_tree(rt, alloc, &lower.write, changes[1], label)?;
-    assert_tree(rt, alloc, &parts.tree, changes[2], label)?;
+    assert_trees(rt, alloc, (&lower, &parts.tree), changes, label)?;
     Ok(())
 }
 

@@ -1,4 +1,4 @@
-use Rattle.std.proofs.Common.{◌≡◌, ◌∙◌, sym, ap}
+use Rattle.std.proofs.Common.{◌∙◌, sym, ap}
 use Rattle.stable.specs.Stable.{Stable}
 use Rattle.values.specs.Shape.{Columns}
 use Rattle.snapshots.proofs.LayerLemmas.{are_stacked, same_table}
@@ -10,5 +10,5 @@ returns c =
     let keys = c.key_cols.ensures.count ∙ ap (λ (columns : Columns). columns.key_cols) c.schema-schema.ensures.columns in
     let same = c.in_ok-copy_rows-2.ensures ∙ sym c.in_ok-copy_rows.ensures ∙ sym (ap (λ (t : Stable). t.rows) c.in_ok-stable.ensures.ok) in
     let table = same_table s c.key_cols.result c.in_ok-copy_rows-2.field-0.items c.in_ok-table.table c.schema-schema.ensures.lawful keys same c.in_ok-table.ensures.ascending in
-    are_stacked s c.schema-schema.result.now c.in_ok-read.read.tree c.in_ok-write.write.tree c.in_ok-trans.trans.tree c.in_ok-table.table c.in_ok-read.read.after c.in_ok-write.write.after
-    c.schema-schema.ensures.columns table c.in_ok-read.ensures.0 c.in_ok-read.ensures.1 c.in_ok-write.ensures.0 c.in_ok-write.ensures.1 c.in_ok-trans.ensures.0
+    let made = c.in_ok-read.ensures in
+    are_stacked s c.schema-schema.result.now _ _ _ c.in_ok-table.table _ _ c.schema-schema.ensures.columns table made.0 made.1 made.2 made.3 made.4
