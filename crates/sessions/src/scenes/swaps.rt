@@ -21,6 +21,9 @@ use std::test::Fail;
 use values::limits::MAX_ROWS;
 use values::{ColumnType, Schema};
 
+/// The devices of a store, one for each column.
+type Devices = Vec<Box<dyn ColumnDevice + Send>>;
+
 /// What is asked before a swap and after it, the device of the first store that fails, and whether the store is taken.
 struct Swap {
     failing: Option<Failure>,
@@ -114,20 +117,31 @@ fn play<R: Wait + Abort>(
     columns: &Schema,
     swap: &Swap,
 ) -> Result<(), Fail> {
-    let mut devices: Vec<Box<dyn ColumnDevice + Send>> = Vec::new(alloc);
+    let mut first: Devices = Vec::new(alloc);
     for (number, slot) in slots.iter().enumerate() {
-        devices.push(Box::new(alloc, device_over(alloc, slot, number, swap.failing)?)?)?;
+        first.push(Box::new(alloc, device_over(alloc, slot, number, swap.failing)?)?)?;
     }
-    let mut second: Vec<Box<dyn ColumnDevice + Send>> = Vec::new(alloc);
+    let mut second: Devices = Vec::new(alloc);
     for (number, slot) in others.iter().enumerate() {
         second.push(Box::new(alloc, device_over(alloc, slot, number, None)?)?)?;
     }
-    if have_failed(&devices) || have_failed(&second) {
+    play_between(rt, alloc, (first, second), columns, swap)
+}
+
+/// The same between these devices.
+fn play_between<R: Wait + Abort>(
+    rt: &R,
+    alloc: Global,
+    (first, second): (Devices, Devices),
+    columns: &Schema,
+    swap: &Swap,
+) -> Result<(), Fail> {
+    if have_failed(&first) || have_failed(&second) {
         return Err(Fail::new("a device has failed before its first append"));
     }
     let other = Store::new(alloc, second, columns, 1)?;
     let manager = base_manager(alloc, 64, MAX_ROWS)?;
-    let store = Store::new(alloc, devices, manager.version().schema(), 1)?;
+    let store = Store::new(alloc, first, manager.version().schema(), 1)?;
     let fresh = NewOpening::new(&manager, 1);
     swap_in::<Brand, Store, R>(rt, alloc, manager, store, other, fresh, swap)
 }
