@@ -17,6 +17,9 @@ use values::limits::MAX_ROWS;
 /// The base table as a file.
 const BASE_TEXT: &[u8] = b"id:int:key,name:text,qty:int\n10,Ann,1\n20,Bob,2\n30,Cid,3\n";
 
+/// How many columns it has.
+const BASE_COLUMNS: usize = 3;
+
 /// What a run is opened with where nothing is said.
 const USUAL: OpenOptions = OpenOptions {
     recent: 64,

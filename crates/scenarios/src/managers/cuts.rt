@@ -28,34 +28,54 @@ fn lengths_of(history: History) -> (u64, usize) {
     (history.base(), history.records().len())
 }
 
+/// Whether a manager has the base 1, two records past it, and these rows.
+fn is_left(manager: &Manager, rows: &[(i64, i64)]) -> bool {
+    manager.base() == 1 && manager.history().records().len() == 2 && has_rows(manager, rows)
+}
+
 #[test]
 fn a_begin_below_the_cut_is_too_old(rt: HostRuntime) -> Result<(), Fail> {
     let alloc = rt.alloc();
     let mut manager = opened(alloc, 64, MAX_ROWS)?;
     let (replies, handed) = below_a_cut(alloc, &mut manager)?;
-    assert!(&rt; replies[0] == Some(CommitReply::Committed(1)));
-    assert!(&rt; replies[1] == Some(CommitReply::Committed(2)));
-    assert!(&rt; replies[2] == Some(CommitReply::TooOld(2)));
+    assert!(&rt;
+        replies
+            == [
+                Some(CommitReply::Committed(1)),
+                Some(CommitReply::Committed(2)),
+                Some(CommitReply::TooOld(2))
+            ]
+    );
     assert!(&rt; handed == (0, 1));
-    assert!(&rt; manager.base() == 1);
-    assert!(&rt; manager.history().records().len() == 2);
-    assert!(&rt; has_rows(&manager, &[(10, 1), (20, 2), (25, 4), (30, 9)]));
+    assert!(&rt; is_left(&manager, &[(10, 1), (20, 2), (25, 4), (30, 9)]));
     Ok(())
+}
+
+/// The replies to a commit and, behind two cuts, to one that began between; and how many records each cut handed out.
+fn at_a_cut(
+    alloc: Global,
+    manager: &mut Manager,
+) -> Result<([Option<CommitReply>; 2], [usize; 2]), NoMemory> {
+    let first = one_write(alloc, manager, ItemWrite::Insert(25, "Dee", 4));
+    let c = begun_with(alloc, manager, ItemWrite::Set(25, 9))?;
+    let handed = manager.cut().records().len();
+    let again = manager.cut().records().len();
+    Ok(([first, decided(manager, c)], [handed, again]))
 }
 
 #[test]
 fn a_begin_at_the_cut_is_decided(rt: HostRuntime) -> Result<(), Fail> {
     let alloc = rt.alloc();
     let mut manager = opened(alloc, 64, MAX_ROWS)?;
-    let first = one_write(alloc, &mut manager, ItemWrite::Insert(25, "Dee", 4));
-    let c = begun_with(alloc, &manager, ItemWrite::Set(25, 9))?;
-    let handed = manager.cut().records().len();
-    let again = manager.cut().records().len();
-    let second = decided(&mut manager, c);
-    assert!(&rt; first == Some(CommitReply::Committed(1)));
-    assert!(&rt; second == Some(CommitReply::Committed(2)));
-    assert!(&rt; handed == 1);
-    assert!(&rt; again == 0);
+    let (replies, handed) = at_a_cut(alloc, &mut manager)?;
+    assert!(&rt;
+        replies
+            == [
+                Some(CommitReply::Committed(1)),
+                Some(CommitReply::Committed(2))
+            ]
+    );
+    assert!(&rt; handed == [1, 0]);
     assert!(&rt; has_rows(&manager, &[(10, 1), (20, 2), (25, 9), (30, 3)]));
     Ok(())
 }

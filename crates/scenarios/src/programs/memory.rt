@@ -1,9 +1,9 @@
 //! Runs whose store is in memory.
 ghost use Rattle.std.specs.Prelude.{◌≡◌, IfOk};
 
-use super::{BASE_TEXT, USUAL};
+use super::{BASE_COLUMNS, BASE_TEXT, USUAL};
 use devices::{ColumnDevice, MemColumn, Store, StoreFault, have_failed};
-use pdtcli::{FileFault, Left, OpenOptions, Refusal, open_texts, run_opened, run_serial};
+use pdtcli::{FileFault, Left, OpenOptions, Opened, Refusal, open_texts, run_opened, run_serial};
 use std::alloc::Global;
 use std::io::Write;
 use std::sync::{Arc, OnceLock};
@@ -15,6 +15,9 @@ pub(crate) fn memory_column(alloc: Global) -> Result<MemColumn, Refusal>
     Ok(MemColumn::new(Vec::new(alloc), Arc::new(alloc, OnceLock::new())?)?)
 }
 
+/// The devices of a store, one for each column.
+pub(super) type Devices = Vec<Box<dyn ColumnDevice + Send>>;
+
 /// Runs the script over a table that is opened so, as the program does.
 pub(crate) fn run_texts<W: Write>(
     alloc: Global,
@@ -24,10 +27,22 @@ pub(crate) fn run_texts<W: Write>(
     out: &mut W,
 ) -> Result<u8, Refusal> {
     let opened = open_texts(alloc, table, script, options)?;
-    let mut devices: Vec<Box<dyn ColumnDevice + Send>> = Vec::new(alloc);
+    let mut devices: Devices = Vec::new(alloc);
     for _ in 0..opened.schema().width() {
         devices.push(Box::new(alloc, memory_column(alloc)?)?)?;
     }
+    run_over(alloc, opened, devices, out)
+}
+
+/// The same over what was opened, and a store of these devices.
+fn run_over<W: Write>(
+    alloc: Global,
+    opened: Opened,
+    devices: Devices,
+    out: &mut W,
+) -> Result<u8, Refusal>
+    requires { opened.script.schema ≡ opened.manager.schema }
+{
     if have_failed(devices.as_slice()) {
         return Err(Refusal::Store(StoreFault::StoreFailed));
     }
@@ -37,14 +52,19 @@ pub(crate) fn run_texts<W: Write>(
 
 /// What is left of a run of the script over the base table.
 pub(crate) fn left_of(alloc: Global, script: &[u8]) -> Result<Left, Refusal> {
-    let opened = open_texts(alloc, Ok(BASE_TEXT), Ok(script), USUAL)?;
-    let mut devices: Vec<Box<dyn ColumnDevice + Send>> = Vec::new(alloc);
-    for _ in 0..opened.schema().width() {
+    let mut devices: Devices = Vec::new(alloc);
+    for _ in 0..BASE_COLUMNS {
         devices.push(Box::new(alloc, memory_column(alloc)?)?)?;
     }
+    left_over(alloc, devices, script)
+}
+
+/// The same with a store of these devices.
+fn left_over(alloc: Global, devices: Devices, script: &[u8]) -> Result<Left, Refusal> {
     if have_failed(devices.as_slice()) {
         return Err(Refusal::Store(StoreFault::StoreFailed));
     }
+    let opened = open_texts(alloc, Ok(BASE_TEXT), Ok(script), USUAL)?;
     let store = Store::new(alloc, devices, opened.schema(), 1)?;
     Ok(run_serial(alloc, opened.manager, store, &opened.script)?.left)
 }

@@ -1,10 +1,11 @@
 //! A run whose clients have threads of their own, and meet.
 
-use super::memory::memory_column;
-use super::{BASE_TEXT, USUAL};
-use devices::{ColumnDevice, Store, StoreFault, have_failed};
-use pdtcli::{Gate, Refusal, open_texts, run_clients, show};
+use super::memory::{Devices, memory_column};
+use super::{BASE_COLUMNS, BASE_TEXT, USUAL};
+use devices::{Store, StoreFault, have_failed};
+use pdtcli::{Gate, Left, Refusal, ShowFault, open_texts, run_clients, show};
 use std::alloc::Global;
+use std::process::Abort;
 use std::sync::Wait;
 use std::sync::atomic::{AtomicBool, Ordering};
 use std::test::Fail;
@@ -70,25 +71,40 @@ impl Gate for Meeting {
     }
 }
 
-/// What a run of the script over the base table writes, its clients on threads of their own.
-fn written<G: Gate, R: Threads + Wait + Sync>(
+/// What is left of a run of the script over the base table, its clients on threads of their own and its store of these devices.
+fn left_on_threads<G: Gate, R: Threads + Wait + Sync>(
+    rt: &R,
+    alloc: Global,
+    devices: Devices,
+    script: &[u8],
+    gate: &G,
+) -> Result<Left, Refusal> {
+    if have_failed(devices.as_slice()) {
+        return Err(Refusal::Store(StoreFault::StoreFailed));
+    }
+    let opened = open_texts(alloc, Ok(BASE_TEXT), Ok(script), USUAL)?;
+    let store = Store::new(alloc, devices, opened.schema(), 1)?;
+    Ok(run_clients(rt, alloc, opened.manager, store, &opened.script, gate)?.left)
+}
+
+/// The same with a store in memory.
+fn left_in_memory<G: Gate, R: Threads + Wait + Sync>(
     rt: &R,
     alloc: Global,
     script: &[u8],
     gate: &G,
-) -> Result<Vec<u8>, Refusal> {
-    let opened = open_texts(alloc, Ok(BASE_TEXT), Ok(script), USUAL)?;
-    let mut devices: Vec<Box<dyn ColumnDevice + Send>> = Vec::new(alloc);
-    for _ in 0..opened.schema().width() {
+) -> Result<Left, Refusal> {
+    let mut devices: Devices = Vec::new(alloc);
+    for _ in 0..BASE_COLUMNS {
         devices.push(Box::new(alloc, memory_column(alloc)?)?)?;
     }
-    if have_failed(devices.as_slice()) {
-        return Err(Refusal::Store(StoreFault::StoreFailed));
-    }
-    let store = Store::new(alloc, devices, opened.schema(), 1)?;
-    let outcome = run_clients(rt, alloc, opened.manager, store, &opened.script, gate)?;
+    left_on_threads(rt, alloc, devices, script, gate)
+}
+
+/// What a run writes that leaves this.
+fn written(alloc: Global, left: &Left) -> Result<Vec<u8>, ShowFault> {
     let mut out = Vec::new(alloc);
-    show(alloc, &outcome.left, &mut out)?;
+    show(alloc, left, &mut out)?;
     Ok(out)
 }
 
@@ -98,14 +114,18 @@ const MET: (&[u8], &str) = (
     "a,begin,Begun\na,set,Done\na,commit,Committed,2\na,begin,Begun\na,get,Row,10,Ann,7\na,abort,Aborted\nb,begin,Begun\nb,set,Done\nb,commit,Committed,1\n\nid:int:key,name:text,qty:int\n10,Ann,7\n20,Bob,8\n30,Cid,3\n",
 );
 
+/// That they have met at the gate, and left what is written so.
+fn assert_met(rt: &impl Abort, alloc: Global, gate: &Meeting, left: &Left) -> Result<(), Fail> {
+    let out = written(alloc, left)?;
+    assert!(rt; out.as_slice() == MET.1.as_bytes(), "the text");
+    let missed = gate.missed.load(Ordering::SeqCst);
+    assert!(rt; !missed, "a client that didn't come");
+    Ok(())
+}
+
 #[test]
 fn clients_meet_on_threads_of_their_own(rt: HostRuntime) -> Result<(), Fail> {
     let gate = Meeting::new();
-    let out = written(&rt, rt.alloc(), MET.0, &gate)?;
-    assert!(&rt; out.as_slice() == MET.1.as_bytes(), "the text");
-    assert!(&rt;
-        !gate.missed.load(Ordering::SeqCst),
-        "a client that didn't come"
-    );
-    Ok(())
+    let left = left_in_memory(&rt, rt.alloc(), MET.0, &gate)?;
+    assert_met(&rt, rt.alloc(), &gate, &left)
 }

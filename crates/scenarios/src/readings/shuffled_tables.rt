@@ -1,10 +1,12 @@
 //! Tables of several blocks whose rows stand in no order.
+ghost use Rattle.std.specs.Prelude.{◌<◌, length};
+
 use crate::readings::shown::write_cells;
 use inputs::{TableFault, load_table};
+use pdtcli::StableTable;
 use std::alloc::Global;
 use std::process::Abort;
 use std::test::Fail;
-use values::Row;
 
 /// More rows than two blocks have.
 const ROWS: u64 = 2_600;
@@ -23,11 +25,24 @@ fn shuffled(alloc: Global) -> Result<String, Fail> {
     Ok(text)
 }
 
-/// Fails where these aren't the cells of the row.
-fn assert_cells(rt: &impl Abort, alloc: Global, row: &Row, want: &str) -> Result<(), Fail> {
-    let mut found = String::new(alloc);
-    write_cells(&mut found, row.cells())?;
-    assert!(rt; found.as_str() == want);
+/// The cells of the row at a position, as text.
+fn cells_at(alloc: Global, table: &StableTable, sid: u64) -> Result<String, Fail>
+    requires { sid < length table.now.rows }
+{
+    let row = table.row(alloc, sid)?;
+    let mut text = String::new(alloc);
+    write_cells(&mut text, row.cells())?;
+    Ok(text)
+}
+
+/// Fails where the row at a position isn't the one of its number.
+fn assert_row(rt: &impl Abort, alloc: Global, table: &StableTable, sid: u64) -> Result<(), Fail>
+    requires { sid < length table.now.rows }
+{
+    let found = cells_at(alloc, table, sid)?;
+    let even = sid % 2 == 0;
+    let want = format!(in alloc; "{sid},<name {sid}>,{even}")?;
+    assert!(rt; found == want);
     Ok(())
 }
 
@@ -37,10 +52,7 @@ fn rows_of_several_blocks_are_sorted(rt: HostRuntime) -> Result<(), Fail> {
     let table = load_table(rt.alloc(), text.as_bytes()).expect(&rt, "in no order");
     assert!(&rt; table.len() == ROWS);
     for sid in 0..table.len() {
-        let row = table.row(rt.alloc(), sid)?;
-        let even = sid % 2 == 0;
-        let want = format!(in rt.alloc(); "{sid},<name {sid}>,{even}")?;
-        assert_cells(&rt, rt.alloc(), &row, want.as_str())?;
+        assert_row(&rt, rt.alloc(), &table, sid)?;
     }
     Ok(())
 }
