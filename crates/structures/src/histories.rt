@@ -158,14 +158,23 @@ fn gives_out(alloc: Global, effects: &mut Effects) -> Result<bool, NoMemory> {
 
 static INSERT: [ItemWrite; 1] = [ItemWrite::Insert(25, "Dee", 4)];
 
+/// Whether those effects fit once, what another insert is answered over them, and whether they give their one out.
+fn reads_of(
+    alloc: Global,
+    table: &OrderedTable,
+    effects: &mut Effects,
+) -> Result<(bool, WriteReply, bool), NoMemory> {
+    let fits = fit_once(table, effects)?;
+    let reply = reply_again(alloc, table, effects)?;
+    Ok((fits, reply, gives_out(alloc, effects)?))
+}
+
 #[test]
 fn effects_are_read(rt: HostRuntime) -> Result<(), Fail> {
     let table = base(rt.alloc())?;
     let mut effects = effects_of(rt.alloc(), &table, &INSERT)?;
-    let fits = fit_once(&table, &effects)?;
-    let reply = reply_again(rt.alloc(), &table, &effects)?;
-    let given = gives_out(rt.alloc(), &mut effects)?;
-    assert!(rt; fits && reply == Duplicate && given);
+    let found = reads_of(rt.alloc(), &table, &mut effects)?;
+    assert!(rt; found == (true, Duplicate, true));
     Ok(())
 }
 
@@ -240,14 +249,22 @@ fn is_legal_over(alloc: Global, table: OrderedTable) -> Result<bool, NoMemory> {
     is_legal_after(alloc, older.as_slice())
 }
 
+/// The same over no table, over the base table, at which the second record began and which the cut took away, and over another
+/// table.
+fn are_legal_after(alloc: Global) -> Result<[bool; 3], NoMemory> {
+    let none = is_legal_after(alloc, &[])?;
+    let its = is_legal_over(alloc, base(alloc)?)?;
+    let another = is_legal_over(alloc, OrderedTable::new(alloc))?;
+    Ok([none, its, another])
+}
+
 #[test]
 fn numbers_go_on_after_a_cut(rt: HostRuntime) -> Result<(), Fail> {
-    let alloc = rt.alloc();
-    assert_holds(&rt, is_legal_before(alloc)?, "before the cut");
-    // The second record began at the base table, which the cut took away.
-    assert_holds(&rt, !is_legal_after(alloc, &[])?, "over no table");
-    assert_holds(&rt, is_legal_over(alloc, base(alloc)?)?, "over its table");
-    let another = is_legal_over(alloc, OrderedTable::new(alloc))?;
+    let before = is_legal_before(rt.alloc())?;
+    assert_holds(&rt, before, "before the cut");
+    let [none, its, another] = are_legal_after(rt.alloc())?;
+    assert_holds(&rt, !none, "over no table");
+    assert_holds(&rt, its, "over its table");
     assert_holds(&rt, !another, "over another table");
     Ok(())
 }

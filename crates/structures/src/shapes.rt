@@ -28,14 +28,15 @@ fn numbers(alloc: Global, names: &str) -> Result<Vec<(String, ColumnType)>, NoMe
 
 /// The columns `id`, which is the key, `name` and `open`.
 fn base_schema(alloc: Global) -> Result<Schema, SchemaFault> {
-    let mut cols = Vec::new(alloc);
-    for (name, column) in [
+    static COLUMNS: [(&str, ColumnType); 3] = [
         ("id", ColumnType::Int),
         ("name", ColumnType::Text),
         ("open", ColumnType::Bool),
-    ] {
-        let name = String::from_str(alloc, name).map_err(|_| NoMemory)?;
-        cols.push((name, column)).map_err(|_| NoMemory)?;
+    ];
+    let mut cols = Vec::new(alloc);
+    for (name, column) in &COLUMNS {
+        let name = String::from_str(alloc, *name).map_err(|_| NoMemory)?;
+        cols.push((name, *column)).map_err(|_| NoMemory)?;
     }
     Schema::new(alloc, cols, 1)
 }
@@ -393,13 +394,19 @@ fn a_copied_row_or_key_holds_the_same_and_gives_it_back(rt: HostRuntime) -> Resu
     Ok(())
 }
 
+/// That a copy of the value says the same.
+fn assert_copied(rt: &impl Abort, value: &Value) -> Result<(), NoMemory> {
+    let copied = value.copy()?;
+    assert!(rt; copied == *value);
+    assert!(rt; copied.as_ref() == value.as_ref());
+    Ok(())
+}
+
 #[test]
 fn a_copied_value_says_the_same(rt: HostRuntime) -> Result<(), Fail> {
-    for given in [Given::Number, Given::Name, Given::Truth, Given::TooLong] {
-        let value = cell(rt.alloc(), given)?;
-        let copied = value.copy()?;
-        assert!(rt; copied == value);
-        assert!(rt; copied.as_ref() == value.as_ref());
+    static GIVEN: [Given; 4] = [Given::Number, Given::Name, Given::Truth, Given::TooLong];
+    for given in &GIVEN {
+        assert_copied(&rt, &cell(rt.alloc(), *given)?)?;
     }
     Ok(())
 }

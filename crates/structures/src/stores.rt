@@ -13,7 +13,7 @@ use stable::StableTable;
 use std::alloc::Global;
 use std::sync::{Arc, OnceLock};
 use std::test::Fail;
-use values::{ColumnType, Schema, ValueRef};
+use values::{ColumnType, NoMemory, Row, Schema, ValueRef};
 
 #[test]
 fn a_sound_device_leaves_a_clean_end(rt: HostRuntime) -> Result<(), Fail> {
@@ -47,12 +47,18 @@ fn one_column(alloc: Global) -> Result<Schema, Fail> {
     schema(alloc, &[("id", ColumnType::Int)], 1)
 }
 
-/// The table of that column whose rows have the numbers from the first up to but without the other.
-fn numbers(alloc: Global, from: i64, to: i64) -> Result<StableTable, Fail> {
+/// The rows of that column with the numbers from the first up to but without the other.
+fn number_rows(alloc: Global, from: i64, to: i64) -> Result<Vec<Row>, NoMemory> {
     let mut rows = Vec::new(alloc);
     for id in from..to {
         rows.push(row_with(alloc, &[ValueRef::Int(id)])?)?;
     }
+    Ok(rows)
+}
+
+/// The table of those rows.
+fn numbers(alloc: Global, from: i64, to: i64) -> Result<StableTable, Fail> {
+    let rows = number_rows(alloc, from, to)?;
     Ok(StableTable::build(alloc, one_column(alloc)?, rows)?)
 }
 

@@ -93,14 +93,23 @@ fn no_rows_are_one_block(rt: HostRuntime) -> Result<(), Fail> {
     Ok(())
 }
 
+/// That a table goes into the slot behind an image in the first format.
+fn assert_both_formats(
+    rt: &impl Abort,
+    alloc: Global,
+    slot: &Slot,
+    table: &StableTable,
+) -> Result<(), Fail> {
+    let answer = stored(alloc, slot, &TEN, table, 2)?;
+    assert_holds(rt, answer == Ok(2), "answer");
+    assert_holds(rt, left_in(slot).len() == 57, "length");
+    let read = generation(alloc, table.schema(), left_in(slot));
+    assert_holds(rt, read == Ok(2), "read");
+    Ok(())
+}
+
 #[test]
 fn both_formats_in_one_column(rt: HostRuntime) -> Result<(), Fail> {
     let out = Arc::new(rt.alloc(), OnceLock::new())?;
-    let table = one_row(rt.alloc())?;
-    let answer = stored(rt.alloc(), &out, &TEN, &table, 2)?;
-    assert_holds(&rt, answer == Ok(2), "answer");
-    assert_holds(&rt, left_in(&out).len() == 57, "length");
-    let read = generation(rt.alloc(), table.schema(), left_in(&out));
-    assert_holds(&rt, read == Ok(2), "read");
-    Ok(())
+    assert_both_formats(&rt, rt.alloc(), &out, &one_row(rt.alloc())?)
 }

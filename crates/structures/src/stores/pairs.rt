@@ -87,6 +87,12 @@ type Pair = (
     &'static str,
 );
 
+/// What the store of two columns reads as.
+fn pair_shown(alloc: Global, columns: &[&[u8]]) -> Result<String, Fail> {
+    let schema = two_columns(alloc)?;
+    shown(alloc, read_store(alloc, &schema, columns))
+}
+
 /// That the store of two columns reads so.
 fn assert_pair(
     rt: &impl Abort,
@@ -95,12 +101,7 @@ fn assert_pair(
 ) -> Result<(), Fail> {
     let keys = joined(alloc, keys)?;
     let counts = joined(alloc, counts)?;
-    let read = read_store(
-        alloc,
-        &two_columns(alloc)?,
-        &[keys.as_slice(), counts.as_slice()],
-    );
-    let text = shown(alloc, read)?;
+    let text = pair_shown(alloc, &[keys.as_slice(), counts.as_slice()])?;
     assert_text(rt, text.as_str(), reads_as, label);
     Ok(())
 }
@@ -145,8 +146,8 @@ fn an_image_is_whole_in_every_column(rt: HostRuntime) -> Result<(), Fail> {
             "CountsDiffer",
         ),
     ];
-    for case in CASES {
-        assert_pair(&rt, rt.alloc(), case)?;
+    for case in &CASES {
+        assert_pair(&rt, rt.alloc(), *case)?;
     }
     Ok(())
 }

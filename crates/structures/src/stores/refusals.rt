@@ -61,6 +61,15 @@ fn answers(alloc: Global, slots: &[Slot], base: &StableTable) -> Result<Answers,
     for (number, slot) in slots.iter().enumerate() {
         devices.push(Box::new(alloc, device_over(alloc, slot, number, None)?)?)?;
     }
+    answers_over(alloc, devices, base)
+}
+
+/// The answers of a store over these devices.
+fn answers_over(
+    alloc: Global,
+    devices: Vec<Box<dyn ColumnDevice + Send>>,
+    base: &StableTable,
+) -> Result<Answers, Fail> {
     if have_failed(&devices) {
         return Err(Fail::new("a device has failed before its first append"));
     }
@@ -93,6 +102,17 @@ fn reached(answers: Answers) -> Option<(usize, Option<usize>)> {
     }
 }
 
+/// Whether the slot has the bytes of a column that took so many pieces, with a clean end or without one.
+fn has(
+    alloc: Global,
+    slot: &Slot,
+    pieces: &[&[u8]],
+    (count, clean): (usize, bool),
+) -> Result<bool, NoMemory> {
+    let column = column_of(alloc, pieces, count, clean)?;
+    Ok(left_in(slot) == column.as_slice())
+}
+
 /// Whether the slots have so many pieces, and one more before the device that failed, all but that one with a clean end.
 fn have(
     alloc: Global,
@@ -102,8 +122,7 @@ fn have(
     for (device, (slot, pieces)) in slots.iter().zip(PIECES.iter()).enumerate() {
         let more = failed.is_some_and(|other| device < other);
         let count = count.saturating_add(usize::from(more));
-        let column = column_of(alloc, pieces, count, failed != Some(device))?;
-        if left_in(slot) != column.as_slice() {
+        if !has(alloc, slot, pieces, (count, failed != Some(device)))? {
             return Ok(false);
         }
     }
