@@ -1,5 +1,5 @@
 //! A run of a script's clients, each on a thread of its own.
-ghost use Rattle.std.specs.Prelude.{◌≡◌, ◌⊎◌, ◌+◌, ◌<◌, ◌≤◌, ◌++◌, [], All, IfErr, IfOk, IsTrue, OnOk, length, map, sum, vec_items, vec_len, vec_capacity};
+ghost use Rattle.std.specs.Prelude.{◌≡◌, ◌⊎◌, ◌+◌, ◌<◌, ◌≤◌, ◌++◌, ℕ, [], All, IfErr, IfOk, IsTrue, OnOk, length, map, sum, vec_items, vec_len, vec_capacity};
 ghost use Rattle.std.specs.List.{range_with_len};
 ghost use Rattle.inputs.specs.Typed.{is_typed_call};
 ghost use Rattle.manager.specs.Managed.{IsManaged};
@@ -16,7 +16,7 @@ use crate::serial::handed_out;
 use inputs::{ClientCall, Script};
 use manager::Manager;
 use publishing::Opening;
-use shared::{ImageStore, NewOpening, Session, ShareFault, Shared, open};
+use shared::{Closed, ImageStore, NewOpening, Session, ShareFault, Shared, open};
 use std::alloc::{AllocError, Global};
 use std::marker::Brand;
 use std::snapshot::Snapshot;
@@ -141,19 +141,38 @@ fn run_shared<O: Opening + Send + Sync, S: ImageStore + Send, G: Gate, R: Thread
     match run_all(rt, alloc, &shared, gate, sessions, script.calls()) {
         Ok((back, groups)) => {
             let closed = shared.close(back, rt);
-            let lines = join_lines(alloc, groups)?;
-            let handed = handed_out(&closed.manager) - handed_before;
-            let left = Left::new(names, lines, closed.manager, closed.counts, handed);
-            Ok(Outcome {
-                left,
-                store: closed.store,
-            })
+            Ok(outcome_of(alloc, names, groups, closed, handed_before)?)
         }
         Err(fault) => {
             shared.close(Vec::new(alloc), rt);
             Err(fault)
         }
     }
+}
+
+/// What the closed sessions leave, with their lines one client after the other.
+fn outcome_of<S: ImageStore>(
+    alloc: Global,
+    names: Vec<Text>,
+    groups: Vec<Vec<ReplyLine>>,
+    closed: Closed<S>,
+    handed_before: u64,
+) -> Result<Outcome<S>, NoMemory>
+    requires before { handed_before + length closed.manager.history ≤ closed.manager.made }
+    ensures left { IfOk result (λ outcome. (handed : ℕ)
+        × (handed + handed_before + length closed.manager.history ≡ closed.manager.made)
+        × (outcome.left ≡ record { clients = names.items; lines = joined_lines (map vec_items groups.items); manager = closed.manager; counts = closed.counts.items; handed = handed })) }
+    ensures store { IfOk result (λ outcome. outcome.store ≡ closed.store) }
+{
+    let lines = join_lines(alloc, groups)?;
+    let Closed {
+        manager,
+        store,
+        counts,
+    } = closed;
+    let handed = handed_out(&manager) - handed_before;
+    let left = Left::new(names, lines, manager, counts, handed);
+    Ok(Outcome { left, store })
 }
 
 /// Has each session make its calls on a thread of its own. The sessions and their lines come back in the same order.

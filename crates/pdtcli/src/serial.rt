@@ -1,5 +1,5 @@
 //! A run of a script's calls, one after the other.
-ghost use Rattle.std.specs.Prelude.{◌≡◌, ◌<◌, ◌+◌, ◌^◌, get_or, replicate, None, Option, List, [], IfOk, length, map};
+ghost use Rattle.std.specs.Prelude.{◌≡◌, ◌<◌, ◌≤◌, ◌+◌, ◌^◌, get_or, replicate, None, Option, List, [], IfOk, length, map, vec_capacity, vec_len};
 ghost use Rattle.devices.specs.Store.{have_failed};
 ghost use Rattle.std.specs.List.{range_with_len};
 ghost use Rattle.txn.specs.Txn.{Transaction};
@@ -13,7 +13,7 @@ use inputs::{Call, ClientCall, Read, Script, Verb};
 use manager::Manager;
 use model::Write;
 use std::alloc::Global;
-use values::{NoMemory, copy_texts};
+use values::{NoMemory, Text, copy_texts};
 
 /// Makes a script's calls in order, from a manager with no transaction open; its checkpoints go to the store. Transactions
 /// that are open at the end are ended without a line.
@@ -42,12 +42,13 @@ pub fn run_serial(
     let mut manager = manager;
     let mut store = store;
     let handed_before = handed_out(&manager);
-    let count = script.clients().len();
-    let names = copy_texts(alloc, script.clients())?;
+    let Places {
+        names,
+        mut callers,
+        mut counts,
+        mut lines,
+    } = places_for(alloc, script)?;
     let calls = script.calls();
-    let mut callers = new_callers(alloc, count)?;
-    let mut counts = no_counts(alloc, count)?;
-    let mut lines = Vec::with_capacity(alloc, calls.len())?;
     let mut left = calls.len();
     for asked in calls {
         let reply = callers[asked.client as usize].serve(
@@ -64,6 +65,31 @@ pub fn run_serial(
     let handed = handed_out(&manager) - handed_before;
     let left = Left::new(names, lines, manager, counts, handed);
     Ok(Outcome { left, store })
+}
+
+/// The places of a run, made before its first call.
+struct Places {
+    names: Vec<Text>,
+    callers: Vec<Caller>,
+    counts: Vec<u64>,
+    lines: Vec<ReplyLine>,
+}
+
+/// A place for each client, and for each line that ends a call.
+fn places_for(alloc: Global, script: &Script) -> Result<Places, NoMemory>
+    ensures names { IfOk result (λ places. places.names.items ≡ script.now.clients) }
+    ensures callers { IfOk result (λ places. places.callers.items ≡ replicate (length script.now.clients) None) }
+    ensures counts { IfOk result (λ places. places.counts.items ≡ map (decided_count []) (range_with_len 0 (length script.now.clients))) }
+    ensures lines { IfOk result (λ places. (places.lines.items ≡ []) × (vec_len places.lines ≡ 0)) }
+    ensures room { IfOk result (λ places. length script.now.calls ≤ vec_capacity places.lines) }
+{
+    let count = script.clients().len();
+    Ok(Places {
+        names: copy_texts(alloc, script.clients())?,
+        callers: new_callers(alloc, count)?,
+        counts: no_counts(alloc, count)?,
+        lines: Vec::with_capacity(alloc, script.calls().len())?,
+    })
 }
 
 /// How many records the manager's cuts have handed out.
