@@ -122,9 +122,22 @@ fn run<T: Threads + Wait + Sync>(
             None => devices.push(Box::new(alloc, memory_column(alloc)?)?)?,
         }
     }
+    run_over(rt, starter, opened, devices)
+}
+
+/// Runs what was opened, over a store of these devices.
+fn run_over<T: Threads + Wait + Sync>(
+    rt: &HostRuntime,
+    starter: Option<&T>,
+    opened: Opened,
+    devices: Vec<Box<dyn ColumnDevice + Send>>,
+) -> Result<u8, Refusal>
+    requires { opened.script.schema ≡ opened.manager.schema }
+{
     if have_failed(devices.as_slice()) {
         return Err(Refusal::Store(StoreFault::StoreFailed));
     }
+    let alloc = rt.alloc();
     let store = Store::new(alloc, devices, opened.schema(), FIRST_GENERATION)?;
     let mut out = io::writer(rt);
     match starter {
