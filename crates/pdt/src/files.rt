@@ -1,5 +1,6 @@
 //! The files of the program: what is read of them, and those of a store, which are made.
 ghost use Rattle.std.specs.Prelude.{◌≡◌, IfOk};
+ghost use Rattle.std.specs.Box.{box_value};
 
 use devices::FileColumn;
 use pdtcli::{FileFault, Refusal, StoreFault, header_of};
@@ -52,12 +53,17 @@ pub(crate) fn make_header(rt: &HostRuntime, dir: &str, schema: &Schema) -> Resul
 }
 
 /// Makes the file of a store's column, and the device over it.
-pub(crate) fn make_column(rt: &HostRuntime, dir: &str, col: usize) -> Result<FileColumn, Refusal>
-    ensures { IfOk result (λ column. column.failures ≡ 0) }
+pub(crate) fn make_column(
+    rt: &HostRuntime,
+    dir: &str,
+    col: usize,
+) -> Result<Box<FileColumn>, Refusal>
+    ensures { IfOk result (λ column. (box_value column).failures ≡ 0) }
 {
     let alloc = rt.alloc();
     let file = new_file(rt, column_path(alloc, dir, col)?.as_str())?;
-    Ok(FileColumn::new(file, Vec::new(alloc))?)
+    let column = FileColumn::new(file, Vec::new(alloc))?;
+    Ok(Box::new(alloc, column)?)
 }
 
 /// A stored column's bytes, or the refusal of its file.

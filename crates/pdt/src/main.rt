@@ -3,6 +3,7 @@
 #![tactic(auto)]
 
 ghost use Rattle.std.specs.Prelude.{◌≡◌, IfOk};
+ghost use Rattle.std.specs.Box.{box_value};
 
 mod files;
 
@@ -117,10 +118,11 @@ fn run<T: Threads + Wait + Sync>(
     }
     let mut devices: Vec<Box<dyn ColumnDevice + Send>> = Vec::new(alloc);
     for col in 0..opened.schema().width() {
-        match folder {
-            Some(dir) => devices.push(Box::new(alloc, make_column(rt, dir, col)?)?)?,
-            None => devices.push(Box::new(alloc, memory_column(alloc)?)?)?,
-        }
+        let pushed = match folder {
+            Some(dir) => devices.push(make_column(rt, dir, col)?),
+            None => devices.push(memory_column(alloc)?),
+        };
+        pushed?;
     }
     run_over(rt, starter, opened, devices)
 }
@@ -147,10 +149,11 @@ fn run_over<T: Threads + Wait + Sync>(
 }
 
 /// A device in memory, whose bytes nobody reads.
-fn memory_column(alloc: Global) -> Result<MemColumn, NoMemory>
-    ensures { IfOk result (λ column. column.failures ≡ 0) }
+fn memory_column(alloc: Global) -> Result<Box<MemColumn>, NoMemory>
+    ensures { IfOk result (λ column. (box_value column).failures ≡ 0) }
 {
-    MemColumn::new(Vec::new(alloc), Arc::new(alloc, OnceLock::new())?)
+    let column = MemColumn::new(Vec::new(alloc), Arc::new(alloc, OnceLock::new())?)?;
+    Ok(Box::new(alloc, column)?)
 }
 
 /// Prints the image that the store in a folder has.
