@@ -10,9 +10,9 @@ mod seat;
 mod serial;
 
 use crate::assertions::assert_holds;
-use crate::yielding::run_yielding;
+use crate::yielding::{Devices, Texts, run_yielding};
 use asked::{Call, WITH_CUTS, WITHOUT_CUTS, drawn_calls, script_of};
-use devices::{ColumnDevice, ReadFault, Store, have_failed, read_store};
+use devices::{ReadFault, Store, have_failed, read_store};
 use fixtures::{BASE, Draws, Failure, Slot, all_left_in, device_over, empty_slots, items};
 use judged::{Ran, difference_in_order, difference_on_threads};
 use model::ConflictRule;
@@ -125,34 +125,41 @@ fn ran(alloc: Global, left: Left, slots: &[Slot]) -> Result<Ran, Fail> {
 /// Runs the script in order.
 fn run_in_order(alloc: Global, drawn: &Drawn) -> Result<Ran, Fail> {
     let script = script_of(alloc, drawn.calls.as_slice())?;
-    let texts = (TABLE, script.as_str().as_bytes());
-    let opened = open_texts(alloc, Ok(texts.0), Ok(texts.1), drawn.options)?;
+    let texts = (TABLE, script.as_str().as_bytes(), drawn.options);
     let slots = empty_slots(alloc, 3)?;
-    let left = left_in_order(alloc, opened, slots.as_slice(), drawn.failing)?;
+    let left = left_in_order(alloc, texts, slots.as_slice(), drawn.failing)?;
     ran(alloc, left, slots.as_slice())
 }
 
-/// What is left of a run in order over what was opened, with a slot for each column.
+/// What is left of a run in order, with a slot for each column.
 fn left_in_order(
     alloc: Global,
-    opened: Opened,
+    texts: Texts<'_>,
     slots: &[Slot],
     failing: Option<Failure>,
-) -> Result<Left, Fail>
-    requires { opened.script.schema ≡ opened.manager.schema }
-{
-    let mut devices: Vec<Box<dyn ColumnDevice + Send>> = Vec::new(alloc);
+) -> Result<Left, Fail> {
+    let mut devices: Devices = Vec::new(alloc);
     for (device, slot) in slots.iter().enumerate() {
         devices.push(Box::new(alloc, device_over(alloc, slot, device, failing)?)?)?;
     }
+    left_by(alloc, devices, texts)
+}
+
+/// The same with a store of these devices.
+fn left_by(
+    alloc: Global,
+    devices: Devices,
+    (table, script, options): Texts<'_>,
+) -> Result<Left, Fail> {
     if have_failed(devices.as_slice()) {
         return Err(Fail::new("a device has failed before its first append"));
     }
+    let opened = open_texts(alloc, Ok(table), Ok(script), options)?;
     let store = Store::new(alloc, devices, opened.schema(), 1)?;
     left_over(alloc, opened, store)
 }
 
-/// The same over this store.
+/// The same over what was opened, and this store.
 fn left_over(alloc: Global, opened: Opened, store: Store) -> Result<Left, Fail>
     requires script { opened.script.schema ≡ opened.manager.schema }
     requires store { store.schema ≡ opened.manager.schema }

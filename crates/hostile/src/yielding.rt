@@ -14,6 +14,12 @@ use std::thread::Threads;
 /// How often a thread looks whether the others have come.
 const MAX_TURNS: u32 = 1_000_000;
 
+/// A table, a script, and how they are opened.
+pub(crate) type Texts<'a> = (&'a [u8], &'a [u8], OpenOptions);
+
+/// The devices of a store, one for each column.
+pub(crate) type Devices = Vec<Box<dyn ColumnDevice + Send>>;
+
 /// A gate that yields round each call, and before its second call holds each client back until all have made their first.
 #[derive(Drop)]
 struct Yielding {
@@ -63,18 +69,29 @@ impl Gate for Yielding {
 pub(crate) fn run_yielding<R: Threads + Wait + Sync>(
     rt: &R,
     alloc: Global,
-    (table, script, options): (&[u8], &[u8], OpenOptions),
+    texts: Texts<'_>,
     slots: &[Slot],
     clients: u64,
 ) -> Result<Left, Fail> {
-    let opened = open_texts(alloc, Ok(table), Ok(script), options)?;
-    let mut devices: Vec<Box<dyn ColumnDevice + Send>> = Vec::new(alloc);
+    let mut devices: Devices = Vec::new(alloc);
     for (device, slot) in slots.iter().enumerate() {
         devices.push(Box::new(alloc, device_over(alloc, slot, device, None)?)?)?;
     }
+    left_by(rt, alloc, devices, texts, clients)
+}
+
+/// The same with a store of these devices.
+fn left_by<R: Threads + Wait + Sync>(
+    rt: &R,
+    alloc: Global,
+    devices: Devices,
+    (table, script, options): Texts<'_>,
+    clients: u64,
+) -> Result<Left, Fail> {
     if have_failed(devices.as_slice()) {
         return Err(Fail::new("a device has failed before its first append"));
     }
+    let opened = open_texts(alloc, Ok(table), Ok(script), options)?;
     let store = Store::new(alloc, devices, opened.schema(), 1)?;
     left_at_gate(rt, alloc, opened, store, clients)
 }
