@@ -24,9 +24,7 @@ use std::alloc::{AllocError, Global};
 use std::sync::ledger::{Blank, Share};
 use std::sync::{Mutex, MutexGuard, Wait};
 use values::NoMemory;
-
-/// How many clients may share a manager.
-const MAX_CLIENTS: u32 = 64;
+use values::limits::MAX_CLIENTS;
 
 /// How often a reader's place is tried.
 const MAX_TRIES: u32 = 64;
