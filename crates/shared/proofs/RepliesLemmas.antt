@@ -98,24 +98,30 @@ module _ (o : Managed) where
         stands = stands_more ys' zs (commit_of txn) reply told (grown_stands ys ys' txn reply number g);
       }
 
-  -- who has seen more commits than the manager holds has seen more than were held at the opening
-  pub more_than_held : (xs ys : List Item) → number_in o ys < number_in o xs → number_in o [] < number_in o xs
-  more_than_held xs ys lt = let le = number_prefix [] ys (ys, refl) in omega (arith, le, lt)
-
   -- a session that begins again after its commit begins past it
   pub begins_after : (xs ys zs : List Item) (txn : Transaction) (n : ℕ) → IsReplied o xs ys txn (Committed n) → IsPrefix ys zs → txn.begin < number_in o zs
   begins_after xs ys zs txn n r p =
       let more = number_prefix ys zs p in
       omega (arith, r.begun, r.caught_up, r.numbered, r.reached, more)
 
--- two numbers that lists of one opening keep
-pub numbers_held : (opening : Opened) (seen list : Known) (a b : ℕ) → seen.opening ≡ opening → list.opening ≡ opening →
-    a ≡ number_in seen.opening.manager seen.list → b ≡ number_in list.opening.manager list.list → a ≤ b →
+-- two numbers of lists of one opening
+pub numbers_held : (opening : Opened) (seen list : Known) → seen.opening ≡ opening → list.opening ≡ opening →
+    number_in seen.opening.manager seen.list ≤ number_in list.opening.manager list.list →
     number_in opening.manager seen.list ≤ number_in opening.manager list.list
-numbers_held opening seen list a b of_seen of_list is_a is_b le =
-    let seen_number = is_a ∙ ap (λ (k : Opened). number_in k.manager seen.list) of_seen in
-    let list_number = is_b ∙ ap (λ (k : Opened). number_in k.manager list.list) of_list in
+numbers_held opening seen list of_seen of_list le =
+    let seen_number = ap (λ (k : Opened). number_in k.manager seen.list) of_seen in
+    let list_number = ap (λ (k : Opened). number_in k.manager list.list) of_list in
     omega (arith, seen_number, list_number, le)
+
+-- who has seen more commits than the manager holds has seen more than were held at the opening
+pub more_than_held : (opening : Opened) (seen list : Known) → seen.opening ≡ opening → list.opening ≡ opening →
+    number_in list.opening.manager list.list < number_in seen.opening.manager seen.list →
+    number_in opening.manager [] < number_in opening.manager seen.list
+more_than_held opening seen list of_seen of_list lt =
+    let seen_number = ap (λ (k : Opened). number_in k.manager seen.list) of_seen in
+    let list_number = ap (λ (k : Opened). number_in k.manager list.list) of_list in
+    let le = number_prefix opening.manager [] list.list (list.list, refl) in
+    omega (arith, seen_number, list_number, le, lt)
 
 -- a transaction that began in what was seen is the manager's, whose list is no shorter
 pub own_held : (o : Managed) (seen list both : List Item) (m : Managed) (txn : Transaction) → IsPrefix seen both → IsPrefix list both →

@@ -1,5 +1,5 @@
 //! What lies under the lock: the manager with its store, and the writer of what is published.
-ghost use Rattle.std.specs.Prelude.{◌≡◌, ◌+◌, ◌<◌, ◌≤◌, ◌^◌, ◌++◌, ◌∷◌, ◌⊎◌, [], length, IfErr, IfOk, IfSome, IsSome, MatchResult, OnErr, OnOk, None, Some};
+ghost use Rattle.std.specs.Prelude.{◌≡◌, ◌+◌, ◌<◌, ◌≤◌, ◌^◌, ◌++◌, ◌∷◌, ◌⊎◌, true, false, [], length, IfErr, IfOk, IfSome, IsSome, MatchResult, OnErr, OnOk, None, Some};
 ghost use mathlib.Core.List.{IsPrefix};
 ghost use Rattle.manager.specs.Managed.{IsDecided, IsManaged, IsOwn, cut_of, history_of, newest_number, newest_version, record_of, with_record};
 ghost use Rattle.manager.specs.Prepared.{IsPrepared};
@@ -154,6 +154,26 @@ fn show_same<O: Opening, R: Wait>(
     show(rt, head, list, place, version.copy()?, Item::Same)
 }
 
+/// Whether a session has seen more commits than the list has.
+fn has_seen_more(seen: &SeenList, list: &SeenList) -> bool
+    ensures yes { result ≡ true → number_in list.now.opening.manager list.now.list < number_in seen.now.opening.manager seen.now.list }
+    ensures no { result ≡ false → number_in seen.now.opening.manager seen.now.list ≤ number_in list.now.opening.manager list.now.list }
+{
+    seen.number() > list.number()
+}
+
+/// Counts a reply in the book and in the session's share, which is no greater than the book.
+fn count_reply<O: Opening>(book: &mut Book<O>, share: &mut Share<O>)
+    requires { share.old.parts ≡ 1 }
+    ensures total { book.new.total ≡ book.old.total + 1 }
+    ensures amount { share.new.amount ≡ share.old.amount + 1 }
+    ensures parts { share.new.parts ≡ share.old.parts }
+    ensures bound { share.new.amount ≤ book.new.total }
+{
+    book.add(share, 1);
+    book.audit(share);
+}
+
 /// What lies under the lock: the manager, its store, and the writer of what is published. Contracts see the manager and
 /// the published list, whose commits, and whose start, are the manager's.
 pub struct Locked<O: Opening, S: ImageStore> {
@@ -265,7 +285,7 @@ impl<O: Opening, S: ImageStore> Locked<O, S> {
             writer,
         } = self;
         let both = seen.longer(list);
-        if seen.number() > list.number() {
+        if has_seen_more(seen, list) {
             return Err((txn, Refused::Stranger));
         }
         let Ok(prepared) = manager.prepare(&txn) else {
@@ -275,8 +295,7 @@ impl<O: Opening, S: ImageStore> Locked<O, S> {
             return Err((txn, Refused::NoMemory));
         };
         let reply = manager.install(txn, prepared);
-        book.add(share, 1);
-        book.audit(share);
+        count_reply(book, share);
         *seen = both.longer(list);
         Ok((reply, list.again()))
     }

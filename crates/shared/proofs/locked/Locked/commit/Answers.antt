@@ -5,14 +5,20 @@ use Rattle.publishing.specs.Lists.{Known, IsListed, number_in}
 use Rattle.shared.specs.Endings.{GoesOn}
 use Rattle.shared.specs.Stands.{IsGrown}
 use Rattle.shared.proofs.EndingLemmas.{goes_on-record}
-use Rattle.shared.proofs.RepliesLemmas.{numbers_held, own_held, reached_by, replied}
+use Rattle.shared.proofs.RepliesLemmas.{more_than_held, numbers_held, own_held, reached_by, replied}
 use Rattle.shared.proofs.locked.Locked.commit.Goals as goal
+
+pub returns-then-has_seen_more-clause-stranger : goal.returns-then-has_seen_more-clause-stranger
+returns-then-has_seen_more-clause-stranger g c =
+    let more = c.has_seen_more.ensures.yes c.if-has_seen_more.true in
+    λ is. more_than_held g.O.Opening.opened c.args.seen.now c.self.inside.list c.requires.seen.0 c.self.invariant.1 more
 
 pub prepare-requires : goal.prepare-requires
 prepare-requires g c =
     let i = c.self.invariant in
     let both = c.longer-both in
-    let le = numbers_held g.O.Opening.opened c.args.seen.now c.self.inside.list _ _ c.requires.seen.0 i.1 c.number.ensures c.number-2.ensures c.if-number.false in
+    let no = c.has_seen_more.ensures.no c.if-has_seen_more.false in
+    let le = numbers_held g.O.Opening.opened c.args.seen.now c.self.inside.list c.requires.seen.0 i.1 no in
     record {
       own = own_held g.O.Opening.opened.manager _ _ both.result.list c.self.inside.manager c.args.txn both.ensures.this both.ensures.that le i.0 c.requires.seen.1;
     }
@@ -21,14 +27,16 @@ pub show_commit-requires-clause-own : goal.show_commit-requires-clause-own
 show_commit-requires-clause-own g c =
     let i = c.self.invariant in
     let both = c.longer-both in
-    let le = numbers_held g.O.Opening.opened c.args.seen.now c.self.inside.list _ _ c.requires.seen.0 i.1 c.number.ensures c.number-2.ensures c.if-number.false in
+    let no = c.has_seen_more.ensures.no c.if-has_seen_more.false in
+    let le = numbers_held g.O.Opening.opened c.args.seen.now c.self.inside.list c.requires.seen.0 i.1 no in
     own_held g.O.Opening.opened.manager _ _ both.result.list c.self.inside.manager c.args.txn both.ensures.this both.ensures.that le i.0 c.requires.seen.1
 
 pub install-reply-requires-clause-own : goal.install-reply-requires-clause-own
 install-reply-requires-clause-own g c =
     let i = c.self.invariant in
     let both = c.longer-both in
-    let le = numbers_held g.O.Opening.opened c.args.seen.now c.self.inside.list _ _ c.requires.seen.0 i.1 c.number.ensures c.number-2.ensures c.if-number.false in
+    let no = c.has_seen_more.ensures.no c.if-has_seen_more.false in
+    let le = numbers_held g.O.Opening.opened c.args.seen.now c.self.inside.list c.requires.seen.0 i.1 no in
     own_held g.O.Opening.opened.manager _ _ both.result.list c.self.inside.manager c.args.txn both.ensures.this both.ensures.that le i.0 c.requires.seen.1
 
 pub returns-clause-replied : goal.returns-clause-replied
@@ -38,7 +46,8 @@ returns-clause-replied g c =
     let ys = c.self.inside.list.list in
     let zs = c.show_commit.new.list.list in
     let reply = c.install-reply.result in
-    let le = numbers_held g.O.Opening.opened c.args.seen.now c.self.inside.list _ _ c.requires.seen.0 i.1 c.number.ensures c.number-2.ensures c.if-number.false in
+    let no = c.has_seen_more.ensures.no c.if-has_seen_more.false in
+    let le = numbers_held g.O.Opening.opened c.args.seen.now c.self.inside.list c.requires.seen.0 i.1 no in
     let due = c.install-reply.ensures.due in
     let same = c.in-Ok.ensures.prepared.due ∙ sym due in
     let grown = subst (λ (r : CommitReply). IsGrown ys zs c.args.txn r) same c.in-Ok-show_commit.ensures.grown in
@@ -73,7 +82,7 @@ invariant_of-self-2 g c =
     let made = ap (λ (n : Managed). n.made) kept in (
       subst (λ (n : Managed). IsListed o list n) (sym kept) listed,
       shown.opening,
-      omega (arith, made, i.2, c.add.ensures.total, c.audit.ensures.total),
+      omega (arith, made, i.2, c.count_reply.ensures.total),
       i.3,
       shown.writer,
       i.5 ∙ sym (ap (λ (n : Managed). n.schema) kept),
