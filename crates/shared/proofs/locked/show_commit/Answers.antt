@@ -1,4 +1,4 @@
-use Rattle.std.proofs.Common.{suc, ◌++◌, ◌∷◌, [], List, refl, sym, ap, ◌∙◌, length, subst, arith}
+use Rattle.std.proofs.Common.{◌≡◌, suc, ◌++◌, ◌∷◌, [], List, refl, sym, ap, ◌∙◌, length, subst, arith}
 use Rattle.std.specs.Option.{option_copied}
 use Rattle.model.specs.declared.write.CommitReply.{CommitReply}
 use Rattle.txn.specs.Txn.{Transaction}
@@ -9,6 +9,7 @@ use Rattle.publishing.specs.declared.item.Item.TheVariants.{Commits}
 use Rattle.publishing.specs.Commits.{commit_of}
 use Rattle.publishing.specs.Lists.{Known, IsListed}
 use Rattle.publishing.proofs.CallerLemmas.{granted_within, listed_commit, listed_refused, version_commit}
+use Rattle.shared.specs.Stands.{IsGrown}
 use Rattle.shared.proofs.ShowLemmas.{granted_when, leaves_none, leaves_when, on_ok}
 use Rattle.shared.proofs.locked.show_commit.Goals as goal
 
@@ -60,3 +61,17 @@ returns-clause-listed g c =
     let next = listed_commit o list m c.requires.listed c.history.ensures.lawful txn c.begin.ensures.lawful c.requires.own item refl is (suc (newest_number m)) due in
     let now = subst (λ (r : CommitReply). IsListed o (list ++ item ∷ []) (with_record m (record_of txn r))) (sym granted.0) next in
     on_ok _ _ _ c.show.result c.show.ensures.list (λ more. subst (λ (l : List Item). IsListed o l (with_record m (record_of txn p.reply))) (sym (ap (λ (k : Known). k.list) more)) now)
+
+pub returns-clause-grown : goal.returns-clause-grown
+returns-clause-grown g c =
+    let m = c.args.manager.now in
+    let txn = c.args.txn.now in
+    let p = c.args.prepared.now in
+    let list = c.args.list.now.list in
+    let new = c.show.new.list.list in
+    let some = sym c.version.ensures ∙ ap option_copied c.in-Some.is in
+    let granted = granted_when m txn p.reply p.granted c.in-Some.version.now c.requires.prepared.installed some in
+    let is = ap (λ (t : Transaction). commit_of t ∷ []) c.of.ensures in
+    let item = Commits c.of.result in
+    let grown = λ (more : new ≡ list ++ item ∷ []). subst (IsGrown list new txn) (sym granted.0) (item, more, is) in
+    on_ok _ _ _ c.show.result c.show.ensures.list (λ more. grown (ap (λ (k : Known). k.list) more))
