@@ -1,10 +1,12 @@
-use Rattle.std.proofs.Common.{Some, ap, ◌∙◌, List, subst}
+use Rattle.std.proofs.Common.{[], Some, ap, ◌∙◌, List, subst}
 use mathlib.Core.List.{IsPrefix}
 use Rattle.publishing.specs.declared.item.Item.{Item}
 use Rattle.std.specs.Prelude.{IfSome}
 use Rattle.left_right.specs.Sides.{view}
 use Rattle.publishing.specs.Lists.{Known, Opened, version_in}
 use Rattle.publishing.specs.Views.{IsOf}
+use Rattle.txn.specs.Txn.{transaction_at}
+use Rattle.shared.specs.Sessions.{Seat}
 use Rattle.shared.proofs.SeatLemmas.{seat_begun, note_more}
 use Rattle.shared.proofs.session.Session.begin.Goals as goal
 
@@ -27,3 +29,24 @@ invariant_of-self-2 g c =
       subst (λ (k : Opened). IfSome c.newest_seen.new.place (λ r. IsOf k (view r.place))) own c.newest_seen.ensures.reader,
       i.5,
     )
+
+pub returns-clause-ok : goal.returns-clause-ok
+returns-clause-ok g c =
+    let i = c.self.invariant in
+    let seen = c.newest_seen.new.list in
+    let own = ap (λ (k : Known). k.opening) c.again-seen.ensures ∙ i.1 in
+    let opening = c.newest_seen.ensures.opening ∙ own in
+    let version = c.in_ok-version.ensures.version ∙ ap (λ k. version_in k.manager seen.list) opening in
+    let client = ap (λ (s : Seat). s.client) c.self.view_is in
+    c.put.ensures ∙ ap Some c.in_ok-txn.ensures ∙ (λ j. Some (transaction_at (version j) (i.5.0 j) (client j) []))
+
+pub returns-clause-seen : goal.returns-clause-seen
+returns-clause-seen g c =
+    let seen = c.newest_seen.new.list.list in
+    let was = ap (λ (k : Known). k.list) c.again-seen.ensures ∙ ap (λ (s : Seat). s.seen) c.self.view_is in
+    subst (λ (l : List Item). IsPrefix l seen) was c.newest_seen.ensures.seen
+
+pub returns-clause-same : goal.returns-clause-same
+returns-clause-same g c =
+    let is = c.self.view_is in
+    (ap (λ (s : Seat). s.client) is, ap (λ (s : Seat). s.count) is, ap (λ (s : Seat). s.note) is)
