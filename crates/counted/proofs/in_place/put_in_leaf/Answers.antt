@@ -23,3 +23,6 @@ returns-in-Ok-clause-ok c =
     let items = c.args.entries.now.items in
     let is = c.in-Ok.ensures.items in
     put_same _ _ _ _ _ _ _ _ _ _ (sym none) refl (is ∙ ap (λ xs. insert xs c.args.at c.args.put) c.reserve_exact.ensures.items) (omega (arith, ints)) (put_between items c.args.at c.args.put)
+
+pub returns-in-Ok-clause-room : goal.returns-in-Ok-clause-room
+returns-in-Ok-clause-room c = omega (arith, c.in-Ok.ensures.len)
