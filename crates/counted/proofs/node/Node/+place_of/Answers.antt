@@ -30,3 +30,10 @@ returns-in-Inner-clause-boundary g t c =
     let is = rw c.deref-in-Inner-3.ensures.value at c.among.ensures.index in
     let all = boundary_in_child test c.in-Inner.children.items i d m at.each within low high (subst (λ (es : List Entry). IsBoundary test es m) e c.place_of-found.ensures.boundary) in
     subst (λ (es : List Entry). IsBoundary test es c.among.result.index) (sym at.items) (subst (λ (n : ℕ). IsBoundary test (all_items c.in-Inner.children.items) n) (sym is) all)
+
+pub returns-in-Inner-clause-steps : goal.returns-in-Inner-clause-steps
+returns-in-Inner-clause-steps g t c =
+    let at = at_inner c.read.ensures.view c.read.ensures.balanced c.in-Inner.is in
+    let within = rw c.deref-in-Inner.ensures.value at c.child_before-index.ensures.child in
+    let level = ap (λ v. v.depth) c.deref-in-Inner-2.ensures ∙ ap (λ x. x.node.value.depth) c.index.ensures ∙ (at.each.each c.child_before-index.result c.index.result.now within).level in
+    omega (arith, at.depth)
