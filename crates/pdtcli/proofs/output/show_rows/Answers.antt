@@ -1,5 +1,5 @@
 use Rattle.std.proofs.Common.{◌≡◌, ◌≤◌, ◌+◌, ◌-◌, ◌++◌, List, take, drop, subst, sym, ap, ◌∙◌, arith}
-use Rattle.std.proofs.KnownBytes.{Appends-trans}
+use Rattle.std.proofs.KnownBytes.{Appends-nil, Appends-trans}
 use Rattle.std.proofs.Math.Seq.{take-add}
 use Rattle.std.specs.Io.KnownBytes.{Appends}
 use Rattle.std.proofs.lemmas.List.{drop-take}
@@ -8,6 +8,13 @@ use Rattle.merge.specs.Image.{image_rows}
 use Rattle.pdtcli.specs.Output.{rows_text}
 use Rattle.pdtcli.proofs.OutputLemmas.{rows_text-append}
 use Rattle.pdtcli.proofs.output.show_rows.Goals as goal
+
+pub loop-shown-init : goal.loop-shown-init
+loop-shown-init g c = record {
+  within = omega arith;
+  empty = c.new-text.ensures.items;
+  sent = Appends-nil (g.W.Write.contents c.args.out.now);
+}
 
 pub loop-shown-preserved : goal.loop-shown-preserved
 loop-shown-preserved g c =
