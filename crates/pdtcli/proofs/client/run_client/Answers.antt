@@ -1,8 +1,10 @@
 use Rattle.std.proofs.Common.{◌≡◌, ◌+◌, ◌<◌, ◌≤◌, ◌++◌, ◌∷◌, [], ℕ, List, true, false, length, take, get_or, sym, ap, ◌∙◌, subst, append_assoc, arith}
-use Rattle.std.specs.Prelude.{◌==◌}
+use Rattle.std.specs.Prelude.{◌==◌, IsTrue}
 use Rattle.std.proofs.lemmas.Bool.Decides.{nat_tests}
+use Rattle.std.proofs.lemmas.List.{take_all}
 use Rattle.values.specs.declared.row.Row.{Row}
 use Rattle.inputs.specs.declared.call.ClientCall.{ClientCall}
+use Rattle.inputs.specs.Typed.{is_typed_call}
 use Rattle.pdtcli.specs.declared.reply.ReplyLine.{ReplyLine}
 use Rattle.pdtcli.specs.Run.{line_of, lines_of, shown_lines}
 use Rattle.pdtcli.specs.Clients.{HasMade, calls_of}
@@ -19,6 +21,14 @@ is_own a b c h k = grind (arith, nat_tests)
 
 is_other : (a b c : ℕ) → (a ≡ b → ⊥) → b ≡ c → (a == c) ≡ false
 is_other a b c h k = grind (arith, nat_tests)
+
+pub serve-reply-requires-clause-typed : goal.serve-reply-requires-clause-typed
+serve-reply-requires-clause-typed g c =
+    let calls : List ClientCall = c.args.calls.now in
+    let asked = c.asked-item.result in
+    let here : asked ≡ get_or calls c.loop-asked.asked-index asked = c.asked-item.is in
+    subst (λ (a : ClientCall). IsTrue (is_typed_call g.O.Opening.opened.manager.schema a.call)) (sym here)
+    (c.requires.typed c.loop-asked.asked-index asked c.loop-asked-test.true)
 
 pub push_reserved-requires : goal.push_reserved-requires
 push_reserved-requires g c =
@@ -75,3 +85,11 @@ loop-asked-preserved g c =
             room = inv.room;
           })
     ]
+
+pub returns : goal.returns
+returns g c =
+    let o = g.O.Opening.opened.manager in
+    let calls : List ClientCall = c.args.calls.now in
+    let all : take c.loop-asked.asked-index calls ≡ calls = take_all c.loop-asked.asked-index calls c.loop-asked-test.false in
+    subst (λ (cs : List ClientCall). HasMade o c.args.session cs c.loop-asked.lines.items c.loop-asked.session) all
+    c.loop-asked.invariant.made
