@@ -62,6 +62,7 @@ pub(crate) enum Layer {
 }
 
 /// The value that a layer gives the column, if it modifies the row, which is at the SID below it.
+#[inline(always)]
 fn layer_value<'a>(
     is_modified: bool,
     tree: &'a DeltaTree,
