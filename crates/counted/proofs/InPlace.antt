@@ -1,5 +1,5 @@
 -- Edits of nodes where they stand.
-use Rattle.std.proofs.Common.{◌≡◌, ℕ, zero, suc, ◌+◌, ◌-◌, ◌<◌, ◌≤◌, List, [], ◌∷◌, ◌++◌, length, take, drop, get_or, refl, ap, sym, subst, ◌∙◌, arith, append_assoc, length-set}
+use Rattle.std.proofs.Common.{◌≡◌, ℕ, zero, suc, ◌+◌, ◌-◌, ◌^◌, ◌<◌, ◌≤◌, List, [], ◌∷◌, ◌++◌, length, take, drop, get_or, refl, ap, sym, subst, ◌∙◌, arith, append_assoc, length-set}
 use Rattle.std.specs.Prelude.{Result, Ok, Err, IfOk, IfErr, ℤ, ◌+ℤ◌, ◌-ℤ◌, Option, Some, None, IfSome, IfNone, slice_get, slice_set}
 use Rattle.std.specs.Arc.{arc_with_value}
 use Rattle.std.proofs.lemmas.Int.{ints}
@@ -82,16 +82,17 @@ pub record IsMended (gone rest : ℕ) (put : Entry) (added : ℤ) (c x : Child) 
   pub one : gone ≤ 1
   pub depth : x.node.value.depth ≡ c.node.value.depth
   pub width : c.node.value.width ≤ x.node.value.width
+  pub most : length x.node.value.items ≤ 16 ^ x.node.value.depth
   pub count : x.count ≡ c.count + (1 - gone)
   pub net : x.net ≡ c.net +ℤ added
   pub head : slice_get (items_of x) 0 ≡ Some x.head
 
 -- an edit in the node of a child, whose head is another where that gave one
 pub mended_by : (children : List Child) (i at gone end : ℕ) (put : Entry) (added : ℤ) (c x : Child) (u v : View) (head : Option Entry) → AreChildren children → i < length children → c ≡ get_or children i c
-    → end ≤ length (items_of (get_or children i c)) → gone ≤ 1 → (1 ≤ at + gone → 1 ≤ end) → u ≡ c.node.value → v.depth ≡ u.depth → u.width ≤ v.width → IsPut (end - gone) gone put u.items v.items added
+    → end ≤ length (items_of (get_or children i c)) → gone ≤ 1 → (1 ≤ at + gone → 1 ≤ end) → u ≡ c.node.value → v.depth ≡ u.depth → u.width ≤ v.width → length v.items ≤ 16 ^ v.depth → IsPut (end - gone) gone put u.items v.items added
     → IfSome head (λ e. (end - gone ≡ 0) × (e ≡ put)) → IfNone head (1 ≤ end - gone) → x.count ≡ c.count + (1 - gone) → x.net ≡ c.net +ℤ added → x.node ≡ arc_with_value c.node v
     → IfSome head (λ e. x.head ≡ e) → IfNone head (x.head ≡ c.head) → IsMended gone (end - gone) put added c x
-mended_by children i at gone end put added c x u v head h lt here room one some was depth width is_put first later count net node is same =
+mended_by children i at gone end put added c x u v head h lt here room one some was depth width most is_put first later count net node is same =
     let e = ap items_of here in
     let own = gone_within at gone end one some in
     let new = ap (λ a. a.value) node in
@@ -103,6 +104,7 @@ mended_by children i at gone end put added c x u v head h lt here room one some 
       one = one;
       depth = ap (λ w. w.depth) new ∙ depth ∙ ap (λ w. w.depth) was;
       width = omega (arith, ap (λ w. w.width) new, ap (λ w. w.width) was);
+      most = let P : View → Type 0 = λ w. length w.items ≤ 16 ^ w.depth in subst P (sym new) most;
       count = count;
       net = net;
       head = head_put _ _ (end - gone) gone put c.head x.head added head put_in (ap (λ (es : List Entry). slice_get es 0) e ∙ (h.each i c lt).head ∙ ap (λ (y : Child). Some y.head) (sym here)) first later is same;
@@ -118,6 +120,7 @@ child_mended depth gone rest put added c x h m =
       full = omega (arith, h.full, m.width);
       deep = h.deep;
       many = omega (arith, h.many, m.one);
+      most = let P : ℕ → Type 0 = λ d. length (items_of x) ≤ 16 ^ d in subst P (m.depth ∙ h.level) m.most;
       count = omega (arith, h.count, m.count, m.one);
       net = omega (arith, ints, h.net, m.net);
       head = m.head;

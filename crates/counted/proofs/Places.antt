@@ -15,10 +15,11 @@ use Rattle.counted.specs.Edits.{edited}
 use Rattle.counted.specs.declared.node.Child.{Child}
 use Rattle.counted.specs.Sums.{total, shift_before, first_sid, IsOrdered}
 use Rattle.counted.specs.Shapes.{items_of, all_items, depth_of, view_of, IsChild, AreChildren, IsBalanced}
+use Rattle.counted.specs.Trees.{IsDepth, IsRoot}
 use Rattle.counted.specs.Views.{View}
 use Rattle.counted.specs.Grown.{IsSameChild, IsGrown, AreGrown, grown_items, grown_width}
-use Rattle.counted.specs.declared.grown.Grown.{Grown}
-use Rattle.counted.specs.declared.grown.Grown.TheVariants.{One, Two}
+use Rattle.counted.specs.declared.node.grown.Grown.{Grown}
+use Rattle.counted.specs.declared.node.grown.Grown.TheVariants.{One, Two}
 use Rattle.std.proofs.lemmas.List.Elements.{All-head, All-tail, All-drop}
 use Rattle.std.proofs.lemmas.List.{take-append-le, drop-append-le}
 use Rattle.counted.specs.declared.node.Body.{Body}
@@ -35,6 +36,12 @@ power_suc d = grind arith
 -- from a bound on a product to one on a smaller product
 many_by : (p n a b : ℕ) → a ≡ 8 * p → 8 ≤ n → n * p ≤ b → a ≤ b
 many_by p n a b e full le = let m = mul-le-mul_right p full in omega arith
+
+power_suc_16 : (d : ℕ) → 16 ^ suc d ≡ 16 * 16 ^ d
+power_suc_16 d = grind arith
+
+most_by : (p n a b : ℕ) → a ≡ 16 * p → n ≤ 16 → b ≤ n * p → b ≤ a
+most_by p n a b e full le = let m = mul-le-mul_right p full in omega arith
 
 two_by : (p n b : ℕ) → 2 ≤ n → n * p ≤ b → 2 * p ≤ b
 two_by p n b wide le = let m = mul-le-mul_right p wide in omega arith
@@ -171,6 +178,7 @@ same_is_child depth c x same h = record {
   full = let e = ap (λ v. v.width) same.node in let f = h.full in omega arith;
   deep = h.deep;
   many = let e = ap (λ v. length v.items) same.node in let f = h.many in omega arith;
+  most = let e = ap (λ v. length v.items) same.node in let f = h.most in omega arith;
   count = same.count ∙ h.count ∙ sym (ap (λ v. length v.items) same.node);
   net = same.net ∙ h.net ∙ sym (ap (λ v. total v.items) same.node);
   head = ap (λ v. slice_get v.items 0) same.node ∙ h.head ∙ ap Some (sym same.head);
@@ -193,6 +201,18 @@ pub many_below : (children : List Child) → AreChildren children → 8 ≤ leng
 many_below children h full =
     let all = many_items (depth_of children) children h.each in
     many_by (8 ^ depth_of children) (length children) _ _ (power_suc (depth_of children)) full all
+
+pub most_items : (depth : ℕ) (children : List Child) → All (IsChild depth) children → length (all_items children) ≤ length children * 16 ^ depth
+most_items depth [] h = omega arith
+most_items depth (c ∷ children) h =
+    let here = (All-head (IsChild depth) c children h).most in
+    let rest = most_items depth children (All-tail (IsChild depth) c children h) in
+    omega (arith, length-append (items_of c) (all_items children))
+
+pub most_below : (children : List Child) → AreChildren children → length (all_items children) ≤ 16 ^ suc (depth_of children)
+most_below children h =
+    let all = most_items (depth_of children) children h.each in
+    most_by (16 ^ depth_of children) (length children) _ _ (power_suc_16 (depth_of children)) h.room all
 
 -- an inner root
 pub many_at_root : (children : List Child) → AreChildren children → 2 ≤ length children → 2 * 8 ^ depth_of children ≤ length (all_items children)
@@ -321,3 +341,19 @@ deep_law (Inner children) v is h deep wide =
     let less : depth_of children.items ≡ suc (depth_of children.items) - 1 = omega arith in
     let Q : ℕ → Type 0 = λ n. 2 * 8 ^ n ≤ length (all_items children.items) in
     subst P is (λ many. subst Q less (many_at_root children.items h many)) wide
+
+pub most_law : (b : Body) (v : View) → view_of b ≡ v → IsBalanced b → length v.items ≤ 16 ^ v.depth
+most_law (Leaf entries) v is h = let P : View → Type 0 = λ w. length w.items ≤ 16 ^ w.depth in let one : 16 ^ 1 ≡ 16 = refl in subst P is (omega (arith, h, one))
+most_law (Inner children) v is h = let P : View → Type 0 = λ w. length w.items ≤ 16 ^ w.depth in subst P is (most_below children.items h)
+
+some_law : (b : Body) (v : View) → view_of b ≡ v → 1 ≤ v.depth
+some_law (Leaf entries) v is = let e = ap (λ (w : View). w.depth) is in omega arith
+some_law (Inner children) v is = let e = ap (λ (w : View). w.depth) is in omega arith
+
+-- how many levels a node has, by its entries
+pub levels_law : (b : Body) (v : View) → view_of b ≡ v → IsBalanced b → IsRoot v → IsDepth v.depth (length v.items)
+levels_law b v is h root = record {
+  some = some_law b v is;
+  many = λ deep. deep_law b v is h deep (root deep);
+  most = most_law b v is h;
+}

@@ -1,10 +1,10 @@
 -- What a node grows to.
 use Rattle.std.specs.Prelude.{◌≡◌, ℕ, ◌≤◌, min, ◌^◌, List, ◌++◌, length}
 use Rattle.model.specs.declared.entry.Entry.{Entry}
-use Rattle.counted.specs.declared.grown.Grown.{Grown}
-use Rattle.counted.specs.declared.grown.Grown.TheVariants.{One, Two}
+use Rattle.counted.specs.declared.node.grown.Grown.{Grown}
+use Rattle.counted.specs.declared.node.grown.Grown.TheVariants.{One, Two}
 use Rattle.counted.specs.declared.node.Child.{Child}
-use Rattle.counted.specs.declared.grown.Counts.{Counts}
+use Rattle.counted.specs.declared.node.grown.Counts.{Counts}
 use Rattle.counted.specs.Sums.{total}
 use Rattle.counted.specs.Views.{View}
 
@@ -34,9 +34,10 @@ pub record IsSameChild (c x : Child) : Type 0 where
   pub head : x.head ≡ c.head
   pub node : x.node.value ≡ c.node.value
 
--- the counts are those of the node's entries, which are many
+-- the counts are those of the node's entries, which are as many as nodes of 8 to 16 hold on so many levels
 pub record AreCounts (node : View) (counts : Counts) : Type 0 where
   pub count : counts.count ≡ length node.items
   pub net : counts.net ≡ total node.items
   pub many : 8 ^ node.depth ≤ length node.items
+  pub most : length node.items ≤ 16 ^ node.depth
   pub deep : 1 ≤ node.depth

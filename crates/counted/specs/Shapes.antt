@@ -24,12 +24,14 @@ abbrev pub view_of : Body → View
 view_of (Leaf entries) = record { depth = 1; width = length entries.items; items = entries.items }
 view_of (Inner children) = record { depth = suc (depth_of children.items); width = length children.items; items = all_items children.items }
 
--- a child stands at this depth, is at least half full, and its counts are those of its entries
+-- a child stands at this depth, is at least half full, holds as many entries as nodes of 8 to 16 do on so many levels, and
+-- its counts are those of its entries
 pub record IsChild (depth : ℕ) (c : Child) : Type 0 where
   pub level : c.node.value.depth ≡ depth
   pub full : 8 ≤ c.node.value.width
   pub deep : 1 ≤ depth
   pub many : 8 ^ depth ≤ length c.node.value.items
+  pub most : length c.node.value.items ≤ 16 ^ depth
   pub count : c.count ≡ length c.node.value.items
   pub net : c.net ≡ total c.node.value.items
   pub head : slice_get c.node.value.items 0 ≡ Some c.head

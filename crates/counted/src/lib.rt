@@ -1,13 +1,9 @@
 //! A counted tree of entries: nodes are shared, and a writing call copies the path that it changes, unless nobody shares it.
 #![tactic(auto)]
 
-mod bulk;
 mod children;
-mod edit;
 mod entry;
 mod gap;
-mod grown;
-mod in_place;
 mod iter;
 mod leaf;
 mod node;

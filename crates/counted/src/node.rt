@@ -1,10 +1,17 @@
-//! The nodes of a tree, and what is read of them.
-ghost use Rattle.std.specs.Prelude.{◌≡◌, ◌+◌, ◌-◌, ◌*◌, ◌^◌, ◌<◌, ◌≤◌, ◌++◌, [], length, take, drop};
+//! The nodes of a tree. What a node holds is seen in this module and those below it alone, which make, change and measure
+//! nodes, and count none. The searches stand outside: they come to a node's contents by `read`, which counts it.
+ghost use Rattle.std.specs.Prelude.{◌≡◌, ◌+◌, ◌^◌, ◌<◌, ◌≤◌, ◌++◌, [], length, drop};
 ghost use Rattle.counted.specs.Shapes.{view_of, IsBalanced};
-ghost use Rattle.counted.specs.Sums.{total, shift_before, IsOrdered};
+ghost use Rattle.counted.specs.Sums.{total};
+ghost use Rattle.counted.specs.Trees.{IsDepth, IsRoot};
 
-use crate::children::{child_below, child_of, count_of, net_of};
-use crate::leaf::{shift_in, total_of};
+pub(crate) mod bulk;
+mod edit;
+mod grown;
+mod in_place;
+
+use crate::children::{child_of, count_of, net_of};
+use crate::leaf::total_of;
 use crate::{SharedEntry, Steps};
 use std::alloc::Global;
 use std::marker::Model;
@@ -15,7 +22,8 @@ use std::sync::ledger::Ledger;
 #[cycle(node)]
 #[derive(Drop)]
 pub(crate) struct Node {
-    pub(crate) body: Body,
+    /// Not to be seen by a search, so that none reads a node without counting it.
+    body: Body,
 }
 
 #[cycle(node)]
@@ -90,28 +98,11 @@ impl Node {
     pub(crate) fn depth(&self) -> usize
         requires { length self.now.items < 2 ^ 62 }
         ensures depth { result ≡ self.now.depth }
-        ensures many { 2 ≤ self.now.depth → 2 ≤ self.now.width → 2 * 8 ^ (self.now.depth - 1) ≤ length self.now.items }
+        ensures levels { IsRoot self.now → IsDepth self.now.depth (length self.now.items) }
     {
         match &self.body {
             Body::Leaf(_) => 1,
             Body::Inner(children) => children[0].node.depth() + 1,
-        }
-    }
-
-    /// What the entries below the SID add.
-    pub(crate) fn shift_before<L: Ledger>(&self, sid: u64, steps: &mut Steps<L>) -> i64
-        requires ordered { IsOrdered self.now.items }
-        requires few { length self.now.items < 2 ^ 62 }
-        ensures shift { result ≡ shift_before sid self.now.items }
-        ensures steps { steps.new ≡ steps.old + self.now.depth }
-        ensures many { 2 ≤ self.now.depth → 2 ≤ self.now.width → 2 * 8 ^ (self.now.depth - 1) ≤ length self.now.items }
-    {
-        match self.read(steps) {
-            Body::Leaf(entries) => shift_in(entries, sid),
-            Body::Inner(children) => {
-                let (index, shift) = child_below(children, sid);
-                shift + children[index].node.shift_before(sid, steps)
-            }
         }
     }
 
@@ -130,12 +121,12 @@ impl Node {
         }
     }
 
-    /// What the node holds, for one step.
+    /// What the node holds, for one step: the one way to it from outside this module.
     pub(crate) fn read<L: Ledger>(&self, steps: &mut Steps<L>) -> &Body
         ensures view { view_of result.now ≡ self.now }
         ensures balanced { IsBalanced result.now }
         ensures steps { steps.new ≡ steps.old + 1 }
-        ensures many { 2 ≤ self.now.depth → 2 ≤ self.now.width → 2 * 8 ^ (self.now.depth - 1) ≤ length self.now.items }
+        ensures levels { IsRoot self.now → IsDepth self.now.depth (length self.now.items) }
     {
         steps.tick();
         &self.body

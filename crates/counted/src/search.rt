@@ -7,10 +7,11 @@ ghost use Rattle.std.proofs.Common.{Ordering};
 ghost use Rattle.counted.specs.declared.node.Child.{Child};
 ghost use Rattle.counted.specs.Search.{stands_before, IsBoundary};
 ghost use Rattle.counted.specs.Shapes.{AreChildren, all_items, items_of};
-ghost use Rattle.counted.specs.Sums.{total};
+ghost use Rattle.counted.specs.Sums.{total, shift_before, IsOrdered};
+ghost use Rattle.counted.specs.Trees.{IsDepth, IsRoot};
 
-use crate::children::{entry_after, sums_before};
-use crate::leaf::total_of;
+use crate::children::{child_below, entry_after, sums_before};
+use crate::leaf::{shift_in, total_of};
 use crate::node::{Body, Child, Node};
 use crate::{SharedEntry, Steps};
 use model::Change;
@@ -35,6 +36,23 @@ pub struct Boundary<'a> {
 }
 
 impl Node {
+    /// What the entries below the SID add.
+    pub(crate) fn shift_before<L: Ledger>(&self, sid: u64, steps: &mut Steps<L>) -> i64
+        requires ordered { IsOrdered self.now.items }
+        requires few { length self.now.items < 2 ^ 62 }
+        ensures shift { result ≡ shift_before sid self.now.items }
+        ensures steps { steps.new ≡ steps.old + self.now.depth }
+        ensures levels { IsRoot self.now → IsDepth self.now.depth (length self.now.items) }
+    {
+        match self.read(steps) {
+            Body::Leaf(entries) => shift_in(entries, sid),
+            Body::Inner(children) => {
+                let (index, shift) = child_below(children, sid);
+                shift + children[index].node.shift_before(sid, steps)
+            }
+        }
+    }
+
     /// Where what is looked for at the SID stands.
     pub(crate) fn place_of<P: Probe, L: Ledger>(
         &self,
@@ -47,7 +65,7 @@ impl Node {
         ensures shift { result.shift ≡ total (take result.index self.now.items) }
         ensures entry { option_copied result.entry ≡ slice_get self.now.items result.index }
         ensures steps { steps.new ≡ steps.old + self.now.depth }
-        ensures many { 2 ≤ self.now.depth → 2 ≤ self.now.width → 2 * 8 ^ (self.now.depth - 1) ≤ length self.now.items }
+        ensures levels { IsRoot self.now → IsDepth self.now.depth (length self.now.items) }
     {
         match self.read(steps) {
             Body::Leaf(entries) => in_leaf(entries, place_in(entries, sid, probe)),

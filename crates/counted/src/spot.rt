@@ -4,6 +4,7 @@ ghost use Rattle.counted.specs.declared.node.Child.{Child};
 ghost use Rattle.counted.specs.Shapes.{AreChildren, all_items, items_of};
 ghost use Rattle.counted.specs.Spots.{IsSpot, ArePlaced, Passes, Stops};
 ghost use Rattle.counted.specs.Sums.{total, IsOrdered};
+ghost use Rattle.counted.specs.Trees.{IsDepth, IsRoot};
 
 use crate::node::{Body, Child, Node};
 use crate::{SharedEntry, Steps};
@@ -27,7 +28,7 @@ impl Node {
         requires below { pos (length self.now.items) ≤ℤ (shift +ℤ pos (2 ^ 61)) }
         ensures spot { IsSpot rid shift self.now.items result.index result.shift result.inserted }
         ensures steps { steps.new ≡ steps.old + self.now.depth }
-        ensures many { 2 ≤ self.now.depth → 2 ≤ self.now.width → 2 * 8 ^ (self.now.depth - 1) ≤ length self.now.items }
+        ensures levels { IsRoot self.now → IsDepth self.now.depth (length self.now.items) }
     {
         match self.read(steps) {
             Body::Leaf(entries) => spot_in(entries, rid, shift),

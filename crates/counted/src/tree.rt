@@ -8,11 +8,11 @@ ghost use Rattle.counted.specs.Gaps.{IsGap};
 ghost use Rattle.counted.specs.Search.{stands_before, IsBoundary};
 ghost use Rattle.counted.specs.Spots.{IsSpot, ArePlaced};
 ghost use Rattle.counted.specs.Sums.{total, shift_before, IsOrdered};
-ghost use Rattle.counted.specs.Trees.{IsRoot};
+ghost use Rattle.counted.specs.Trees.{IsDepth, IsRoot};
 
-use crate::bulk::{root_over, shared};
 use crate::gap::Gap;
 use crate::node::Node;
+use crate::node::bulk::{root_over, shared};
 use crate::search::{Boundary, Probe};
 use crate::spot::Spot;
 use crate::{SharedEntry, Steps};
@@ -71,7 +71,7 @@ impl CountedTree {
     /// The number of levels.
     pub fn depth(&self) -> usize
         ensures depth { result ≡ self.now.depth }
-        ensures many { 2 ≤ result → 2 * 8 ^ (result - 1) ≤ length self.now.entries }
+        ensures levels { IsDepth result (length self.now.entries) }
     {
         match &self.root {
             None => 1,
@@ -84,7 +84,7 @@ impl CountedTree {
         requires ordered { IsOrdered self.now.entries }
         ensures shift { result ≡ shift_before sid self.now.entries }
         ensures steps { steps.new ≡ steps.old + self.now.depth }
-        ensures many { 2 ≤ self.now.depth → 2 * 8 ^ (self.now.depth - 1) ≤ length self.now.entries }
+        ensures levels { IsDepth self.now.depth (length self.now.entries) }
     {
         match &self.root {
             None => {
@@ -102,7 +102,7 @@ impl CountedTree {
         requires placed { ArePlaced self.now.entries }
         ensures spot { IsSpot (pos rid) (pos 0) self.now.entries result.index result.shift result.inserted }
         ensures steps { steps.new ≡ steps.old + self.now.depth }
-        ensures many { 2 ≤ self.now.depth → 2 * 8 ^ (self.now.depth - 1) ≤ length self.now.entries }
+        ensures levels { IsDepth self.now.depth (length self.now.entries) }
     {
         match &self.root {
             None => {
@@ -164,7 +164,7 @@ impl CountedTree {
         ensures shift { result.shift ≡ total (take result.index self.now.entries) }
         ensures entry { option_copied result.entry ≡ slice_get self.now.entries result.index }
         ensures steps { steps.new ≡ steps.old + self.now.depth }
-        ensures many { 2 ≤ self.now.depth → 2 * 8 ^ (self.now.depth - 1) ≤ length self.now.entries }
+        ensures levels { IsDepth self.now.depth (length self.now.entries) }
     {
         match &self.root {
             None => Boundary::first(steps),

@@ -1,6 +1,6 @@
 //! The tree: a counted tree of shared entries.
 ghost use Rattle.std.specs.Prelude.{◌≡◌, ◌↔◌, IfOk, IsTrue, length, []};
-ghost use Rattle.delta.specs.Depth.{IsDepth};
+ghost use Rattle.counted.specs.Trees.{IsDepth};
 ghost use Rattle.delta.specs.Lookups.{total_of};
 
 use counted::{CountedTree, SharedEntry};

@@ -13,6 +13,7 @@ returns-clause-counts c =
       full = omega (arith, ap (λ (v : View). v.width) node, c.requires.full);
       deep = counts.deep;
       many = let P : View → Type 0 = λ v. 8 ^ c.args.node.depth ≤ length v.items in subst P (sym node) counts.many;
+      most = let P : View → Type 0 = λ v. length v.items ≤ 16 ^ c.args.node.depth in subst P (sym node) counts.most;
       count = counts.count ∙ sym (ap (λ (v : View). length v.items) node);
       net = omega (arith, ints, ap (λ (v : View). total v.items) node);
       head = ap (λ (v : View). slice_get v.items 0) node ∙ c.head.ensures ∙ ap Some (sym c.in_ok-head.ensures);

@@ -1,6 +1,6 @@
 use Rattle.std.proofs.Common.{◌<◌, ap, ◌∙◌, arith, length}
 use Rattle.counted.specs.Shapes.{depth_of}
-use Rattle.counted.proofs.Places.{at_inner, child_few, below_power}
+use Rattle.counted.proofs.Places.{at_inner, child_few, below_power, levels_law}
 use Rattle.counted.proofs.node.Node.+depth.Goals as goal
 
 pub overflow_add-result : goal.overflow_add-result
@@ -14,3 +14,6 @@ overflow_add-result t c =
     let few = child_few c.in-Inner.children.items 0 c.index.result.now some in
     let all = ap length at.items in
     omega (arith, c.requires)
+
+pub returns-in-Inner-clause-levels : goal.returns-in-Inner-clause-levels
+returns-in-Inner-clause-levels t c = levels_law c.self.inside.body c.args.self.now c.self.view_is c.self.invariant

@@ -5,6 +5,7 @@ use Rattle.std.proofs.lemmas.Float.{T_from_true}
 use Rattle.model.specs.Entries.{are_ordered}
 use Rattle.counted.specs.Spots.{IsSpot}
 use Rattle.counted.proofs.CallerLemmas.{total_within}
+use Rattle.counted.specs.Trees.{IsDepth}
 use Rattle.delta.specs.Tree.{Tree}
 use Rattle.delta.specs.Positions.{IsAtRid, place_from}
 use Rattle.delta.specs.declared.places.Place.TheVariants.{Inserted}
@@ -114,9 +115,9 @@ returns-else-spot-clause-only g c =
 pub returns-then-spot-clause-steps : goal.returns-then-spot-clause-steps
 returns-then-spot-clause-steps g c =
     let list = ap (λ (w : Tree). length w.entries) c.self.view_is in
-    (c.self.inside.tree.depth, c.find_rid-spot.ensures.steps, λ deep. (let many = c.find_rid-spot.ensures.many deep in omega arith))
+    (c.self.inside.tree.depth, c.find_rid-spot.ensures.steps, subst (IsDepth c.self.inside.tree.depth) list c.find_rid-spot.ensures.levels)
 
 pub returns-else-spot-clause-steps : goal.returns-else-spot-clause-steps
 returns-else-spot-clause-steps g c =
     let list = ap (λ (w : Tree). length w.entries) c.self.view_is in
-    (c.self.inside.tree.depth, c.find_rid-spot.ensures.steps, λ deep. (let many = c.find_rid-spot.ensures.many deep in omega arith))
+    (c.self.inside.tree.depth, c.find_rid-spot.ensures.steps, subst (IsDepth c.self.inside.tree.depth) list c.find_rid-spot.ensures.levels)

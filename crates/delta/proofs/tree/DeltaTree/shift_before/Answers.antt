@@ -1,7 +1,8 @@
-use Rattle.std.proofs.Common.{ap, ◌∙◌, arith, length, filter}
+use Rattle.std.proofs.Common.{ap, ◌∙◌, subst, arith, length, filter}
 use Rattle.std.proofs.lemmas.Int.{ints}
 use Rattle.std.proofs.lemmas.Float.{T_from_true}
 use Rattle.std.specs.Prelude.{nat_lt}
+use Rattle.counted.specs.Trees.{IsDepth}
 use Rattle.counted.proofs.CallerLemmas.{shift_within}
 use Rattle.delta.specs.Tree.{Tree}
 use Rattle.delta.specs.Positions.{shift_before}
@@ -20,6 +21,5 @@ returns-clause-shift g c =
 
 pub returns-clause-steps : goal.returns-clause-steps
 returns-clause-steps g c =
-    let t = c.self.inside.tree in
     let list = ap (λ (w : Tree). length w.entries) c.self.view_is in
-    (t.depth, c.shift_before.ensures.steps, λ deep. (let many = c.shift_before.ensures.many deep in omega arith))
+    (c.self.inside.tree.depth, c.shift_before.ensures.steps, subst (IsDepth c.self.inside.tree.depth) list c.shift_before.ensures.levels)

@@ -1,5 +1,0 @@
-use Rattle.std.proofs.Common.{arith}
-use Rattle.counted.proofs.bulk.share_of.Goals as goal
-
-pub returns-then-left-gt16-clause-rest : goal.returns-then-left-gt16-clause-rest
-returns-then-left-gt16-clause-rest c = λ less. omega arith

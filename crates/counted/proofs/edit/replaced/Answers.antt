@@ -1,5 +1,0 @@
-use Rattle.std.proofs.Common.{arith}
-use Rattle.counted.proofs.edit.replaced.Goals as goal
-
-pub with_grown-requires-clause-full : goal.with_grown-requires-clause-full
-with_grown-requires-clause-full c = omega arith

@@ -1,5 +1,0 @@
-use Rattle.std.proofs.Common.{arith}
-use Rattle.counted.proofs.edit.root_of.Goals as goal
-
-pub returns-clause-root : goal.returns-clause-root
-returns-clause-root c = grind arith
