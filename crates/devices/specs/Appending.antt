@@ -1,10 +1,10 @@
 -- A store between two calls, and what becomes of a table's image that it is offered.
-use Rattle.std.specs.Prelude.{◌≡◌, ℕ, suc, ◌<◌, ◌≤◌, ◌^◌, Bool, true, false, List, Result, Ok, Err}
+use Rattle.std.specs.Prelude.{◌≡◌, ℕ, suc, ◌<◌, ◌≤◌, ◌^◌, Bool, true, false, List, map, Result, Ok, Err}
 use Rattle.values.specs.Shape.{Columns}
 use Rattle.stable.specs.Stable.{Stable}
 use Rattle.devices.specs.Image.{pieces_of}
 use Rattle.devices.specs.Ready.{AreReady}
-use Rattle.devices.specs.Store.{StopsAt, appended}
+use Rattle.devices.specs.Store.{StopsAt, appended, have_failed}
 use Rattle.devices.specs.Stored.{StaysOrIs, stored_image}
 use Rattle.devices.specs.declared.fault.StoreFault.{StoreFault}
 use Rattle.devices.specs.declared.fault.StoreFault.TheVariants.{WrongCount, StoreFailed, GenerationsSpent, NoMemory, DeviceFailed}
@@ -14,6 +14,10 @@ pub record Taken : Type 0 where
   pub contents : List (List ℕ)
   pub failed : Bool
   pub next : ℕ
+
+-- what a store's devices have taken, by what each has taken and how often it has failed
+abbrev pub taken_by : {A : Type 0} → (A → List ℕ) → (A → ℕ) → List A → ℕ → Taken
+taken_by contents failures devices next = record { contents = map contents devices; failed = have_failed (map failures devices); next = next }
 
 -- none of the devices has failed, and a generation is left
 pub record MayTake (store : Taken) : Type 0 where

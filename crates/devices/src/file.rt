@@ -1,9 +1,10 @@
 //! A device over a file.
-ghost use Rattle.std.specs.Prelude.{◌≡◌, ℕ, ◌<◌, ◌≤◌, ◌++◌, length, take, IfOk, OnOk, OnErr};
+ghost use Rattle.std.specs.Prelude.{◌≡◌, ℕ, ◌<◌, ◌≤◌, ◌++◌, [], length, take, IfOk, OnOk, OnErr};
+ghost use Rattle.std.specs.Io.KnownBytes.{Appends};
 ghost use Rattle.std.specs.Vec.{vec_len, vec_capacity};
 
 use crate::device::{ColumnDevice, DeviceFault, ended};
-use crate::memory::take_piece;
+use std::alloc::Global;
 use std::fs::File;
 use std::io::Write;
 use std::marker::Model;
@@ -29,15 +30,15 @@ impl Model for FileColumn {
 }
 
 impl FileColumn {
-    /// A column in this file, which is new: the device begins with no bytes.
+    /// A column in this file, which is new: the device begins with no bytes, and keeps its copy in memory from `alloc`.
     ///
     /// # Errors
     ///
     /// `NoMemory` where a growth is refused.
-    pub fn new(file: File, copy: Vec<u8>) -> Result<FileColumn, NoMemory>
-        ensures { IfOk result (λ column. column ≡ record { contents = copy.items; failures = 0 }) }
+    pub fn new(alloc: Global, file: File) -> Result<FileColumn, NoMemory>
+        ensures { IfOk result (λ column. column ≡ record { contents = []; failures = 0 }) }
     {
-        let mut contents = copy;
+        let mut contents = Vec::new(alloc);
         contents.reserve(1)?;
         Ok(FileColumn {
             file,
@@ -85,19 +86,25 @@ impl Drop for FileColumn {
     }
 }
 
-/// Hands the piece to the file, and keeps a copy of what the file took and room for one byte more.
-fn hand_over(file: &mut File, contents: &mut Vec<u8>, piece: &[u8]) -> Result<(), DeviceFault>
+/// Hands the piece to the file, and keeps a copy of what the file took and room for one byte more. Room for the copy comes first:
+/// what the file has taken is kept whatever comes.
+fn hand_over<W: Write>(
+    file: &mut W,
+    contents: &mut Vec<u8>,
+    piece: &[u8],
+) -> Result<(), DeviceFault>
     ensures whole { OnOk result (contents.new.items ≡ contents.old.items ++ piece.now) }
     ensures room { OnOk result (vec_len contents.new < vec_capacity contents.new) }
-    ensures part { OnErr result ((n : ℕ) × (contents.new.items ≡ contents.old.items ++ take n piece.now)) }
+    ensures handed { OnOk result (Appends (W.contents file.old) (W.contents file.new) piece.now) }
+
+    // What the copy lacks the file has not taken either.
+    ensures part { OnErr result ((n : ℕ)
+        × (contents.new.items ≡ contents.old.items ++ take n piece.now)
+        × Appends (W.contents file.old) (W.contents file.new) (take n piece.now)) }
 {
-    let room = contents.reserve(piece.len() + 1);
-    let count = if room.is_ok() {
-        write_front(file, piece)
-    } else {
-        0
-    };
-    take_piece(contents, &piece[..count])?;
+    contents.reserve(piece.len() + 1)?;
+    let count = write_front(file, piece);
+    contents.extend_from_slice(&piece[..count])?;
     if count < piece.len() {
         return Err(DeviceFault);
     }
@@ -105,8 +112,9 @@ fn hand_over(file: &mut File, contents: &mut Vec<u8>, piece: &[u8]) -> Result<()
 }
 
 /// Writes the bytes, up to the first fault of the file, and answers how many it took.
-fn write_front(file: &mut File, bytes: &[u8]) -> usize
-    ensures { result ≤ length bytes.now }
+fn write_front<W: Write>(file: &mut W, bytes: &[u8]) -> usize
+    ensures within { result ≤ length bytes.now }
+    ensures taken { Appends (W.contents file.old) (W.contents file.new) (take result bytes.now) }
 {
     let mut at = 0;
     while at < bytes.len() {

@@ -1,6 +1,6 @@
 //! Devices side by side, and the store that has them.
 ghost use Rattle.std.specs.Prelude.{◌≡◌, ◌≢◌, ℕ, ◌<◌, ◌≤◌, ◌+◌, ◌^◌, true, false, Err, IfErr, IfOk, IsErrOf, IsOk, MatchResult, length, map, OnOk, OnErr};
-ghost use Rattle.devices.specs.Appending.{Appends, MayFollow, Stores};
+ghost use Rattle.devices.specs.Appending.{Appends, MayFollow, Stores, taken_by};
 ghost use Rattle.devices.specs.Image.{headers_of};
 ghost use Rattle.devices.specs.Ready.{AreReady, AreWhole};
 ghost use Rattle.devices.specs.Store.{IsNotMade, StopsAt, appended, have_failed};
@@ -75,15 +75,18 @@ impl Store {
         first: u32,
     ) -> Result<Store, StoreFault>
         requires { have_failed (map (λ b. failures b) devices.items) ≡ false }
-        ensures contents { IfOk result (λ store. map (λ b. contents b) store.devices.items ≡ appended (map (λ b. contents b) devices.items) (headers_of schema.now.types)) }
+        ensures contents { IfOk result (λ store.
+            map (λ b. contents b) store.devices.items ≡ appended (map (λ b. contents b) devices.items) (headers_of schema.now.types)) }
         ensures sound { IfOk result (λ store. have_failed (map (λ b. failures b) store.devices.items) ≡ false) }
         ensures next { IfOk result (λ store. store.next ≡ first) }
         ensures schema { IfOk result (λ store. store.schema ≡ schema.now) }
 
         // Where the devices held whole frames of those types, of earlier generations alone, the image that they store
         // stays, and another may follow.
-        ensures stored { IfOk result (λ store. AreWhole first schema.now.types (map (λ b. contents b) devices.items) → stored_image schema.now (map (λ b. contents b) store.devices.items) ≡ stored_image schema.now (map (λ b. contents b) devices.items)) }
-        ensures ready { IfOk result (λ store. AreWhole first schema.now.types (map (λ b. contents b) devices.items) → AreReady first schema.now.types (map (λ b. contents b) store.devices.items)) }
+        ensures stored { IfOk result (λ store. AreWhole first schema.now.types (map (λ b. contents b) devices.items)
+            → stored_image schema.now (map (λ b. contents b) store.devices.items) ≡ stored_image schema.now (map (λ b. contents b) devices.items)) }
+        ensures ready { IfOk result (λ store. AreWhole first schema.now.types (map (λ b. contents b) devices.items)
+            → AreReady first schema.now.types (map (λ b. contents b) store.devices.items)) }
         ensures count { length devices.items ≢ length schema.now.types → result ≡ Err fault.WrongCount }
         ensures refused { IfErr result (IsNotMade (length devices.items) (length schema.now.types)) }
     {
@@ -111,7 +114,8 @@ impl Store {
     /// `StoreFailed` before `GenerationsSpent`.
     pub fn ready(&self) -> Result<(), StoreFault>
         ensures failed { have_failed (map (λ b. failures b) self.now.devices.items) ≡ true → result ≡ Err fault.StoreFailed }
-        ensures spent { have_failed (map (λ b. failures b) self.now.devices.items) ≡ false → 2 ^ 32 ≤ self.now.next → result ≡ Err fault.GenerationsSpent }
+        ensures spent { have_failed (map (λ b. failures b) self.now.devices.items) ≡ false
+            → 2 ^ 32 ≤ self.now.next → result ≡ Err fault.GenerationsSpent }
         ensures ok { OnOk result (have_failed (map (λ b. failures b) self.now.devices.items) ≡ false) }
         ensures left { OnOk result (self.now.next < 2 ^ 32) }
         ensures none { have_failed (map (λ b. failures b) self.now.devices.items) ≡ false → self.now.next < 2 ^ 32 → IsOk result }
@@ -142,12 +146,17 @@ impl Store {
     /// call answers `StoreFailed`.
     pub fn append_image(&mut self, table: &StableTable) -> Result<u32, StoreFault>
         requires { table.now.schema ≡ self.old.schema }
-        ensures answer { Appends table.now (record { contents = map (λ b. contents b) self.old.devices.items; failed = have_failed (map (λ b. failures b) self.old.devices.items); next = self.old.next }) result (record { contents = map (λ b. contents b) self.new.devices.items; failed = have_failed (map (λ b. failures b) self.new.devices.items); next = self.new.next }) }
+        ensures answer { let taken = taken_by (λ b. contents b) (λ b. failures b) in
+            Appends table.now (taken self.old.devices.items self.old.next) result (taken self.new.devices.items self.new.next) }
 
         // Where an image may follow what the devices took, they store the table under its generation then; after a failure
         // what they stored before, or that.
-        ensures stored { MayFollow self.old.schema (record { contents = map (λ b. contents b) self.old.devices.items; failed = have_failed (map (λ b. failures b) self.old.devices.items); next = self.old.next }) → Stores self.old.schema table.now (record { contents = map (λ b. contents b) self.old.devices.items; failed = have_failed (map (λ b. failures b) self.old.devices.items); next = self.old.next }) result (record { contents = map (λ b. contents b) self.new.devices.items; failed = have_failed (map (λ b. failures b) self.new.devices.items); next = self.new.next }) }
-        ensures ready { MayFollow self.old.schema (record { contents = map (λ b. contents b) self.old.devices.items; failed = have_failed (map (λ b. failures b) self.old.devices.items); next = self.old.next }) → MayFollow self.new.schema (record { contents = map (λ b. contents b) self.new.devices.items; failed = have_failed (map (λ b. failures b) self.new.devices.items); next = self.new.next }) }
+        ensures stored { let taken = taken_by (λ b. contents b) (λ b. failures b) in
+            MayFollow self.old.schema (taken self.old.devices.items self.old.next)
+            → Stores self.old.schema table.now (taken self.old.devices.items self.old.next) result (taken self.new.devices.items self.new.next) }
+        ensures ready { let taken = taken_by (λ b. contents b) (λ b. failures b) in
+            MayFollow self.old.schema (taken self.old.devices.items self.old.next)
+            → MayFollow self.new.schema (taken self.new.devices.items self.new.next) }
         ensures schema { self.new.schema ≡ self.old.schema }
     {
         self.ready()?;

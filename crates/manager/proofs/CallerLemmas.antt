@@ -1,5 +1,5 @@
 -- What the crates above cite of this one, in one place. Declares nothing.
-pub use Rattle.manager.proofs.HistoryLemmas.{above_base, commits_from-append, granted_when, newest_whole, newest_within}
+pub use Rattle.manager.proofs.HistoryLemmas.{above_base, commits_from-append, granted_when, newest_whole, newest_within, own_over}
 pub use Rattle.manager.proofs.HistoryLemmas.{recorded_is, table_with_all-later, table_with_all-one, take_length}
-pub use Rattle.manager.proofs.CheckpointLemmas.{has_taken}
+pub use Rattle.manager.proofs.FoldLemmas.{has_folded}
 pub use Rattle.manager.proofs.CutLemmas.{IsOwn-cut_of}

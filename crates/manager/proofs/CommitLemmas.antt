@@ -11,14 +11,14 @@ use Rattle.model.specs.Clashes.{conflicts}
 use Rattle.model.specs.History.{table_with_all}
 use Rattle.delta.specs.Tree.{Tree}
 use Rattle.txn.specs.Txn.{Transaction, IsTransaction, effects_of}
-use Rattle.txn.specs.Version.{Lower, TableVersion, version_of}
-use Rattle.manager.specs.Managed.{Managed, newest_table, newest_number, IsOwn, is_too_old, commits_in, commits_since, reply_due, record_of, with_record}
+use Rattle.txn.specs.Version.{Lower, LayeredVersion, numbered}
+use Rattle.manager.specs.Managed.{Managed, newest_table, newest_number, IsOwn, is_too_old, commits_in, commits_since, reply_due, record_of, with_record, with_layers}
 use Rattle.manager.specs.Kept.{HoldsNewest, commit_trees}
 use Rattle.manager.specs.Prepared.{LeavesTable, Granted, IsGrant}
-use Rattle.manager.proofs.HistoryLemmas.{granted_when, next_managed, refused_commits, granted_commits, table_with_all-one}
+use Rattle.manager.proofs.HistoryLemmas.{granted_when, managed_over, next_managed, refused_commits, granted_commits, table_with_all-one}
 use Rattle.manager.proofs.KeptLemmas.{kept_next}
 
-module _ (m : Managed) (l : Lower) (newest : TableVersion) (kept : List Tree) (h : HoldsNewest m l newest kept) (txn : Transaction) (k : IsTransaction txn) (own : IsOwn m txn) (few : m.made < 2 ^ 62) where
+module _ (m : Managed) (l : Lower) (newest : LayeredVersion) (kept : List Tree) (h : HoldsNewest m l newest kept) (txn : Transaction) (k : IsTransaction txn) (own : IsOwn m txn) (few : m.made < 2 ^ 62) where
   -- a commit that leaves the table
   pub refused_holds : (reply : CommitReply) → reply ≡ reply_due m txn → LeavesTable reply → HoldsNewest (with_record m (record_of txn reply)) l newest kept
   refused_holds reply due leaves_it =
@@ -27,13 +27,13 @@ module _ (m : Managed) (l : Lower) (newest : TableVersion) (kept : List Tree) (h
         lawful = next_managed m h.lawful txn k own reply due few;
         folded = h.folded;
         newest_is = h.newest_is ∙ (λ i. record { schema = m.schema; table = table_with_all m.start.table (same i); number = m.start.base + length (same i) });
-        layers_are = h.layers_are ∙ (λ i. version_of l (m.start.base + length (same i)));
+        layers_are = h.layers_are ∙ (λ i. numbered l (m.start.base + length (same i)));
         kept_are = h.kept_are ∙ (λ i. keep_last m.start.recent (commit_trees m.schema m.start.table (same i)));
       }
 
   -- and one that is granted
   pub granted_holds : (grant : Granted) → Committed (suc (newest_number m)) ≡ reply_due m txn → IsGrant m (effects_of txn) grant →
-      HoldsNewest (with_record m (record_of txn (Committed (suc (newest_number m))))) grant.layers grant.version (keep_last m.start.recent (kept ++ grant.tree ∷ []))
+      HoldsNewest (with_layers (with_record m (record_of txn (Committed (suc (newest_number m))))) grant.layers) grant.layers grant.version (keep_last m.start.recent (kept ++ grant.tree ∷ []))
   granted_holds grant due is =
       let x = effects_of txn in
       let clash = list_any (conflicts m.start.rule x) (commits_since m txn) in
@@ -44,13 +44,13 @@ module _ (m : Managed) (l : Lower) (newest : TableVersion) (kept : List Tree) (h
       let number : suc (newest_number m) ≡ m.start.base + length (commits_in m ++ x ∷ []) = omega (arith, one) in
       let table = sym (table_with_all-one m.start.table (commits_in m) x) in
       record {
-        lawful = next_managed m h.lawful txn k own (Committed (suc (newest_number m))) due few;
+        lawful = managed_over (with_record m (record_of txn (Committed (suc (newest_number m))))) grant.layers (next_managed m h.lawful txn k own (Committed (suc (newest_number m))) due few);
         folded = is.folded;
         newest_is =
             is.version_is
             ∙ (λ i. record { schema = m.schema; table = table i; number = number i })
             ∙ (λ i. record { schema = m.schema; table = table_with_all m.start.table (more i); number = m.start.base + length (more i) });
-        layers_are = is.layers_are ∙ ap (version_of grant.layers) (number ∙ (λ i. m.start.base + length (more i)));
+        layers_are = is.layers_are ∙ ap (numbered grant.layers) (number ∙ (λ i. m.start.base + length (more i)));
         kept_are =
             ap (λ (ts : List Tree). keep_last m.start.recent (ts ++ grant.tree ∷ [])) h.kept_are
             ∙ kept_next m.schema m.start.table (commits_in m) m.start.recent x grant.tree is.tree_is

@@ -6,13 +6,13 @@ use Rattle.model.specs.History.{table_with_all, table_after}
 use Rattle.model.proofs.CallerLemmas.{leaves}
 use Rattle.delta.specs.Tree.{Tree}
 use Rattle.txn.specs.Txn.{Transaction}
-use Rattle.txn.specs.Version.{Lower, TableVersion, version_of}
+use Rattle.txn.specs.Version.{Lower, LayeredVersion, numbered}
 use Rattle.manager.specs.Managed.{Managed, newest_table, newest_number, commits_in, cut_of, IsOwn}
 use Rattle.manager.specs.Kept.{HoldsNewest}
 use Rattle.manager.proofs.HistoryLemmas.{newest_within, newest_whole, number_fits, take_nothing}
 use Rattle.manager.proofs.GrantLemmas.{schema_is, folded_table, written_is, drop-none}
 
-module _ (m : Managed) (l : Lower) (newest : TableVersion) (kept : List Tree) (h : HoldsNewest m l newest kept) where
+module _ (m : Managed) (l : Lower) (newest : LayeredVersion) (kept : List Tree) (h : HoldsNewest m l newest kept) where
   pub newest_IsTable : IsTable m.schema (newest_table m)
   newest_IsTable =
       let middle = h.folded.lower.middle in
@@ -38,7 +38,7 @@ module _ (m : Managed) (l : Lower) (newest : TableVersion) (kept : List Tree) (h
         };
         folded = h.folded;
         newest_is = h.newest_is ∙ (λ i. record { schema = m.schema; table = newest_table m; number = same_number i });
-        layers_are = h.layers_are ∙ ap (version_of l) same_number;
+        layers_are = h.layers_are ∙ ap (numbered l) same_number;
         kept_are = sym (drop-none (0 - m.start.recent));
       }
 

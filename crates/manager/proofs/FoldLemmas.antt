@@ -13,9 +13,11 @@ use Rattle.delta.proofs.CallerLemmas.{inserts_few}
 use Rattle.layers.specs.Over.{tree_of, AreConsecutive}
 use Rattle.layers.specs.Propagation.{composed_tree}
 use Rattle.stable.specs.Stable.{table_in}
-use Rattle.txn.specs.Version.{Lower, TableVersion, lower_table, version_of, empty_tree}
+use Rattle.txn.specs.Version.{Lower, LayeredVersion, lower_table, version_of, empty_tree}
 use Rattle.txn.proofs.CallerLemmas.{lower_table_is, no_layer}
-use Rattle.manager.specs.Managed.{Managed, newest_table}
+use Rattle.manager.specs.Layers.{AreMerged}
+use Rattle.manager.specs.Managed.{Managed, HasFolded, newest_table, with_layers}
+use Rattle.manager.specs.Layered.{Layered, IsFolded}
 use Rattle.manager.specs.Kept.{AreFolded, HoldsNewest}
 use Rattle.manager.proofs.HistoryLemmas.{newest_within}
 use Rattle.manager.proofs.GrantLemmas.{limited, schema_is, folded_table, written_is}
@@ -26,7 +28,13 @@ pub merged_in : (below above lower upper folded : Tree) → below ≡ lower → 
 merged_in below above lower upper folded lower_is upper_is told =
     subst (λ (e : Tree × Tree). (w : AreConsecutive e.0 e.1) → folded ≡ composed_tree e.0 e.1 w) (λ i. (lower_is i, upper_is i)) told
 
-module _ (m : Managed) (l : Lower) (newest : TableVersion) (kept : List Tree) (h : HoldsNewest m l newest kept) where
+-- a manager over the layers of a prepared fold
+pub has_folded : (old new : Managed) (folded : Layered) → IsFolded old folded → new ≡ with_layers old folded.layers → HasFolded old new
+has_folded old new folded h is =
+    let layers = sym (ap (λ (m : Managed). m.layers) is) in
+    record { kept = is ∙ ap (with_layers old) layers; layers = subst (AreMerged old.layers) layers h.merged }
+
+module _ (m : Managed) (l : Lower) (newest : LayeredVersion) (kept : List Tree) (h : HoldsNewest m l newest kept) where
   -- the effects of both trees
   abbrev pub all_effects : Effects
   all_effects = composed_effects h.folded.lower.lower.effects h.folded.lower.middle.effects

@@ -16,7 +16,7 @@ use Rattle.delta.proofs.CallerLemmas.{inserts_few}
 use Rattle.layers.specs.Over.{tree_of, AreConsecutive}
 use Rattle.layers.specs.Propagation.{composed_tree}
 use Rattle.stable.specs.Stable.{Stable, IsStable, table_in}
-use Rattle.txn.specs.Version.{Lower, TableVersion, alone, lower_table, version_of, version_at}
+use Rattle.txn.specs.Version.{Lower, TableVersion, alone, lower_table, version_of, LayeredVersion, numbered, table_version}
 use Rattle.txn.proofs.CallerLemmas.{lower_table_is, no_layer, version_of-alone}
 use Rattle.manager.specs.Managed.{Managed, newest_table, opened, is_bad_limit, IsManaged}
 use Rattle.manager.specs.Kept.{AreFolded, HoldsNewest}
@@ -30,12 +30,12 @@ pub folded_in : (lower write tree folded : Tree) → lower ≡ write → ((w : A
     (w : AreConsecutive write tree) → folded ≡ composed_tree write tree w
 folded_in lower write tree folded is told = subst (λ (t : Tree). (w : AreConsecutive t tree) → folded ≡ composed_tree t tree w) is told
 
-module _ (m : Managed) (l : Lower) (newest : TableVersion) (kept : List Tree) (h : HoldsNewest m l newest kept) where
+module _ (m : Managed) (l : Lower) (newest : LayeredVersion) (kept : List Tree) (h : HoldsNewest m l newest kept) where
   pub schema_is : l.stable.schema ≡ m.schema
-  schema_is = ap (λ (v : TableVersion). v.schema) (sym h.layers_are ∙ h.newest_is)
+  schema_is = ap (λ (v : TableVersion). v.schema) (sym (ap table_version h.layers_are) ∙ h.newest_is)
 
   pub table_is : lower_table l ≡ newest_table m
-  table_is = ap (λ (v : TableVersion). v.table) (sym h.layers_are ∙ h.newest_is)
+  table_is = ap (λ (v : TableVersion). v.table) (sym (ap table_version h.layers_are) ∙ h.newest_is)
 
   abbrev pub folded_table : Table
   folded_table = table_with (table_in l.stable) h.folded.lower.lower.effects
@@ -131,7 +131,7 @@ alone_folded s h =
     }
 
 pub opened_holds : (s : Stable) (limit recent : ℕ) (rule : ConflictRule) → IsStable s → IsSchema s.schema → length s.rows ≤ limit → limit ≤ MAX_ROWS →
-    HoldsNewest (opened s limit recent rule) (alone s) (version_at s 0) []
+    HoldsNewest (opened s limit recent rule) (alone s) (numbered (alone s) 0) []
 opened_holds s limit recent rule h lawful within most =
     let rows : length (table_in s) ≡ length s.rows = length-map _ _ in
     let none : ◌≡◌ {A = ℕ} 0 (0 + 0) = omega arith in
@@ -146,7 +146,7 @@ opened_holds s limit recent rule h lawful within most =
         few = omega arith;
       };
       folded = alone_folded s h;
-      newest_is = λ i. record { schema = s.schema; table = table_in s; number = none i };
-      layers_are = ap (version_at s) none ∙ sym (version_of-alone s (0 + 0));
+      newest_is = version_of-alone s 0 ∙ (λ i. record { schema = s.schema; table = table_in s; number = none i });
+      layers_are = ap (numbered (alone s)) none;
       kept_are = sym (drop-none (0 - recent));
     }

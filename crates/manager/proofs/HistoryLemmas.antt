@@ -15,8 +15,9 @@ use Rattle.model.specs.Laws.{AreCommits}
 use Rattle.model.specs.History.{Start, Record, table_with_all, table_after, due_reply, commits_with, commits_after, commits_from, effects_of_record, IsLegalRecord, IsLegalFrom}
 use Rattle.model.proofs.CallerLemmas.{fits_newest, commits_fit, length-table_after, due_reply-cut, AreCommits-drop, table_with_all-drop}
 use Rattle.txn.specs.Txn.{Transaction, effects_of, asked_of, IsTransaction}
+use Rattle.txn.specs.Version.{Lower}
 use Rattle.txn.proofs.CallerLemmas.{over}
-use Rattle.manager.specs.Managed.{Managed, commits_in, newest_table, newest_number, IsManaged, IsOwn, is_too_old, commits_since, reply_due, record_of, with_record}
+use Rattle.manager.specs.Managed.{Managed, commits_in, newest_table, newest_number, IsManaged, IsOwn, is_too_old, commits_since, reply_due, record_of, with_record, with_layers}
 use Rattle.manager.specs.Prepared.{LeavesTable}
 
 pub take_length : {A : Type 0} (xs : List A) → take (length xs) xs ≡ xs
@@ -154,6 +155,22 @@ granted_when true clash full n k h = cc h
 granted_when false true full n k h = cc h
 granted_when false false true n k h = cc h
 granted_when false false false n k h = (refl, (refl, refl))
+
+-- what a manager keeps isn't about its layers
+pub managed_over : (m : Managed) (l : Lower) → IsManaged m → IsManaged (with_layers m l)
+managed_over m l h = record {
+  lawful = h.lawful;
+  table = h.table;
+  within = h.within;
+  limited = h.limited;
+  legal = h.legal;
+  counted = h.counted;
+  few = h.few;
+}
+
+-- nor is a transaction of it
+pub own_over : (m : Managed) (l : Lower) (txn : Transaction) → IsOwn m txn → IsOwn (with_layers m l) txn
+own_over m l txn own = record { schema = own.schema; limit = own.limit; begun = own.begun; snapshot = own.snapshot }
 
 module _ (m : Managed) (h : IsManaged m) (txn : Transaction) (k : IsTransaction txn) (own : IsOwn m txn) (reply : CommitReply) (due : reply ≡ reply_due m txn) where
   -- the effects of its record are its own, from the base on

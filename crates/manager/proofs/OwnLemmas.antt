@@ -15,7 +15,7 @@ use Rattle.delta.proofs.CallerLemmas.{inserts_few, rows_after}
 use Rattle.layers.specs.Over.{tree_of}
 use Rattle.txn.specs.Txn.{Transaction, IsTransaction, effects_of}
 use Rattle.txn.specs.Txn as transaction
-use Rattle.txn.specs.Version.{Lower, TableVersion}
+use Rattle.txn.specs.Version.{Lower, LayeredVersion}
 use Rattle.txn.proofs.CallerLemmas.{over, image_within}
 use Rattle.manager.specs.Managed.{Managed, newest_table, newest_number, IsOwn, is_too_old, commits_in, commits_since, reply_due}
 use Rattle.manager.specs.Kept.{HoldsNewest, commit_trees, kept_trees}
@@ -29,7 +29,7 @@ pub if_ok : {A E : Type 0} {P Q : A → Type 0} (r : Result A E) → ((x : A) �
 if_ok (Ok x) f h = f x h
 if_ok (Err e) f h = h
 
-module _ (m : Managed) (l : Lower) (newest : TableVersion) (kept : List Tree) (h : HoldsNewest m l newest kept) (txn : Transaction) (own : IsOwn m txn) (recent : is_too_old m txn ≡ false) where
+module _ (m : Managed) (l : Lower) (newest : LayeredVersion) (kept : List Tree) (h : HoldsNewest m l newest kept) (txn : Transaction) (own : IsOwn m txn) (recent : is_too_old m txn ≡ false) where
   -- how many commits came since it began, from the base on
   since_is : newest_number m - txn.begin ≡ length (commits_in m) - (txn.begin - m.start.base)
   since_is = let above = above_base m txn own recent in let begun = own.begun in omega (arith, above, begun)

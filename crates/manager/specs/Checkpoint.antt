@@ -1,16 +1,12 @@
 -- A checkpoint: the newest table goes to a store, and becomes the stable table only once the store has it.
-use Rattle.std.specs.Prelude.{◌≡◌, ℕ, Result, Ok, Err}
+use Rattle.std.specs.Prelude.{ℕ, Result, Ok, Err}
 use Rattle.stable.specs.Stable.{Stable}
-use Rattle.devices.specs.Appending.{Taken, Appends, with_image}
+use Rattle.devices.specs.Appending.{Taken, Appends}
 use Rattle.devices.specs.declared.fault.StoreFault.{StoreFault}
 use Rattle.devices.specs.declared.fault.StoreFault.TheVariants as store
 use Rattle.manager.specs.Managed.{Managed, newest_stable}
 use Rattle.manager.specs.declared.fault.CheckpointFault.{CheckpointFault}
 use Rattle.manager.specs.declared.fault.CheckpointFault.TheVariants.{StoreFailed, GenerationsSpent, NoMemory, DeviceFailed}
-
--- the last image that the store took is that of the table, and none of its devices has failed
-abbrev pub HasTaken : Stable → Taken → Type 0
-HasTaken table taken = (before : Taken) × (taken ≡ with_image table before)
 
 -- the store's fault
 abbrev pub fault_of_store : CheckpointFault → StoreFault

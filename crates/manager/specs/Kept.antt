@@ -8,7 +8,7 @@ use Rattle.model.specs.Effects.{Effects, table_with}
 use Rattle.delta.specs.Tree.{Tree}
 use Rattle.layers.specs.Over.{tree_of}
 use Rattle.stable.specs.Stable.{table_in}
-use Rattle.txn.specs.Version.{Lower, AreLower, TableVersion, version_of}
+use Rattle.txn.specs.Version.{Lower, AreLower, LayeredVersion, numbered, table_version}
 use Rattle.manager.specs.Managed.{Managed, IsManaged, commits_in, newest_number, newest_version}
 
 -- the tree of each commit, over the table that it found
@@ -26,9 +26,9 @@ pub record AreFolded (l : Lower) : Type 0 where
   pub stable_few : length l.stable.rows ≤ MAX_ROWS
   pub few : length (table_with (table_in l.stable) lower.lower.effects) ≤ MAX_ROWS
 
-pub record HoldsNewest (m : Managed) (l : Lower) (newest : TableVersion) (kept : List Tree) : Type 0 where
+pub record HoldsNewest (m : Managed) (l : Lower) (newest : LayeredVersion) (kept : List Tree) : Type 0 where
   pub lawful : IsManaged m
   pub folded : AreFolded l
-  pub newest_is : newest ≡ newest_version m
-  pub layers_are : newest ≡ version_of l (newest_number m)
+  pub newest_is : table_version newest ≡ newest_version m
+  pub layers_are : newest ≡ numbered l (newest_number m)
   pub kept_are : kept ≡ kept_trees m

@@ -1,4 +1,5 @@
 pub mod History
+pub mod Layers
 pub mod Managed
 pub mod Kept
 pub mod Held

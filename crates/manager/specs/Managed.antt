@@ -1,4 +1,4 @@
--- What a manager stands for: where its history starts, the history, and how many records it made.
+-- What a manager stands for: where its history starts, the history, how many records it made, and the layers of its newest version.
 use Rattle.std.specs.Prelude.{◌≡◌, ℕ, suc, ◌+◌, ◌-◌, ◌≤◌, ◌^◌, ◌==◌, nat_lt, Bool, ◌||◌, cond, Option, Some, None, List, [], ◌∷◌, ◌++◌, length, drop}
 use Rattle.values.specs.Shape.{Columns, IsSchema}
 use Rattle.values.specs.declared.limits.TheConstants.{MAX_ROWS, MAX_RECENT_COMMITS}
@@ -9,7 +9,8 @@ use Rattle.model.specs.Effects.{Effects}
 use Rattle.model.specs.History.{Start, Record, IsLegal, commits_of, table_after, table_with_all, due_reply}
 use Rattle.stable.specs.Stable.{Stable, table_in}
 use Rattle.txn.specs.Txn.{Transaction, effects_of}
-use Rattle.txn.specs.Version.{TableVersion}
+use Rattle.txn.specs.Version.{Lower, TableVersion, alone}
+use Rattle.manager.specs.Layers.{AreLayersAfter, AreMerged}
 use Rattle.manager.specs.History.{Recorded, recorded_at, start_at}
 use Rattle.manager.specs.declared.fault.OpenFault.{OpenFault}
 use Rattle.manager.specs.declared.fault.OpenFault.TheVariants.{BadLimit, TooManyRows}
@@ -20,18 +21,20 @@ pub record Managed : Type 0 where
   pub history : List Record
   -- how many records it made since its opening
   pub made : ℕ
+  -- the layers of its newest version
+  pub layers : Lower
 
--- the manager of a history that made so many records
-abbrev pub managed_of : Recorded → ℕ → Managed
-managed_of h made = record { schema = h.schema; start = h.start; history = h.records; made = made }
+-- the manager of a history that made so many records, over these layers
+abbrev pub managed_of : Recorded → ℕ → Lower → Managed
+managed_of h made layers = record { schema = h.schema; start = h.start; history = h.records; made = made; layers = layers }
 
 -- the history of a manager
 abbrev pub history_of : Managed → Recorded
 history_of m = record { schema = m.schema; start = m.start; records = m.history }
 
--- the manager of a stable table that has just been opened: its numbers count from 0
+-- the manager of a stable table that has just been opened: its numbers count from 0, and its trees have no entries
 abbrev pub opened : Stable → ℕ → ℕ → ConflictRule → Managed
-opened s limit recent rule = managed_of (recorded_at (record { schema = s.schema; table = table_in s; number = 0 }) limit recent rule []) 0
+opened s limit recent rule = managed_of (recorded_at (record { schema = s.schema; table = table_in s; number = 0 }) limit recent rule []) 0 (alone s)
 
 -- the effects that were committed since the start, in order
 abbrev pub commits_in : Managed → List Effects
@@ -98,6 +101,10 @@ fault_of_opening s recent limit =
 abbrev pub with_record : Managed → Record → Managed
 with_record m r = record m { history = m.history ++ r ∷ []; made = suc m.made }
 
+-- the manager over other layers
+abbrev pub with_layers : Managed → Lower → Managed
+with_layers m layers = record m { layers = layers }
+
 -- the manager after a cut: its history starts at the newest version
 abbrev pub cut_of : Managed → Managed
 cut_of m = record m { start = start_at (newest_version m) m.start.limit m.start.recent m.start.rule; history = [] }
@@ -113,7 +120,18 @@ begun_at m client = record {
   writes = [];
 }
 
--- a commit is decided: it gets the reply that is due, and its record joins the history
+-- a commit is decided: it gets the reply that is due, its record joins the history, and where it is granted its effects go
+-- into the Write-PDT
 pub record IsDecided (old : Managed) (txn : Transaction) (reply : CommitReply) (new : Managed) : Type 0 where
   pub due : reply ≡ reply_due old txn
-  pub kept : new ≡ with_record old (record_of txn reply)
+  pub kept : new ≡ with_layers (with_record old (record_of txn reply)) new.layers
+  pub layers : AreLayersAfter old.layers (effects_of txn) reply new.layers
+
+-- a fold: the Write-PDT has gone into the Read-PDT, and all else is as it was
+pub record HasFolded (old new : Managed) : Type 0 where
+  pub kept : new ≡ with_layers old new.layers
+  pub layers : AreMerged old.layers new.layers
+
+-- the manager after a checkpoint: the newest rows are the stable table, under no entries
+abbrev pub rebuilt_of : Managed → Managed
+rebuilt_of m = with_layers m (alone (newest_stable m))

@@ -8,15 +8,16 @@ use Rattle.model.specs.Effects.{Effects, AreOver, table_with}
 use Rattle.delta.specs.Tree.{Tree}
 use Rattle.layers.specs.Over.{tree_of}
 use Rattle.txn.specs.Txn.{Transaction, effects_of}
-use Rattle.txn.specs.Version.{Lower, TableVersion, version_of}
+use Rattle.txn.specs.Version.{Lower, LayeredVersion, numbered, table_version}
 use Rattle.manager.specs.Managed.{Managed, commits_since, newest_table, newest_number, reply_due}
+use Rattle.manager.specs.Layers.{AreWritten}
 use Rattle.manager.specs.Kept.{AreFolded}
 
 -- the version after a commit, its layers, and the commit's tree over the table that it found
 pub record Granted : Type 0 where
   pub tree : Tree
   pub layers : Lower
-  pub version : TableVersion
+  pub version : LayeredVersion
 
 -- the reply to a commit, and what it installs
 pub record Prepared : Type 0 where
@@ -24,7 +25,7 @@ pub record Prepared : Type 0 where
   pub granted : Option Granted
 
 -- the version that it installs
-abbrev pub version_in : Prepared → Option TableVersion
+abbrev pub version_in : Prepared → Option LayeredVersion
 version_in p = option_map (λ g. g.version) p.granted
 
 -- whether a reply leaves the table
@@ -51,8 +52,9 @@ pub record MayGrant (m : Managed) (tree : Tree) : Type 0 where
 pub record IsGrant (m : Managed) (x : Effects) (granted : Granted) : Type 0 where
   pub tree_is : granted.tree ≡ tree_of m.schema (newest_table m) x
   pub folded : AreFolded granted.layers
-  pub version_is : granted.version ≡ record { schema = m.schema; table = table_with (newest_table m) x; number = suc (newest_number m) }
-  pub layers_are : granted.version ≡ version_of granted.layers (suc (newest_number m))
+  pub written : AreWritten m.layers x granted.layers
+  pub version_is : table_version granted.version ≡ record { schema = m.schema; table = table_with (newest_table m) x; number = suc (newest_number m) }
+  pub layers_are : granted.version ≡ numbered granted.layers (suc (newest_number m))
 
 -- what is installed with a reply: the next version where the transaction is committed, or nothing
 abbrev pub IsInstalled : Managed → Transaction → CommitReply → Option Granted → Type 0

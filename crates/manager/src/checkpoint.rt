@@ -1,10 +1,10 @@
 //! The checkpoint: the newest image goes to a store, and is then the stable table. No table changes.
-ghost use Rattle.std.specs.Prelude.{◌≡◌, ◌≢◌, IfOk, map};
-ghost use Rattle.devices.specs.Appending.{MayFollow, Stores};
-ghost use Rattle.devices.specs.Store.{have_failed};
+ghost use Rattle.std.specs.Prelude.{◌≡◌, ◌≢◌, IfOk, MatchResult};
+ghost use Rattle.devices.specs.Appending.{MayFollow, Stores, taken_by};
 ghost use Rattle.devices.specs.declared.fault.StoreFault.TheVariants as store_fault;
 ghost use Rattle.manager.specs.Checkpoint.{answer_of_store, fault_of_store};
-ghost use Rattle.manager.specs.Managed.{newest_stable};
+ghost use Rattle.manager.specs.Managed.{IsOwn, newest_stable, rebuilt_of};
+ghost use Rattle.txn.specs.Txn.{Transaction};
 
 use crate::fault::CheckpointFault;
 use crate::manager::{Held, Manager};
@@ -47,7 +47,7 @@ impl Rebuilt {
 }
 
 impl Manager {
-    ghost use Rattle.manager.specs.Checkpoint.{Checkpoints, HasTaken};
+    ghost use Rattle.manager.specs.Checkpoint.{Checkpoints};
     ghost use Rattle.manager.specs.Layered.{IsRebuilt};
 
     /// Writes the newest image to the store, and answers its generation. The image is the stable table then, and the
@@ -61,13 +61,20 @@ impl Manager {
     /// to this store answers `StoreFailed`. The manager keeps the layers that it had.
     pub fn checkpoint(&mut self, store: &mut Store) -> Result<u32, CheckpointFault>
         requires { store.old.schema ≡ self.old.schema }
-        ensures kept { self.new ≡ self.old }
-        ensures answer { Checkpoints self.old (record { contents = map (λ b. contents (b.vtable, b.value)) store.old.devices.items; failed = have_failed (map (λ b. failures (b.vtable, b.value)) store.old.devices.items); next = store.old.next }) result (record { contents = map (λ b. contents (b.vtable, b.value)) store.new.devices.items; failed = have_failed (map (λ b. failures (b.vtable, b.value)) store.new.devices.items); next = store.new.next }) }
+        ensures rebuilt { MatchResult result (λ _. self.new ≡ rebuilt_of self.old) (λ _. self.new ≡ self.old) }
+        ensures own { (txn : Transaction) → IsOwn self.old txn → IsOwn self.new txn }
+        ensures answer { let taken = taken_by (λ b. contents (b.vtable, b.value)) (λ b. failures (b.vtable, b.value)) in
+            Checkpoints self.old (taken store.old.devices.items store.old.next) result (taken store.new.devices.items store.new.next) }
 
         // Where an image may follow what the devices took, they store the newest table under its generation then; after a
         // failure what they stored before, or that.
-        ensures stored { MayFollow self.old.schema (record { contents = map (λ b. contents (b.vtable, b.value)) store.old.devices.items; failed = have_failed (map (λ b. failures (b.vtable, b.value)) store.old.devices.items); next = store.old.next }) → Stores self.old.schema (newest_stable self.old) (record { contents = map (λ b. contents (b.vtable, b.value)) store.old.devices.items; failed = have_failed (map (λ b. failures (b.vtable, b.value)) store.old.devices.items); next = store.old.next }) (answer_of_store result) (record { contents = map (λ b. contents (b.vtable, b.value)) store.new.devices.items; failed = have_failed (map (λ b. failures (b.vtable, b.value)) store.new.devices.items); next = store.new.next }) }
-        ensures ready { MayFollow store.old.schema (record { contents = map (λ b. contents (b.vtable, b.value)) store.old.devices.items; failed = have_failed (map (λ b. failures (b.vtable, b.value)) store.old.devices.items); next = store.old.next }) → MayFollow store.new.schema (record { contents = map (λ b. contents (b.vtable, b.value)) store.new.devices.items; failed = have_failed (map (λ b. failures (b.vtable, b.value)) store.new.devices.items); next = store.new.next }) }
+        ensures stored { let taken = taken_by (λ b. contents (b.vtable, b.value)) (λ b. failures (b.vtable, b.value)) in
+            MayFollow self.old.schema (taken store.old.devices.items store.old.next)
+            → Stores self.old.schema (newest_stable self.old) (taken store.old.devices.items store.old.next) (answer_of_store result)
+            (taken store.new.devices.items store.new.next) }
+        ensures ready { let taken = taken_by (λ b. contents (b.vtable, b.value)) (λ b. failures (b.vtable, b.value)) in
+            MayFollow store.old.schema (taken store.old.devices.items store.old.next)
+            → MayFollow store.new.schema (taken store.new.devices.items store.new.next) }
         ensures schema { store.new.schema ≡ store.old.schema }
     {
         // A store that can't take the image is told before the image is made.
@@ -77,7 +84,7 @@ impl Manager {
         let rebuilt = self.prepare_checkpoint()?;
         match store.append_image(rebuilt.table()) {
             Ok(generation) => {
-                self.install_checkpoint(rebuilt, store);
+                self.install_checkpoint(rebuilt);
                 Ok(generation)
             }
             Err(fault) => Err(CheckpointFault::of_store(fault)),
@@ -99,12 +106,11 @@ impl Manager {
         Ok(Rebuilt { held, version })
     }
 
-    /// Installs a checkpoint that was prepared while the history was as it is, once the store has its table. Takes no
-    /// memory, and no time but for what goes.
-    pub fn install_checkpoint(&mut self, rebuilt: Rebuilt, store: &Store)
-        requires prepared { IsRebuilt self.old rebuilt }
-        requires taken { HasTaken rebuilt.layers.stable (record { contents = map (λ b. contents (b.vtable, b.value)) store.now.devices.items; failed = have_failed (map (λ b. failures (b.vtable, b.value)) store.now.devices.items); next = store.now.next }) }
-        ensures kept { self.new ≡ self.old }
+    /// Installs a checkpoint that was prepared while the history was as it is. Whoever calls it has had a store take its
+    /// table. Takes no memory, and no time but for what goes.
+    pub fn install_checkpoint(&mut self, rebuilt: Rebuilt)
+        requires { IsRebuilt self.old rebuilt }
+        ensures { self.new ≡ rebuilt_of self.old }
     {
         let Rebuilt { held, version } = rebuilt;
         self.held = held;

@@ -1,6 +1,6 @@
 //! The commit of a transaction: decided by position against the trees of the commits since it began, and folded into
 //! the Write-PDT.
-ghost use Rattle.std.specs.Prelude.{◌≡◌, ◌<◌, ◌^◌, IsFalse, IsTrue, IfOk, IfErr, IsOk};
+ghost use Rattle.std.specs.Prelude.{◌≡◌, ◌<◌, ◌^◌, IsFalse, IsTrue, IfOk, IfErr, IfSome, IsOk};
 ghost use Rattle.std.specs.Option.{option_copied};
 ghost use Rattle.txn.specs.Txn.{IsTransaction};
 
@@ -148,7 +148,10 @@ impl Manager {
     pub fn install(&mut self, txn: Txn, prepared: Prepared) -> CommitReply
         requires own { IsOwn self.old txn }
         requires prepared { IsPrepared self.old txn prepared }
-        ensures { IsDecided self.old txn result self.new }
+        ensures decided { IsDecided self.old txn result self.new }
+
+        // The version that was prepared is the newest one.
+        ensures layers { IfSome prepared.granted (λ granted. self.new.layers ≡ granted.layers) }
     {
         let Prepared { reply, grant } = prepared;
         self.history.enter(txn.into_record(reply));

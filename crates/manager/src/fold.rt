@@ -1,5 +1,6 @@
 //! The fold: the Write-PDT goes into the Read-PDT, and no table changes.
-ghost use Rattle.std.specs.Prelude.{◌≡◌, IfOk};
+ghost use Rattle.std.specs.Prelude.{◌≡◌, IfOk, MatchResult};
+ghost use Rattle.txn.specs.Txn.{Transaction};
 
 use crate::manager::{Held, Manager};
 use delta::DeltaTree;
@@ -37,6 +38,7 @@ impl Folded {
 
 impl Manager {
     ghost use Rattle.manager.specs.Layered.{IsFolded};
+    ghost use Rattle.manager.specs.Managed.{HasFolded, IsOwn, with_layers};
 
     /// Folds the Write-PDT into the Read-PDT (Héman et al. 2010, "Propagate"), and leaves an empty Write-PDT: commits
     /// after it are folded into a smaller tree. Neither the table nor an open transaction changes. Takes a copy of the
@@ -46,7 +48,8 @@ impl Manager {
     ///
     /// `NoMemory` where a growth is refused: the layers stay as they were.
     pub fn fold(&mut self) -> Result<(), NoMemory>
-        ensures kept { self.new ≡ self.old }
+        ensures folded { MatchResult result (λ _. HasFolded self.old self.new) (λ _. self.new ≡ self.old) }
+        ensures own { (txn : Transaction) → IsOwn self.old txn → IsOwn self.new txn }
     {
         let folded = self.prepare_fold()?;
         self.install_fold(folded);
@@ -76,7 +79,7 @@ impl Manager {
     /// Installs a fold that was prepared while the history was as it is. Takes no memory, and no time but for what goes.
     pub fn install_fold(&mut self, folded: Folded)
         requires prepared { IsFolded self.old folded }
-        ensures kept { self.new ≡ self.old }
+        ensures { self.new ≡ with_layers self.old folded.layers }
     {
         let Folded { held, version } = folded;
         self.held = held;

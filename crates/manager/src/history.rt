@@ -37,22 +37,24 @@ pub struct History {
 impl Model for History {
     ghost use Rattle.std.specs.Prelude.{◌≡◌};
     ghost use Rattle.model.specs.History.{IsLegal};
+    ghost use Rattle.txn.specs.Version.{table_version};
     ghost use Rattle.manager.specs.History.{Recorded, recorded_at, start_at};
 
     ghost Value = { Recorded };
 
-    ghost view = { λ h. recorded_at h.opening.value h.rules.row_limit h.rules.recent h.rules.conflicts h.records };
+    ghost view = { λ h. recorded_at (table_version h.opening.value) h.rules.row_limit h.rules.recent h.rules.conflicts h.records };
 
-    ghost invariant = { λ h. IsLegal h.opening.value.schema (start_at h.opening.value h.rules.row_limit h.rules.recent h.rules.conflicts) h.records
+    ghost invariant = { λ h. IsLegal h.opening.value.layers.stable.schema (start_at (table_version h.opening.value) h.rules.row_limit h.rules.recent h.rules.conflicts) h.records
         × (h.base ≡ h.opening.value.number) };
 }
 
 impl History {
+    ghost use Rattle.txn.specs.Version.{table_version};
     ghost use Rattle.manager.specs.History.{recorded_at};
 
     /// A history that starts at the version, with no records. Takes no memory.
     pub(crate) fn new(alloc: Global, opening: &Version, rules: Rules) -> History
-        ensures { result ≡ recorded_at opening.now rules.row_limit rules.recent rules.conflicts [] }
+        ensures { result ≡ recorded_at (table_version opening.now) rules.row_limit rules.recent rules.conflicts [] }
     {
         History {
             opening: Snapshot::of(opening),

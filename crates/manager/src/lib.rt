@@ -1,8 +1,9 @@
 //! The manager: it decides commits by position, and keeps the newest version and the history.
 //!
 //! *What a contract sees.* A manager is where its history starts (the table then, its number, the limits and the
-//! conflict rule), the history, and how many records it made. The newest table is a function of these. A history is its
-//! start and its records, which are legal from there on. What is prepared for a commit is its reply and the next version.
+//! conflict rule), the history, how many records it made, and the layers of its newest version. The newest table is a
+//! function of the history, and those layers make it. A history is its start and its records, which are legal from there
+//! on. What is prepared for a commit is its reply and the next version.
 //!
 //! *What it stands on.* `txn` for versions and transactions, `layers` for trees made consecutive and folded, `delta` for
 //! trees, `devices` for the store of a checkpoint, `model` for histories, `circular_buffer` for the trees of the last commits. No key of a row is compared.

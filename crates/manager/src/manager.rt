@@ -2,10 +2,10 @@
 ghost use Rattle.std.specs.Prelude.{◌≡◌, ◌≤◌, length, IfOk, IsOkUnless, MatchOption, Err};
 ghost use Rattle.manager.specs.declared.fault.OpenFault.{OpenFault};
 ghost use Rattle.manager.specs.Managed.{is_bad_limit};
-ghost use Rattle.merge.specs.Image.{image_rows};
+ghost use Rattle.merge.specs.Image.{image_rows, stack_below};
 ghost use Rattle.model.specs.Table.{rows_of};
 ghost use Rattle.stable.specs.Stable.{IsStable};
-ghost use Rattle.txn.specs.Version.{AreLower, alone, version_of};
+ghost use Rattle.txn.specs.Version.{AreLower, alone, numbered, table_version};
 ghost use Rattle.values.specs.Shape.{IsSchema};
 ghost use Rattle.values.specs.declared.limits.TheConstants.{MAX_ROWS};
 
@@ -54,7 +54,7 @@ impl Held {
     /// The version over these layers, which so many commits made.
     pub(crate) fn version(&self, alloc: Global, number: u64) -> Result<Version, NoMemory>
         requires { AreLower (layers_of self.now) }
-        ensures { IfOk result (λ version. version ≡ version_of (layers_of self.now) number) }
+        ensures { IfOk result (λ version. version ≡ numbered (layers_of self.now) number) }
     {
         Version::stacked(
             alloc,
@@ -83,19 +83,19 @@ pub struct Manager {
 impl Model for Manager {
     ghost use Rattle.std.specs.Prelude.{◌≡◌};
     ghost use Rattle.manager.specs.Managed.{Managed, managed_of};
+    ghost use Rattle.manager.specs.Held.{layers_of};
     ghost use Rattle.manager.specs.Kept.{HoldsNewest};
 
     ghost Value = { Managed };
 
-    ghost view = { λ m. managed_of m.history m.made };
+    ghost view = { λ m. managed_of m.history m.made (layers_of m.held) };
 
-    ghost invariant = { λ m. HoldsNewest (managed_of m.history m.made)
-        (record { stable = m.held.stable.value; read = m.held.read.value; write = m.held.write.value }) m.newest m.kept.items
+    ghost invariant = { λ m. HoldsNewest (managed_of m.history m.made (layers_of m.held)) (layers_of m.held) m.newest m.kept.items
         × (m.kept.capacity ≡ m.history.start.recent) };
 }
 
 impl Manager {
-    ghost use Rattle.manager.specs.Managed.{opened, fault_of_opening, begun_at, newest_table, newest_version, history_of, IsManaged};
+    ghost use Rattle.manager.specs.Managed.{opened, fault_of_opening, begun_at, newest_number, newest_table, newest_version, history_of, IsManaged};
 
     /// A manager of this table, whose numbers of commits count from 0, under a limit of its rows and of the commits that
     /// may come between a transaction's begin and its commit, and a rule of what conflicts.
@@ -166,13 +166,36 @@ impl Manager {
         ensures schema { result.schema ≡ self.now.schema }
         ensures rows { image_rows result ≡ rows_of (newest_table self.now) }
         ensures few { length (image_rows result) ≤ MAX_ROWS }
+        ensures layers { result ≡ stack_below self.now.layers.stable self.now.layers.read self.now.layers.write }
     {
         self.newest.image()
     }
 
+    /// The stable table under the newest version. Takes no memory.
+    pub fn stable(&self) -> &StableTable
+        ensures { result.now ≡ self.now.layers.stable }
+    {
+        &self.held.stable
+    }
+
+    /// The Read-PDT of the newest version. Takes no memory.
+    pub fn read_tree(&self) -> &DeltaTree
+        ensures { result.now ≡ self.now.layers.read }
+    {
+        &self.held.read
+    }
+
+    /// The Write-PDT of the newest version. Takes no memory.
+    pub fn write_tree(&self) -> &DeltaTree
+        ensures { result.now ≡ self.now.layers.write }
+    {
+        &self.held.write
+    }
+
     /// The newest version. Takes no memory.
     pub fn version(&self) -> &Version
-        ensures { result.now ≡ newest_version self.now }
+        ensures layers { result.now ≡ numbered self.now.layers (newest_number self.now) }
+        ensures table { table_version result.now ≡ newest_version self.now }
     {
         &self.newest
     }

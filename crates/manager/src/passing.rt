@@ -18,7 +18,8 @@ pub(crate) fn passed_through(
     conflicts: ConflictRule,
 ) -> Result<Option<DeltaTree>, NoMemory>
     requires { MayPass conflicts (drop first kept.now.items) tree }
-    ensures { IfOk result (λ passed. (w : MayPass conflicts (drop first kept.now.items) tree) → IsThrough conflicts (drop first kept.now.items) tree w passed) }
+    ensures { IfOk result (λ passed. (w : MayPass conflicts (drop first kept.now.items) tree)
+        → IsThrough conflicts (drop first kept.now.items) tree w passed) }
 {
     let mut tree = tree;
     for index in first..kept.len() {

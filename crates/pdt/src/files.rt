@@ -62,7 +62,7 @@ pub(crate) fn make_column(
 {
     let alloc = rt.alloc();
     let file = new_file(rt, column_path(alloc, dir, col)?.as_str())?;
-    let column = FileColumn::new(file, Vec::new(alloc))?;
+    let column = FileColumn::new(alloc, file)?;
     Ok(Box::new(alloc, column)?)
 }
 

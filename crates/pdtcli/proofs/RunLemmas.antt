@@ -1,6 +1,6 @@
 -- A run goes on by one call, and each open transaction stays one of the manager.
-use Rattle.std.proofs.Common.{◌≡◌, ℕ, ◌+◌, ◌-◌, ◌≤◌, Option, Some, None, List, [], ◌∷◌, ◌++◌, length, get_or, set, refl, sym, ap, ◌∙◌, subst, append_assoc, arith}
-use Rattle.std.specs.Prelude.{IfSome}
+use Rattle.std.proofs.Common.{◌≡◌, ℕ, ◌+◌, ◌-◌, ◌≤◌, Option, Some, None, List, [], ◌∷◌, ◌++◌, length, get_or, set, refl, sym, ap, ◌∙◌, subst, append_assoc, arith, ⊎_elim, Result, Ok, Err}
+use Rattle.std.specs.Prelude.{IfSome, IsNone, MatchResult}
 use Rattle.std.proofs.lemmas.List.{take-append-le, append-nil, length-append, length-set}
 use Rattle.std.proofs.lemmas.List.Elements.{All-set}
 use Rattle.values.specs.Shape.{Columns}
@@ -17,10 +17,12 @@ use Rattle.pdtcli.specs.declared.reply.Reply.{Reply}
 use Rattle.pdtcli.specs.declared.reply.Reply.TheVariants.{Begun, AlreadyOpen, NotOpen, Wrote, KeyColumn, TextTooLong, Row as Shown, Missing, NoRow, Place, Rows, End, Decided, Aborted, Folded, Stored, DeviceFailed, StoreFailed, GenerationsSpent, Cut, Ended, Stranger, NoMemory}
 use Rattle.pdtcli.specs.declared.reply.ReplyLine.{ReplyLine}
 use Rattle.txn.specs.Txn.{Transaction}
-use Rattle.manager.specs.Managed.{Managed, commits_in, IsDecided, IsOwn, begun_at, record_of, with_record, cut_of}
-use Rattle.pdtcli.specs.Run.{Side, SideStep, BeginStep, OpenWriteStep, OpenCommitStep, State, Step, IsRun}
+use Rattle.txn.specs.Version.{Lower, alone}
+use Rattle.manager.specs.declared.fault.CheckpointFault.{CheckpointFault}
+use Rattle.manager.specs.Managed.{Managed, commits_in, IsDecided, IsOwn, begun_at, HasFolded, newest_stable, rebuilt_of, record_of, with_layers, with_record, cut_of}
+use Rattle.pdtcli.specs.Run.{Side, SideStep, BeginStep, OpenWriteStep, OpenCommitStep, FoldStep, RebuildStep, State, Step, IsRun}
 use Rattle.pdtcli.specs.Ready.{IsReady}
-use Rattle.manager.proofs.CallerLemmas.{newest_whole, commits_from-append, IsOwn-cut_of}
+use Rattle.manager.proofs.CallerLemmas.{newest_whole, commits_from-append, own_over, IsOwn-cut_of}
 
 -- ---- a step keeps the transactions of the manager
 
@@ -60,18 +62,20 @@ keeps_record m r = record {
 keeps_cut : (m : Managed) → Keeps m (cut_of m)
 keeps_cut m = record { schema = refl; own = λ txn h. IsOwn-cut_of m txn h; made = omega arith }
 
+keeps_over : (old m : Managed) (layers : Lower) → Keeps old m → Keeps old (with_layers m layers)
+keeps_over old m layers k = record { schema = k.schema; own = λ txn h. own_over m layers txn (k.own txn h); made = k.made }
+
+keeps_decided : (m : Managed) (txn : Transaction) (reply : CommitReply) (new : Managed) → IsDecided m txn reply new → Keeps m new
+keeps_decided m txn reply new h = subst (Keeps m) (sym h.kept) (keeps_over m (with_record m (record_of txn reply)) new.layers (keeps_record m (record_of txn reply)))
+
 -- a decided commit keeps the other transactions of the manager
 pub own_decided : (m : Managed) (txn : Transaction) (reply : CommitReply) (new : Managed) → IsDecided m txn reply new → (other : Transaction) → IsOwn m other → IsOwn new other
-own_decided m txn reply new h other own = subst (λ (n : Managed). IsOwn n other) (sym h.kept) ((keeps_record m (record_of txn reply)).own other own)
+own_decided m txn reply new h other own = (keeps_decided m txn reply new h).own other own
 
 -- what a side keeps by a step
 record SideKeeps (old new : Side) : Type 0 where
   keeps : Keeps old.manager new.manager
   own : IfSome new.own (IsOwn new.manager)
-
--- a side whose manager is as it was
-pub side_kept : (old new : Managed) (own : Option Transaction) → new ≡ old → ◌≡◌ {A = Side} (record { manager = new; own = own }) (record { manager = old; own = own })
-side_kept old new own h = λ j. record { manager = h j; own = own }
 
 side_same : (old new : Side) → IfSome old.own (IsOwn old.manager) → new ≡ old → SideKeeps old new
 side_same old new own is = subst (SideKeeps old) (sym is) (record { keeps = keeps_same old.manager old.manager refl; own = own })
@@ -132,9 +136,13 @@ write_keeps txn write old new (Cut count) mine own h = absurd h
 write_keeps txn write old new Ended mine own h = absurd h
 write_keeps txn write old new Stranger mine own h = absurd h
 
+is_none : (own : Option Transaction) → IsNone own → own ≡ None
+is_none None h = refl
+is_none (Some txn) h = cc h
+
 commit_keeps : (txn : Transaction) (old new : Side) (reply : Reply) → IfSome old.own (IsOwn old.manager) → OpenCommitStep txn old reply new → SideKeeps old new
-commit_keeps txn old new (Decided r) own h = subst (SideKeeps old) (sym h.1) (record { keeps = keeps_record old.manager _; own = tt })
-commit_keeps txn old new NoMemory own h = side_same old new own h
+commit_keeps txn old new (Decided r) own h = record { keeps = keeps_decided old.manager txn r new.manager h.0; own = subst (λ (o : Option Transaction). IfSome o (IsOwn new.manager)) (sym (is_none new.own h.1)) tt }
+commit_keeps txn old new NoMemory own h = side_same old new own h.0
 commit_keeps txn old new Begun own h = absurd h
 commit_keeps txn old new AlreadyOpen own h = absurd h
 commit_keeps txn old new NotOpen own h = absurd h
@@ -164,6 +172,30 @@ cut_own m (Some txn) h = IsOwn-cut_of m txn h
 cut_keeps : (old new : Side) → IfSome old.own (IsOwn old.manager) → new ≡ record old { manager = cut_of old.manager } → SideKeeps old new
 cut_keeps old new own is = subst (SideKeeps old) (sym is) (record { keeps = keeps_cut old.manager; own = cut_own old.manager old.own own })
 
+if_some : (old new : Managed) → Keeps old new → (own : Option Transaction) → IfSome own (IsOwn old) → IfSome own (IsOwn new)
+if_some old new keeps None h = tt
+if_some old new keeps (Some txn) h = keeps.own txn h
+
+-- a side whose transaction stays beside a manager that keeps it
+side_own : (old new : Side) → IfSome old.own (IsOwn old.manager) → new.own ≡ old.own → Keeps old.manager new.manager → SideKeeps old new
+side_own old new own same keeps = record { keeps = keeps; own = subst (λ (o : Option Transaction). IfSome o (IsOwn new.manager)) (sym same) (if_some old.manager new.manager keeps old.own own) }
+
+keeps_layers : (old new : Managed) (layers : Lower) → new ≡ with_layers old layers → Keeps old new
+keeps_layers old new layers is = subst (Keeps old) (sym is) (keeps_over old old layers (keeps_same old old refl))
+
+fold_keeps : (old new : Side) (reply : Reply) → IfSome old.own (IsOwn old.manager) → FoldStep old reply new → SideKeeps old new
+fold_keeps old new reply own h = side_own old new own h.0 (⊎_elim
+    (λ (t : (reply ≡ Folded) × HasFolded old.manager new.manager). keeps_layers old.manager new.manager new.manager.layers t.1.kept)
+    (λ (t : (reply ≡ NoMemory) × (new.manager ≡ old.manager)). keeps_same old.manager new.manager t.1)
+    h.1)
+
+rebuilt_keeps : (old new : Managed) (answer : Result ℕ CheckpointFault) → MatchResult answer (λ _. new ≡ rebuilt_of old) (λ _. new ≡ old) → Keeps old new
+rebuilt_keeps old new (Ok generation) h = keeps_layers old new (alone (newest_stable old)) h
+rebuilt_keeps old new (Err fault) h = keeps_same old new h
+
+rebuild_keeps : (old new : Side) (reply : Reply) → IfSome old.own (IsOwn old.manager) → RebuildStep old reply new → SideKeeps old new
+rebuild_keeps old new reply own h = side_own old new own h.0 (rebuilt_keeps old.manager new.manager h.1.0 h.1.2)
+
 -- by the transaction that is open
 step_keeps : (client : ℕ) (asked : Call) (m : Managed) (mine : Option Transaction) (new : Side) (rows : List Row) (reply : Reply) → IfSome mine (IsOwn m) → SideStep client asked (record { manager = m; own = mine }) rows reply new → SideKeeps (record { manager = m; own = mine }) new
 step_keeps client call.Begin m mine new rows reply own h = begin_keeps client _ new reply own h.1
@@ -174,13 +206,9 @@ step_keeps client call.Commit m None new rows reply own h = side_same _ new own 
 step_keeps client call.Commit m (Some txn) new rows reply own h = commit_keeps txn _ new reply own h.1
 step_keeps client call.Abort m None new rows reply own h = side_same _ new own h.1.1
 step_keeps client call.Abort m (Some txn) new rows reply own h = side_with _ None tt new h.1.1
-step_keeps client call.Fold m mine new rows reply own h = side_same _ new own h.1.1
-step_keeps client call.Checkpoint m mine new rows reply own h = side_same _ new own h.1
+step_keeps client call.Fold m mine new rows reply own h = fold_keeps _ new reply own h.1
+step_keeps client call.Checkpoint m mine new rows reply own h = rebuild_keeps _ new reply own h.1
 step_keeps client call.Cut m mine new rows reply own h = cut_keeps _ new own h.1.1
-
-if_some : (old new : Managed) → Keeps old new → (own : Option Transaction) → IfSome own (IsOwn old) → IfSome own (IsOwn new)
-if_some old new keeps None h = tt
-if_some old new keeps (Some txn) h = keeps.own txn h
 
 -- the clients are ready again
 pub ready_again : (schema : Columns) (count : ℕ) (m : Managed) (transactions : List (Option Transaction)) → IsReady schema count m transactions → (client : ℕ) (asked : Call) (mine : Option Transaction) (new : Side) (rows : List Row) (reply : Reply) → IfSome mine (IsOwn m)

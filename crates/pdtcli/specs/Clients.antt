@@ -6,11 +6,13 @@ use Rattle.values.specs.declared.row.Row.{Row}
 use Rattle.inputs.specs.declared.call.Call.{Call}
 use Rattle.inputs.specs.declared.call.Call.TheVariants as call
 use Rattle.inputs.specs.declared.call.ClientCall.{ClientCall}
+use Rattle.model.specs.History.{IsLegal}
+use Rattle.manager.specs.History.{Recorded}
 use Rattle.manager.specs.Managed.{Managed}
 use Rattle.manager.specs.declared.fault.CheckpointFault.{CheckpointFault}
 use Rattle.publishing.specs.Commits.{commits_made}
 use Rattle.publishing.specs.Lists.{number_in}
-use Rattle.shared.specs.Endings.{IsClosed}
+use Rattle.shared.specs.Endings.{IsClosed, IsHandedOut}
 use Rattle.shared.specs.Sessions.{Seat, WasReplied, AreBeginnings, begun_in, commits_above, new_seat}
 use Rattle.pdtcli.specs.declared.reply.Reply.{Reply}
 use Rattle.pdtcli.specs.declared.reply.Reply.TheVariants.{Begun, AlreadyOpen, NotOpen, Decided, Folded, Cut, Ended, Stranger, NoMemory}
@@ -45,9 +47,11 @@ SeatCommit o old NoMemory new = IsSome old.txn × (new ≡ old)
 SeatCommit o old Stranger new = IsSome old.txn × (number_in o [] < number_in o old.seen) × (new ≡ old)
 SeatCommit o old reply new = ⊥
 
--- a cut tells how many records it handed out
-abbrev pub IsCutReply : Reply → Type 0
-IsCutReply reply = ((count : ℕ) × (reply ≡ Cut count)) ⊎ (reply ≡ NoMemory)
+-- a cut tells how many records a history has that it handed out, which is a legal one of this opening
+abbrev pub IsCutReply : Managed → Reply → Type 0
+IsCutReply o (Cut count) = (history : Recorded) × IsHandedOut o history × IsLegal history.schema history.start history.records × (count ≡ length history.records)
+IsCutReply o NoMemory = Unit {0}
+IsCutReply o reply = ⊥
 
 -- the session's call may show these rows, be answered so, and leave this
 abbrev pub SeatAnswers : Managed → Call → Seat → List Row → Reply → Seat → Type 0
@@ -58,7 +62,7 @@ SeatAnswers o call.Commit old rows reply new = (rows ≡ []) × SeatCommit o old
 SeatAnswers o call.Abort old rows reply new = (rows ≡ []) × AbortStep old.txn (side_of_seat o old) reply (side_of_seat o new) × (new ≡ record old { txn = new.txn })
 SeatAnswers o call.Fold old rows reply new = (rows ≡ []) × ((reply ≡ Folded) ⊎ (reply ≡ NoMemory)) × (new ≡ old)
 SeatAnswers o call.Checkpoint old rows reply new = (rows ≡ []) × ((answer : Result ℕ CheckpointFault) × (reply ≡ checkpoint_reply answer)) × (new ≡ old)
-SeatAnswers o call.Cut old rows reply new = (rows ≡ []) × IsCutReply reply × (new ≡ old)
+SeatAnswers o call.Cut old rows reply new = (rows ≡ []) × IsCutReply o reply × (new ≡ old)
 
 -- how many commits a reply decides
 abbrev pub decided_by : Reply → ℕ

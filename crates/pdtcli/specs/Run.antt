@@ -1,5 +1,5 @@
 -- A serial run: what each call may be answered, and what it leaves.
-use Rattle.std.specs.Prelude.{◌≡◌, ◌⊎◌, ℕ, ◌+◌, ◌==◌, Bool, true, false, ◌&&◌, cond, Option, Some, None, IsNone, IsSome, Result, Ok, Err, List, [], ◌∷◌, ◌++◌, map, filter, length, get_or, set, slice_get, slice_set}
+use Rattle.std.specs.Prelude.{◌≡◌, ◌⊎◌, ◌≤◌, ◌^◌, ℕ, ◌+◌, ◌==◌, Bool, true, false, ◌&&◌, cond, Option, Some, None, IsNone, IsSome, Result, Ok, Err, MatchResult, List, [], ◌∷◌, ◌++◌, map, filter, length, get_or, set, slice_get, slice_set}
 use Rattle.values.specs.Shape.{Columns, row_fault, key_fault, cell_fault, or_fault}
 use Rattle.values.specs.declared.fault.ShapeFault.{ShapeFault}
 use Rattle.values.specs.declared.fault.ShapeFault.TheVariants as shape
@@ -20,7 +20,7 @@ use Rattle.txn.specs.Txn.{Transaction, with_write, answer_to}
 use Rattle.pdtcli.specs.Reads.{ReadStep}
 use Rattle.devices.specs.Appending.{MayFollow, Stores, Taken}
 use Rattle.manager.specs.Checkpoint.{Checkpoints, answer_of_store}
-use Rattle.manager.specs.Managed.{Managed, begun_at, newest_stable, reply_due, record_of, with_record, cut_of}
+use Rattle.manager.specs.Managed.{Managed, HasFolded, IsDecided, begun_at, is_too_old, newest_stable, rebuilt_of, cut_of}
 use Rattle.manager.specs.declared.fault.CheckpointFault.{CheckpointFault}
 use Rattle.manager.specs.declared.fault.CheckpointFault.TheVariants as checkpoint
 
@@ -59,9 +59,8 @@ WriteStep (Some txn) write old reply new = OpenWriteStep txn write old reply new
 
 -- a commit of an open transaction
 abbrev pub OpenCommitStep : Transaction → Side → Reply → Side → Type 0
-OpenCommitStep txn old (Decided reply) new =
-    (reply ≡ reply_due old.manager txn) × (new ≡ record { manager = with_record old.manager (record_of txn reply); own = None })
-OpenCommitStep txn old NoMemory new = new ≡ old
+OpenCommitStep txn old (Decided reply) new = IsDecided old.manager txn reply new.manager × IsNone new.own
+OpenCommitStep txn old NoMemory new = (new ≡ old) × (is_too_old old.manager txn ≡ true → 2 ^ 62 ≤ old.manager.made)
 OpenCommitStep txn old reply new = ⊥
 
 abbrev pub CommitStep : Option Transaction → Side → Reply → Side → Type 0
@@ -72,9 +71,24 @@ abbrev pub AbortStep : Option Transaction → Side → Reply → Side → Type 0
 AbortStep None old reply new = (reply ≡ NotOpen) × (new ≡ old)
 AbortStep (Some txn) old reply new = (reply ≡ Aborted) × (new ≡ record old { own = None })
 
--- a fold changes no table and no history
+-- a fold changes no table and no history: the Write-PDT goes into the Read-PDT
 abbrev pub FoldStep : Side → Reply → Side → Type 0
-FoldStep old reply new = ((reply ≡ Folded) ⊎ (reply ≡ NoMemory)) × (new ≡ old)
+FoldStep old reply new =
+    (new.own ≡ old.own) × (((reply ≡ Folded) × HasFolded old.manager new.manager) ⊎ ((reply ≡ NoMemory) × (new.manager ≡ old.manager)))
+
+-- the reply that tells how a checkpoint was answered
+abbrev pub checkpoint_reply : Result ℕ CheckpointFault → Reply
+checkpoint_reply (Ok generation) = Stored generation
+checkpoint_reply (Err checkpoint.StoreFailed) = StoreFailed
+checkpoint_reply (Err checkpoint.GenerationsSpent) = GenerationsSpent
+checkpoint_reply (Err checkpoint.NoMemory) = NoMemory
+checkpoint_reply (Err (checkpoint.DeviceFailed i)) = DeviceFailed i
+
+-- nor does a checkpoint: where it was stored, the newest rows are the stable table, under no entries
+abbrev pub RebuildStep : Side → Reply → Side → Type 0
+RebuildStep old reply new =
+    (new.own ≡ old.own)
+    × ((answer : Result ℕ CheckpointFault) × (reply ≡ checkpoint_reply answer) × MatchResult answer (λ _. new.manager ≡ rebuilt_of old.manager) (λ _. new.manager ≡ old.manager))
 
 -- a cut hands out the history, and tells how many records it has
 abbrev pub CutStep : Side → Reply → Side → Type 0
@@ -88,18 +102,10 @@ SideStep client (call.Read read) old rows reply new = ReadStep old.own read rows
 SideStep client call.Commit old rows reply new = (rows ≡ []) × CommitStep old.own old reply new
 SideStep client call.Abort old rows reply new = (rows ≡ []) × AbortStep old.own old reply new
 SideStep client call.Fold old rows reply new = (rows ≡ []) × FoldStep old reply new
-SideStep client call.Checkpoint old rows reply new = (rows ≡ []) × (new ≡ old)
+SideStep client call.Checkpoint old rows reply new = (rows ≡ []) × RebuildStep old reply new
 SideStep client call.Cut old rows reply new = (rows ≡ []) × CutStep old reply new
 
 -- ---- the store
-
--- the reply that tells how a checkpoint was answered
-abbrev pub checkpoint_reply : Result ℕ CheckpointFault → Reply
-checkpoint_reply (Ok generation) = Stored generation
-checkpoint_reply (Err checkpoint.StoreFailed) = StoreFailed
-checkpoint_reply (Err checkpoint.GenerationsSpent) = GenerationsSpent
-checkpoint_reply (Err checkpoint.NoMemory) = NoMemory
-checkpoint_reply (Err (checkpoint.DeviceFailed i)) = DeviceFailed i
 
 -- the store is offered the newest table, and the reply tells what it answers. Where an image may follow what its devices
 -- took, they store that table under its generation then; after a failure what they stored before, or that

@@ -1,6 +1,6 @@
 //! One client's side of a run: the transaction that it has open, and the reply to each of its calls.
-ghost use Rattle.std.specs.Prelude.{◌≡◌, ◌≤◌, ◌+◌, ◌++◌, List, Option, Some, None, IfOk, OnErr, IsTrue, IfSome, map, vec_len, vec_capacity};
-ghost use Rattle.devices.specs.Store.{have_failed};
+ghost use Rattle.std.specs.Prelude.{◌≡◌, ◌≤◌, ◌+◌, ◌++◌, List, Option, Some, None, IfOk, OnErr, IsTrue, IfSome, vec_len, vec_capacity};
+ghost use Rattle.devices.specs.Appending.{taken_by};
 ghost use Rattle.values.specs.declared.row.Row.{Row};
 ghost use Rattle.model.specs.Writes.{write_fits_schema};
 ghost use Rattle.pdtcli.specs.Reads.{ReadStep};
@@ -8,7 +8,7 @@ ghost use Rattle.pdtcli.specs.declared.reply.Reply.TheVariants as reply;
 ghost use Rattle.inputs.specs.Typed.{is_typed_call, is_typed_read, is_typed_write};
 ghost use Rattle.txn.specs.Txn.{IsAnswered, Transaction};
 ghost use Rattle.manager.specs.Managed.{Managed, IsOwn};
-ghost use Rattle.pdtcli.specs.Run.{IsServed, shown_lines, BeginStep, WriteStep, OpenWriteStep, CommitStep, AbortStep, CheckpointStep, FoldStep, CutStep, StoreStep, checkpoint_reply};
+ghost use Rattle.pdtcli.specs.Run.{IsServed, shown_lines, BeginStep, WriteStep, OpenWriteStep, CommitStep, AbortStep, CheckpointStep, FoldStep, RebuildStep, CutStep, StoreStep, checkpoint_reply};
 
 use crate::reads::read_in;
 use crate::reply::{Reply, ReplyLine};
@@ -66,8 +66,11 @@ impl Caller {
         requires typed { IfSome self.old (λ txn. IsTrue (is_typed_call txn.schema asked.now.call)) }
         requires schema { store.old.schema ≡ manager.old.schema }
         requires room { vec_len lines.old + left ≤ vec_capacity lines.old }
-        ensures step { IsServed asked.now (record { manager = manager.old; own = self.old }) lines.old.items result lines.new.items (record { manager = manager.new; own = self.new }) }
-        ensures stored { StoreStep asked.now.call manager.old (record { contents = map (λ b. contents (b.vtable, b.value)) store.old.devices.items; failed = have_failed (map (λ b. failures (b.vtable, b.value)) store.old.devices.items); next = store.old.next }) result (record { contents = map (λ b. contents (b.vtable, b.value)) store.new.devices.items; failed = have_failed (map (λ b. failures (b.vtable, b.value)) store.new.devices.items); next = store.new.next }) }
+        ensures step { IsServed asked.now (record { manager = manager.old; own = self.old }) lines.old.items result lines.new.items
+            (record { manager = manager.new; own = self.new }) }
+        ensures stored { let taken = taken_by (λ b. contents (b.vtable, b.value)) (λ b. failures (b.vtable, b.value)) in
+            StoreStep asked.now.call manager.old (taken store.old.devices.items store.old.next) result
+            (taken store.new.devices.items store.new.next) }
         ensures schema { store.new.schema ≡ store.old.schema }
         ensures room { vec_len lines.new + left ≤ vec_capacity lines.new }
     {
@@ -112,7 +115,8 @@ impl Caller {
     /// Writes in the open transaction.
     fn write(&mut self, write: &Write) -> Reply
         requires typed { IfSome self.old (λ txn. IsTrue (is_typed_write txn.schema write.now)) }
-        ensures { (manager : Managed) → WriteStep self.old write.now (record { manager = manager; own = self.old }) result (record { manager = manager; own = self.new }) }
+        ensures { (manager : Managed) → WriteStep self.old write.now (record { manager = manager; own = self.old }) result
+            (record { manager = manager; own = self.new }) }
     {
         match &mut self.own {
             None => Reply::NotOpen,
@@ -158,7 +162,8 @@ impl Caller {
 
     /// Ends the open transaction.
     fn abort(&mut self) -> Reply
-        ensures { (manager : Managed) → AbortStep self.old (record { manager = manager; own = self.old }) result (record { manager = manager; own = self.new }) }
+        ensures { (manager : Managed) → AbortStep self.old (record { manager = manager; own = self.old }) result
+            (record { manager = manager; own = self.new }) }
     {
         let Some(txn) = self.own.take() else {
             return Reply::NotOpen;
@@ -181,8 +186,10 @@ fn fold(manager: &mut Manager) -> Reply
 /// Writes the newest image to the store.
 fn checkpoint(manager: &mut Manager, store: &mut Store) -> Reply
     requires { store.old.schema ≡ manager.old.schema }
-    ensures kept { manager.new ≡ manager.old }
-    ensures stored { CheckpointStep manager.old (record { contents = map (λ b. contents (b.vtable, b.value)) store.old.devices.items; failed = have_failed (map (λ b. failures (b.vtable, b.value)) store.old.devices.items); next = store.old.next }) result (record { contents = map (λ b. contents (b.vtable, b.value)) store.new.devices.items; failed = have_failed (map (λ b. failures (b.vtable, b.value)) store.new.devices.items); next = store.new.next }) }
+    ensures kept { (own : Option Transaction) → RebuildStep (record { manager = manager.old; own = own }) result
+        (record { manager = manager.new; own = own }) }
+    ensures stored { let taken = taken_by (λ b. contents (b.vtable, b.value)) (λ b. failures (b.vtable, b.value)) in
+        CheckpointStep manager.old (taken store.old.devices.items store.old.next) result (taken store.new.devices.items store.new.next) }
     ensures schema { store.new.schema ≡ store.old.schema }
 {
     reply_of(manager.checkpoint(store))
@@ -211,7 +218,8 @@ fn cut(manager: &mut Manager) -> Reply
 /// The reply to a write in a transaction. A row or a value that doesn't fit is refused before it is copied.
 fn write_in(txn: &mut Txn, write: &Write) -> Reply
     requires typed { IsTrue (is_typed_write txn.old.schema write.now) }
-    ensures { (manager : Managed) → OpenWriteStep txn.old write.now (record { manager = manager; own = Some txn.old }) result (record { manager = manager; own = Some txn.new }) }
+    ensures { (manager : Managed) → OpenWriteStep txn.old write.now (record { manager = manager; own = Some txn.old }) result
+        (record { manager = manager; own = Some txn.new }) }
 {
     if let Some(refused) = refused_shape(txn.schema(), write) {
         return refused;

@@ -161,7 +161,13 @@ fn outcome_of<S: ImageStore>(
     requires before { handed_before + length closed.manager.history ≤ closed.manager.made }
     ensures left { IfOk result (λ outcome. (handed : ℕ)
         × (handed + handed_before + length closed.manager.history ≡ closed.manager.made)
-        × (outcome.left ≡ record { clients = names.items; lines = joined_lines (map vec_items groups.items); manager = closed.manager; counts = closed.counts.items; handed = handed })) }
+        × (outcome.left ≡ record {
+          clients = names.items;
+          lines = joined_lines (map vec_items groups.items);
+          manager = closed.manager;
+          counts = closed.counts.items;
+          handed = handed;
+        })) }
     ensures store { IfOk result (λ outcome. outcome.store ≡ closed.store) }
 {
     let lines = join_lines(alloc, groups)?;
@@ -304,7 +310,8 @@ fn start<
         calls,
     };
     let run = move || -> (Session<O>, Vec<ReplyLine>)
-        requires { (lines.items ≡ []) × (length (calls_of session.client calls.now) ≤ vec_capacity lines) × All (λ asked. IsTrue (is_typed_call O.opened.manager.schema asked.call)) calls.now }
+        requires { (lines.items ≡ []) × (length (calls_of session.client calls.now) ≤ vec_capacity lines)
+            × All (λ asked. IsTrue (is_typed_call O.opened.manager.schema asked.call)) calls.now }
         ensures { HasMade O.opened.manager session calls.entry.now result.1.items result.0 }
     { run_client(rt, shared, gate, session, calls, lines) };
     match scope.spawn_with(promise, run) {
@@ -322,7 +329,8 @@ fn join_all<'e, O: Opening, R: Threads>(
 ) -> (Vec<Session<O>>, Vec<Vec<ReplyLine>>)
     requires empty { (back.items ≡ []) × (groups.items ≡ []) }
     requires room { (vec_len handles ≤ vec_capacity back) × (vec_len handles ≤ vec_capacity groups) }
-    ensures { HaveMade O.opened.manager (map (λ h. (h.promise.start.value, h.promise.calls.now)) handles.entry.items) (map vec_items result.1.items) result.0.items }
+    ensures { HaveMade O.opened.manager (map (λ h. (h.promise.start.value, h.promise.calls.now)) handles.entry.items)
+        (map vec_items result.1.items) result.0.items }
 {
     for handle in handles {
         let (session, lines) = handle.join(rt);

@@ -1,8 +1,8 @@
 //! What the program does with the bytes of its files: it reads them, runs the script over the table, and shows what the
 //! run leaves; or it reads a store, and shows the image that it has.
-ghost use Rattle.std.specs.Prelude.{◌≡◌, false, map, IfErr, IfOk};
+ghost use Rattle.std.specs.Prelude.{◌≡◌, false, IfErr, IfOk};
 ghost use Rattle.std.specs.Io.KnownBytes.{Appends};
-ghost use Rattle.devices.specs.Store.{have_failed};
+ghost use Rattle.devices.specs.Appending.{taken_by};
 ghost use Rattle.pdtcli.specs.Outcome.{Left};
 ghost use Rattle.pdtcli.specs.Output.{exit_status, shown};
 ghost use Rattle.pdtcli.specs.Program.{bytes_of, status_of, HasScript, HasTable, IsOpening, IsRefusalOf, IsRunFrom, IsRunOnThreads, IsRunRefusal, IsScriptRefusal, IsTableRefusal, IsThreadsRefusal};
@@ -107,11 +107,15 @@ pub fn run_opened<W: Write>(
 ) -> Result<u8, Refusal>
     requires script { opened.script.schema ≡ opened.manager.schema }
     requires store { store.schema ≡ opened.manager.schema }
-    ensures shown { IfOk result (λ status. (left : Left)
-        × IsRunFrom opened.manager opened.script (record { contents = map (λ b. (ColumnDevice-dyn (b.vtable, b.value)).contents b.value) store.devices.items; failed = have_failed (map (λ b. (ColumnDevice-dyn (b.vtable, b.value)).failures b.value) store.devices.items); next = store.next }) left
+    ensures shown { let taken = taken_by (λ b. (ColumnDevice-dyn (b.vtable, b.value)).contents b.value)
+        (λ b. (ColumnDevice-dyn (b.vtable, b.value)).failures b.value) in
+        IfOk result (λ status. (left : Left)
+        × IsRunFrom opened.manager opened.script (taken store.devices.items store.next) left
         × Appends (W.contents out.old) (W.contents out.new) (shown left)
         × (status ≡ exit_status left.lines)) }
-    ensures refused { IfErr result (λ refusal. IsRunRefusal opened.manager opened.script (record { contents = map (λ b. (ColumnDevice-dyn (b.vtable, b.value)).contents b.value) store.devices.items; failed = have_failed (map (λ b. (ColumnDevice-dyn (b.vtable, b.value)).failures b.value) store.devices.items); next = store.next }) refusal) }
+    ensures refused { let taken = taken_by (λ b. (ColumnDevice-dyn (b.vtable, b.value)).contents b.value)
+        (λ b. (ColumnDevice-dyn (b.vtable, b.value)).failures b.value) in
+        IfErr result (IsRunRefusal opened.manager opened.script (taken store.devices.items store.next)) }
     ensures silent { IfErr result (λ refusal. is_output refusal ≡ false → out.new ≡ out.old) }
 {
     let Opened { manager, script } = opened;

@@ -32,7 +32,8 @@ pub(crate) fn read_in(
 ) -> Reply
     requires typed { IsTrue (is_typed_read txn.now.schema read.now) }
     requires room { vec_len lines.old + left ≤ vec_capacity lines.old }
-    ensures step { (rows : List Cells) × OpenReadStep (read_fault txn.now.schema read.now) txn.now read.now rows result × (lines.new.items ≡ lines.old.items ++ shown_lines asked.now rows) }
+    ensures step { (rows : List Cells) × OpenReadStep (read_fault txn.now.schema read.now) txn.now read.now rows result
+        × (lines.new.items ≡ lines.old.items ++ shown_lines asked.now rows) }
     ensures room { vec_len lines.new + left ≤ vec_capacity lines.new }
 {
     if let Some(cell) = long_text_in(txn.schema(), read) {
@@ -102,7 +103,8 @@ fn show_rows(
     left: usize,
 ) -> Reply
     requires room { vec_len lines.old + left ≤ vec_capacity lines.old }
-    ensures step { (rows : List Cells) × IsScan (rows_between txn.now from to) rows result × (lines.new.items ≡ lines.old.items ++ shown_lines asked.now rows) }
+    ensures step { (rows : List Cells) × IsScan (rows_between txn.now from to) rows result
+        × (lines.new.items ≡ lines.old.items ++ shown_lines asked.now rows) }
     ensures room { vec_len lines.new + left ≤ vec_capacity lines.new }
 {
     if txn.stretches(from, to).rows_left() == 0 {

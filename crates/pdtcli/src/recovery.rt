@@ -55,7 +55,7 @@ pub fn recover<W: Write>(
     ensures shown { IfOk result (λ status. (image : Image)
         × IsStored schema.now (map (λ c. c.now) columns.now) image
         × Appends (W.contents out.old) (W.contents out.new) (image_text schema.now image.table.rows)
-        × (status ≡ RECOVERED)) }
+        × (status ≡ 0)) }
     ensures refused { IfErr result (IsRecoveryRefusal schema.now (map (λ c. c.now) columns.now)) }
     ensures silent { IfErr result (λ refusal. is_output refusal ≡ false → out.new ≡ out.old) }
 {

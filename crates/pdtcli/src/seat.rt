@@ -33,7 +33,8 @@ pub(crate) fn serve<O: Opening, S: ImageStore, R: Wait>(
 ) -> Reply
     requires typed { IsTrue (is_typed_call O.opened.manager.schema asked.now.call) }
     requires room { vec_len lines.old + left ≤ vec_capacity lines.old }
-    ensures step { (rows : List Row) × SeatStep O.opened.manager asked.now.call session.old rows result session.new × (lines.new.items ≡ lines.old.items ++ shown_lines asked.now rows) }
+    ensures step { (rows : List Row) × SeatStep O.opened.manager asked.now.call session.old rows result session.new
+        × (lines.new.items ≡ lines.old.items ++ shown_lines asked.now rows) }
     ensures room { vec_len lines.new + left ≤ vec_capacity lines.new }
 {
     match &asked.call {
@@ -96,7 +97,8 @@ fn look<O: Opening>(
 ) -> Reply
     requires typed { IsTrue (is_typed_read O.opened.manager.schema read.now) }
     requires room { vec_len lines.old + left ≤ vec_capacity lines.old }
-    ensures step { (rows : List Row) × SeatStep O.opened.manager (call.Read read.now) session.now rows result session.now × (lines.new.items ≡ lines.old.items ++ shown_lines asked.now rows) }
+    ensures step { (rows : List Row) × SeatStep O.opened.manager (call.Read read.now) session.now rows result session.now
+        × (lines.new.items ≡ lines.old.items ++ shown_lines asked.now rows) }
     ensures room { vec_len lines.new + left ≤ vec_capacity lines.new }
 {
     match session.txn() {
@@ -150,7 +152,7 @@ fn checkpoint<O: Opening, S: ImageStore, R: Wait>(rt: &R, shared: &Shared<O, S>)
 
 /// Cuts the history, and drops what it hands out.
 fn cut<O: Opening, S: ImageStore, R: Wait>(rt: &R, shared: &Shared<O, S>) -> Reply
-    ensures { (o : Managed) (seat : Seat) → SeatStep o call.Cut seat [] result seat }
+    ensures { (seat : Seat) → SeatStep O.opened.manager call.Cut seat [] result seat }
 {
     match shared.cut(rt) {
         Ok(history) => Reply::Cut(history.records().len() as u64),

@@ -1,6 +1,6 @@
 //! A run of a script's calls, one after the other.
 ghost use Rattle.std.specs.Prelude.{◌≡◌, ◌<◌, ◌≤◌, ◌+◌, ◌^◌, get_or, replicate, None, Option, List, [], IfOk, length, map, vec_capacity, vec_len};
-ghost use Rattle.devices.specs.Store.{have_failed};
+ghost use Rattle.devices.specs.Appending.{taken_by};
 ghost use Rattle.std.specs.List.{range_with_len};
 ghost use Rattle.txn.specs.Txn.{Transaction};
 ghost use Rattle.pdtcli.specs.Run.{IsRun, line_of, verb_of_call, verb_of_read, verb_of_write, counts_after, decided_count, is_decided, AreHanded};
@@ -30,10 +30,15 @@ pub fn run_serial(
     // The calls were read under the manager's schema, which is the store's.
     requires script { script.now.schema ≡ manager.schema }
     requires store { store.schema ≡ manager.schema }
-    ensures run { IfOk result (λ outcome. (transactions : List (Option Transaction))
-        × IsRun (record { manager = manager; transactions = replicate (length script.now.clients) None; store = record { contents = map (λ b. contents (b.vtable, b.value)) store.devices.items; failed = have_failed (map (λ b. failures (b.vtable, b.value)) store.devices.items); next = store.next } })
+    ensures run { let taken = taken_by (λ b. contents (b.vtable, b.value)) (λ b. failures (b.vtable, b.value)) in
+        IfOk result (λ outcome. (transactions : List (Option Transaction)) × IsRun
+        (record { manager = manager; transactions = replicate (length script.now.clients) None; store = taken store.devices.items store.next })
         script.now.calls outcome.left.lines
-        (record { manager = outcome.left.manager; transactions = transactions; store = record { contents = map (λ b. contents (b.vtable, b.value)) outcome.store.devices.items; failed = have_failed (map (λ b. failures (b.vtable, b.value)) outcome.store.devices.items); next = outcome.store.next } })) }
+        (record {
+          manager = outcome.left.manager;
+          transactions = transactions;
+          store = taken outcome.store.devices.items outcome.store.next;
+        })) }
     ensures schema { IfOk result (λ outcome. outcome.store.schema ≡ store.schema) }
     ensures clients { IfOk result (λ outcome. outcome.left.clients ≡ script.now.clients) }
     ensures counts { IfOk result (λ outcome. outcome.left.counts ≡ map (decided_count outcome.left.lines) (range_with_len 0 (length script.now.clients))) }

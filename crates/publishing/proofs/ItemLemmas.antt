@@ -10,14 +10,14 @@ use Rattle.model.specs.Clashes.{conflicts}
 use Rattle.model.specs.Effects.{table_with}
 use Rattle.model.specs.History.{table_with_all, effects_of_record}
 use Rattle.txn.specs.Txn.{Transaction, IsTransaction, effects_of}
-use Rattle.txn.specs.Version.{TableVersion}
-use Rattle.manager.specs.Managed.{Managed, IsManaged, IsOwn, newest_number, newest_table, newest_version, reply_due, cut_of, is_too_old, commits_since, record_of, with_record}
+use Rattle.txn.specs.Version.{Lower, LayeredVersion, TableVersion, numbered}
+use Rattle.manager.specs.Managed.{Managed, IsManaged, IsOwn, newest_number, newest_table, newest_version, reply_due, cut_of, history_of, is_too_old, commits_since, record_of, with_record, with_layers}
 use Rattle.manager.specs.Managed as managed
 use Rattle.manager.proofs.CallerLemmas.{above_base, granted_when, recorded_is, table_with_all-one, take_length}
 use Rattle.publishing.specs.declared.item.Item.{Item}
-use Rattle.publishing.specs.declared.item.Item.TheVariants.{Same, Cuts}
+use Rattle.publishing.specs.declared.item.Item.TheVariants.{Opens, Commits, Same, Cuts}
 use Rattle.publishing.specs.Commits.{Commit, commit_of, all_effects, commits_made, granted_by}
-use Rattle.publishing.specs.Lists.{commits_of_item, all_commits, number_in, table_at, version_in, base_after, base_in, start_in, commits_since_start, IsListed}
+use Rattle.publishing.specs.Lists.{IsSame, IsCutAt, commits_of_item, last_version, shown_in, version_of_item, all_commits, number_in, table_at, version_in, base_after, base_in, start_in, commits_since_start, IsListed, IsOfList}
 use Rattle.publishing.proofs.CommitsLemmas.{length-all_effects, all_effects-append, commits_from_records-push, effects_prefix, all_commits-prefix, all_commits-push, last_base-push}
 use Rattle.publishing.proofs.ListedLemmas.{number_is, table_is}
 
@@ -48,7 +48,52 @@ module _ (m : Managed) (h : IsManaged m) (txn : Transaction) (k : IsTransaction 
       commits_from_records-push m.schema m.start [] m.history (record_of txn reply)
       ∙ ap (λ (cs : List Commit). commits_made m ++ cs) (added reply due)
 
+-- what an item of the same table, or of a cut, is
+same_commits : (v : LayeredVersion) (item : Item) → IsSame v item → commits_of_item item ≡ []
+same_commits v (Opens manager) h = absurd h
+same_commits v (Commits txn version) h = absurd h
+same_commits v (Same version) h = refl
+same_commits v (Cuts base version) h = absurd h
+
+same_base : (v : LayeredVersion) (item : Item) (base : ℕ) → IsSame v item → base_after base item ≡ base
+same_base v (Opens manager) base h = absurd h
+same_base v (Commits txn version) base h = absurd h
+same_base v (Same version) base h = refl
+same_base v (Cuts at version) base h = absurd h
+
+pub same_version : (v : LayeredVersion) (item : Item) → IsSame v item → version_of_item item ≡ v
+same_version v (Opens manager) h = absurd h
+same_version v (Commits txn version) h = absurd h
+same_version v (Same version) h = h
+same_version v (Cuts base version) h = absurd h
+
+cut_commits : (n : ℕ) (v : LayeredVersion) (item : Item) → IsCutAt n v item → commits_of_item item ≡ []
+cut_commits n v (Opens manager) h = absurd h
+cut_commits n v (Commits txn version) h = absurd h
+cut_commits n v (Same version) h = absurd h
+cut_commits n v (Cuts base version) h = refl
+
+cut_base : (n : ℕ) (v : LayeredVersion) (item : Item) (base : ℕ) → IsCutAt n v item → base_after base item ≡ n
+cut_base n v (Opens manager) base h = absurd h
+cut_base n v (Commits txn version) base h = absurd h
+cut_base n v (Same version) base h = absurd h
+cut_base n v (Cuts at version) base h = h.0
+
+pub cut_version : (n : ℕ) (v : LayeredVersion) (item : Item) → IsCutAt n v item → version_of_item item ≡ v
+cut_version n v (Opens manager) h = absurd h
+cut_version n v (Commits txn version) h = absurd h
+cut_version n v (Same version) h = absurd h
+cut_version n v (Cuts base version) h = h.1
+
+last_version-push : (v : LayeredVersion) (list : List Item) (item : Item) → last_version v (list ++ item ∷ []) ≡ version_of_item item
+last_version-push v [] item = refl
+last_version-push v (x ∷ list) item = last_version-push (version_of_item x) list item
+
 module _ (o : Managed) (list : List Item) where
+  -- what is published is the last item's version
+  pub shown_in-push : (item : Item) → shown_in o (list ++ item ∷ []) ≡ version_of_item item
+  shown_in-push item = last_version-push (numbered o.layers (newest_number o)) list item
+
   -- ---- the start stays
 
   module _ (item : Item) (same : base_after (base_in o list) item ≡ base_in o list) where
@@ -94,8 +139,10 @@ module _ (o : Managed) (list : List Item) where
         }
 
   -- the same table once more
-  pub listed_same : (m : Managed) → IsListed o list m → IsListed o (list ++ Same ∷ []) m
-  listed_same m l = listed_with Same refl m m l refl refl (sym (append-nil (commits_made m)))
+  pub listed_same : (v : LayeredVersion) (item : Item) → IsSame v item → (m : Managed) → IsListed o list m → IsListed o (list ++ item ∷ []) m
+  listed_same v item is m l =
+      listed_with item (same_base v item (base_in o list) is) m m l refl refl
+      (sym (append-nil (commits_made m)) ∙ ap (λ (cs : List Commit). commits_made m ++ cs) (sym (same_commits v item is)))
 
   all_commits_quiet : (item : Item) → commits_of_item item ≡ [] → all_commits o (list ++ item ∷ []) ≡ all_commits o list
   all_commits_quiet item none = all_commits-push o list item ∙ ap (λ (cs : List Commit). all_commits o list ++ cs) none ∙ append-nil (all_commits o list)
@@ -110,21 +157,29 @@ module _ (o : Managed) (list : List Item) where
         number = o.start.base + length (e i);
       })
 
-  pub version_same : version_in o list ≡ version_in o (list ++ Same ∷ [])
-  version_same = version_quiet Same refl
+  pub version_same : (v : LayeredVersion) (item : Item) → IsSame v item → version_in o list ≡ version_in o (list ++ item ∷ [])
+  version_same v item is = version_quiet item (same_commits v item is)
 
-  pub version_cut : (base : ℕ) → version_in o list ≡ version_in o (list ++ Cuts base ∷ [])
-  version_cut base = version_quiet (Cuts base) refl
+  pub version_cut : (n : ℕ) (v : LayeredVersion) (item : Item) → IsCutAt n v item → version_in o list ≡ version_in o (list ++ item ∷ [])
+  version_cut n v item is = version_quiet item (cut_commits n v item is)
+
+  -- and a list isn't about layers
+  pub listed_over : (m : Managed) (layers : Lower) → IsListed o list m → IsListed o list (with_layers m layers)
+  listed_over m layers l = record { schema = l.schema; start = l.start; commits = l.commits; from_base = l.from_base; based = l.based }
 
   module _ (m : Managed) (l : IsListed o list m) where
     -- ---- a cut
 
-    pub listed_cut : (base : ℕ) → base ≡ newest_number m → IsListed o (list ++ Cuts base ∷ []) (cut_of m)
-    listed_cut base is =
-        let more = list ++ Cuts base ∷ [] in
+    -- the history that a cut hands out
+    pub of_list : IsOfList o list (history_of m)
+    of_list = record { schema = l.schema; start = l.start; commits = l.commits }
+
+    pub listed_cut : (base : ℕ) (v : LayeredVersion) (item : Item) → IsCutAt base v item → base ≡ newest_number m → IsListed o (list ++ item ∷ []) (cut_of m)
+    listed_cut base v item cuts is =
+        let more = list ++ item ∷ [] in
         let number = number_is o list m l in
-        let at : base_in o more ≡ base = last_base-push o.start.base list (Cuts base) in
-        let quiet : all_commits o more ≡ all_commits o list = all_commits_quiet (Cuts base) refl in
+        let at : base_in o more ≡ base = last_base-push o.start.base list item ∙ cut_base base v item (base_in o list) cuts in
+        let quiet : all_commits o more ≡ all_commits o list = all_commits_quiet item (cut_commits base v item cuts) in
         let same : base ≡ number_in o list = is ∙ number in
         let table : newest_table m ≡ table_at o more (base_in o more) =
         table_is o list m l

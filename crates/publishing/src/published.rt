@@ -1,7 +1,8 @@
 //! What is published: the newest version, and the list that it stands for.
 ghost use Rattle.std.specs.Prelude.{◌≡◌, ◌≤◌, IfOk, length};
 ghost use Rattle.values.specs.declared.limits.TheConstants.{MAX_ROWS};
-ghost use Rattle.publishing.specs.Lists.{version_in};
+ghost use Rattle.publishing.specs.Lists.{shown_in, version_in};
+ghost use Rattle.txn.specs.Version.{lower_table, table_version};
 
 use crate::seen::SeenList;
 use atomic_table::{Join, Split};
@@ -13,7 +14,7 @@ use std::marker::Model;
 use txn::Version;
 use values::NoMemory;
 
-/// A version, and the published list whose newest table it is. Contracts see that list.
+/// A version, and the published list whose last item it is. Contracts see that list.
 #[derive(Drop)]
 pub struct Published {
     version: Version,
@@ -23,22 +24,25 @@ pub struct Published {
 impl Model for Published {
     ghost use Rattle.std.specs.Prelude.{◌≡◌, ◌≤◌, length};
     ghost use Rattle.values.specs.declared.limits.TheConstants.{MAX_ROWS};
-    ghost use Rattle.publishing.specs.Lists.{Known, version_in};
+    ghost use Rattle.publishing.specs.Lists.{Known, shown_in, version_in};
+    ghost use Rattle.txn.specs.Version.{lower_table, table_version};
 
     ghost Value = { Known };
 
     ghost view = { λ p. p.list };
 
     ghost invariant = { λ p.
-        (p.version ≡ version_in p.list.opening.manager p.list.list)
-        × (length p.version.table ≤ p.list.opening.manager.start.limit) };
+        (table_version p.version ≡ version_in p.list.opening.manager p.list.list)
+        × (length (lower_table p.version.layers) ≤ p.list.opening.manager.start.limit)
+        × (p.version ≡ shown_in p.list.opening.manager p.list.list) };
 }
 
 impl Published {
-    /// A version of the newest table of this list, within the row limit.
+    /// The version of this list, which is of its newest table, within the row limit.
     pub fn new(version: Version, list: SeenList) -> Published
-        requires version { version ≡ version_in list.opening.manager list.list }
-        requires within { length version.table ≤ list.opening.manager.start.limit }
+        requires version { table_version version ≡ version_in list.opening.manager list.list }
+        requires within { length (lower_table version.layers) ≤ list.opening.manager.start.limit }
+        requires shown { version ≡ shown_in list.opening.manager list.list }
         ensures { result ≡ list }
     {
         Published { version, list }
@@ -61,8 +65,9 @@ impl Published {
     /// The version, and its list.
     pub fn into_parts(self) -> (Version, SeenList)
         ensures list { result.1 ≡ self }
-        ensures version { result.0 ≡ version_in self.opening.manager self.list }
-        ensures within { length result.0.table ≤ self.opening.manager.start.limit }
+        ensures version { table_version result.0 ≡ version_in self.opening.manager self.list }
+        ensures within { length (lower_table result.0.layers) ≤ self.opening.manager.start.limit }
+        ensures shown { result.0 ≡ shown_in self.opening.manager self.list }
     {
         let Published { version, list } = self;
         (version, list)

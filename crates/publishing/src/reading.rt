@@ -2,7 +2,8 @@
 ghost use Rattle.std.specs.Prelude.{◌≡◌, ◌≤◌, IfOk, IfSome, MatchOption, OnErr, Some, None, length};
 ghost use mathlib.Core.List.{IsPrefix};
 ghost use Rattle.left_right.specs.Sides.{view};
-ghost use Rattle.publishing.specs.Lists.{Opened, version_in};
+ghost use Rattle.publishing.specs.Lists.{Opened, shown_in, version_in};
+ghost use Rattle.txn.specs.Version.{lower_table, table_version};
 ghost use Rattle.publishing.specs.Views.{BeginsIf, IsOf};
 
 use crate::published::{Published, Publishing, Sees, View};
@@ -36,7 +37,8 @@ fn look(reader: VersionReader) -> (VersionReader, Result<Published, ReadingFault
     }
 }
 
-/// The version that is published now, with its list, where that is no shorter than the one seen so far.
+/// The version that is published now, under the layers of its last item, with its list, where that is no shorter than the
+/// one seen so far.
 ///
 /// # Errors
 ///
@@ -49,8 +51,9 @@ pub fn newest_seen(
     ensures reader { IfSome place.new (λ r. IsOf list.old.opening (view r.place)) }
     ensures opening { list.new.opening ≡ list.old.opening }
     ensures seen { IsPrefix list.old.list list.new.list }
-    ensures version { IfOk result (λ v. v ≡ version_in list.new.opening.manager list.new.list) }
-    ensures within { IfOk result (λ v. length v.table ≤ list.new.opening.manager.start.limit) }
+    ensures version { IfOk result (λ v. table_version v ≡ version_in list.new.opening.manager list.new.list) }
+    ensures within { IfOk result (λ v. length (lower_table v.layers) ≤ list.new.opening.manager.start.limit) }
+    ensures shown { IfOk result (λ v. v ≡ shown_in list.new.opening.manager list.new.list) }
     ensures err { OnErr result (list.new ≡ list.old) }
 {
     let Some(reader) = place.take() else {

@@ -16,7 +16,9 @@ use crate::assertions::{assert_holds, assert_holds_at};
 use crate::managers::base_manager;
 use crate::shown::{Recorded, are_records, has_items};
 use devices::{ColumnDevice, ReadFault, Store, have_failed, read_store};
-use fixtures::{BASE, Item, Slot, all_left_in, device_over, empty_slots, item_columns};
+use fixtures::{
+    BASE, Item, Slot, all_left_in, device_over, empty_slots, entries_text, item_columns,
+};
 use manager::Manager;
 use model::{CommitReply, ConflictRule};
 use publishing::Opening;
@@ -26,6 +28,7 @@ use std::marker::Brand;
 use std::process::Abort;
 use std::sync::Wait;
 use std::test::Fail;
+use values::NoMemory;
 use values::limits::MAX_ROWS;
 
 /// What sessions are asked over the base table, in turn, and what they leave.
@@ -54,6 +57,9 @@ pub(crate) struct Last {
     left: Left,
 }
 
+/// How many rows the stable table has, and the entries of the Read- and of the Write-PDT.
+pub(crate) type Layers = (u64, &'static str, &'static str);
+
 /// What is left of the manager, and of the sessions that are handed back.
 #[derive(Clone, Copy)]
 pub(crate) struct Left {
@@ -65,6 +71,8 @@ pub(crate) struct Left {
     base: u64,
     records: &'static [Recorded],
     rows: &'static [Item],
+    /// The layers, where they are compared.
+    layers: Option<Layers>,
 }
 
 /// Two clients, and the limits of the program.
@@ -86,6 +94,7 @@ const NONE: Left = Left {
     base: 0,
     records: &[],
     rows: &BASE,
+    layers: None,
 };
 
 /// That each step is answered as is due.
@@ -151,8 +160,23 @@ fn made_in(left: &Left) -> u64 {
         .fold(left.lost, |sum, count| sum.wrapping_add(*count))
 }
 
+/// Whether the manager has these layers, where they are compared.
+fn has_layers(alloc: Global, manager: &Manager, due: Option<Layers>) -> Result<bool, NoMemory> {
+    let Some((rows, read, write)) = due else {
+        return Ok(true);
+    };
+    let in_read = entries_text(alloc, manager.read_tree().iter())?;
+    let in_write = entries_text(alloc, manager.write_tree().iter())?;
+    Ok(manager.stable().len() == rows && in_read.as_str() == read && in_write.as_str() == write)
+}
+
 /// That this is left.
-fn assert_left<S: ImageStore>(rt: &impl Abort, closed: &Closed<S>, left: &Left) {
+fn assert_left<S: ImageStore>(
+    rt: &impl Abort,
+    alloc: Global,
+    closed: &Closed<S>,
+    left: &Left,
+) -> Result<(), NoMemory> {
     let manager = &closed.manager;
     assert_holds(rt, closed.counts.as_slice() == left.counts, "counts");
     assert_holds(rt, manager.made() == made_in(left), "records in all");
@@ -163,6 +187,8 @@ fn assert_left<S: ImageStore>(rt: &impl Abort, closed: &Closed<S>, left: &Left) 
         "records",
     );
     assert_holds(rt, has_items(manager, left.rows), "rows");
+    assert_holds(rt, has_layers(alloc, manager, left.layers)?, "layers");
+    Ok(())
 }
 
 /// Plays the scene between the sessions of the manager, and closes them.
@@ -185,7 +211,7 @@ fn play_in<O: Opening, S: ImageStore, R: Wait + Abort>(
         _ => sessions.pop(),
     };
     let closed = shared.close(sessions, rt);
-    assert_left(rt, &closed, &played?);
+    assert_left(rt, alloc, &closed, &played?)?;
     match aside {
         Some(session) => assert_after(rt, alloc, session, scene.after),
         None => Ok(()),

@@ -1,5 +1,6 @@
 -- What cuts have handed out, and what the manager still has.
-use Rattle.std.proofs.Common.{◌≡◌, ℕ, ◌+◌, ◌-◌, ◌≤◌, List, [], ◌∷◌, ◌++◌, length, take, refl, sym, ap, ◌∙◌, arith, length-append, append_assoc}
+use Rattle.std.specs.Prelude.{IfOk}
+use Rattle.std.proofs.Common.{◌≡◌, ◌+◌, ◌-◌, ◌≤◌, Result, Ok, Err, List, [], ◌∷◌, ◌++◌, length, take, refl, sym, ap, ◌∙◌, arith, length-append, append_assoc}
 use Rattle.std.proofs.lemmas.List.{append-nil}
 use Rattle.std.proofs.lemmas.List.Elements.{All-nil}
 use mathlib.Core.List.{IsPrefix}
@@ -8,11 +9,14 @@ use Rattle.model.specs.declared.write.CommitReply.{CommitReply}
 use Rattle.model.specs.declared.write.CommitReply.TheVariants.{Committed, Conflict, TooOld, Full}
 use Rattle.model.specs.Effects.{Effects}
 use Rattle.model.specs.History.{Start, Record, commits_after, commits_from, commits_with, effects_of_record, table_with_all}
-use Rattle.manager.specs.Managed.{Managed, cut_of, with_record}
+use Rattle.txn.specs.Version.{Lower}
+use Rattle.manager.specs.Managed.{Managed, cut_of, with_layers, with_record}
 use Rattle.publishing.specs.Commits.{all_effects}
-use Rattle.publishing.specs.Lists.{IsListed, all_commits, base_in}
+use Rattle.manager.specs.History.{Recorded}
+use Rattle.publishing.specs.declared.item.Item.{Item}
+use Rattle.publishing.specs.Lists.{IsOfList, all_commits, base_in}
 use Rattle.publishing.proofs.CallerLemmas.{listed_at_opening}
-use Rattle.shared.specs.Endings.{AreOfOneList, GoesOn, IsClosed, commits_by, count_commits}
+use Rattle.shared.specs.Endings.{AreOfOneList, GoesOn, IsClosed, IsHandedOut, commits_by, count_commits}
 use Rattle.shared.specs.Sessions.{Seat}
 
 count_commits-append : (xs ys : List Record) → count_commits (xs ++ ys) ≡ count_commits xs + count_commits ys
@@ -51,6 +55,9 @@ module _ (o m : Managed) (g : GoesOn o m) where
         made = omega (arith, made, len);
         base = g.base;
       }
+
+  pub goes_on-over : (layers : Lower) → GoesOn o (with_layers m layers)
+  goes_on-over layers = record { handed = g.handed; added = g.added; records = g.records; made = g.made; base = g.base }
 
   pub goes_on-cut : GoesOn o (cut_of m)
   goes_on-cut =
@@ -109,3 +116,8 @@ keeps_all o seats m c all =
 -- nothing has happened since the opening
 pub closed_at_opening : (o : Managed) → IsClosed o [] o
 closed_at_opening o = record { list = []; listed = listed_at_opening o; seen = All-nil (λ (s : Seat). AreOfOneList s.seen []); goes_on = goes_on-self o }
+
+-- what a cut hands out under the lock is of the opening
+pub handed_on : {E : Type 0} (o : Managed) (list : List Item) (r : Result Recorded E) → IfOk r (λ h. IsOfList o list h) → IfOk r (λ h. IsHandedOut o h)
+handed_on o list (Ok h) is = (list, is)
+handed_on o list (Err e) is = tt

@@ -1,5 +1,6 @@
 pub mod CloseLemmas
 pub mod EndingLemmas
+pub mod GenerationLemmas
 pub mod RepliesLemmas
 pub mod SeatLemmas
 pub mod ShowLemmas

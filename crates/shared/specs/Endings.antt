@@ -6,7 +6,8 @@ use Rattle.model.specs.declared.write.CommitReply.TheVariants.{Committed, Confli
 use Rattle.model.specs.History.{Record}
 use Rattle.manager.specs.Managed.{Managed}
 use Rattle.publishing.specs.declared.item.Item.{Item}
-use Rattle.publishing.specs.Lists.{IsListed}
+use Rattle.manager.specs.History.{Recorded}
+use Rattle.publishing.specs.Lists.{IsListed, IsOfList}
 use Rattle.shared.specs.Sessions.{Seat}
 
 -- how many commits a reply grants
@@ -29,6 +30,11 @@ pub record GoesOn (old new : Managed) : Type 0 where
   pub records : handed ++ new.history ≡ old.history ++ added
   pub made : new.made ≡ old.made + length added
   pub base : new.start.base ≡ old.start.base + count_commits handed
+
+-- a history that was handed out is of this opening: it is under the same schema, limits and rule, and some published list has
+-- its start, at the list's last cut or where it started at the opening, over the table of that number, and its commits since
+abbrev pub IsHandedOut : Managed → Recorded → Type 0
+IsHandedOut o history = (list : List Item) × IsOfList o list history
 
 -- both are beginnings of one published list
 abbrev pub AreOfOneList : List Item → List Item → Type 0

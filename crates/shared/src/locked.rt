@@ -1,14 +1,17 @@
 //! What lies under the lock: the manager with its store, and the writer of what is published.
 ghost use Rattle.std.specs.Prelude.{◌≡◌, ◌+◌, ◌<◌, ◌≤◌, ◌^◌, ◌++◌, ◌∷◌, ◌⊎◌, true, false, [], length, IfErr, IfOk, IfSome, IsSome, MatchResult, OnErr, OnOk, None, Some};
 ghost use mathlib.Core.List.{IsPrefix};
-ghost use Rattle.manager.specs.Managed.{IsDecided, IsManaged, IsOwn, cut_of, history_of, newest_number, newest_version, record_of, with_record};
+ghost use Rattle.manager.specs.Managed.{HasFolded, IsDecided, IsManaged, IsOwn, cut_of, history_of, newest_number, newest_version, rebuilt_of, record_of, with_record};
+ghost use Rattle.txn.specs.Txn.{effects_of};
+ghost use Rattle.txn.specs.Version.{lower_table, table_version};
 ghost use Rattle.manager.specs.Prepared.{IsPrepared};
 ghost use Rattle.model.specs.History.{IsLegal};
-ghost use Rattle.publishing.specs.Lists.{IsBegun, IsListed, number_in, version_in, with_item};
-ghost use Rattle.publishing.specs.declared.item.Item.TheVariants.{Same, Cuts};
+ghost use Rattle.publishing.specs.Lists.{IsBegun, IsCutAfter, IsListed, IsOfList, IsSame, IsShownAgain, layered_version, number_in, shown_in, version_in, version_of_item, with_item};
+ghost use Rattle.publishing.specs.declared.item.Item.{Item};
 ghost use Rattle.shared.specs.Endings.{GoesOn};
+ghost use Rattle.shared.specs.Generations.{IsAnswered};
 ghost use Rattle.shared.specs.Sessions.{IsReplied, number_of};
-ghost use Rattle.shared.specs.Stands.{IsGrown};
+ghost use Rattle.shared.specs.Stands.{IsGrown, IsShownAfter, IsShownBefore};
 
 use crate::store::{ImageStore, exchange};
 use left_right::writer::Writer;
@@ -28,7 +31,7 @@ const MAX_ITEMS: u64 = (1 << 62) - 1;
 /// The writer of what is published.
 pub type VersionWriter = Writer<Published, Published, View, Publishing>;
 
-/// Publishes a version with one item more. At `Err` the same is published as before.
+/// Publishes a version with one item more, which says so. At `Err` the same is published as before.
 fn publish<O: Opening, R: Wait>(
     rt: &R,
     head: &Head<O>,
@@ -39,9 +42,10 @@ fn publish<O: Opening, R: Wait>(
 ) -> (VersionWriter, Result<SeenList, NoMemory>)
     requires shown { writer.desk.shown.value ≡ list.now }
     requires opening { list.now.opening ≡ O.opened }
-    requires version { version ≡ version_in O.opened.manager (list.now.list ++ item ∷ []) }
-    requires within { length version.table ≤ O.opened.manager.start.limit }
+    requires version { table_version version ≡ version_in O.opened.manager (list.now.list ++ item ∷ []) }
+    requires within { length (lower_table version.layers) ≤ O.opened.manager.start.limit }
     requires room { length list.now.list < 2 ^ 62 }
+    requires item { version ≡ version_of_item item }
     ensures { MatchResult result.1 (λ next. (next ≡ with_item list.now item) × (result.0.desk.shown.value ≡ next)) (λ _. result.0.desk.shown.value ≡ list.now) }
 {
     let Some(next) = head.add(list, item, version.number()) else {
@@ -79,8 +83,9 @@ fn show<O: Opening, R: Wait>(
 ) -> Result<(), NoMemory>
     requires writer { IsSome place.old × IfSome place.old (λ w. w.desk.shown.value ≡ list.old) }
     requires opening { list.old.opening ≡ O.opened }
-    requires version { version ≡ version_in O.opened.manager (list.old.list ++ item ∷ []) }
-    requires within { length version.table ≤ O.opened.manager.start.limit }
+    requires version { table_version version ≡ version_in O.opened.manager (list.old.list ++ item ∷ []) }
+    requires within { length (lower_table version.layers) ≤ O.opened.manager.start.limit }
+    requires item { version ≡ version_of_item item }
     ensures list { MatchResult result (λ _. list.new ≡ with_item list.old item) (λ _. list.new ≡ list.old) }
     ensures writer { IsSome place.new × IfSome place.new (λ w. w.desk.shown.value ≡ list.new) }
 {
@@ -118,6 +123,7 @@ fn show_commit<O: Opening, R: Wait>(
     requires prepared { IsPrepared manager.now txn.now prepared.now }
     ensures listed { OnOk result (IsListed O.opened.manager list.new.list (with_record manager.now (record_of txn.now prepared.now.reply))) }
     ensures grown { OnOk result (IsGrown list.old.list list.new.list txn.now prepared.now.reply) }
+    ensures shown { OnOk result (IsShownAfter O.opened.manager manager.now.layers (effects_of txn.now) prepared.now.reply list.new.list) }
     ensures opening { list.new.opening ≡ O.opened }
     ensures err { OnErr result (list.new ≡ list.old) }
     ensures writer { IsSome place.new × IfSome place.new (λ w. w.desk.shown.value ≡ list.new) }
@@ -128,11 +134,12 @@ fn show_commit<O: Opening, R: Wait>(
         return Ok(());
     };
     let copy = version.copy()?;
-    let item = Item::Commits(Snapshot::of(txn));
+    let shown = Snapshot::of(&copy);
+    let item = Item::Commits(Snapshot::of(txn), shown);
     show(rt, head, list, place, copy, item)
 }
 
-/// Publishes the newest version under other layers. At `Err` nothing changes.
+/// Publishes this version, which is the newest one under other layers. At `Err` nothing changes.
 fn show_same<O: Opening, R: Wait>(
     rt: &R,
     head: &Head<O>,
@@ -144,14 +151,16 @@ fn show_same<O: Opening, R: Wait>(
     requires writer { IsSome place.old × IfSome place.old (λ w. w.desk.shown.value ≡ list.old) }
     requires opening { list.old.opening ≡ O.opened }
     requires listed { IsListed O.opened.manager list.old.list manager.now }
-    requires version { version.now ≡ newest_version manager.now }
-    ensures list { MatchResult result (λ _. list.new ≡ with_item list.old Same) (λ _. list.new ≡ list.old) }
+    requires version { table_version version.now ≡ newest_version manager.now }
+    ensures list { MatchResult result (λ _. (item : Item) × IsSame version.now item × (list.new ≡ with_item list.old item)) (λ _. list.new ≡ list.old) }
     ensures listed { IsListed O.opened.manager list.new.list manager.now }
     ensures writer { IsSome place.new × IfSome place.new (λ w. w.desk.shown.value ≡ list.new) }
 {
     // What the manager keeps is wanted in the proof alone.
     let _ = manager.history();
-    show(rt, head, list, place, version.copy()?, Item::Same)
+    let copy = version.copy()?;
+    let shown = Snapshot::of(&copy);
+    show(rt, head, list, place, copy, Item::Same(shown))
 }
 
 /// Whether a session has seen more commits than the list has.
@@ -197,7 +206,7 @@ impl<O: Opening, S: ImageStore> Model for Locked<O, S> {
 
     ghost Value = { Stand };
 
-    ghost view = { λ s. record { manager = s.manager; list = s.list.list } };
+    ghost view = { λ s. record { manager = s.manager; list = s.list.list; next = S.next s.store } };
 
     ghost invariant = { λ s.
         IsListed O.opened.manager s.list.list s.manager
@@ -233,7 +242,7 @@ impl<O: Opening, S: ImageStore> Locked<O, S> {
         requires writer { writer.desk.shown.value ≡ list }
         requires book { (book.total ≡ 0) × (rest.parts ≡ 0) × (rest.amount ≡ 0) }
         requires store { S.columns store ≡ manager.schema }
-        ensures { (result.manager ≡ manager) × (result.list ≡ []) }
+        ensures { (result.manager ≡ manager) × (result.list ≡ []) × (result.next ≡ S.next store) }
     {
         Locked {
             manager,
@@ -265,6 +274,10 @@ impl<O: Opening, S: ImageStore> Locked<O, S> {
         ensures decided { IfOk result (λ r. IsDecided self.old.manager txn r.0 self.new.manager) }
         ensures err { IfErr result (λ e. (self.new.manager ≡ self.old.manager) × (e.0 ≡ txn) × (seen.new ≡ seen.old)) }
         ensures replied { IfOk result (λ r. IsReplied O.opened.manager seen.old.list seen.new.list txn r.0) }
+
+        // At Committed the list has its item more, under the layers that the commit makes; else the list stays.
+        ensures grown { IfOk result (λ r. IsGrown self.old.list self.new.list txn r.0) }
+        ensures shown { IfOk result (λ r. IsShownAfter O.opened.manager self.old.manager.layers (effects_of txn) r.0 self.new.list) }
         ensures told { IfOk result (λ r. (r.1.opening ≡ O.opened) × (r.1.list ≡ self.new.list) × IsPrefix r.1.list seen.new.list) }
         ensures reached { IfOk result (λ r. number_of r.0 ≤ number_in O.opened.manager r.1.list) }
         ensures counted { MatchResult result (λ _. share.new.amount ≡ share.old.amount + 1) (λ _. share.new.amount ≡ share.old.amount) }
@@ -274,6 +287,7 @@ impl<O: Opening, S: ImageStore> Locked<O, S> {
         ensures bound { OnOk result (share.new.amount ≤ 2 ^ 62) }
         ensures stranger { IfErr result (λ e. e.1 ≡ Refused.Stranger → number_in O.opened.manager [] < number_in O.opened.manager seen.old.list) }
         ensures opening { seen.new.opening ≡ O.opened }
+        ensures next { self.new.next ≡ self.old.next }
     {
         let Locked {
             manager,
@@ -300,14 +314,15 @@ impl<O: Opening, S: ImageStore> Locked<O, S> {
         Ok((reply, list.again()))
     }
 
-    /// Folds the Write-PDT into the Read-PDT, and publishes the same table once more.
+    /// Folds the Write-PDT into the Read-PDT, and publishes the same table under the manager's new layers.
     ///
     /// # Errors
     ///
     /// `NoMemory` where a growth is refused: the manager keeps its layers.
     pub fn fold<R: Wait>(&mut self, rt: &R) -> Result<(), NoMemory>
-        ensures manager { self.new.manager ≡ self.old.manager }
-        ensures list { MatchResult result (λ _. self.new.list ≡ self.old.list ++ Same ∷ []) (λ _. self.new.list ≡ self.old.list) }
+        ensures manager { MatchResult result (λ _. HasFolded self.old.manager self.new.manager) (λ _. self.new.manager ≡ self.old.manager) }
+        ensures next { self.new.next ≡ self.old.next }
+        ensures list { MatchResult result (λ _. IsShownAgain self.old.list (layered_version self.new.manager) self.new.list) (λ _. self.new.list ≡ self.old.list) }
     {
         let Locked {
             manager,
@@ -331,9 +346,12 @@ impl<O: Opening, S: ImageStore> Locked<O, S> {
     ///
     /// As those of `Manager::checkpoint`: the manager keeps its layers, and the same table is published.
     pub fn checkpoint<R: Wait>(&mut self, rt: &R) -> Result<u32, CheckpointFault>
-        ensures manager { self.new.manager ≡ self.old.manager }
-        ensures list { (self.new.list ≡ self.old.list) ⊎ (self.new.list ≡ self.old.list ++ Same ∷ []) }
-        ensures ok { OnOk result (self.new.list ≡ self.old.list ++ Same ∷ []) }
+        ensures manager { MatchResult result (λ _. self.new.manager ≡ rebuilt_of self.old.manager) (λ _. self.new.manager ≡ self.old.manager) }
+
+        // What is published is over the new stable table, and that before the devices get it: where one of them fails, and
+        // the manager keeps its layers, it is published all the same.
+        ensures list { IsShownBefore self.old.list (layered_version (rebuilt_of self.old.manager)) result self.new.list }
+        ensures answer { IsAnswered self.old.next result self.new.next }
     {
         let Locked {
             manager,
@@ -358,7 +376,9 @@ impl<O: Opening, S: ImageStore> Locked<O, S> {
     pub fn cut<R: Wait>(&mut self, rt: &R) -> Result<History, NoMemory>
         ensures ok { IfOk result (λ history. (history ≡ history_of self.old.manager) × (self.new.manager ≡ cut_of self.old.manager)) }
         ensures legal { IfOk result (λ history. IsLegal history.schema history.start history.records) }
-        ensures list { OnOk result (self.new.list ≡ self.old.list ++ Cuts (newest_number self.old.manager) ∷ []) }
+        ensures next { self.new.next ≡ self.old.next }
+        ensures of_list { IfOk result (λ history. IsOfList O.opened.manager self.old.list history) }
+        ensures list { OnOk result (IsCutAfter self.old.list (newest_number self.old.manager) (layered_version self.old.manager) self.new.list) }
         ensures err { OnErr result (self.new ≡ self.old) }
     {
         let Locked {
@@ -373,7 +393,8 @@ impl<O: Opening, S: ImageStore> Locked<O, S> {
         let version = manager.version().copy()?;
         let _ = manager.history();
         let base = version.number();
-        show(rt, head, list, writer, version, Item::Cuts(base))?;
+        let shown = Snapshot::of(&version);
+        show(rt, head, list, writer, version, Item::Cuts(base, shown))?;
         let history = manager.cut();
         let _ = history.records();
         Ok(history)
@@ -385,7 +406,8 @@ impl<O: Opening, S: ImageStore> Locked<O, S> {
     ///
     /// The given store, where it isn't for the manager's columns: nothing changes.
     pub fn swap(&mut self, store: S) -> Result<S, S>
-        ensures same { self.new ≡ self.old }
+        ensures same { (self.new.manager ≡ self.old.manager) × (self.new.list ≡ self.old.list) }
+        ensures swapped { MatchResult result (λ old. (S.next old ≡ self.old.next) × (self.new.next ≡ S.next store)) (λ _. self.new.next ≡ self.old.next) }
         ensures ok { IfOk result (λ old. (S.columns old ≡ O.opened.manager.schema) × (S.columns store ≡ O.opened.manager.schema)) }
         ensures err { IfErr result (λ back. (back ≡ store) × (S.columns store ≡ O.opened.manager.schema → ⊥)) }
     {
@@ -409,6 +431,7 @@ impl<O: Opening, S: ImageStore> Locked<O, S> {
         ensures listed { IsListed O.opened.manager self.list result.0 }
         ensures list { (result.4.list ≡ self.list) × (result.4.opening ≡ O.opened) }
         ensures store { S.columns result.1 ≡ result.0.schema }
+        ensures next { S.next result.1 ≡ self.next }
         ensures book { result.0.made ≡ O.opened.manager.made + result.2.total }
         ensures goes_on { GoesOn O.opened.manager result.0 }
         ensures rest { (result.3.parts ≡ 0) × (result.3.amount ≡ 0) }

@@ -8,7 +8,7 @@ ghost use Rattle.publishing.specs.Commits.{commits_made};
 ghost use Rattle.publishing.specs.Lists.{number_in};
 ghost use Rattle.std.specs.List.{range_with_len};
 ghost use Rattle.values.specs.declared.limits.TheConstants.{MAX_ROWS};
-ghost use Rattle.shared.specs.Endings.{IsClosed};
+ghost use Rattle.shared.specs.Endings.{IsClosed, IsHandedOut};
 ghost use Rattle.shared.specs.Sessions.{AreBeginnings, WasReplied, WasTold, commits_above, new_seat, number_of};
 ghost use Rattle.shared.specs.declared.fault.CommitFault.TheVariants as commit_fault;
 ghost use Rattle.shared.specs.declared.fault.ShareFault.TheVariants as share_fault;
@@ -275,13 +275,14 @@ impl<O: Opening, S: ImageStore> Shared<O, S> {
         outcome
     }
 
-    /// Hands out the history so far, which is legal; numbers of commits go on. Waits for the lock.
+    /// Hands out the history of this opening since the last cut, which is legal; numbers of commits go on. Waits for the lock.
     ///
     /// # Errors
     ///
     /// `NoMemory` where a growth is refused: nothing changes.
     pub fn cut<R: Wait>(&self, wait: &R) -> Result<History, NoMemory>
-        ensures { IfOk result (λ history. IsLegal history.schema history.start history.records) }
+        ensures legal { IfOk result (λ history. IsLegal history.schema history.start history.records) }
+        ensures opening { IfOk result (λ history. IsHandedOut O.opened.manager history) }
     {
         let mut state = self.state.lock(wait);
         let outcome = state.cut(wait);

@@ -266,7 +266,7 @@ fn assert_beside(
 }
 
 /// Trees over the same rows, and what becomes of the first one where changes to different columns pass.
-static BESIDE: [Beside; 9] = [
+static BESIDE: [Beside; 10] = [
     (
         &[ItemWrite::Insert(25, "Dee", 4)],
         &[ItemWrite::Delete(30)],
@@ -281,6 +281,12 @@ static BESIDE: [Beside; 9] = [
         ],
         ["2:2=9", "0+5,Eve,0 2+25,Dee,4"],
         "4:2=9",
+    ),
+    (
+        &[ItemWrite::Set(30, 9)],
+        &[ItemWrite::Insert(5, "Eve", 0)],
+        ["2:2=9", "0+5,Eve,0"],
+        "3:2=9",
     ),
     (
         &[ItemWrite::Delete(30)],

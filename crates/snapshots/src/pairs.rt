@@ -7,7 +7,7 @@ ghost use Rattle.std.specs.Prelude.{◌≡◌, ◌<◌, IfOk, IsTrue, length};
 ghost use Rattle.values.specs.Shape.{IsSchema};
 ghost use Rattle.stable.specs.Stable.{table_in};
 ghost use Rattle.merge.specs.Image.{IsLayer};
-ghost use Rattle.txn.specs.Version.{version_of, empty_tree};
+ghost use Rattle.txn.specs.Version.{lower_table, numbered, empty_tree};
 
 mod drawn;
 mod sizes;
@@ -50,7 +50,7 @@ fn answer_all(txn: &mut Txn, writes: Vec<Write>) -> Result<(), Fail>
 
 /// What a transaction of these writes over the version leaves.
 fn written(alloc: Global, version: Version, writes: Vec<Write>) -> Result<Leavings, Fail>
-    ensures { IfOk result (λ made. IsLayer version.schema version.table made.tree) }
+    ensures { IfOk result (λ made. IsLayer version.layers.stable.schema (lower_table version.layers) made.tree) }
 {
     if version.len() > AMPLE {
         return Err(Fail::new("many rows"));
@@ -80,7 +80,7 @@ fn written_over(
 /// The image of the tree over the table.
 fn image_of(alloc: Global, stable: &Arc<StableTable>, tree: &DeltaTree) -> Result<Version, Fail>
     requires { IsLayer stable.now.value.schema (table_in stable.now.value) tree.now }
-    ensures { IfOk result (λ version. version ≡ version_of (record { stable = stable.now.value; read = tree.now; write = empty_tree stable.now.value.schema.key_cols }) 1) }
+    ensures { IfOk result (λ version. version ≡ numbered (record { stable = stable.now.value; read = tree.now; write = empty_tree stable.now.value.schema.key_cols }) 1) }
 {
     let read = Arc::new(alloc, tree.copy()?)?;
     let none = Arc::new(alloc, DeltaTree::new(alloc, stable.schema().key_cols()))?;

@@ -33,9 +33,21 @@ pub record AreLower (l : Lower) : Type 0 where
   pub lower : IsLayer l.stable.schema (table_in l.stable) l.read
   pub middle : IsLayer l.stable.schema (table_with (table_in l.stable) lower.effects) l.write
 
+-- layers, and how many commits made them
+pub record LayeredVersion : Type 0 where
+  pub layers : Lower
+  pub number : ℕ
+
 -- the version of these layers after so many commits
 abbrev pub version_of : Lower → ℕ → TableVersion
 version_of l number = record { schema = l.stable.schema; table = lower_table l; number = number }
+
+abbrev pub numbered : Lower → ℕ → LayeredVersion
+numbered l number = record { layers = l; number = number }
+
+-- what a version says of the table
+abbrev pub table_version : LayeredVersion → TableVersion
+table_version v = version_of v.layers v.number
 
 -- a stable table after so many commits
 abbrev pub version_at : Stable → ℕ → TableVersion

@@ -39,16 +39,18 @@ pub struct Txn {
 impl Model for Txn {
     ghost use Rattle.std.specs.Prelude.{◌≡◌};
     ghost use Rattle.txn.specs.Txn.{Transaction, transaction_at, IsTransaction, tree_of};
+    ghost use Rattle.txn.specs.Version.{table_version};
 
     ghost Value = { Transaction };
 
-    ghost view = { λ t. transaction_at t.version t.row_limit t.client t.writes.items };
+    ghost view = { λ t. transaction_at (table_version t.version) t.row_limit t.client t.writes.items };
 
-    ghost invariant = { λ t. IsTransaction (transaction_at t.version t.row_limit t.client t.writes.items)
-        × (t.tree ≡ tree_of (transaction_at t.version t.row_limit t.client t.writes.items)) };
+    ghost invariant = { λ t. IsTransaction (transaction_at (table_version t.version) t.row_limit t.client t.writes.items)
+        × (t.tree ≡ tree_of (transaction_at (table_version t.version) t.row_limit t.client t.writes.items)) };
 }
 
 impl Txn {
+    ghost use Rattle.txn.specs.Version.{lower_table, table_version};
     ghost use Rattle.txn.specs.Txn.{transaction_at, entries_of, tree_of, image_of, IsTransaction, IsAnswered, IsFound};
 
     /// A transaction over the version, with no writes.
@@ -62,9 +64,9 @@ impl Txn {
         client: u32,
         row_limit: u64,
     ) -> Result<Txn, NoMemory>
-        requires within { length version.table ≤ row_limit }
+        requires within { length (lower_table version.layers) ≤ row_limit }
         requires limited { row_limit ≤ MAX_ROWS }
-        ensures { IfOk result (λ txn. txn ≡ transaction_at version row_limit client []) }
+        ensures { IfOk result (λ txn. txn ≡ transaction_at (table_version version) row_limit client []) }
     {
         let key_cols = version.schema().key_cols();
         Ok(Txn {

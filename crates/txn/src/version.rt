@@ -2,7 +2,7 @@
 ghost use Rattle.std.specs.Prelude.{◌≡◌, IfOk, is_some, length};
 ghost use Rattle.model.specs.Table.{IsTable, rank, row_at, rows_of};
 ghost use Rattle.model.specs.Merging.{merged_rows};
-ghost use Rattle.merge.specs.Image.{IsLayer, image_rows, image_table, stack_of};
+ghost use Rattle.merge.specs.Image.{IsLayer, image_rows, image_table, stack_below, stack_of};
 
 use delta::DeltaTree;
 use merge::Layers;
@@ -69,6 +69,7 @@ impl Base {
         ensures schema { result.schema ≡ self.now.stable.schema }
         ensures rows { image_rows result ≡ rows_of (lower_table self.now) }
         ensures table { image_table result ≡ lower_table self.now }
+        ensures layers { result ≡ stack_below self.now.stable self.now.read self.now.write }
     {
         Layers::committed(&self.stable, &self.read, &self.write)
     }
@@ -82,15 +83,15 @@ pub struct Version {
 }
 
 impl Model for Version {
-    ghost use Rattle.txn.specs.Version.{TableVersion, version_of};
+    ghost use Rattle.txn.specs.Version.{LayeredVersion, numbered};
 
-    ghost Value = { TableVersion };
+    ghost Value = { LayeredVersion };
 
-    ghost view = { λ v. version_of v.base.value v.number };
+    ghost view = { λ v. numbered v.base.value v.number };
 }
 
 impl Version {
-    ghost use Rattle.txn.specs.Version.{AreLower, version_at, version_of};
+    ghost use Rattle.txn.specs.Version.{AreLower, alone, lower_table, numbered};
 
     /// The version of a stable table that so many commits made, with no entries above it.
     ///
@@ -98,7 +99,7 @@ impl Version {
     ///
     /// `NoMemory` where a growth is refused.
     pub fn new(alloc: Global, stable: Arc<StableTable>, number: u64) -> Result<Version, NoMemory>
-        ensures { IfOk result (λ version. version ≡ version_at stable.value number) }
+        ensures { IfOk result (λ version. version ≡ numbered (alone stable.value) number) }
     {
         let key_cols = stable.schema().key_cols();
         let read = Arc::new(alloc, DeltaTree::new(alloc, key_cols))?;
@@ -119,7 +120,7 @@ impl Version {
         number: u64,
     ) -> Result<Version, NoMemory>
         requires { AreLower (record { stable = stable.value; read = read.value; write = write.value }) }
-        ensures { IfOk result (λ version. version ≡ version_of (record { stable = stable.value; read = read.value; write = write.value }) number) }
+        ensures { IfOk result (λ version. version ≡ numbered (record { stable = stable.value; read = read.value; write = write.value }) number) }
     {
         let base = Base {
             stable,
@@ -155,32 +156,33 @@ impl Version {
 
     /// The columns of the table.
     pub fn schema(&self) -> &Schema
-        ensures columns { result.now ≡ self.now.schema }
-        ensures lawful { IsTable self.now.schema self.now.table }
+        ensures columns { result.now ≡ self.now.layers.stable.schema }
+        ensures lawful { IsTable self.now.layers.stable.schema (lower_table self.now.layers) }
     {
         self.base.schema()
     }
 
     /// How many rows the table has.
     pub fn len(&self) -> u64
-        ensures { result ≡ length self.now.table }
+        ensures { result ≡ length (lower_table self.now.layers) }
     {
         self.base.len()
     }
 
     /// The layers of the table, whose image is its rows. Takes no memory.
     pub fn image(&self) -> Layers<'_>
-        ensures schema { result.schema ≡ self.now.schema }
-        ensures rows { image_rows result ≡ rows_of self.now.table }
+        ensures schema { result.schema ≡ self.now.layers.stable.schema }
+        ensures rows { image_rows result ≡ rows_of (lower_table self.now.layers) }
+        ensures layers { result ≡ stack_below self.now.layers.stable self.now.layers.read self.now.layers.write }
     {
         self.base.image()
     }
 
     /// The table's layers with a transaction's tree on top.
     pub(crate) fn layers<'a>(&'a self, trans: &'a DeltaTree) -> Layers<'a>
-        requires { IsLayer self.now.schema self.now.table trans.now }
-        ensures schema { result.schema ≡ self.now.schema }
-        ensures rows { image_rows result ≡ merged_rows (rows_of self.now.table) trans.now.entries }
+        requires { IsLayer self.now.layers.stable.schema (lower_table self.now.layers) trans.now }
+        ensures schema { result.schema ≡ self.now.layers.stable.schema }
+        ensures rows { image_rows result ≡ merged_rows (rows_of (lower_table self.now.layers)) trans.now.entries }
     {
         self.base.layers(trans)
     }
@@ -188,8 +190,8 @@ impl Version {
     /// How many rows have a key below that of these cells, and whether the table has that key: by halving in the stable
     /// table and a few descents in each tree.
     pub(crate) fn locate(&self, key: &[Value]) -> (u64, bool)
-        ensures rank { result.0 ≡ rank key.now self.now.table }
-        ensures there { result.1 ≡ is_some (row_at self.now.table key.now) }
+        ensures rank { result.0 ≡ rank key.now (lower_table self.now.layers) }
+        ensures there { result.1 ≡ is_some (row_at (lower_table self.now.layers) key.now) }
     {
         self.base.locate(key)
     }

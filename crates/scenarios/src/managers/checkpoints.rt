@@ -2,8 +2,10 @@
 //!
 //! One growth of a run is refused under `rt try --test --fail-alloc N`, for N from 1 on. A device in memory that finds none
 //! for its piece has failed: `DeviceFailed` answers that, and `StoreFailed` what comes after it.
-ghost use Rattle.std.specs.Prelude.{◌≡◌};
+ghost use Rattle.txn.specs.Txn.{Transaction};
+ghost use Rattle.manager.specs.Managed.{IsOwn};
 
+use super::cuts::has_layers;
 use super::refusals::{BASE, Shown, folded_once, is_shown};
 use super::{begun_with, decided, has_rows, one_write, opened};
 use devices::{ColumnDevice, Store, have_failed};
@@ -30,7 +32,7 @@ fn answers(
     slots: &[Slot],
     before: &Shown,
 ) -> Result<Answers, Fail>
-    ensures { manager.new ≡ manager.old }
+    ensures { (txn : Transaction) → IsOwn manager.old txn → IsOwn manager.new txn }
 {
     let mut devices: Vec<Box<dyn ColumnDevice + Send>> = Vec::new(alloc);
     for (device, slot) in slots.iter().enumerate() {
@@ -59,6 +61,11 @@ fn are_due(answers: &Answers) -> bool {
     }
 }
 
+/// Whether a checkpoint was taken.
+fn is_taken(answers: &Answers) -> bool {
+    matches!(answers, (Ok(_), None) | (Err(_), Some(Ok(_))))
+}
+
 /// A manager of three layers that have entries, and what it shows.
 static LAYERED: Shown = Shown {
     rows: &[(10, 1), (20, 2), (25, 5), (30, 3)],
@@ -74,6 +81,7 @@ fn a_checkpoint_leaves_the_manager(rt: HostRuntime) -> Result<(), Fail> {
     let found = answers(&rt, alloc, &mut manager, slots.as_slice(), &LAYERED)?;
     assert!(&rt; are_due(&found));
     assert!(&rt; is_shown(&manager, &LAYERED));
+    assert!(&rt; has_layers(alloc, &manager, "", 4)? == is_taken(&found));
     Ok(())
 }
 

@@ -1,6 +1,6 @@
 //! What folds and cuts leave, and commits in two parts.
 use super::{begun_with, decided, has_rows, one_write, opened};
-use fixtures::ItemWrite;
+use fixtures::{ItemWrite, entries_text};
 use manager::History;
 use model::CommitReply;
 use pdtcli::Manager;
@@ -8,6 +8,60 @@ use std::alloc::Global;
 use std::test::Fail;
 use values::NoMemory;
 use values::limits::MAX_ROWS;
+
+/// Whether the Read-PDT of the newest version has these entries, its Write-PDT none, and its stable table these rows.
+pub(super) fn has_layers(
+    alloc: Global,
+    manager: &Manager,
+    read: &str,
+    rows: u64,
+) -> Result<bool, NoMemory> {
+    let entries = entries_text(alloc, manager.read_tree().iter())?;
+    Ok(
+        entries.as_str() == read
+            && manager.write_tree().is_empty()
+            && manager.stable().len() == rows,
+    )
+}
+
+/// The reply to a transaction that makes one write, and whether it leaves this entry in the Write-PDT, and a fold after it these
+/// entries in the Read-PDT alone.
+fn one_folded(
+    alloc: Global,
+    manager: &mut Manager,
+    named: ItemWrite,
+    (write, read): (&str, &str),
+) -> Result<(Option<CommitReply>, bool), NoMemory> {
+    let reply = one_write(alloc, manager, named);
+    let entries = entries_text(alloc, manager.write_tree().iter())?;
+    let is_written = entries.as_str() == write;
+    manager.fold()?;
+    Ok((reply, is_written && has_layers(alloc, manager, read, 3)?))
+}
+
+#[test]
+fn a_fold_leaves_an_entry_for_a_row_that_is_inserted_and_set(rt: HostRuntime) -> Result<(), Fail> {
+    let alloc = rt.alloc();
+    let mut manager = opened(alloc, 64, MAX_ROWS)?;
+    let inserted = one_folded(
+        alloc,
+        &mut manager,
+        ItemWrite::Insert(25, "Dee", 4),
+        ("2+25,Dee,4", "2+25,Dee,4"),
+    )?;
+    assert!(&rt; inserted == (Some(CommitReply::Committed(1)), true));
+    let set = one_folded(
+        alloc,
+        &mut manager,
+        ItemWrite::Set(25, 5),
+        ("2:2=5", "2+25,Dee,5"),
+    )?;
+    assert!(&rt; set == (Some(CommitReply::Committed(2)), true));
+    let deleted = one_folded(alloc, &mut manager, ItemWrite::Delete(25), ("2-25", ""))?;
+    assert!(&rt; deleted == (Some(CommitReply::Committed(3)), true));
+    assert!(&rt; has_rows(&manager, &[(10, 1), (20, 2), (30, 3)]));
+    Ok(())
+}
 
 /// The replies to a commit, to one after a cut, and to one that began before both; and what the cut handed out: the number at
 /// which it starts, and how many records.

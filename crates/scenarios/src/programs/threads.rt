@@ -7,7 +7,7 @@ use pdtcli::{Gate, Left, Refusal, ShowFault, open_texts, run_clients, show};
 use std::alloc::Global;
 use std::process::Abort;
 use std::sync::Wait;
-use std::sync::atomic::{AtomicBool, Ordering};
+use std::sync::atomic::{AtomicBool, AtomicU64, Ordering};
 use std::test::Fail;
 use std::thread;
 use std::thread::Threads;
@@ -128,4 +128,52 @@ fn clients_meet_on_threads_of_their_own(rt: HostRuntime) -> Result<(), Fail> {
     let gate = Meeting::new();
     let left = left_in_memory(&rt, rt.alloc(), MET.0, &gate)?;
     assert_met(&rt, rt.alloc(), &gate, &left)
+}
+
+/// A gate that counts what it is told before calls and after them: each digit is how often it was told one call of one client.
+#[derive(Drop)]
+struct Counting {
+    before: AtomicU64,
+    after: AtomicU64,
+}
+
+/// The digit of a call, and the seventh for one that isn't in the script.
+fn digit_of(client: u32, call: usize) -> u64 {
+    match (client, call) {
+        (0, 0) => 1,
+        (0, 1) => 10,
+        (0, 2) => 100,
+        (1, 0) => 1_000,
+        (1, 1) => 10_000,
+        (1, 2) => 100_000,
+        _ => 1_000_000,
+    }
+}
+
+impl Gate for Counting {
+    fn before(&self, client: u32, call: usize) {
+        self.before
+            .fetch_add(digit_of(client, call), Ordering::SeqCst);
+    }
+
+    fn after(&self, client: u32, call: usize) {
+        self.after
+            .fetch_add(digit_of(client, call), Ordering::SeqCst);
+    }
+}
+
+/// The calls of two clients, three each.
+const TOLD: &[u8] = b"a,begin\nb,begin\na,len\nb,len\nb,abort\na,abort\n";
+
+#[test]
+fn a_gate_is_told_each_call_once_by_its_numbers(rt: HostRuntime) -> Result<(), Fail> {
+    let gate = Counting {
+        before: AtomicU64::new(0),
+        after: AtomicU64::new(0),
+    };
+    let left = left_in_memory(&rt, rt.alloc(), TOLD, &gate)?;
+    assert!(&rt; left.lines().len() == 6);
+    assert!(&rt; gate.before.load(Ordering::SeqCst) == 111_111);
+    assert!(&rt; gate.after.load(Ordering::SeqCst) == 111_111);
+    Ok(())
 }

@@ -75,3 +75,70 @@ fn the_table_stays_when_its_layers_are_folded_and_stored(rt: HostRuntime) -> Res
     };
     play(&rt, rt.alloc(), &SCENE)
 }
+
+/// What one commit leaves, which inserts a row and deletes another.
+const CHANGED_LEFT: Left = Left {
+    counts: &[1, 0],
+    records: &[(0, 0, &[Done, Done], Committed(1))],
+    rows: &CHANGED,
+    ..NONE
+};
+
+#[test]
+fn a_commit_leaves_its_entries_in_the_write_pdt(rt: HostRuntime) -> Result<(), Fail> {
+    static SCENE: Scene = Scene {
+        steps: &[
+            (0, Begin),
+            (0, Write(Insert(25, "Dee", 4), Done)),
+            (0, Write(Delete(20), Done)),
+            (0, Commit(Committed(1))),
+        ],
+        left: Left {
+            layers: Some((3, "", "1-20 2+25,Dee,4")),
+            ..CHANGED_LEFT
+        },
+        ..PLAIN
+    };
+    play(&rt, rt.alloc(), &SCENE)
+}
+
+#[test]
+fn a_fold_moves_the_entries_into_the_read_pdt(rt: HostRuntime) -> Result<(), Fail> {
+    static SCENE: Scene = Scene {
+        steps: &[
+            (0, Begin),
+            (0, Write(Insert(25, "Dee", 4), Done)),
+            (0, Write(Delete(20), Done)),
+            (0, Commit(Committed(1))),
+            (1, Fold),
+        ],
+        left: Left {
+            layers: Some((3, "1-20 2+25,Dee,4", "")),
+            ..CHANGED_LEFT
+        },
+        ..PLAIN
+    };
+    play(&rt, rt.alloc(), &SCENE)
+}
+
+#[test]
+fn a_checkpoint_leaves_the_rows_in_the_stable_table_alone(rt: HostRuntime) -> Result<(), Fail> {
+    static SCENE: Scene = Scene {
+        steps: &[
+            (0, Begin),
+            (0, Write(Insert(25, "Dee", 4), Done)),
+            (0, Write(Delete(20), Done)),
+            (0, Commit(Committed(1))),
+            (1, Checkpoint(1)),
+            (1, Begin),
+            (1, Scan(0, 9, &CHANGED)),
+        ],
+        left: Left {
+            layers: Some((3, "", "")),
+            ..CHANGED_LEFT
+        },
+        stored: Some((1, &CHANGED)),
+        ..PLAIN
+    };
+    play(&rt, rt.alloc(), &SCENE)
+}

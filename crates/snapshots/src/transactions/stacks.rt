@@ -2,7 +2,7 @@
 //! worked out. Each lower tree is that of an earlier transaction.
 ghost use Rattle.std.specs.Prelude.{◌≡◌, IfOk};
 ghost use Rattle.merge.specs.Image.{IsLayer};
-ghost use Rattle.txn.specs.Version.{AreLower};
+ghost use Rattle.txn.specs.Version.{AreLower, lower_table};
 
 use super::{ROOM, answer};
 use crate::assertions::{assert_holds, assert_text, assert_text_at};
@@ -48,7 +48,7 @@ fn make_all(alloc: Global, txn: &mut Txn, steps: &[ItemWrite]) -> Result<(), Fai
 
 /// The tree that a transaction of these writes leaves over the version.
 fn tree_over(alloc: Global, version: Version, steps: &[ItemWrite]) -> Result<DeltaTree, Fail>
-    ensures { IfOk result (λ tree. IsLayer version.schema version.table tree) }
+    ensures { IfOk result (λ tree. IsLayer version.layers.stable.schema (lower_table version.layers) tree) }
 {
     if version.len() > ROOM {
         return Err(Fail::new("many rows"));

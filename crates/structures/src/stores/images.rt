@@ -83,6 +83,18 @@ fn a_second_block(rt: HostRuntime) -> Result<(), Fail> {
     Ok(())
 }
 
+// A header of 3 bytes, twice a block of three numbers in format 2, and a clean end.
+#[test]
+fn a_checkpoint_twice(rt: HostRuntime) -> Result<(), Fail> {
+    let slot = Arc::new(rt.alloc(), OnceLock::new())?;
+    let answers = twice(rt.alloc(), &slot, 1, 3)?;
+    assert_holds(&rt, answers == [Ok(1), Ok(2)], "answers");
+    assert_holds(&rt, left_in(&slot).len() == 86, "length");
+    let read = read_of(rt.alloc(), left_in(&slot))?;
+    assert_holds(&rt, read == (2, 3), "read");
+    Ok(())
+}
+
 #[test]
 fn no_rows_are_one_block(rt: HostRuntime) -> Result<(), Fail> {
     let slot = Arc::new(rt.alloc(), OnceLock::new())?;

@@ -6,11 +6,16 @@ use blocks::BlockFault;
 use devices::{ReadFault, read_store};
 use std::alloc::Global;
 use std::test::Fail;
-use values::{NoMemory, Schema};
+use values::{NoMemory, Schema, ValueRef};
 
 /// One row of the number ten in format 1: a header, a block of generation 1, and a clean end.
 pub(crate) const TEN: [u8; 28] = [
     0x48, 1, 1, 0x42, 0, 0, 0, 1, 0, 0, 0, 0, 1, 0, 1, 0, 0, 0, 8, 0, 0, 0, 0, 0, 0, 0, 10, 0x45,
+];
+
+/// No rows in format 1: a header, a block of generation 1 with no values, and a clean end.
+const NONE: [u8; 20] = [
+    0x48, 1, 1, 0x42, 0, 0, 0, 1, 0, 0, 0, 0, 1, 0, 0, 0, 0, 0, 0, 0x45,
 ];
 
 /// What changes at places of `TEN`, what comes after it, and the generation that is read or the fault.
@@ -112,6 +117,30 @@ fn a_store_needs_a_header_and_as_many_columns(rt: HostRuntime) -> Result<(), Fai
     assert_holds(&rt, ended == Err(ReadFault::NoImage), "a clean end alone");
     let none = read_store(rt.alloc(), &schema, &[]);
     assert_holds(&rt, matches!(none, Err(ReadFault::WrongCount)), "no column");
+    Ok(())
+}
+
+/// Whether a column stores the number ten alone, in generation 1.
+fn is_ten(alloc: Global, schema: &Schema, column: &[u8]) -> bool {
+    match read_store(alloc, schema, &[column]) {
+        Ok(image) => {
+            image.generation == 1
+                && image.table.len() == 1
+                && image.table.schema().width() == 1
+                && image.table.value(0, 0) == ValueRef::Int(10)
+        }
+        Err(_) => false,
+    }
+}
+
+#[test]
+fn the_smallest_columns_store_their_rows(rt: HostRuntime) -> Result<(), Fail> {
+    let schema = one_column(rt.alloc())?;
+    assert_holds(&rt, is_ten(rt.alloc(), &schema, &TEN), "format 1");
+    assert_holds(&rt, is_ten(rt.alloc(), &schema, &NAMED), "format 2");
+    let none = read_store(rt.alloc(), &schema, &[&NONE])?;
+    assert_holds(&rt, none.generation == 1, "no rows are an image");
+    assert_holds(&rt, none.table.len() == 0, "which has no rows");
     Ok(())
 }
 

@@ -10,4 +10,4 @@ pub returns-in-Checkpoint-clause-step : goal.returns-in-Checkpoint-clause-step
 returns-in-Checkpoint-clause-step g c = ([], rw c.in-Checkpoint.is (c.checkpoint.ensures g.O.Opening.opened.manager c.args.session.now), sym (append-nil c.args.lines.now.items))
 
 pub returns-in-Cut-clause-step : goal.returns-in-Cut-clause-step
-returns-in-Cut-clause-step g c = ([], rw c.in-Cut.is (c.cut.ensures g.O.Opening.opened.manager c.args.session.now), sym (append-nil c.args.lines.now.items))
+returns-in-Cut-clause-step g c = ([], rw c.in-Cut.is (c.cut.ensures c.args.session.now), sym (append-nil c.args.lines.now.items))

@@ -6,8 +6,7 @@ use Rattle.std.proofs.lemmas.Option.{slice_get-get_or}
 use Rattle.values.specs.declared.row.Row.{Row}
 use Rattle.inputs.specs.declared.call.ClientCall.{ClientCall}
 use Rattle.pdtcli.specs.declared.reply.ReplyLine.{ReplyLine}
-use Rattle.devices.specs.Appending.{Taken}
-use Rattle.devices.specs.Store.{have_failed}
+use Rattle.devices.specs.Appending.{Taken, taken_by}
 use Rattle.txn.specs.Txn.{Transaction}
 use Rattle.manager.specs.Managed.{IsOwn}
 use Rattle.pdtcli.specs.Run.{IsRun, Side, SideStep, State, Step, counts_after, decided_count, joined, line_of, lines_of, shown_lines}
@@ -77,9 +76,10 @@ loop-asked-preserved g c =
     let rows : List Row = served.0 in
     let step : SideStep asked.client asked.call (record { manager = m; own = mine }) rows reply after = served.1 in
     let these : List ReplyLine = lines_of asked rows reply in
-    let before_it : Taken = record { contents = map (λ b. (goal.ColumnDevice-dyn g (b.vtable, b.value)).contents b.value) c.loop-asked.store.devices.items; failed = have_failed (map (λ b. (goal.ColumnDevice-dyn g (b.vtable, b.value)).failures b.value) c.loop-asked.store.devices.items); next = c.loop-asked.store.next } in
-    let after_it : Taken = record { contents = map (λ b. (goal.ColumnDevice-dyn g (b.vtable, b.value)).contents b.value) c.serve-reply.new.store.devices.items; failed = have_failed (map (λ b. (goal.ColumnDevice-dyn g (b.vtable, b.value)).failures b.value) c.serve-reply.new.store.devices.items); next = c.serve-reply.new.store.next } in
-    let at_first : Taken = record { contents = map (λ b. (goal.ColumnDevice-dyn g (b.vtable, b.value)).contents b.value) c.args.store.devices.items; failed = have_failed (map (λ b. (goal.ColumnDevice-dyn g (b.vtable, b.value)).failures b.value) c.args.store.devices.items); next = c.args.store.next } in
+    let taken_of = taken_by (λ b. (goal.ColumnDevice-dyn g (b.vtable, b.value)).contents b.value) (λ b. (goal.ColumnDevice-dyn g (b.vtable, b.value)).failures b.value) in
+    let before_it : Taken = taken_of c.loop-asked.store.devices.items c.loop-asked.store.next in
+    let after_it : Taken = taken_of c.serve-reply.new.store.devices.items c.serve-reply.new.store.next in
+    let at_first : Taken = taken_of c.args.store.devices.items c.args.store.next in
     let taken : Step (record { manager = m; transactions = callers; store = before_it }) asked these (record { manager = after.manager; transactions = set callers asked.client after.own; store = after_it }) = record {
       rows = rows;
       reply = reply;

@@ -1,6 +1,6 @@
 use Rattle.std.proofs.Common.{◌≡◌, ◌≤◌, ◌+◌, None, length, map, take, replicate}
 use Rattle.std.specs.Prelude.{vec_capacity, vec_len}
-use Rattle.devices.specs.Store.{have_failed}
+use Rattle.devices.specs.Appending.{taken_by}
 use Rattle.pdtcli.specs.Run.{IsRun}
 use Rattle.pdtcli.specs.Ready.{IsReady}
 use Rattle.pdtcli.proofs.CountLemmas.{counts_of}
@@ -8,14 +8,16 @@ use Rattle.pdtcli.proofs.serial.run_serial.Given as goal
 
 -- the lines so far are a run of the calls so far and counted, each client is ready for the next, and there is room for the rest
 abbrev pub invariant-loop-asked : goal.invariant-loop-asked
-invariant-loop-asked g l = record {
-  run : IsRun (record { manager = l.fn.manager; transactions = replicate (length l.script.clients) None; store = record { contents = map (λ b. (goal.ColumnDevice-dyn g (b.vtable, b.value)).contents b.value) l.fn.store.devices.items; failed = have_failed (map (λ b. (goal.ColumnDevice-dyn g (b.vtable, b.value)).failures b.value) l.fn.store.devices.items); next = l.fn.store.next } })
-      (take l.asked-index l.script.calls) l.lines.items
-      (record { manager = l.manager; transactions = l.callers.items; store = record { contents = map (λ b. (goal.ColumnDevice-dyn g (b.vtable, b.value)).contents b.value) l.store.devices.items; failed = have_failed (map (λ b. (goal.ColumnDevice-dyn g (b.vtable, b.value)).failures b.value) l.store.devices.items); next = l.store.next } });
-  schema : l.store.schema ≡ l.fn.manager.schema;
-  ready : IsReady l.fn.manager.schema (length l.script.clients) l.manager l.callers.items;
-  left : l.asked-index + l.left ≡ length l.script.calls;
-  room : vec_len l.lines + l.left ≤ vec_capacity l.lines;
-  made : l.fn.manager.made + length l.manager.history ≤ length l.fn.manager.history + l.manager.made;
-  counts : l.counts.items ≡ counts_of l.lines.items (length l.script.clients);
-}
+invariant-loop-asked g l =
+    let taken = taken_by (λ b. (goal.ColumnDevice-dyn g (b.vtable, b.value)).contents b.value) (λ b. (goal.ColumnDevice-dyn g (b.vtable, b.value)).failures b.value) in record {
+      run : IsRun
+          (record { manager = l.fn.manager; transactions = replicate (length l.script.clients) None; store = taken l.fn.store.devices.items l.fn.store.next })
+          (take l.asked-index l.script.calls) l.lines.items
+          (record { manager = l.manager; transactions = l.callers.items; store = taken l.store.devices.items l.store.next });
+      schema : l.store.schema ≡ l.fn.manager.schema;
+      ready : IsReady l.fn.manager.schema (length l.script.clients) l.manager l.callers.items;
+      left : l.asked-index + l.left ≡ length l.script.calls;
+      room : vec_len l.lines + l.left ≤ vec_capacity l.lines;
+      made : l.fn.manager.made + length l.manager.history ≤ length l.fn.manager.history + l.manager.made;
+      counts : l.counts.items ≡ counts_of l.lines.items (length l.script.clients);
+    }

@@ -3,7 +3,7 @@ use Rattle.values.specs.Shape.{Columns}
 use Rattle.delta.specs.Tree.{Tree}
 use Rattle.stable.specs.Stable.{Stable, table_in}
 use Rattle.merge.specs.Image.{IsLayer}
-use Rattle.txn.specs.Version.{Lower, version_of, empty_tree}
+use Rattle.txn.specs.Version.{Lower, numbered, empty_tree}
 use Rattle.snapshots.proofs.VersionLemmas.{one_layer}
 use Rattle.snapshots.proofs.pairs.image_of.Goals as goal
 
@@ -22,4 +22,4 @@ returns c =
     let count = c.key_cols.ensures.count ∙ ap (λ (t : Columns). t.key_cols) c.schema.ensures.columns ∙ ap (λ (t : Stable). t.schema.key_cols) c.deref.ensures in
     let none : c.in_ok-none.none.value ≡ empty_tree s.schema.key_cols = c.in_ok-none.ensures.ok ∙ c.new-2.ensures ∙ ap empty_tree count in
     let read : c.in_ok-read.read.value ≡ c.args.tree.now = c.in_ok-read.ensures.ok ∙ c.in_ok-copy.ensures in
-    c.in_ok-stacked.ensures ∙ (λ i. version_of (record { stable = c.in_ok-clone.ensures.cases i; read = read i; write = none i }) 1)
+    c.in_ok-stacked.ensures ∙ (λ i. numbered (record { stable = c.in_ok-clone.ensures.cases i; read = read i; write = none i }) 1)

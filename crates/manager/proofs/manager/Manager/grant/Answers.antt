@@ -2,8 +2,9 @@ use Rattle.std.proofs.Common.{◌≡◌, ◌+◌, suc, ap, sym, ◌∙◌, subst
 use Rattle.delta.specs.Tree.{Tree}
 use Rattle.layers.specs.Over.{AreConsecutive}
 use Rattle.layers.specs.Propagation.{composed_tree}
-use Rattle.txn.specs.Version.{Lower, AreLower, TableVersion, version_of}
+use Rattle.txn.specs.Version.{Lower, AreLower, TableVersion, numbered, table_version}
 use Rattle.manager.specs.Managed.{Managed, newest_number}
+use Rattle.manager.specs.Layers.{AreWritten}
 use Rattle.manager.specs.Kept.{AreFolded, HoldsNewest}
 use Rattle.manager.specs.Prepared.{MayGrant}
 use Rattle.manager.proofs.HistoryLemmas.{number_fits}
@@ -63,10 +64,14 @@ returns c =
     let number : c.number.result + 1 ≡ suc (newest_number m) =
     let same : i.newest.number ≡ newest_number m = ap (λ (v : TableVersion). v.number) h.newest_is in
     omega (arith, same, c.number.ensures) in
-    let version = c.in_ok-version.ensures ∙ (λ j. version_of (held j) (number j)) in
+    let version = c.in_ok-version.ensures ∙ (λ j. numbered (held j) (number j)) in
     record {
       tree_is = w.tree_is;
       folded = subst AreFolded (sym held) next;
-      version_is = version ∙ next_version m l i.newest i.kept.items h w.x w.over w.room c.args.tree w.tree_is c.in_ok-write.write.value write (suc (newest_number m));
-      layers_are = version ∙ sym (ap (λ (e : Lower). version_of e (suc (newest_number m))) held);
+      written =
+          subst (λ (e : Lower). AreWritten e w.x (record { stable = c.in_ok-clone.field-0.value; read = c.in_ok-clone-2.field-0.value; write = c.in_ok-write.write.value }))
+          (ap (λ (v : Managed). v.layers) c.self.view_is)
+          (record { lawful = h.folded.lower; stable = c.in_ok-clone.ensures.cases; read = c.in_ok-clone-2.ensures.cases; write = write });
+      version_is = ap table_version version ∙ next_version m l i.newest i.kept.items h w.x w.over w.room c.args.tree w.tree_is c.in_ok-write.write.value write (suc (newest_number m));
+      layers_are = version ∙ sym (ap (λ (e : Lower). numbered e (suc (newest_number m))) held);
     }

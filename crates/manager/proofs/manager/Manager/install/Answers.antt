@@ -17,7 +17,7 @@ use Rattle.manager.proofs.manager.Manager.install.Goals as goal
 pub enter-requires-clause-legal : goal.enter-requires-clause-legal
 enter-requires-clause-legal c =
     let i = c.self.inside in
-    let m : Managed = managed_of i.history i.made in
+    let m : Managed = managed_of i.history i.made (layers_of i.held) in
     let txn = c.args.txn in
     let p : Prepared = record { reply = c.prepared.inside.reply; granted = c.prepared.inside.grant } in
     let own : IsOwn m txn = subst (λ (w : Managed). IsOwn w txn) (sym c.self.view_is) c.requires.own in
@@ -28,7 +28,7 @@ enter-requires-clause-legal c =
 pub invariant_of-self : goal.invariant_of-self
 invariant_of-self c =
     let i = c.self.inside in
-    let m : Managed = managed_of i.history i.made in
+    let m : Managed = managed_of i.history i.made (layers_of i.held) in
     let l : Lower = record { stable = i.held.stable.value; read = i.held.read.value; write = i.held.write.value } in
     let txn = c.args.txn in
     let p : Prepared = record { reply = c.prepared.inside.reply; granted = c.prepared.inside.grant } in
@@ -45,13 +45,13 @@ invariant_of-self c =
     let kept : c.push_back.new.self.items ≡ keep_last i.history.start.recent (i.kept.items ++ g.tree ∷ []) =
     ap (λ (b : Buffer Tree). b.items) c.push_back.ensures.items ∙ ap (λ n. keep_last n (i.kept.items ++ g.tree ∷ [])) c.self.invariant.1 in
     let same : c.push_back.new.self.capacity ≡ i.history.start.recent = ap (λ (b : Buffer Tree). b.capacity) c.push_back.ensures.items ∙ c.self.invariant.1 in
-    let P = λ (e : Recorded × (ℕ × List Tree)). HoldsNewest (managed_of e.0 e.1.0) g.layers g.version e.1.1 in
+    let P = λ (e : Recorded × (ℕ × List Tree)). HoldsNewest (managed_of e.0 e.1.0 g.layers) g.layers g.version e.1.1 in
     (subst P (sym (λ j. (history j, (made j, kept j)))) holds, same ∙ sym (ap (λ (h : Recorded). h.start.recent) history))
 
 pub invariant_of-self-in_default : goal.invariant_of-self-in_default
 invariant_of-self-in_default c =
     let i = c.self.inside in
-    let m : Managed = managed_of i.history i.made in
+    let m : Managed = managed_of i.history i.made (layers_of i.held) in
     let l : Lower = record { stable = i.held.stable.value; read = i.held.read.value; write = i.held.write.value } in
     let txn = c.args.txn in
     let p : Prepared = record { reply = c.prepared.inside.reply; granted = c.prepared.inside.grant } in
@@ -62,5 +62,5 @@ invariant_of-self-in_default c =
     let history : c.enter.new.self ≡ record i.history { records = i.history.records ++ record_of txn p.reply ∷ [] } =
     c.enter.ensures ∙ (λ j. record i.history { records = i.history.records ++ c.into_record.ensures.entry j }) in
     let made : i.made + 1 ≡ suc i.made = omega arith in
-    let P = λ (e : Recorded × ℕ). HoldsNewest (managed_of e.0 e.1) l i.newest i.kept.items in
+    let P = λ (e : Recorded × ℕ). HoldsNewest (managed_of e.0 e.1 l) l i.newest i.kept.items in
     (subst P (sym (λ j. (history j, made j))) holds, c.self.invariant.1 ∙ sym (ap (λ (h : Recorded). h.start.recent) history))

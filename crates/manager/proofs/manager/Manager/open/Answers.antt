@@ -2,7 +2,7 @@ use Rattle.std.proofs.Common.{◌≡◌, ◌≤◌, List, [], length, sym, ap, �
 use Rattle.circular_buffer.specs.Buffer.{Buffer}
 use Rattle.manager.specs.History.{Recorded, recorded_at}
 use Rattle.delta.specs.Tree.{Tree}
-use Rattle.txn.specs.Version.{Lower, AreLower, TableVersion, version_at, version_of}
+use Rattle.txn.specs.Version.{Lower, AreLower, LayeredVersion, TableVersion, alone, numbered, table_version, version_at}
 use Rattle.txn.proofs.CallerLemmas.{are_alone, version_of-alone}
 use Rattle.manager.specs.Managed.{managed_of}
 use Rattle.manager.specs.Kept.{HoldsNewest}
@@ -16,15 +16,14 @@ pub invariant_of-result : goal.invariant_of-result
 invariant_of-result c =
     let s = c.args.table in
     let layers = c.in_ok-held.ensures.layers in
-    let version : c.in_ok-newest.newest ≡ version_at s 0 =
-    c.in_ok-newest.ensures ∙ ap (λ (l : Lower). version_of l 0) layers ∙ version_of-alone s 0 in
+    let version : c.in_ok-newest.newest ≡ numbered (alone s) 0 = c.in_ok-newest.ensures ∙ ap (λ (l : Lower). numbered l 0) layers in
     let history : c.new.result ≡ recorded_at (version_at s 0) c.args.row_limit c.args.recent c.args.conflicts [] =
-    c.new.ensures ∙ ap (λ (v : TableVersion). recorded_at v c.args.row_limit c.args.recent c.args.conflicts []) version in
+    c.new.ensures ∙ ap (λ (v : TableVersion). recorded_at v c.args.row_limit c.args.recent c.args.conflicts []) (ap table_version version ∙ version_of-alone s 0) in
     let within : length s.rows ≤ c.args.row_limit = omega (arith, c.len.ensures.count, c.if-len-row_limit.false) in
     let most = limit_fits c.args.recent c.args.row_limit (sym c.is_bad_limit.ensures ∙ c.if-is_bad_limit.false) in
     let holds = opened_holds s c.args.row_limit c.args.recent c.args.conflicts c.in_ok-held.ensures.lawful c.in_ok-held.ensures.typed within most in
     let kept : c.in_ok-with_capacity.field-0.items ≡ [] = ap (λ (b : Buffer Tree). b.items) c.in_ok-with_capacity.ensures in
-    let P = λ (e : Recorded × (Lower × (TableVersion × List Tree))). HoldsNewest (managed_of e.0 0) e.1.0 e.1.1.0 e.1.1.1 in (
+    let P = λ (e : Recorded × (Lower × (LayeredVersion × List Tree))). HoldsNewest (managed_of e.0 0 e.1.0) e.1.0 e.1.1.0 e.1.1.1 in (
       subst P (sym (λ i. (history i, (layers i, (version i, kept i))))) holds,
       ap (λ (b : Buffer Tree). b.capacity) c.in_ok-with_capacity.ensures ∙ sym (ap (λ (h : Recorded). h.start.recent) history),
     )
@@ -32,8 +31,7 @@ invariant_of-result c =
 pub returns-clause-ok : goal.returns-clause-ok
 returns-clause-ok c =
     let s = c.args.table in
-    let version : c.in_ok-newest.newest ≡ version_at s 0 =
-    c.in_ok-newest.ensures ∙ ap (λ (l : Lower). version_of l 0) c.in_ok-held.ensures.layers ∙ version_of-alone s 0 in
+    let version : c.in_ok-newest.newest ≡ numbered (alone s) 0 = c.in_ok-newest.ensures ∙ ap (λ (l : Lower). numbered l 0) c.in_ok-held.ensures.layers in
     let history : c.new.result ≡ recorded_at (version_at s 0) c.args.row_limit c.args.recent c.args.conflicts [] =
-    c.new.ensures ∙ ap (λ (v : TableVersion). recorded_at v c.args.row_limit c.args.recent c.args.conflicts []) version in
-    ap (λ (h : Recorded). managed_of h 0) history
+    c.new.ensures ∙ ap (λ (v : TableVersion). recorded_at v c.args.row_limit c.args.recent c.args.conflicts []) (ap table_version version ∙ version_of-alone s 0) in
+    λ i. managed_of (history i) 0 (c.in_ok-held.ensures.layers i)

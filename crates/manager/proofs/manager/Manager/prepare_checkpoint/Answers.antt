@@ -1,6 +1,6 @@
 use Rattle.std.proofs.Common.{◌≡◌, sym, ap, ◌∙◌, subst}
 use Rattle.stable.specs.Stable.{IsStable}
-use Rattle.txn.specs.Version.{Lower, AreLower, TableVersion, alone, version_of}
+use Rattle.txn.specs.Version.{Lower, AreLower, TableVersion, alone, numbered, table_version, version_of}
 use Rattle.txn.proofs.CallerLemmas.{are_alone, version_of-alone}
 use Rattle.manager.specs.Held.{layers_of}
 use Rattle.manager.specs.Kept.{AreFolded, HoldsNewest}
@@ -24,10 +24,10 @@ returns c =
     let l : Lower = record { stable = i.held.stable.value; read = i.held.read.value; write = i.held.write.value } in
     let h : HoldsNewest m l i.newest i.kept.items = subst (λ (v : Managed). HoldsNewest v l i.newest i.kept.items) c.self.view_is c.self.invariant.0 in
     let number : c.number.result ≡ newest_number m = c.number.ensures ∙ ap (λ (v : TableVersion). v.number) h.newest_is in
-    let version : c.in_ok-version.version ≡ version_of (layers_of c.in_ok-held.held) (newest_number m) = c.in_ok-version.ensures ∙ ap (version_of (layers_of c.in_ok-held.held)) number in
+    let version : c.in_ok-version.version ≡ numbered (layers_of c.in_ok-held.held) (newest_number m) = c.in_ok-version.ensures ∙ ap (numbered (layers_of c.in_ok-held.held)) number in
     record {
       lawful = subst AreFolded (sym layers) (alone_folded (newest_stable m) lawful);
       emptied = layers;
-      version_is = version ∙ ap (λ (l : Lower). version_of l (newest_number m)) layers ∙ version_of-alone (newest_stable m) (newest_number m) ∙ version_at-newest m (newest_IsTable m l i.newest i.kept.items h);
+      version_is = ap table_version version ∙ ap (λ (l : Lower). version_of l (newest_number m)) layers ∙ version_of-alone (newest_stable m) (newest_number m) ∙ version_at-newest m (newest_IsTable m l i.newest i.kept.items h);
       layers_are = version;
     }

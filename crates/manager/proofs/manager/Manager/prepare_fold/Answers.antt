@@ -2,8 +2,9 @@ use Rattle.std.proofs.Common.{◌≡◌, ap, sym, ◌∙◌, subst}
 use Rattle.delta.specs.Tree.{Tree}
 use Rattle.layers.specs.Over.{AreConsecutive}
 use Rattle.layers.specs.Propagation.{composed_tree}
-use Rattle.txn.specs.Version.{Lower, AreLower, TableVersion, version_of, empty_tree}
+use Rattle.txn.specs.Version.{Lower, AreLower, TableVersion, numbered, table_version, empty_tree}
 use Rattle.manager.specs.Managed.{Managed, newest_number}
+use Rattle.manager.specs.Layers.{AreMerged}
 use Rattle.manager.specs.Kept.{AreFolded, HoldsNewest}
 use Rattle.manager.proofs.FoldLemmas.{stacked_trees, merged_in, merged, merged_folded, merged_version}
 use Rattle.manager.proofs.manager.Manager.prepare_fold.Goals as goal
@@ -53,10 +54,13 @@ returns c =
     let held : ◌≡◌ {A = Lower} (record { stable = c.in_ok-clone.field-0.value; read = c.in_ok-read.read.value; write = c.in_ok-write.write.value }) (merged m l i.newest i.kept.items h c.in_ok-read.read.value read) =
     λ j. record { stable = c.in_ok-clone.ensures.cases j; read = c.in_ok-read.read.value; write = write j } in
     let number : c.number.result ≡ newest_number m = c.number.ensures ∙ ap (λ (v : TableVersion). v.number) h.newest_is in
-    let version = c.in_ok-version.ensures ∙ (λ j. version_of (held j) (number j)) in
+    let version = c.in_ok-version.ensures ∙ (λ j. numbered (held j) (number j)) in
     record {
       lawful = subst AreFolded (sym held) next;
-      emptied = ap (λ (t : Tree). t.entries) write;
-      version_is = version ∙ merged_version m l i.newest i.kept.items h c.in_ok-read.read.value read (newest_number m);
-      layers_are = version ∙ sym (ap (λ (e : Lower). version_of e (newest_number m)) held);
+      merged =
+          subst (λ (e : Lower). AreMerged e (record { stable = c.in_ok-clone.field-0.value; read = c.in_ok-read.read.value; write = c.in_ok-write.write.value }))
+          (ap (λ (v : Managed). v.layers) c.self.view_is)
+          (record { lawful = h.folded.lower; stable = c.in_ok-clone.ensures.cases; read = read; write = write });
+      version_is = ap table_version version ∙ merged_version m l i.newest i.kept.items h c.in_ok-read.read.value read (newest_number m);
+      layers_are = version ∙ sym (ap (λ (e : Lower). numbered e (newest_number m)) held);
     }

@@ -12,7 +12,7 @@ invariant_of-result c =
     let log = c.open_row-seen.ensures.1 in (
       ap (λ (l : List Item). length l) log,
       c.number.ensures
-          ∙ ap (λ (v : TableVersion). v.number) c.version.ensures
+          ∙ ap (λ (v : TableVersion). v.number) c.version.ensures.table
           ∙ number_is m [] m (listed_at_opening m)
           ∙ sym (ap (λ (l : List Item). number_in (manager_in l) (items_in l)) log ∙ ap (λ (o : Managed). number_in o []) c.of.ensures),
     )

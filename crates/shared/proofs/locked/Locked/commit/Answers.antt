@@ -1,10 +1,12 @@
 use Rattle.std.proofs.Common.{sym, ap, ◌∙◌, subst, arith}
 use Rattle.model.specs.declared.write.CommitReply.{CommitReply}
 use Rattle.manager.specs.Managed.{Managed, record_of, with_record}
+use Rattle.txn.specs.Txn.{effects_of}
 use Rattle.publishing.specs.Lists.{Known, IsListed, number_in}
+use Rattle.publishing.proofs.CallerLemmas.{listed_over}
 use Rattle.shared.specs.Endings.{GoesOn}
-use Rattle.shared.specs.Stands.{IsGrown}
-use Rattle.shared.proofs.EndingLemmas.{goes_on-record}
+use Rattle.shared.specs.Stands.{IsGrown, IsShownAfter, Stand}
+use Rattle.shared.proofs.EndingLemmas.{goes_on-over, goes_on-record}
 use Rattle.shared.proofs.RepliesLemmas.{more_than_held, numbers_held, own_held, reached_by, replied}
 use Rattle.shared.proofs.locked.Locked.commit.Goals as goal
 
@@ -48,7 +50,7 @@ returns-clause-replied g c =
     let reply = c.install-reply.result in
     let no = c.has_seen_more.ensures.no c.if-has_seen_more.false in
     let le = numbers_held g.O.Opening.opened c.args.seen.now c.self.inside.list c.requires.seen.0 i.1 no in
-    let due = c.install-reply.ensures.due in
+    let due = c.install-reply.ensures.decided.due in
     let same = c.in-Ok.ensures.prepared.due ∙ sym due in
     let grown = subst (λ (r : CommitReply). IsGrown ys zs c.args.txn r) same c.in-Ok-show_commit.ensures.grown in
     replied o c.args.seen.now.list ys c.longer-both.result.list zs c.longer.result.list c.self.inside.manager c.args.txn reply
@@ -60,7 +62,7 @@ returns-clause-reached g c =
     let ys = c.self.inside.list.list in
     let zs = c.show_commit.new.list.list in
     let reply = c.install-reply.result in
-    let due = c.install-reply.ensures.due in
+    let due = c.install-reply.ensures.decided.due in
     let same = c.in-Ok.ensures.prepared.due ∙ sym due in
     let grown = subst (λ (r : CommitReply). IsGrown ys zs c.args.txn r) same c.in-Ok-show_commit.ensures.grown in
     let told = ap (λ (k : Known). number_in o k.list) c.again.ensures in
@@ -74,17 +76,34 @@ invariant_of-self-2 g c =
     let m = c.self.inside.manager in
     let txn = c.args.txn in
     let reply = c.install-reply.result in
-    let kept = c.install-reply.ensures.kept in
-    let same = c.in-Ok.ensures.prepared.due ∙ sym c.install-reply.ensures.due in
+    let kept = c.install-reply.ensures.decided.kept in
+    let layers = c.install-reply.new.self.layers in
+    let same = c.in-Ok.ensures.prepared.due ∙ sym c.install-reply.ensures.decided.due in
     let shown = c.in-Ok-show_commit.ensures in
     let list = c.show_commit.new.list.list in
     let listed = subst (λ (r : CommitReply). IsListed o list (with_record m (record_of txn r))) same shown.listed in
     let made = ap (λ (n : Managed). n.made) kept in (
-      subst (λ (n : Managed). IsListed o list n) (sym kept) listed,
+      subst (λ (n : Managed). IsListed o list n) (sym kept) (listed_over o list (with_record m (record_of txn reply)) layers listed),
       shown.opening,
       omega (arith, made, i.2, c.count_reply.ensures.total),
       i.3,
       shown.writer,
       i.5 ∙ sym (ap (λ (n : Managed). n.schema) kept),
-      subst (λ (n : Managed). GoesOn o n) (sym kept) (goes_on-record o m i.6 (record_of txn reply)),
+      subst (λ (n : Managed). GoesOn o n) (sym kept) (goes_on-over o (with_record m (record_of txn reply)) (goes_on-record o m i.6 (record_of txn reply)) layers),
     )
+
+pub returns-clause-grown : goal.returns-clause-grown
+returns-clause-grown g c =
+    let zs = c.show_commit.new.list.list in
+    let same = c.in-Ok.ensures.prepared.due ∙ sym c.install-reply.ensures.decided.due in
+    let grown = subst (λ (r : CommitReply). IsGrown c.self.inside.list.list zs c.args.txn r) same c.in-Ok-show_commit.ensures.grown in
+    subst (λ (s : Stand). IsGrown s.list zs c.args.txn c.install-reply.result) c.self.view_is grown
+
+pub returns-clause-shown : goal.returns-clause-shown
+returns-clause-shown g c =
+    let o = g.O.Opening.opened.manager in
+    let zs = c.show_commit.new.list.list in
+    let x = effects_of c.args.txn in
+    let same = c.in-Ok.ensures.prepared.due ∙ sym c.install-reply.ensures.decided.due in
+    let shown = subst (λ (r : CommitReply). IsShownAfter o c.self.inside.manager.layers x r zs) same c.in-Ok-show_commit.ensures.shown in
+    subst (λ (s : Stand). IsShownAfter o s.manager.layers x c.install-reply.result zs) c.self.view_is shown

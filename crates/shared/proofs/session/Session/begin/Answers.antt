@@ -6,6 +6,7 @@ use Rattle.left_right.specs.Sides.{view}
 use Rattle.publishing.specs.Lists.{Known, Opened, version_in}
 use Rattle.publishing.specs.Views.{IsOf}
 use Rattle.txn.specs.Txn.{transaction_at}
+use Rattle.txn.specs.Version.{table_version}
 use Rattle.shared.specs.Sessions.{Seat}
 use Rattle.publishing.proofs.CallerLemmas.{prefix_self}
 use Rattle.shared.proofs.SeatLemmas.{seat_begun, never_already, note_more}
@@ -32,7 +33,7 @@ invariant_of-self-2 g c =
     let now = c.put.ensures ∙ ap Some c.in_ok-txn.ensures in (
       i.0,
       opening,
-      seat_begun o.manager seen.list c.in_ok-version.version s.row_limit s.client c.put.new.place version i.5.0 now,
+      seat_begun o.manager seen.list (table_version c.in_ok-version.version) s.row_limit s.client c.put.new.place version i.5.0 now,
       note_more o s.list.list seen.list s.note p i.3,
       subst (λ (k : Opened). IfSome c.newest_seen.new.place (λ r. IsOf k (view r.place))) own c.newest_seen.ensures.reader,
       i.5,

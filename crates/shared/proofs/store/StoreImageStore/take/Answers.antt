@@ -1,5 +1,8 @@
-use Rattle.manager.proofs.CallerLemmas.{has_taken}
+use Rattle.shared.proofs.GenerationLemmas.{taken_answers, refused_answers}
 use Rattle.shared.proofs.store.StoreImageStore.take.Goals as goal
 
-pub install_checkpoint-requires-clause-taken : goal.install_checkpoint-requires-clause-taken
-install_checkpoint-requires-clause-taken g c = has_taken _ _ _ _ _ c.table.ensures c.in-Ok.ensures.answer
+pub returns-in-Ok-clause-answer : goal.returns-in-Ok-clause-answer
+returns-in-Ok-clause-answer g c = taken_answers c.table.result.now _ _ _ c.in-Ok.ensures.answer
+
+pub returns-in-Err-clause-answer : goal.returns-in-Err-clause-answer
+returns-in-Err-clause-answer g c = refused_answers _ _ _ _ _ c.of_store.ensures c.in-Err.ensures.answer

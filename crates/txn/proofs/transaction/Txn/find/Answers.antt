@@ -9,6 +9,7 @@ use Rattle.delta.specs.Tree.{Tree}
 use Rattle.txn.specs.Edit.{is_inserted, is_there}
 use Rattle.txn.specs.Txn.{Transaction, transaction_at, entries_of, IsFound}
 use Rattle.txn.proofs.ReadsLemmas.{found, ends_there}
+use Rattle.txn.specs.Version.{lower_table, table_version}
 use Rattle.txn.proofs.transaction.Txn.find.Goals as goal
 
 pub find_key-place-requires : goal.find_key-place-requires
@@ -16,12 +17,12 @@ find_key-place-requires c =
     let inside = c.self.inside in
     let h = c.self.invariant.0 in
     let limited : inside.row_limit ≤ 2147483647 = h.limited in
-    omega (arith, c.locate-sid.ensures.rank, rank-le-length c.args.key.now inside.version.table, h.within, limited)
+    omega (arith, c.locate-sid.ensures.rank, rank-le-length c.args.key.now (lower_table inside.version.layers), h.within, limited)
 
 pub returns-clause-found : goal.returns-clause-found
 returns-clause-found c =
     let inside = c.self.inside in
-    let txn : Transaction = transaction_at inside.version inside.row_limit inside.client inside.writes.items in
+    let txn : Transaction = transaction_at (table_version inside.version) inside.row_limit inside.client inside.writes.items in
     let key = c.args.key.now in
     let sid = c.locate-sid.result.0 in
     let place = c.find_key-place in
@@ -46,7 +47,7 @@ returns-clause-place c =
 pub returns-clause-kept : goal.returns-clause-kept
 returns-clause-kept c = λ yes.
     let inside = c.self.inside in
-    let txn : Transaction = transaction_at inside.version inside.row_limit inside.client inside.writes.items in
+    let txn : Transaction = transaction_at (table_version inside.version) inside.row_limit inside.client inside.writes.items in
     let key = c.args.key.now in
     let sid = c.locate-sid.result.0 in
     let place = c.find_key-place in

@@ -4,6 +4,7 @@ use Rattle.model.specs.declared.write.Write.{Write}
 use Rattle.model.specs.declared.write.WriteReply.{WriteReply}
 use Rattle.delta.specs.Tree.{Tree}
 use Rattle.txn.specs.Txn.{Transaction, transaction_at, IsTransaction, tree_of}
+use Rattle.txn.specs.Version.{table_version}
 use Rattle.txn.proofs.transaction.Txn.open.Goals as goal
 
 abbrev Kept : Tree → Transaction → Type 0
@@ -11,7 +12,7 @@ Kept tree txn = IsTransaction txn × (tree ≡ tree_of txn)
 
 pub invariant_of-result : goal.invariant_of-result
 invariant_of-result c =
-    let v = c.args.version in
+    let v = table_version c.args.version in
     let limit = c.args.row_limit in
     let client = c.args.client in
     let columns : c.schema.result.now ≡ v.schema = c.schema.ensures.columns in

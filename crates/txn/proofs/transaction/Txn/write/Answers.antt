@@ -7,6 +7,7 @@ use Rattle.delta.specs.Tree.{Tree}
 use Rattle.txn.specs.Edit.{is_inserted, is_there}
 use Rattle.txn.specs.Txn.{Transaction, transaction_at, entries_of, IsTransaction, tree_of}
 use Rattle.txn.proofs.TxnLemmas.{IsSeen, seen, seen_place, seen_may, seen_room, seen_next, seen_tree, tree_ordered, tree_split}
+use Rattle.txn.specs.Version.{table_version}
 use Rattle.txn.proofs.transaction.Txn.write.Goals as goal
 
 -- what a transaction's fields keep
@@ -17,7 +18,7 @@ Kept tree txn = IsTransaction txn × (tree ≡ tree_of txn)
 abbrev fields : (c : goal.After-write-3-1) → Transaction
 fields c =
     let inside = c.self.inside in
-    transaction_at inside.version inside.row_limit inside.client inside.writes.items
+    transaction_at (table_version inside.version) inside.row_limit inside.client inside.writes.items
 
 is_seen : (c : goal.After-write-3-1) → IsSeen (fields c) c.args.write c.find-found.result.sid (is_inserted c.find-found.result.row) c.reply_where-reply.result
 is_seen c = seen (fields c) c.args.self.now c.self.view_is c.args.write c.schema.result.now c.key_cols-key_cols.result c.key_of_write.result.now c.find-found.result.sid c.len.result (is_there c.find-found.result.row) (is_inserted c.find-found.result.row) c.reply_where-reply.result c.requires
@@ -50,7 +51,7 @@ edit-requires-clause-room c = seen_room (fields c) c.self.invariant.0 c.self.ins
 pub invariant_of-self-2 : goal.invariant_of-self-2
 invariant_of-self-2 c =
     let inside = c.self.inside in
-    let txn : Transaction = transaction_at inside.version inside.row_limit inside.client inside.writes.items in
+    let txn : Transaction = transaction_at (table_version inside.version) inside.row_limit inside.client inside.writes.items in
     let reply = c.reply_where-reply.result in
     let s : IsSeen txn c.args.write c.find-found.result.sid (is_inserted c.find-found.result.row) reply =
     seen txn c.args.self.now c.self.view_is c.args.write c.schema.result.now c.key_cols-key_cols.result c.key_of_write.result.now c.find-found.result.sid c.len.result (is_there c.find-found.result.row) (is_inserted c.find-found.result.row) reply c.requires
@@ -58,4 +59,4 @@ invariant_of-self-2 c =
     let kept = seen_next txn c.self.invariant.0 inside.tree c.self.invariant.1 c.args.write c.find-found.result.sid (is_inserted c.find-found.result.row) reply s in
     let tree = c.in_ok-edit.ensures.ok ∙ seen_tree txn c.self.invariant.0 inside.tree c.self.invariant.1 c.args.write c.find-found.result.sid (is_inserted c.find-found.result.row) reply s in
     let items : c.push_reserved.new.self.items ≡ inside.writes.items ++ (c.args.write, reply) ∷ [] = c.push_reserved.ensures.items ∙ ap (λ ws. ws ++ (c.args.write, reply) ∷ []) c.in_ok-try_reserve.ensures.items in
-    subst (λ (ws : List (Write × WriteReply)). Kept c.edit.new.tree (transaction_at inside.version inside.row_limit inside.client ws)) (sym items) (kept, tree)
+    subst (λ (ws : List (Write × WriteReply)). Kept c.edit.new.tree (transaction_at (table_version inside.version) inside.row_limit inside.client ws)) (sym items) (kept, tree)

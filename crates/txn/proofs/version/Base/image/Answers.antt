@@ -26,3 +26,9 @@ returns-clause-table c =
     let l = c.args.self.now in
     let same = (λ i. stack_below (c.deref.ensures i) (c.deref-2.ensures i) (c.deref-3.ensures i)) ∙ ap (λ (m : Lower). stack_below m.stable m.read m.write) c.self.view_is in
     ap image_table (c.committed.ensures ∙ same) ∙ image_table-below l
+
+pub returns-clause-layers : goal.returns-clause-layers
+returns-clause-layers c =
+    c.committed.ensures
+    ∙ (λ i. stack_below (c.deref.ensures i) (c.deref-2.ensures i) (c.deref-3.ensures i))
+    ∙ ap (λ (m : Lower). stack_below m.stable m.read m.write) c.self.view_is

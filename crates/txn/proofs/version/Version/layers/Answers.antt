@@ -2,7 +2,7 @@ use Rattle.std.proofs.Common.{ap, ◌∙◌}
 use Rattle.model.specs.Table.{rows_of}
 use Rattle.model.specs.Merging.{merged_rows}
 use Rattle.merge.specs.Image.{image_rows, stack_of}
-use Rattle.txn.specs.Version.{Lower, TableVersion}
+use Rattle.txn.specs.Version.{Lower, LayeredVersion, lower_table}
 use Rattle.txn.proofs.VersionLemmas.{layered_rows}
 use Rattle.txn.proofs.version.Version.layers.Goals as goal
 
@@ -12,4 +12,4 @@ returns-clause-rows c =
     ap image_rows c.layers.ensures
     ∙ ap (λ (l : Lower). image_rows (stack_of l.stable l.read l.write trans)) c.deref.ensures
     ∙ layered_rows c.self.inside.base.value trans
-    ∙ ap (λ (v : TableVersion). merged_rows (rows_of v.table) trans.entries) c.self.view_is
+    ∙ ap (λ (v : LayeredVersion). merged_rows (rows_of (lower_table v.layers)) trans.entries) c.self.view_is

@@ -2,8 +2,8 @@ use Rattle.std.proofs.Common.{◌≡◌, IfOk, ap, sym, ◌∙◌, subst}
 use Rattle.values.specs.Shape.{Columns}
 use Rattle.delta.specs.Tree.{Tree}
 use Rattle.stable.specs.Stable.{Stable, IsStable}
-use Rattle.txn.specs.Version.{Lower, AreLower, TableVersion, alone, version_of, empty_tree}
-use Rattle.txn.proofs.VersionLemmas.{are_alone, version_of-alone}
+use Rattle.txn.specs.Version.{Lower, AreLower, alone, empty_tree, numbered}
+use Rattle.txn.proofs.VersionLemmas.{are_alone}
 use Rattle.txn.proofs.version.Version.new.Goals as goal
 
 -- the trees have no entries
@@ -28,6 +28,6 @@ returns c =
     let read : c.in_ok-read.read.value ≡ empty_tree s.schema.key_cols = c.in_ok-read.ensures.ok ∙ c.new.ensures ∙ ap empty_tree count in
     let write : c.in_ok-write.write.value ≡ empty_tree s.schema.key_cols = c.in_ok-write.ensures.cases ∙ read in
     let number = c.args.number in
-    subst (λ (v : TableVersion). IfOk c.stacked.result (λ version. version ≡ v))
-    (ap (λ (l : Lower). version_of l number) (unwritten s c.in_ok-read.read.value c.in_ok-write.write.value read write) ∙ version_of-alone s number)
+    subst (λ (l : Lower). IfOk c.stacked.result (λ version. version ≡ numbered l number))
+    (unwritten s c.in_ok-read.read.value c.in_ok-write.write.value read write)
     c.stacked.ensures

@@ -1,5 +1,0 @@
-use Rattle.manager.proofs.CheckpointLemmas.{has_taken}
-use Rattle.manager.proofs.manager.Manager.checkpoint.Goals as goal
-
-pub install_checkpoint-requires-clause-taken : goal.install_checkpoint-requires-clause-taken
-install_checkpoint-requires-clause-taken g c = has_taken _ _ _ _ _ c.table.ensures c.in-Ok.ensures.answer

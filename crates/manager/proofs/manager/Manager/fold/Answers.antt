@@ -1,0 +1,7 @@
+use Rattle.std.proofs.Common.{sym, subst}
+use Rattle.manager.specs.Managed.{Managed, IsOwn}
+use Rattle.manager.proofs.HistoryLemmas.{own_over}
+use Rattle.manager.proofs.manager.Manager.fold.Goals as goal
+
+pub returns-clause-own : goal.returns-clause-own
+returns-clause-own c = λ txn own. subst (λ (v : Managed). IsOwn v txn) (sym c.install_fold.ensures) (own_over c.args.self.now c.in_ok-folded.folded.layers txn own)
