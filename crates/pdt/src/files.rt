@@ -1,14 +1,10 @@
 //! The files of the program: what is read of them, and those of a store, which are made.
-ghost use Rattle.std.specs.Prelude.{◌≡◌, IfOk};
-ghost use Rattle.std.specs.Box.{box_value};
-
 use devices::FileColumn;
-use pdtcli::{FileFault, Refusal, StoreFault, header_of};
+use pdtcli::{FileFault, Refusal, StoreFault};
 use std::alloc::Global;
 use std::fs::{File, OpenOptions};
-use std::io;
 use std::io::Write;
-use values::Schema;
+use std::{fs, io};
 
 /// A file's bytes, or why they aren't there.
 pub(crate) fn bytes_of(read: &io::Result<Vec<u8>>) -> Result<&[u8], FileFault> {
@@ -29,6 +25,64 @@ pub(crate) fn column_path(alloc: Global, dir: &str, col: usize) -> Result<String
     Ok(format!(in alloc; "{dir}/column-{col}.pdt")?)
 }
 
+/// The files of a store in a folder: the header's, and then one for each column.
+pub(crate) fn store_paths(alloc: Global, dir: &str, width: usize) -> Result<Vec<String>, Refusal> {
+    let mut paths = Vec::new(alloc);
+    paths.push(header_path(alloc, dir)?)?;
+    for col in 0..width {
+        paths.push(column_path(alloc, dir, col)?)?;
+    }
+    Ok(paths)
+}
+
+/// Makes the files of a store, the first with this header, and a device over each of the others. Where one is there already none
+/// is made, and where one can't be made, what was made is taken away again.
+pub(crate) fn make_store(
+    rt: &HostRuntime,
+    paths: &[String],
+    header: &[u8],
+) -> Result<Vec<Box<FileColumn>>, Refusal> {
+    are_free(rt, paths)?;
+    // Room comes first: each file that is made is counted.
+    let mut files = Vec::with_capacity(rt.alloc(), paths.len())?;
+    let made = make_files(rt, paths, &mut files);
+    let count = files.len();
+    let columns = match made {
+        Ok(()) => columns_over(rt.alloc(), files, header),
+        Err(refusal) => Err(refusal),
+    };
+    if columns.is_err() {
+        remove_files(rt, paths, count);
+    }
+    columns
+}
+
+/// Takes away the first files of a store. One that stays changes nothing: what is told is why the store isn't made.
+pub(crate) fn remove_files(rt: &HostRuntime, paths: &[String], count: usize) {
+    for path in paths.iter().take(count) {
+        let _ = fs::remove_file(rt, path.as_str());
+    }
+}
+
+/// Tests that none of the files is there. A link that leads nowhere is there too.
+fn are_free(rt: &HostRuntime, paths: &[String]) -> Result<(), Refusal> {
+    for path in paths {
+        match fs::symlink_metadata(rt, path.as_str()) {
+            Err(fault) if fault.kind() == io::ErrorKind::NotFound => {}
+            _ => return Err(Refusal::CannotMake),
+        }
+    }
+    Ok(())
+}
+
+/// Makes the files, up to the first that can't be made.
+fn make_files(rt: &HostRuntime, paths: &[String], files: &mut Vec<File>) -> Result<(), Refusal> {
+    for path in paths {
+        files.push(new_file(rt, path.as_str())?)?;
+    }
+    Ok(())
+}
+
 /// A file that was not there, for writing.
 fn new_file(rt: &HostRuntime, path: &str) -> Result<File, Refusal> {
     match OpenOptions::new()
@@ -41,29 +95,24 @@ fn new_file(rt: &HostRuntime, path: &str) -> Result<File, Refusal> {
     }
 }
 
-/// Makes the file of a store's header, which names these columns.
-pub(crate) fn make_header(rt: &HostRuntime, dir: &str, schema: &Schema) -> Result<(), Refusal> {
-    let alloc = rt.alloc();
-    let text = header_of(alloc, schema)?;
-    let mut file = new_file(rt, header_path(alloc, dir)?.as_str())?;
-    match file.write_all(text.as_slice()) {
-        Ok(()) => Ok(()),
-        Err(_) => Err(Refusal::CannotMake),
+/// Writes the header into the first file, and makes a device over each of the others.
+fn columns_over(
+    alloc: Global,
+    files: Vec<File>,
+    header: &[u8],
+) -> Result<Vec<Box<FileColumn>>, Refusal> {
+    let mut columns = Vec::new(alloc);
+    let mut files = files.into_iter();
+    if let Some(mut first) = files.next() {
+        if first.write_all(header).is_err() {
+            return Err(Refusal::CannotMake);
+        }
     }
-}
-
-/// Makes the file of a store's column, and the device over it.
-pub(crate) fn make_column(
-    rt: &HostRuntime,
-    dir: &str,
-    col: usize,
-) -> Result<Box<FileColumn>, Refusal>
-    ensures { IfOk result (λ column. (box_value column).failures ≡ 0) }
-{
-    let alloc = rt.alloc();
-    let file = new_file(rt, column_path(alloc, dir, col)?.as_str())?;
-    let column = FileColumn::new(alloc, file)?;
-    Ok(Box::new(alloc, column)?)
+    for file in files {
+        let column = FileColumn::new(alloc, file)?;
+        columns.push(Box::new(alloc, column)?)?;
+    }
+    Ok(columns)
 }
 
 /// A stored column's bytes, or the refusal of its file.

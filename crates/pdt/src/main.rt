@@ -6,12 +6,16 @@ ghost use Rattle.std.specs.Prelude.{◌≡◌, IfOk};
 ghost use Rattle.std.specs.Box.{box_value};
 
 mod files;
+mod streams;
 
-use crate::files::{bytes_of, column_path, header_path, make_column, make_header, stored_bytes};
+use crate::files::{
+    bytes_of, column_path, header_path, make_store, remove_files, store_paths, stored_bytes,
+};
+use crate::streams::hold_streams;
 use devices::{ColumnDevice, MemColumn, Store, StoreFault, have_failed};
 use pdtcli::{
-    OpenOptions, Opened, Refusal, Settings, open_texts, read_header, read_words, recover,
-    run_opened, run_opened_on_threads, status_of,
+    OpenOptions, Opened, Refusal, Settings, ShowFault, open_texts, read_header, read_words,
+    recover, run_opened, run_opened_on_threads, status_of, stored_header,
 };
 use std::alloc::Global;
 use std::process::ExitCode;
@@ -27,37 +31,78 @@ const MISUSED: u8 = 2;
 const FIRST_GENERATION: u32 = 1;
 
 fn main(rt: HostRuntime) -> ExitCode {
-    match answered(&rt, &rt) {
-        Ok(status) => ExitCode::from(status),
-        // The words can't be had, or what is wrong with them can't be told.
-        Err(_) => ExitCode::from(MISUSED),
-    }
+    // Held until the end: a stream that was closed stays one that can't be written to.
+    let streams = hold_streams(&rt);
+    let status = match &streams {
+        Ok(_) => answered(&rt, &rt),
+        Err(_) => told(&rt, &Err(Refusal::Output(ShowFault::Write))),
+    };
+    ExitCode::from(status)
 }
 
 /// Does what the words ask for, and gives the status to end with. What is refused is told on standard error. The second handle
 /// may start threads and wait for them.
-fn answered<T: Threads + Wait + Sync>(rt: &HostRuntime, starter: &T) -> io::Result<u8> {
+fn answered<T: Threads + Wait + Sync>(rt: &HostRuntime, starter: &T) -> u8 {
+    match given_words(rt) {
+        Ok(given) => answer_to(rt, starter, given.as_slice()),
+        Err(fault) => {
+            let _ = eprintln!(rt; "error: {}", words_fault(fault.kind()));
+            MISUSED
+        }
+    }
+}
+
+/// Does what these words ask for.
+fn answer_to<T: Threads + Wait + Sync>(rt: &HostRuntime, starter: &T, given: &[String]) -> u8 {
+    let words = match lent(rt.alloc(), given) {
+        Ok(words) => words,
+        Err(_) => {
+            let _ = eprintln!(rt; "error: {}", words_fault(io::ErrorKind::OutOfMemory));
+            return MISUSED;
+        }
+    };
+    match read_words(rt.alloc(), words.as_slice()) {
+        Ok(settings) => told(rt, &done(rt, starter, settings)),
+        Err(fault) => {
+            let _ = rt.eprint(&fault);
+            MISUSED
+        }
+    }
+}
+
+/// Tells what was refused, and gives the status to end with.
+fn told(rt: &HostRuntime, answer: &Result<u8, Refusal>) -> u8 {
+    if let Err(refusal) = answer {
+        // Where even this can't be written, the status alone tells.
+        let _ = eprintln!(rt; "{refusal}");
+    }
+    status_of(answer)
+}
+
+/// The words of the command line, the first of which is the program's name.
+fn given_words(rt: &HostRuntime) -> io::Result<Vec<String>> {
     let mut given = Vec::new(rt.alloc());
     for word in env::args(rt)? {
         given.push(word)?;
     }
-    let mut words = Vec::new(rt.alloc());
-    for word in &given {
+    Ok(given)
+}
+
+/// The words, lent.
+fn lent<'a>(alloc: Global, given: &'a [String]) -> Result<Vec<&'a str>, NoMemory> {
+    let mut words = Vec::new(alloc);
+    for word in given {
         words.push(word.as_str())?;
     }
-    match read_words(rt.alloc(), words.as_slice()) {
-        Ok(settings) => {
-            let answer = done(rt, starter, settings);
-            if let Err(refusal) = &answer {
-                // Where even this can't be written, the status alone tells.
-                let _ = eprintln!(rt; "{refusal}");
-            }
-            Ok(status_of(&answer))
-        }
-        Err(fault) => {
-            rt.eprint(&fault)?;
-            Ok(MISUSED)
-        }
+    Ok(words)
+}
+
+/// Why the words of a command line can't be had.
+fn words_fault(kind: io::ErrorKind) -> &'static str {
+    if kind == io::ErrorKind::InvalidData {
+        "a word of the command line isn't UTF-8"
+    } else {
+        "there is no memory for the command line"
     }
 }
 
@@ -111,18 +156,51 @@ fn run<T: Threads + Wait + Sync>(
     folder: Option<&str>,
     options: OpenOptions,
 ) -> Result<u8, Refusal> {
-    let alloc = rt.alloc();
     let opened = open_files(rt, files, options)?;
-    if let Some(dir) = folder {
-        make_header(rt, dir, opened.schema())?;
+    match folder {
+        Some(dir) => run_in_folder(rt, starter, dir, opened),
+        None => run_in_memory(rt, starter, opened),
     }
-    let mut devices: Vec<Box<dyn ColumnDevice + Send>> = Vec::new(alloc);
-    for col in 0..opened.schema().width() {
-        let pushed = match folder {
-            Some(dir) => devices.push(make_column(rt, dir, col)?),
-            None => devices.push(memory_column(alloc)?),
-        };
-        pushed?;
+}
+
+/// Runs what was opened over a store in the folder. Where the store isn't made, no file of it stays.
+fn run_in_folder<T: Threads + Wait + Sync>(
+    rt: &HostRuntime,
+    starter: Option<&T>,
+    dir: &str,
+    opened: Opened,
+) -> Result<u8, Refusal>
+    requires { opened.script.schema ≡ opened.manager.schema }
+{
+    let alloc = rt.alloc();
+    let header = stored_header(alloc, opened.schema())?;
+    let paths = store_paths(alloc, dir, opened.schema().width())?;
+    // Room comes first: once the files are made each device has its place.
+    let mut devices: Vec<Box<dyn ColumnDevice + Send>> = Vec::with_capacity(
+        alloc,
+        opened.schema().width(),
+    )?;
+    for column in make_store(rt, paths.as_slice(), header.as_slice())? {
+        devices.push(column)?;
+    }
+    let answer = run_over(rt, starter, opened, devices);
+    if let Err(Refusal::Store(_)) = &answer {
+        remove_files(rt, paths.as_slice(), paths.len());
+    }
+    answer
+}
+
+/// Runs what was opened over a store in memory.
+fn run_in_memory<T: Threads + Wait + Sync>(
+    rt: &HostRuntime,
+    starter: Option<&T>,
+    opened: Opened,
+) -> Result<u8, Refusal>
+    requires { opened.script.schema ≡ opened.manager.schema }
+{
+    let mut devices: Vec<Box<dyn ColumnDevice + Send>> = Vec::new(rt.alloc());
+    for _ in 0..opened.schema().width() {
+        devices.push(memory_column(rt.alloc())?)?;
     }
     run_over(rt, starter, opened, devices)
 }

@@ -1,18 +1,31 @@
 -- What the program makes of the files of a store: the columns that its header says, and the image that they store.
-use Rattle.std.specs.Prelude.{◌≡◌, ◌≢◌, ℕ, List, Ok, Err, IsOkAnd}
+use Rattle.std.specs.Prelude.{◌≡◌, ◌≢◌, ◌⊎◌, ℕ, List, Ok, Err, IsOkAnd}
 use Rattle.values.specs.Shape.{Columns}
 use Rattle.values.specs.declared.row.Row.{Row}
 use Rattle.columns.specs.declared.fault.ReadFault.TheVariants as read_fault
 use Rattle.devices.specs.Stored.{Image, stored_image}
-use Rattle.inputs.specs.Input.{IsTableOf}
+use Rattle.devices.specs.declared.fault.StoreFault.TheVariants as store_fault
+use Rattle.inputs.specs.Input.{IsFaultOf, IsTableOf}
+use Rattle.inputs.specs.declared.fault.TableFault.{TableFault}
 use Rattle.pdtcli.specs.Program.{File, IsTableFault}
 use Rattle.pdtcli.specs.declared.program.FileFault.TheVariants as file
 use Rattle.pdtcli.specs.declared.refusal.Refusal.{Refusal}
-use Rattle.pdtcli.specs.declared.refusal.Refusal.TheVariants.{UnreadableStore, Header, Columns as InColumns, Output}
+use Rattle.pdtcli.specs.declared.refusal.Refusal.TheVariants.{CannotMake, Store, UnreadableStore, Header, Columns as InColumns, Output}
 
 -- the file says these columns, and some rows
 abbrev pub HasHeader : File → Columns → Type 0
 HasHeader header schema = IsOkAnd header (λ text. (rows : List Row) × IsTableOf text schema rows)
+
+-- the text of a header says other columns, or has a fault
+abbrev pub SaysOthers : Columns → List ℕ → Type 0
+SaysOthers schema text =
+    ((other : Columns) × HasHeader (Ok text) other × (other ≢ schema)) ⊎ ((fault : TableFault) × IsFaultOf text fault)
+
+-- a store's header, of this text, is not made: it would not say the columns, or memory is refused
+abbrev pub IsHeaderLost : Columns → List ℕ → Refusal → Type 0
+IsHeaderLost schema text CannotMake = SaysOthers schema text
+IsHeaderLost schema text (Store fault) = fault ≡ store_fault.NoMemory
+IsHeaderLost schema text refusal = ⊥
 
 -- the file can't be read, or its text has this fault
 abbrev pub IsHeaderRefusal : File → Refusal → Type 0

@@ -15,6 +15,7 @@ mod caller;
 mod client;
 mod clients;
 mod gate;
+mod header;
 mod image;
 mod outcome;
 mod output;
@@ -31,6 +32,7 @@ mod shown;
 pub use clients::{RunFault, run_clients};
 pub use devices::{ReadFault, Store, StoreFault, StoredImage};
 pub use gate::{Gate, OpenGate};
+pub use header::stored_header;
 pub use inputs::{
     Call, ClientCall, Script, ScriptFault, TableFault, Verb, load_table, read_script, read_table,
 };

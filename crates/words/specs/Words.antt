@@ -1,12 +1,12 @@
 -- What the words of a command line say.
-use Rattle.std.specs.Prelude.{◌≡◌, ◌≤◌, ℕ, Bool, true, false, Option, Some, None, List, codes}
-use Rattle.std.specs.Option.{option_map, option_and_then}
+use Rattle.std.specs.Prelude.{◌≡◌, ◌<◌, ◌≤◌, ℕ, Bool, true, false, Option, Some, None, List, codes, length}
+use Rattle.std.specs.Option.{IfSome, option_map, option_and_then}
 use Rattle.std.specs.Str.Parse.{IsNumeral, digits_value, without_leading_plus}
 use Rattle.clap.specs.Simple.{on_top}
 use Rattle.clap.specs.Words.{App, Row, Rule, Text, AddsSubcommand, app_of, first_of, new_app, new_rule, subcommand_of, takes, with_rule, with_subcommand}
 use Rattle.clap.specs.declared.builder.command.Command.{Command}
 use Rattle.clap.specs.declared.builder.ArgAction.TheVariants.{Set, SetTrue}
-use Rattle.clap.specs.declared.builder.value_parser.ValueParser.TheVariants.{Unsigned}
+use Rattle.clap.specs.declared.builder.value_parser.ValueParser.TheVariants.{NonEmptyString, Unsigned}
 use Rattle.values.specs.declared.limits.TheConstants.{MAX_RECENT_COMMITS, MAX_ROWS}
 use Rattle.model.specs.declared.clash.ConflictRule.{ConflictRule}
 use Rattle.model.specs.declared.clash.ConflictRule.TheVariants.{ByColumn, ByRow}
@@ -20,6 +20,10 @@ use Rattle.words.specs.declared.settings.Settings.TheVariants.{Run, Recover}
 abbrev pub placed_rule : Text → Rule
 placed_rule id = record (new_rule id) { value_names = 1; required = true; action = Some Set }
 
+-- a folder that has to be named, by its place
+abbrev pub folder_rule : Text → Rule
+folder_rule id = record (placed_rule id) { parser = Some NonEmptyString }
+
 -- an option with no value, which is there or isn't
 abbrev pub flag_rule : Text → Rule
 flag_rule id = record (new_rule id) { long = Some id; action = Some SetTrue }
@@ -27,6 +31,10 @@ flag_rule id = record (new_rule id) { long = Some id; action = Some SetTrue }
 -- an option with a value
 abbrev pub option_rule : Text → Rule
 option_rule id = record (new_rule id) { long = Some id; value_names = 1; action = Some Set }
+
+-- an option whose value names a folder
+abbrev pub folder_option_rule : Text → Rule
+folder_option_rule id = record (option_rule id) { parser = Some NonEmptyString }
 
 -- an option whose value is a number from 1 to the largest
 abbrev pub number_rule : Text → ℕ → Rule
@@ -37,13 +45,13 @@ abbrev pub run_usage : App
 run_usage =
     let placed = with_rule (with_rule (new_app (codes "run")) (placed_rule (codes "table"))) (placed_rule (codes "script")) in
     let threaded = with_rule placed (flag_rule (codes "threads")) in
-    let stored = with_rule threaded (option_rule (codes "store")) in
+    let stored = with_rule threaded (folder_option_rule (codes "store")) in
     let counted = with_rule (with_rule stored (number_rule (codes "recent") MAX_RECENT_COMMITS)) (number_rule (codes "limit") MAX_ROWS) in
     with_rule counted (option_rule (codes "conflicts"))
 
 -- `recover`, whose word is the store's folder
 abbrev pub recover_usage : App
-recover_usage = with_rule (new_app (codes "recover")) (placed_rule (codes "dir"))
+recover_usage = with_rule (new_app (codes "recover")) (folder_rule (codes "dir"))
 
 -- the program, of which one of the two commands is asked for
 abbrev pub usage : App
@@ -96,11 +104,15 @@ AreOf command word_of (Run table script threads store recent limit conflicts) =
     × IsNumberOf RECENT_COMMITS (word_of (codes "recent")) recent × IsNumberOf MAX_ROWS (word_of (codes "limit")) limit
     × IsRuleOf (word_of (codes "conflicts")) conflicts
 
--- the numbers are within their limits
+-- a word names a folder, as the empty one does not
+abbrev pub NamesFolder : Text → Type 0
+NamesFolder word = 0 < length word
+
+-- the numbers are within their limits, and a folder has a name
 abbrev pub IsWithinLimits : Settings → Type 0
-IsWithinLimits (Recover dir) = Unit {0}
+IsWithinLimits (Recover dir) = NamesFolder dir.now
 IsWithinLimits (Run table script threads store recent limit conflicts) =
-    (1 ≤ recent) × (recent ≤ MAX_RECENT_COMMITS) × (1 ≤ limit) × (limit ≤ MAX_ROWS)
+    (1 ≤ recent) × (recent ≤ MAX_RECENT_COMMITS) × (1 ≤ limit) × (limit ≤ MAX_ROWS) × IfSome store (λ dir. NamesFolder dir.now)
 
 -- the crate `clap` takes the words by the usage, and they say these settings
 pub record AreAsked (words : List Text) (settings : Settings) : Type 0 where

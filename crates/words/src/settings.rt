@@ -3,7 +3,7 @@ ghost use Rattle.std.specs.Prelude.{◌≡◌, ◌≤◌, ℕ, Bool, [], Some, I
 ghost use Rattle.clap.specs.Words.{app_of, fault_of, first_value, found_of, kind_of, subcommand_rows_of};
 ghost use Rattle.clap.specs.declared.error.kind.ErrorKind.TheVariants.{OutOfMemory};
 ghost use Rattle.model.specs.declared.clash.ConflictRule.{ConflictRule as Rule};
-ghost use Rattle.words.specs.Words.{flag_word, usage, command_for, word_for, word_in, AreAsked, AreOf, IsNumberOf, IsRuleOf, IsWithinLimits};
+ghost use Rattle.words.specs.Words.{flag_word, usage, command_for, word_for, word_in, AreAsked, AreOf, IsNumberOf, IsRuleOf, IsWithinLimits, NamesFolder};
 ghost use Rattle.words.specs.declared.settings.Settings.{Settings as Asked};
 
 use crate::usage::program;
@@ -27,7 +27,7 @@ pub enum Settings<'a> {
         script: &'a str,
         /// Whether each client's calls are made on a thread of its own.
         threads: bool,
-        /// The folder that the store is made in; none where nothing is said.
+        /// The folder that the store is made in, by a name that isn't empty; none where nothing is said.
         store: Option<&'a str>,
         /// How many commits may come between a transaction's begin and its commit, 1 to 65,536; 64 where nothing is said.
         recent: usize,
@@ -38,7 +38,7 @@ pub enum Settings<'a> {
     },
     /// Prints the table that a store has.
     Recover {
-        /// The folder of the store.
+        /// The folder of the store, by a name that isn't empty.
         dir: &'a str,
     },
 }
@@ -49,7 +49,8 @@ pub enum Settings<'a> {
 ///
 /// `clap`'s error, with its text, where the words are not of the usage
 /// `pdt run TABLE SCRIPT [--threads] [--store DIR] [--recent N] [--limit N] [--conflicts column|row]` or
-/// `pdt recover DIR`, where an N is out of its range, where help is asked for, and where a growth is refused.
+/// `pdt recover DIR`, where a DIR is empty, where an N is out of its range, where help is asked for, and where a growth is
+/// refused.
 pub fn read_words<'a>(alloc: Global, words: &'a [&'a str]) -> Result<Settings<'a>, Error>
     ensures said { IfOk result (AreOf (command_for (map (λ word. word.now) words.now)) (word_for (map (λ word. word.now) words.now))) }
     ensures within { IfOk result (λ settings. IsWithinLimits settings) }
@@ -101,6 +102,7 @@ fn run_settings<'a>(run: &ArgMatches<'a>) -> Option<Settings<'a>>
     let table = run.get_str("table")?;
     let script = run.get_str("script")?;
     let threads = flag_in(run.get_str("threads"))?;
+    let store = store_in(run.get_str("store"))?;
     let most = MAX_RECENT_COMMITS as u64;
     let recent = number_in(run.get_str("recent"), RECENT_COMMITS, most)? as usize;
     let limit = number_in(run.get_str("limit"), MAX_ROWS, MAX_ROWS)?;
@@ -109,7 +111,7 @@ fn run_settings<'a>(run: &ArgMatches<'a>) -> Option<Settings<'a>>
         table,
         script,
         threads,
-        store: run.get_str("store"),
+        store,
         recent,
         limit,
         conflicts,
@@ -120,10 +122,30 @@ fn run_settings<'a>(run: &ArgMatches<'a>) -> Option<Settings<'a>>
 fn recover_settings<'a>(recover: &ArgMatches<'a>) -> Option<Settings<'a>>
     ensures said { IfSome result (AreOf (Some (codes "recover")) (first_value (found_of recover.now))) }
     ensures within { IfSome result (λ settings. IsWithinLimits settings) }
-    ensures none { IsNone result → (settings : Asked) → AreOf (Some (codes "recover")) (first_value (found_of recover.now)) settings → ⊥ }
+    ensures none { IsNone result → (settings : Asked) → AreOf (Some (codes "recover")) (first_value (found_of recover.now)) settings → IsWithinLimits settings → ⊥ }
 {
-    let dir = recover.get_str("dir")?;
+    let dir = named(recover.get_str("dir")?)?;
     Some(Settings::Recover { dir })
+}
+
+/// The folder that a word names; none where it is empty.
+fn named(word: &str) -> Option<&str>
+    ensures some { IfSome result (λ dir. (dir.now ≡ word.entry.now) × NamesFolder dir.now) }
+    ensures none { IsNone result → NamesFolder word.entry.now → ⊥ }
+{
+    if word.is_empty() { None } else { Some(word) }
+}
+
+/// The folder of a store that is asked for; none within where none is, and none where its name is empty.
+fn store_in(word: Option<&str>) -> Option<Option<&str>>
+    ensures said { IfSome result (λ store. option_map (λ w. w.now) word.entry ≡ option_map (λ w. w.now) store) }
+    ensures within { IfSome result (λ store. IfSome store (λ dir. NamesFolder dir.now)) }
+    ensures none { IsNone result → IfSome word.entry (λ w. NamesFolder w.now) → ⊥ }
+{
+    match word {
+        None => Some(None),
+        Some(word) => Some(Some(named(word)?)),
+    }
 }
 
 /// Whether an option with no value is there, by the word for it; none where it is no such word.

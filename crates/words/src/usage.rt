@@ -1,7 +1,7 @@
 //! The usage of the program, as `clap` has it.
 ghost use Rattle.std.specs.Prelude.{◌≡◌, false, IfOk};
 ghost use Rattle.clap.specs.Words.{app_of, rule_of};
-ghost use Rattle.words.specs.Words.{flag_rule, number_rule, option_rule, placed_rule, recover_usage, run_usage, usage, IsCommandOf};
+ghost use Rattle.words.specs.Words.{flag_rule, folder_option_rule, folder_rule, number_rule, option_rule, placed_rule, recover_usage, run_usage, usage, IsCommandOf};
 
 use clap::builder::ValueParser;
 use clap::{Arg, ArgAction, Command};
@@ -57,7 +57,7 @@ fn run_command<'a>(alloc: Global) -> Result<Command<'a>, AllocError>
         .arg(file(alloc, "table", "TABLE", TABLE_HELP))?
         .arg(file(alloc, "script", "SCRIPT", SCRIPT_HELP))?
         .arg(flag(alloc, "threads", THREADS_HELP))?
-        .arg(option(alloc, "store", "DIR", STORE_HELP))?
+        .arg(folder_option(alloc, "store", "DIR", STORE_HELP))?
         .arg(number(alloc, "recent", RECENT_HELP, MAX_RECENT_COMMITS as u64))?
         .arg(number(alloc, "limit", LIMIT_HELP, MAX_ROWS))?
         .arg(option(alloc, "conflicts", "RULE", CONFLICTS_HELP))
@@ -69,10 +69,10 @@ fn recover_command<'a>(alloc: Global) -> Result<Command<'a>, AllocError>
 {
     Command::new(alloc, "recover")
         .about(RECOVER_ABOUT)
-        .arg(file(alloc, "dir", "DIR", DIR_HELP))
+        .arg(folder(alloc, "dir", "DIR", DIR_HELP))
 }
 
-/// A file or a folder that has to be named, by its place.
+/// A word that has to be there, by its place.
 fn file<'a>(alloc: Global, id: &'a str, shown: &'a str, help: &'a str) -> Arg<'a>
     ensures rule { rule_of result ≡ placed_rule id.entry.now }
     ensures local { result.global ≡ false }
@@ -82,6 +82,14 @@ fn file<'a>(alloc: Global, id: &'a str, shown: &'a str, help: &'a str) -> Arg<'a
         .value_name(shown)
         .required(true)
         .action(ArgAction::Set)
+}
+
+/// A folder that has to be named, by its place. The empty name would stand for the top of the file system.
+fn folder<'a>(alloc: Global, id: &'a str, shown: &'a str, help: &'a str) -> Arg<'a>
+    ensures rule { rule_of result ≡ folder_rule id.entry.now }
+    ensures local { result.global ≡ false }
+{
+    file(alloc, id, shown, help).value_parser(ValueParser::NonEmptyString)
 }
 
 /// An option with no value.
@@ -101,6 +109,14 @@ fn number<'a>(alloc: Global, id: &'a str, help: &'a str, largest: u64) -> Arg<'a
     ensures local { result.global ≡ false }
 {
     option(alloc, id, "N", help).value_parser(ValueParser::unsigned(1, largest))
+}
+
+/// An option whose value names a folder, and isn't empty.
+fn folder_option<'a>(alloc: Global, id: &'a str, shown: &'a str, help: &'a str) -> Arg<'a>
+    ensures rule { rule_of result ≡ folder_option_rule id.entry.now }
+    ensures local { result.global ≡ false }
+{
+    option(alloc, id, shown, help).value_parser(ValueParser::NonEmptyString)
 }
 
 /// An option with a value.

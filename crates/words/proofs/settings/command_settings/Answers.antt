@@ -46,4 +46,4 @@ returns-in-recover-clause-none c none settings said within =
     c.recover_settings.ensures.none none settings
     (AreOf-same _ _ (word_in (option_map (λ p. p.1) (subcommand_rows_of c.args.matches.now))) (first_value found)
     (sym name ∙ ap Some c.in-recover.is)
-    (λ id. sym (first_value-rows found id ∙ ap (λ o. word_in o id) rows)) settings said)
+    (λ id. sym (first_value-rows found id ∙ ap (λ o. word_in o id) rows)) settings said) within

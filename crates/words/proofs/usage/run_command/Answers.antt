@@ -2,7 +2,7 @@ use Rattle.std.proofs.Common.{◌≡◌, ◌∙◌, ap, ap₂, codes}
 use Rattle.clap.specs.Simple.{app_of_fields}
 use Rattle.clap.specs.Words.{App, app_of, new_app, with_rule, with_subcommand}
 use Rattle.values.specs.declared.limits.TheConstants.{MAX_RECENT_COMMITS, MAX_ROWS}
-use Rattle.words.specs.Words.{flag_rule, number_rule, option_rule, placed_rule, run_usage}
+use Rattle.words.specs.Words.{flag_rule, folder_option_rule, number_rule, placed_rule, run_usage}
 use Rattle.words.proofs.WordsLemmas.{if-done}
 use Rattle.words.proofs.usage.run_command.Goals as goal
 
@@ -11,7 +11,7 @@ returns c =
     let one : App = with_rule (new_app (codes "run")) (placed_rule (codes "table")) in
     let two : App = with_rule one (placed_rule (codes "script")) in
     let three : App = with_rule two (flag_rule (codes "threads")) in
-    let four : App = with_rule three (option_rule (codes "store")) in
+    let four : App = with_rule three (folder_option_rule (codes "store")) in
     let five : App = with_rule four (number_rule (codes "recent") MAX_RECENT_COMMITS) in
     let six : App = with_rule five (number_rule (codes "limit") MAX_ROWS) in
     let bare = ap app_of_fields c.about.ensures ∙ c.new.ensures.app in
@@ -22,7 +22,7 @@ returns c =
     let with_threads : app_of c.in_ok-arg-3.field-0 ≡ three =
     c.in_ok-arg-3.ensures.shape c.flag.ensures.local ∙ ap₂ with_rule with_script c.flag.ensures.rule in
     let with_store : app_of c.in_ok-arg-4.field-0 ≡ four =
-    c.in_ok-arg-4.ensures.shape c.option.ensures.local ∙ ap₂ with_rule with_threads c.option.ensures.rule in
+    c.in_ok-arg-4.ensures.shape c.folder_option.ensures.local ∙ ap₂ with_rule with_threads c.folder_option.ensures.rule in
     let with_recent : app_of c.in_ok-arg-5.field-0 ≡ five =
     c.in_ok-arg-5.ensures.shape c.number.ensures.local ∙ ap₂ with_rule with_store c.number.ensures.rule in
     let with_limit : app_of c.in_ok-arg-6.field-0 ≡ six =
@@ -30,16 +30,16 @@ returns c =
     let one_local = rw (c.about.ensures, c.new.ensures.local, c.file.ensures.local) at c.in_ok-arg.ensures.globals in
     let two_local = rw (one_local, c.file-2.ensures.local) at c.in_ok-arg-2.ensures.globals in
     let three_local = rw (two_local, c.flag.ensures.local) at c.in_ok-arg-3.ensures.globals in
-    let four_local = rw (three_local, c.option.ensures.local) at c.in_ok-arg-4.ensures.globals in
+    let four_local = rw (three_local, c.folder_option.ensures.local) at c.in_ok-arg-4.ensures.globals in
     let five_local = rw (four_local, c.number.ensures.local) at c.in_ok-arg-5.ensures.globals in
     let six_local = rw (five_local, c.number-2.ensures.local) at c.in_ok-arg-6.ensures.globals in
     if-done c.arg-7.result _ _
     (λ command adds.
-    let run_is : app_of command ≡ run_usage = adds.shape c.option-2.ensures.local ∙ ap₂ with_rule with_limit c.option-2.ensures.rule in
+    let run_is : app_of command ≡ run_usage = adds.shape c.option.ensures.local ∙ ap₂ with_rule with_limit c.option.ensures.rule in
     record {
       alone = run_is;
       among = λ top added put.
-          put.shape (rw (six_local, c.option-2.ensures.local) at adds.globals)
+          put.shape (rw (six_local, c.option.ensures.local) at adds.globals)
           ∙ ap (λ (a : App). with_subcommand (app_of top) a.top) run_is;
     })
     c.arg-7.ensures
