@@ -3,7 +3,8 @@
 use super::memory::{Devices, memory_column};
 use super::{BASE_COLUMNS, BASE_TEXT, USUAL};
 use devices::{Store, StoreFault, have_failed};
-use pdtcli::{Gate, Left, Refusal, ShowFault, open_texts, run_clients, show};
+use fixtures::entries_text;
+use pdtcli::{Gate, Left, OpenGate, Refusal, ShowFault, open_texts, run_clients, show};
 use std::alloc::Global;
 use std::process::Abort;
 use std::sync::Wait;
@@ -176,4 +177,39 @@ fn a_gate_is_told_each_call_once_by_its_numbers(rt: HostRuntime) -> Result<(), F
     assert!(&rt; gate.before.load(Ordering::SeqCst) == 111_111);
     assert!(&rt; gate.after.load(Ordering::SeqCst) == 111_111);
     Ok(())
+}
+
+/// That the manager that is left has these entries in its Read- and its Write-PDT, and so many rows in its stable table.
+fn assert_layers(
+    rt: &impl Abort,
+    alloc: Global,
+    left: &Left,
+    (read, write, rows): (&str, &str, u64),
+) -> Result<(), Fail> {
+    let manager = left.manager();
+    let found = entries_text(alloc, manager.read_tree().iter())?;
+    assert!(rt; found.as_str() == read, "the Read-PDT");
+    let found = entries_text(alloc, manager.write_tree().iter())?;
+    assert!(rt; found.as_str() == write, "the Write-PDT");
+    assert!(rt; manager.stable().len() == rows, "the stable table");
+    Ok(())
+}
+
+/// A client that commits an insert, folds, and commits a set of its row.
+const FOLDED: &[u8] =
+    b"a,begin\na,insert,25,Dee,4\na,commit\na,fold\na,begin\na,set,25,qty,5\na,commit\n";
+
+#[test]
+fn a_fold_on_a_thread_moves_the_entries_into_the_read_pdt(rt: HostRuntime) -> Result<(), Fail> {
+    let left = left_in_memory(&rt, rt.alloc(), FOLDED, &OpenGate)?;
+    assert_layers(&rt, rt.alloc(), &left, ("2+25,Dee,4", "2:2=5", 3))
+}
+
+/// A client that commits an insert, and writes a checkpoint.
+const STORED: &[u8] = b"a,begin\na,insert,25,Dee,4\na,commit\na,checkpoint\n";
+
+#[test]
+fn a_checkpoint_on_a_thread_leaves_no_entries(rt: HostRuntime) -> Result<(), Fail> {
+    let left = left_in_memory(&rt, rt.alloc(), STORED, &OpenGate)?;
+    assert_layers(&rt, rt.alloc(), &left, ("", "", 4))
 }
