@@ -44,7 +44,8 @@ impl Model for History {
 
     ghost view = { λ h. recorded_at (table_version h.opening.value) h.rules.row_limit h.rules.recent h.rules.conflicts h.records };
 
-    ghost invariant = { λ h. IsLegal h.opening.value.layers.stable.schema (start_at (table_version h.opening.value) h.rules.row_limit h.rules.recent h.rules.conflicts) h.records
+    ghost invariant = { λ h. IsLegal h.opening.value.layers.stable.schema
+        (start_at (table_version h.opening.value) h.rules.row_limit h.rules.recent h.rules.conflicts) h.records
         × (h.base ≡ h.opening.value.number) };
 }
 

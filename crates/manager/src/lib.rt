@@ -6,7 +6,8 @@
 //! on. What is prepared for a commit is its reply and the next version.
 //!
 //! *What it stands on.* `txn` for versions and transactions, `layers` for trees made consecutive and folded, `delta` for
-//! trees, `devices` for the store of a checkpoint, `model` for histories, `circular_buffer` for the trees of the last commits. No key of a row is compared.
+//! trees, `devices` for the store of a checkpoint, `model` for histories, `circular_buffer` for the trees of the last
+//! commits. No key of a stable row is read: keys meet in `layers` alone, between entries at one SID.
 #![tactic(auto)]
 
 mod checkpoint;

@@ -1,12 +1,12 @@
 //! What lies under the lock: the manager with its store, and the writer of what is published.
-ghost use Rattle.std.specs.Prelude.{◌≡◌, ◌+◌, ◌<◌, ◌≤◌, ◌^◌, ◌++◌, ◌∷◌, ◌⊎◌, true, false, [], length, IfErr, IfOk, IfSome, IsSome, MatchResult, OnErr, OnOk, None, Some};
+ghost use Rattle.std.specs.Prelude.{◌≡◌, ◌+◌, ◌<◌, ◌≤◌, ◌^◌, ◌++◌, ◌∷◌, true, false, [], length, IfErr, IfOk, IfSome, IsSome, MatchResult, OnErr, OnOk, None, Some};
 ghost use mathlib.Core.List.{IsPrefix};
 ghost use Rattle.manager.specs.Managed.{HasFolded, IsDecided, IsManaged, IsOwn, cut_of, history_of, newest_number, newest_version, rebuilt_of, record_of, with_record};
 ghost use Rattle.txn.specs.Txn.{effects_of};
 ghost use Rattle.txn.specs.Version.{lower_table, table_version};
 ghost use Rattle.manager.specs.Prepared.{IsPrepared};
 ghost use Rattle.model.specs.History.{IsLegal};
-ghost use Rattle.publishing.specs.Lists.{IsBegun, IsCutAfter, IsListed, IsOfList, IsSame, IsShownAgain, layered_version, number_in, shown_in, version_in, version_of_item, with_item};
+ghost use Rattle.publishing.specs.Lists.{IsBegun, IsCutAfter, IsListed, IsOfList, IsSame, IsShownAgain, layered_version, number_in, version_in, version_of_item, with_item};
 ghost use Rattle.publishing.specs.declared.item.Item.{Item};
 ghost use Rattle.shared.specs.Endings.{GoesOn};
 ghost use Rattle.shared.specs.Generations.{IsAnswered};
