@@ -12,16 +12,24 @@ use Rattle.std.proofs.Crossing.{crosses, Arc-send, Arc-sync, Vec-send, Vec-sync}
 use Rattle.std.specs.contracts.alloc.Global as Global
 use Rattle.std.specs.contracts.impls.GlobalAllocator.TheImpl.{ghosts}
 use Rattle.std.specs.contracts.vec.Vec as Vec
+use Rattle.counted.specs.contracts.entry.Head as Head
 use Rattle.counted.specs.contracts.entry.SharedEntry as SharedEntry
 use Rattle.counted.specs.contracts.tree.CountedTree as CountedTree
 use Rattle.counted.specs.declared.node.Node.TheDeep.{the_members, member-Node, joins-Node, joins-Body, joins-Child}
-use Rattle.counted.specs.contracts.node.Node.TheKnot.{frame, step, sizes, type-Node, type-Body, type-Child, at-Child, at-Body, at-Node, view-Node, hole-Node}
+use Rattle.counted.specs.contracts.node.Node.TheKnot.{frame, step, sizes, type-Node, type-Body, type-Child, at-Child, at-Body}
+use Rattle.counted.specs.contracts.node.Node.TheKnot.{at-Node, view-Node, hole-Node}
 
 entry_send : IsSend SharedEntry.the_row
 entry_send = search (sendable, crosses) depth 60
 
 entry_sync : IsSync SharedEntry.the_row
 entry_sync = search (sendable, crosses) depth 60
+
+head_send : IsSend (Head.the_field).row
+head_send = search (sendable, crosses) depth 60
+
+head_sync : IsSync (Head.the_field).row
+head_sync = search (sendable, crosses) depth 60
 
 abbrev leaf : Field
 leaf = Vec.the_field SharedEntry.the_row Global.the_row ghosts
@@ -52,7 +60,7 @@ module _ (p : Parts frame) (s : IsSend (rows frame p member-Node)) (y : IsSync (
     (
       as_row_send (row_field (as_row i64-field)) net_send,
       (
-        as_row_send (row_field (as_row SharedEntry.the_field)) (as_row_send SharedEntry.the_field entry_send),
+        as_row_send (row_field (as_row Head.the_field)) (as_row_send Head.the_field head_send),
         (as_row_send (row_field _) (Arc-send (rows frame p member-Node) s y), tt),
       ),
     ),
@@ -64,7 +72,7 @@ module _ (p : Parts frame) (s : IsSend (rows frame p member-Node)) (y : IsSync (
     (
       as_row_sync (row_field (as_row i64-field)) net_sync,
       (
-        as_row_sync (row_field (as_row SharedEntry.the_field)) (as_row_sync SharedEntry.the_field entry_sync),
+        as_row_sync (row_field (as_row Head.the_field)) (as_row_sync Head.the_field head_sync),
         (as_row_sync (row_field _) (Arc-sync (rows frame p member-Node) s y), tt),
       ),
     ),
@@ -83,10 +91,12 @@ module _ (p : Parts frame) (s : IsSend (rows frame p member-Node)) (y : IsSync (
   ))
 
   node_body_send : IsSend (at-Node p)
-  node_body_send = rejoined_send _ _ _ _ joins-Node (declared_send (type-Node (at-Body p)) (as_row_send (row_field (at-Body p)) body_send, tt))
+  node_body_send =
+      rejoined_send _ _ _ _ joins-Node (declared_send (type-Node (at-Body p)) (as_row_send (row_field (at-Body p)) body_send, tt))
 
   node_body_sync : IsSync (at-Node p)
-  node_body_sync = rejoined_sync _ _ _ _ joins-Node (declared_sync (type-Node (at-Body p)) (as_row_sync (row_field (at-Body p)) body_sync, tt))
+  node_body_sync =
+      rejoined_sync _ _ _ _ joins-Node (declared_sync (type-Node (at-Body p)) (as_row_sync (row_field (at-Body p)) body_sync, tt))
 
   view_sends : IsSend (view-Node p)
   view_sends = view_send _ _ _ _ _ node_body_send
@@ -94,10 +104,12 @@ module _ (p : Parts frame) (s : IsSend (rows frame p member-Node)) (y : IsSync (
   view_syncs : IsSync (view-Node p)
   view_syncs = view_sync _ _ _ _ _ node_body_sync
 
-sends : (p : Parts frame) → ((j : the_members) → IsSend (rows frame p j)) → ((j : the_members) → IsSync (rows frame p j)) → (i : the_members) → IsSend (rows frame (step p) i)
+sends : (p : Parts frame) → ((j : the_members) → IsSend (rows frame p j)) → ((j : the_members) → IsSync (rows frame p j))
+    → (i : the_members) → IsSend (rows frame (step p) i)
 sends p s y member-Node = record { owned = (view_sends p (s member-Node) (y member-Node)).owned; leaving = λ k d w. tt }
 
-syncs : (p : Parts frame) → ((j : the_members) → IsSend (rows frame p j)) → ((j : the_members) → IsSync (rows frame p j)) → (i : the_members) → IsSync (rows frame (step p) i)
+syncs : (p : Parts frame) → ((j : the_members) → IsSend (rows frame p j)) → ((j : the_members) → IsSync (rows frame p j))
+    → (i : the_members) → IsSync (rows frame (step p) i)
 syncs p s y member-Node = record { shared = (view_syncs p (s member-Node) (y member-Node)).shared }
 
 pub node_send : IsSend hole-Node

@@ -1,6 +1,7 @@
 -- The entries of leaves.
-use Rattle.std.proofs.Common.{◌≡◌, ℕ, zero, suc, ◌+◌, ◌-◌, ◌≤◌, List, [], ◌∷◌, ◌++◌, length, take, drop, refl, ap, sym, ◌∙◌, arith, append_assoc, length-drop}
-use Rattle.std.proofs.lemmas.List.{append-nil, take_rest, drop_all, drop-drop, drop-append-le, length-take-le, take-append-drop}
+use Rattle.std.proofs.Common.{◌≡◌, ℕ, zero, suc, ◌+◌, ◌-◌, ◌≤◌, List, [], ◌∷◌, ◌++◌, length, take, drop, refl, ap, sym, ◌∙◌, arith}
+use Rattle.std.proofs.Common.{append_assoc}
+use Rattle.std.proofs.lemmas.List.{take_rest, drop-drop, drop-append-le, length-take-le, take-append-drop}
 use Rattle.model.specs.declared.entry.Entry.{Entry}
 use Rattle.std.proofs.Common.{get_or}
 use Rattle.std.specs.Prelude.{Option, Some, None, slice_get}
@@ -11,15 +12,6 @@ pub leaf_edited : (xs : List Entry) (at gone : ℕ) (put : List Entry)
     → (take at xs ++ put) ++ take (length xs - (at + gone)) (drop (at + gone) xs) ≡ edited at gone put xs
 leaf_edited xs at gone put =
     ap (λ ys. (take at xs ++ put) ++ ys) (take_rest xs (at + gone)) ∙ append_assoc (take at xs) put (drop (at + gone) xs)
-
-pub leaf_rest : (xs : List Entry) (at : ℕ) → at ≤ length xs
-    → drop at xs ≡ take (length xs - at) (drop at xs) ++ drop (at + length (take (length xs - at) (drop at xs))) xs
-leaf_rest xs at le =
-    let e = take_rest xs at in
-    let n = length-drop at xs in
-    let m = ap length e in
-    let front = take (length xs - at) (drop at xs) in
-    sym (ap (λ ys. front ++ ys) (drop_all (at + length front) xs (omega arith)) ∙ append-nil front ∙ e)
 
 pub put_items-le : (put : Option Entry) → length (put_items put) ≤ 1
 put_items-le None = omega arith
@@ -37,12 +29,15 @@ leaf_front xs es at k le e =
     let rest = drop (at + length xs) es in
     let past : drop (at + length (take k xs)) es ≡ drop k xs ++ rest =
     ap (λ m. drop (at + m) es) (length-take-le k xs le) ∙ sym (drop-drop k at es) ∙ ap (drop k) e ∙ drop-append-le k xs rest le in
-    e ∙ ap (λ ys. ys ++ rest) (sym (take-append-drop k xs)) ∙ append_assoc (take k xs) (drop k xs) rest ∙ ap (λ ys. take k xs ++ ys) (sym past)
+    e ∙ ap (λ ys. ys ++ rest) (sym (take-append-drop k xs)) ∙ append_assoc (take k xs) (drop k xs) rest
+    ∙ ap (λ ys. take k xs ++ ys) (sym past)
 
 -- a leaf that has run out is followed by the next one
-pub refilled : (old new es : List Entry) (next left : ℕ) → length old ≡ 0 → length new ≤ left → drop next es ≡ new ++ drop (next + length new) es
+pub refilled : (old new es : List Entry) (next left : ℕ) → length old ≡ 0 → length new ≤ left
+    → drop next es ≡ new ++ drop (next + length new) es
     → old ++ take left (drop next es) ≡ new ++ take (left - length new) (drop (next + length new) es)
-refilled [] new es next left none le e = ap (take left) e ∙ take-past new (drop (next + length new) es) (left - length new) left (omega arith)
+refilled [] new es next left none le e =
+    ap (take left) e ∙ take-past new (drop (next + length new) es) (left - length new) left (omega arith)
 refilled (x ∷ old) new es next left none le e = absurd (omega arith)
 
 first_at : (es : List Entry) (at : ℕ) (x : Entry) (rest : List Entry) → drop at es ≡ x ∷ rest → Some x ≡ slice_get es at
@@ -56,7 +51,8 @@ first_of [] d h = absurd (omega arith)
 first_of (x ∷ l) d h = refl
 
 -- the entry at an index, by the leaf from there on
-pub entry_at : (es : List Entry) (at : ℕ) (l : List Entry) (x d : Entry) → 1 ≤ length l → x ≡ get_or l 0 d → drop at es ≡ l ++ drop (at + length l) es
+pub entry_at : (es : List Entry) (at : ℕ) (l : List Entry) (x d : Entry) → 1 ≤ length l → x ≡ get_or l 0 d
+    → drop at es ≡ l ++ drop (at + length l) es
     → Some x ≡ slice_get es at
 entry_at es at l x d some is e =
     let rest = drop (at + length l) es in

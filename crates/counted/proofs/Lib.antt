@@ -1,13 +1,14 @@
 mod Boundaries
 mod BulkLemmas
+mod Descents
 mod GapSteps
 mod Heads
 mod InPlace
 mod Leaves
+mod Paths
+mod Placed
 mod Places
 mod Runs
-mod Spots
-mod SpotSteps
 mod Totals
 pub mod Crossing
 pub mod CallerLemmas

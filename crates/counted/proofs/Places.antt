@@ -1,19 +1,20 @@
 -- Children, and the places of their entries.
-use Rattle.std.proofs.Common.{Vec, Global, ◌≡◌, ℕ, zero, suc, ◌+◌, ◌*◌, ◌^◌, ◌<◌, ◌≤◌, inl, inr, List, [], ◌∷◌, ◌++◌, length, take, drop, get_or, refl, ap, sym, ◌∙◌, subst, arith, append_assoc, length-append, length-take, length-drop, ◌-◌}
-use Rattle.std.specs.Prelude.{pos, ◌+ℤ◌}
+use Rattle.std.proofs.Common.{Vec, Global, ◌≡◌, ℕ, zero, suc, ◌+◌, ◌*◌, ◌^◌, ◌<◌, ◌≤◌, List, [], ◌∷◌, ◌++◌, length, take, drop}
+use Rattle.std.proofs.Common.{get_or, refl, ap, sym, ◌∙◌, subst, arith, append_assoc, length-append, length-take, length-drop, ◌-◌}
+use Rattle.std.specs.Prelude.{◌+ℤ◌}
 use Rattle.std.specs.List.{All}
 use Rattle.std.specs.Prelude.{Result, Ok, Err, IfOk, Some, slice_get}
 use Rattle.std.specs.declared.alloc.AllocError.{AllocError}
 use Rattle.std.proofs.lemmas.Int.{ints}
-use Rattle.std.proofs.lemmas.List.{append-nil, take_more, drop_more, drop_all, take-append-drop}
-use Rattle.std.proofs.lemmas.Bool.{cases_lt}
-use Rattle.std.proofs.lemmas.Option.{get_or_from_slice_get}
+use Rattle.std.proofs.lemmas.List.{append-nil, take_more, drop_more, take-append-drop}
 use Rattle.std.proofs.Math.Nat.{mul-le-mul_right}
 use Rattle.std.proofs.lemmas.List.Concat.{flat_map-append}
 use Rattle.model.specs.declared.entry.Entry.{Entry}
 use Rattle.counted.specs.Edits.{edited}
+use Rattle.counted.specs.declared.entry.Head.{Head}
+use Rattle.counted.specs.Heads.{head_of}
 use Rattle.counted.specs.declared.node.Child.{Child}
-use Rattle.counted.specs.Sums.{total, shift_before, first_sid, IsOrdered}
+use Rattle.counted.specs.Sums.{total, first_sid}
 use Rattle.counted.specs.Shapes.{items_of, all_items, depth_of, view_of, IsChild, AreChildren, IsBalanced}
 use Rattle.counted.specs.Trees.{IsDepth, IsRoot}
 use Rattle.counted.specs.Views.{View}
@@ -24,7 +25,7 @@ use Rattle.std.proofs.lemmas.List.Elements.{All-head, All-tail, All-drop}
 use Rattle.std.proofs.lemmas.List.{take-append-le, drop-append-le}
 use Rattle.counted.specs.declared.node.Body.{Body}
 use Rattle.counted.specs.declared.node.Body.TheVariants.{Leaf, Inner}
-use Rattle.counted.proofs.Totals.{IsWithin, total_within, total-append, shift_before-append, ordered-left, ordered-right, past_first, below_first}
+use Rattle.counted.proofs.Totals.{IsWithin, total_within, total-append}
 
 pub power_some : (d : ℕ) → 1 ≤ 8 ^ d
 power_some zero = omega arith
@@ -49,67 +50,39 @@ two_by p n b wide le = let m = mul-le-mul_right p wide in omega arith
 pub child_some : (depth : ℕ) (c : Child) → IsChild depth c → 1 ≤ length (items_of c)
 child_some depth c h = omega (arith, power_some depth, h.many)
 
+-- a child that was read
+pub child_read : (children : List Child) (i : ℕ) (x : Child) → AreChildren children → i < length children → x ≡ get_or children i x
+    → IsChild (depth_of children) x
+child_read children i x h lt is = subst (IsChild (depth_of children)) (sym is) (h.each i x lt)
+
 pub split_items : (i : ℕ) (children : List Child) → all_items children ≡ all_items (take i children) ++ all_items (drop i children)
 split_items i children = ap all_items (sym (take-append-drop i children)) ∙ flat_map-append items_of (take i children) (drop i children)
 
 -- the entries from a child on
-pub items_from : (children : List Child) (i : ℕ) (d : Child) → i < length children → all_items (drop i children) ≡ items_of (get_or children i d) ++ all_items (drop (i + 1) children)
+pub items_from : (children : List Child) (i : ℕ) (d : Child) → i < length children
+    → all_items (drop i children) ≡ items_of (get_or children i d) ++ all_items (drop (i + 1) children)
 items_from children i d h = ap all_items (drop_more children i d h)
-
-pub ordered_from : (children : List Child) (i : ℕ) → IsOrdered (all_items children) → IsOrdered (all_items (drop i children))
-ordered_from children i o = ordered-right (all_items (take i children)) (all_items (drop i children)) (subst IsOrdered (split_items i children) o)
 
 first-append : (xs ys : List Entry) → 1 ≤ length xs → first_sid (xs ++ ys) ≡ first_sid xs
 first-append [] ys h = absurd (omega arith)
 first-append (x ∷ xs) ys h = refl
 
-first_sid-get : (es : List Entry) (x : Entry) → slice_get es 0 ≡ Some x → first_sid es ≡ x.sid
-first_sid-get [] x e = cc
-first_sid-get (y ∷ es) x e = ap (λ (z : Entry). z.sid) (get_or_from_slice_get (y ∷ es) 0 x x e)
+first_sid-head : (es : List Entry) (h : Head) → 1 ≤ length es → ((e : Entry) → slice_get es 0 ≡ Some e → h ≡ head_of e)
+    → first_sid es ≡ h.sid
+first_sid-head [] h some is = absurd (omega arith)
+first_sid-head (y ∷ es) h some is = ap (λ (x : Head). x.sid) (sym (is y refl))
 
-pub first_from : (children : List Child) (i : ℕ) (d : Child) → AreChildren children → i < length children → first_sid (all_items (drop i children)) ≡ (get_or children i d).head.sid
+pub first_from : (children : List Child) (i : ℕ) (d : Child) → AreChildren children → i < length children
+    → first_sid (all_items (drop i children)) ≡ (get_or children i d).head.sid
 first_from children i d h lt =
     let is = h.each i d lt in
-    ap first_sid (items_from children i d lt) ∙ first-append (items_of (get_or children i d)) (all_items (drop (i + 1) children)) (child_some _ _ is) ∙ first_sid-get _ _ is.head
-
-pub some_from : (children : List Child) (i : ℕ) (d : Child) → AreChildren children → i < length children → 1 ≤ length (all_items (drop i children))
-some_from children i d h lt =
-    let some = child_some _ _ (h.each i d lt) in
-    omega (arith, ap length (items_from children i d lt), length-append (items_of (get_or children i d)) (all_items (drop (i + 1) children)))
-
--- past a child whose next one begins below the place
-pub shift_past : (sid : ℕ) (children : List Child) (i : ℕ) (d : Child) → AreChildren children → IsOrdered (all_items children) → i + 1 < length children → (get_or children (i + 1) d).head.sid < sid → shift_before sid (all_items (drop i children)) ≡ (get_or children i d).net +ℤ shift_before sid (all_items (drop (i + 1) children))
-shift_past sid children i d h o lt below =
-    let here : i < length children = omega arith in
-    let is = h.each i d here in
-    let xs = items_of (get_or children i d) in
-    let ys = all_items (drop (i + 1) children) in
-    let e = items_from children i d here in
-    let first = first_from children (i + 1) d h lt in
-    let some = some_from children (i + 1) d h lt in
-    let all = below_first sid xs ys (subst IsOrdered e (ordered_from children i o)) some (omega (arith, first, below)) in
-    let net = is.net in
-    let both = ap (shift_before sid) e ∙ shift_before-append sid xs ys in
-    omega (arith, ints)
-
-rest_past : (sid : ℕ) (children : List Child) (i : ℕ) (d : Child) → AreChildren children → IsOrdered (all_items children) → (i < length children → sid ≤ (get_or children i d).head.sid) → shift_before sid (all_items (drop i children)) ≡ pos 0
-rest_past sid children i d h o past =
-    elim (cases_lt i (length children)) [
-      | inl lt ↦ past_first sid (all_items (drop i children)) (ordered_from children i o) (let e = first_from children i d h lt in let p = past lt in omega arith)
-      | inr le ↦ ap (λ cs. shift_before sid (all_items cs)) (drop_all i children le)
-    ]
-
--- at a child whose next one, if any, begins at or past the place
-pub shift_at : (sid : ℕ) (children : List Child) (i : ℕ) (d : Child) → AreChildren children → IsOrdered (all_items children) → i < length children → (i + 1 < length children → sid ≤ (get_or children (i + 1) d).head.sid) → shift_before sid (all_items (drop i children)) ≡ shift_before sid (items_of (get_or children i d))
-shift_at sid children i d h o lt past =
-    let xs = items_of (get_or children i d) in
-    let ys = all_items (drop (i + 1) children) in
-    let both = ap (shift_before sid) (items_from children i d lt) ∙ shift_before-append sid xs ys in
-    let none : shift_before sid ys ≡ pos 0 = rest_past sid children (i + 1) d h o past in
-    omega (arith, ints)
+    ap first_sid (items_from children i d lt)
+    ∙ first-append (items_of (get_or children i d)) (all_items (drop (i + 1) children)) (child_some _ _ is)
+    ∙ first_sid-head _ _ (child_some _ _ is) is.head
 
 -- what the children so far add
-pub total_items-more : (children : List Child) (i : ℕ) (d : Child) → AreChildren children → i < length children → total (all_items (take (i + 1) children)) ≡ total (all_items (take i children)) +ℤ (get_or children i d).net
+pub total_items-more : (children : List Child) (i : ℕ) (d : Child) → AreChildren children → i < length children
+    → total (all_items (take (i + 1) children)) ≡ total (all_items (take i children)) +ℤ (get_or children i d).net
 total_items-more children i d h lt =
     let c = get_or children i d in
     let net = (h.each i d lt).net in
@@ -124,12 +97,11 @@ total_items_within children i =
     let both = ap length (split_items i children) ∙ length-append (all_items (take i children)) (all_items (drop i children)) in
     record { above = omega (arith, ints); below = omega (arith, ints) }
 
-pub child_ordered : (children : List Child) (i : ℕ) (d : Child) → i < length children → IsOrdered (all_items children) → IsOrdered (items_of (get_or children i d))
-child_ordered children i d lt o = ordered-left (items_of (get_or children i d)) (all_items (drop (i + 1) children)) (subst IsOrdered (items_from children i d lt) (ordered_from children i o))
-
-pub child_few : (children : List Child) (i : ℕ) (d : Child) → i < length children → length (items_of (get_or children i d)) ≤ length (all_items children)
+pub child_few : (children : List Child) (i : ℕ) (d : Child) → i < length children
+    → length (items_of (get_or children i d)) ≤ length (all_items children)
 child_few children i d lt =
-    let here = ap length (items_from children i d lt) ∙ length-append (items_of (get_or children i d)) (all_items (drop (i + 1) children)) in
+    let here = ap length (items_from children i d lt)
+    ∙ length-append (items_of (get_or children i d)) (all_items (drop (i + 1) children)) in
     let all = ap length (split_items i children) ∙ length-append (all_items (take i children)) (all_items (drop i children)) in
     omega arith
 
@@ -140,7 +112,8 @@ pub record AtInner (children : List Child) (v : View) : Type 0 where
   pub width : v.width ≡ length children
   pub items : v.items ≡ all_items children
 
-pub at_inner : {b : Body} {v : View} {children : Vec Child Global} → view_of b ≡ v → IsBalanced b → b ≡ Inner children → AtInner children.items v
+pub at_inner : {b : Body} {v : View} {children : Vec Child Global} → view_of b ≡ v → IsBalanced b → b ≡ Inner children
+    → AtInner children.items v
 at_inner view balanced is =
     let e = sym view ∙ ap view_of is in
     record {
@@ -155,10 +128,12 @@ at_inner view balanced is =
 pub items-push : (children : List Child) (c : Child) → all_items (children ++ c ∷ []) ≡ all_items children ++ items_of c
 items-push children c = flat_map-append items_of children (c ∷ []) ∙ ap (λ xs. all_items children ++ xs) (append-nil (items_of c))
 
-pub items-more : (children : List Child) (i : ℕ) (d : Child) → i < length children → all_items (take (i + 1) children) ≡ all_items (take i children) ++ items_of (get_or children i d)
+pub items-more : (children : List Child) (i : ℕ) (d : Child) → i < length children
+    → all_items (take (i + 1) children) ≡ all_items (take i children) ++ items_of (get_or children i d)
 items-more children i d lt = ap all_items (take_more children i d lt) ∙ items-push (take i children) (get_or children i d)
 
-pub count-more : (children : List Child) (i : ℕ) (d : Child) → AreChildren children → i < length children → length (all_items (take (i + 1) children)) ≡ length (all_items (take i children)) + (get_or children i d).count
+pub count-more : (children : List Child) (i : ℕ) (d : Child) → AreChildren children → i < length children
+    → length (all_items (take (i + 1) children)) ≡ length (all_items (take i children)) + (get_or children i d).count
 count-more children i d h lt =
     let is = (h.each i d lt).count in
     omega (arith, ap length (items-more children i d lt), length-append (all_items (take i children)) (items_of (get_or children i d)))
@@ -181,7 +156,7 @@ same_is_child depth c x same h = record {
   most = let e = ap (λ v. length v.items) same.node in let f = h.most in omega arith;
   count = same.count ∙ h.count ∙ sym (ap (λ v. length v.items) same.node);
   net = same.net ∙ h.net ∙ sym (ap (λ v. total v.items) same.node);
-  head = ap (λ v. slice_get v.items 0) same.node ∙ h.head ∙ ap Some (sym same.head);
+  head = λ e is. same.head ∙ h.head e (sym (ap (λ v. slice_get v.items 0) same.node) ∙ is);
 }
 
 -- ---- depths and numbers of entries
@@ -190,19 +165,22 @@ pub depth_all : (depth : ℕ) (children : List Child) → All (IsChild depth) ch
 depth_all depth [] h some = absurd (omega arith)
 depth_all depth (c ∷ children) h some = (All-head (IsChild depth) c children h).level
 
-pub many_items : (depth : ℕ) (children : List Child) → All (IsChild depth) children → length children * 8 ^ depth ≤ length (all_items children)
+pub many_items : (depth : ℕ) (children : List Child) → All (IsChild depth) children
+    → length children * 8 ^ depth ≤ length (all_items children)
 many_items depth [] h = omega arith
 many_items depth (c ∷ children) h =
     let here = (All-head (IsChild depth) c children h).many in
     let rest = many_items depth children (All-tail (IsChild depth) c children h) in
     omega (arith, length-append (items_of c) (all_items children))
 
-pub many_below : (children : List Child) → AreChildren children → 8 ≤ length children → 8 ^ suc (depth_of children) ≤ length (all_items children)
+pub many_below : (children : List Child) → AreChildren children → 8 ≤ length children
+    → 8 ^ suc (depth_of children) ≤ length (all_items children)
 many_below children h full =
     let all = many_items (depth_of children) children h.each in
     many_by (8 ^ depth_of children) (length children) _ _ (power_suc (depth_of children)) full all
 
-pub most_items : (depth : ℕ) (children : List Child) → All (IsChild depth) children → length (all_items children) ≤ length children * 16 ^ depth
+pub most_items : (depth : ℕ) (children : List Child) → All (IsChild depth) children
+    → length (all_items children) ≤ length children * 16 ^ depth
 most_items depth [] h = omega arith
 most_items depth (c ∷ children) h =
     let here = (All-head (IsChild depth) c children h).most in
@@ -215,18 +193,25 @@ most_below children h =
     most_by (16 ^ depth_of children) (length children) _ _ (power_suc_16 (depth_of children)) h.room all
 
 -- an inner root
-pub many_at_root : (children : List Child) → AreChildren children → 2 ≤ length children → 2 * 8 ^ depth_of children ≤ length (all_items children)
+pub many_at_root : (children : List Child) → AreChildren children → 2 ≤ length children
+    → 2 * 8 ^ depth_of children ≤ length (all_items children)
 many_at_root children h wide =
     let all = many_items (depth_of children) children h.each in
     two_by (8 ^ depth_of children) (length children) _ wide all
 
 -- the second half of many children
-pub are_children_after : (children : List Child) (n : ℕ) → All (IsChild (depth_of children)) children → length children ≤ n + 16 → n < length children → AreChildren (drop n children)
+pub are_children_after : (children : List Child) (n : ℕ) → All (IsChild (depth_of children)) children → length children ≤ n + 16
+    → n < length children → AreChildren (drop n children)
 are_children_after children n each most lt =
     let all = All-drop (IsChild (depth_of children)) n children each in
     let long = length-drop n children in
     let e = depth_all (depth_of children) (drop n children) all (omega arith) in
-    record { some = omega arith; room = omega arith; each = let P : ℕ → Type 0 = λ depth. All (IsChild depth) (drop n children) in subst P (sym e) all }
+    record {
+      some = omega arith;
+      room = omega arith;
+      each = let P : ℕ
+          → Type 0 = λ depth. All (IsChild depth) (drop n children) in subst P (sym e) all;
+    }
 
 -- ---- an edit in one child
 
@@ -240,7 +225,8 @@ drop-past [] ys n m e = ap (λ k. drop k ys) (let f : m ≡ n = omega arith in f
 drop-past (x ∷ xs) ys n zero e = absurd (omega arith)
 drop-past (x ∷ xs) ys n (suc m) e = drop-past xs ys n m (omega arith)
 
-pub edited-between : (before here after put : List Entry) (at gone rest : ℕ) → rest + length before ≡ at → rest + gone ≤ length here → before ++ (edited rest gone put here ++ after) ≡ edited at gone put (before ++ (here ++ after))
+pub edited-between : (before here after put : List Entry) (at gone rest : ℕ) → rest + length before ≡ at → rest + gone ≤ length here
+    → before ++ (edited rest gone put here ++ after) ≡ edited at gone put (before ++ (here ++ after))
 edited-between before here after put at gone rest is le =
     let t1 : take at (before ++ (here ++ after)) ≡ before ++ take rest here =
     take-past before (here ++ after) rest at (omega arith) ∙ ap (λ xs. before ++ xs) (take-append-le rest here after (omega arith)) in
@@ -249,20 +235,35 @@ edited-between before here after put at gone rest is le =
     sym (ap (λ xs. xs ++ (put ++ drop (at + gone) (before ++ (here ++ after)))) t1 ∙ ap (λ xs. (before ++ take rest here) ++ (put ++ xs)) d1
     ∙ simp append_assoc)
 
-pub edited_in_child : (children : List Child) (i : ℕ) (d : Child) (at gone rest : ℕ) (put : List Entry) → i < length children → rest + length (all_items (take i children)) ≡ at → rest + gone ≤ length (items_of (get_or children i d)) → all_items (take i children) ++ edited rest gone put (items_of (get_or children i d)) ++ all_items (drop (i + 1) children) ≡ edited at gone put (all_items children)
+pub edited_in_child : (children : List Child) (i : ℕ) (d : Child) (at gone rest : ℕ) (put : List Entry) → i < length children
+    → rest + length (all_items (take i children)) ≡ at → rest + gone ≤ length (items_of (get_or children i d))
+    → all_items (take i children) ++ edited rest gone put (items_of (get_or children i d)) ++ all_items
+    (drop (i + 1) children) ≡ edited at gone put (all_items children)
 edited_in_child children i d at gone rest put lt is le =
     let before = all_items (take i children) in
     let here = items_of (get_or children i d) in
     let after = all_items (drop (i + 1) children) in
     let split = split_items i children ∙ ap (λ xs. before ++ xs) (items_from children i d lt) in
-    append_assoc before (edited rest gone put here) after ∙ edited-between before here after put at gone rest is le ∙ ap (edited at gone put) (sym split)
+    append_assoc before (edited rest gone put here) after ∙ edited-between before here after put at gone rest is le
+    ∙ ap (edited at gone put) (sym split)
 
-pub length-edited : (at gone : ℕ) (put items : List Entry) → at + gone ≤ length items → length (edited at gone put items) + gone ≡ length items + length put
+pub length-edited : (at gone : ℕ) (put items : List Entry) → at + gone ≤ length items
+    → length (edited at gone put items) + gone ≡ length items + length put
 length-edited at gone put items le =
-    omega (arith, length-append (take at items) (put ++ drop (at + gone) items), length-append put (drop (at + gone) items), length-take at items, length-drop (at + gone) items)
+    omega (
+      arith,
+      length-append (take at items) (put ++ drop (at + gone) items),
+      length-append put
+          (drop (at + gone) items),
+      length-take at items,
+      length-drop (at + gone) items,
+    )
 
 -- the entries from an index on, where a child's leaf gives the first of them
-pub drop_in_child : (children : List Child) (i : ℕ) (d : Child) (at rest n : ℕ) (xs : List Entry) → i < length children → rest + length (all_items (take i children)) ≡ at → rest + n ≤ length (items_of (get_or children i d)) → drop rest (items_of (get_or children i d)) ≡ xs ++ drop (rest + n) (items_of (get_or children i d)) → drop at (all_items children) ≡ xs ++ drop (at + n) (all_items children)
+pub drop_in_child : (children : List Child) (i : ℕ) (d : Child) (at rest n : ℕ) (xs : List Entry) → i < length children
+    → rest + length (all_items (take i children)) ≡ at → rest + n ≤ length (items_of (get_or children i d))
+    → drop rest (items_of (get_or children i d)) ≡ xs ++ drop (rest + n) (items_of (get_or children i d))
+    → drop at (all_items children) ≡ xs ++ drop (at + n) (all_items children)
 drop_in_child children i d at rest n xs lt is le e =
     let before = all_items (take i children) in
     let here = items_of (get_or children i d) in
@@ -271,7 +272,8 @@ drop_in_child children i d at rest n xs lt is le e =
     let one : drop at (all_items children) ≡ drop rest here ++ after =
     ap (drop at) split ∙ drop-past before (here ++ after) rest at (omega arith) ∙ drop-append-le rest here after (omega arith) in
     let two : drop (at + n) (all_items children) ≡ drop (rest + n) here ++ after =
-    ap (drop (at + n)) split ∙ drop-past before (here ++ after) (rest + n) (at + n) (omega arith) ∙ drop-append-le (rest + n) here after le in
+    ap (drop (at + n)) split ∙ drop-past before (here ++ after) (rest + n) (at + n) (omega arith)
+    ∙ drop-append-le (rest + n) here after le in
     one ∙ ap (λ ys. ys ++ after) e ∙ append_assoc xs (drop (rest + n) here) after ∙ ap (λ ys. xs ++ ys) (sym two)
 
 -- a child has a level of its own
@@ -291,7 +293,8 @@ pub grown_depth : (depth width : ℕ) (items : List Entry) (g : Grown) → IsGro
 grown_depth depth width items (One node) h = h.0
 grown_depth depth width items (Two left right) h = (h.0, h.1)
 
-pub grown_same : (depth depth' width width' : ℕ) (items items' : List Entry) (g : Grown) → depth ≡ depth' → width' ≤ width → items ≡ items' → IsGrown depth width items g → IsGrown depth' width' items' g
+pub grown_same : (depth depth' width width' : ℕ) (items items' : List Entry) (g : Grown) → depth ≡ depth' → width' ≤ width
+    → items ≡ items' → IsGrown depth width items g → IsGrown depth' width' items' g
 grown_same depth depth' width width' items items' (One node) e le same h = (h.0 ∙ e, omega (arith, h.1), h.2 ∙ same)
 grown_same depth depth' width width' items items' (Two left right) e le same h = (h.0 ∙ e, h.1 ∙ e, h.2, h.3, h.4 ∙ same)
 
@@ -311,11 +314,14 @@ at_leaf view balanced is =
       items = ap (λ v. v.items) e;
     }
 
-pub grown_result_same : (depth depth' width width' : ℕ) (items items' : List Entry) (r : Result Grown AllocError) → depth ≡ depth' → width' ≤ width → items ≡ items' → IfOk r (IsGrown depth width items) → IfOk r (IsGrown depth' width' items')
-grown_result_same depth depth' width width' items items' (Ok g) e le same h = grown_same depth depth' width width' items items' g e le same h
+pub grown_result_same : (depth depth' width width' : ℕ) (items items' : List Entry) (r : Result Grown AllocError) → depth ≡ depth'
+    → width' ≤ width → items ≡ items' → IfOk r (IsGrown depth width items) → IfOk r (IsGrown depth' width' items')
+grown_result_same depth depth' width width' items items' (Ok g) e le same h =
+    grown_same depth depth' width width' items items' g e le same h
 grown_result_same depth depth' width width' items items' (Err x) e le same h = h
 
-pub regrown : (children new : List Child) (depth : ℕ) → AreChildren children → depth ≡ depth_of children → All (IsChild depth) new → 1 ≤ length new → All (IsChild (depth_of new)) new
+pub regrown : (children new : List Child) (depth : ℕ) → AreChildren children → depth ≡ depth_of children → All (IsChild depth) new
+    → 1 ≤ length new → All (IsChild (depth_of new)) new
 regrown children new depth h e each some =
     let P : ℕ → Type 0 = λ n. All (IsChild n) new in
     subst P (sym (depth_all depth new each some)) each
@@ -328,9 +334,11 @@ below_power (suc d) = let h = below_power d in let p = power_suc d in omega arit
 pub grown_length : (depth width : ℕ) (items : List Entry) (g : Grown) → IsGrown depth width items g → length (grown_items g) ≡ length items
 grown_length depth width items g h = ap length (grown_is depth width items g h)
 
-pub child_fits : (children : List Child) (i : ℕ) (d : Child) → i < length children → length (all_items (take i children)) + length (items_of (get_or children i d)) ≤ length (all_items children)
+pub child_fits : (children : List Child) (i : ℕ) (d : Child) → i < length children
+    → length (all_items (take i children)) + length (items_of (get_or children i d)) ≤ length (all_items children)
 child_fits children i d lt =
-    let here = ap length (items_from children i d lt) ∙ length-append (items_of (get_or children i d)) (all_items (drop (i + 1) children)) in
+    let here = ap length (items_from children i d lt)
+    ∙ length-append (items_of (get_or children i d)) (all_items (drop (i + 1) children)) in
     let all = ap length (split_items i children) ∙ length-append (all_items (take i children)) (all_items (drop i children)) in
     omega arith
 
@@ -343,7 +351,8 @@ deep_law (Inner children) v is h deep wide =
     subst P is (λ many. subst Q less (many_at_root children.items h many)) wide
 
 pub most_law : (b : Body) (v : View) → view_of b ≡ v → IsBalanced b → length v.items ≤ 16 ^ v.depth
-most_law (Leaf entries) v is h = let P : View → Type 0 = λ w. length w.items ≤ 16 ^ w.depth in let one : 16 ^ 1 ≡ 16 = refl in subst P is (omega (arith, h, one))
+most_law (Leaf entries) v is h =
+    let P : View → Type 0 = λ w. length w.items ≤ 16 ^ w.depth in let one : 16 ^ 1 ≡ 16 = refl in subst P is (omega (arith, h, one))
 most_law (Inner children) v is h = let P : View → Type 0 = λ w. length w.items ≤ 16 ^ w.depth in subst P is (most_below children.items h)
 
 some_law : (b : Body) (v : View) → view_of b ≡ v → 1 ≤ v.depth

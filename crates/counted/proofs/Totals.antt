@@ -1,5 +1,6 @@
 -- Bounds and steps of what entries add up to.
-use Rattle.std.proofs.Common.{◌≡◌, ℕ, suc, ◌+◌, ◌<◌, ◌≤◌, true, false, cond, List, [], ◌∷◌, ◌++◌, length, take, get_or, refl, ap, ◌∙◌, arith, length-take}
+use Rattle.std.proofs.Common.{Less, inl, inr, sym, zero, ◌≡◌, ℕ, suc, ◌+◌, ◌<◌, ◌≤◌, true, false, cond, List, [], ◌∷◌, ◌++◌}
+use Rattle.std.proofs.Common.{length, take, get_or, refl, ap, arith, length-take}
 use Rattle.std.specs.Prelude.{ℤ, pos, ◌+ℤ◌, ◌≤ℤ◌, ltb}
 use Rattle.std.proofs.lemmas.Int.{ints}
 use Rattle.std.proofs.lemmas.List.{take_more}
@@ -7,6 +8,9 @@ use Rattle.std.specs.List.{AllByRecursion}
 use Rattle.model.specs.declared.entry.Entry.{Entry}
 use Rattle.model.specs.declared.entry.Change.{Change}
 use Rattle.model.specs.declared.entry.Change.TheVariants.{Ins, Del, Mod}
+use Rattle.std.proofs.lemmas.Bool.{cases_lt}
+use Rattle.counted.specs.Search.{stands_before, IsBoundary}
+use Rattle.counted.proofs.Boundaries.{true_false, before_lt, before_gt, before_eq}
 use Rattle.counted.specs.Sums.{weight_of, total, shift_before, first_sid, next_sid, IsOrdered}
 
 -- a sum lies between the number of entries and its negation
@@ -60,38 +64,16 @@ pub total-more : (xs : List Entry) (i : ℕ) (d : Entry) (w : ℤ) → i < lengt
     → total (take (i + 1) xs) ≡ total (take i xs) +ℤ w
 total-more xs i d w h e = rw (take_more xs i d h) (omega (arith, ints, total-append (take i xs) (get_or xs i d ∷ [])))
 
-pub shift_before-more : (sid : ℕ) (xs : List Entry) (i : ℕ) (d : Entry) → i < length xs
-    → shift_before sid (take (i + 1) xs) ≡ shift_before sid (take i xs) +ℤ cond (ltb (get_or xs i d).sid sid) (weight_of (get_or xs i d).change) (pos 0)
-shift_before-more sid xs i d h = rw (take_more xs i d h) (omega (arith, ints, shift_before-append sid (take i xs) (get_or xs i d ∷ [])))
-
-pub shift_before-more_below : (sid : ℕ) (xs : List Entry) (i : ℕ) (d : Entry) (w : ℤ) → i < length xs → (get_or xs i d).sid < sid
-    → w ≡ weight_of (get_or xs i d).change → shift_before sid (take (i + 1) xs) ≡ shift_before sid (take i xs) +ℤ w
-shift_before-more_below sid xs i d w h lt e =
-    let c = get_or xs i d in
-    let s = shift_before-more sid xs i d h ∙ ap (λ b. shift_before sid (take i xs) +ℤ cond b (weight_of c.change) (pos 0)) (ltb-from_lt _ _ lt) in
-    omega (arith, ints)
-
-pub shift_before-more_above : (sid : ℕ) (xs : List Entry) (i : ℕ) (d : Entry) → i < length xs → sid ≤ (get_or xs i d).sid
-    → shift_before sid (take (i + 1) xs) ≡ shift_before sid (take i xs)
-shift_before-more_above sid xs i d h le =
-    let c = get_or xs i d in
-    let s = shift_before-more sid xs i d h ∙ ap (λ b. shift_before sid (take i xs) +ℤ cond b (weight_of c.change) (pos 0)) (ltb-from_le _ _ le) in
-    omega (arith, ints)
-
 -- a sum over the entries so far stays within their number
 pub total_take_within : (xs : List Entry) (i : ℕ) → IsWithin (total (take i xs)) (length xs)
 total_take_within xs i =
     let w = total_within (take i xs) in
     record { above = omega (arith, ints, length-take i xs); below = omega (arith, ints, length-take i xs) }
 
-pub shift_take_within : (sid : ℕ) (xs : List Entry) (i : ℕ) → IsWithin (shift_before sid (take i xs)) (length xs)
-shift_take_within sid xs i =
-    let w = shift_within sid (take i xs) in
-    record { above = omega (arith, ints, length-take i xs); below = omega (arith, ints, length-take i xs) }
-
 -- ---- the order
 
-all-left : (e : Entry) (xs ys : List Entry) → AllByRecursion (λ x. next_sid e.sid e.change ≤ x.sid) (xs ++ ys) → AllByRecursion (λ x. next_sid e.sid e.change ≤ x.sid) xs
+all-left : (e : Entry) (xs ys : List Entry) → AllByRecursion (λ x. next_sid e.sid e.change ≤ x.sid) (xs ++ ys)
+    → AllByRecursion (λ x. next_sid e.sid e.change ≤ x.sid) xs
 all-left e [] ys h = tt
 all-left e (x ∷ xs) ys h = (h.0, all-left e xs ys h.1)
 
@@ -111,7 +93,8 @@ past sid (e ∷ entries) h =
     let e' = ap (λ b. cond b (weight_of e.change) (pos 0) +ℤ shift_before sid entries) (ltb-from_le e.sid sid h.0) in
     omega (arith, ints)
 
-all_weaker : (low high : ℕ) (entries : List Entry) → low ≤ high → AllByRecursion (λ x. high ≤ x.sid) entries → AllByRecursion (λ x. low ≤ x.sid) entries
+all_weaker : (low high : ℕ) (entries : List Entry) → low ≤ high → AllByRecursion (λ x. high ≤ x.sid) entries
+    → AllByRecursion (λ x. low ≤ x.sid) entries
 all_weaker low high [] le h = tt
 all_weaker low high (e ∷ entries) le h = (omega (arith, h.0), all_weaker low high entries le h.1)
 
@@ -122,15 +105,56 @@ all-right low (x ∷ xs) ys h = all-right low xs ys h.1
 -- where the first of a run of entries stands at or past the place, none of them counts
 pub past_first : (sid : ℕ) (entries : List Entry) → IsOrdered entries → sid ≤ first_sid entries → shift_before sid entries ≡ pos 0
 past_first sid [] o le = refl
-past_first sid (e ∷ entries) o le = past sid (e ∷ entries) (le, all_weaker sid (next_sid e.sid e.change) entries (let n = next_sid-le e.sid e.change in omega arith) o.0)
+past_first sid (e ∷ entries) o le =
+    past sid (e ∷ entries)
+    (le, all_weaker sid (next_sid e.sid e.change) entries (let n = next_sid-le e.sid e.change in omega arith) o.0)
 
--- where a later entry stands below the place, all before it count
-pub below_first : (sid : ℕ) (xs ys : List Entry) → IsOrdered (xs ++ ys) → 1 ≤ length ys → first_sid ys < sid → shift_before sid xs ≡ total xs
-below_first sid [] ys o some lt = refl
-below_first sid (e ∷ xs) [] o some lt = absurd (omega arith)
-below_first sid (e ∷ xs) (y ∷ ys) o some lt =
-    let rest = below_first sid xs (y ∷ ys) o.1 some lt in
-    let here = (all-right (next_sid e.sid e.change) xs (y ∷ ys) o.0).0 in
+-- ---- what stands before all at a place
+
+not_before : (sid : ℕ) (e : Entry) → stands_before (λ c. Less) sid e ≡ false → sid ≤ e.sid
+not_before sid e is =
+    elim (cases_lt e.sid sid) [
+      | inl lt ↦ absurd (true_false _ (before_lt (λ c. Less) sid e lt) is)
+      | inr le ↦ le
+    ]
+
+is_before : (sid : ℕ) (e : Entry) → stands_before (λ c. Less) sid e ≡ true → e.sid < sid
+is_before sid e is =
+    elim (cases_lt e.sid sid) [
+      | inl lt ↦ lt
+      | inr le ↦ elim (cases_lt sid e.sid) [
+        | inl gt ↦ absurd (true_false _ is (before_gt (λ c. Less) sid e gt))
+        | inr ge ↦ let same : sid ≡ e.sid = omega arith in absurd (true_false _ is (before_eq (λ c. Less) sid e same))
+      ]
+    ]
+
+all-at : (low : ℕ) (es : List Entry) (m : ℕ) (d : Entry) → AllByRecursion (λ x. low ≤ x.sid) es → m < length es → low ≤ (get_or es m d).sid
+all-at low [] m d h lt = absurd (omega arith)
+all-at low (e ∷ es) zero d h lt = h.0
+all-at low (e ∷ es) (suc m) d h lt = all-at low es m d h.1 (omega arith)
+
+first_before : (sid : ℕ) (e : Entry) (es : List Entry) (n : ℕ) → IsOrdered (e ∷ es)
+    → IsBoundary (stands_before (λ c. Less) sid) (e ∷ es) (suc n) → e.sid < sid
+first_before sid e es zero o b = is_before sid e (b.low 0 e refl)
+first_before sid e es (suc m) o b =
+    let within = b.within in
+    let there = all-at (next_sid e.sid e.change) es m e o.0 (omega arith) in
+    let lt = is_before sid (get_or es m e) (b.low (suc m) e (omega arith)) in
     let n = next_sid-le e.sid e.change in
-    let e' = ap (λ b. cond b (weight_of e.change) (pos 0) +ℤ shift_before sid xs) (ltb-from_lt e.sid sid (omega arith)) in
+    omega arith
+
+pub total-boundary : (sid : ℕ) (es : List Entry) (n : ℕ) → IsOrdered es → IsBoundary (stands_before (λ c. Less) sid) es n
+    → total (take n es) ≡ shift_before sid es
+total-boundary sid [] zero o b = refl
+total-boundary sid [] (suc n) o b = refl
+total-boundary sid (e ∷ es) zero o b = sym (past_first sid (e ∷ es) o (not_before sid e (b.high e (omega arith))))
+total-boundary sid (e ∷ es) (suc n) o b =
+    let within = b.within in
+    let rest = total-boundary sid es n o.1 (record {
+      within = omega arith;
+      low = λ m d is. b.low (suc m) d (omega arith);
+      high = λ d lt. b.high d (omega arith);
+    }) in
+    let here = first_before sid e es n o b in
+    let e' = ap (λ c. cond c (weight_of e.change) (pos 0) +ℤ shift_before sid es) (ltb-from_lt e.sid sid here) in
     omega (arith, ints)

@@ -25,7 +25,8 @@ AreGrown depth (Two left right) = (left.depth ≡ depth) × (right.depth ≡ dep
 -- one node at least as wide, or two that are at least half full, of this depth and with these entries
 abbrev pub IsGrown : ℕ → ℕ → List Entry → Grown → Type 0
 IsGrown depth width items (One node) = (node.depth ≡ depth) × (width ≤ node.width) × (node.items ≡ items)
-IsGrown depth width items (Two left right) = (left.depth ≡ depth) × (right.depth ≡ depth) × (8 ≤ left.width) × (8 ≤ right.width) × (left.items ++ right.items ≡ items)
+IsGrown depth width items (Two left right) =
+    (left.depth ≡ depth) × (right.depth ≡ depth) × (8 ≤ left.width) × (8 ≤ right.width) × (left.items ++ right.items ≡ items)
 
 -- the same counts and the same node
 pub record IsSameChild (c x : Child) : Type 0 where
@@ -34,10 +35,13 @@ pub record IsSameChild (c x : Child) : Type 0 where
   pub head : x.head ≡ c.head
   pub node : x.node.value ≡ c.node.value
 
--- the counts are those of the node's entries, which are as many as nodes of 8 to 16 hold on so many levels
+-- the counts are those of the node's entries
 pub record AreCounts (node : View) (counts : Counts) : Type 0 where
   pub count : counts.count ≡ length node.items
   pub net : counts.net ≡ total node.items
+
+-- a node holds as many entries as nodes of 8 to 16 do on so many levels
+pub record IsSized (node : View) : Type 0 where
   pub many : 8 ^ node.depth ≤ length node.items
   pub most : length node.items ≤ 16 ^ node.depth
   pub deep : 1 ≤ node.depth

@@ -1,11 +1,13 @@
+pub mod Descents
 pub mod Edits
 pub mod Gaps
 pub mod Grown
+pub mod Heads
 pub mod Falls
+pub mod Paths
 pub mod Roots
 pub mod Search
 pub mod Shapes
-pub mod Spots
 pub mod Sums
 pub mod Trees
 pub mod Views

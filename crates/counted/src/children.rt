@@ -1,11 +1,11 @@
 //! The children of a node, read by what is kept of each.
-ghost use Rattle.std.specs.Prelude.{◌≡◌, ◌+◌, ◌^◌, ◌<◌, ◌≤◌, ◌+ℤ◌, length, slice_get, slice_index_or, take, drop};
-ghost use Rattle.std.specs.Option.{option_copied};
+ghost use Rattle.std.specs.Prelude.{◌≡◌, ◌+◌, ◌^◌, ◌<◌, ◌≤◌, length, slice_index_or, take, drop};
 ghost use Rattle.counted.specs.declared.node.Child.{Child};
+ghost use Rattle.counted.specs.Heads.{head_at};
 ghost use Rattle.counted.specs.Shapes.{AreChildren, all_items, items_of};
-ghost use Rattle.counted.specs.Sums.{total, shift_before, IsOrdered};
+ghost use Rattle.counted.specs.Sums.{total};
 
-use crate::SharedEntry;
+use crate::entry::Head;
 use crate::node::Child;
 
 /// How many entries the children have.
@@ -51,16 +51,17 @@ pub(crate) fn sums_before(children: &[Child], index: usize) -> (usize, i64)
     (count, net)
 }
 
-/// The first entry after those of a child, where another child follows.
-pub(crate) fn entry_after(children: &[Child], index: usize) -> Option<&SharedEntry>
+/// The head of the first entry after those of a child: that of the next one, or else the one that is given.
+pub(crate) fn head_behind(children: &[Child], index: usize, next: Option<Head>) -> Option<Head>
     requires children { AreChildren children.now }
     requires within { index < length children.now }
-    ensures { option_copied result ≡ slice_get (all_items (drop (index + 1) children.now)) 0 }
+    ensures more { index + 1 < length children.now → result ≡ head_at (all_items (drop (index + 1) children.now)) 0 }
+    ensures last { length children.now ≤ index + 1 → result ≡ next }
 {
     if index + 1 < children.len() {
-        Some(&children[index + 1].head)
+        Some(children[index + 1].head)
     } else {
-        None
+        next
     }
 }
 
@@ -97,21 +98,4 @@ pub(crate) fn child_of(children: &[Child], at: usize) -> (usize, usize)
         index += 1;
     }
     (index, rest)
-}
-
-/// The child in which the entries below the SID end, and what those before it add.
-pub(crate) fn child_below(children: &[Child], sid: u64) -> (usize, i64)
-    requires children { AreChildren children.now }
-    requires ordered { IsOrdered (all_items children.now) }
-    requires few { length (all_items children.now) < 2 ^ 62 }
-    ensures within { result.0 < length children.now }
-    ensures shift { (d : Child) → result.1 +ℤ shift_before sid (items_of (slice_index_or children.now result.0 d)) ≡ shift_before sid (all_items children.now) }
-{
-    let mut index = 0;
-    let mut shift = 0;
-    while index + 1 < children.len() && children[index + 1].head.sid() < sid {
-        shift += children[index].net;
-        index += 1;
-    }
-    (index, shift)
 }

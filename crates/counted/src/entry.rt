@@ -1,5 +1,6 @@
 //! The entries of a tree, and what each adds to the rows below it.
 ghost use Rattle.std.specs.Prelude.{◌≡◌, IfOk};
+ghost use Rattle.counted.specs.Heads.{head_of};
 ghost use Rattle.counted.specs.Sums.{weight_of};
 
 use model::{Change, Entry};
@@ -14,6 +15,13 @@ pub struct SharedEntry {
     /// What the change adds to the rows below it, so that a search reads only the changes that it compares.
     weight: i64,
     change: Arc<Change, Global>,
+}
+
+/// What is kept of an entry where it is the first of a child: enough to place it by its SID, with no look at its change.
+#[derive(Clone, Copy)]
+pub struct Head {
+    pub sid: u64,
+    pub weight: i64,
 }
 
 impl Model for SharedEntry {
@@ -64,6 +72,16 @@ impl SharedEntry {
         ensures { result ≡ weight_of self.now.change }
     {
         self.weight
+    }
+
+    /// What is kept of it where it is the first of a child.
+    pub(crate) fn head(&self) -> Head
+        ensures { result ≡ head_of self.now }
+    {
+        Head {
+            sid: self.sid,
+            weight: self.weight,
+        }
     }
 
     /// The same entry, which shares its change. It copies no row.

@@ -1,16 +1,18 @@
 //! Where something comes to stand at a position of the image above, among the changes that stand there.
-ghost use Rattle.std.specs.Prelude.{◌≡◌, ◌+◌, ◌-◌, ◌*◌, ◌^◌, ◌<◌, ◌≤◌, ◌+ℤ◌, ◌≤ℤ◌, pos, true, false, Bool, length, slice_get, slice_index_or, take, drop};
-ghost use Rattle.std.specs.Option.{option_copied};
+ghost use Rattle.std.specs.Prelude.{◌≡◌, ◌+◌, ◌-◌, ◌*◌, ◌^◌, ◌<◌, ◌≤◌, ◌+ℤ◌, ◌≤ℤ◌, pos, true, false, Bool, ℤ, Option, Some, IsSome};
+ghost use Rattle.std.specs.Prelude.{length, slice_get, slice_index_or, take, drop};
 ghost use Rattle.model.specs.declared.entry.Change.{Change};
+ghost use Rattle.model.specs.declared.entry.Entry.{Entry};
 ghost use Rattle.counted.specs.declared.node.Child.{Child};
-ghost use Rattle.counted.specs.Gaps.{AreNext, Leads, Follows, IsGap};
+ghost use Rattle.counted.specs.Descents.{IsAt};
+ghost use Rattle.counted.specs.Gaps.{Leads, Follows, IsGap, ArePlaced};
+ghost use Rattle.counted.specs.Heads.{head_of};
 ghost use Rattle.counted.specs.Shapes.{AreChildren, all_items, items_of};
-ghost use Rattle.counted.specs.Spots.{ArePlaced};
-ghost use Rattle.counted.specs.Sums.{total};
+ghost use Rattle.counted.specs.Sums.{total, weight_of};
 
+use crate::children::{head_behind, sums_before};
 use crate::node::{Body, Child, Node};
-use crate::search::{Boundary, among, in_leaf};
-use crate::spot::row_above;
+use crate::spot::{Spot, spot_in};
 use crate::{SharedEntry, Steps};
 use model::Change;
 use std::sync::ledger::Ledger;
@@ -20,79 +22,119 @@ pub trait Gap {
     /// Whether it comes after a change that stands there.
     ghost after: { Self → Change → Bool };
 
+    /// The same by what the change adds alone, where that tells.
+    ghost by_weight: { Self → ℤ → Option Bool };
+
     fn is_after(&self, change: &Change) -> bool
         ensures { result ≡ after self.now change.now };
+
+    /// Whether it comes after a change that adds so much, so that a search seldom reads a change.
+    fn is_after_weight(&self, weight: i64) -> Option<bool>
+        ensures is { result ≡ by_weight self.now weight }
+        ensures tells { (change : Change) (told : Bool) → weight_of change ≡ weight → result ≡ Some told → after self.now change ≡ told };
 }
 
 impl Node {
-    /// Where it comes to stand at the position, among entries that stand `shift` above the rows below, and those from there
-    /// on in the leaf that the descent ends at.
+    /// Where it comes to stand at the position. It reads one node on each level, and more only where what a change adds
+    /// doesn't tell whether it comes after that.
     pub(crate) fn find_gap<G: Gap, L: Ledger>(
         &self,
         rid: i64,
-        shift: i64,
         gap: &G,
         steps: &mut Steps<L>,
-    ) -> (Boundary<'_>, &[SharedEntry])
+    ) -> Spot<'_>
         requires placed { ArePlaced self.now.items }
-        requires above { (shift +ℤ pos (length self.now.items)) ≤ℤ pos (2 ^ 61) }
-        requires below { pos (length self.now.items) ≤ℤ (shift +ℤ pos (2 ^ 61)) }
-        ensures gap { IsGap (G.after gap.now) rid shift self.now.items result.0.index }
-        ensures shift { result.0.shift ≡ total (take result.0.index self.now.items) }
-        ensures entry { option_copied result.0.entry ≡ slice_get self.now.items result.0.index }
-        ensures leaf { AreNext self.now.items result.0.index result.1.now }
-        ensures steps { steps.new ≡ steps.old + self.now.depth }
+        requires few { length self.now.items < 2 ^ 61 }
+        ensures gap { IsGap (G.after gap.now) rid (pos 0) self.now.items result.index }
+        ensures at { IsAt self.now.items result.index result.shift result.leaf.now result.head }
+        ensures steps { ((weight : ℤ) → IsSome (G.by_weight gap.now weight)) → steps.new ≡ steps.old + self.now.depth }
     {
-        match self.read(steps) {
-            Body::Leaf(entries) => {
-                let index = gap_in(entries, rid, shift, gap);
-                (in_leaf(entries, index), &entries[index..])
-            }
-            Body::Inner(children) => {
-                let (index, up) = child_at_gap(children, rid, shift, gap);
-                let (found, leaf) = children[index].node.find_gap(rid, up, gap, steps);
-                (among(children, index, found), leaf)
+        let (mut node, mut index, mut shift, mut next) = (self, 0, 0, None);
+        loop {
+            match node.read(steps) {
+                Body::Leaf(entries) => {
+                    let at = gap_in(entries, rid, shift, gap);
+                    return spot_in(entries, at, index, shift, next);
+                }
+                Body::Inner(children) => {
+                    let at = child_at_gap(children, rid, shift, gap, steps);
+                    let (count, net) = sums_before(children, at);
+                    next = head_behind(children, at, next);
+                    index += count;
+                    shift += net;
+                    node = &children[at].node;
+                }
             }
         }
     }
 }
 
-/// The child in which it comes to stand, or after whose entries, and what is above that child's rows.
-fn child_at_gap<G: Gap>(children: &[Child], rid: i64, shift: i64, gap: &G) -> (usize, i64)
+/// The child in which it comes to stand, or after whose entries, where the first child's entries stand `shift` above the rows
+/// below.
+fn child_at_gap<G: Gap, L: Ledger>(
+    children: &[Child],
+    rid: i64,
+    shift: i64,
+    gap: &G,
+    steps: &mut Steps<L>,
+) -> usize
     requires children { AreChildren children.now }
     requires placed { ArePlaced (all_items children.now) }
     requires above { (shift +ℤ pos (length (all_items children.now))) ≤ℤ pos (2 ^ 61) }
     requires below { pos (length (all_items children.now)) ≤ℤ (shift +ℤ pos (2 ^ 61)) }
-    ensures within { result.0 < length children.now }
-    ensures shift { result.1 ≡ total (all_items (take result.0 children.now)) +ℤ shift }
-    ensures low { (d : Child) → 1 ≤ result.0 → Leads (G.after gap.now) rid (slice_index_or children.now result.0 d).head result.1 }
-    ensures high { (d : Child) → result.0 + 1 < length children.now → Follows (G.after gap.now) rid (slice_index_or children.now (result.0 + 1) d).head ((slice_index_or children.now result.0 d).net +ℤ result.1) }
+    ensures within { result < length children.now }
+    ensures low { (d : Child) (e : Entry) → 1 ≤ result
+        → Leads (G.after gap.now) rid (slice_index_or (items_of (slice_index_or children.now result d)) 0 e)
+        (total (all_items (take result children.now)) +ℤ shift) }
+    ensures high { (d : Child) (e : Entry) → result + 1 < length children.now
+        → Follows (G.after gap.now) rid (slice_index_or (items_of (slice_index_or children.now (result + 1) d)) 0 e)
+        (total (all_items (take (result + 1) children.now)) +ℤ shift) }
+    ensures steps { ((weight : ℤ) → IsSome (G.by_weight gap.now weight)) → steps.new ≡ steps.old }
 {
     let mut index = 0;
     let mut up = shift;
-    while index + 1 < children.len() && next_leads(children, index, up, rid, gap) {
-        up += children[index].net;
+    while index + 1 < children.len() {
+        let next = up + children[index].net;
+        if !head_leads(&children[index + 1], next, rid, gap, steps) {
+            return index;
+        }
+        up = next;
         index += 1;
     }
-    (index, up)
+    index
 }
 
-/// Whether the first entry of the child after this one stands before it, where this one's entries stand `up` above the rows
-/// below.
-fn next_leads<G: Gap>(children: &[Child], index: usize, up: i64, rid: i64, gap: &G) -> bool
-    requires children { AreChildren children.now }
-    requires placed { ArePlaced (all_items children.now) }
-    requires within { index + 1 < length children.now }
-    requires above { (up +ℤ pos (length (all_items (drop index children.now)))) ≤ℤ pos (2 ^ 61) }
-    requires below { pos (length (all_items (drop index children.now))) ≤ℤ (up +ℤ pos (2 ^ 61)) }
-    ensures yes { result ≡ true → (d : Child) → Leads (G.after gap.now) rid (slice_index_or children.now (index + 1) d).head ((slice_index_or children.now index d).net +ℤ up) }
-    ensures no { result ≡ false → (d : Child) → Follows (G.after gap.now) rid (slice_index_or children.now (index + 1) d).head ((slice_index_or children.now index d).net +ℤ up) }
+/// Whether the first entry of a child, `up` above the rows below, stands before it.
+fn head_leads<G: Gap, L: Ledger>(
+    child: &Child,
+    up: i64,
+    rid: i64,
+    gap: &G,
+    steps: &mut Steps<L>,
+) -> bool
+    requires some { 1 ≤ length (items_of child.now) }
+    requires head { (e : Entry) → slice_get (items_of child.now) 0 ≡ Some e → child.now.head ≡ head_of e }
+    requires small { child.now.head.sid < 2 ^ 32 }
+    requires above { up ≤ℤ pos (2 ^ 61) }
+    requires below { pos 0 ≤ℤ (up +ℤ pos (2 ^ 61)) }
+    ensures yes { (e : Entry) → slice_get (items_of child.now) 0 ≡ Some e → result ≡ true → Leads (G.after gap.now) rid e up }
+    ensures no { (e : Entry) → slice_get (items_of child.now) 0 ≡ Some e → result ≡ false → Follows (G.after gap.now) rid e up }
+    ensures steps { ((weight : ℤ) → IsSome (G.by_weight gap.now weight)) → steps.new ≡ steps.old }
 {
-    let next = &children[index + 1];
-    leads(&next.head, children[index].net + up, rid, gap)
+    let row = row_above(child.head.sid, up);
+    if row < rid {
+        return true;
+    }
+    if rid < row {
+        return false;
+    }
+    match gap.is_after_weight(child.head.weight) {
+        Some(after) => after,
+        None => gap.is_after(child.node.first(steps).change()),
+    }
 }
 
-/// How many entries of a leaf stand before it.
+/// How many entries of a leaf, which stand `shift` above the rows below, stand before it.
 fn gap_in<G: Gap>(entries: &[SharedEntry], rid: i64, shift: i64, gap: &G) -> usize
     requires placed { ArePlaced entries.now }
     requires above { (shift +ℤ pos (length entries.now)) ≤ℤ pos (2 ^ 61) }
@@ -117,11 +159,21 @@ fn leads<G: Gap>(entry: &SharedEntry, up: i64, rid: i64, gap: &G) -> bool
     ensures no { result ≡ false → Follows (G.after gap.now) rid entry.now up }
 {
     let row = row_above(entry.sid(), up);
-    if row < rid {
-        return true;
+    if row != rid {
+        return row < rid;
     }
-    if rid < row {
-        return false;
+    match gap.is_after_weight(entry.weight()) {
+        Some(after) => after,
+        None => gap.is_after(entry.change()),
     }
-    gap.is_after(entry.change())
+}
+
+/// The row of what stands `up` above the rows below.
+fn row_above(sid: u64, up: i64) -> i64
+    requires small { sid < 2 ^ 32 }
+    requires above { up ≤ℤ pos (2 ^ 61) }
+    requires below { pos 0 ≤ℤ (up +ℤ pos (2 ^ 61)) }
+    ensures { result ≡ pos sid +ℤ up }
+{
+    sid as i64 + up
 }

@@ -1,6 +1,6 @@
 //! The entries of one leaf.
 ghost use Rattle.std.specs.Prelude.{◌≡◌, ◌^◌, ◌+◌, ◌<◌, ◌≤◌, ◌++◌, length, IfOk, OnOk};
-ghost use Rattle.counted.specs.Sums.{total, shift_before};
+ghost use Rattle.counted.specs.Sums.{total};
 ghost use Rattle.counted.specs.Edits.{put_items, edited};
 
 use crate::SharedEntry;
@@ -16,20 +16,6 @@ pub(crate) fn total_of(entries: &[SharedEntry]) -> i64
         sum += entry.weight();
     }
     sum
-}
-
-/// What the entries below the SID add.
-pub(crate) fn shift_in(entries: &[SharedEntry], sid: u64) -> i64
-    requires { length entries.now < 2 ^ 62 }
-    ensures { result ≡ shift_before sid entries.now }
-{
-    let mut shift = 0;
-    for entry in entries {
-        if entry.sid() < sid {
-            shift += entry.weight();
-        }
-    }
-    shift
 }
 
 /// The entries with those from an index on, so many of them, replaced by another, if there is one.
@@ -67,6 +53,16 @@ pub(crate) fn both_leaves(
     Ok(out)
 }
 
+/// How many entries are put in: one, or none.
+pub(crate) fn count_put(put: &Option<SharedEntry>) -> usize
+    ensures { result ≡ length (put_items put.now) }
+{
+    match put {
+        Some(_) => 1,
+        None => 0,
+    }
+}
+
 /// The entry, if there is one, at the end of a vector.
 fn push_some(out: &mut Vec<SharedEntry>, put: Option<SharedEntry>) -> Result<(), AllocError>
     ensures { OnOk result (out.new.items ≡ out.old.items ++ put_items put) }
@@ -78,7 +74,10 @@ fn push_some(out: &mut Vec<SharedEntry>, put: Option<SharedEntry>) -> Result<(),
 }
 
 /// The same entries, at the end of a vector.
-fn push_entries(out: &mut Vec<SharedEntry>, entries: &[SharedEntry]) -> Result<(), AllocError>
+pub(crate) fn push_entries(
+    out: &mut Vec<SharedEntry>,
+    entries: &[SharedEntry],
+) -> Result<(), AllocError>
     ensures { OnOk result (out.new.items ≡ out.old.items ++ entries.now) }
 {
     for entry in entries {

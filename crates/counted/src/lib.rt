@@ -1,4 +1,4 @@
-//! A counted tree of entries: nodes are shared, and a writing call copies the path that it changes, unless nobody shares it.
+//! A counted tree of entries: nodes are shared, and a writing call copies those on its path that others share, once.
 #![tactic(auto)]
 
 mod children;
@@ -13,10 +13,10 @@ mod starts;
 mod steps;
 mod tree;
 
-pub use entry::SharedEntry;
+pub use entry::{Head, SharedEntry};
 pub use gap::Gap;
 pub use iter::Iter;
-pub use search::{Boundary, Probe};
+pub use search::{Boundary, First, Probe};
 pub use spot::Spot;
 pub use starts::Start;
 pub use steps::Steps;

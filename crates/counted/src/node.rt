@@ -1,7 +1,9 @@
 //! The nodes of a tree. What a node holds is seen in this module and those below it alone, which make, change and measure
 //! nodes, and count none. The searches stand outside: they come to a node's contents by `read`, which counts it.
-ghost use Rattle.std.specs.Prelude.{◌≡◌, ◌+◌, ◌^◌, ◌<◌, ◌≤◌, ◌++◌, [], length, drop};
-ghost use Rattle.counted.specs.Shapes.{view_of, IsBalanced};
+ghost use Rattle.std.specs.Prelude.{◌≡◌, ◌+◌, ◌^◌, ◌<◌, ◌≤◌, ◌++◌, [], Some, length, drop, slice_get};
+ghost use Rattle.std.specs.List.{All};
+ghost use Rattle.counted.specs.Paths.{Begins, HasSome};
+ghost use Rattle.counted.specs.Shapes.{all_items, view_of, IsBalanced};
 ghost use Rattle.counted.specs.Sums.{total};
 ghost use Rattle.counted.specs.Trees.{IsDepth, IsRoot};
 
@@ -11,6 +13,7 @@ mod grown;
 mod in_place;
 
 use crate::children::{child_of, count_of, net_of};
+use crate::entry::Head;
 use crate::leaf::total_of;
 use crate::{SharedEntry, Steps};
 use std::alloc::Global;
@@ -33,14 +36,14 @@ pub(crate) enum Body {
     Inner(Vec<Child>),
 }
 
-/// A child, with its number of entries, its inserts minus deletes and its first entry, so that a search looks at no child
-/// that it does not go into.
+/// A child, with its number of entries, its inserts minus deletes and the head of its first entry, so that a search seldom
+/// looks at a child that it does not go into, and a copy of a node shares nothing but its children.
 #[cycle(node)]
 #[derive(Drop)]
 pub(crate) struct Child {
     pub(crate) count: usize,
     pub(crate) net: i64,
-    pub(crate) head: SharedEntry,
+    pub(crate) head: Head,
     pub(crate) node: Arc<Node, Global>,
 }
 
@@ -106,17 +109,50 @@ impl Node {
         }
     }
 
-    /// The entries from an index on that lie in one leaf.
-    pub(crate) fn leaf_from(&self, at: usize) -> &[SharedEntry]
-        requires { at < length self.now.items }
-        ensures some { 1 ≤ length result.now }
-        ensures rest { drop at self.now.items ≡ result.now ++ drop (at + length result.now) self.now.items }
+    /// The entries from an index on that lie in one leaf, and the children at the leaf's parent behind it; at a leaf those
+    /// that are given.
+    pub(crate) fn leaf_from<'a>(
+        &'a self,
+        at: usize,
+        behind: &'a [Child],
+    ) -> (&'a [SharedEntry], &'a [Child])
+        requires within { at < length self.now.items }
+        requires some { All HasSome behind.now }
+        ensures some { 1 ≤ length result.0.now }
+        ensures children { All HasSome result.1.now }
+        ensures rest { Begins (result.0.now ++ all_items result.1.now) (drop at self.now.items ++ all_items behind.now) }
     {
-        match &self.body {
-            Body::Leaf(entries) => &entries[at..],
-            Body::Inner(children) => {
-                let (index, at) = child_of(children, at);
-                children[index].node.leaf_from(at)
+        let (mut node, mut at, mut behind) = (self, at, behind);
+        loop {
+            match &node.body {
+                Body::Leaf(entries) => return (&entries[at..], behind),
+                Body::Inner(children) => {
+                    let (index, rest) = child_of(children, at);
+                    node = &children[index].node;
+                    at = rest;
+                    behind = &children[index + 1..];
+                }
+            }
+        }
+    }
+
+    /// How many levels it has, as a root; it does nothing.
+    pub(crate) fn levels(&self)
+        ensures { IsRoot self.now → IsDepth self.now.depth (length self.now.items) }
+    {
+        let _body = &self.body;
+    }
+
+    /// Its first entry, for a step on each level.
+    pub(crate) fn first<L: Ledger>(&self, steps: &mut Steps<L>) -> &SharedEntry
+        requires { 1 ≤ length self.now.items }
+        ensures { slice_get self.now.items 0 ≡ Some result.now }
+    {
+        let mut node = self;
+        loop {
+            match node.read(steps) {
+                Body::Leaf(entries) => return &entries[0],
+                Body::Inner(children) => node = &children[0].node,
             }
         }
     }

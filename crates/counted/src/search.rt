@@ -1,18 +1,19 @@
 //! Search by SID, and at one SID by what stands there.
-ghost use Rattle.std.specs.Prelude.{◌≡◌, ◌+◌, ◌-◌, ◌*◌, ◌^◌, ◌<◌, ◌≤◌, true, false, Some, None, pos, length, slice_get, slice_index_or, take};
-ghost use Rattle.std.specs.Option.{option_copied};
+ghost use Rattle.std.specs.Prelude.{◌≡◌, ◌+◌, ◌-◌, ◌*◌, ◌^◌, ◌<◌, ◌≤◌, true, false, ℤ, Option, Some, IsSome, length, slice_get};
+ghost use Rattle.std.specs.Prelude.{slice_index_or};
 ghost use Rattle.model.specs.declared.entry.Change.{Change};
 ghost use Rattle.model.specs.declared.entry.Entry.{Entry};
-ghost use Rattle.std.proofs.Common.{Ordering};
+ghost use Rattle.std.proofs.Common.{Ordering, Less};
 ghost use Rattle.counted.specs.declared.node.Child.{Child};
+ghost use Rattle.counted.specs.Descents.{IsAt};
+ghost use Rattle.counted.specs.Heads.{head_of};
 ghost use Rattle.counted.specs.Search.{stands_before, IsBoundary};
-ghost use Rattle.counted.specs.Shapes.{AreChildren, all_items, items_of};
-ghost use Rattle.counted.specs.Sums.{total, shift_before, IsOrdered};
-ghost use Rattle.counted.specs.Trees.{IsDepth, IsRoot};
+ghost use Rattle.counted.specs.Shapes.{AreChildren, items_of};
+ghost use Rattle.counted.specs.Sums.{weight_of};
 
-use crate::children::{child_below, entry_after, sums_before};
-use crate::leaf::{shift_in, total_of};
+use crate::children::{head_behind, sums_before};
 use crate::node::{Body, Child, Node};
+use crate::spot::{Spot, spot_in};
 use crate::{SharedEntry, Steps};
 use model::Change;
 use std::cmp::Ordering;
@@ -23,8 +24,34 @@ pub trait Probe {
     /// How it stands to a change at its SID.
     ghost stand: { Self → Change → Ordering };
 
+    /// The same by what the change adds alone, where that tells.
+    ghost by_weight: { Self → ℤ → Option Ordering };
+
     fn compare(&self, change: &Change) -> Ordering
         ensures { result ≡ stand self.now change.now };
+
+    /// How it stands to a change that adds so much, so that a search seldom reads a change.
+    fn compare_weight(&self, weight: i64) -> Option<Ordering>
+        ensures is { result ≡ by_weight self.now weight }
+        ensures tells { (change : Change) (order : Ordering) → weight_of change ≡ weight → result ≡ Some order
+            → stand self.now change ≡ order };
+}
+
+/// What stands before all at a SID.
+pub struct First;
+
+impl Probe for First {
+    ghost stand = { λ p c. Less };
+
+    ghost by_weight = { λ p w. Some Less };
+
+    fn compare(&self, _change: &Change) -> Ordering {
+        Ordering::Less
+    }
+
+    fn compare_weight(&self, _weight: i64) -> Option<Ordering> {
+        Some(Ordering::Less)
+    }
 }
 
 /// Where something stands among entries: how many stand before it, what those add, and the entry that follows them.
@@ -36,121 +63,60 @@ pub struct Boundary<'a> {
 }
 
 impl Node {
-    /// What the entries below the SID add.
-    pub(crate) fn shift_before<L: Ledger>(&self, sid: u64, steps: &mut Steps<L>) -> i64
-        requires ordered { IsOrdered self.now.items }
-        requires few { length self.now.items < 2 ^ 62 }
-        ensures shift { result ≡ shift_before sid self.now.items }
-        ensures steps { steps.new ≡ steps.old + self.now.depth }
-        ensures levels { IsRoot self.now → IsDepth self.now.depth (length self.now.items) }
-    {
-        match self.read(steps) {
-            Body::Leaf(entries) => shift_in(entries, sid),
-            Body::Inner(children) => {
-                let (index, shift) = child_below(children, sid);
-                shift + children[index].node.shift_before(sid, steps)
-            }
-        }
-    }
-
-    /// Where what is looked for at the SID stands.
+    /// Where what is looked for at the SID stands. It reads one node on each level, and more only where what a change adds
+    /// doesn't tell how it stands to that.
     pub(crate) fn place_of<P: Probe, L: Ledger>(
         &self,
         sid: u64,
         probe: &P,
         steps: &mut Steps<L>,
-    ) -> Boundary<'_>
-        requires few { length self.now.items < 2 ^ 62 }
+    ) -> Spot<'_>
+        requires few { length self.now.items < 2 ^ 61 }
         ensures boundary { IsBoundary (stands_before (P.stand probe.now) sid) self.now.items result.index }
-        ensures shift { result.shift ≡ total (take result.index self.now.items) }
-        ensures entry { option_copied result.entry ≡ slice_get self.now.items result.index }
-        ensures steps { steps.new ≡ steps.old + self.now.depth }
-        ensures levels { IsRoot self.now → IsDepth self.now.depth (length self.now.items) }
+        ensures at { IsAt self.now.items result.index result.shift result.leaf.now result.head }
+        ensures steps { ((weight : ℤ) → IsSome (P.by_weight probe.now weight)) → steps.new ≡ steps.old + self.now.depth }
     {
-        match self.read(steps) {
-            Body::Leaf(entries) => in_leaf(entries, place_in(entries, sid, probe)),
-            Body::Inner(children) => {
-                let index = child_before(children, sid, probe);
-                let found = children[index].node.place_of(sid, probe, steps);
-                among(children, index, found)
+        let (mut node, mut index, mut shift, mut next) = (self, 0, 0, None);
+        loop {
+            match node.read(steps) {
+                Body::Leaf(entries) => {
+                    let at = place_in(entries, sid, probe);
+                    return spot_in(entries, at, index, shift, next);
+                }
+                Body::Inner(children) => {
+                    let at = child_before(children, sid, probe, steps);
+                    let (count, net) = sums_before(children, at);
+                    next = head_behind(children, at, next);
+                    index += count;
+                    shift += net;
+                    node = &children[at].node;
+                }
             }
         }
     }
 }
 
-impl<'a> Boundary<'a> {
-    /// The place before all entries where there are none, which takes a step too.
-    pub(crate) fn first<L: Ledger>(steps: &mut Steps<L>) -> Boundary<'a>
-        ensures index { result.index ≡ 0 }
-        ensures shift { result.shift ≡ pos 0 }
-        ensures entry { option_copied result.entry ≡ None }
-        ensures steps { steps.new ≡ steps.old + 1 }
-    {
-        steps.tick();
-        Boundary {
-            index: 0,
-            shift: 0,
-            entry: None,
-        }
-    }
-}
-
-/// A place among the entries of a leaf.
-pub(crate) fn in_leaf(entries: &[SharedEntry], index: usize) -> Boundary<'_>
-    requires within { index ≤ length entries.now }
-    requires few { length entries.now < 2 ^ 62 }
-    ensures index { result.index ≡ index }
-    ensures shift { result.shift ≡ total (take index entries.now) }
-    ensures entry { option_copied result.entry ≡ slice_get entries.now index }
-{
-    let entry = if index < entries.len() {
-        Some(&entries[index])
-    } else {
-        None
-    };
-    Boundary {
-        index,
-        shift: total_of(&entries[..index]),
-        entry,
-    }
-}
-
-/// A place among the entries of the children, where it lies in one of them.
-pub(crate) fn among<'a>(children: &'a [Child], index: usize, found: Boundary<'a>) -> Boundary<'a>
-    requires children { AreChildren children.now }
-    requires few { length (all_items children.now) < 2 ^ 62 }
-    requires child { index < length children.now }
-    requires within { (d : Child) → found.index ≤ length (items_of (slice_index_or children.now index d)) }
-    requires shift { (d : Child) → found.shift ≡ total (take found.index (items_of (slice_index_or children.now index d))) }
-    requires entry { (d : Child) → option_copied found.entry ≡ slice_get (items_of (slice_index_or children.now index d)) found.index }
-    ensures index { result.index ≡ length (all_items (take index children.now)) + found.entry.index }
-    ensures shift { result.shift ≡ total (take result.index (all_items children.now)) }
-    ensures entry { option_copied result.entry ≡ slice_get (all_items children.now) result.index }
-{
-    let (count, net) = sums_before(children, index);
-    let entry = match found.entry {
-        Some(entry) => Some(entry),
-        None => entry_after(children, index),
-    };
-    Boundary {
-        index: count + found.index,
-        shift: net + found.shift,
-        entry,
-    }
-}
-
 /// The last child found whose first entry stands before what is looked for at the SID, or else the first.
-fn child_before<P: Probe>(children: &[Child], sid: u64, probe: &P) -> usize
+fn child_before<P: Probe, L: Ledger>(
+    children: &[Child],
+    sid: u64,
+    probe: &P,
+    steps: &mut Steps<L>,
+) -> usize
     requires children { AreChildren children.now }
     ensures child { result < length children.now }
-    ensures low { (d : Child) (e : Entry) → 1 ≤ result → stands_before (P.stand probe.now) sid (slice_index_or (items_of (slice_index_or children.now result d)) 0 e) ≡ true }
-    ensures high { (d : Child) (e : Entry) → result + 1 < length children.now → stands_before (P.stand probe.now) sid (slice_index_or (items_of (slice_index_or children.now (result + 1) d)) 0 e) ≡ false }
+    ensures low { (d : Child) (e : Entry) → 1 ≤ result
+        → stands_before (P.stand probe.now) sid (slice_index_or (items_of (slice_index_or children.now result d)) 0 e) ≡ true }
+    ensures high { (d : Child) (e : Entry) → result + 1 < length children.now
+        → stands_before (P.stand probe.now) sid (slice_index_or (items_of (slice_index_or children.now (result + 1) d)) 0 e)
+        ≡ false }
+    ensures steps { ((weight : ℤ) → IsSome (P.by_weight probe.now weight)) → steps.new ≡ steps.old }
 {
     let mut low = 0;
     let mut high = children.len();
     while low + 1 < high {
         let middle = low + (high - low) / 2;
-        if begins_before(&children[middle], sid, probe) {
+        if begins_before(&children[middle], sid, probe, steps) {
             low = middle;
         } else {
             high = middle;
@@ -160,24 +126,41 @@ fn child_before<P: Probe>(children: &[Child], sid: u64, probe: &P) -> usize
 }
 
 /// Whether the first entry of a child stands before what is looked for at the SID.
-fn begins_before<P: Probe>(child: &Child, sid: u64, probe: &P) -> bool
-    requires { slice_get (items_of child.now) 0 ≡ Some child.now.head }
-    ensures { (e : Entry) → stands_before (P.stand probe.now) sid (slice_index_or (items_of child.now) 0 e) ≡ result }
+fn begins_before<P: Probe, L: Ledger>(
+    child: &Child,
+    sid: u64,
+    probe: &P,
+    steps: &mut Steps<L>,
+) -> bool
+    requires some { 1 ≤ length (items_of child.now) }
+    requires head { (e : Entry) → slice_get (items_of child.now) 0 ≡ Some e → child.now.head ≡ head_of e }
+    ensures before { (e : Entry) → slice_get (items_of child.now) 0 ≡ Some e → stands_before (P.stand probe.now) sid e ≡ result }
+    ensures steps { ((weight : ℤ) → IsSome (P.by_weight probe.now weight)) → steps.new ≡ steps.old }
 {
-    is_before(&child.head, sid, probe)
+    let head = child.head;
+    if head.sid < sid {
+        return true;
+    }
+    if sid < head.sid {
+        return false;
+    }
+    match probe.compare_weight(head.weight) {
+        Some(order) => order.is_gt(),
+        None => probe.compare(child.node.first(steps).change()).is_gt(),
+    }
 }
 
 /// Whether the entry stands before what is looked for at the SID.
 fn is_before<P: Probe>(entry: &SharedEntry, sid: u64, probe: &P) -> bool
     ensures { stands_before (P.stand probe.now) sid entry.now ≡ result }
 {
-    if entry.sid() < sid {
-        return true;
+    if entry.sid() != sid {
+        return entry.sid() < sid;
     }
-    if sid < entry.sid() {
-        return false;
+    match probe.compare_weight(entry.weight()) {
+        Some(order) => order.is_gt(),
+        None => probe.compare(entry.change()).is_gt(),
     }
-    probe.compare(entry.change()).is_gt()
 }
 
 /// How many entries of a leaf stand before what is looked for at the SID.

@@ -1,19 +1,21 @@
 //! The tree.
-ghost use Rattle.std.specs.Prelude.{◌≡◌, pos, Some, ◌+◌, ◌-◌, ◌*◌, ◌^◌, ◌<◌, ◌≤◌, [], ◌∷◌, ◌++◌, take, drop, slice_get, length, OnOk, OnErr, IfOk};
+ghost use Rattle.std.specs.Prelude.{◌≡◌, ℤ, pos, Some, IsSome, ◌+◌, ◌-◌, ◌*◌, ◌^◌, ◌<◌, ◌≤◌, [], ◌∷◌, ◌++◌, take, drop, slice_get};
+ghost use Rattle.std.specs.Prelude.{length, OnOk, OnErr, IfOk};
 ghost use Rattle.std.specs.Arc.{arc_value};
 ghost use Rattle.std.specs.List.{insert, remove};
 ghost use Rattle.counted.specs.Edits.{put_items, edited};
 ghost use Rattle.std.specs.Option.{option_copied};
-ghost use Rattle.counted.specs.Gaps.{IsGap};
+ghost use Rattle.counted.specs.Descents.{IsAt};
+ghost use Rattle.counted.specs.Gaps.{ArePlaced, IsGap};
+ghost use Rattle.counted.specs.Paths.{AreFrom};
 ghost use Rattle.counted.specs.Search.{stands_before, IsBoundary};
-ghost use Rattle.counted.specs.Spots.{IsSpot, ArePlaced};
 ghost use Rattle.counted.specs.Sums.{total, shift_before, IsOrdered};
 ghost use Rattle.counted.specs.Trees.{IsDepth, IsRoot};
 
 use crate::gap::Gap;
-use crate::node::Node;
 use crate::node::bulk::{root_over, shared};
-use crate::search::{Boundary, Probe};
+use crate::node::{Child, Node};
+use crate::search::{Boundary, First, Probe};
 use crate::spot::Spot;
 use crate::{SharedEntry, Steps};
 use model::Entry;
@@ -56,7 +58,8 @@ impl CountedTree {
 
     /// How many entries it has.
     pub fn len(&self) -> usize
-        ensures { result ≡ length self.now.entries }
+        ensures len { result ≡ length self.now.entries }
+        ensures few { result < 2 ^ 61 }
     {
         self.len
     }
@@ -86,35 +89,7 @@ impl CountedTree {
         ensures steps { steps.new ≡ steps.old + self.now.depth }
         ensures levels { IsDepth self.now.depth (length self.now.entries) }
     {
-        match &self.root {
-            None => {
-                steps.tick();
-                0
-            }
-            Some(root) => root.shift_before(sid, steps),
-        }
-    }
-
-    /// Where a position lies among the entries; the rows below are thought to go on without end.
-    pub fn find_rid<L: Ledger>(&self, rid: u64, steps: &mut Steps<L>) -> Spot
-        requires rid { rid < 2 ^ 63 }
-        requires ordered { IsOrdered self.now.entries }
-        requires placed { ArePlaced self.now.entries }
-        ensures spot { IsSpot (pos rid) (pos 0) self.now.entries result.index result.shift result.inserted }
-        ensures steps { steps.new ≡ steps.old + self.now.depth }
-        ensures levels { IsDepth self.now.depth (length self.now.entries) }
-    {
-        match &self.root {
-            None => {
-                steps.tick();
-                Spot {
-                    index: 0,
-                    shift: 0,
-                    inserted: false,
-                }
-            }
-            Some(root) => root.find_rid(rid as i64, 0, steps),
-        }
+        self.place_of(sid, &First, steps).shift
     }
 
     /// The entry at an index that there is. It takes no memory.
@@ -122,24 +97,25 @@ impl CountedTree {
         requires { at < length self.now.entries }
         ensures { Some result.now ≡ slice_get self.now.entries at }
     {
-        &self.leaf_from(at)[0]
+        &self.leaf_from(at).0[0]
     }
 
     /// Where something comes to stand at a position; the rows below are thought to go on without end.
-    pub fn find_gap<G: Gap, L: Ledger>(
-        &self,
-        rid: u64,
-        gap: &G,
-        steps: &mut Steps<L>,
-    ) -> Boundary<'_>
+    pub fn find_gap<G: Gap, L: Ledger>(&self, rid: u64, gap: &G, steps: &mut Steps<L>) -> Spot<'_>
         requires rid { rid < 2 ^ 63 }
         requires placed { ArePlaced self.now.entries }
         ensures gap { IsGap (G.after gap.now) (pos rid) (pos 0) self.now.entries result.index }
-        ensures shift { result.shift ≡ total (take result.index self.now.entries) }
-        ensures entry { option_copied result.entry ≡ slice_get self.now.entries result.index }
-        ensures steps { steps.new ≡ steps.old + self.now.depth }
+        ensures at { IsAt self.now.entries result.index result.shift result.leaf.now result.head }
+        ensures steps { ((weight : ℤ) → IsSome (G.by_weight gap.now weight)) → steps.new ≡ steps.old + self.now.depth }
+        ensures levels { IsDepth self.now.depth (length self.now.entries) }
     {
-        self.gap_and_leaf(rid, gap, steps).0
+        match &self.root {
+            None => Spot::first(steps),
+            Some(root) => {
+                root.levels();
+                root.find_gap(rid as i64, gap, steps)
+            }
+        }
     }
 
     /// Where something comes to stand at a position, where nobody counts nodes.
@@ -150,7 +126,7 @@ impl CountedTree {
         ensures shift { result.shift ≡ total (take result.index self.now.entries) }
         ensures entry { option_copied result.entry ≡ slice_get self.now.entries result.index }
     {
-        gap_uncounted::<G, Brand>(self, rid, gap, Blank::new(1))
+        self.boundary(gap_uncounted::<G, Brand>(self, rid, gap, Blank::new(1)))
     }
 
     /// Where what is looked for at the SID stands.
@@ -159,16 +135,19 @@ impl CountedTree {
         sid: u64,
         probe: &P,
         steps: &mut Steps<L>,
-    ) -> Boundary<'_>
+    ) -> Spot<'_>
         ensures boundary { IsBoundary (stands_before (P.stand probe.now) sid) self.now.entries result.index }
-        ensures shift { result.shift ≡ total (take result.index self.now.entries) }
-        ensures entry { option_copied result.entry ≡ slice_get self.now.entries result.index }
-        ensures steps { steps.new ≡ steps.old + self.now.depth }
+        ensures at { IsAt self.now.entries result.index result.shift result.leaf.now result.head }
+        ensures steps { ((weight : ℤ) → IsSome (P.by_weight probe.now weight)) → steps.new ≡ steps.old + self.now.depth }
         ensures levels { IsDepth self.now.depth (length self.now.entries) }
+        ensures few { length self.now.entries < 2 ^ 61 }
     {
         match &self.root {
-            None => Boundary::first(steps),
-            Some(root) => root.place_of(sid, probe, steps),
+            None => Spot::first(steps),
+            Some(root) => {
+                root.levels();
+                root.place_of(sid, probe, steps)
+            }
         }
     }
 
@@ -178,7 +157,25 @@ impl CountedTree {
         ensures shift { result.shift ≡ total (take result.index self.now.entries) }
         ensures entry { option_copied result.entry ≡ slice_get self.now.entries result.index }
     {
-        place_uncounted::<P, Brand>(self, sid, probe, Blank::new(1))
+        self.boundary(place_uncounted::<P, Brand>(self, sid, probe, Blank::new(1)))
+    }
+
+    /// A place with the entry there, which may be the first one of the next leaf.
+    fn boundary<'a>(&'a self, spot: Spot<'a>) -> Boundary<'a>
+        requires { IsAt self.now.entries spot.index spot.shift spot.leaf.now spot.head }
+        ensures index { result.index ≡ spot.entry.index }
+        ensures shift { result.shift ≡ spot.entry.shift }
+        ensures entry { option_copied result.entry ≡ slice_get self.now.entries spot.entry.index }
+    {
+        let entry = match spot.leaf.first() {
+            Some(entry) => Some(entry),
+            None => self.entry(spot.index),
+        };
+        Boundary {
+            index: spot.index,
+            shift: spot.shift,
+            entry,
+        }
     }
 
     /// A tree of these entries, none of which is copied.
@@ -207,22 +204,23 @@ impl CountedTree {
         ensures { option_copied result ≡ slice_get self.now.entries at }
     {
         if at < self.len {
-            Some(&self.leaf_from(at)[0])
+            Some(&self.leaf_from(at).0[0])
         } else {
             None
         }
     }
 
-    /// The entries from an index on that lie in one leaf.
-    pub(crate) fn leaf_from(&self, at: usize) -> &[SharedEntry]
+    /// The entries from an index on that lie in one leaf, and the children behind it at the leaf's parent.
+    pub(crate) fn leaf_from(&self, at: usize) -> (&[SharedEntry], &[Child])
         requires { at < length self.now.entries }
         ensures few { length self.now.entries < 2 ^ 61 }
-        ensures some { 1 ≤ length result.now }
-        ensures rest { drop at self.now.entries ≡ result.now ++ drop (at + length result.now) self.now.entries }
+        ensures some { 1 ≤ length result.0.now }
+        ensures rest { drop at self.now.entries ≡ result.0.now ++ drop (at + length result.0.now) self.now.entries }
+        ensures children { AreFrom self.now.entries (at + length result.0.now) result.1.now }
     {
         match &self.root {
             None => unreachable!(),
-            Some(root) => root.leaf_from(at),
+            Some(root) => root.leaf_from(at, &[]),
         }
     }
 
@@ -249,7 +247,7 @@ impl CountedTree {
         ensures err { OnErr result (self.new ≡ self.old) }
     {
         let entry = SharedEntry::new(alloc, entry)?;
-        self.put(alloc, at, 0, entry)
+        self.edit(alloc, at, 0, Some(entry))
     }
 
     /// Takes away the entry at an index.
@@ -259,8 +257,7 @@ impl CountedTree {
         ensures ok { OnOk result (self.new.entries ≡ remove self.old.entries at) }
         ensures err { OnErr result (self.new ≡ self.old) }
     {
-        *self = self.edited(alloc, at, 1, None)?;
-        Ok(())
+        self.edit(alloc, at, 1, None)
     }
 
     /// Puts an entry in the place of those from `start` up to `end`.
@@ -296,33 +293,34 @@ impl CountedTree {
         ensures err { OnErr result (self.new ≡ self.old) }
     {
         if end - start <= 1 {
-            return self.put(alloc, start, end - start, entry);
+            return self.edit(alloc, start, end - start, Some(entry));
         }
-        let mut tree = self.edited(alloc, start, 1, Some(entry))?;
+        let mut tree = self.copy()?;
+        tree.edit(alloc, start, 1, Some(entry))?;
         for _ in start + 1..end {
-            tree = tree.edited(alloc, start + 1, 1, None)?;
+            tree.edit(alloc, start + 1, 1, None)?;
         }
         *self = tree;
         Ok(())
     }
 
-    /// Puts an entry in the place of so many from an index on, one at most: in place where that can be done, and else by
-    /// a new path.
-    fn put(
+    /// Replaces so many entries from an index on, one at most, by another, if there is one: in place where that can be
+    /// done, and else by a new path.
+    fn edit(
         &mut self,
         alloc: Global,
         at: usize,
         gone: usize,
-        entry: SharedEntry,
+        put: Option<SharedEntry>,
     ) -> Result<(), AllocError>
         requires one { gone ≤ 1 }
         requires within { at + gone ≤ length self.old.entries }
         requires few { length self.old.entries < 2 ^ 60 }
-        ensures ok { OnOk result (self.new.entries ≡ edited at gone (entry ∷ []) self.old.entries) }
+        ensures ok { OnOk result (self.new.entries ≡ edited at gone (put_items put) self.old.entries) }
         ensures err { OnErr result (self.new ≡ self.old) }
     {
-        if let Some(entry) = self.put_in_place(at, gone, entry) {
-            *self = self.edited(alloc, at, gone, Some(entry))?;
+        if let Err(put) = self.edit_in_place(alloc, at, gone, put) {
+            *self = self.edited(alloc, at, gone, put)?;
         }
         Ok(())
     }
@@ -370,33 +368,31 @@ fn place_uncounted<'a, P: Probe, L: Ledger>(
     sid: u64,
     probe: &P,
     blank: Blank,
-) -> Boundary<'a>
+) -> Spot<'a>
     requires name { blank.name ≡ L.name }
     requires parts { blank.parts ≡ L.parts }
     requires some { 0 < L.parts }
     ensures boundary { IsBoundary (stands_before (P.stand probe.now) sid) tree.now.entries result.index }
-    ensures shift { result.shift ≡ total (take result.index tree.now.entries) }
-    ensures entry { option_copied result.entry ≡ slice_get tree.now.entries result.index }
+    ensures at { IsAt tree.now.entries result.index result.shift result.leaf.now result.head }
 {
     let mut steps = Steps::<L>::new(blank);
     tree.place_of(sid, probe, &mut steps)
 }
 
 /// Where something comes to stand at a position, by a count that is let go.
-fn gap_uncounted<'a, G: Gap, L: Ledger>(
+pub(crate) fn gap_uncounted<'a, G: Gap, L: Ledger>(
     tree: &'a CountedTree,
     rid: u64,
     gap: &G,
     blank: Blank,
-) -> Boundary<'a>
+) -> Spot<'a>
     requires name { blank.name ≡ L.name }
     requires parts { blank.parts ≡ L.parts }
     requires some { 0 < L.parts }
     requires rid { rid < 2 ^ 63 }
     requires placed { ArePlaced tree.now.entries }
     ensures gap { IsGap (G.after gap.now) (pos rid) (pos 0) tree.now.entries result.index }
-    ensures shift { result.shift ≡ total (take result.index tree.now.entries) }
-    ensures entry { option_copied result.entry ≡ slice_get tree.now.entries result.index }
+    ensures at { IsAt tree.now.entries result.index result.shift result.leaf.now result.head }
 {
     let mut steps = Steps::<L>::new(blank);
     tree.find_gap(rid, gap, &mut steps)

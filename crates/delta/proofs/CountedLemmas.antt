@@ -1,5 +1,7 @@
 -- What is known of a lawful list of entries, in the words of the counted tree.
-use Rattle.std.proofs.Common.{◌≡◌, ℕ, zero, suc, ◌+◌, ◌<◌, ◌≤◌, ◌^◌, Bool, true, false, cond, T, List, [], ◌∷◌, ◌++◌, length, take, drop, filter, get_or, set, nat_cmp, Less, Equal, Greater, is_lt, refl, sym, ap, arith}
+use Rattle.std.proofs.Common.{◌≡◌, Option, ℕ, zero, suc, ◌+◌, ◌<◌, ◌≤◌, ◌^◌, Bool, true, false, cond, T, List, [], ◌∷◌, ◌++◌}
+use Rattle.std.proofs.Common.{length, take, drop, filter, get_or, set, nat_cmp, Less, Equal, Greater, is_lt, refl, sym, ap, subst}
+use Rattle.std.proofs.Common.{arith}
 use Rattle.std.specs.Prelude.{pos, ◌+ℤ◌, ◌-ℤ◌, nat_lt, Some, None, slice_get}
 use Rattle.std.specs.Ordering.{ordering_then}
 use Rattle.std.specs.Cmp.{ranked}
@@ -7,6 +9,7 @@ use Rattle.std.specs.List.{list_all, All, AllByRecursion}
 use Rattle.std.specs.List.Sorted.{IsPartitionedBy}
 use Rattle.std.proofs.lemmas.Int.{ints}
 use Rattle.std.proofs.lemmas.List.Elements.{recursion_from_All}
+use Rattle.std.proofs.lemmas.Option.{slice_get-get_or}
 use Rattle.model.specs.declared.entry.Entry.{Entry}
 use Rattle.model.specs.declared.entry.Change.{Change}
 use Rattle.model.specs.declared.entry.Change.TheVariants.{Ins, Del, Mod}
@@ -14,12 +17,12 @@ use Rattle.model.specs.Entries.{change_cmp, entry_cmp, are_ordered}
 use Rattle.model.specs.Places.{insert_count, delete_count}
 use Rattle.model.proofs.CallerLemmas.{first, second, less}
 use Rattle.counted.specs.Search.{IsBoundary}
-use Rattle.counted.specs.Spots.{ArePlaced}
+use Rattle.counted.specs.Gaps.{ArePlaced}
 use Rattle.counted.specs.Sums.{weight_of, total, next_sid, IsOrdered}
 use Rattle.counted.specs.Sums as sums
 use Rattle.delta.specs.Search.{IsSplit}
 use Rattle.delta.proofs.CountLemmas.{insert_worth, delete_worth, insert_count-cons, delete_count-cons}
-use Rattle.delta.proofs.SearchLemmas.{split_at}
+use Rattle.delta.proofs.SearchLemmas.{all_after, split_at}
 
 -- ---- sums
 
@@ -36,7 +39,9 @@ pub shift-is : (sid : ℕ) (es : List Entry) → sums.shift_before sid es ≡ to
 shift-is sid [] = refl
 shift-is sid (e ∷ es) =
     let rest = shift-is sid es in
-    elim (nat_lt e.sid sid) as (λ b. cond b (weight_of e.change) (pos 0) +ℤ sums.shift_before sid es ≡ total (cond b (e ∷ filter (λ x. nat_lt x.sid sid) es) (filter (λ x. nat_lt x.sid sid) es))) [
+    elim (nat_lt e.sid sid) as
+    (λ b. cond b (weight_of e.change) (pos 0) +ℤ sums.shift_before sid es ≡ total
+    (cond b (e ∷ filter (λ x. nat_lt x.sid sid) es) (filter (λ x. nat_lt x.sid sid) es))) [
       | true ↦ omega (arith, ints)
       | false ↦ omega (arith, ints)
     ]
@@ -66,36 +71,75 @@ by_order key_cols n m x y h =
 next_le : (key_cols : ℕ) (x y : Entry) → entry_cmp key_cols x y ≡ Less → next_sid x.sid x.change ≤ y.sid
 next_le key_cols x y h = by_order key_cols x.sid y.sid x.change y.change h
 
-all_next : (key_cols : ℕ) (x : Entry) (es : List Entry) → T (list_all (λ y. is_lt (entry_cmp key_cols x y)) es) → AllByRecursion (λ y. next_sid x.sid x.change ≤ y.sid) es
+all_next : (key_cols : ℕ) (x : Entry) (es : List Entry) → T (list_all (λ y. is_lt (entry_cmp key_cols x y)) es)
+    → AllByRecursion (λ y. next_sid x.sid x.change ≤ y.sid) es
 all_next key_cols x [] h = tt
-all_next key_cols x (y ∷ es) h = (next_le key_cols x y (less _ (first (is_lt (entry_cmp key_cols x y)) _ h)), all_next key_cols x es (second (is_lt (entry_cmp key_cols x y)) _ h))
+all_next key_cols x (y ∷ es) h = (
+  next_le key_cols x y (less _ (first (is_lt (entry_cmp key_cols x y)) _ h)),
+  all_next key_cols x es
+      (second (is_lt (entry_cmp key_cols x y)) _ h),
+)
 
 pub ordered_from_lawful : (key_cols : ℕ) (es : List Entry) → T (are_ordered key_cols es) → IsOrdered es
 ordered_from_lawful key_cols [] h = tt
-ordered_from_lawful key_cols (x ∷ es) h =
-    (all_next key_cols x es (first (list_all (λ y. is_lt (entry_cmp key_cols x y)) es) _ h), ordered_from_lawful key_cols es (second (list_all (λ y. is_lt (entry_cmp key_cols x y)) es) _ h))
+ordered_from_lawful key_cols (x ∷ es) h = (
+  all_next key_cols x es (first (list_all (λ y. is_lt (entry_cmp key_cols x y)) es) _ h),
+  ordered_from_lawful key_cols es
+      (second (list_all (λ y. is_lt (entry_cmp key_cols x y)) es) _ h),
+)
 
 pub placed_from_lawful : (es : List Entry) → All (λ e. e.sid < 2 ^ 32) es → ArePlaced es
 placed_from_lawful es h = recursion_from_All (λ (e : Entry). e.sid < 2 ^ 32) es h
 
 -- ---- search
 
-not_so : (b : Bool) → (b ≡ true → ⊥) → b ≡ false
+pub not_so : (b : Bool) → (b ≡ true → ⊥) → b ≡ false
 not_so true h = absurd (h refl)
 not_so false h = refl
 
-true_false : (b : Bool) → b ≡ true → b ≡ false → ⊥
+pub true_false : (b : Bool) → b ≡ true → b ≡ false → ⊥
 true_false b p q = cc
 
-before_boundary : (test : Entry → Bool) (xs : List Entry) (n : ℕ) → IsPartitionedBy test xs → IsBoundary test xs n → (k : ℕ) (d : Entry) → 0 ≤ k → k < n → test (get_or xs k d) ≡ true
+before_boundary : (test : Entry → Bool) (xs : List Entry) (n : ℕ) → IsPartitionedBy test xs → IsBoundary test xs n
+    → (k : ℕ) (d : Entry) → 0 ≤ k → k < n → test (get_or xs k d) ≡ true
 before_boundary test xs zero parted b k d low lt = absurd (omega arith)
-before_boundary test xs (suc n) parted b k d low lt = let within = b.within in parted k n d (omega arith) (omega arith) (b.low n d (omega arith))
+before_boundary test xs (suc n) parted b k d low lt =
+    let within = b.within in parted k n d (omega arith) (omega arith) (b.low n d (omega arith))
 
-pub split_from_boundary : (test : Entry → Bool) (xs : List Entry) (n : ℕ) → IsPartitionedBy test xs → IsBoundary test xs n → IsSplit test xs n
+pub split_from_boundary : (test : Entry → Bool) (xs : List Entry) (n : ℕ) → IsPartitionedBy test xs → IsBoundary test xs n
+    → IsSplit test xs n
 split_from_boundary test xs n parted b =
-    split_at test xs n b.within (before_boundary test xs n parted b, λ k d le lt. not_so (test (get_or xs k d)) (λ yes. true_false (test (get_or xs n d)) (parted n k d le lt yes) (b.high d (omega arith))))
+    split_at test xs n b.within (
+      before_boundary test xs n parted b,
+      λ k d le lt. not_so (test (get_or xs k d))
+          (λ yes. true_false (test (get_or xs n d)) (parted n k d le lt yes) (b.high d (omega arith))),
+    )
+
+-- a test splits entries where all before pass it and the next, if there is one, does not
+pub split_where : (test : Entry → Bool) (xs : List Entry) (n : ℕ) → IsPartitionedBy test xs → n ≤ length xs → T (list_all test (take n xs))
+    → ((e : Entry) → slice_get xs n ≡ Some e → test e ≡ false) → IsSplit test xs n
+split_where test xs n parted within before next = record {
+  within = within;
+  before = before;
+  after = all_after test n xs (λ k d le lt.
+      not_so (test (get_or xs k d)) (λ yes.
+      true_false (test (get_or xs n d)) (parted n k d le lt yes) (next (get_or xs n d) (slice_get-get_or xs n d (omega arith)))));
+}
+
+-- the next entry passes a test that all from there on pass
+pub next_passes : (test : Entry → Bool) (xs : List Entry) (n : ℕ) (e : Entry) → T (list_all test (drop n xs)) → slice_get xs n ≡ Some e
+    → T (test e)
+next_passes test [] n e h is = cc
+next_passes test (x ∷ xs) zero e h is = let same : x ≡ e = cc in subst (λ (y : Entry). T (test y)) same (first (test x) _ h)
+next_passes test (x ∷ xs) (suc n) e h is = next_passes test xs n e h is
 
 -- ---- single entries
+
+pub some_is : (x y : Entry) → ◌≡◌ {A = Option Entry} (Some x) (Some y) → x ≡ y
+some_is x y h = cc
+
+pub none_is : (y : Entry) → ◌≡◌ {A = Option Entry} None (Some y) → ⊥
+none_is y h = cc
 
 pub some_get : (es : List Entry) (n : ℕ) (x d : Entry) → Some x ≡ slice_get es n → x ≡ get_or es n d
 some_get [] zero x d h = cc

@@ -9,12 +9,12 @@ mod LookupLemmas
 mod RangesLemmas
 mod PositionsLemmas
 mod GapLemmas
-mod GapWalkLemmas
 mod StartLemmas
 mod LengthLemmas
 mod LawsLemmas
 mod CountedLemmas
-mod SpotLemmas
+mod RowLemmas
+mod AheadLemmas
 mod KeyPlaceLemmas
 mod RowCountLemmas
 mod ByPlaceLemmas

@@ -1,5 +1,7 @@
 -- An entry put in, whatever its change.
-use Rattle.std.proofs.Common.{◌≡◌, ℕ, ◌<◌, ◌≤◌, ◌^◌, cond, false, not, ◌&&◌, T, List, [], ◌∷◌, length, take, drop, get_or, nat_cmp, Ordering, Less, Equal, Greater, is_gt, refl, sym, ap, ◌∙◌, subst, arith, drop-cons}
+use Rattle.std.proofs.Common.{◌≡◌, ℕ, ◌<◌, ◌≤◌, ◌^◌, cond, true, false, not, ◌&&◌, T, List, [], ◌∷◌, length, take, drop, get_or}
+use Rattle.std.proofs.Common.{nat_cmp, Ordering, Less, Equal, Greater, is_gt, refl, sym, ap, ◌∙◌, subst, arith, drop-cons}
+use Rattle.std.proofs.Common.{length-drop}
 use Rattle.std.specs.Prelude.{◌==◌}
 use Rattle.std.specs.Ordering.{ordering_then}
 use Rattle.std.specs.Cmp.{ranked}
@@ -15,8 +17,8 @@ use Rattle.model.specs.declared.entry.Change.TheVariants.{Ins, Del, Mod}
 use Rattle.model.specs.Entries.{entry_at, are_ordered, IsLawful}
 use Rattle.model.proofs.CallerLemmas.{first}
 use Rattle.delta.specs.Search.{insert_cmp, base_cmp, modify_cmp, past_cmp, stands_before, IsSplit}
-use Rattle.delta.specs.Changes.{modifies_column, modify_count, with_run, entries_with, MayBePut, IsRun}
-use Rattle.delta.proofs.ChangesLemmas.{all_from, base_is_past, put_ins-split, put_mod-split, put_del-split}
+use Rattle.delta.specs.Changes.{is_modify_at, modifies_column, modify_count, with_run, entries_with, MayBePut, IsRun}
+use Rattle.delta.proofs.ChangesLemmas.{all_from, base-le-past, base_is_past, put_ins-split, put_mod-split, put_del-split}
 use Rattle.delta.proofs.CountedLemmas.{split_from_boundary}
 use Rattle.delta.proofs.SearchLemmas.{is_true, at_index, parted, past_cmp-closed}
 use Rattle.delta.proofs.LawfulLemmas.{IsLawful-put_ins, IsLawful-put_del, IsLawful-put_mod}
@@ -25,7 +27,8 @@ module _ (key_cols sid : ℕ) where
   -- an entry past the inserts at the SID and at another one stands past the SID
   is_past : (e : Entry) → T (not (stands_before base_cmp sid e)) → (e.sid ≡ sid → ⊥) → stands_before past_cmp sid e ≡ false
   is_past e h other =
-      elim (nat_cmp sid e.sid) as (λ r. nat_cmp sid e.sid ≡ r → T (not (is_gt (ordering_then r (base_cmp e.change)))) → is_gt (ordering_then r Greater) ≡ false) [
+      elim (nat_cmp sid e.sid) as (λ r. nat_cmp sid e.sid ≡ r → T (not (is_gt (ordering_then r (base_cmp e.change))))
+      → is_gt (ordering_then r Greater) ≡ false) [
         | Less ↦ λ q g. refl
         | Equal ↦ λ q g. absurd (other (sym (ranked sid e.sid Equal (sym q))))
         | Greater ↦ λ q g. absurd g
@@ -42,10 +45,12 @@ module _ (key_cols sid : ℕ) where
         low = λ m d is.
             let lt : m < n = omega arith in
             let short : m < length (take n es) = omega (arith, length-take-le n es within) in
-            let before = subst (λ (e : Entry). T (stands_before base_cmp sid e)) (get_or-take n es m d lt) (at_index (stands_before base_cmp sid) (take n es) h.before m d short) in
+            let before = subst (λ (e : Entry). T (stands_before base_cmp sid e)) (get_or-take n es m d lt)
+            (at_index (stands_before base_cmp sid) (take n es) h.before m d short) in
             is_true (stands_before past_cmp sid (get_or es m d)) (base_is_past key_cols sid (get_or es m d) before);
         high = λ d lt.
-            let after = subst (λ (ys : List Entry). T (list_all (λ e. not (stands_before base_cmp sid e)) ys)) (drop-cons es n d lt) h.after in
+            let after = subst (λ (ys : List Entry). T (list_all (λ e. not (stands_before base_cmp sid e)) ys))
+            (drop-cons es n d lt) h.after in
             is_past (get_or es n d) (first (not (stands_before base_cmp sid (get_or es n d))) _ after) (none d lt);
       })
 
@@ -115,15 +120,31 @@ module _ (key_cols sid : ℕ) where
       let none = none_modified col (drop n es) end.after in
       (past-inserts (modify_cmp col) (λ row. refl) key es n split end, omega (arith, none))
 
+  -- what is replaced is a part of the list
+  pub run_within : (change : Change) (es : List Entry) (n m : ℕ) → IsRun key_cols sid change es n m → (n ≤ m) × (m ≤ length es)
+  run_within (Ins row) es n m run = (omega (arith, run.1), omega (arith, run.1, run.0.within))
+  run_within (Del key) es n m run = (base-le-past key_cols sid es n m run.0 run.1, run.1.within)
+  run_within (Mod col value) es n m run =
+      (omega (arith, run.1), omega (arith, run.1, run.0.within, modify_le (drop n es), length-drop n es))
+    where
+      modify_le : (xs : List Entry) → modify_count sid col xs ≤ length xs
+      modify_le [] = omega arith
+      modify_le (x ∷ xs) = elim (is_modify_at sid col x) as (λ b. cond b 1 0 ≤ length (x ∷ xs)) [
+        | true ↦ omega arith
+        | false ↦ omega arith
+      ]
+
   pub entries_with-run : (change : Change) (es : List Entry) (n m : ℕ) → IsRun key_cols sid change es n m → MayBePut key_cols sid change es
       → entries_with key_cols sid change es ≡ with_run es n m (entry_at sid change)
-  entries_with-run (Ins row) es n m run free = put_ins-split key_cols sid row es n run.0 free ∙ ap (λ k. with_run es n k (entry_at sid (Ins row))) (sym run.1)
+  entries_with-run (Ins row) es n m run free =
+      put_ins-split key_cols sid row es n run.0 free ∙ ap (λ k. with_run es n k (entry_at sid (Ins row))) (sym run.1)
   entries_with-run (Del key) es n m run free = put_del-split key_cols sid key es n m run.0 run.1 free
   entries_with-run (Mod col value) es n m run free =
       put_mod-split key_cols sid col value es n run.0 free ∙ ap (λ k. with_run es n k (entry_at sid (Mod col value))) (sym run.1)
 
   pub IsLawful-entries_with : (change : Change) (es : List Entry) (n m : ℕ) → IsLawful key_cols es → IsRun key_cols sid change es n m
-      → MayBePut key_cols sid change es → sid < 2 ^ 32 → length (entries_with key_cols sid change es) ≤ 2 ^ 40 → IsLawful key_cols (entries_with key_cols sid change es)
+      → MayBePut key_cols sid change es → sid < 2 ^ 32 → length (entries_with key_cols sid change es) ≤ 2 ^ 40
+      → IsLawful key_cols (entries_with key_cols sid change es)
   IsLawful-entries_with (Ins row) es n m h run free lt room = IsLawful-put_ins key_cols sid row es n h run.0 free lt room
   IsLawful-entries_with (Del key) es n m h run free lt room = IsLawful-put_del key_cols sid key es n m h run.0 run.1 free lt room
   IsLawful-entries_with (Mod col value) es n m h run free lt room = IsLawful-put_mod key_cols sid col value es n h run.0 free lt room

@@ -1,21 +1,24 @@
 -- Where a walk starts, by the place where a descent finds the row at a position.
-use Rattle.std.proofs.Common.{◌≡◌, ℕ, zero, suc, pred, ◌+◌, ◌<◌, ◌≤◌, ◌⊎◌, inl, inr, Bool, true, false, ◌&&◌, T, List, [], ◌∷◌, length, take, get_or, nat_cmp, Less, Equal, Greater, is_gt, refl, sym, ap, subst, arith}
+use Rattle.std.proofs.Common.{◌≡◌, ℕ, zero, suc, pred, ◌+◌, ◌^◌, ◌<◌, ◌≤◌, ◌⊎◌, inl, inr, Bool, true, false, ◌&&◌, T, List, []}
+use Rattle.std.proofs.Common.{◌∷◌, length, take, get_or, nat_cmp, Less, Equal, Greater, is_gt, refl, sym, ap, subst, arith}
+use Rattle.std.proofs.Common.{length-take}
 use Rattle.std.specs.Prelude.{ℤ, pos, ◌+ℤ◌, ◌≤ℤ◌, ◌<ℤ◌, ◌==◌, IsFalse, Some, slice_get}
 use Rattle.std.specs.Ordering.{ordering_then}
 use Rattle.std.specs.Cmp.{ranked}
 use Rattle.std.proofs.lemmas.Int.{ints}
 use Rattle.std.proofs.lemmas.Bool.Decides.{nat_tests}
+use Rattle.values.specs.declared.row.Row.{Row}
 use Rattle.model.specs.declared.entry.Entry.{Entry}
 use Rattle.model.specs.declared.entry.Change.{Change}
 use Rattle.model.specs.declared.entry.Change.TheVariants.{Ins, Del, Mod}
 use Rattle.model.specs.Entries.{is_delete, are_ordered}
 use Rattle.counted.specs.Gaps.{IsGap}
 use Rattle.counted.specs.Sums.{weight_of, total}
-use Rattle.counted.proofs.CallerLemmas.{total-more}
+use Rattle.counted.proofs.CallerLemmas.{total-more, total_within}
 use Rattle.delta.specs.Changes.{is_delete_at}
 use Rattle.delta.specs.Search.{base_cmp, first_cmp, stands_before}
 use Rattle.delta.specs.Starts.{IsStart}
-use Rattle.delta.proofs.CountedLemmas.{total-is, some_get, some_within}
+use Rattle.delta.proofs.CountedLemmas.{total-is, some_get, some_within, not_so, true_false}
 use Rattle.delta.proofs.SearchLemmas.{nat_cmp-greater, parted, all_before, all_after, first_cmp-closed, base_cmp-closed}
 
 -- an entry that stands before the row, and one that follows, `up` above the rows below
@@ -25,15 +28,6 @@ LeadsAt rid c n up = ((pos n +ℤ up) <ℤ pos rid) ⊎ (((pos n +ℤ up) ≡ po
 abbrev FollowsAt : ℕ → Change → ℕ → ℤ → Type 0
 FollowsAt rid c n up = (pos rid <ℤ (pos n +ℤ up)) ⊎ (((pos n +ℤ up) ≡ pos rid) × (is_delete c ≡ false))
 
--- past an entry that stands before it, rows end by the position
-lead_le : (rid : ℕ) (c : Change) (n : ℕ) (up : ℤ) → LeadsAt rid c n up → (up +ℤ weight_of c) ≤ℤ pos rid
-lead_le rid (Ins row) n up (inl lt) = omega (arith, ints)
-lead_le rid (Ins row) n up (inr h) = absurd (let b = h.1 in cc)
-lead_le rid (Del key) n up (inl lt) = omega (arith, ints)
-lead_le rid (Del key) n up (inr h) = let e = h.0 in omega (arith, ints)
-lead_le rid (Mod col value) n up (inl lt) = omega (arith, ints)
-lead_le rid (Mod col value) n up (inr h) = absurd (let b = h.1 in cc)
-
 -- what so many entries add, by the last of them
 total-last : (es : List Entry) (m : ℕ) (d : Entry) → m < length es
     → total (take (suc m) es) ≡ total (take m es) +ℤ weight_of (get_or es m d).change
@@ -41,17 +35,37 @@ total-last es m d lt =
     let next : suc m ≡ m + 1 = omega arith in
     rw next (total-more es m d (weight_of (get_or es m d).change) lt refl)
 
--- what the entries before the row add is no more than its position
-pub total-start-le : (rid : ℕ) (es : List Entry) (n : ℕ) → IsGap is_delete (pos rid) (pos 0) es n → total (take n es) ≤ℤ pos rid
-total-start-le rid [] zero g = omega (arith, ints)
-total-start-le rid [] (suc m) g = absurd (let within = g.within in omega arith)
-total-start-le rid (e ∷ es) zero g = omega (arith, ints)
-total-start-le rid (e ∷ es) (suc m) g =
-    let within = g.within in
-    let x = get_or (e ∷ es) m e in
-    let le = lead_le rid x.change x.sid (total (take m (e ∷ es)) +ℤ pos 0) (g.low m e (omega arith)) in
-    let more = total-last (e ∷ es) m e (omega arith) in
-    omega (arith, ints)
+-- something comes to stand behind no insert at its position
+module _ (after : Change → Bool) (first : (row : Row) → after (Ins row) ≡ false) (rid : ℕ) where
+  -- past an entry that stands before it, rows end by the position
+  lead_le : (c : Change) (n : ℕ) (up : ℤ) → (((pos n +ℤ up) <ℤ pos rid) ⊎ (((pos n +ℤ up) ≡ pos rid) × (after c ≡ true)))
+      → (up +ℤ weight_of c) ≤ℤ pos rid
+  lead_le (Ins row) n up (inl lt) = omega (arith, ints)
+  lead_le (Ins row) n up (inr h) = absurd (true_false (after (Ins row)) h.1 (first row))
+  lead_le (Del key) n up (inl lt) = omega (arith, ints)
+  lead_le (Del key) n up (inr h) = let e = h.0 in omega (arith, ints)
+  lead_le (Mod col value) n up (inl lt) = omega (arith, ints)
+  lead_le (Mod col value) n up (inr h) = let e = h.0 in omega (arith, ints)
+
+  -- what the entries before it add is no more than its position
+  total-start-le : (es : List Entry) (n : ℕ) → IsGap after (pos rid) (pos 0) es n → total (take n es) ≤ℤ pos rid
+  total-start-le [] zero g = omega (arith, ints)
+  total-start-le [] (suc m) g = absurd (let within = g.within in omega arith)
+  total-start-le (e ∷ es) zero g = omega (arith, ints)
+  total-start-le (e ∷ es) (suc m) g =
+      let within = g.within in
+      let x = get_or (e ∷ es) m e in
+      let le = lead_le x.change x.sid (total (take m (e ∷ es)) +ℤ pos 0) (g.low m e (omega arith)) in
+      let more = total-last (e ∷ es) m e (omega arith) in
+      omega (arith, ints)
+
+  -- and it moves nothing out of range
+  pub start_bounds : (es : List Entry) (n : ℕ) (shift : ℤ) → IsGap after (pos rid) (pos 0) es n → shift ≡ total (take n es)
+      → length es ≤ 2 ^ 40 → (shift ≤ℤ pos rid) × (pos 0 ≤ℤ (shift +ℤ pos (2 ^ 40))) × (shift ≤ℤ pos (2 ^ 40))
+  start_bounds es n shift g is few =
+      let le = total-start-le es n g in
+      let sum = total_within (take n es) in
+      (omega (arith, ints), omega (arith, ints, length-take n es), omega (arith, ints, length-take n es))
 
 module _ (rid s : ℕ) where
   below : (n : ℕ) (c : Change) → n < s → is_gt (ordering_then (nat_cmp s n) (base_cmp c)) ≡ true
@@ -120,13 +134,6 @@ module _ (key_cols rid s : ℕ) (es : List Entry) (n : ℕ) (ordered : T (are_or
 
   next_after : (d : Entry) → n < length es → stands_before first_cmp s (get_or es n d) ≡ false
   next_after d lt = follow_after rid s (get_or es n d).change (get_or es n d).sid (total (take n es)) (next_follows d lt) sum
-
-  not_so : (b : Bool) → (b ≡ true → ⊥) → b ≡ false
-  not_so true h = absurd (h refl)
-  not_so false h = refl
-
-  true_false : (b : Bool) → b ≡ true → b ≡ false → ⊥
-  true_false b p q = cc
 
   each_before : (m : ℕ) → m + 1 ≡ n → (k : ℕ) (d : Entry) → k < n → stands_before base_cmp s (get_or es k d) ≡ true
   each_before m is k d lt =

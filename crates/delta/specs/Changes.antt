@@ -1,5 +1,6 @@
 -- Single entries that a change of a tree looks at.
-use Rattle.std.specs.Prelude.{◌≡◌, ℕ, ◌+◌, ◌<◌, ◌==◌, Bool, false, ◌&&◌, IsFalse, IsNone, cond, Option, None, List, [], ◌∷◌, ◌++◌, length, take, drop}
+use Rattle.std.specs.Prelude.{◌≡◌, ℕ, ◌+◌, ◌<◌, ◌≤◌, ◌^◌, ◌==◌, Bool, false, ◌&&◌, IsFalse, IsNone, cond, Option, None, List, []}
+use Rattle.std.specs.Prelude.{◌∷◌, ◌++◌, length, take, drop}
 use Rattle.values.specs.Shape.{key_of}
 use Rattle.values.specs.declared.row.Key.{Key}
 use Rattle.values.specs.declared.row.Row.{Row}
@@ -59,4 +60,12 @@ module _ (key_cols sid : ℕ) where
   abbrev pub IsRun : Change → List Entry → ℕ → ℕ → Type 0
   IsRun (Ins row) entries n m = IsSplit (stands_before (insert_cmp key_cols (key_of key_cols row)) sid) entries n × (m ≡ n)
   IsRun (Del key) entries n m = IsSplit (stands_before base_cmp sid) entries n × IsSplit (stands_before past_cmp sid) entries m
-  IsRun (Mod col value) entries n m = IsSplit (stands_before (modify_cmp col) sid) entries n × (m ≡ n + modify_count sid col (drop n entries))
+  IsRun (Mod col value) entries n m =
+      IsSplit (stands_before (modify_cmp col) sid) entries n × (m ≡ n + modify_count sid col (drop n entries))
+
+  -- an entry may be put in, in the place of those from n up to m
+  pub record MayBePutAt (change : Change) (entries : List Entry) (n m : ℕ) : Type 0 where
+    pub run : IsRun change entries n m
+    pub free : MayBePut change entries
+    pub small : sid < 2 ^ 32
+    pub room : length (entries_with change entries) ≤ 2 ^ 40

@@ -7,3 +7,5 @@ pub mod Laws
 pub mod Depth
 pub mod ByPlace
 pub mod Starts
+pub mod Folds
+pub mod Ahead

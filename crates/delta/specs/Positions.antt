@@ -1,5 +1,6 @@
 -- Positions in the image: how far the entries move a row, and the row at a position.
-use Rattle.std.specs.Prelude.{◌≡◌, ℕ, ℤ, ◌+◌, ◌-◌, ◌==◌, nat_lt, Bool, true, false, ◌&&◌, ◌||◌, cond, IsTrue, IsFalse, List, [], ◌∷◌, map, filter, take, slice_get}
+use Rattle.std.specs.Prelude.{◌≡◌, ℕ, ℤ, pos, int_lt, ◌+◌, ◌≤◌, ◌==◌, nat_lt, Bool, true, false, ◌&&◌, ◌||◌, cond, IsTrue, IsFalse}
+use Rattle.std.specs.Prelude.{Option, Some, None, List, [], ◌∷◌, length, map, filter, take, slice_get}
 use Rattle.std.specs.Option.{IsSomeAnd}
 use Rattle.std.specs.Ordering.{is_lt}
 use Rattle.std.specs.List.{list_all}
@@ -8,9 +9,8 @@ use Rattle.values.specs.declared.row.Key.{Key}
 use Rattle.model.specs.declared.entry.Entry.{Entry}
 use Rattle.model.specs.declared.entry.Change.{Change}
 use Rattle.model.specs.declared.entry.Change.TheVariants.{Ins, Del, Mod}
-use Rattle.model.specs.Folding.{added_by, gone_by}
-use Rattle.model.specs.Entries.{is_insert, is_delete}
-use Rattle.model.specs.Places.{rid_of_insert, rid_of_base, deleted_keys}
+use Rattle.model.specs.Entries.{is_insert}
+use Rattle.model.specs.Places.{insert_count, delete_count, rid_of_insert, rid_of_base, deleted_keys}
 use Rattle.delta.specs.declared.places.Place.{Place}
 use Rattle.delta.specs.declared.places.Place.TheVariants.{Inserted, Base}
 use Rattle.delta.specs.Lookups.{total_of, has_delete}
@@ -21,17 +21,9 @@ shift_before sid entries = total_of (filter (λ e. nat_lt e.sid sid) entries)
 
 -- the row of the place stands at the position: that of an insert, or that of a base row which isn't deleted
 abbrev pub IsAtRid : List Entry → ℕ → Place → Type 0
-IsAtRid entries rid (Inserted place) = IsSomeAnd (slice_get entries place) (λ e. IsTrue (is_insert e.change) × (rid_of_insert (take place entries) e.sid ≡ rid))
+IsAtRid entries rid (Inserted place) =
+    IsSomeAnd (slice_get entries place) (λ e. IsTrue (is_insert e.change) × (rid_of_insert (take place entries) e.sid ≡ rid))
 IsAtRid entries rid (Base sid) = IsFalse (has_delete sid entries) × (rid_of_base entries sid ≡ rid)
-
--- the place at the position, by a walk over the entries that are left. So many are passed, so many of them inserts, and
--- so many deletes
-abbrev pub place_from : ℕ → ℕ → ℕ → ℕ → List Entry → Place
-place_from rid passed inserts deletes [] = Base ((rid + deletes) - inserts)
-place_from rid passed inserts deletes (e ∷ entries) =
-    cond (nat_lt (rid + deletes) (e.sid + inserts)) (Base ((rid + deletes) - inserts))
-    (cond (is_insert e.change && ((rid + deletes) == (e.sid + inserts))) (Inserted passed)
-    (place_from rid (passed + 1) (cond (is_insert e.change) (inserts + 1) inserts) (cond (is_delete e.change) (deletes + 1) deletes) entries))
 
 -- ---- where an insert stands whose row comes to a position
 
@@ -54,11 +46,20 @@ keys_ascend (key ∷ keys) = list_all (λ other. is_lt (key_cmp key other)) keys
 abbrev pub deletes_ascend : List Entry → Bool
 deletes_ascend entries = keys_ascend (deleted_keys (map (λ e. e.change) entries))
 
--- the SID of the insert, by a walk over the entries that are left: past those that stand before it. So many inserts are
--- passed, and so many deletes
-abbrev pub gap_from : ℕ → Key → ℕ → ℕ → List Entry → ℕ
-gap_from rid key inserts deletes [] = (rid + deletes) - inserts
-gap_from rid key inserts deletes (e ∷ entries) =
-    cond (is_passed key (e.sid + inserts) (rid + deletes) e.change)
-    (gap_from rid key (inserts + added_by e.change) (deletes + gone_by e.change) entries)
-    ((rid + deletes) - inserts)
+-- an insert of the key at the SID, behind so many entries, brings its row to the position: the entry before it, if there is
+-- one, stands at a lower position, or there and deletes a row of a smaller key, and the one behind it, if there is one, does not
+pub record IsGapAt (rid : ℕ) (key : Key) (entries : List Entry) (sid index : ℕ) : Type 0 where
+  pub within : index ≤ length entries
+  pub row : sid + insert_count (take index entries) ≡ rid + delete_count (take index entries)
+  pub before : (m : ℕ) (e : Entry) → m + 1 ≡ index → slice_get entries m ≡ Some e
+      → is_passed key (e.sid + insert_count (take m entries)) (rid + delete_count (take m entries)) e.change ≡ true
+  pub after : (e : Entry) → slice_get entries index ≡ Some e
+      → is_passed key (e.sid + insert_count (take index entries)) (rid + delete_count (take index entries)) e.change ≡ false
+
+-- ---- what a change that adds so much tells of whether something comes after it
+
+abbrev pub after_deletes : ℤ → Option Bool
+after_deletes weight = Some (int_lt weight (pos 0))
+
+abbrev pub after_some_deletes : ℤ → Option Bool
+after_some_deletes weight = cond (int_lt weight (pos 0)) None (Some false)

@@ -1,5 +1,5 @@
 -- Where a change stands among entries in order.
-use Rattle.std.specs.Prelude.{◌≡◌, ℕ, ◌≤◌, Bool, not, T, List, length, take, drop}
+use Rattle.std.specs.Prelude.{◌≡◌, ℕ, ℤ, pos, int_lt, ◌≤◌, Bool, cond, not, T, Option, Some, None, List, length, take, drop}
 use Rattle.std.proofs.Common.{Ordering, Less, Equal, Greater}
 use Rattle.std.specs.Ordering.{nat_cmp, is_gt, ordering_then}
 use Rattle.std.specs.List.{list_all}
@@ -36,6 +36,19 @@ modify_cmp col (Mod other value) = nat_cmp col other
 -- how all that stands at a SID, and what stands past it, stands to a change there
 abbrev pub past_cmp : Change → Ordering
 past_cmp change = Greater
+
+-- the same by what a change adds alone, where that tells
+abbrev pub insert_by_weight : ℤ → Option Ordering
+insert_by_weight weight = cond (int_lt (pos 0) weight) None (Some Less)
+
+abbrev pub base_by_weight : ℤ → Option Ordering
+base_by_weight weight = cond (int_lt (pos 0) weight) (Some Greater) (Some Equal)
+
+abbrev pub modify_by_weight : ℤ → Option Ordering
+modify_by_weight weight = cond (int_lt (pos 0) weight) (Some Greater) (cond (int_lt weight (pos 0)) (Some Equal) None)
+
+abbrev pub past_by_weight : ℤ → Option Ordering
+past_by_weight weight = Some Greater
 
 -- whether an entry stands before what stands so to a change at the SID
 abbrev pub stands_before : (Change → Ordering) → ℕ → Entry → Bool

@@ -6,7 +6,7 @@ ghost use Rattle.model.specs.Entries.{change_cmp};
 ghost use Rattle.model.specs.Places.{rid_of_insert};
 ghost use Rattle.delta.specs.Search.{stands_before, IsSplit};
 
-use crate::places::moved;
+use crate::places::row_behind;
 use crate::tree::DeltaTree;
 use counted::SharedEntry;
 use model::Change;
@@ -34,7 +34,7 @@ impl DeltaTree {
         let place = self.place_of_change(sid, change);
         ChangePlace {
             index: place.index,
-            rid: moved(sid, place.shift),
+            rid: row_behind(self, sid, place.index, place.shift),
             entry: place.entry,
         }
     }

@@ -1,9 +1,7 @@
 //! The place of a key at a SID with what stands there, and the changes of an insert by its place: a caller who looks a key up
 //! and then changes its row searches once.
-ghost use Rattle.std.specs.Prelude.{◌≡◌, ◌<◌, ◌≤◌, ◌^◌, ◌&&◌, ◌||◌, not, is_some, IsNone, OnOk, OnErr, length, take, slice_get};
+ghost use Rattle.std.specs.Prelude.{◌≡◌, ◌<◌, ◌≤◌, ◌^◌, ◌&&◌, ◌||◌, not, is_some, OnOk, OnErr, length, take, slice_get};
 ghost use Rattle.std.specs.Option.{option_copied};
-ghost use Rattle.values.specs.Shape.{key_of};
-ghost use Rattle.model.specs.Edits.{put_ins};
 ghost use Rattle.model.specs.Places.{rid_of_insert};
 ghost use Rattle.delta.specs.Changes.{entries_with, MayBePut, IsRun};
 ghost use Rattle.delta.specs.Lookups.{inserted_row};
@@ -11,7 +9,7 @@ ghost use Rattle.delta.specs.Search.{insert_cmp, stands_before, IsSplit};
 ghost use Rattle.delta.specs.ByPlace.{base_change, is_deleted};
 ghost use Rattle.delta.specs.declared.by_place.BaseChange.TheVariants.{Modified};
 
-use crate::places::moved;
+use crate::places::row_behind;
 use crate::tree::DeltaTree;
 use counted::SharedEntry;
 use model::{Change, Entry};
@@ -66,26 +64,10 @@ impl DeltaTree {
         let place = self.place_of_insert(sid, key);
         KeyPlace {
             index: place.index,
-            rid: moved(sid, place.shift),
+            rid: row_behind(self, sid, place.index, place.shift),
             row: self.insert_at(place, sid, key),
             base: base_change(place.entry, sid),
         }
-    }
-
-    /// Puts in an insert of the row at the place of its key, as a search has found it.
-    ///
-    /// # Errors
-    ///
-    /// `NoMemory` where a growth is refused: the tree is as it was, and the row is dropped.
-    pub fn put_at(&mut self, at: usize, sid: u64, row: Row) -> Result<(), NoMemory>
-        requires split { IsSplit (stands_before (insert_cmp self.old.key_cols (key_of self.old.key_cols row)) sid) self.old.entries at }
-        requires free { IsNone (inserted_row self.old.key_cols sid (key_of self.old.key_cols row) self.old.entries) }
-        requires sid { sid < 2 ^ 32 }
-        requires room { length (put_ins self.old.key_cols sid row self.old.entries) ≤ 2 ^ 40 }
-        ensures ok { OnOk result (self.new ≡ record self.old { entries = put_ins self.old.key_cols sid row self.old.entries }) }
-        ensures err { OnErr result (self.new ≡ self.old) }
-    {
-        self.put_change_at(at, sid, Change::Ins(row))
     }
 
     /// Puts in a change at a place where it replaces no entry, as a search has found it: an insert at the place of its key,
@@ -102,9 +84,8 @@ impl DeltaTree {
         ensures ok { OnOk result (self.new ≡ record self.old { entries = entries_with self.old.key_cols sid change self.old.entries }) }
         ensures err { OnErr result (self.new ≡ self.old) }
     {
-        self.tree
-            .replace_run(self.alloc, at, at, Entry { sid, change })?;
-        Ok(())
+        let entry = SharedEntry::new(self.alloc, Entry { sid, change })?;
+        self.put_run(at, at, entry)
     }
 }
 

@@ -1,5 +1,6 @@
 //! The changes of a tree: an insert, a delete or a modify that comes, changes or goes.
-ghost use Rattle.std.specs.Prelude.{◌≡◌, cond, ◌<◌, ◌≤◌, ◌^◌, IsFalse, IsNone, IsSome, IsSomeAnd, Some, OnOk, OnErr, IfOk, drop, length, set, slice_get};
+ghost use Rattle.std.specs.Prelude.{◌≡◌, ℕ, cond, List, ◌<◌, ◌≤◌, ◌^◌, IsFalse, IsNone, IsSome, IsSomeAnd, Some, OnOk, OnErr, IfOk};
+ghost use Rattle.std.specs.Prelude.{drop, length, set, slice_get};
 ghost use Rattle.std.specs.Option.{option_copied};
 ghost use Rattle.std.specs.List.{remove};
 ghost use Rattle.model.specs.declared.entry.Entry.{Entry};
@@ -8,7 +9,7 @@ ghost use Rattle.model.specs.Entries.{entry_at, IsLawful};
 ghost use Rattle.model.specs.Edits.{change_with_cell, put_ins, put_del, put_mod, take_ins, set_ins};
 ghost use Rattle.delta.specs.Lookups.{has_delete, inserted_row};
 ghost use Rattle.delta.specs.Search.{base_cmp, past_cmp, stands_before, IsSplit};
-ghost use Rattle.delta.specs.Changes.{is_modify_at, modify_count, has_cell, entries_with, MayBePut, IsRun};
+ghost use Rattle.delta.specs.Changes.{is_modify_at, modify_count, has_cell, entries_with, MayBePut, MayBePutAt, IsRun};
 
 use crate::tree::{DeltaTree, copy_entry};
 use counted::{Boundary, SharedEntry};
@@ -73,14 +74,30 @@ impl DeltaTree {
     /// # Errors
     ///
     /// `NoMemory` where a growth is refused: the tree is as it was.
-    pub fn put_shared(&mut self, entry: SharedEntry) -> Result<(), NoMemory>
+    fn put_shared(&mut self, entry: SharedEntry) -> Result<(), NoMemory>
         requires free { MayBePut self.old.key_cols entry.sid entry.change self.old.entries }
         requires sid { entry.sid < 2 ^ 32 }
         requires room { length (entries_with self.old.key_cols entry.sid entry.change self.old.entries) ≤ 2 ^ 40 }
-        ensures ok { OnOk result (self.new ≡ record self.old { entries = entries_with self.old.key_cols entry.sid entry.change self.old.entries }) }
+        ensures ok { OnOk result (self.new
+            ≡ record self.old { entries = entries_with self.old.key_cols entry.sid entry.change self.old.entries }) }
         ensures err { OnErr result (self.new ≡ self.old) }
     {
         let (start, end) = self.run_of(&entry);
+        self.put_run(start, end, entry)
+    }
+
+    /// Puts an entry in, in the place of those from `start` up to `end`, as a search has found them. It goes on sharing its
+    /// change.
+    ///
+    /// # Errors
+    ///
+    /// `NoMemory` where a growth is refused: the tree is as it was.
+    pub fn put_run(&mut self, start: usize, end: usize, entry: SharedEntry) -> Result<(), NoMemory>
+        requires { MayBePutAt self.old.key_cols entry.sid entry.change self.old.entries start end }
+        ensures ok { OnOk result (self.new ≡ record self.old
+            { entries = entries_with self.old.key_cols entry.sid entry.change self.old.entries }) }
+        ensures err { OnErr result (self.new ≡ self.old) }
+    {
         self.tree.replace_shared(self.alloc, start, end, entry)?;
         Ok(())
     }
@@ -89,8 +106,6 @@ impl DeltaTree {
     fn run_of(&self, entry: &SharedEntry) -> (usize, usize)
         requires free { MayBePut self.now.key_cols entry.now.sid entry.now.change self.now.entries }
         ensures run { IsRun self.now.key_cols entry.now.sid entry.now.change self.now.entries result.0 result.1 }
-        ensures range { result.0 ≤ result.1 }
-        ensures within { result.1 ≤ length self.now.entries }
     {
         let sid = entry.sid();
         match entry.change() {
@@ -106,7 +121,7 @@ impl DeltaTree {
                 let place = self.place_of_modify(sid, *col);
                 (
                     place.index,
-                    place.index + self.modifies_at(place, sid, *col),
+                    place.index + modify_worth(place.entry, sid, *col),
                 )
             }
         }
@@ -151,7 +166,8 @@ impl DeltaTree {
         requires within { at < length self.old.entries }
         requires there { (e : Entry) → slice_get self.old.entries at ≡ Some e → has_cell col e.change }
         requires outside_key { self.old.key_cols ≤ col }
-        ensures ok { OnOk result ((e : Entry) → slice_get self.old.entries at ≡ Some e → self.new ≡ record self.old { entries = set self.old.entries at (entry_at e.sid (change_with_cell col value e.change)) }) }
+        ensures ok { OnOk result ((e : Entry) → slice_get self.old.entries at ≡ Some e → self.new
+            ≡ record self.old { entries = set self.old.entries at (entry_at e.sid (change_with_cell col value e.change)) }) }
         ensures err { OnErr result (self.new ≡ self.old) }
     {
         let entry = with_cell(self.tree.get(at), col, value)?;
@@ -168,7 +184,8 @@ impl DeltaTree {
     pub fn set_ins(&mut self, sid: u64, key: &Key, col: usize, value: Value) -> Result<(), NoMemory>
         requires there { IsSomeAnd (inserted_row self.old.key_cols sid key.now self.old.entries) (λ row. col < length row) }
         requires outside_key { self.old.key_cols ≤ col }
-        ensures ok { OnOk result (self.new ≡ record self.old { entries = set_ins self.old.key_cols sid key.now col value self.old.entries }) }
+        ensures ok { OnOk result (self.new
+            ≡ record self.old { entries = set_ins self.old.key_cols sid key.now col value self.old.entries }) }
         ensures err { OnErr result (self.new ≡ self.old) }
     {
         let index = self.index_of_insert(sid, key.cells());
@@ -194,21 +211,20 @@ impl DeltaTree {
             None => place.index,
         }
     }
+}
 
-    /// How many of the entries from a place on are the modify of this column at the SID: one or none.
-    fn modifies_at(&self, place: Boundary<'_>, sid: u64, col: usize) -> usize
-        requires { option_copied place.entry ≡ slice_get self.now.entries place.index }
-        ensures { result ≡ modify_count sid col (drop place.entry.index self.now.entries) }
-    {
-        match place.entry {
-            Some(entry) => modify_worth(entry, sid, col),
-            None => 0,
-        }
+/// One for a modify of the column at the SID, and none for another entry, or where there is none.
+pub(crate) fn modify_worth(entry: Option<&SharedEntry>, sid: u64, col: usize) -> usize
+    ensures { (es : List Entry) (n : ℕ) → option_copied entry.entry ≡ slice_get es n → result ≡ modify_count sid col (drop n es) }
+{
+    match entry {
+        Some(found) => worth_of(found, sid, col),
+        None => 0,
     }
 }
 
 /// One for a modify of the column at the SID, and none for another entry.
-fn modify_worth(entry: &SharedEntry, sid: u64, col: usize) -> usize
+fn worth_of(entry: &SharedEntry, sid: u64, col: usize) -> usize
     ensures { result ≡ cond (is_modify_at sid col entry.now) 1 0 }
 {
     match entry.change() {

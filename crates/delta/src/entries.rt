@@ -1,10 +1,9 @@
 //! The entries of a tree, in order: all, those from an index on, and those at a SID.
-ghost use Rattle.std.specs.Prelude.{◌≡◌, ◌≤◌, ◌==◌, drop, filter, length, slice_get};
-ghost use Rattle.std.specs.Option.{option_copied};
+ghost use Rattle.std.specs.Prelude.{◌≡◌, ◌≤◌, ◌==◌, drop, filter, length};
 ghost use Rattle.model.specs.Entries.{IsLawful};
 
 use crate::tree::DeltaTree;
-use counted::{Iter, SharedEntry};
+use counted::Iter;
 
 impl DeltaTree {
     /// The entries in order. It takes no memory.
@@ -31,12 +30,5 @@ impl DeltaTree {
         let start = self.index_of_sid(sid);
         let end = self.index_past(sid);
         self.tree.iter(start, end - start)
-    }
-
-    /// The entry at an index. It takes no memory.
-    pub fn entry(&self, index: usize) -> Option<&SharedEntry>
-        ensures { option_copied result ≡ slice_get self.now.entries index }
-    {
-        self.tree.entry(index)
     }
 }

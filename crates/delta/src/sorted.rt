@@ -1,18 +1,18 @@
 //! Binary search in the entries of a tree: by SID, and among those of one SID by what the change is.
-ghost use Rattle.std.specs.Prelude.{◌≡◌, slice_get, take};
+ghost use Rattle.std.specs.Prelude.{◌≡◌, T, slice_get, take};
 ghost use Rattle.std.specs.Option.{option_copied};
+ghost use Rattle.std.specs.List.{list_all};
 ghost use Rattle.model.specs.Entries.{change_cmp, IsLawful};
 ghost use Rattle.counted.specs.Sums.{total};
+ghost use Rattle.delta.specs.Ahead.{IsAhead};
 ghost use Rattle.delta.specs.Search.{first_cmp, insert_cmp, base_cmp, modify_cmp, past_cmp, stands_before, IsClosed, IsSplit};
+ghost use Rattle.delta.specs.Search.{insert_by_weight, base_by_weight, modify_by_weight, past_by_weight};
 
 use crate::tree::DeltaTree;
-use counted::{Boundary, Probe};
+use counted::{Boundary, First, Iter, Probe, SharedEntry};
 use model::Change;
 use std::cmp::Ordering;
 use values::Value;
-
-/// What stands before all at a SID.
-struct First;
 
 /// An insert of a key.
 #[derive(Drop)]
@@ -33,43 +33,82 @@ struct ModifyOf {
 /// What stands past all at a SID.
 struct Past;
 
-impl Probe for First {
-    ghost stand = { λ p. first_cmp };
-
-    fn compare(&self, _change: &Change) -> Ordering {
-        Ordering::Less
-    }
+/// The entries from an index on, with the first of them, if there is one, at hand.
+#[derive(Drop)]
+pub(crate) struct Ahead<'a> {
+    pub(crate) index: usize,
+    pub(crate) next: Option<&'a SharedEntry>,
+    /// Those after it.
+    pub(crate) rest: Iter<'a>,
 }
 
 impl<'a> Probe for InsertOf<'a> {
     ghost stand = { λ p. insert_cmp p.key_cols p.key.now };
 
+    ghost by_weight = { λ p. insert_by_weight };
+
     fn compare(&self, change: &Change) -> Ordering {
         compare_insert(self.key_cols, self.key, change)
+    }
+
+    fn compare_weight(&self, weight: i64) -> Option<Ordering> {
+        if weight > 0 {
+            None
+        } else {
+            Some(Ordering::Less)
+        }
     }
 }
 
 impl Probe for BaseRow {
     ghost stand = { λ p. base_cmp };
 
+    ghost by_weight = { λ p. base_by_weight };
+
     fn compare(&self, change: &Change) -> Ordering {
         compare_base(change)
+    }
+
+    fn compare_weight(&self, weight: i64) -> Option<Ordering> {
+        if weight > 0 {
+            Some(Ordering::Greater)
+        } else {
+            Some(Ordering::Equal)
+        }
     }
 }
 
 impl Probe for ModifyOf {
     ghost stand = { λ p. modify_cmp p.col };
 
+    ghost by_weight = { λ p. modify_by_weight };
+
     fn compare(&self, change: &Change) -> Ordering {
         compare_modify(self.col, change)
+    }
+
+    fn compare_weight(&self, weight: i64) -> Option<Ordering> {
+        if weight > 0 {
+            Some(Ordering::Greater)
+        } else if weight < 0 {
+            Some(Ordering::Equal)
+        } else {
+            None
+        }
     }
 }
 
 impl Probe for Past {
     ghost stand = { λ p. past_cmp };
 
+    ghost by_weight = { λ p. past_by_weight };
+
     fn compare(&self, _change: &Change) -> Ordering {
         Ordering::Greater
+    }
+
+    fn compare_weight(&self, _weight: i64) -> Option<Ordering> {
+        Some(Ordering::Greater)
     }
 }
 
@@ -83,6 +122,62 @@ impl DeltaTree {
         ensures lawful { IsLawful self.now.key_cols self.now.entries }
     {
         self.tree.place(sid, probe)
+    }
+
+    /// Where what is looked for at the SID stands, from a place on where it may stand, and the entry there: past the entries
+    /// from there on that stand before it.
+    fn onward<'a, P: Probe>(
+        &self,
+        ahead: Ahead<'a>,
+        sid: u64,
+        probe: &P,
+    ) -> (usize, Option<&'a SharedEntry>)
+        requires closed { IsClosed self.now.key_cols (P.stand probe.now) }
+        requires lawful { IsLawful self.now.key_cols self.now.entries }
+        requires ahead { IsAhead self.now.entries ahead }
+        requires before { T (list_all (stands_before (P.stand probe.now) sid) (take ahead.index self.now.entries)) }
+        ensures split { IsSplit (stands_before (P.stand probe.now) sid) self.now.entries result.0 }
+        ensures entry { option_copied result.1 ≡ slice_get self.now.entries result.0 }
+    {
+        let Ahead {
+            mut index,
+            mut next,
+            mut rest,
+        } = ahead;
+        while let Some(entry) = next {
+            if !is_before(entry, sid, probe) {
+                break;
+            }
+            next = rest.next();
+            index += 1;
+        }
+        (index, next)
+    }
+
+    /// The end of the entries at the SID, past those of the base row from here on.
+    pub(crate) fn end_of(&self, ahead: Ahead<'_>, sid: u64) -> usize
+        requires lawful { IsLawful self.now.key_cols self.now.entries }
+        requires ahead { IsAhead self.now.entries ahead }
+        requires before { T (list_all (stands_before base_cmp sid) (take ahead.index self.now.entries)) }
+        ensures { IsSplit (stands_before past_cmp sid) self.now.entries result }
+    {
+        self.onward(ahead, sid, &Past).0
+    }
+
+    /// Where the modifies of this column, or a greater one, stand at the SID, among those of the base row from here on.
+    pub(crate) fn modify_from<'a>(
+        &self,
+        ahead: Ahead<'a>,
+        sid: u64,
+        col: usize,
+    ) -> (usize, Option<&'a SharedEntry>)
+        requires lawful { IsLawful self.now.key_cols self.now.entries }
+        requires ahead { IsAhead self.now.entries ahead }
+        requires before { T (list_all (stands_before base_cmp sid) (take ahead.index self.now.entries)) }
+        ensures split { IsSplit (stands_before (modify_cmp col) sid) self.now.entries result.0 }
+        ensures entry { option_copied result.1 ≡ slice_get self.now.entries result.0 }
+    {
+        self.onward(ahead, sid, &ModifyOf { col })
     }
 
     /// How many entries stand at SIDs below this one.
@@ -162,6 +257,17 @@ impl DeltaTree {
             Change::Del(_) => self.place_of_base(sid),
             Change::Mod(col, _) => self.place_of_modify(sid, *col),
         }
+    }
+}
+
+/// Whether the entry stands before what is looked for at the SID.
+fn is_before<P: Probe>(entry: &SharedEntry, sid: u64, probe: &P) -> bool
+    ensures { result ≡ stands_before (P.stand probe.now) sid entry.now }
+{
+    match sid.cmp(&entry.sid()) {
+        Ordering::Less => false,
+        Ordering::Equal => probe.compare(entry.change()).is_gt(),
+        Ordering::Greater => true,
     }
 }
 

@@ -1,5 +1,5 @@
 //! The tree: a counted tree of shared entries.
-ghost use Rattle.std.specs.Prelude.{◌≡◌, ◌↔◌, IfOk, IsTrue, length, []};
+ghost use Rattle.std.specs.Prelude.{◌≡◌, IfOk, length, []};
 ghost use Rattle.counted.specs.Trees.{IsDepth};
 ghost use Rattle.delta.specs.Lookups.{total_of};
 
@@ -116,25 +116,11 @@ impl DeltaTree {
         self.tree.len()
     }
 
-    /// Whether the tree has no entries.
-    pub fn is_empty(&self) -> bool
-        ensures { IsTrue result ↔ (self.now.entries ≡ []) }
-    {
-        self.tree.len() == 0
-    }
-
     /// How many levels of nodes it has.
     pub fn depth(&self) -> usize
         ensures { IsDepth result (length self.now.entries) }
     {
         self.tree.depth()
-    }
-
-    /// The tree of nodes that holds the entries, which says how deep it is and counts what a search reads of it.
-    pub fn nodes(&self) -> &CountedTree
-        ensures { result.now.entries ≡ self.now.entries }
-    {
-        &self.tree
     }
 
     /// The inserts less the deletes: how many rows the image above has more than that below.

@@ -1,5 +1,7 @@
 -- The effects of the entries of a tree from a place on, and those of a lower tree with them.
-use Rattle.std.proofs.Common.{◌≡◌, ℕ, zero, suc, ◌+◌, ◌≤◌, ◌^◌, Bool, true, false, cond, T, Option, Some, None, List, [], ◌∷◌, ◌++◌, length, take, drop, set, nat_cmp, Ordering, Less, Equal, Greater, is_lt, is_eq, refl, sym, ap, ◌∙◌, subst, arith, take-append-drop}
+use Rattle.std.proofs.Common.{◌≡◌, ℕ, zero, suc, ◌+◌, ◌≤◌, ◌^◌, Bool, true, false, cond, T, Option, Some, None, List, [], ◌∷◌}
+use Rattle.std.proofs.Common.{◌++◌, length, take, drop, set, nat_cmp, Ordering, Less, Equal, Greater, is_lt, is_eq, refl, sym, ap}
+use Rattle.std.proofs.Common.{◌∙◌, subst, arith, take-append-drop}
 use Rattle.std.specs.Prelude.{IsTrue, slice_get, nat_le}
 use Rattle.std.specs.Bool.{passes}
 use Rattle.std.specs.List.{list_all}
@@ -20,16 +22,33 @@ use Rattle.model.specs.declared.effect.Effect.{Effect}
 use Rattle.model.specs.declared.effect.Effect.TheVariants as effect
 use Rattle.model.specs.Maps.{find, put, is_sorted}
 use Rattle.model.specs.Table.{Table, row_at, rank, is_keyed_table}
-use Rattle.model.specs.Effects.{Cells, Effects, AreOver, set_cells, has_cells, is_keyed_effect, are_keyed_effects, effect_fits_schema, fits, all_fit, row_after, table_with}
+use Rattle.model.specs.Effects.{Cells, Effects, AreOver, set_cells, has_cells, is_keyed_effect, are_keyed_effects}
+use Rattle.model.specs.Effects.{effect_fits_schema, fits, all_fit, row_after, table_with}
 use Rattle.model.specs.Composition.{over_cells, composed_effect, composed_effects}
 use Rattle.model.specs.Entries.{entry_at, entries_of, canonical_entries}
 use Rattle.model.specs.Places.{insert_count}
-use Rattle.model.proofs.CallerLemmas.{first, second, both, less, changed_by, holds_at, each_at, find_below, find_first, find-alter, sorted-alter, same_map, cells_ascend, row_at-table_with, effect_at-composed_effects, sorted-composed_effects, inserts_of, deletes_of, sum_below, rank-table_with, composes}
+use Rattle.model.proofs.CallerLemmas.{first, second, both, less, turn_less, is_below, changed_by, holds_at, each_at, find_below}
+use Rattle.model.proofs.CallerLemmas.{find_first, find-alter, sorted-alter, same_map, cells_ascend, row_at-table_with}
+use Rattle.model.proofs.CallerLemmas.{effect_at-composed_effects, sorted-composed_effects, inserts_of, deletes_of, sum_below}
+use Rattle.model.proofs.CallerLemmas.{rank-table_with, composes}
 use Rattle.delta.specs.Tree.{Tree}
 use Rattle.delta.proofs.CallerLemmas.{insert_count-append, counted, few}
 use Rattle.layers.specs.Over.{tree_of, AreConsecutive}
 use Rattle.layers.specs.Propagation.{IsNext, IsOfKey, cell_fits, effect_of_change, effects_with, next_tree}
-use Rattle.layers.proofs.GapPlaceLemmas.{sum_none, sum_at}
+
+-- ---- effects below a key
+
+-- no key is below one that is below them all
+sum_none : (count : Effect → ℕ) (k : Key) (ys : Effects) → T (below_all key_cmp k ys) → sum_below count k ys ≡ 0
+sum_none count k [] h = refl
+sum_none count k (e ∷ ys) h =
+    let apart : is_below e.0 k ≡ false = ap is_lt (turn_less key_cmp_total k e.0 (less _ (first (is_lt (key_cmp k e.0)) _ h))) in
+    ap (λ b. cond b (count e.1) 0 + sum_below count k ys) apart ∙ ap (λ n. 0 + n) (sum_none count k ys (second (is_lt (key_cmp k e.0)) _ h))
+
+sum_at : (count : Effect → ℕ) (e : Key × Effect) (ys : Effects) → T (below_all key_cmp e.0 ys) → sum_below count e.0 (e ∷ ys) ≡ 0
+sum_at count e ys h =
+    ap (λ r. cond (is_lt r) (count e.1) 0 + sum_below count e.0 ys) (tied_itself key_cmp_total e.0) ∙ ap (λ n. 0 + n)
+    (sum_none count e.0 ys h)
 
 -- ---- the first entry of effects, and the rest
 
@@ -64,10 +83,13 @@ abbrev pub rest_after : ℕ → Effects → Effects
 rest_after zero f = f
 rest_after (suc n) f = rest_of (rest_after n f)
 
-canonical-first : (key_cols : ℕ) (t : Table) (e : Key × Effect) (f : Effects) → T (is_keyed_effect key_cols e.0 e.1) → canonical_entries t (e ∷ f) ≡ entry_at (rank e.0 t) (first_change e.0 e.1) ∷ canonical_entries t (rest_of (e ∷ f))
+canonical-first : (key_cols : ℕ) (t : Table) (e : Key × Effect) (f : Effects) → T (is_keyed_effect key_cols e.0 e.1)
+    → canonical_entries t (e ∷ f) ≡ entry_at (rank e.0 t) (first_change e.0 e.1) ∷ canonical_entries t (rest_of (e ∷ f))
 canonical-first key_cols t e f keyed = by e.1 keyed
   where
-    by : (g : Effect) → T (is_keyed_effect key_cols e.0 g) → entries_of (rank e.0 t) e.0 g ++ canonical_entries t f ≡ entry_at (rank e.0 t) (first_change e.0 g) ∷ canonical_entries t (with_maybe e.0 (rest_effect g) f)
+    by : (g : Effect) → T (is_keyed_effect key_cols e.0 g)
+        → entries_of (rank e.0 t) e.0 g ++ canonical_entries t f ≡ entry_at (rank e.0 t) (first_change e.0 g) ∷ canonical_entries t
+        (with_maybe e.0 (rest_effect g) f)
     by (effect.Ins row) h = refl
     by effect.Del h = refl
     by (effect.Mod []) h = absurd h
@@ -77,14 +99,17 @@ canonical-first key_cols t e f keyed = by e.1 keyed
 
 -- ---- the rest are effects over the same table
 
-rest_keyed : (key_cols : ℕ) (k : Key) (g : Effect) → T (is_keyed_effect key_cols k g) → T (holds_at (is_keyed_effect key_cols k) (rest_effect g))
+rest_keyed : (key_cols : ℕ) (k : Key) (g : Effect) → T (is_keyed_effect key_cols k g)
+    → T (holds_at (is_keyed_effect key_cols k) (rest_effect g))
 rest_keyed key_cols k (effect.Ins row) h = tt
 rest_keyed key_cols k effect.Del h = tt
 rest_keyed key_cols k (effect.Mod []) h = tt
 rest_keyed key_cols k (effect.Mod (c ∷ [])) h = tt
 rest_keyed key_cols k (effect.Mod (c ∷ d ∷ cells)) h =
-    let tail = second (below_all nat_cmp c.0 (d ∷ cells)) (is_sorted nat_cmp (d ∷ cells)) (first (is_sorted nat_cmp (c ∷ d ∷ cells)) (list_all (λ x. nat_le key_cols x.0) (c ∷ d ∷ cells)) h) in
-    let others = second (nat_le key_cols c.0) (list_all (λ x. nat_le key_cols x.0) (d ∷ cells)) (second (is_sorted nat_cmp (c ∷ d ∷ cells)) (list_all (λ x. nat_le key_cols x.0) (c ∷ d ∷ cells)) h) in
+    let tail = second (below_all nat_cmp c.0 (d ∷ cells)) (is_sorted nat_cmp (d ∷ cells))
+    (first (is_sorted nat_cmp (c ∷ d ∷ cells)) (list_all (λ x. nat_le key_cols x.0) (c ∷ d ∷ cells)) h) in
+    let others = second (nat_le key_cols c.0) (list_all (λ x. nat_le key_cols x.0) (d ∷ cells))
+    (second (is_sorted nat_cmp (c ∷ d ∷ cells)) (list_all (λ x. nat_le key_cols x.0) (c ∷ d ∷ cells)) h) in
     both (is_sorted nat_cmp (d ∷ cells)) (list_all (λ x. nat_le key_cols x.0) (d ∷ cells)) tail others
 rest_keyed key_cols k (effect.Rep row) h = tt
 
@@ -101,15 +126,18 @@ rest_shaped schema (effect.Ins row) h = tt
 rest_shaped schema effect.Del h = tt
 rest_shaped schema (effect.Mod []) h = tt
 rest_shaped schema (effect.Mod (c ∷ [])) h = tt
-rest_shaped schema (effect.Mod (c ∷ d ∷ cells)) h = second (cell_fits_schema schema c.0 c.1) (list_all (λ x. cell_fits_schema schema x.0 x.1) (d ∷ cells)) h
+rest_shaped schema (effect.Mod (c ∷ d ∷ cells)) h =
+    second (cell_fits_schema schema c.0 c.1) (list_all (λ x. cell_fits_schema schema x.0 x.1) (d ∷ cells)) h
 rest_shaped schema (effect.Rep row) h = tt
 
 -- a test of each, with an effect at a key that passes it, where there is one
-all_maybe : (p : Key → Effect → Bool) (k : Key) (g : Option Effect) (f : Effects) → T (holds_at (p k) g) → T (list_all (λ e. p e.0 e.1) f) → T (list_all (λ e. p e.0 e.1) (with_maybe k g f))
+all_maybe : (p : Key → Effect → Bool) (k : Key) (g : Option Effect) (f : Effects) → T (holds_at (p k) g)
+    → T (list_all (λ e. p e.0 e.1) f) → T (list_all (λ e. p e.0 e.1) (with_maybe k g f))
 all_maybe p k None f h a = a
 all_maybe p k (Some g) f h a = both (p k g) _ h a
 
-sorted_maybe : (k : Key) (g : Option Effect) (f : Effects) → T (below_all key_cmp k f) → T (is_sorted key_cmp f) → T (is_sorted key_cmp (with_maybe k g f))
+sorted_maybe : (k : Key) (g : Option Effect) (f : Effects) → T (below_all key_cmp k f) → T (is_sorted key_cmp f)
+    → T (is_sorted key_cmp (with_maybe k g f))
 sorted_maybe k None f b s = s
 sorted_maybe k (Some g) f b s = both (below_all key_cmp k f) _ b s
 
@@ -126,58 +154,78 @@ over_rest schema t (e ∷ f) h =
     let sorted = first (is_sorted key_cmp (e ∷ f)) (list_all (λ x. is_keyed_effect schema.key_cols x.0 x.1) (e ∷ f)) keyed in
     let each = second (is_sorted key_cmp (e ∷ f)) (list_all (λ x. is_keyed_effect schema.key_cols x.0 x.1) (e ∷ f)) keyed in
     let g = rest_effect e.1 in
-    let order = sorted_maybe e.0 g f (first (below_all key_cmp e.0 f) (is_sorted key_cmp f) sorted) (second (below_all key_cmp e.0 f) (is_sorted key_cmp f) sorted) in
-    let own = all_maybe (is_keyed_effect schema.key_cols) e.0 g f (rest_keyed schema.key_cols e.0 e.1 (first (is_keyed_effect schema.key_cols e.0 e.1) _ each)) (second (is_keyed_effect schema.key_cols e.0 e.1) _ each) in
-    let all_keyed : T (are_keyed_effects schema.key_cols (with_maybe e.0 g f)) = both (is_sorted key_cmp (with_maybe e.0 g f)) _ order own in
+    let order = sorted_maybe e.0 g f (first (below_all key_cmp e.0 f) (is_sorted key_cmp f) sorted)
+    (second (below_all key_cmp e.0 f) (is_sorted key_cmp f) sorted) in
+    let own = all_maybe (is_keyed_effect schema.key_cols) e.0 g f
+    (rest_keyed schema.key_cols e.0 e.1 (first (is_keyed_effect schema.key_cols e.0 e.1) _ each))
+    (second (is_keyed_effect schema.key_cols e.0 e.1) _ each) in
+    let all_keyed : T (are_keyed_effects schema.key_cols (with_maybe e.0 g f)) = both
+    (is_sorted key_cmp (with_maybe e.0 g f)) _ order own in
     record {
       table = h.table;
       effects_are = record {
         keyed = is_true _ all_keyed;
-        fitting = is_true _ (all_maybe (λ k x. effect_fits_schema schema x) e.0 g f (rest_shaped schema e.1 (first (effect_fits_schema schema e.1) _ shaped)) (second (effect_fits_schema schema e.1) _ shaped));
+        fitting =
+            is_true _
+            (all_maybe (λ k x. effect_fits_schema schema x) e.0 g f
+            (rest_shaped schema e.1 (first (effect_fits_schema schema e.1) _ shaped))
+            (second (effect_fits_schema schema e.1) _ shaped));
       };
-      fit = is_true _ (all_maybe (λ k x. fits (row_at t k) x) e.0 g f (rest_fits (row_at t e.0) e.1 (first (fits (row_at t e.0) e.1) _ fit)) (second (fits (row_at t e.0) e.1) _ fit));
+      fit =
+          is_true _
+          (all_maybe (λ k x. fits (row_at t k) x) e.0 g f (rest_fits (row_at t e.0) e.1 (first (fits (row_at t e.0) e.1) _ fit))
+          (second (fits (row_at t e.0) e.1) _ fit));
     }
 
 -- ---- cells
 
 put_first : (c : ℕ × Value) (cells : Cells) → T (below_all nat_cmp c.0 cells) → put nat_cmp c.0 c.1 cells ≡ c ∷ cells
 put_first c [] h = refl
-put_first c (d ∷ cells) h = ap (λ r. by_order r (c ∷ d ∷ cells) ((d.0, c.1) ∷ cells) (d ∷ put nat_cmp c.0 c.1 cells)) (less _ (first (is_lt (nat_cmp c.0 d.0)) _ h))
+put_first c (d ∷ cells) h =
+    ap (λ r. by_order r (c ∷ d ∷ cells) ((d.0, c.1) ∷ cells) (d ∷ put nat_cmp c.0 c.1 cells))
+    (less _ (first (is_lt (nat_cmp c.0 d.0)) _ h))
 
 differ : (c d : ℕ) → nat_cmp c d ≡ Less → c ≡ d → ⊥
 differ c d p e = let q : nat_cmp c d ≡ Equal = ap (nat_cmp c) (sym e) ∙ tied_itself nat_cmp_total c in cc
 
-set_cells_move : (c : ℕ) (v : Value) (cells : Cells) (row : Row) → T (below_all nat_cmp c cells) → set_cells cells (set row c v) ≡ set (set_cells cells row) c v
+set_cells_move : (c : ℕ) (v : Value) (cells : Cells) (row : Row) → T (below_all nat_cmp c cells)
+    → set_cells cells (set row c v) ≡ set (set_cells cells row) c v
 set_cells_move c v [] row h = refl
 set_cells_move c v (d ∷ cells) row h =
     ap (set_cells cells) (set_comm row c d.0 v d.1 (differ c d.0 (less _ (first (is_lt (nat_cmp c d.0)) _ h))))
     ∙ set_cells_move c v cells (set row d.0 d.1) (second (is_lt (nat_cmp c d.0)) _ h)
 
 -- cells of two columns are put in alike in either order
-put-put : (c d : ℕ) (v u : Value) (m : Cells) → nat_cmp c d ≡ Less → T (is_sorted nat_cmp m) → put nat_cmp d u (put nat_cmp c v m) ≡ put nat_cmp c v (put nat_cmp d u m)
+put-put : (c d : ℕ) (v u : Value) (m : Cells) → nat_cmp c d ≡ Less → T (is_sorted nat_cmp m)
+    → put nat_cmp d u (put nat_cmp c v m) ≡ put nat_cmp c v (put nat_cmp d u m)
 put-put c d v u m p h =
     same_map nat_cmp nat_cmp_total nat_cmp-IsAntisymmetric _ _
     (is_sorted-put nat_cmp nat_cmp_total d u (put nat_cmp c v m) (is_sorted-put nat_cmp nat_cmp_total c v m h))
     (is_sorted-put nat_cmp nat_cmp_total c v (put nat_cmp d u m) (is_sorted-put nat_cmp nat_cmp_total d u m h))
     (λ q.
-    find-put nat_cmp nat_cmp_total q d u (put nat_cmp c v m) ∙ ap (cond (eq_by_cmp nat_cmp q d) (Some u)) (find-put nat_cmp nat_cmp_total q c v m)
+    find-put nat_cmp nat_cmp_total q d u (put nat_cmp c v m)
+    ∙ ap (cond (eq_by_cmp nat_cmp q d) (Some u)) (find-put nat_cmp nat_cmp_total q c v m)
     ∙ either q (eq_by_cmp nat_cmp q c) (eq_by_cmp nat_cmp q d) refl refl
-    ∙ sym (find-put nat_cmp nat_cmp_total q c v (put nat_cmp d u m) ∙ ap (cond (eq_by_cmp nat_cmp q c) (Some v)) (find-put nat_cmp nat_cmp_total q d u m)))
+    ∙ sym (find-put nat_cmp nat_cmp_total q c v (put nat_cmp d u m)
+    ∙ ap (cond (eq_by_cmp nat_cmp q c) (Some v)) (find-put nat_cmp nat_cmp_total q d u m)))
   where
     equal : (r : Ordering) → is_eq r ≡ true → r ≡ Equal
     equal Less e = cc
     equal Equal e = refl
     equal Greater e = cc
 
-    either : (q : ℕ) (x y : Bool) → eq_by_cmp nat_cmp q c ≡ x → eq_by_cmp nat_cmp q d ≡ y → cond y (Some u) (cond x (Some v) (find nat_cmp q m)) ≡ cond x (Some v) (cond y (Some u) (find nat_cmp q m))
+    either : (q : ℕ) (x y : Bool) → eq_by_cmp nat_cmp q c ≡ x → eq_by_cmp nat_cmp q d ≡ y
+        → cond y (Some u) (cond x (Some v) (find nat_cmp q m)) ≡ cond x (Some v) (cond y (Some u) (find nat_cmp q m))
     either q true true e f =
-        absurd (differ c d p (sym (nat_cmp-IsAntisymmetric q c (equal (nat_cmp q c) e)) ∙ nat_cmp-IsAntisymmetric q d (equal (nat_cmp q d) f)))
+        absurd (differ c d p (sym (nat_cmp-IsAntisymmetric q c (equal (nat_cmp q c) e))
+        ∙ nat_cmp-IsAntisymmetric q d (equal (nat_cmp q d) f)))
     either q true false e f = refl
     either q false true e f = refl
     either q false false e f = refl
 
 -- the cells of a column below the later ones may be put in last
-over_put : (c : ℕ × Value) (later b : Cells) → T (below_all nat_cmp c.0 later) → T (is_sorted nat_cmp b) → over_cells (put nat_cmp c.0 c.1 b) later ≡ put nat_cmp c.0 c.1 (over_cells b later)
+over_put : (c : ℕ × Value) (later b : Cells) → T (below_all nat_cmp c.0 later) → T (is_sorted nat_cmp b)
+    → over_cells (put nat_cmp c.0 c.1 b) later ≡ put nat_cmp c.0 c.1 (over_cells b later)
 over_put c [] b h s = refl
 over_put c (d ∷ later) b h s =
     ap (λ m. over_cells m later) (put-put c.0 d.0 c.1 d.1 b (less _ (first (is_lt (nat_cmp c.0 d.0)) _ h)) s)
@@ -186,7 +234,8 @@ over_put c (d ∷ later) b h s =
 -- ---- the first entry comes after the rest
 
 -- a later effect is its first entry's after the rest of it
-composed-first : (key_cols : ℕ) (k : Key) (g : Effect) (old : Option Effect) (row : Option Row) → T (is_keyed_effect key_cols k g) → T (holds_at cells_ascend old) → T (fits (changed_by row_after old row) g) →
+composed-first : (key_cols : ℕ) (k : Key) (g : Effect) (old : Option Effect) (row : Option Row) → T (is_keyed_effect key_cols k g)
+    → T (holds_at cells_ascend old) → T (fits (changed_by row_after old row) g) →
     composed_effect g old ≡ composed_effect (effect_of_change (first_change k g)) (changed_by composed_effect (rest_effect g) old)
 composed-first key_cols k (effect.Ins new) old row h asc fit = refl
 composed-first key_cols k effect.Del old row h asc fit = refl
@@ -195,9 +244,13 @@ composed-first key_cols k (effect.Mod (c ∷ [])) old row h asc fit = refl
 composed-first key_cols k (effect.Mod (c ∷ d ∷ cells)) old row h asc fit = by old asc
   where
     below : T (below_all nat_cmp c.0 (d ∷ cells))
-    below = first (below_all nat_cmp c.0 (d ∷ cells)) (is_sorted nat_cmp (d ∷ cells)) (first (is_sorted nat_cmp (c ∷ d ∷ cells)) (list_all (λ x. nat_le key_cols x.0) (c ∷ d ∷ cells)) h)
+    below =
+        first (below_all nat_cmp c.0 (d ∷ cells)) (is_sorted nat_cmp (d ∷ cells))
+        (first (is_sorted nat_cmp (c ∷ d ∷ cells)) (list_all (λ x. nat_le key_cols x.0) (c ∷ d ∷ cells)) h)
 
-    by : (o : Option Effect) → T (holds_at cells_ascend o) → composed_effect (effect.Mod (c ∷ d ∷ cells)) o ≡ composed_effect (effect.Mod (c ∷ [])) (composed_effect (effect.Mod (d ∷ cells)) o)
+    by : (o : Option Effect) → T (holds_at cells_ascend o)
+        → composed_effect (effect.Mod (c ∷ d ∷ cells)) o ≡ composed_effect (effect.Mod (c ∷ []))
+        (composed_effect (effect.Mod (d ∷ cells)) o)
     by None a = ap (λ m. Some (effect.Mod m)) (sym (put_first c (d ∷ cells) below))
     by (Some (effect.Ins r)) a = ap (λ r. Some (effect.Ins r)) (set_cells_move c.0 c.1 (d ∷ cells) r below)
     by (Some effect.Del) a = refl
@@ -210,7 +263,8 @@ composed-first key_cols k (effect.Rep new) (Some (effect.Mod b)) row h asc fit =
 composed-first key_cols k (effect.Rep new) (Some (effect.Rep r)) row h asc fit = refl
 
 -- it fits what the rest leaves
-fits-first : (key_cols : ℕ) (k : Key) (g : Effect) (old : Option Row) → T (is_keyed_effect key_cols k g) → T (fits old g) → T (fits (changed_by row_after (rest_effect g) old) (effect_of_change (first_change k g)))
+fits-first : (key_cols : ℕ) (k : Key) (g : Effect) (old : Option Row) → T (is_keyed_effect key_cols k g) → T (fits old g)
+    → T (fits (changed_by row_after (rest_effect g) old) (effect_of_change (first_change k g)))
 fits-first key_cols k (effect.Ins new) old h fit = fit
 fits-first key_cols k effect.Del old h fit = fit
 fits-first key_cols k (effect.Mod []) old h fit = absurd h
@@ -250,15 +304,18 @@ find_maybe : (k : Key) (g : Option Effect) (f : Effects) → T (below_all key_cm
 find_maybe k None f b = find_below key_cmp_total k f b
 find_maybe k (Some g) f b = find_first key_cmp key_cmp_total (k, g) f
 
-find_other : (q k : Key) (g : Option Effect) (f : Effects) → eq_by_cmp key_cmp q k ≡ false → find key_cmp q (with_maybe k g f) ≡ find key_cmp q f
+find_other : (q k : Key) (g : Option Effect) (f : Effects) → eq_by_cmp key_cmp q k ≡ false
+    → find key_cmp q (with_maybe k g f) ≡ find key_cmp q f
 find_other q k None f e = refl
 find_other q k (Some g) f e = ap (λ b. cond b (Some g) (find key_cmp q f)) e
 
-sum_maybe : (count : Effect → ℕ) (k : Key) (g : Option Effect) (f : Effects) → T (below_all key_cmp k f) → sum_below count k (with_maybe k g f) ≡ 0
+sum_maybe : (count : Effect → ℕ) (k : Key) (g : Option Effect) (f : Effects) → T (below_all key_cmp k f)
+    → sum_below count k (with_maybe k g f) ≡ 0
 sum_maybe count k None f b = sum_none count k f b
 sum_maybe count k (Some g) f b = sum_at count (k, g) f b
 
-module _ (schema : Columns) (t : Table) (x : Effects) (hx : AreOver schema t x) (e : Key × Effect) (f : Effects) (hf : AreOver schema (table_with t x) (e ∷ f)) where
+module _ (schema : Columns) (t : Table) (x : Effects) (hx : AreOver schema t x) (e : Key × Effect) (f : Effects)
+    (hf : AreOver schema (table_with t x) (e ∷ f)) where
   abbrev image : Table
   image = table_with t x
 
@@ -272,7 +329,9 @@ module _ (schema : Columns) (t : Table) (x : Effects) (hx : AreOver schema t x) 
   sorted_all = first (is_sorted key_cmp (e ∷ f)) (list_all (λ y. is_keyed_effect schema.key_cols y.0 y.1) (e ∷ f)) keyed_all
 
   keyed_here : T (is_keyed_effect schema.key_cols e.0 e.1)
-  keyed_here = first (is_keyed_effect schema.key_cols e.0 e.1) _ (second (is_sorted key_cmp (e ∷ f)) (list_all (λ y. is_keyed_effect schema.key_cols y.0 y.1) (e ∷ f)) keyed_all)
+  keyed_here =
+      first (is_keyed_effect schema.key_cols e.0 e.1) _
+      (second (is_sorted key_cmp (e ∷ f)) (list_all (λ y. is_keyed_effect schema.key_cols y.0 y.1) (e ∷ f)) keyed_all)
 
   below : T (below_all key_cmp e.0 f)
   below = first (below_all key_cmp e.0 f) (is_sorted key_cmp f) sorted_all
@@ -281,7 +340,9 @@ module _ (schema : Columns) (t : Table) (x : Effects) (hx : AreOver schema t x) 
   fit_here = first (fits (row_at image e.0) e.1) _ (passes (all_fit image (e ∷ f)) hf.fit)
 
   shaped_here : T (effect_fits_schema schema e.1)
-  shaped_here = first (effect_fits_schema schema e.1) _ (passes (list_all (λ y. effect_fits_schema schema y.1) (e ∷ f)) hf.effects_are.fitting)
+  shaped_here =
+      first (effect_fits_schema schema e.1) _
+      (passes (list_all (λ y. effect_fits_schema schema y.1) (e ∷ f)) hf.effects_are.fitting)
 
   keyed_x : T (are_keyed_effects schema.key_cols x)
   keyed_x = passes (are_keyed_effects schema.key_cols x) hx.effects_are.keyed
@@ -293,7 +354,9 @@ module _ (schema : Columns) (t : Table) (x : Effects) (hx : AreOver schema t x) 
   hr = over_rest schema image (e ∷ f) hf
 
   sorted_rest : T (is_sorted key_cmp rest)
-  sorted_rest = first (is_sorted key_cmp rest) (list_all (λ y. is_keyed_effect schema.key_cols y.0 y.1) rest) (passes (are_keyed_effects schema.key_cols rest) hr.effects_are.keyed)
+  sorted_rest =
+      first (is_sorted key_cmp rest) (list_all (λ y. is_keyed_effect schema.key_cols y.0 y.1) rest)
+      (passes (are_keyed_effects schema.key_cols rest) hr.effects_are.keyed)
 
   -- the cells of each modify ascend
   ascend : (g : Effect) → T (is_keyed_effect schema.key_cols e.0 g) → T (cells_ascend g)
@@ -304,7 +367,9 @@ module _ (schema : Columns) (t : Table) (x : Effects) (hx : AreOver schema t x) 
 
   ascend_all : (y : Effects) → T (list_all (λ z. is_keyed_effect schema.key_cols z.0 z.1) y) → T (list_all (λ z. cells_ascend z.1) y)
   ascend_all [] h = tt
-  ascend_all (z ∷ y) h = both (cells_ascend z.1) _ (ascends z.0 z.1 (first (is_keyed_effect schema.key_cols z.0 z.1) _ h)) (ascend_all y (second (is_keyed_effect schema.key_cols z.0 z.1) _ h))
+  ascend_all (z ∷ y) h =
+      both (cells_ascend z.1) _ (ascends z.0 z.1 (first (is_keyed_effect schema.key_cols z.0 z.1) _ h))
+      (ascend_all y (second (is_keyed_effect schema.key_cols z.0 z.1) _ h))
     where
       ascends : (k : Key) (g : Effect) → T (is_keyed_effect schema.key_cols k g) → T (cells_ascend g)
       ascends k (effect.Ins row) h = tt
@@ -313,7 +378,9 @@ module _ (schema : Columns) (t : Table) (x : Effects) (hx : AreOver schema t x) 
       ascends k (effect.Rep row) h = tt
 
   ascend_x : T (holds_at cells_ascend (find key_cmp e.0 x))
-  ascend_x = each_at key_cmp key_cmp_total key_cmp-IsAntisymmetric (λ k g. cells_ascend g) x (ascend_all x (second (is_sorted key_cmp x) _ keyed_x)) e.0
+  ascend_x =
+      each_at key_cmp key_cmp_total key_cmp-IsAntisymmetric (λ k g. cells_ascend g) x
+      (ascend_all x (second (is_sorted key_cmp x) _ keyed_x)) e.0
 
   fit_after : T (fits (changed_by row_after (find key_cmp e.0 x) (row_at t e.0)) e.1)
   fit_after = subst (λ (o : Option Row). T (fits o e.1)) (row_at-table_with t x e.0 sorted_x) fit_here
@@ -333,16 +400,22 @@ module _ (schema : Columns) (t : Table) (x : Effects) (hx : AreOver schema t x) 
   pub composed_is : composed_effects x (e ∷ f) ≡ effects_with before e.0 change
   composed_is =
       same_map key_cmp key_cmp_total key_cmp-IsAntisymmetric (composed_effects x (e ∷ f)) (effects_with before e.0 change)
-      (sorted-composed_effects x (e ∷ f) sorted_x) (sorted-alter key_cmp key_cmp_total e.0 (composed_effect (effect_of_change change)) before (sorted-composed_effects x rest sorted_x))
+      (sorted-composed_effects x (e ∷ f) sorted_x)
+      (sorted-alter key_cmp key_cmp_total e.0 (composed_effect (effect_of_change change)) before
+      (sorted-composed_effects x rest sorted_x))
       (λ q.
       effect_at-composed_effects x (e ∷ f) q sorted_all
       ∙ by_key q (eq_by_cmp key_cmp q e.0) refl
       ∙ sym (find-alter key_cmp key_cmp_total e.0 (composed_effect (effect_of_change change)) before q))
     where
-      by_key : (q : Key) (b : Bool) → eq_by_cmp key_cmp q e.0 ≡ b → changed_by composed_effect (cond b (Some e.1) (find key_cmp q f)) (find key_cmp q x) ≡ cond b (composed_effect (effect_of_change change) (find key_cmp e.0 before)) (find key_cmp q before)
+      by_key : (q : Key) (b : Bool) → eq_by_cmp key_cmp q e.0 ≡ b
+          → changed_by composed_effect (cond b (Some e.1) (find key_cmp q f)) (find key_cmp q x) ≡ cond b
+          (composed_effect (effect_of_change change) (find key_cmp e.0 before)) (find key_cmp q before)
       by_key q true is =
           let same = key_cmp-IsAntisymmetric q e.0 (equal (key_cmp q e.0) is) in
-          let found : find key_cmp e.0 before ≡ changed_by composed_effect (rest_effect e.1) (find key_cmp e.0 x) = effect_at-composed_effects x rest e.0 sorted_rest ∙ ap (λ g. changed_by composed_effect g (find key_cmp e.0 x)) (find_maybe e.0 (rest_effect e.1) f below) in
+          let found : find key_cmp e.0 before ≡ changed_by composed_effect (rest_effect e.1)
+          (find key_cmp e.0 x) = effect_at-composed_effects x rest e.0 sorted_rest
+          ∙ ap (λ g. changed_by composed_effect g (find key_cmp e.0 x)) (find_maybe e.0 (rest_effect e.1) f below) in
           ap (λ k. composed_effect e.1 (find key_cmp k x)) same
           ∙ composed-first schema.key_cols e.0 e.1 (find key_cmp e.0 x) (row_at t e.0) keyed_here ascend_x fit_after
           ∙ ap (composed_effect (effect_of_change change)) (sym found)
@@ -357,17 +430,30 @@ module _ (schema : Columns) (t : Table) (x : Effects) (hx : AreOver schema t x) 
   pub fit_is : T (fits (row_at (table_with t before) e.0) (effect_of_change change))
   fit_is =
       let row : row_at (table_with t before) e.0 ≡ changed_by row_after (rest_effect e.1) (row_at image e.0) =
-      ap (λ (s : Table). row_at s e.0) table_is ∙ row_at-table_with image rest e.0 sorted_rest ∙ ap (λ g. changed_by row_after g (row_at image e.0)) (find_maybe e.0 (rest_effect e.1) f below) in
-      subst (λ (o : Option Row). T (fits o (effect_of_change change))) (sym row) (fits-first schema.key_cols e.0 e.1 (row_at image e.0) keyed_here fit_here)
+      ap (λ (s : Table). row_at s e.0) table_is ∙ row_at-table_with image rest e.0 sorted_rest
+      ∙ ap (λ g. changed_by row_after g (row_at image e.0)) (find_maybe e.0 (rest_effect e.1) f below) in
+      subst (λ (o : Option Row). T (fits o (effect_of_change change))) (sym row)
+      (fits-first schema.key_cols e.0 e.1 (row_at image e.0) keyed_here fit_here)
 
   -- the rest moves no position up to the key's
   pub rank_kept : rank e.0 (table_with t before) ≡ rank e.0 image
   rank_kept =
-      let moved = rank-table_with e.0 image rest (first (is_sorted key_cmp image) _ (passes (is_keyed_table schema.key_cols image) hf.table.keyed)) sorted_rest (passes (all_fit image rest) hr.fit) in
+      let moved = rank-table_with e.0 image rest
+      (first (is_sorted key_cmp image) _ (passes (is_keyed_table schema.key_cols image) hf.table.keyed)) sorted_rest
+      (passes (all_fit image rest) hr.fit) in
       ap (λ (s : Table). rank e.0 s) table_is ∙ omega_rank moved
     where
-      omega_rank : (sum_below deletes_of e.0 rest + rank e.0 (table_with image rest) ≡ sum_below inserts_of e.0 rest + rank e.0 image) → rank e.0 (table_with image rest) ≡ rank e.0 image
-      omega_rank moved = omega (arith, moved, sum_maybe deletes_of e.0 (rest_effect e.1) f below, sum_maybe inserts_of e.0 (rest_effect e.1) f below)
+      omega_rank :
+          (sum_below deletes_of e.0 rest + rank e.0 (table_with image rest) ≡ sum_below inserts_of e.0 rest + rank e.0 image)
+          → rank e.0 (table_with image rest) ≡ rank e.0 image
+      omega_rank moved =
+          omega (
+            arith,
+            moved,
+            sum_maybe deletes_of e.0 (rest_effect e.1) f below,
+            sum_maybe inserts_of e.0
+                (rest_effect e.1) f below,
+          )
 
 -- ---- the walk over the upper entries, from the last
 
@@ -415,11 +501,13 @@ module _ (lower upper : Tree) (w : AreConsecutive lower upper) where
   entries_from zero = ap (λ (r : Tree). r.entries) w.above.tree_is
   entries_from (suc n) = by (left_from n) (over_left n) (entries_from n)
     where
-      by : (g : Effects) → AreOver w.schema over_image g → drop n upper.entries ≡ canonical_entries over_image g → drop (suc n) upper.entries ≡ canonical_entries over_image (rest_of g)
+      by : (g : Effects) → AreOver w.schema over_image g → drop n upper.entries ≡ canonical_entries over_image g
+          → drop (suc n) upper.entries ≡ canonical_entries over_image (rest_of g)
       by [] h is = empty_drop n upper.entries is
       by (e ∷ g) h is =
           let keyed = passes (are_keyed_effects w.schema.key_cols (e ∷ g)) h.effects_are.keyed in
-          let here = first (is_keyed_effect w.schema.key_cols e.0 e.1) _ (second (is_sorted key_cmp (e ∷ g)) (list_all (λ y. is_keyed_effect w.schema.key_cols y.0 y.1) (e ∷ g)) keyed) in
+          let here = first (is_keyed_effect w.schema.key_cols e.0 e.1) _
+          (second (is_sorted key_cmp (e ∷ g)) (list_all (λ y. is_keyed_effect w.schema.key_cols y.0 y.1) (e ∷ g)) keyed) in
           tail_drop n upper.entries _ _ (is ∙ canonical-first w.schema.key_cols over_image e g here)
 
   -- at the end nothing is left
@@ -427,13 +515,15 @@ module _ (lower upper : Tree) (w : AreConsecutive lower upper) where
   none_left [] h is = refl
   none_left (e ∷ g) h is =
       let keyed = passes (are_keyed_effects w.schema.key_cols (e ∷ g)) h.effects_are.keyed in
-      let here = first (is_keyed_effect w.schema.key_cols e.0 e.1) _ (second (is_sorted key_cmp (e ∷ g)) (list_all (λ y. is_keyed_effect w.schema.key_cols y.0 y.1) (e ∷ g)) keyed) in
+      let here = first (is_keyed_effect w.schema.key_cols e.0 e.1) _
+      (second (is_sorted key_cmp (e ∷ g)) (list_all (λ y. is_keyed_effect w.schema.key_cols y.0 y.1) (e ∷ g)) keyed) in
       let some = sym (canonical-first w.schema.key_cols over_image e g here) ∙ is in
       cc
 
   pub start_is : lower ≡ tree_from (length upper.entries)
   start_is =
-      let none = none_left (left_from (length upper.entries)) (over_left (length upper.entries)) (sym (entries_from (length upper.entries)) ∙ drop_whole upper.entries) in
+      let none = none_left (left_from (length upper.entries)) (over_left (length upper.entries))
+      (sym (entries_from (length upper.entries)) ∙ drop_whole upper.entries) in
       w.below.tree_is ∙ ap (λ (g : Effects). tree_of w.schema w.t (composed_effects w.x g)) (sym none)
     where
       drop_whole : (es : List Entry) → drop (length es) es ≡ []
@@ -446,7 +536,8 @@ module _ (lower upper : Tree) (w : AreConsecutive lower upper) where
   image_few =
       let tests = w.below.over in
       let t_sorted = first (is_sorted key_cmp w.t) _ (passes (is_keyed_table w.schema.key_cols w.t) tests.table.keyed) in
-      let x_sorted = first (is_sorted key_cmp w.x) (list_all (λ y. is_keyed_effect w.schema.key_cols y.0 y.1) w.x) (passes (are_keyed_effects w.schema.key_cols w.x) tests.effects_are.keyed) in
+      let x_sorted = first (is_sorted key_cmp w.x) (list_all (λ y. is_keyed_effect w.schema.key_cols y.0 y.1) w.x)
+      (passes (are_keyed_effects w.schema.key_cols w.x) tests.effects_are.keyed) in
       let moved = counted w.t w.x t_sorted x_sorted (passes (all_fit w.t w.x) tests.fit) in
       let same = ap (λ (r : Tree). insert_count r.entries) w.below.tree_is in
       omega (arith, moved, same, w.below.few, w.small.rows)
@@ -455,13 +546,17 @@ module _ (lower upper : Tree) (w : AreConsecutive lower upper) where
   top_few n =
       let tests = over_left n in
       let t_sorted = first (is_sorted key_cmp over_image) _ (passes (is_keyed_table w.schema.key_cols over_image) tests.table.keyed) in
-      let f_sorted = first (is_sorted key_cmp (left_from n)) (list_all (λ y. is_keyed_effect w.schema.key_cols y.0 y.1) (left_from n)) (passes (are_keyed_effects w.schema.key_cols (left_from n)) tests.effects_are.keyed) in
+      let f_sorted = first (is_sorted key_cmp (left_from n))
+      (list_all (λ y. is_keyed_effect w.schema.key_cols y.0 y.1) (left_from n))
+      (passes (are_keyed_effects w.schema.key_cols (left_from n)) tests.effects_are.keyed) in
       let moved = counted over_image (left_from n) t_sorted f_sorted (passes (all_fit over_image (left_from n)) tests.fit) in
       let same = ap insert_count (entries_from n) in
       omega (arith, moved, same, fewer_inserts n upper.entries, w.above.few, image_few)
 
   composed_few : (n : ℕ) → length (table_with w.t (composed_effects w.x (left_from n))) ≤ 6442450941
-  composed_few n = subst (λ (s : Table). length s ≤ 6442450941) (sym (composes w.schema w.t w.x (left_from n) w.below.over (over_left n)).1) (top_few n)
+  composed_few n =
+      subst (λ (s : Table). length s ≤ 6442450941) (sym (composes w.schema w.t w.x (left_from n) w.below.over (over_left n)).1)
+      (top_few n)
 
   pub entries_few : (n : ℕ) → length (canonical_entries w.t (composed_effects w.x (left_from n))) ≤ 2 ^ 40
   entries_few n =
@@ -484,13 +579,16 @@ module _ (lower upper : Tree) (w : AreConsecutive lower upper) where
       by (e ∷ g) is =
           let h : AreOver w.schema over_image (e ∷ g) = subst (AreOver w.schema over_image) is (over_left n) in
           let here = keyed_here w.schema w.t w.x w.below.over e g h in
-          let parts = sym (head_drop n upper.entries entry at) ∙ entries_from n ∙ ap (canonical_entries over_image) is ∙ canonical-first w.schema.key_cols over_image e g here in
+          let parts = sym (head_drop n upper.entries entry at) ∙ entries_from n ∙ ap (canonical_entries over_image) is
+          ∙ canonical-first w.schema.key_cols over_image e g here in
           let same : entry ≡ entry_at (rank e.0 over_image) (first_change e.0 e.1) = cc in
           let left : rest_of (left_from n) ≡ rest_of (e ∷ g) = ap rest_of is in
           let before = composed_effects w.x (rest_of (e ∷ g)) in
           let composed = composed_is w.schema w.t w.x w.below.over e g h in
-          let all : composed_effects w.x (left_from n) ≡ effects_with before e.0 (first_change e.0 e.1) = ap (composed_effects w.x) is ∙ composed in
-          let image_is : length (table_with w.t before) ≤ 6442450941 = subst (λ (g : Effects). length (table_with w.t (composed_effects w.x g)) ≤ 6442450941) left (composed_few (suc n)) in
+          let all : composed_effects w.x (left_from n) ≡ effects_with before e.0 (first_change e.0 e.1) = ap
+          (composed_effects w.x) is ∙ composed in
+          let image_is : length (table_with w.t before) ≤ 6442450941 = subst
+          (λ (g : Effects). length (table_with w.t (composed_effects w.x g)) ≤ 6442450941) left (composed_few (suc n)) in
           let whole : IsStep tree (entry_at (rank e.0 over_image) (first_change e.0 e.1)) n = (
             record {
               schema = w.schema;

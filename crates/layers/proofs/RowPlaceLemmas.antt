@@ -1,5 +1,7 @@
 -- Where the row of a key stands in the image of a tree.
-use Rattle.std.proofs.Common.{◌≡◌, ℕ, ◌+◌, ◌-◌, ◌≤◌, Bool, true, false, cond, not, T, Option, Some, None, is_some, List, [], ◌∷◌, ◌++◌, length, filter, take, drop, get_or, Ordering, Less, Equal, Greater, is_lt, is_eq, refl, sym, ap, ◌∙◌, subst, arith}
+use Rattle.std.proofs.Common.{◌≡◌, ℕ, ◌+◌, ◌-◌, ◌≤◌, Bool, true, false, cond, not, T, Option, Some, None, is_some, List, [], ◌∷◌}
+use Rattle.std.proofs.Common.{◌++◌, length, filter, take, drop, get_or, Ordering, Less, Equal, Greater, is_lt, is_eq, refl, sym}
+use Rattle.std.proofs.Common.{ap, ◌∙◌, subst, arith}
 use Rattle.std.specs.Prelude.{◌==◌, nat_lt, nat_le, IsTrue}
 use Rattle.std.specs.Bool.{passes}
 use Rattle.std.specs.Option.{IsSomeAnd}
@@ -23,21 +25,24 @@ use Rattle.model.specs.Entries.{entry_at, is_insert, canonical_entries, are_orde
 use Rattle.model.specs.Edits.{is_insert_of}
 use Rattle.model.specs.Places.{insert_count, delete_count, rid_of_insert, rid_of_base}
 use Rattle.model.specs.Rebasing.{inserts_before, deletes_before, rebased_entry}
-use Rattle.model.proofs.CallerLemmas.{first, second, changed_by, holds_at, row_at-table_with, adds_none, moved_one, spread, ordered, canonical_entries-at_key}
+use Rattle.model.proofs.CallerLemmas.{first, second, changed_by, holds_at, row_at-table_with, adds_none, moved_one, spread}
+use Rattle.model.proofs.CallerLemmas.{ordered, canonical_entries-at_key}
 use Rattle.delta.specs.declared.places.Place.{Place}
 use Rattle.delta.specs.declared.places.Place.TheVariants.{Inserted, Base}
 use Rattle.delta.specs.Search.{insert_cmp, stands_before, IsSplit}
 use Rattle.delta.specs.Positions.{IsAtRid}
 use Rattle.delta.specs.Laws.{row_inserted, deletes_row}
-use Rattle.delta.proofs.CallerLemmas.{nothing, has_insert, HasInsert, insert_count-cons, delete_count-cons, insert_worth, delete_worth, finds_effect, own, sorted_effects, sorted_table, fitting, low_all, high_all, rank_is}
+use Rattle.delta.proofs.CallerLemmas.{nothing, has_insert, HasInsert, insert_count-cons, delete_count-cons, insert_worth}
+use Rattle.delta.proofs.CallerLemmas.{delete_worth, finds_effect, own, sorted_effects, sorted_table, fitting, low_all, high_all}
+use Rattle.delta.proofs.CallerLemmas.{rank_is}
 
 -- ---- a list split in two
 
-take_first : (xs ys : List Entry) → take (length xs) (xs ++ ys) ≡ xs
+pub take_first : (xs ys : List Entry) → take (length xs) (xs ++ ys) ≡ xs
 take_first [] ys = refl
 take_first (x ∷ xs) ys = ap (λ zs. x ∷ zs) (take_first xs ys)
 
-drop_first : (xs ys : List Entry) → drop (length xs) (xs ++ ys) ≡ ys
+pub drop_first : (xs ys : List Entry) → drop (length xs) (xs ++ ys) ≡ ys
 drop_first [] ys = refl
 drop_first (x ∷ xs) ys = drop_first xs ys
 
@@ -45,7 +50,8 @@ first_within : (xs ys : List Entry) → length xs ≤ length (xs ++ ys)
 first_within [] ys = omega arith
 first_within (x ∷ xs) ys = let rest = first_within xs ys in omega arith
 
-split_first : (p : Entry → Bool) (xs ys : List Entry) → T (list_all p xs) → T (list_all (λ e. not (p e)) ys) → IsSplit p (xs ++ ys) (length xs)
+split_first : (p : Entry → Bool) (xs ys : List Entry) → T (list_all p xs) → T (list_all (λ e. not (p e)) ys)
+    → IsSplit p (xs ++ ys) (length xs)
 split_first p xs ys h g = record {
   within = first_within xs ys;
   before = subst (λ zs. T (list_all p zs)) (sym (take_first xs ys)) h;
@@ -58,11 +64,13 @@ cond_length : (b : Bool) (e : Entry) (es : List Entry) → length (cond b (e ∷
 cond_length true e es = omega arith
 cond_length false e es = omega arith
 
-inserts_cond : (b : Bool) (e : Entry) (es : List Entry) → insert_count (cond b (e ∷ es) es) ≡ cond b (insert_worth e.change) 0 + insert_count es
+inserts_cond : (b : Bool) (e : Entry) (es : List Entry)
+    → insert_count (cond b (e ∷ es) es) ≡ cond b (insert_worth e.change) 0 + insert_count es
 inserts_cond true e es = insert_count-cons e es
 inserts_cond false e es = omega arith
 
-deletes_cond : (b : Bool) (e : Entry) (es : List Entry) → delete_count (cond b (e ∷ es) es) ≡ cond b (delete_worth e.change) 0 + delete_count es
+deletes_cond : (b : Bool) (e : Entry) (es : List Entry)
+    → delete_count (cond b (e ∷ es) es) ≡ cond b (delete_worth e.change) 0 + delete_count es
 deletes_cond true e es = delete_count-cons e es
 deletes_cond false e es = omega arith
 
@@ -96,15 +104,33 @@ module _ (key_cols sid : ℕ) (key : Key) where
       none true = refl
       none false = refl
 
-  inserts_to : (es : List Entry) → length (filter (inserts_before key_cols ghost_there) es) ≡ insert_count (filter (λ e. nat_le e.sid sid) es)
+  inserts_to : (es : List Entry)
+      → length (filter (inserts_before key_cols ghost_there) es) ≡ insert_count (filter (λ e. nat_le e.sid sid) es)
   inserts_to [] = refl
   inserts_to (e ∷ es) =
-      omega (arith, cond_length (inserts_before key_cols ghost_there e) e (filter (inserts_before key_cols ghost_there) es), inserts_cond (nat_le e.sid sid) e (filter (λ e. nat_le e.sid sid) es), one_insert e.change e.sid, inserts_to es)
+      omega (
+        arith,
+        cond_length (inserts_before key_cols ghost_there e) e
+            (filter (inserts_before key_cols ghost_there) es),
+        inserts_cond (nat_le e.sid sid) e
+            (filter (λ e. nat_le e.sid sid) es),
+        one_insert e.change e.sid,
+        inserts_to es,
+      )
 
-  deletes_below : (es : List Entry) → length (filter (deletes_before key_cols ghost_there) es) ≡ delete_count (filter (λ e. nat_lt e.sid sid) es)
+  deletes_below : (es : List Entry)
+      → length (filter (deletes_before key_cols ghost_there) es) ≡ delete_count (filter (λ e. nat_lt e.sid sid) es)
   deletes_below [] = refl
   deletes_below (e ∷ es) =
-      omega (arith, cond_length (deletes_before key_cols ghost_there e) e (filter (deletes_before key_cols ghost_there) es), deletes_cond (nat_lt e.sid sid) e (filter (λ e. nat_lt e.sid sid) es), one_delete e.change e.sid, deletes_below es)
+      omega (
+        arith,
+        cond_length (deletes_before key_cols ghost_there e) e
+            (filter (deletes_before key_cols ghost_there) es),
+        deletes_cond (nat_lt e.sid sid) e
+            (filter (λ e. nat_lt e.sid sid) es),
+        one_delete e.change e.sid,
+        deletes_below es,
+      )
 
   -- the position of a base row, as that of an entry made consecutive
   rid_of_base-rebased : (es : List Entry) → rid_of_base es sid ≡ (rebased_entry key_cols es ghost_there).sid
@@ -113,7 +139,8 @@ module _ (key_cols sid : ℕ) (key : Key) where
 -- ---- the row of a key
 
 -- what inserts no row and deletes none
-keeps_row : (f : Option Effect) (old : Option Row) → T (is_some (changed_by row_after f old)) → is_some (row_inserted f) ≡ false → (is_some old ≡ true) × (deletes_row f ≡ false) × T (holds_at adds_none f)
+keeps_row : (f : Option Effect) (old : Option Row) → T (is_some (changed_by row_after f old)) → is_some (row_inserted f) ≡ false
+    → (is_some old ≡ true) × (deletes_row f ≡ false) × T (holds_at adds_none f)
 keeps_row None None h n = absurd h
 keeps_row None (Some r) h n = (refl, refl, tt)
 keeps_row (Some (effect.Ins row)) old h n = cc
@@ -179,16 +206,22 @@ module _ (schema : Columns) (t : Table) (x : Effects) (h : AreOver schema t x) (
   inserts (Del gone) g = absurd g
   inserts (Mod col value) g = absurd g
 
-  inserted_place : (rid : ℕ) → rid ≡ rank key image → is_some (row_inserted (find key_cmp key x)) ≡ true → IsAtRid es rid (Inserted key_place) × IsRowPlace (Inserted key_place)
+  inserted_place : (rid : ℕ) → rid ≡ rank key image → is_some (row_inserted (find key_cmp key x)) ≡ true
+      → IsAtRid es rid (Inserted key_place) × IsRowPlace (Inserted key_place)
   inserted_place rid rid_is some =
       let found = finds_effect schema t x key h in
-      let hi : HasInsert schema.key_cols sid key es key_place = has_insert schema.key_cols sid key es key_place in_order key_split (ap is_some found.insert ∙ some) in
+      let hi : HasInsert schema.key_cols sid key es key_place = has_insert schema.key_cols sid key es key_place in_order key_split
+      (ap is_some found.insert ∙ some) in
       let y = get_or es key_place nothing in
       let there = slice_get-get_or es key_place nothing hi.short in
-      let same : y.sid ≡ sid = eqb-true y.sid sid (true_of (y.sid == sid) (first (y.sid == sid) (is_insert_of schema.key_cols key y.change) hi.there)) in
+      let same : y.sid ≡ sid = eqb-true y.sid sid
+      (true_of (y.sid == sid) (first (y.sid == sid) (is_insert_of schema.key_cols key y.change) hi.there)) in
       let insert = insert_of y.change (second (y.sid == sid) (is_insert_of schema.key_cols key y.change) hi.there) in
-      let at : rid_of_insert (take key_place es) y.sid ≡ rid = ap (rid_of_insert (take key_place es)) same ∙ rank_is schema t x h key key_place key_split ∙ sym rid_is in (
-        subst (λ (o : Option Entry). IsSomeAnd o (λ e. IsTrue (is_insert e.change) × (rid_of_insert (take key_place es) e.sid ≡ rid))) (sym there) (inserts y.change insert, at),
+      let at : rid_of_insert (take key_place es) y.sid ≡ rid = ap (rid_of_insert (take key_place es)) same
+      ∙ rank_is schema t x h key key_place key_split ∙ sym rid_is in (
+        subst (λ (o : Option Entry). IsSomeAnd o
+            (λ e. IsTrue (is_insert e.change) × (rid_of_insert (take key_place es) e.sid ≡ rid))) (sym there)
+            (inserts y.change insert, at),
         (hi, some),
       )
     where
@@ -196,9 +229,11 @@ module _ (schema : Columns) (t : Table) (x : Effects) (h : AreOver schema t x) (
       true_of true g = refl
       true_of false g = absurd g
 
-  base_row : (rid : ℕ) → rid ≡ rank key image → T (is_some (row_at image key)) → is_some (row_inserted (find key_cmp key x)) ≡ false → IsAtRid es rid (Base sid) × IsRowPlace (Base sid)
+  base_row : (rid : ℕ) → rid ≡ rank key image → T (is_some (row_at image key)) → is_some (row_inserted (find key_cmp key x)) ≡ false
+      → IsAtRid es rid (Base sid) × IsRowPlace (Base sid)
   base_row rid rid_is there none =
-      let kept = keeps_row (find key_cmp key x) (row_at t key) (subst (λ (o : Option Row). T (is_some o)) (row_at-table_with t x key (sorted_effects schema t x h key)) there) none in
+      let kept = keeps_row (find key_cmp key x) (row_at t key)
+      (subst (λ (o : Option Row). T (is_some o)) (row_at-table_with t x key (sorted_effects schema t x h key)) there) none in
       let found = finds_effect schema t x key h in
       let here = passes (is_some (row_at t key)) kept.0 in
       let apart = spread adds_none key x (sorted_effects schema t x h key) kept.2 in
@@ -208,7 +243,8 @@ module _ (schema : Columns) (t : Table) (x : Effects) (h : AreOver schema t x) (
       ((found.delete kept.0 ∙ kept.1, at), (refl, none))
 
   -- the one place at the key's position is that of its row
-  pub row_place : (rid : ℕ) → rid ≡ rank key image → T (is_some (row_at image key)) → (P : Place) → ((place : Place) → IsAtRid es rid place → place ≡ P) → IsRowPlace P
+  pub row_place : (rid : ℕ) → rid ≡ rank key image → T (is_some (row_at image key)) → (P : Place)
+      → ((place : Place) → IsAtRid es rid place → place ≡ P) → IsRowPlace P
   row_place rid rid_is there P only =
       elim (is_some (row_inserted (find key_cmp key x))) as (λ b. is_some (row_inserted (find key_cmp key x)) ≡ b → IsRowPlace P) [
         | true ↦ λ q. let found = inserted_place rid rid_is q in subst IsRowPlace (only (Inserted key_place) found.0) found.1

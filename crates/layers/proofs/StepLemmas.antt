@@ -1,5 +1,6 @@
 -- One upper entry, folded into the tree of the effects so far.
-use Rattle.std.proofs.Common.{◌≡◌, ℕ, ◌<◌, ◌≤◌, ◌^◌, Bool, true, false, cond, T, Option, Some, None, is_some, List, length, get_or, remove, set, refl, sym, ap, ◌∙◌, subst, arith}
+use Rattle.std.proofs.Common.{◌≡◌, ℕ, ◌<◌, ◌≤◌, ◌^◌, Bool, true, false, cond, T, Option, Some, None, is_some, List, length, get_or}
+use Rattle.std.proofs.Common.{remove, set, refl, sym, ap, ◌∙◌, subst, arith}
 use Rattle.std.specs.Prelude.{IsTrue, IsSome, IsSomeAnd, IsFalse, is_none, nat_lt, slice_get}
 use Rattle.std.proofs.lemmas.Bool.Decides.{nat_tests}
 use Rattle.std.specs.Bool.{passes}
@@ -26,13 +27,17 @@ use Rattle.model.proofs.CallerLemmas.{first, changed_by, holds_at, rank-le-lengt
 use Rattle.delta.specs.declared.places.Place.{Place}
 use Rattle.delta.specs.declared.places.Place.TheVariants.{Inserted, Base}
 use Rattle.delta.specs.Lookups.{has_delete, inserted_row, row_of}
-use Rattle.delta.specs.Changes.{has_cell, entries_with, MayBePut}
-use Rattle.delta.specs.Positions.{IsAtRid, gap_from, deletes_ascend}
+use Rattle.delta.specs.Changes.{has_cell, entries_with, MayBePutAt}
+use Rattle.delta.specs.Folds.{IsFold, IsOnlyFold}
+use Rattle.delta.specs.Search.{insert_cmp, stands_before, IsSplit}
+use Rattle.delta.specs.declared.folds.Fold.{Fold}
+use Rattle.delta.specs.declared.folds.Fold.TheVariants.{Into, Put}
+use Rattle.delta.specs.Positions.{IsAtRid, IsGapAt, deletes_ascend}
 use Rattle.delta.specs.Laws.{row_inserted, MayEdit}
 use Rattle.delta.specs.Tree.{Tree}
 use Rattle.delta.proofs.CallerLemmas.{nothing, may_insert, may_delete, may_set, known, Known}
 use Rattle.layers.specs.Propagation.{IsNext, effect_of_change, effects_with, next_tree}
-use Rattle.layers.proofs.RowPlaceLemmas.{IsRowPlace, row_place}
+use Rattle.layers.proofs.RowPlaceLemmas.{IsRowPlace, key_place, key_split, row_place}
 use Rattle.layers.proofs.GapPlaceLemmas.{gap_place, deletes_ascend-canonical_entries}
 
 -- the same step, of an entry whose change is told
@@ -40,14 +45,18 @@ pub with_change : (tree : Tree) (entry : Entry) (c : Change) → entry.change �
 with_change tree entry c is w = subst (λ d. IsNext tree (entry_at entry.sid d)) is w
 
 -- an edit by a write, by whether the row is inserted
-deletes_by : (key_cols sid : ℕ) (key : Key) (old : Option Effect) (es : List Entry) → edited_entries key_cols sid (Delete key) old es ≡ cond (is_some (row_inserted old)) (take_ins key_cols sid key es) (put_del key_cols sid key es)
+deletes_by : (key_cols sid : ℕ) (key : Key) (old : Option Effect) (es : List Entry)
+    → edited_entries key_cols sid (Delete key) old es ≡ cond (is_some (row_inserted old)) (take_ins key_cols sid key es)
+    (put_del key_cols sid key es)
 deletes_by key_cols sid key None es = refl
 deletes_by key_cols sid key (Some (effect.Ins row)) es = refl
 deletes_by key_cols sid key (Some effect.Del) es = refl
 deletes_by key_cols sid key (Some (effect.Mod cells)) es = refl
 deletes_by key_cols sid key (Some (effect.Rep row)) es = refl
 
-sets_by : (key_cols sid : ℕ) (key : Key) (col : ℕ) (value : Value) (old : Option Effect) (es : List Entry) → edited_entries key_cols sid (Set key col value) old es ≡ cond (is_some (row_inserted old)) (set_ins key_cols sid key col value es) (put_mod key_cols sid col value es)
+sets_by : (key_cols sid : ℕ) (key : Key) (col : ℕ) (value : Value) (old : Option Effect) (es : List Entry)
+    → edited_entries key_cols sid (Set key col value) old es ≡ cond (is_some (row_inserted old))
+    (set_ins key_cols sid key col value es) (put_mod key_cols sid col value es)
 sets_by key_cols sid key col value None es = refl
 sets_by key_cols sid key col value (Some (effect.Ins row)) es = refl
 sets_by key_cols sid key col value (Some effect.Del) es = refl
@@ -55,14 +64,20 @@ sets_by key_cols sid key col value (Some (effect.Mod cells)) es = refl
 sets_by key_cols sid key col value (Some (effect.Rep row)) es = refl
 
 -- what an edit by a write may need
-may_delete_by : (key_cols sid : ℕ) (key : Key) (old : Option Effect) (es : List Entry) → MayEdit key_cols sid (Delete key) old es → (is_some (row_inserted old) ≡ true → IsSome (inserted_row key_cols sid key es)) × (is_some (row_inserted old) ≡ false → IsFalse (has_delete sid es))
+may_delete_by : (key_cols sid : ℕ) (key : Key) (old : Option Effect) (es : List Entry) → MayEdit key_cols sid (Delete key) old es
+    → (is_some (row_inserted old) ≡ true → IsSome (inserted_row key_cols sid key es)) × (is_some (row_inserted old) ≡ false
+    → IsFalse (has_delete sid es))
 may_delete_by key_cols sid key None es m = (λ e. cc, λ e. m)
 may_delete_by key_cols sid key (Some (effect.Ins row)) es m = (λ e. m, λ e. cc)
 may_delete_by key_cols sid key (Some effect.Del) es m = (λ e. cc, λ e. m)
 may_delete_by key_cols sid key (Some (effect.Mod cells)) es m = (λ e. cc, λ e. m)
 may_delete_by key_cols sid key (Some (effect.Rep row)) es m = (λ e. m, λ e. cc)
 
-may_set_by : (key_cols sid : ℕ) (key : Key) (col : ℕ) (value : Value) (old : Option Effect) (es : List Entry) → MayEdit key_cols sid (Set key col value) old es → (is_some (row_inserted old) ≡ true → IsSomeAnd (inserted_row key_cols sid key es) (λ row. col < length row)) × (is_some (row_inserted old) ≡ true → key_cols ≤ col) × (is_some (row_inserted old) ≡ false → IsFalse (has_delete sid es))
+may_set_by : (key_cols sid : ℕ) (key : Key) (col : ℕ) (value : Value) (old : Option Effect) (es : List Entry)
+    → MayEdit key_cols sid (Set key col value) old es
+    → (is_some (row_inserted old) ≡ true
+    → IsSomeAnd (inserted_row key_cols sid key es) (λ row. col < length row)) × (is_some (row_inserted old) ≡ true
+    → key_cols ≤ col) × (is_some (row_inserted old) ≡ false → IsFalse (has_delete sid es))
 may_set_by key_cols sid key col value None es m = (λ e. cc, λ e. cc, λ e. m)
 may_set_by key_cols sid key col value (Some (effect.Ins row)) es m = (λ e. m.0, λ e. m.1, λ e. cc)
 may_set_by key_cols sid key col value (Some effect.Del) es m = (λ e. cc, λ e. cc, λ e. m)
@@ -124,7 +139,8 @@ module _ (tree : Tree) (entry : Entry) (w : IsNext tree entry) where
   fit_before = fit_so_far w.schema.key_cols 0 w.t w.x keyed_table keyed fitting w.key
 
   -- the key's row is where its position is
-  pub place_is : T (is_some (row_at (table_with w.t w.x) w.key)) → (P : Place) → ((place : Place) → IsAtRid tree.entries entry.sid place → place ≡ P) → IsRowPlace w.schema w.t w.x w.over w.key P
+  pub place_is : T (is_some (row_at (table_with w.t w.x) w.key)) → (P : Place)
+      → ((place : Place) → IsAtRid tree.entries entry.sid place → place ≡ P) → IsRowPlace w.schema w.t w.x w.over w.key P
   place_is there P only =
       row_place w.schema w.t w.x w.over w.key entry.sid w.ranked there P
       (λ place at. only place (subst (λ (zs : List Entry). IsAtRid zs entry.sid place) (sym list_is) at))
@@ -137,7 +153,8 @@ outside schema col value h = by (slice_get schema.types col) h
     by None g = absurd g
     by (Some type) g = past (nat_lt col schema.key_cols) refl g
       where
-        past : (b : Bool) → nat_lt col schema.key_cols ≡ b → T (is_none (cond b (Some KeyColumn) (value_fault type col value))) → schema.key_cols ≤ col
+        past : (b : Bool) → nat_lt col schema.key_cols ≡ b → T (is_none (cond b (Some KeyColumn) (value_fault type col value)))
+            → schema.key_cols ≤ col
         past true e p = absurd p
         past false e p = grind (arith, nat_tests)
 
@@ -150,41 +167,77 @@ module _ (tree : Tree) (s : ℕ) (row : Row) (w : IsNext tree (entry_at s (Ins r
   key_now : key_of tree.key_cols row ≡ w.key
   key_now = ap (λ (n : ℕ). key_of n row) (cols_is tree (entry_at s (Ins row)) w) ∙ w.own
 
-  gap_is : gap_from s (key_of tree.key_cols row) 0 0 tree.entries ≡ rank w.key w.t
-  gap_is = (λ i. gap_from (w.ranked i) (key_now i) 0 0 (list_is tree (entry_at s (Ins row)) w i)) ∙ gap_place w.schema w.t w.x w.over w.key
-
-  insert_is : canonical_entries w.t (effects_with w.x w.key (Ins row)) ≡ put_ins w.schema.key_cols (rank w.key w.t) row (canonical_entries w.t w.x)
+  insert_is : canonical_entries w.t (effects_with w.x w.key (Ins row)) ≡ put_ins w.schema.key_cols (rank w.key w.t) row
+      (canonical_entries w.t w.x)
   insert_is =
       let e = entry_at s (Ins row) in
       let ht = keyed_table tree e w in
       let he = keyed tree e w in
       let fe = fitting tree e w in
-      let now : T (fits (row_at (table_with w.t w.x) k0) (effect.Ins row)) = subst (λ (k : Key). T (fits (row_at (table_with w.t w.x) k) (effect.Ins row))) (sym w.own) (fit_now tree e w) in
-      subst (λ (k : Key). canonical_entries w.t (effects_with w.x k (Ins row)) ≡ put_ins w.schema.key_cols (rank k w.t) row (canonical_entries w.t w.x)) w.own
-      (inserted w.schema.key_cols 0 w.t w.x ht he fe row (find key_cmp k0 w.x) refl (fit_so_far w.schema.key_cols 0 w.t w.x ht he fe k0) (here w.schema.key_cols 0 w.t w.x ht he fe k0 (effect.Ins row) now))
+      let now : T (fits (row_at (table_with w.t w.x) k0) (effect.Ins row)) = subst
+      (λ (k : Key). T (fits (row_at (table_with w.t w.x) k) (effect.Ins row))) (sym w.own) (fit_now tree e w) in
+      subst (λ (k : Key). canonical_entries w.t (effects_with w.x k (Ins row)) ≡ put_ins w.schema.key_cols (rank k w.t) row
+      (canonical_entries w.t w.x)) w.own
+      (inserted w.schema.key_cols 0 w.t w.x ht he fe row (find key_cmp k0 w.x) refl
+      (fit_so_far w.schema.key_cols 0 w.t w.x ht he fe k0) (here w.schema.key_cols 0 w.t w.x ht he fe k0 (effect.Ins row) now))
 
   free_is : is_some (inserted_row w.schema.key_cols (rank w.key w.t) w.key (canonical_entries w.t w.x)) ≡ false
   free_is =
       let e = entry_at s (Ins row) in
-      may_insert (inserted_row w.schema.key_cols (rank w.key w.t) w.key (canonical_entries w.t w.x)) (find key_cmp w.key w.x) (row_at w.t w.key) row (at_key tree e w).insert (fit_old tree e w)
+      may_insert (inserted_row w.schema.key_cols (rank w.key w.t) w.key (canonical_entries w.t w.x)) (find key_cmp w.key w.x)
+      (row_at w.t w.key) row (at_key tree e w).insert (fit_old tree e w)
 
-  module _ (sid : ℕ) (is : sid ≡ gap_from s (key_of tree.key_cols row) 0 0 tree.entries) where
+  module _ (sid start end : ℕ) (only : IsOnlyFold tree.key_cols tree.entries s (Ins row) (Put sid start end)) where
+    -- the one place where it comes to its position is that of its key
+    there : Put sid start end ≡ Put (rank w.key w.t) (key_place w.schema w.t w.x w.over w.key) (key_place w.schema w.t w.x w.over w.key)
+    there =
+        only (rank w.key w.t) (key_place w.schema w.t w.x w.over w.key)
+        (subst (λ (p : ℕ × Key × List Entry). IsGapAt p.0 p.1 p.2 (rank w.key w.t) (key_place w.schema w.t w.x w.over w.key))
+        (λ i. (sym w.ranked i, sym key_now i, sym (list_is tree (entry_at s (Ins row)) w) i)) (gap_place w.schema w.t w.x w.over w.key))
+
     sid_is : sid ≡ rank w.key w.t
-    sid_is = is ∙ gap_is
+    sid_is = ap sid_of there
+      where
+        sid_of : Fold → ℕ
+        sid_of (Into index) = 0
+        sid_of (Put n m k) = n
+
+    start_is : start ≡ key_place w.schema w.t w.x w.over w.key
+    start_is = ap start_of there
+      where
+        start_of : Fold → ℕ
+        start_of (Into index) = 0
+        start_of (Put n m k) = m
+
+    pub insert_split : IsSplit (stands_before (insert_cmp tree.key_cols (key_of tree.key_cols row)) sid) tree.entries start
+    insert_split =
+        subst (λ (p : (ℕ × Key) × (ℕ × List Entry) × ℕ). IsSplit (stands_before (insert_cmp p.0.0 p.0.1) p.1.0) p.1.1 p.2)
+        (λ i. (
+          (sym (cols_is tree (entry_at s (Ins row)) w) i, sym key_now i),
+          (sym sid_is i, sym (list_is tree (entry_at s (Ins row)) w) i),
+          sym start_is i,
+        ))
+        (key_split w.schema w.t w.x w.over w.key)
 
     pub insert_small : sid < 2 ^ 32
     insert_small = omega (arith, sid_is, small_sid tree (entry_at s (Ins row)) w)
 
     pub insert_now : put_ins tree.key_cols sid row tree.entries ≡ canonical_entries w.t (effects_with w.x w.key (Ins row))
-    insert_now = (λ i. put_ins (cols_is tree (entry_at s (Ins row)) w i) (sid_is i) row (list_is tree (entry_at s (Ins row)) w i)) ∙ sym insert_is
+    insert_now =
+        (λ i. put_ins (cols_is tree (entry_at s (Ins row)) w i) (sid_is i) row (list_is tree (entry_at s (Ins row)) w i))
+        ∙ sym insert_is
 
     pub insert_free : is_some (inserted_row tree.key_cols sid (key_of tree.key_cols row) tree.entries) ≡ false
-    insert_free = (λ i. is_some (inserted_row (cols_is tree (entry_at s (Ins row)) w i) (sid_is i) (key_now i) (list_is tree (entry_at s (Ins row)) w i))) ∙ free_is
+    insert_free =
+        (λ i. is_some
+        (inserted_row (cols_is tree (entry_at s (Ins row)) w i) (sid_is i) (key_now i) (list_is tree (entry_at s (Ins row)) w i)))
+        ∙ free_is
 
     pub insert_room : length (put_ins tree.key_cols sid row tree.entries) ≤ 2 ^ 40
     insert_room = subst (λ (zs : List Entry). length zs ≤ 2 ^ 40) (sym insert_now) w.room
 
-    pub insert_next : (new : Tree) → new ≡ record tree { entries = put_ins tree.key_cols sid row tree.entries } → new ≡ next_tree tree (entry_at s (Ins row)) w
+    pub insert_next : (new : Tree) → new ≡ record tree { entries = put_ins tree.key_cols sid row tree.entries }
+        → new ≡ next_tree tree (entry_at s (Ins row)) w
     insert_next new new_is = new_is ∙ (λ i. record { key_cols = cols_is tree (entry_at s (Ins row)) w i; entries = insert_now i })
 
 -- the row of an insert has the column
@@ -205,9 +258,12 @@ module _ (tree : Tree) (s : ℕ) (gone : Key) (w : IsNext tree (entry_at s (Del 
   pub delete_there : T (is_some (row_at (table_with w.t w.x) w.key))
   delete_there = fit_now tree del_entry w
 
-  delete_is : canonical_entries w.t (effects_with w.x w.key (Del gone)) ≡ cond (is_some (row_inserted old)) (take_ins w.schema.key_cols (rank w.key w.t) w.key (canonical_entries w.t w.x)) (put_del w.schema.key_cols (rank w.key w.t) w.key (canonical_entries w.t w.x))
+  delete_is : canonical_entries w.t (effects_with w.x w.key (Del gone)) ≡ cond (is_some (row_inserted old))
+      (take_ins w.schema.key_cols (rank w.key w.t) w.key (canonical_entries w.t w.x))
+      (put_del w.schema.key_cols (rank w.key w.t) w.key (canonical_entries w.t w.x))
   delete_is =
-      deleted w.schema.key_cols 0 w.t w.x (keyed_table tree del_entry w) (keyed tree del_entry w) (fitting tree del_entry w) w.key old refl (fit_before tree del_entry w) (fit_old tree del_entry w)
+      deleted w.schema.key_cols 0 w.t w.x (keyed_table tree del_entry w) (keyed tree del_entry w)
+      (fitting tree del_entry w) w.key old refl (fit_before tree del_entry w) (fit_old tree del_entry w)
       ∙ deletes_by w.schema.key_cols (rank w.key w.t) w.key old (canonical_entries w.t w.x)
 
   delete_may : MayEdit w.schema.key_cols (rank w.key w.t) (Delete w.key) old (canonical_entries w.t w.x)
@@ -223,7 +279,9 @@ module _ (tree : Tree) (s : ℕ) (gone : Key) (w : IsNext tree (entry_at s (Del 
     take_now : remove tree.entries n ≡ canonical_entries w.t (effects_with w.x w.key (Del gone))
     take_now =
         ap (λ (zs : List Entry). remove zs n) (list_is tree del_entry w) ∙ sym found.0.taken
-        ∙ sym (delete_is ∙ ap (λ b. cond b (take_ins w.schema.key_cols (rank w.key w.t) w.key (canonical_entries w.t w.x)) (put_del w.schema.key_cols (rank w.key w.t) w.key (canonical_entries w.t w.x))) found.1)
+        ∙ sym (delete_is
+        ∙ ap (λ b. cond b (take_ins w.schema.key_cols (rank w.key w.t) w.key (canonical_entries w.t w.x))
+        (put_del w.schema.key_cols (rank w.key w.t) w.key (canonical_entries w.t w.x))) found.1)
 
     pub take_next : (new : Tree) → new ≡ record tree { entries = remove tree.entries n } → new ≡ next_tree tree del_entry w
     take_next new new_is = new_is ∙ (λ i. record { key_cols = cols_is tree del_entry w i; entries = take_now i })
@@ -238,7 +296,9 @@ module _ (tree : Tree) (s : ℕ) (gone : Key) (w : IsNext tree (entry_at s (Del 
     pub delete_now : put_del tree.key_cols q gone tree.entries ≡ canonical_entries w.t (effects_with w.x w.key (Del gone))
     delete_now =
         (λ i. put_del (cols_is tree del_entry w i) (on_base.0 i) (w.own i) (list_is tree del_entry w i))
-        ∙ sym (delete_is ∙ ap (λ b. cond b (take_ins w.schema.key_cols (rank w.key w.t) w.key (canonical_entries w.t w.x)) (put_del w.schema.key_cols (rank w.key w.t) w.key (canonical_entries w.t w.x))) on_base.1)
+        ∙ sym (delete_is
+        ∙ ap (λ b. cond b (take_ins w.schema.key_cols (rank w.key w.t) w.key (canonical_entries w.t w.x))
+        (put_del w.schema.key_cols (rank w.key w.t) w.key (canonical_entries w.t w.x))) on_base.1)
 
     pub delete_free : has_delete q tree.entries ≡ false
     delete_free =
@@ -248,7 +308,8 @@ module _ (tree : Tree) (s : ℕ) (gone : Key) (w : IsNext tree (entry_at s (Del 
     pub delete_room : length (put_del tree.key_cols q gone tree.entries) ≤ 2 ^ 40
     delete_room = subst (λ (zs : List Entry). length zs ≤ 2 ^ 40) (sym delete_now) w.room
 
-    pub delete_next : (new : Tree) → new ≡ record tree { entries = put_del tree.key_cols q gone tree.entries } → new ≡ next_tree tree del_entry w
+    pub delete_next : (new : Tree) → new ≡ record tree { entries = put_del tree.key_cols q gone tree.entries }
+        → new ≡ next_tree tree del_entry w
     delete_next new new_is = new_is ∙ (λ i. record { key_cols = cols_is tree del_entry w i; entries = delete_now i })
 
 -- ---- a modify
@@ -263,18 +324,26 @@ module _ (tree : Tree) (s col : ℕ) (value : Value) (w : IsNext tree (entry_at 
   pub modify_there : T (is_some (row_at (table_with w.t w.x) w.key))
   modify_there = fit_now tree mod_entry w
 
-  modify_is : canonical_entries w.t (effects_with w.x w.key (Mod col value)) ≡ cond (is_some (row_inserted before)) (set_ins w.schema.key_cols (rank w.key w.t) w.key col value (canonical_entries w.t w.x)) (put_mod w.schema.key_cols (rank w.key w.t) col value (canonical_entries w.t w.x))
+  modify_is : canonical_entries w.t (effects_with w.x w.key (Mod col value)) ≡ cond (is_some (row_inserted before))
+      (set_ins w.schema.key_cols (rank w.key w.t) w.key col value (canonical_entries w.t w.x))
+      (put_mod w.schema.key_cols (rank w.key w.t) col value (canonical_entries w.t w.x))
   modify_is =
-      modified w.schema.key_cols 0 w.t w.x (keyed_table tree mod_entry w) (keyed tree mod_entry w) (fitting tree mod_entry w) w.key col value before refl (fit_before tree mod_entry w) (fit_old tree mod_entry w)
+      modified w.schema.key_cols 0 w.t w.x (keyed_table tree mod_entry w) (keyed tree mod_entry w)
+      (fitting tree mod_entry w) w.key col value before refl (fit_before tree mod_entry w) (fit_old tree mod_entry w)
       ∙ sets_by w.schema.key_cols (rank w.key w.t) w.key col value before (canonical_entries w.t w.x)
 
   cell_fit : T (cell_fits_schema w.schema col value)
   cell_fit = passes (cell_fits_schema w.schema col value) w.cell
 
   modify_may : MayEdit w.schema.key_cols (rank w.key w.t) (Set w.key col value) before (canonical_entries w.t w.x)
-  modify_may = may_set w.schema w.t w.x w.key col value cell_fit (outside w.schema col value cell_fit) before (at_key tree mod_entry w) (fit_old tree mod_entry w)
+  modify_may =
+      may_set w.schema w.t w.x w.key col value cell_fit (outside w.schema col value cell_fit) before (at_key tree mod_entry w)
+      (fit_old tree mod_entry w)
 
-  may_parts : (is_some (row_inserted before) ≡ true → IsSomeAnd (inserted_row w.schema.key_cols (rank w.key w.t) w.key (canonical_entries w.t w.x)) (λ row. col < length row)) × (is_some (row_inserted before) ≡ true → w.schema.key_cols ≤ col) × (is_some (row_inserted before) ≡ false → IsFalse (has_delete (rank w.key w.t) (canonical_entries w.t w.x)))
+  may_parts : (is_some (row_inserted before) ≡ true
+      → IsSomeAnd (inserted_row w.schema.key_cols (rank w.key w.t) w.key (canonical_entries w.t w.x)) (λ row. col < length row)) ×
+      (is_some (row_inserted before) ≡ true → w.schema.key_cols ≤ col) × (is_some (row_inserted before) ≡ false
+      → IsFalse (has_delete (rank w.key w.t) (canonical_entries w.t w.x)))
   may_parts = may_set_by w.schema.key_cols (rank w.key w.t) w.key col value before (canonical_entries w.t w.x) modify_may
 
   module _ (n : ℕ) (only : (place : Place) → IsAtRid tree.entries s place → place ≡ Inserted n) where
@@ -297,11 +366,14 @@ module _ (tree : Tree) (s col : ℕ) (value : Value) (w : IsNext tree (entry_at 
     pub set_outside : tree.key_cols ≤ col
     set_outside = let le = may_parts.1 row_found.1 in omega (arith, le, cols_is tree mod_entry w)
 
-    set_now : set tree.entries n (entry_at item.sid (change_with_cell col value item.change)) ≡ canonical_entries w.t (effects_with w.x w.key (Mod col value))
+    set_now : set tree.entries n (entry_at item.sid (change_with_cell col value item.change)) ≡ canonical_entries w.t
+        (effects_with w.x w.key (Mod col value))
     set_now =
         ap (λ (zs : List Entry). set zs n (entry_at item.sid (change_with_cell col value item.change))) (list_is tree mod_entry w)
         ∙ sym (row_found.0.with_cell col value)
-        ∙ sym (modify_is ∙ ap (λ b. cond b (set_ins w.schema.key_cols (rank w.key w.t) w.key col value (canonical_entries w.t w.x)) (put_mod w.schema.key_cols (rank w.key w.t) col value (canonical_entries w.t w.x))) row_found.1)
+        ∙ sym (modify_is
+        ∙ ap (λ b. cond b (set_ins w.schema.key_cols (rank w.key w.t) w.key col value (canonical_entries w.t w.x))
+        (put_mod w.schema.key_cols (rank w.key w.t) col value (canonical_entries w.t w.x))) row_found.1)
 
     pub set_next : (new : Tree)
         → ((r : Entry) → slice_get tree.entries n ≡ Some r
@@ -323,7 +395,9 @@ module _ (tree : Tree) (s col : ℕ) (value : Value) (w : IsNext tree (entry_at 
     pub modify_now : put_mod tree.key_cols q col value tree.entries ≡ canonical_entries w.t (effects_with w.x w.key (Mod col value))
     modify_now =
         (λ i. put_mod (cols_is tree mod_entry w i) (row_on_base.0 i) col value (list_is tree mod_entry w i))
-        ∙ sym (modify_is ∙ ap (λ b. cond b (set_ins w.schema.key_cols (rank w.key w.t) w.key col value (canonical_entries w.t w.x)) (put_mod w.schema.key_cols (rank w.key w.t) col value (canonical_entries w.t w.x))) row_on_base.1)
+        ∙ sym (modify_is
+        ∙ ap (λ b. cond b (set_ins w.schema.key_cols (rank w.key w.t) w.key col value (canonical_entries w.t w.x))
+        (put_mod w.schema.key_cols (rank w.key w.t) col value (canonical_entries w.t w.x))) row_on_base.1)
 
     pub modify_free : has_delete q tree.entries ≡ false
     modify_free =
@@ -332,27 +406,44 @@ module _ (tree : Tree) (s col : ℕ) (value : Value) (w : IsNext tree (entry_at 
     pub modify_room : length (put_mod tree.key_cols q col value tree.entries) ≤ 2 ^ 40
     modify_room = subst (λ (zs : List Entry). length zs ≤ 2 ^ 40) (sym modify_now) w.room
 
-    pub modify_next : (new : Tree) → new ≡ record tree { entries = put_mod tree.key_cols q col value tree.entries } → new ≡ next_tree tree mod_entry w
+    pub modify_next : (new : Tree) → new ≡ record tree { entries = put_mod tree.key_cols q col value tree.entries }
+        → new ≡ next_tree tree mod_entry w
     modify_next new new_is = new_is ∙ (λ i. record { key_cols = cols_is tree mod_entry w i; entries = modify_now i })
 
--- an entry that is put in at a SID, with its change told
-module _ (tree : Tree) (moved : Entry) (s : ℕ) (c : Change) (is : moved ≡ entry_at s c) where
-  pub put_free : MayBePut tree.key_cols s c tree.entries → MayBePut tree.key_cols moved.sid moved.change tree.entries
-  put_free h = subst (λ (m : Entry). MayBePut tree.key_cols m.sid m.change tree.entries) (sym is) h
+-- ---- whatever is put in
 
-  pub put_small : s < 2 ^ 32 → moved.sid < 2 ^ 32
-  put_small h = subst (λ (m : Entry). m.sid < 2 ^ 32) (sym is) h
+-- a change that is put in at a place may be put there
+pub put_may : (tree : Tree) (s : ℕ) (c : Change) (w : IsNext tree (entry_at s c)) (sid start end : ℕ)
+    → IsFold tree.key_cols tree.entries s c (Put sid start end)
+    → IsOnlyFold tree.key_cols tree.entries s c (Put sid start end) → MayBePutAt tree.key_cols sid c tree.entries start end
+put_may tree s (Ins row) w sid start end fold only = record {
+  run = (insert_split tree s row w sid start end only, fold.1);
+  free = insert_free tree s row w sid start end only;
+  small = insert_small tree s row w sid start end only;
+  room = insert_room tree s row w sid start end only;
+}
+put_may tree s (Del key) w sid start end fold only = record {
+  run = fold.1;
+  free = delete_free tree s key w sid only;
+  small = delete_small tree s key w sid only;
+  room = delete_room tree s key w sid only;
+}
+put_may tree s (Mod col value) w sid start end fold only = record {
+  run = fold.1;
+  free = modify_free tree s col value w sid only;
+  small = modify_small tree s col value w sid only;
+  room = modify_room tree s col value w sid only;
+}
 
-  pub put_room : length (entries_with tree.key_cols s c tree.entries) ≤ 2 ^ 40
-      → length (entries_with tree.key_cols moved.sid moved.change tree.entries) ≤ 2 ^ 40
-  put_room h =
-      subst (λ (m : Entry). length (entries_with tree.key_cols m.sid m.change tree.entries) ≤ 2 ^ 40) (sym is) h
-
-  pub put_told : (new : Tree) → new ≡ record tree { entries = entries_with tree.key_cols moved.sid moved.change tree.entries }
-      → new ≡ record tree { entries = entries_with tree.key_cols s c tree.entries }
-  put_told new new_is =
-      new_is ∙ ap (λ (m : Entry). record tree { entries = entries_with tree.key_cols m.sid m.change tree.entries }) is
+-- and makes the next tree
+pub put_next : (tree : Tree) (s : ℕ) (c : Change) (sid start end : ℕ) → IsOnlyFold tree.key_cols tree.entries s c (Put sid start end)
+    → (new : Tree) → new ≡ record tree { entries = entries_with tree.key_cols sid c tree.entries } → (w : IsNext tree (entry_at s c)) →
+    new ≡ next_tree tree (entry_at s c) w
+put_next tree s (Ins row) sid start end only new is w = insert_next tree s row w sid start end only new is
+put_next tree s (Del key) sid start end only new is w = delete_next tree s key w sid only new is
+put_next tree s (Mod col value) sid start end only new is w = modify_next tree s col value w sid only new is
 
 -- what holds of each step with a change holds of those with an equal one
-pub told : (tree : Tree) (s : ℕ) (d c : Change) → d ≡ c → (P : (e : Change) → IsNext tree (entry_at s e) → Type 0) → ((w : IsNext tree (entry_at s c)) → P c w) → (w : IsNext tree (entry_at s d)) → P d w
+pub told : (tree : Tree) (s : ℕ) (d c : Change) → d ≡ c → (P : (e : Change) → IsNext tree (entry_at s e) → Type 0)
+    → ((w : IsNext tree (entry_at s c)) → P c w) → (w : IsNext tree (entry_at s d)) → P d w
 told tree s d c is P all = let Q = λ (e : Change). (w : IsNext tree (entry_at s e)) → P e w in subst Q (sym is) all

@@ -10,6 +10,7 @@ ghost use Rattle.model.specs.Rebasing.{clash_of_entries, clash_of_changes, colum
 ghost use Rattle.model.specs.declared.entry.Entry.{Entry};
 ghost use Rattle.layers.specs.Serialization.{clash_cmp, clash_with_head, IsClashBeside};
 
+use crate::entry::entry_from;
 use delta::{Change, ChangePlace, DeltaTree, SharedEntry};
 use model::{Clash, ClashKind, ConflictRule};
 use std::cmp::Ordering;
@@ -97,7 +98,7 @@ pub(crate) fn clash_beside(
     let there = if j == place.index {
         place.entry
     } else {
-        other.entry(j)
+        entry_from(other, j)
     };
     clash_at(rule, other.key_cols(), i, entry, j, there)
 }
@@ -111,7 +112,8 @@ pub(crate) fn clash_at(
     j: usize,
     there: Option<&SharedEntry>,
 ) -> Option<Clash>
-    ensures { (es : List Entry) → option_copied there.entry ≡ slice_get es j → result ≡ clash_with_head rule key_cols i entry.now j (drop j es) }
+    ensures { (es : List Entry) → option_copied there.entry ≡ slice_get es j → result
+        ≡ clash_with_head rule key_cols i entry.now j (drop j es) }
 {
     match there {
         Some(found) => clash_of_kind(i, j, clash_of_entries(rule, key_cols, entry, found)),

@@ -5,7 +5,7 @@ ghost use Rattle.layers.specs.Propagation.{IsNext, next_tree, composed_tree};
 
 use crate::entry::entry_of;
 use crate::walk::fold_all;
-use delta::{Change, DeltaTree, Place, SharedEntry};
+use delta::{Change, DeltaTree, Fold, SharedEntry};
 use values::NoMemory;
 
 /// Upper entries are edited in where the lower tree has at least so many times as many.
@@ -50,18 +50,13 @@ fn fold_entry(tree: &mut DeltaTree, entry: &SharedEntry) -> Result<(), NoMemory>
     requires { IsNext tree.old entry.now }
     ensures ok { OnOk result ((w : IsNext tree.old entry.now) → tree.new ≡ next_tree tree.old entry.now w) }
 {
-    match entry.change() {
-        Change::Ins(row) => {
-            let sid = tree.find_gap(entry.sid(), row);
-            tree.put_shared(entry.with_sid(sid)?)
-        }
-        Change::Del(_) => match tree.find_row(entry.sid()) {
-            Place::Inserted(index) => tree.take_at(index),
-            Place::Base(sid) => tree.put_shared(entry.with_sid(sid)?),
-        },
-        Change::Mod(col, value) => match tree.find_row(entry.sid()) {
-            Place::Inserted(index) => tree.set_at(index, *col, value.copy()?),
-            Place::Base(sid) => tree.put_shared(entry.with_sid(sid)?),
+    let change = entry.change();
+    match tree.find_fold(entry.sid(), change) {
+        Fold::Put(sid, start, end) => tree.put_run(start, end, entry.with_sid(sid)?),
+        Fold::Into(index) => match change {
+            Change::Ins(_) => unreachable!(),
+            Change::Del(_) => tree.take_at(index),
+            Change::Mod(col, value) => tree.set_at(index, *col, value.copy()?),
         },
     }
 }

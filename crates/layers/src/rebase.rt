@@ -64,7 +64,8 @@ fn put(
     entries: &mut Vec<SharedEntry>,
 ) -> Result<(), NoMemory>
     requires { slice_get tree.now.entries index ≡ Some entry.now }
-    ensures { OnOk result (put_entries (index + 1) tree.now.entries entries.new.items ≡ put_entries index tree.now.entries entries.old.items ++ entry_at sid entry.now.change ∷ []) }
+    ensures { OnOk result (put_entries (index + 1) tree.now.entries entries.new.items
+        ≡ put_entries index tree.now.entries entries.old.items ++ entry_at sid entry.now.change ∷ []) }
 {
     if entries.is_empty() {
         if sid == entry.sid() {
@@ -86,7 +87,10 @@ fn first_entries(
     ensures { IfOk result (λ entries. entries.items ≡ take count tree.now.entries) }
 {
     let mut entries = Vec::with_capacity(alloc, tree.len())?;
-    for entry in tree.nodes().iter(0, count) {
+    for entry in tree.iter() {
+        if entries.len() == count {
+            break;
+        }
         entries.push(entry.copy()?)?;
     }
     Ok(entries)

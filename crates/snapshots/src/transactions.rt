@@ -198,7 +198,8 @@ fn assert_parts(rt: &impl Abort, parts: &Parts, deleted: &Key, absent: &Key) {
     assert!(rt; parts.client == 3);
     assert!(rt; parts.begin == 7);
     assert!(rt; parts.tree.len() == 1);
-    assert!(rt; parts.tree.has_delete(2));
+    assert!(rt; parts.tree.entries_at(2).next().is_some());
+    assert!(rt; parts.tree.total() == -1);
     assert!(rt; parts.writes.len() == 2);
     assert_delete(rt, &parts.writes[0], deleted, WriteReply::Done);
     assert_delete(rt, &parts.writes[1], absent, WriteReply::Missing);

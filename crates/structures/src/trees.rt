@@ -5,9 +5,9 @@
 //! That a refused growth leaves the entries shows under `rt try --test --fail-alloc N`, for N from 1 on: a test ends well
 //! after it has looked at them. (Where a row, a key or a text that a test makes for itself is refused, it ends with that
 //! error.)
-ghost use Rattle.std.specs.Prelude.{◌≡◌, ◌<◌, IsTrue, IfOk, IfSome, IsSomeAnd, length};
+ghost use Rattle.std.specs.Prelude.{◌≡◌, ◌<◌, ◌^◌, IsTrue, IfOk, IfSome, IsSomeAnd, length};
 ghost use Rattle.values.specs.Shape.{key_of};
-ghost use Rattle.delta.specs.Lookups.{inserted_row};
+ghost use Rattle.delta.specs.Lookups.{has_delete, inserted_row};
 
 mod bulk;
 mod depths;
@@ -18,12 +18,24 @@ mod removals;
 mod steps;
 
 use crate::assertions::{assert_holds_at, assert_text};
-use delta::DeltaTree;
+use delta::{Change, DeltaTree};
 use fixtures::{Step, entries_text, item, key};
 use std::alloc::Global;
 use std::process::Abort;
 use std::test::Fail;
 use values::{Key, NoMemory, Row, Value, ValueRef};
+
+/// Whether the base row at the SID is deleted.
+fn is_deleted(tree: &DeltaTree, sid: u64) -> bool
+    ensures { result ≡ has_delete sid tree.now.entries }
+{
+    for entry in tree.entries_at(sid) {
+        if matches!(entry.change(), Change::Del(_)) {
+            return true;
+        }
+    }
+    false
+}
 
 /// Puts the row in, where its key isn't inserted at the SID.
 fn put_ins(rt: &impl Abort, tree: &mut DeltaTree, sid: u64, row: Row) -> Result<(), NoMemory>
@@ -32,7 +44,7 @@ fn put_ins(rt: &impl Abort, tree: &mut DeltaTree, sid: u64, row: Row) -> Result<
 {
     assert!(rt; sid < 100_000);
     assert!(rt; tree.len() < 100_000);
-    assert!(rt; tree.find_insert(sid, row.key(1)).is_none());
+    assert!(rt; tree.find_key(sid, row.key(1)).row.is_none());
     tree.put_ins(sid, row)
 }
 
@@ -43,7 +55,7 @@ fn put_del(rt: &impl Abort, tree: &mut DeltaTree, sid: u64, key: Key) -> Result<
 {
     assert!(rt; sid < 100_000);
     assert!(rt; tree.len() < 100_000);
-    assert!(rt; !tree.has_delete(sid));
+    assert!(rt; !is_deleted(tree, sid));
     tree.put_del(sid, key)
 }
 
@@ -60,7 +72,7 @@ fn put_mod(
 {
     assert!(rt; sid < 100_000);
     assert!(rt; tree.len() < 100_000);
-    assert!(rt; !tree.has_delete(sid));
+    assert!(rt; !is_deleted(tree, sid));
     tree.put_mod(sid, col, value)
 }
 
@@ -69,15 +81,17 @@ fn take_ins(rt: &impl Abort, tree: &mut DeltaTree, sid: u64, key: &Key) -> Resul
     requires keyed { tree.old.key_cols ≡ 1 }
     ensures keyed { tree.new.key_cols ≡ 1 }
 {
-    assert!(rt; tree.find_insert(sid, key.cells()).is_some());
+    assert!(rt; sid < 100_000);
+    assert!(rt; tree.find_key(sid, key.cells()).row.is_some());
     tree.take_ins(sid, key)
 }
 
 /// Whether a row that has the column is inserted with the key at the SID.
 fn has_cell(tree: &DeltaTree, sid: u64, key: &Key, col: usize) -> bool
+    requires { sid < 2 ^ 63 }
     ensures { IsTrue result → IsSomeAnd (inserted_row tree.now.key_cols sid key.now tree.now.entries) (λ row. col < length row) }
 {
-    match tree.find_insert(sid, key.cells()) {
+    match tree.find_key(sid, key.cells()).row {
         Some(row) => col < row.cells().len(),
         None => false,
     }
@@ -96,6 +110,7 @@ fn set_ins(
     ensures keyed { tree.new.key_cols ≡ 1 }
 {
     assert!(rt; col > 0);
+    assert!(rt; sid < 100_000);
     assert!(rt; has_cell(tree, sid, key, col));
     tree.set_ins(sid, key, col, value)
 }
@@ -246,7 +261,6 @@ fn a_replaced_row_is_an_insert_and_a_delete_at_one_sid(rt: HostRuntime) -> Resul
 #[test]
 fn a_tree_with_no_entries_says_so(rt: HostRuntime) -> Result<(), Fail> {
     let empty = DeltaTree::new(rt.alloc(), 1);
-    assert!(rt; empty.is_empty());
     assert!(rt; empty.len() == 0);
     assert!(rt; empty.total() == 0);
     assert!(rt; empty.iter().next().is_none());
@@ -261,7 +275,8 @@ fn assert_insert(
     (sid, id, there): (u64, i64, bool),
 ) -> Result<(), NoMemory> {
     let key = key(alloc, id)?;
-    let found = tree.find_insert(sid, key.cells()).is_some();
+    assert!(rt; sid < 100_000);
+    let found = tree.find_key(sid, key.cells()).row.is_some();
     assert_holds_at(rt, found == there, sid);
     Ok(())
 }
@@ -286,11 +301,10 @@ fn a_tree_says_what_is_in_it(rt: HostRuntime) -> Result<(), Fail> {
     let Some(tree) = changed(&rt, rt.alloc(), &STEPS)? else {
         return Ok(());
     };
-    assert!(rt; !tree.is_empty());
     assert!(rt; tree.len() == 4);
     assert!(rt; tree.total() == -1);
     for (sid, deleted) in &DELETES {
-        assert_holds_at(&rt, tree.has_delete(*sid) == *deleted, *sid);
+        assert_holds_at(&rt, is_deleted(&tree, *sid) == *deleted, *sid);
     }
     for case in &INSERTS {
         assert_insert(&rt, rt.alloc(), &tree, *case)?;

@@ -42,7 +42,8 @@ impl FoundRow {
     pub(crate) fn at(place: &KeyPlace<'_>, in_base: bool) -> FoundRow
         ensures there { is_there result ≡ (is_some (option_copied place.now.row) || (in_base && not (is_deleted place.now.base))) }
         ensures inserted { is_inserted result ≡ is_some (option_copied place.now.row) }
-        ensures kept { IsTrue (is_kept result) → IsTrue in_base × IsNone (option_copied place.now.row) × (place.now.base ≡ base_change.Kept) }
+        ensures kept { IsTrue (is_kept result) → IsTrue in_base × IsNone (option_copied place.now.row)
+            × (place.now.base ≡ base_change.Kept) }
     {
         match (place.row, place.base) {
             (Some(_), _) => FoundRow::Inserted,
@@ -93,10 +94,17 @@ pub(crate) fn edit(
     requires may { IsTrue (is_done reply) → MayBeEdited tree.old.key_cols found.sid (is_inserted found.row) write.now tree.old.entries }
     requires sid { found.sid ≤ MAX_ROWS }
     requires ordered { IsTrue (are_ordered tree.old.key_cols tree.old.entries) }
-    requires place { IsSplit (stands_before (insert_cmp tree.old.key_cols (key_of_write tree.old.key_cols write.now)) found.sid) tree.old.entries found.index }
+    requires place { IsSplit
+        (stands_before
+        (insert_cmp tree.old.key_cols (key_of_write tree.old.key_cols write.now)) found.sid) tree.old.entries found.index }
     requires kept { IsTrue (is_kept found.row) → IsSplit (stands_before past_cmp found.sid) tree.old.entries found.index }
-    requires room { IsTrue (is_done reply) → length (edited tree.old.key_cols found.sid (is_inserted found.row) write.now tree.old.entries) ≤ 2 ^ 40 }
-    ensures ok { OnOk result (tree.new ≡ record tree.old { entries = cond (is_done reply) (edited tree.old.key_cols found.sid (is_inserted found.row) write.now tree.old.entries) tree.old.entries }) }
+    requires room { IsTrue (is_done reply)
+        → length (edited tree.old.key_cols found.sid (is_inserted found.row) write.now tree.old.entries) ≤ 2 ^ 40 }
+    ensures ok { OnOk result (tree.new
+        ≡ record tree.old {
+          entries = cond (is_done reply)
+              (edited tree.old.key_cols found.sid (is_inserted found.row) write.now tree.old.entries) tree.old.entries;
+        }) }
     ensures err { OnErr result (tree.new ≡ tree.old) }
 {
     if !is_done(reply) {
@@ -106,7 +114,7 @@ pub(crate) fn edit(
     let inserted = row.is_inserted();
     let kept = row.is_kept();
     match write {
-        Write::Insert(row) => tree.put_at(index, sid, row.copy()?),
+        Write::Insert(row) => tree.put_change_at(index, sid, Change::Ins(row.copy()?)),
         Write::Delete(_) if inserted => tree.take_at(index),
         Write::Delete(key) if kept => tree.put_change_at(index, sid, Change::Del(key.copy()?)),
         Write::Delete(key) => tree.put_del(sid, key.copy()?),

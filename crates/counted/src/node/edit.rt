@@ -129,7 +129,8 @@ fn replaced(
     requires index { index < length children.now }
     requires grown { IsGrown (depth_of children.now) 7 (grown_items grown) grown }
     requires few { length (all_items children.now) + length (grown_items grown) < 2 ^ 62 }
-    ensures items { IfOk result (λ v. all_items v.items ≡ all_items (take index children.now) ++ grown_items grown ++ all_items (drop (index + 1) children.now)) }
+    ensures items { IfOk result (λ v. all_items v.items
+        ≡ all_items (take index children.now) ++ grown_items grown ++ all_items (drop (index + 1) children.now)) }
     ensures few_more { IfOk result (λ v. length v.items ≤ length children.now + 1) }
     ensures not_fewer { IfOk result (λ v. length children.now ≤ length v.items + 1) }
     ensures each { IfOk result (λ v. All (IsChild (depth_of children.now)) v.items) }
@@ -164,7 +165,8 @@ fn mended(
     requires depth { node.depth ≡ depth_of children.now }
     requires seven { 7 ≤ node.width }
     requires few { length (all_items children.now) + length node.items < 2 ^ 62 }
-    ensures items { IfOk result (λ v. all_items v.items ≡ all_items (take index children.now) ++ node.items ++ all_items (drop (index + 1) children.now)) }
+    ensures items { IfOk result (λ v. all_items v.items
+        ≡ all_items (take index children.now) ++ node.items ++ all_items (drop (index + 1) children.now)) }
     ensures few_more { IfOk result (λ v. length v.items ≤ length children.now + 1) }
     ensures not_fewer { IfOk result (λ v. length children.now ≤ length v.items + 1) }
     ensures each { IfOk result (λ v. All (IsChild (depth_of children.now)) v.items) }

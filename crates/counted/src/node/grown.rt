@@ -1,11 +1,14 @@
 //! What a node grows to, and what is kept of it.
 ghost use Rattle.std.specs.Prelude.{◌≡◌, ◌+◌, ◌-◌, ◌^◌, ◌<◌, ◌≤◌, ◌++◌, length, take, drop, slice_get, Some, ℕ, IfOk, OnOk};
 ghost use Rattle.std.specs.List.{All};
-ghost use Rattle.counted.specs.Grown.{IsGrown, grown_items, grown_width, AreGrown, IsSameChild, AreCounts};
+ghost use Rattle.model.specs.declared.entry.Entry.{Entry};
+ghost use Rattle.counted.specs.Grown.{IsGrown, grown_items, grown_width, AreGrown, IsSameChild, IsSized, AreCounts};
+ghost use Rattle.counted.specs.Heads.{head_of};
 ghost use Rattle.counted.specs.Shapes.{IsChild, all_items, items_of, depth_of};
 
 use crate::SharedEntry;
 use crate::children::{count_of, net_of};
+use crate::entry::Head;
 use crate::leaf::total_of;
 use crate::node::{Body, Child, Node};
 use std::alloc::{AllocError, Global};
@@ -44,14 +47,15 @@ impl Node {
         }
     }
 
-    /// Its first entry.
-    fn head(&self) -> &SharedEntry
+    /// What is kept of its first entry.
+    pub(crate) fn head(&self) -> Head
         requires full { 8 ≤ self.now.width }
-        ensures { slice_get self.now.items 0 ≡ Some result.now }
+        ensures head { (e : Entry) → slice_get self.now.items 0 ≡ Some e → result ≡ head_of e }
+        ensures sized { IsSized self.now }
     {
         match &self.body {
-            Body::Leaf(entries) => &entries[0],
-            Body::Inner(children) => &children[0].head,
+            Body::Leaf(entries) => entries[0].head(),
+            Body::Inner(children) => children[0].head,
         }
     }
 }
@@ -65,7 +69,7 @@ impl Child {
         ensures items { IfOk result (λ c. items_of c ≡ node.items) }
     {
         let counts = node.counts();
-        let head = node.head().copy()?;
+        let head = node.head();
         Ok(Child {
             count: counts.count,
             net: counts.net,
@@ -75,13 +79,13 @@ impl Child {
     }
 
     /// The same child.
-    fn copy(&self) -> Result<Child, AllocError>
+    pub(crate) fn copy(&self) -> Result<Child, AllocError>
         ensures { IfOk result (IsSameChild self.now) }
     {
         Ok(Child {
             count: self.count,
             net: self.net,
-            head: self.head.copy()?,
+            head: self.head,
             node: Arc::try_clone(&self.node)?,
         })
     }
@@ -99,7 +103,8 @@ pub(crate) fn with_grown(
     requires within { to ≤ length children.now }
     requires few { length (grown_items grown) < 2 ^ 62 }
     requires full { 8 ≤ grown_width grown }
-    ensures items { IfOk result (λ v. all_items v.items ≡ all_items (take from children.now) ++ grown_items grown ++ all_items (drop to children.now)) }
+    ensures items { IfOk result (λ v. all_items v.items
+        ≡ all_items (take from children.now) ++ grown_items grown ++ all_items (drop to children.now)) }
     ensures few_more { IfOk result (λ v. length v.items + (to - from) ≤ length children.now + 2) }
     ensures not_fewer { IfOk result (λ v. length children.now + 1 ≤ length v.items + (to - from)) }
     ensures each { IfOk result (λ v. (depth : ℕ) → All (IsChild depth) children.now → AreGrown depth grown → All (IsChild depth) v.items) }
@@ -118,7 +123,8 @@ fn push_grown(alloc: Global, out: &mut Vec<Child>, grown: Grown) -> Result<(), A
     ensures items { OnOk result (all_items out.new.items ≡ all_items out.old.items ++ grown_items grown) }
     ensures some { OnOk result (length out.old.items + 1 ≤ length out.new.items) }
     ensures few_more { OnOk result (length out.new.items ≤ length out.old.items + 2) }
-    ensures each { OnOk result ((depth : ℕ) → AreGrown depth grown → All (IsChild depth) out.old.items → All (IsChild depth) out.new.items) }
+    ensures each { OnOk result ((depth : ℕ) → AreGrown depth grown → All (IsChild depth) out.old.items
+        → All (IsChild depth) out.new.items) }
 {
     match grown {
         Grown::One(node) => push_node(alloc, out, node),
@@ -145,7 +151,8 @@ pub(crate) fn push_node(alloc: Global, out: &mut Vec<Child>, node: Node) -> Resu
 pub(crate) fn push_children(out: &mut Vec<Child>, children: &[Child]) -> Result<(), AllocError>
     ensures items { OnOk result (all_items out.new.items ≡ all_items out.old.items ++ all_items children.now) }
     ensures count { OnOk result (length out.new.items ≡ length out.old.items + length children.now) }
-    ensures each { OnOk result ((depth : ℕ) → All (IsChild depth) out.old.items → All (IsChild depth) children.now → All (IsChild depth) out.new.items) }
+    ensures each { OnOk result ((depth : ℕ) → All (IsChild depth) out.old.items → All (IsChild depth) children.now
+        → All (IsChild depth) out.new.items) }
 {
     for child in children {
         out.push(child.copy()?)?;

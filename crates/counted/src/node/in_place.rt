@@ -1,124 +1,186 @@
-//! Edits in place: a node that nobody shares is changed where it stands, and no node is made.
-ghost use Rattle.std.specs.Prelude.{◌≡◌, ◌∷◌, [], ◌+◌, ◌-◌, ◌^◌, ◌<◌, ◌≤◌, ◌+ℤ◌, ◌≤ℤ◌, pos, length, IfOk, IfErr, IfSome, IfNone};
-ghost use Rattle.counted.specs.Edits.{IsPut, edited};
+//! Edits in place: a node that others share is copied once, where the descent comes to it, and is changed in place from then on.
+ghost use Rattle.std.specs.Prelude.{◌≡◌, ◌+◌, ◌^◌, ◌<◌, ◌≤◌, Some, None, length, IfOk, IfErr, OnOk};
+ghost use Rattle.std.specs.Arc.{arc_value};
+ghost use Rattle.counted.specs.Edits.{IsEdit, IsEditedNode, put_items, edited};
+ghost use Rattle.counted.specs.Shapes.{IsChild, items_of};
 
 use crate::children::child_at;
+use crate::leaf::{count_put, push_entries};
+use crate::node::grown::push_children;
 use crate::node::{Body, Child, Node};
 use crate::{CountedTree, SharedEntry};
-use std::alloc::AllocError;
+use std::alloc::{AllocError, Global};
 use std::sync::Arc;
 
 impl CountedTree {
-    /// Puts an entry in the place of so many from an index on, one at most, where nobody shares a node on the path to
-    /// them and the leaf has room. Otherwise nothing is changed, and the entry comes back.
-    pub(crate) fn put_in_place(
+    /// Replaces so many entries from an index on, one at most, by another, if there is one, where the leaf has room and
+    /// keeps enough, and no memory is refused. Otherwise nothing is changed, and the entry comes back.
+    pub(crate) fn edit_in_place(
         &mut self,
+        alloc: Global,
         at: usize,
         gone: usize,
-        entry: SharedEntry,
-    ) -> Option<SharedEntry>
+        put: Option<SharedEntry>,
+    ) -> Result<(), Option<SharedEntry>>
         requires one { gone ≤ 1 }
         requires within { at + gone ≤ length self.old.entries }
         requires few { length self.old.entries < 2 ^ 60 }
-        ensures none { IfNone result (self.new.entries ≡ edited at gone (entry ∷ []) self.old.entries) }
-        ensures some { IfSome result (λ back. (self.new ≡ self.old) × (back ≡ entry)) }
+        ensures ok { OnOk result (self.new.entries ≡ edited at gone (put_items put) self.old.entries) }
+        ensures err { IfErr result (λ back. (self.new ≡ self.old) × (back ≡ put)) }
     {
+        let more = count_put(&put);
         let Some(root) = &mut self.root else {
-            return Some(entry);
+            return Err(put);
         };
+        if own(alloc, root).is_err() {
+            return Err(put);
+        }
         let Some(node) = Arc::get_mut(root) else {
-            return Some(entry);
+            return Err(put);
         };
-        match node.put_in_place(at, gone, entry) {
+        match node.edit_in_place(alloc, at, gone, put, 0) {
             Ok(added) => {
-                self.len += 1 - gone;
+                self.len = self.len + more - gone;
                 self.net += added;
-                None
+                Ok(())
             }
-            Err(entry) => Some(entry),
+            Err(put) => Err(put),
         }
     }
 }
 
 impl Node {
-    /// The same below a node that nobody shares: what the entry adds beyond what it replaces.
-    fn put_in_place(&mut self, at: usize, gone: usize, put: SharedEntry) -> Result<i64, SharedEntry>
+    /// The same below a node that nobody shares, which keeps so many entries or children: what that adds.
+    #[cycle(edit)]
+    fn edit_in_place(
+        &mut self,
+        alloc: Global,
+        at: usize,
+        gone: usize,
+        put: Option<SharedEntry>,
+        least: usize,
+    ) -> Result<i64, Option<SharedEntry>>
         requires one { gone ≤ 1 }
         requires within { at + gone ≤ length self.old.items }
         requires few { length self.old.items < 2 ^ 61 }
-        ensures depth { self.new.depth ≡ self.old.depth }
-        ensures width { self.old.width ≤ self.new.width }
-        ensures most { length self.new.items ≤ 16 ^ self.new.depth }
-        ensures ok { IfOk result (IsPut at gone put self.old.items self.new.items) }
-        ensures err { IfErr result (λ entry. (self.new ≡ self.old) × (entry ≡ put)) }
+        ensures { IsEditedNode at gone least put self.old self.new result }
     {
         match &mut self.body {
-            Body::Leaf(entries) => put_in_leaf(entries, at, gone, put),
+            Body::Leaf(entries) => edit_leaf(entries, at, gone, put, least),
             Body::Inner(children) => {
                 let (index, end) = child_at(children, at + gone);
-                let Ok(head) = first_of(&put, end - gone) else {
-                    return Err(put);
-                };
-                let child = &mut children[index];
-                let Some(node) = Arc::get_mut(&mut child.node) else {
-                    return Err(put);
-                };
-                let added = node.put_in_place(end - gone, gone, put)?;
-                child.mend(1 - gone, added, head);
-                Ok(added)
+                children[index].edit_in_place(alloc, end - gone, gone, put)
+            }
+        }
+    }
+
+    /// The same node, of nodes and changes that it shares. A leaf gets room for sixteen entries.
+    fn copied(&self, alloc: Global) -> Result<Node, AllocError>
+        ensures { IfOk result (λ n. n ≡ self.now) }
+    {
+        match &self.body {
+            Body::Leaf(entries) => {
+                let mut out = Vec::with_capacity(alloc, 16)?;
+                push_entries(&mut out, entries)?;
+                Ok(Node {
+                    body: Body::Leaf(out),
+                })
+            }
+            Body::Inner(children) => {
+                let mut out = Vec::with_capacity(alloc, children.len())?;
+                push_children(&mut out, children)?;
+                Ok(Node {
+                    body: Body::Inner(out),
+                })
             }
         }
     }
 }
 
 impl Child {
-    /// Keeps what an edit in its node changed: so many entries more, what they add, and the first entry where that is
-    /// another.
-    fn mend(&mut self, more: usize, added: i64, head: Option<SharedEntry>)
-        requires more { more ≤ 1 }
-        requires count { self.old.count < 2 ^ 62 }
-        requires low { pos 0 ≤ℤ (self.old.net +ℤ added +ℤ pos (2 ^ 62)) }
-        requires high { (self.old.net +ℤ added) ≤ℤ pos (2 ^ 62) }
-        ensures count { self.new.count ≡ self.old.count + more }
-        ensures net { self.new.net ≡ self.old.net +ℤ added }
-        ensures node { self.new.node ≡ self.old.node }
-        ensures head { IfSome head (λ entry. self.new.head ≡ entry) }
-        ensures same { IfNone head (self.new.head ≡ self.old.head) }
+    /// The same below a child, which keeps what that changes.
+    #[cycle(edit)]
+    fn edit_in_place(
+        &mut self,
+        alloc: Global,
+        at: usize,
+        gone: usize,
+        put: Option<SharedEntry>,
+    ) -> Result<i64, Option<SharedEntry>>
+        requires one { gone ≤ 1 }
+        requires within { at + gone ≤ length (items_of self.old) }
+        requires few { length (items_of self.old) < 2 ^ 61 }
+        requires child { IsChild (arc_value self.old.node).depth self.old }
+        ensures child { IsChild (arc_value self.old.node).depth self.new }
+        ensures ok { IfOk result (IsEdit at gone put (items_of self.old) (items_of self.new)) }
+        ensures err { IfErr result (λ back. (items_of self.new ≡ items_of self.old) × (back ≡ put)) }
     {
-        self.count += more;
-        self.net += added;
-        if let Some(entry) = head {
-            self.head = entry;
+        let more = count_put(&put);
+        if own(alloc, &mut self.node).is_err() {
+            return Err(put);
+        }
+        let Some(node) = Arc::get_mut(&mut self.node) else {
+            return Err(put);
+        };
+        match node.edit_in_place(alloc, at, gone, put, 8) {
+            Ok(added) => {
+                self.head = node.head();
+                self.count = self.count + more - gone;
+                self.net += added;
+                Ok(added)
+            }
+            Err(put) => Err(put),
         }
     }
 }
 
-/// The entry once more, where it comes to be the first. It is made before the first change, since it may be refused.
-fn first_of(put: &SharedEntry, at: usize) -> Result<Option<SharedEntry>, AllocError>
-    ensures some { IfOk result (λ o. IfSome o (λ entry. (at ≡ 0) × (entry ≡ put.now))) }
-    ensures none { IfOk result (λ o. IfNone o (1 ≤ at)) }
+/// A node that nobody else shares: where others do, a copy comes to stand in its place.
+fn own(alloc: Global, shared: &mut Arc<Node, Global>) -> Result<(), AllocError>
+    ensures { arc_value shared.new ≡ arc_value shared.old }
 {
-    if at == 0 {
-        Ok(Some(put.copy()?))
-    } else {
-        Ok(None)
+    if Arc::strong_count(shared) > 1 {
+        *shared = Arc::new(alloc, shared.copied(alloc)?)?;
     }
+    Ok(())
 }
 
-/// Puts an entry in the place of so many from an index on, one at most, unless the leaf is full: what that adds. A leaf
-/// gets room for sixteen at once.
+/// The edit in a leaf, unless it is full, or would keep too few: what that adds.
+fn edit_leaf(
+    entries: &mut Vec<SharedEntry>,
+    at: usize,
+    gone: usize,
+    put: Option<SharedEntry>,
+    least: usize,
+) -> Result<i64, Option<SharedEntry>>
+    requires one { gone ≤ 1 }
+    requires within { at + gone ≤ length entries.old.items }
+    requires room { length entries.old.items ≤ 16 }
+    ensures room { length entries.new.items ≤ 16 }
+    ensures least { least ≤ length entries.old.items → least ≤ length entries.new.items }
+    ensures ok { IfOk result (IsEdit at gone put entries.old.items entries.new.items) }
+    ensures err { IfErr result (λ back. (entries.new.items ≡ entries.old.items) × (back ≡ put)) }
+{
+    let Some(entry) = put else {
+        return take_from_leaf(entries, at, gone, least);
+    };
+    put_in_leaf(entries, at, gone, entry)
+}
+
+/// Puts an entry in the place of so many from an index on, one at most, unless the leaf is full. A leaf gets room for
+/// sixteen at once.
 fn put_in_leaf(
     entries: &mut Vec<SharedEntry>,
     at: usize,
     gone: usize,
     put: SharedEntry,
-) -> Result<i64, SharedEntry>
+) -> Result<i64, Option<SharedEntry>>
     requires one { gone ≤ 1 }
     requires within { at + gone ≤ length entries.old.items }
     requires room { length entries.old.items ≤ 16 }
     ensures room { length entries.new.items ≤ 16 }
-    ensures ok { IfOk result (IsPut at gone put entries.old.items entries.new.items) }
-    ensures err { IfErr result (λ entry. (entries.new.items ≡ entries.old.items) × (entry ≡ put)) }
+    ensures no_fewer { length entries.old.items ≤ length entries.new.items }
+    ensures ok { IfOk result (IsEdit at gone (Some put) entries.old.items entries.new.items) }
+    ensures err { IfErr result (λ back. (entries.new.items ≡ entries.old.items) × (back ≡ Some put)) }
 {
     let weight = put.weight();
     if gone == 1 {
@@ -128,10 +190,34 @@ fn put_in_leaf(
     }
     let len = entries.len();
     if len >= 16 || entries.reserve_exact(16 - len).is_err() {
-        return Err(put);
+        return Err(Some(put));
     }
     match entries.insert(at, put) {
         Ok(()) => Ok(weight),
-        Err(refused) => Err(refused.value),
+        Err(refused) => Err(Some(refused.value)),
     }
+}
+
+/// Takes so many entries away from an index on, one at most, unless that leaves too few.
+fn take_from_leaf(
+    entries: &mut Vec<SharedEntry>,
+    at: usize,
+    gone: usize,
+    least: usize,
+) -> Result<i64, Option<SharedEntry>>
+    requires one { gone ≤ 1 }
+    requires within { at + gone ≤ length entries.old.items }
+    ensures no_more { length entries.new.items ≤ length entries.old.items }
+    ensures least { least ≤ length entries.old.items → least ≤ length entries.new.items }
+    ensures ok { IfOk result (IsEdit at gone None entries.old.items entries.new.items) }
+    ensures err { IfErr result (λ back. (entries.new.items ≡ entries.old.items) × (back ≡ None)) }
+{
+    if gone == 0 {
+        return Ok(0);
+    }
+    if entries.len() <= least {
+        return Err(None);
+    }
+    let taken = entries.remove(at);
+    Ok(-taken.weight())
 }

@@ -19,7 +19,7 @@ pub(super) fn has_layers(
     let entries = entries_text(alloc, manager.read_tree().iter())?;
     Ok(
         entries.as_str() == read
-            && manager.write_tree().is_empty()
+            && manager.write_tree().len() == 0
             && manager.stable().len() == rows,
     )
 }

@@ -1,5 +1,5 @@
 //! A tree beside a plain list of what it is to hold: random changes, many inserts at one SID, entries taken away one by one,
-//! and changes of 257 entries, of which each growth may be refused.
+//! and changes of 257 entries, of which each growth may be refused, also where a copy shares all nodes.
 ghost use Rattle.std.specs.Prelude.{◌≡◌, ◌≤◌, IfOk, length};
 
 use super::places::{assert_key, made_again};
@@ -261,21 +261,65 @@ fn wide(rt: &impl Abort, alloc: Global) -> Result<Pair, Fail>
     Ok(pair)
 }
 
+/// Changes of those entries.
+static CHANGES: [Step; 6] = [
+    Step::Insert(100, 50, "y", 1),
+    Step::SetInsert(100, 100, 2, ValueRef::Int(2)),
+    Step::TakeInsert(128, 128),
+    Step::Modify(200, 2, ValueRef::Int(3)),
+    Step::Delete(300, 600),
+    Step::Delete(7, 14),
+];
+
 #[test]
 fn a_refused_change_of_257_entries_leaves_them(rt: HostRuntime) -> Result<(), Fail> {
-    static STEPS: [Step; 6] = [
-        Step::Insert(100, 50, "y", 1),
-        Step::SetInsert(100, 100, 2, ValueRef::Int(2)),
-        Step::TakeInsert(128, 128),
-        Step::Modify(200, 2, ValueRef::Int(3)),
-        Step::Delete(300, 600),
-        Step::Delete(7, 14),
-    ];
     let alloc = rt.alloc();
     let mut pair = wide(&rt, alloc)?;
-    for step in &STEPS {
+    for step in &CHANGES {
         change_unless_refused(&rt, alloc, &mut pair, *step)?;
         assert_list(&rt, &pair.tree, pair.list.as_slice());
+    }
+    Ok(())
+}
+
+/// Makes the change in both, while a copy shares all nodes of the tree and goes on listing what it listed; where a growth of
+/// the tree is refused, in neither.
+fn change_beside_copy(
+    rt: &impl Abort,
+    alloc: Global,
+    pair: &mut Pair,
+    step: Step,
+) -> Result<(), Fail>
+    requires keyed { pair.old.tree.key_cols ≡ 1 }
+    ensures keyed { pair.new.tree.key_cols ≡ 1 }
+{
+    let kept = pair.tree.copy()?;
+    let answer = change(rt, alloc, &mut pair.tree, step)?;
+    assert_list(rt, &kept, pair.list.as_slice());
+    if answer.is_ok() {
+        change_list(&mut pair.list, step)?;
+    }
+    assert_list(rt, &pair.tree, pair.list.as_slice());
+    Ok(())
+}
+
+#[test]
+fn a_refused_change_of_257_shared_entries_leaves_them(rt: HostRuntime) -> Result<(), Fail> {
+    let alloc = rt.alloc();
+    let mut pair = wide(&rt, alloc)?;
+    for step in &CHANGES {
+        change_beside_copy(&rt, alloc, &mut pair, *step)?;
+    }
+    Ok(())
+}
+
+#[test]
+fn a_refused_change_of_full_shared_leaves_leaves_them(rt: HostRuntime) -> Result<(), Fail> {
+    let alloc = rt.alloc();
+    let mut pair = wide(&rt, alloc)?;
+    pair.tree = made_again(alloc, &pair.tree)?;
+    for step in &CHANGES {
+        change_beside_copy(&rt, alloc, &mut pair, *step)?;
     }
     Ok(())
 }

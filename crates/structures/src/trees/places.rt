@@ -1,13 +1,15 @@
 //! What stands at a SID and at a position of three layers' trees, over the base rows with the keys 10, 20 and 30. Each
 //! layer stands over the image of the one before it, so its SIDs are positions there.
-ghost use Rattle.std.specs.Prelude.{◌≡◌};
+ghost use Rattle.std.specs.Prelude.{◌≡◌, ◌<◌, ◌^◌, IfOk};
 
 use super::changed;
 use crate::assertions::{assert_holds, assert_holds_at, assert_text, assert_text_at};
-use delta::{DeltaTree, Place};
+use delta::{DeltaTree, Place, Steps};
 use fixtures::{Step, copy_entry, entries_text, key};
 use std::alloc::Global;
+use std::marker::Brand;
 use std::process::Abort;
+use std::sync::ledger::{Blank, Ledger};
 use std::test::Fail;
 use values::{NoMemory, ValueRef};
 
@@ -54,6 +56,7 @@ static MIXED: [(Step, &str); 5] = [
 /// A tree of the same entries, made from copies of them.
 pub(super) fn made_again(alloc: Global, tree: &DeltaTree) -> Result<DeltaTree, NoMemory>
     requires keyed { tree.now.key_cols ≡ 1 }
+    ensures keyed { IfOk result (λ made. made.key_cols ≡ 1) }
 {
     let mut entries = Vec::with_capacity(alloc, tree.len())?;
     for entry in tree.iter_from(0) {
@@ -66,7 +69,7 @@ pub(super) fn made_again(alloc: Global, tree: &DeltaTree) -> Result<DeltaTree, N
 fn has_none(tree: &DeltaTree) -> bool {
     let at_sid = tree.entries_at(0).next().is_none();
     let from_first = tree.iter_from(0).next().is_none();
-    at_sid & from_first & tree.entry(0).is_none() & (tree.base_index(3) == 0)
+    at_sid & from_first & (tree.base_index(3) == 0)
 }
 
 #[test]
@@ -74,9 +77,9 @@ fn a_tree_with_no_entries_has_none_anywhere(rt: HostRuntime) -> Result<(), Fail>
     let tree = DeltaTree::new(rt.alloc(), 1);
     assert_holds(&rt, has_none(&tree), "look-ups");
     let copied = tree.copy()?;
-    assert_holds(&rt, copied.is_empty(), "copied");
+    assert_holds(&rt, copied.len() == 0, "copied");
     let again = made_again(rt.alloc(), &tree)?;
-    assert_holds(&rt, again.is_empty(), "made again");
+    assert_holds(&rt, again.len() == 0, "made again");
     Ok(())
 }
 
@@ -138,29 +141,6 @@ fn the_entries_from_a_place_on_follow_those_before_it(rt: HostRuntime) -> Result
     };
     for (index, want) in &CASES {
         assert_entries_from(&rt, rt.alloc(), &tree, *index, *want)?;
-    }
-    Ok(())
-}
-
-#[test]
-fn an_entry_is_found_by_its_place(rt: HostRuntime) -> Result<(), Fail> {
-    static CASES: [(usize, Option<u64>); 6] = [
-        (0, Some(1)),
-        (1, Some(1)),
-        (2, Some(2)),
-        (3, Some(2)),
-        (4, Some(3)),
-        (5, None),
-    ];
-    let Some(tree) = changed(&rt, rt.alloc(), MIXED.as_slice())? else {
-        return Ok(());
-    };
-    for (index, sid) in &CASES {
-        assert_holds_at(
-            &rt,
-            tree.entry(*index).map(|entry| entry.sid()) == *sid,
-            *index as u64,
-        );
     }
     Ok(())
 }
@@ -235,13 +215,46 @@ pub(super) fn assert_key(
     Ok(())
 }
 
+/// What the entries below the SID add, by a count that is let go.
+fn shift_of<L: Ledger>(tree: &DeltaTree, sid: u64, blank: Blank) -> i64
+    requires name { blank.name ≡ L.name }
+    requires parts { blank.parts ≡ L.parts }
+    requires some { 0 < L.parts }
+{
+    let mut steps = Steps::<L>::new(blank);
+    tree.shift_before(sid, &mut steps)
+}
+
+/// The same, where the caller has no ledger of its own.
+fn shift_at(tree: &DeltaTree, sid: u64) -> i64 {
+    shift_of::<Brand>(tree, sid, Blank::new(1))
+}
+
+/// Where the row at a position comes from, by a count that is let go.
+fn row_of<L: Ledger>(tree: &DeltaTree, rid: u64, blank: Blank) -> Place
+    requires name { blank.name ≡ L.name }
+    requires parts { blank.parts ≡ L.parts }
+    requires some { 0 < L.parts }
+    requires rid { rid < 2 ^ 63 }
+{
+    let mut steps = Steps::<L>::new(blank);
+    tree.find_rid(rid, &mut steps)
+}
+
+/// The same, where the caller has no ledger of its own.
+fn row_at(tree: &DeltaTree, rid: u64) -> Place
+    requires { rid < 2 ^ 63 }
+{
+    row_of::<Brand>(tree, rid, Blank::new(1))
+}
+
 #[test]
 fn a_tree_with_no_entries_moves_nothing(rt: HostRuntime) -> Result<(), Fail> {
     let tree = DeltaTree::new(rt.alloc(), 1);
     for at in [0, 7, MOST] {
         assert!(rt; at <= MOST);
-        assert_holds_at(&rt, tree.shift_at(at) == 0, at);
-        assert_holds_at(&rt, tree.find_row(at) == Place::Base(at), at);
+        assert_holds_at(&rt, shift_at(&tree, at) == 0, at);
+        assert_holds_at(&rt, row_at(&tree, at) == Place::Base(at), at);
         assert_key(&rt, rt.alloc(), &tree, "no entries", (at, 15, 0, at, false))?;
     }
     Ok(())
@@ -259,7 +272,7 @@ fn assert_shifts(
         return Ok(());
     };
     for (sid, shift) in cases {
-        assert_holds(rt, tree.shift_at(*sid) == *shift, label);
+        assert_holds(rt, shift_at(&tree, *sid) == *shift, label);
     }
     Ok(())
 }
@@ -287,7 +300,7 @@ fn assert_places(
     };
     for (rid, place) in cases {
         assert!(rt; *rid <= MOST);
-        assert_holds(rt, tree.find_row(*rid) == *place, label);
+        assert_holds(rt, row_at(&tree, *rid) == *place, label);
     }
     Ok(())
 }

@@ -5,7 +5,7 @@ use Rattle.std.proofs.lemmas.List.{get_or_default}
 use Rattle.model.specs.declared.entry.Entry.{Entry}
 use Rattle.counted.specs.Sums.{weight_of, total}
 use Rattle.counted.proofs.Totals.{total_within, total-more}
-use Rattle.counted.proofs.SpotSteps.{placed_at}
+use Rattle.counted.proofs.Placed.{placed_at}
 use Rattle.counted.proofs.GapSteps.{leads_moved, follows_moved}
 use Rattle.counted.proofs.gap.gap_in.Goals as goal
 
@@ -38,7 +38,8 @@ pub loop-index-preserved : goal.loop-index-preserved
 loop-index-preserved g c =
     let xs = c.args.entries.now in
     let i = c.loop-index.index in
-    let more = total-more xs i c.index-entries-index-in-loop-index.result c.weight-up.result c.loop-index-test.true (c.weight-up.ensures ∙ ap (λ (a : Entry). weight_of a.change) c.index-entries-index-in-loop-index.is) in
+    let more = total-more xs i c.index-entries-index-in-loop-index.result c.weight-up.result c.loop-index-test.true
+    (c.weight-up.ensures ∙ ap (λ (a : Entry). weight_of a.change) c.index-entries-index-in-loop-index.is) in
     let next = total_within (take (i + 1) xs) in
     let up = c.loop-index.invariant.up in
     let a = c.index-entries-index.result in
@@ -49,7 +50,8 @@ loop-index-preserved g c =
           let at : i ≡ m = omega arith in
           let item = c.index-entries-index.is ∙ get_or_default xs i a d c.loop-index-test.true ∙ ap (λ k. get_or xs k d) at in
           let sum = ap (λ k. total (take k xs)) at in
-          leads_moved (g.G.Gap.after c.args.gap.now) _ _ _ _ _ _ (omega (arith, ints)) item (omega (arith, ints)) (c.leads.ensures.yes c.if-leads.true);
+          leads_moved (g.G.Gap.after c.args.gap.now) _ _ _ _ _ _ (omega (arith, ints)) item (omega (arith, ints))
+          (c.leads.ensures.yes c.if-leads.true);
     }
 
 pub returns-else-leads : goal.returns-else-leads
@@ -64,10 +66,12 @@ returns-else-leads g c =
           (get_or c.args.entries.now m d) (get_or c.args.entries.now m d)
           (total (take m c.args.entries.now) +ℤ to_z w64 (of_z w64 c.args.shift)) (total (take m c.args.entries.now) +ℤ c.args.shift)
           (to_z-of_z w64 c.args.rid c.ranges.rid) refl
-          (ap (λ z. total (take m c.args.entries.now) +ℤ z) (to_z-of_z w64 c.args.shift c.ranges.shift)) (c.loop-index.invariant.low m d is);
+          (ap (λ z. total (take m c.args.entries.now) +ℤ z) (to_z-of_z w64 c.args.shift c.ranges.shift))
+          (c.loop-index.invariant.low m d is);
       high = λ d lt.
           let item = c.index-entries-index.is ∙ get_or_default xs i a d c.loop-index-test.true in
-          follows_moved (g.G.Gap.after c.args.gap.now) _ _ _ _ _ _ (omega (arith, ints)) item (omega (arith, ints)) (c.leads.ensures.no c.if-leads.false);
+          follows_moved (g.G.Gap.after c.args.gap.now) _ _ _ _ _ _ (omega (arith, ints)) item (omega (arith, ints))
+          (c.leads.ensures.no c.if-leads.false);
     }
 
 pub returns-after-loop-index : goal.returns-after-loop-index
@@ -80,6 +84,7 @@ returns-after-loop-index g c =
           (get_or c.args.entries.now m d) (get_or c.args.entries.now m d)
           (total (take m c.args.entries.now) +ℤ to_z w64 (of_z w64 c.args.shift)) (total (take m c.args.entries.now) +ℤ c.args.shift)
           (to_z-of_z w64 c.args.rid c.ranges.rid) refl
-          (ap (λ z. total (take m c.args.entries.now) +ℤ z) (to_z-of_z w64 c.args.shift c.ranges.shift)) (c.loop-index.invariant.low m d is);
+          (ap (λ z. total (take m c.args.entries.now) +ℤ z) (to_z-of_z w64 c.args.shift c.ranges.shift))
+          (c.loop-index.invariant.low m d is);
       high = λ d lt. absurd (omega arith);
     }

@@ -10,7 +10,8 @@ abbrev pub invariant-loop-index : goal.invariant-loop-index
 invariant-loop-index g l = record {
   within : l.index ≤ length l.entries;
   up : l.up ≡ total (take l.index l.entries) +ℤ l.shift;
-  low : (m : ℕ) (d : Entry) → m + 1 ≡ l.index → Leads (g.G.Gap.after l.gap) l.rid (get_or l.entries m d) (total (take m l.entries) +ℤ l.shift);
+  low : (m : ℕ) (d : Entry) → m + 1 ≡ l.index
+      → Leads (g.G.Gap.after l.gap) l.rid (get_or l.entries m d) (total (take m l.entries) +ℤ l.shift);
 }
 
 abbrev pub decreases-loop-index : goal.decreases-loop-index

@@ -9,4 +9,6 @@ returns c =
     let at = c.args.at in
     let end = at + c.args.gone in
     let one = c.in_ok-push_entries.ensures ∙ ap (λ ys. ys ++ (take at xs)) c.in_ok-out.ensures.items in
-    c.in_ok-push_entries-2.ensures ∙ ap (λ ys. ys ++ (take (length xs - end) (drop end xs))) (c.in_ok-push_some.ensures ∙ ap (λ ys. ys ++ put_items c.args.put) one) ∙ leaf_edited xs at c.args.gone (put_items c.args.put)
+    c.in_ok-push_entries-2.ensures
+    ∙ ap (λ ys. ys ++ (take (length xs - end) (drop end xs))) (c.in_ok-push_some.ensures
+    ∙ ap (λ ys. ys ++ put_items c.args.put) one) ∙ leaf_edited xs at c.args.gone (put_items c.args.put)

@@ -1,4 +1,5 @@
 use Rattle.std.proofs.Common.{◌≡◌, ◌-◌, ◌<◌, ◌≤◌, true, false, length, get_or}
+use Rattle.std.specs.Prelude.{ℤ, IsSome}
 use Rattle.model.specs.declared.entry.Entry.{Entry}
 use Rattle.counted.specs.declared.node.Child.{Child}
 use Rattle.counted.specs.Search.{stands_before}
@@ -10,8 +11,11 @@ abbrev pub invariant-loop-low : goal.invariant-loop-low
 invariant-loop-low g l = record {
   within : l.low < l.high;
   short : l.high ≤ length l.children;
-  low : (d : Child) (e : Entry) → 1 ≤ l.low → stands_before (g.P.Probe.stand l.probe) l.sid (get_or (items_of (get_or l.children l.low d)) 0 e) ≡ true;
-  high : (d : Child) (e : Entry) → l.high < length l.children → stands_before (g.P.Probe.stand l.probe) l.sid (get_or (items_of (get_or l.children l.high d)) 0 e) ≡ false;
+  low : (d : Child) (e : Entry) → 1 ≤ l.low
+      → stands_before (g.P.Probe.stand l.probe) l.sid (get_or (items_of (get_or l.children l.low d)) 0 e) ≡ true;
+  high : (d : Child) (e : Entry) → l.high < length l.children
+      → stands_before (g.P.Probe.stand l.probe) l.sid (get_or (items_of (get_or l.children l.high d)) 0 e) ≡ false;
+  steps : ((weight : ℤ) → IsSome (g.P.Probe.by_weight l.probe weight)) → l.steps ≡ l.fn.steps;
 }
 
 abbrev pub decreases-loop-low : goal.decreases-loop-low

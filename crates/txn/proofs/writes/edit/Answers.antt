@@ -18,7 +18,8 @@ take_at-requires c =
     let f = c.args.found in
     let done = sym c.is_done.ensures ∙ c.if-not-is_done.false in
     let yes = sym c.is_inserted-inserted.ensures ∙ c.if-inserted.true in
-    (taken t.key_cols f.sid f.index t.entries c.requires.ordered (is_inserted f.row) yes c.args.write.now c.requires.place (c.requires.may done) _ done c.in-Delete.field-0 c.in-Delete.is).short
+    (taken t.key_cols f.sid f.index t.entries c.requires.ordered (is_inserted f.row) yes c.args.write.now c.requires.place
+    (c.requires.may done) _ done c.in-Delete.field-0 c.in-Delete.is).short
 
 pub returns-in-Delete-clause-ok : goal.returns-in-Delete-clause-ok
 returns-in-Delete-clause-ok c =
@@ -26,7 +27,8 @@ returns-in-Delete-clause-ok c =
     let f = c.args.found in
     let done = sym c.is_done.ensures ∙ c.if-not-is_done.false in
     let yes = sym c.is_inserted-inserted.ensures ∙ c.if-inserted.true in
-    let is = taken_is t.key_cols f.sid f.index t.entries c.requires.ordered (is_inserted f.row) yes c.args.write.now c.requires.place (c.requires.may done) _ done c.in-Delete.field-0 c.in-Delete.is in
+    let is = taken_is t.key_cols f.sid f.index t.entries c.requires.ordered
+    (is_inserted f.row) yes c.args.write.now c.requires.place (c.requires.may done) _ done c.in-Delete.field-0 c.in-Delete.is in
     subst (λ (es : List Entry). OnOk c.take_at.result (c.take_at.new.self ≡ record t { entries = es })) is c.take_at.ensures.ok
 
 pub set_at-requires-clause-within : goal.set_at-requires-clause-within
@@ -35,7 +37,8 @@ set_at-requires-clause-within c =
     let f = c.args.found in
     let done = sym c.is_done.ensures ∙ c.if-not-is_done.false in
     let yes = sym c.is_inserted-inserted.ensures ∙ c.if-inserted-2.true in
-    (found t.key_cols f.sid f.index t.entries c.requires.ordered (is_inserted f.row) yes c.args.write.now c.requires.place (c.requires.may done) _ done c.in-Set.field-0 c.in-Set.col c.in-Set.value c.in-Set.is).short
+    (found t.key_cols f.sid f.index t.entries c.requires.ordered (is_inserted f.row) yes c.args.write.now c.requires.place
+    (c.requires.may done) _ done c.in-Set.field-0 c.in-Set.col c.in-Set.value c.in-Set.is).short
 
 pub set_at-requires-clause-there : goal.set_at-requires-clause-there
 set_at-requires-clause-there c =
@@ -43,7 +46,8 @@ set_at-requires-clause-there c =
     let f = c.args.found in
     let done = sym c.is_done.ensures ∙ c.if-not-is_done.false in
     let yes = sym c.is_inserted-inserted.ensures ∙ c.if-inserted-2.true in
-    cell_there t.key_cols f.sid f.index t.entries c.requires.ordered (is_inserted f.row) yes c.args.write.now c.requires.place (c.requires.may done) _ done c.in-Set.field-0 c.in-Set.col c.in-Set.value c.in-Set.is
+    cell_there t.key_cols f.sid f.index t.entries c.requires.ordered (is_inserted f.row) yes c.args.write.now c.requires.place
+    (c.requires.may done) _ done c.in-Set.field-0 c.in-Set.col c.in-Set.value c.in-Set.is
 
 pub returns-in_ok-copy-in-Set-clause-ok : goal.returns-in_ok-copy-in-Set-clause-ok
 returns-in_ok-copy-in-Set-clause-ok c =
@@ -51,16 +55,21 @@ returns-in_ok-copy-in-Set-clause-ok c =
     let f = c.args.found in
     let done = sym c.is_done.ensures ∙ c.if-not-is_done.false in
     let yes = sym c.is_inserted-inserted.ensures ∙ c.if-inserted-2.true in
-    let short = (found t.key_cols f.sid f.index t.entries c.requires.ordered (is_inserted f.row) yes c.args.write.now c.requires.place (c.requires.may done) _ done c.in-Set.field-0 c.in-Set.col c.in-Set.value c.in-Set.is).short in
-    let is = set_is t.key_cols f.sid f.index t.entries c.requires.ordered (is_inserted f.row) yes c.args.write.now c.requires.place (c.requires.may done) _ done c.in-Set.field-0 c.in-Set.col c.in-Set.value c.in-Set.is in
+    let short =
+    (found t.key_cols f.sid f.index t.entries c.requires.ordered (is_inserted f.row) yes c.args.write.now c.requires.place
+    (c.requires.may done) _ done c.in-Set.field-0 c.in-Set.col c.in-Set.value c.in-Set.is).short in
+    let is = set_is t.key_cols f.sid f.index t.entries c.requires.ordered (is_inserted f.row) yes c.args.write.now c.requires.place
+    (c.requires.may done) _ done c.in-Set.field-0 c.in-Set.col c.in-Set.value c.in-Set.is in
     let y = get_or t.entries f.index nothing in
     let copied = c.in_ok-copy-in-Set.ensures.same in
     on_ok_weaker c.set_at.result
-    (λ made. made y (slice_get-get_or t.entries f.index nothing short) ∙ ap (λ (es : List Entry). record t { entries = es }) (ap (λ (v : Value). set t.entries f.index (entry_at y.sid (change_with_cell c.in-Set.col v y.change))) copied ∙ is))
+    (λ made. made y (slice_get-get_or t.entries f.index nothing short)
+    ∙ ap (λ (es : List Entry). record t { entries = es })
+    (ap (λ (v : Value). set t.entries f.index (entry_at y.sid (change_with_cell c.in-Set.col v y.change))) copied ∙ is))
     c.set_at.ensures.ok
 
-pub put_change_at-requires-clause-run : goal.put_change_at-requires-clause-run
-put_change_at-requires-clause-run c =
+pub put_change_at-requires-in-Delete-2-clause-run : goal.put_change_at-requires-in-Delete-2-clause-run
+put_change_at-requires-in-Delete-2-clause-run c =
     let t = c.args.tree.now in
     let f = c.args.found in
     let end = c.requires.kept (sym c.is_kept-kept.ensures ∙ c.if-kept.true) in

@@ -1,4 +1,4 @@
-use Rattle.std.proofs.Common.{Some, ◌^◌, ◌≤◌, length, slice_get, ap, sym, ◌∙◌, subst, arith}
+use Rattle.std.proofs.Common.{◌^◌, ◌≤◌, length, slice_get, ap, sym, ◌∙◌, subst, arith}
 use Rattle.std.proofs.lemmas.Int.{ints}
 use Rattle.counted.specs.Sums.{total}
 use Rattle.counted.specs.Views.{View}
@@ -7,14 +7,15 @@ use Rattle.counted.proofs.node.Child.new.Goals as goal
 pub returns-clause-counts : goal.returns-clause-counts
 returns-clause-counts c =
     let counts = c.counts-counts.ensures in
+    let sized = c.head-head.ensures.sized in
     let node = c.in_ok-new.ensures.ok in
     record {
       level = ap (λ (v : View). v.depth) node;
       full = omega (arith, ap (λ (v : View). v.width) node, c.requires.full);
-      deep = counts.deep;
-      many = let P : View → Type 0 = λ v. 8 ^ c.args.node.depth ≤ length v.items in subst P (sym node) counts.many;
-      most = let P : View → Type 0 = λ v. length v.items ≤ 16 ^ c.args.node.depth in subst P (sym node) counts.most;
+      deep = sized.deep;
+      many = let P : View → Type 0 = λ v. 8 ^ c.args.node.depth ≤ length v.items in subst P (sym node) sized.many;
+      most = let P : View → Type 0 = λ v. length v.items ≤ 16 ^ c.args.node.depth in subst P (sym node) sized.most;
       count = counts.count ∙ sym (ap (λ (v : View). length v.items) node);
       net = omega (arith, ints, ap (λ (v : View). total v.items) node);
-      head = ap (λ (v : View). slice_get v.items 0) node ∙ c.head.ensures ∙ ap Some (sym c.in_ok-head.ensures);
+      head = λ e first. c.head-head.ensures.head e (ap (λ (v : View). slice_get v.items 0) (sym node) ∙ first);
     }

@@ -3,7 +3,8 @@ use Rattle.model.specs.declared.entry.Entry.{Entry}
 use Rattle.counted.specs.Edits.{put_items, edited}
 use Rattle.counted.specs.Shapes.{items_of, all_items, depth_of, AreChildren}
 use Rattle.counted.proofs.Leaves.{put_items-le, gone_within}
-use Rattle.counted.proofs.Places.{at_inner, at_leaf, child_few, depth_all, deep_children, edited_in_child, length-edited, grown_is, grown_length, grown_result_same, regrown}
+use Rattle.counted.proofs.Places.{at_inner, at_leaf, child_few, depth_all, deep_children, edited_in_child, length-edited, grown_is}
+use Rattle.counted.proofs.Places.{grown_length, grown_result_same, regrown}
 use Rattle.counted.proofs.node.Node.+edited.Goals as goal
 
 pub edited-requires : goal.edited-requires
@@ -44,7 +45,9 @@ grown_inner-requires-clause-each t c =
     let n = ap length c.deref-in-Inner-3.ensures.value in
     let deep = deep_children c.in-Inner.children.items at.each in
     let two = c.requires.root in
-    regrown c.deref-in-Inner-3.result.now c.in_ok-replaced-in-Inner.field-0.items (depth_of c.deref-in-Inner-3.result.now) are refl c.in_ok-replaced-in-Inner.ensures.each (omega (arith, at.depth, at.width, c.in_ok-replaced-in-Inner.ensures.not_fewer))
+    regrown c.deref-in-Inner-3.result.now c.in_ok-replaced-in-Inner.field-0.items
+    (depth_of c.deref-in-Inner-3.result.now) are refl c.in_ok-replaced-in-Inner.ensures.each
+    (omega (arith, at.depth, at.width, c.in_ok-replaced-in-Inner.ensures.not_fewer))
 
 pub returns-in_ok-edited_leaf-in-Leaf : goal.returns-in_ok-edited_leaf-in-Leaf
 returns-in_ok-edited_leaf-in-Leaf t c =
@@ -52,7 +55,8 @@ returns-in_ok-edited_leaf-in-Leaf t c =
     let put = put_items c.args.put in
     let same : c.deref.result.now ≡ c.args.self.now.items = c.deref.ensures.value ∙ sym at.items in
     let new = c.in_ok-edited_leaf-in-Leaf.field-0.items in
-    let items : new ≡ edited c.args.at c.args.gone put c.args.self.now.items = c.in_ok-edited_leaf-in-Leaf.ensures ∙ ap (edited c.args.at c.args.gone put) same in
+    let items : new ≡ edited c.args.at c.args.gone put c.args.self.now.items = c.in_ok-edited_leaf-in-Leaf.ensures
+    ∙ ap (edited c.args.at c.args.gone put) same in
     let long = ap length items in
     let n = length-edited c.args.at c.args.gone put c.args.self.now.items c.requires.within in
     grown_result_same _ _ _ _ _ _ _ (sym at.depth) (omega (arith, c.requires.one, at.width, ap length at.items)) items c.grown_leaf.ensures
@@ -80,6 +84,8 @@ returns-in_ok-replaced-in-Inner t c =
     let level : 1 + depth_of new ≡ c.args.self.now.depth = omega (arith, depth, at.depth, ap depth_of c.deref-in-Inner-3.ensures.value) in
     let rewritten = rw c.deref-in-Inner-3.ensures.value at c.in_ok-replaced-in-Inner.ensures.items in
     let put_in = edited_in_child c.in-Inner.children.items i c.index.result.now c.args.at gone rest put child (omega arith) (omega arith) in
-    let M : List Entry → List Entry = λ xs. all_items (take i c.in-Inner.children.items) ++ xs ++ all_items (drop (i + 1) c.in-Inner.children.items) in
+    let M : List Entry
+    → List Entry = λ xs. all_items (take i c.in-Inner.children.items) ++ xs ++ all_items
+    (drop (i + 1) c.in-Inner.children.items) in
     let items = rewritten ∙ ap M (grown ∙ ap (edited rest gone put) e) ∙ put_in ∙ ap (edited c.args.at gone put) (sym at.items) in
     grown_result_same _ _ _ _ _ _ _ level (omega (arith, at.width, c.in_ok-replaced-in-Inner.ensures.not_fewer)) items c.grown_inner.ensures

@@ -1,8 +1,8 @@
-use Rattle.std.proofs.Common.{ℕ, ◌^◌, ◌≤◌, length, ap, sym, subst, ◌∙◌, arith}
+use Rattle.std.proofs.Common.{length, ap, sym, ◌∙◌, arith}
 use Rattle.std.proofs.lemmas.Int.{ints}
 use Rattle.counted.specs.Shapes.{all_items}
 use Rattle.counted.specs.Sums.{total}
-use Rattle.counted.proofs.Places.{at_inner, many_below, most_law}
+use Rattle.counted.proofs.Places.{at_inner}
 use Rattle.counted.proofs.node.Node.counts.Goals as goal
 
 pub returns-in-Inner : goal.returns-in-Inner
@@ -13,7 +13,4 @@ returns-in-Inner c =
     record {
       count = c.count_of.ensures ∙ ap (λ cs. length (all_items cs)) c.deref-in-Inner.ensures.value ∙ sym n;
       net = omega (arith, ints);
-      many = let P : ℕ → Type 0 = λ d. 8 ^ d ≤ length c.args.self.now.items in subst P (sym at.depth) (let m = many_below _ at.each (omega (arith, c.requires.full, at.width)) in omega arith);
-      most = most_law _ _ c.self.view_is c.self.invariant;
-      deep = omega (arith, at.depth);
     }

@@ -21,7 +21,9 @@ grown_inner-requires-clause-each c =
     let left : c.deref-in-Inner-body-2.result.now ≡ c.in-Inner.one.items = c.deref-in-Inner-body-2.ensures.value in
     let are = subst AreChildren (sym left) one.each in
     let some = are.some in
-    regrown c.deref-in-Inner-body-2.result.now c.in_ok-both_inner-in-Inner-body-2.field-0.items (depth_of c.deref-in-Inner-body-2.result.now) are refl c.in_ok-both_inner-in-Inner-body-2.ensures.each (omega (arith, c.in_ok-both_inner-in-Inner-body-2.ensures.count))
+    regrown c.deref-in-Inner-body-2.result.now c.in_ok-both_inner-in-Inner-body-2.field-0.items
+    (depth_of c.deref-in-Inner-body-2.result.now) are refl c.in_ok-both_inner-in-Inner-body-2.ensures.each
+    (omega (arith, c.in_ok-both_inner-in-Inner-body-2.ensures.count))
 
 pub returns-in_ok-both_leaves-in-Leaf-body : goal.returns-in_ok-both_leaves-in-Leaf-body
 returns-in_ok-both_leaves-in-Leaf-body c =
@@ -30,9 +32,11 @@ returns-in_ok-both_leaves-in-Leaf-body c =
     let left : c.deref.result.now ≡ c.args.self.now.items = c.deref.ensures.value ∙ sym one.items in
     let right : c.deref-in-Leaf-body.result.now ≡ c.args.right.now.items = c.deref-in-Leaf-body.ensures.value ∙ sym two.items in
     let new = c.in_ok-both_leaves-in-Leaf-body.field-0.items in
-    let same : new ≡ c.args.self.now.items ++ c.args.right.now.items = c.in_ok-both_leaves-in-Leaf-body.ensures ∙ ap (λ xs. xs ++ c.deref-in-Leaf-body.result.now) left ∙ ap (λ xs. c.args.self.now.items ++ xs) right in
+    let same : new ≡ c.args.self.now.items ++ c.args.right.now.items = c.in_ok-both_leaves-in-Leaf-body.ensures
+    ∙ ap (λ xs. xs ++ c.deref-in-Leaf-body.result.now) left ∙ ap (λ xs. c.args.self.now.items ++ xs) right in
     let long = ap length same in
-    let wide : 8 ≤ length new = omega (arith, c.requires.enough, one.width, two.width, ap length one.items, ap length two.items, length-append c.args.self.now.items c.args.right.now.items) in
+    let wide : 8 ≤ length new = omega
+    (arith, c.requires.enough, one.width, two.width, ap length one.items, ap length two.items, length-append c.args.self.now.items c.args.right.now.items) in
     grown_result_same _ _ _ _ _ _ _ (sym one.depth) wide same c.grown_leaf.ensures
 
 pub returns-in_ok-both_inner-in-Inner-body-2 : goal.returns-in_ok-both_inner-in-Inner-body-2
@@ -47,7 +51,11 @@ returns-in_ok-both_inner-in-Inner-body-2 c =
     let b = ap length right in
     let some : 1 ≤ length new = omega (arith, count, one.each.some, a) in
     let depth = depth_all (depth_of c.deref-in-Inner-body-2.result.now) new c.in_ok-both_inner-in-Inner-body-2.ensures.each some in
-    let same : all_items new ≡ c.args.self.now.items ++ c.args.right.now.items = c.in_ok-both_inner-in-Inner-body-2.ensures.items ∙ ap (λ xs. all_items xs ++ all_items c.deref-in-Inner-body-2-2.result.now) left ∙ ap (λ xs. all_items c.in-Inner.one.items ++ all_items xs) right ∙ ap (λ xs. xs ++ all_items c.in-Inner-body-2.two.items) (sym one.items) ∙ ap (λ xs. c.args.self.now.items ++ xs) (sym two.items) in
+    let same : all_items new ≡ c.args.self.now.items ++ c.args.right.now.items = c.in_ok-both_inner-in-Inner-body-2.ensures.items
+    ∙ ap (λ xs. all_items xs ++ all_items c.deref-in-Inner-body-2-2.result.now) left
+    ∙ ap (λ xs. all_items c.in-Inner.one.items ++ all_items xs) right
+    ∙ ap (λ xs. xs ++ all_items c.in-Inner-body-2.two.items) (sym one.items)
+    ∙ ap (λ xs. c.args.self.now.items ++ xs) (sym two.items) in
     let wide : 8 ≤ length new = omega (arith, c.requires.enough, one.width, two.width, count, a, b) in
     let level : 1 + depth_of new ≡ c.args.self.now.depth = omega (arith, depth, one.depth, ap depth_of left) in
     grown_result_same _ _ _ _ _ _ _ level wide same c.grown_inner.ensures

@@ -21,4 +21,5 @@ returns c =
     let b = length-drop n c.args.children.items in
     let le = depth_all depth (take n c.args.children.items) left (omega arith) in
     let ri = depth_all depth (drop n c.args.children.items) right (omega arith) in
-    rw (c.in_ok-right.ensures.items, c.in_ok-right.ensures.tail) (omega arith, omega arith, omega arith, omega arith, sym (split_items n c.args.children.items))
+    rw (c.in_ok-right.ensures.items, c.in_ok-right.ensures.tail)
+    (omega arith, omega arith, omega arith, omega arith, sym (split_items n c.args.children.items))

@@ -7,4 +7,5 @@ returns c =
     let n = c.len-2.result / 2 in
     let a = length-take n c.args.entries.items in
     let b = length-drop n c.args.entries.items in
-    rw (c.in_ok-right.ensures.items, c.in_ok-right.ensures.tail) (refl, refl, omega arith, omega arith, take-append-drop n c.args.entries.items)
+    rw (c.in_ok-right.ensures.items, c.in_ok-right.ensures.tail)
+    (refl, refl, omega arith, omega arith, take-append-drop n c.args.entries.items)

@@ -3,7 +3,7 @@ use Rattle.std.specs.List.{insert}
 use Rattle.std.proofs.lemmas.Int.{ints}
 use Rattle.model.specs.declared.entry.Entry.{Entry}
 use Rattle.counted.specs.Sums.{weight_of}
-use Rattle.counted.proofs.InPlace.{put_over, put_between, put_same}
+use Rattle.counted.proofs.InPlace.{put_over, put_between, edit_same}
 use Rattle.counted.proofs.Totals.{weight_within}
 use Rattle.counted.proofs.node.in_place.put_in_leaf.Goals as goal
 
@@ -14,7 +14,8 @@ returns-then-gone-eq1-clause-ok c =
     let new = weight_within c.args.put.change in
     let old = weight_within c.index.result.now.change in
     let items = c.args.entries.now.items in
-    put_same _ _ _ _ _ _ _ _ _ _ (sym one) refl refl (omega (arith, ints)) (put_over items c.args.at c.args.put c.index.result.now (omega arith))
+    edit_same _ _ _ _ _ _ _ _ _ _ (sym one) refl refl (omega (arith, ints))
+    (put_over items c.args.at c.args.put c.index.result.now (omega arith))
 
 pub returns-in-Ok-clause-ok : goal.returns-in-Ok-clause-ok
 returns-in-Ok-clause-ok c =
@@ -22,7 +23,9 @@ returns-in-Ok-clause-ok c =
     let new = weight_within c.args.put.change in
     let items = c.args.entries.now.items in
     let is = c.in-Ok.ensures.items in
-    put_same _ _ _ _ _ _ _ _ _ _ (sym none) refl (is ∙ ap (λ xs. insert xs c.args.at c.args.put) c.reserve_exact.ensures.items) (omega (arith, ints)) (put_between items c.args.at c.args.put)
+    edit_same _ _ _ _ _ _ _ _ _ _ (sym none) refl (is
+    ∙ ap (λ xs. insert xs c.args.at c.args.put) c.reserve_exact.ensures.items) (omega (arith, ints))
+    (put_between items c.args.at c.args.put)
 
 pub returns-in-Ok-clause-room : goal.returns-in-Ok-clause-room
 returns-in-Ok-clause-room c = omega (arith, c.in-Ok.ensures.len)

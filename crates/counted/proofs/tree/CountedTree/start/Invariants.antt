@@ -1,4 +1,4 @@
 use Rattle.counted.proofs.tree.CountedTree.start.Given as goal
 
-abbrev pub ghosts-start_uncounted : goal.ghosts-start_uncounted
-ghosts-start_uncounted g a = record { name = a.blank.name; parts = a.blank.parts }
+abbrev pub ghosts-gap_uncounted : goal.ghosts-gap_uncounted
+ghosts-gap_uncounted g a = record { name = a.blank.name; parts = a.blank.parts }

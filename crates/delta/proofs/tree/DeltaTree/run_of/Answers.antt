@@ -6,35 +6,36 @@ use Rattle.model.specs.declared.entry.Change.TheVariants.{Ins, Mod}
 use Rattle.delta.specs.Tree.{Tree}
 use Rattle.delta.specs.Search.{insert_cmp, modify_cmp, stands_before, IsSplit}
 use Rattle.delta.specs.Changes.{modify_count, IsRun}
-use Rattle.delta.proofs.ChangesLemmas.{base-le-past}
 use Rattle.delta.proofs.tree.DeltaTree.run_of.Goals as goal
 
-pub returns-in-Ins-clause-run : goal.returns-in-Ins-clause-run
-returns-in-Ins-clause-run c =
+pub returns-in-Ins : goal.returns-in-Ins
+returns-in-Ins c =
     let t = c.args.self.now in
     let e = c.args.entry.now in
     let n = c.index_of_insert-index.result in
     let row = c.in-Ins.row in
     let width : c.self.inside.key_cols ≡ t.key_cols = ap (λ (w : Tree). w.key_cols) c.self.view_is in
     let key : c.key.result.now ≡ key_of t.key_cols row = c.key.ensures ∙ ap (λ k. key_of k row) width in
-    let at = subst (λ (k : Key). IsSplit (stands_before (insert_cmp t.key_cols k) c.sid-sid.result) t.entries n) key c.index_of_insert-index.ensures in
-    let split = subst (λ (s : ℕ). IsSplit (stands_before (insert_cmp t.key_cols (key_of t.key_cols row)) s) t.entries n) c.sid-sid.ensures at in
+    let at = subst
+    (λ (k : Key). IsSplit
+    (stands_before (insert_cmp t.key_cols k) c.sid-sid.result) t.entries n) key c.index_of_insert-index.ensures in
+    let split = subst
+    (λ (s : ℕ). IsSplit (stands_before (insert_cmp t.key_cols (key_of t.key_cols row)) s) t.entries n) c.sid-sid.ensures at in
     let change : e.change ≡ Ins row = sym c.change.ensures ∙ c.in-Ins.is in
-    subst (λ (d : Change). IsRun t.key_cols e.sid d t.entries n n) (sym change) (split, refl)
+    record { run = subst (λ (d : Change). IsRun t.key_cols e.sid d t.entries n n) (sym change) (split, refl) }
 
-pub returns-in-Del-clause-range : goal.returns-in-Del-clause-range
-returns-in-Del-clause-range c =
-    let t = c.args.self.now in
-    base-le-past t.key_cols c.sid-sid.result t.entries _ _ c.place_of_base-place.ensures.split c.end_of_row.ensures
-
-pub returns-in-Mod-clause-run : goal.returns-in-Mod-clause-run
-returns-in-Mod-clause-run c =
+pub returns-in-Mod : goal.returns-in-Mod
+returns-in-Mod c =
     let t = c.args.self.now in
     let e = c.args.entry.now in
     let n = c.place_of_modify-place.result.index in
-    let m = n + c.modifies_at.result in
+    let m = n + c.modify_worth.result in
     let col = c.in-Mod.col in
-    let split = subst (λ (s : ℕ). IsSplit (stands_before (modify_cmp col) s) t.entries n) c.sid-sid.ensures c.place_of_modify-place.ensures.split in
-    let end = ap (λ k. n + k) (c.modifies_at.ensures ∙ ap (λ s. modify_count s col (drop n t.entries)) c.sid-sid.ensures) in
+    let split = subst
+    (λ (s : ℕ). IsSplit
+    (stands_before (modify_cmp col) s) t.entries n) c.sid-sid.ensures c.place_of_modify-place.ensures.split in
+    let end =
+    ap (λ k. n + k) (c.modify_worth.ensures t.entries n c.place_of_modify-place.ensures.entry ∙ ap
+    (λ s. modify_count s col (drop n t.entries)) c.sid-sid.ensures) in
     let change : e.change ≡ Mod col c.in-Mod.field-1 = sym c.change.ensures ∙ c.in-Mod.is in
-    subst (λ (d : Change). IsRun t.key_cols e.sid d t.entries n m) (sym change) (split, end)
+    record { run = subst (λ (d : Change). IsRun t.key_cols e.sid d t.entries n m) (sym change) (split, end) }

@@ -1,0 +1,400 @@
+-- How far a descent has come: the entries below a node, among those of the tree.
+use Rattle.std.proofs.Common.{◌≡◌, ℕ, zero, suc, ◌+◌, ◌<◌, ◌≤◌, inl, inr, Bool, List, [], ◌∷◌, ◌++◌, length, take, drop, get_or}
+use Rattle.std.proofs.Common.{refl, ap, sym, ◌∙◌, subst, arith, append_assoc, length-append, length-take, length-drop, true, false}
+use Rattle.std.specs.Prelude.{ℤ, pos, ◌+ℤ◌, Option, None, slice_get}
+use Rattle.std.specs.Option.{option_map}
+use Rattle.std.proofs.lemmas.Int.{ints}
+use Rattle.std.proofs.lemmas.Bool.{cases_lt}
+use Rattle.std.proofs.lemmas.List.{append-nil, drop-drop, drop_all, take_all, take-append-le, drop-append-le}
+use Rattle.std.proofs.lemmas.Option.{unwrap_or-slice_get, slice_get_past}
+use Rattle.std.specs.Option.{unwrap_or}
+use Rattle.model.specs.declared.entry.Entry.{Entry}
+use Rattle.model.specs.declared.entry.Change.{Change}
+use Rattle.counted.specs.declared.entry.Head.{Head}
+use Rattle.counted.specs.declared.node.Child.{Child}
+use Rattle.counted.specs.Descents.{AreBelow, IsAt}
+use Rattle.counted.specs.Gaps.{AreNext, Leads, Follows, IsGap}
+use Rattle.counted.specs.Heads.{head_of, head_at}
+use Rattle.counted.specs.Search.{IsBoundary}
+use Rattle.counted.specs.Shapes.{items_of, all_items, AreChildren}
+use Rattle.counted.specs.Sums.{total}
+use Rattle.counted.proofs.Totals.{IsWithin, total_within, total-append}
+use Rattle.counted.proofs.Places.{split_items, child_fits, child_some, count_within, drop_in_child, items-more}
+use Rattle.counted.proofs.Heads.{get-past}
+use Rattle.counted.proofs.Boundaries.{true_false}
+use Rattle.counted.proofs.GapSteps.{never_both}
+
+-- ---- entries that come next
+
+take-more_by : (xs : List Entry) (n m : ℕ) → take (n + m) xs ≡ take n xs ++ take m (drop n xs)
+take-more_by xs zero m = ap (λ k. take k xs) (let e : 0 + m ≡ m = omega arith in e)
+take-more_by [] (suc n) zero = ap (λ k. take {A = Entry} k []) (let e : suc n + 0 ≡ suc n = omega arith in e)
+take-more_by [] (suc n) (suc m) = ap (λ k. take {A = Entry} k []) (let e : suc n + suc m ≡ suc (n + suc m) = omega arith in e)
+take-more_by (x ∷ xs) (suc n) m =
+    ap (λ k. take k (x ∷ xs)) (let e : suc n + m ≡ suc (n + m) = omega arith in e) ∙ ap (λ ys. x ∷ ys) (take-more_by xs n m)
+
+get-drop : (xs : List Entry) (n m : ℕ) → slice_get xs (n + m) ≡ slice_get (drop n xs) m
+get-drop xs zero m = ap (slice_get xs) (let e : 0 + m ≡ m = omega arith in e)
+get-drop [] (suc n) m = refl
+get-drop (x ∷ xs) (suc n) m = ap (slice_get (x ∷ xs)) (let e : suc n + m ≡ suc (n + m) = omega arith in e) ∙ get-drop xs n m
+
+pub get-left : (xs ys : List Entry) (m : ℕ) → m < length xs → slice_get (xs ++ ys) m ≡ slice_get xs m
+get-left [] ys m lt = absurd (omega arith)
+get-left (x ∷ xs) ys zero lt = refl
+get-left (x ∷ xs) ys (suc m) lt = get-left xs ys m (omega arith)
+
+pub next-next : (xs ys zs : List Entry) (n m : ℕ) → AreNext xs n ys → AreNext ys m zs → AreNext xs (n + m) zs
+next-next xs ys zs n m a b =
+    let outer = a.within in
+    let inner = b.within in
+    let tail = drop (n + length ys) xs in
+    let one : drop (n + m) xs ≡ drop m ys ++ tail = sym (drop-drop m n xs) ∙ ap (drop m) a.rest ∙ drop-append-le m ys tail (omega arith) in
+    let two : drop ((n + m) + length zs) xs ≡ drop (m + length zs) ys ++ tail =
+    ap (λ k. drop k xs) (let e : (n + m) + length zs ≡ n + (m + length zs) = omega arith in e)
+    ∙ sym (drop-drop (m + length zs) n xs) ∙ ap (drop (m + length zs)) a.rest ∙ drop-append-le (m + length zs) ys tail inner in
+    record {
+      within = omega arith;
+      rest = one ∙ ap (λ es. es ++ tail) b.rest ∙ append_assoc zs (drop (m + length zs) ys) tail ∙ ap (λ es. zs ++ es) (sym two);
+    }
+
+pub sum-next : (xs ys : List Entry) (n m : ℕ) → AreNext xs n ys → m ≤ length ys
+    → total (take (n + m) xs) ≡ total (take n xs) +ℤ total (take m ys)
+sum-next xs ys n m a le =
+    ap total (take-more_by xs n m ∙ ap (λ es. take n xs ++ take m es) a.rest
+    ∙ ap (λ es. take n xs ++ es) (take-append-le m ys (drop (n + length ys) xs) le))
+    ∙ total-append (take n xs) (take m ys)
+
+pub get-next : (xs ys : List Entry) (n m : ℕ) → AreNext xs n ys → m < length ys → slice_get xs (n + m) ≡ slice_get ys m
+get-next xs ys n m a lt = get-drop xs n m ∙ ap (λ es. slice_get es m) a.rest ∙ get-left ys (drop (n + length ys) xs) m lt
+
+pub or-next : (xs ys : List Entry) (n m : ℕ) (d : Entry) → AreNext xs n ys → m < length ys → get_or xs (n + m) d ≡ get_or ys m d
+or-next xs ys n m d a lt =
+    sym (unwrap_or-slice_get xs (n + m) d) ∙ ap (λ o. unwrap_or o d) (get-next xs ys n m a lt) ∙ unwrap_or-slice_get ys m d
+
+-- ---- below a child
+
+child_next : (children : List Child) (i : ℕ) (d : Child) → i < length children
+    → AreNext (all_items children) (length (all_items (take i children))) (items_of (get_or children i d))
+child_next children i d lt =
+    let fits = child_fits children i d lt in
+    record {
+      within = fits;
+      rest =
+          drop_in_child children i d (length (all_items (take i children))) 0 (length (items_of (get_or children i d)))
+          (items_of (get_or children i d)) lt (omega arith) (omega arith)
+          (sym (ap (λ es. items_of (get_or children i d) ++ es)
+          (drop_all (0 + length (items_of (get_or children i d))) (items_of (get_or children i d)) (omega arith))
+          ∙ append-nil _));
+    }
+
+-- the entry behind a child's is the first one from the next child on, or else the one behind all
+child_behind : (children : List Child) (i : ℕ) (d : Child) → i < length children → i + 1 < length children
+    → slice_get (all_items children) (length (all_items (take i children)) + length (items_of (get_or children i d))) ≡ slice_get
+    (all_items (drop (i + 1) children)) 0
+child_behind children i d lt more =
+    let long = ap length (items-more children i d lt) ∙ length-append (all_items (take i children)) (items_of (get_or children i d)) in
+    ap (λ es. slice_get es (length (all_items (take i children)) + length (items_of (get_or children i d)))) (split_items (i + 1) children)
+    ∙ get-past (all_items (take (i + 1) children)) (all_items (drop (i + 1) children)) 0 _ (omega arith)
+
+child_ends : (children : List Child) (i : ℕ) (d : Child) → i < length children → length children ≤ i + 1
+    → length (all_items (take i children)) + length (items_of (get_or children i d)) ≡ length (all_items children)
+child_ends children i d lt last =
+    let long = ap length (items-more children i d lt) ∙ length-append (all_items (take i children)) (items_of (get_or children i d)) in
+    let both = ap length (split_items (i + 1) children)
+    ∙ length-append (all_items (take (i + 1) children)) (all_items (drop (i + 1) children)) in
+    let none = ap (λ cs. length (all_items cs)) (drop_all (i + 1) children last) in
+    omega arith
+
+pub get_or_some : (children : List Child) (i : ℕ) → i < length children → Child
+get_or_some [] i lt = absurd (omega arith)
+get_or_some (c ∷ children) i lt = c
+
+take-front : (children : List Child) (i : ℕ)
+    → take (length (all_items (take i children))) (all_items children) ≡ all_items (take i children)
+take-front children i =
+    ap (take (length (all_items (take i children)))) (split_items i children)
+    ∙ take-append-le (length (all_items (take i children))) (all_items (take i children)) (all_items (drop i children)) (omega arith)
+    ∙ take_all (length (all_items (take i children))) (all_items (take i children)) (omega arith)
+
+some_behind : (children : List Child) (i : ℕ) → AreChildren children → i < length children → 1 ≤ length (all_items (drop i children))
+some_behind children i h lt =
+    let d = get_or_some children i lt in
+    let fits = child_fits children i d lt in
+    let some = child_some _ _ (h.each i d lt) in
+    let both = ap length (split_items i children) ∙ length-append (all_items (take i children)) (all_items (drop i children)) in
+    omega arith
+
+pub below_child : (items : List Entry) (index : ℕ) (shift : ℤ) (children : List Child) (next more : Option Head) (i : ℕ) (d : Child)
+    → AreChildren children → i < length children
+    → AreBelow items index shift (all_items children) next
+    → (i + 1 < length children → more ≡ head_at (all_items (drop (i + 1) children)) 0)
+    → (length children ≤ i + 1 → more ≡ next)
+    → AreBelow items (index + length (all_items (take i children))) (shift +ℤ total (all_items (take i children)))
+    (items_of (get_or children i d)) more
+below_child items index shift children next more i d h lt b some last =
+    let before = length (all_items (take i children)) in
+    let here = items_of (get_or children i d) in
+    let fits = child_fits children i d lt in
+    let own = child_next children i d lt in
+    record {
+      here = next-next items (all_items children) here index before b.here own;
+      sum =
+          let both = sum-next items (all_items children) index before b.here (omega arith) in
+          let front = ap total (take-front children i) in
+          let sum = b.sum in
+          omega (arith, ints);
+      behind =
+          elim (cases_lt (i + 1) (length children)) [
+            | inl lt' ↦
+                let rest = some_behind children (i + 1) h lt' in
+                let both = ap length (split_items (i + 1) children)
+                ∙ length-append (all_items (take (i + 1) children)) (all_items (drop (i + 1) children)) in
+                let long = ap length (items-more children i d lt) ∙ length-append (all_items (take i children)) here in
+                let short : before + length here < length (all_items children) = omega arith in
+                some lt'
+                ∙ ap (option_map head_of) (sym (child_behind children i d lt lt')
+                ∙ sym (get-next items (all_items children) index (before + length here) b.here short))
+                ∙ ap (head_at items) (let e : index + (before + length here) ≡ (index + before) + length here = omega arith in e)
+            | inr le ↦
+                let ends = child_ends children i d lt le in
+                last le ∙ b.behind
+                ∙ ap (head_at items)
+                (let e : index + length (all_items children) ≡ (index + before) + length here = omega arith in e)
+          ];
+    }
+
+pub below_top : (items : List Entry) → AreBelow items 0 (pos 0) items None
+below_top items = record {
+  here = record {
+    within = omega arith;
+    rest = sym (ap (λ es. items ++ es) (drop_all (0 + length items) items (omega arith)) ∙ append-nil items);
+  };
+  sum = refl;
+  behind = sym (ap (option_map head_of) (slice_get_past items (0 + length items) (omega arith)));
+}
+
+pub below_spot : (items : List Entry) (index : ℕ) (shift : ℤ) (leaf : List Entry) (next head : Option Head) (at : ℕ)
+    → at ≤ length leaf → AreBelow items index shift leaf next
+    → (at < length leaf → head ≡ head_at leaf at) → (length leaf ≤ at → head ≡ next)
+    → IsAt items (index + at) (shift +ℤ total (take at leaf)) (drop at leaf) head
+below_spot items index shift leaf next head at le b some last =
+    let within = b.here.within in
+    record {
+      here = next-next items leaf (drop at leaf) index at b.here (record {
+        within = omega (arith, length-drop at leaf);
+        rest =
+            sym (ap (λ es. drop at leaf ++ es) (drop_all (at + length (drop at leaf)) leaf (omega (arith, length-drop at leaf)))
+            ∙ append-nil (drop at leaf));
+      });
+      sum = let both = sum-next items leaf index at b.here le in let sum = b.sum in omega (arith, ints);
+      there =
+          elim (cases_lt at (length leaf)) [
+            | inl lt ↦ some lt ∙ ap (option_map head_of) (sym (get-next items leaf index at b.here lt))
+            | inr past ↦ last past ∙ b.behind ∙ ap (head_at items) (let e : index + length leaf ≡ index + at = omega arith in e)
+          ];
+    }
+
+pub below_moved : (items : List Entry) (index k : ℕ) (shift z : ℤ) (node es : List Entry) (next : Option Head) → index ≡ k
+    → shift ≡ z → node ≡ es → AreBelow items index shift node next → AreBelow items k z es next
+below_moved items index k shift z node es next a b c h =
+    subst (λ (n : ℕ). AreBelow items n z es next) a
+    (subst (λ (w : ℤ). AreBelow items index w es next) b (subst (λ (xs : List Entry). AreBelow items index shift xs next) c h))
+
+at_moved : (items : List Entry) (index k : ℕ) (shift z : ℤ) (leaf es : List Entry) (head : Option Head) → index ≡ k → shift ≡ z
+    → leaf ≡ es → IsAt items index shift leaf head → IsAt items k z es head
+at_moved items index k shift z leaf es head a b c h =
+    subst (λ (n : ℕ). IsAt items n z es head) a
+    (subst (λ (w : ℤ). IsAt items index w es head) b (subst (λ (xs : List Entry). IsAt items index shift xs head) c h))
+
+-- where a search ends in a leaf whose entries are seen as these
+pub spot_at : (items : List Entry) (index : ℕ) (shift : ℤ) (leaf es : List Entry) (next head : Option Head) (at k : ℕ) (z : ℤ)
+    (some : List Entry) → at ≤ length es → AreBelow items index shift leaf next → es ≡ leaf
+    → k ≡ index + at → z ≡ shift +ℤ total (take at es) → some ≡ drop at es → (at < length es → head ≡ head_at es at)
+    → (length es ≤ at → head ≡ next) → IsAt items k z some head
+spot_at items index shift leaf es next head at k z some le b same a c d there past =
+    at_moved _ _ _ _ _ _ _ _ (sym a) (sym c) (sym d)
+    (below_spot items index shift es next head at le (below_moved _ _ _ _ _ _ _ _ refl refl (sym same) b) there past)
+
+pub below_within : (items : List Entry) (index : ℕ) (shift : ℤ) (node : List Entry) (next : Option Head)
+    → AreBelow items index shift node next → IsWithin shift index
+below_within items index shift node next b =
+    let w = total_within (take index items) in
+    let here = b.here.within in
+    let sum = b.sum in
+    record { above = omega (arith, ints, length-take index items); below = omega (arith, ints, length-take index items) }
+
+-- ---- the place in all, from that in a leaf
+
+-- the entry before this place, if there is one, is of the one kind, and the one at it, if there is one, of the other, by what
+-- stands before each
+pub record IsPlace (L H : Entry → ℤ → Type 0) (shift : ℤ) (entries : List Entry) (n : ℕ) : Type 0 where
+  pub within : n ≤ length entries
+  pub low : (m : ℕ) (d : Entry) → m + 1 ≡ n → L (get_or entries m d) (total (take m entries) +ℤ shift)
+  pub high : (d : Entry) → n < length entries → H (get_or entries n d) (total (take n entries) +ℤ shift)
+
+-- the first of the entries below a node, if any stand before them, is of the one kind, and the one behind them, if there is one,
+-- of the other
+pub record IsBetween (L H : Entry → ℤ → Type 0) (items : List Entry) (index : ℕ) (shift : ℤ) (node : List Entry) : Type 0 where
+  pub some : 1 ≤ index → 1 ≤ length node
+  pub low : (e : Entry) → 1 ≤ index → L (get_or node 0 e) shift
+  pub high : (e : Entry) → index + length node < length items
+      → H (get_or items (index + length node) e) (total (take (index + length node) items))
+
+moved : (P : Entry → ℤ → Type 0) (x y : Entry) (z w : ℤ) → x ≡ y → z ≡ w → P x z → P y w
+moved P x y z w a b h = subst (λ (e : Entry). P e w) a (subst (P x) b h)
+
+module _ (L H : Entry → ℤ → Type 0) where
+  pub between_top : (items : List Entry) (shift : ℤ) → IsBetween L H items 0 shift items
+  between_top items shift = record {
+    some = λ h. absurd (omega arith);
+    low = λ e h. absurd (omega arith);
+    high = λ e lt. absurd (omega arith);
+  }
+
+  pub between_moved : (items : List Entry) (index k : ℕ) (shift z : ℤ) (node es : List Entry) → index ≡ k → shift ≡ z → node ≡ es
+      → IsBetween L H items index shift node → IsBetween L H items k z es
+  between_moved items index k shift z node es a b c h =
+      subst (λ (n : ℕ). IsBetween L H items n z es) a
+      (subst (λ (w : ℤ). IsBetween L H items index w es) b
+      (subst (λ (xs : List Entry). IsBetween L H items index shift xs) c h))
+
+  module _ (items : List Entry) (index : ℕ) (shift : ℤ) (children : List Child) (i : ℕ) (d : Child) (h : AreChildren children)
+      (lt : i < length children) (a : AreNext items index (all_items children)) (sum : shift ≡ total (take index items))
+      (b : IsBetween L H items index shift (all_items children)) where
+    child_low : ((e : Entry) → 1 ≤ i → L (get_or (items_of (get_or children i d)) 0 e) (total (all_items (take i children)) +ℤ shift))
+        → (e : Entry) → 1 ≤ index + length (all_items (take i children))
+        → L (get_or (items_of (get_or children i d)) 0 e) (shift +ℤ total (all_items (take i children)))
+    child_low low e some =
+        let here = items_of (get_or children i d) in
+        elim (cases_lt 0 i) [
+          | inl above ↦ moved L (get_or here 0 e) (get_or here 0 e) (total (all_items (take i children)) +ℤ shift)
+              (shift +ℤ total (all_items (take i children))) refl (omega (arith, ints)) (low e above)
+          | inr first ↦
+              let none : i ≡ 0 = omega arith in
+              let empty : all_items (take i children) ≡ [] = ap (λ k. all_items (take k children)) none in
+              let nothing = ap length empty in
+              let adds = ap total empty in
+              let own = child_next children i d lt in
+              let nonempty = child_some _ _ (h.each i d lt) in
+              let front = or-next (all_items children) here (length (all_items (take i children))) 0 e own nonempty in
+              let at : length (all_items (take i children)) + 0 ≡ 0 = omega arith in
+              let same : get_or (all_items children) 0 e ≡ get_or here 0 e = ap (λ k. get_or (all_items children) k e) (sym at) ∙ front in
+              moved L (get_or (all_items children) 0 e) (get_or here 0 e) shift (shift +ℤ total (all_items (take i children))) same
+              (omega (arith, ints)) (b.low e (omega arith))
+        ]
+
+    child_high : ((e : Entry) → i + 1 < length children
+        → H (get_or (items_of (get_or children (i + 1) d)) 0 e) (total (all_items (take (i + 1) children)) +ℤ shift))
+        → (e : Entry) → (k : ℕ) → k ≡ (index + length (all_items (take i children))) + length (items_of (get_or children i d))
+        → k < length items → H (get_or items k e) (total (take k items))
+    child_high high e k is short =
+        let before = length (all_items (take i children)) in
+        let here = items_of (get_or children i d) in
+        let long = ap length (items-more children i d lt) ∙ length-append (all_items (take i children)) here in
+        elim (cases_lt (i + 1) (length children)) [
+          | inl more ↦
+              let next = items_of (get_or children (i + 1) d) in
+              let own = child_next children (i + 1) d more in
+              let nonempty = child_some _ _ (h.each (i + 1) d more) in
+              let all = next-next items (all_items children) next index (length (all_items (take (i + 1) children))) a own in
+              let at : (index + length (all_items (take (i + 1) children))) + 0 ≡ k = omega arith in
+              let item : get_or next 0 e ≡ get_or items k e = sym
+              (or-next items next (index + length (all_items (take (i + 1) children))) 0 e all nonempty)
+              ∙ ap (λ n. get_or items n e) at in
+              let adds = sum-next items (all_items children) index (length (all_items (take (i + 1) children))) a
+              (count_within children (i + 1)) in
+              let front = ap total (take-front children (i + 1)) in
+              let at' : index + length (all_items (take (i + 1) children)) ≡ k = omega arith in
+              let to = ap (λ n. total (take n items)) at' in
+              moved H (get_or next 0 e) (get_or items k e) (total (all_items (take (i + 1) children)) +ℤ shift)
+              (total (take k items)) item (omega (arith, ints)) (high e more)
+          | inr none ↦
+              let ends = child_ends children i d lt none in
+              let at : index + length (all_items children) ≡ k = omega arith in
+              let P : ℕ → Type 0 = λ n. H (get_or items n e) (total (take n items)) in
+              subst P at (b.high e (omega arith))
+        ]
+
+    pub between_child : ((e : Entry) → 1 ≤ i
+        → L (get_or (items_of (get_or children i d)) 0 e) (total (all_items (take i children)) +ℤ shift))
+        → ((e : Entry) → i + 1 < length children
+        → H (get_or (items_of (get_or children (i + 1) d)) 0 e) (total (all_items (take (i + 1) children)) +ℤ shift))
+        → IsBetween L H items (index + length (all_items (take i children))) (shift +ℤ total (all_items (take i children)))
+        (items_of (get_or children i d))
+    between_child low high = record {
+      some = λ some. child_some _ _ (h.each i d lt);
+      low = child_low low;
+      high = λ e short. child_high high e _ refl short;
+    }
+
+  module _ (never : (e : Entry) (z : ℤ) → L e z → H e z
+      → ⊥) (items : List Entry) (index : ℕ) (shift : ℤ) (node : List Entry) (a : AreNext items index node)
+      (sum : shift ≡ total (take index items)) (t : IsBetween L H items index shift node) where
+    place_high : (at : ℕ) (d : Entry) → IsPlace L H shift node at → (k : ℕ) → k ≡ index + at → k < length items
+        → H (get_or items k d) (total (take k items) +ℤ pos 0)
+    place_high at d g k is lt =
+        let inner = g.within in
+        elim (cases_lt at (length node)) [
+          | inl here ↦
+              let both = sum-next items node index at a inner in
+              let item : get_or node at d ≡ get_or items k d = sym (or-next items node index at d a here)
+              ∙ ap (λ n. get_or items n d) (sym is) in
+              let to = ap (λ n. total (take n items)) is in
+              moved H (get_or node at d) (get_or items k d) (total (take at node) +ℤ shift) (total (take k items) +ℤ pos 0) item
+              (omega (arith, ints)) (g.high d here)
+          | inr past ↦
+              let e : index + length node ≡ k = omega arith in
+              let P : ℕ → Type 0 = λ n. H (get_or items n d) (total (take n items)) in
+              moved H (get_or items k d) (get_or items k d) (total (take k items)) (total (take k items) +ℤ pos 0) refl
+              (omega (arith, ints)) (subst P e (t.high d (omega arith)))
+        ]
+
+    place_low : (at m : ℕ) (d : Entry) → IsPlace L H shift node at → m + 1 ≡ index + at
+        → L (get_or items m d) (total (take m items) +ℤ pos 0)
+    place_low zero m d g is =
+        let some = t.some (omega arith) in
+        let high = moved H (get_or node 0 d) (get_or node 0 d) (pos 0 +ℤ shift) shift refl (omega (arith, ints)) (g.high d (omega arith)) in
+        absurd (never (get_or node 0 d) shift (t.low d (omega arith)) high)
+    place_low (suc at) m d g is =
+        let inner = g.within in
+        let both = sum-next items node index at a (omega arith) in
+        let e : index + at ≡ m = omega arith in
+        let item : get_or node at d ≡ get_or items m d = sym (or-next items node index at d a (omega arith))
+        ∙ ap (λ n. get_or items n d) e in
+        let to = ap (λ n. total (take n items)) e in
+        moved L (get_or node at d) (get_or items m d) (total (take at node) +ℤ shift) (total (take m items) +ℤ pos 0) item
+        (omega (arith, ints)) (g.low at d (omega arith))
+
+    pub place_below : (at : ℕ) → IsPlace L H shift node at → IsPlace L H (pos 0) items (index + at)
+    place_below at g = record {
+      within = let w = a.within in let inner = g.within in omega arith;
+      low = λ m d is. place_low at m d g is;
+      high = λ d lt. place_high at d g _ refl lt;
+    }
+
+-- ---- by SID, and by position
+
+abbrev pub Passes : (Entry → Bool) → Entry → ℤ → Type 0
+Passes test e z = test e ≡ true
+
+abbrev pub Fails : (Entry → Bool) → Entry → ℤ → Type 0
+Fails test e z = test e ≡ false
+
+pub boundary_below : (test : Entry
+    → Bool) (items : List Entry) (index : ℕ) (shift : ℤ) (node : List Entry) (next : Option Head) (at : ℕ)
+    → AreBelow items index shift node next
+    → IsBetween (Passes test) (Fails test) items index shift node → IsBoundary test node at → IsBoundary test items (index + at)
+boundary_below test items index shift node next at a t b =
+    let p = place_below (Passes test) (Fails test) (λ e z. true_false (test e)) items index shift node a.here a.sum t at
+    (record { within = b.within; low = b.low; high = b.high }) in
+    record { within = p.within; low = p.low; high = p.high }
+
+pub gap_below : (after : Change
+    → Bool) (rid : ℤ) (items : List Entry) (index : ℕ) (shift : ℤ) (node : List Entry) (next : Option Head) (at : ℕ)
+    → AreBelow items index shift node next
+    → IsBetween (Leads after rid) (Follows after rid) items index shift node → IsGap after rid shift node at
+    → IsGap after rid (pos 0) items (index + at)
+gap_below after rid items index shift node next at a t g =
+    let p = place_below (Leads after rid) (Follows after rid) (never_both after rid) items index shift node a.here a.sum t at
+    (record { within = g.within; low = g.low; high = g.high }) in
+    record { within = p.within; low = p.low; high = p.high }

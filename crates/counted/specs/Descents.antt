@@ -1,0 +1,19 @@
+-- How far a descent has come, and where it ends.
+use Rattle.std.specs.Prelude.{◌≡◌, ℕ, ◌+◌, ℤ, Option, List, length, take}
+use Rattle.model.specs.declared.entry.Entry.{Entry}
+use Rattle.counted.specs.declared.entry.Head.{Head}
+use Rattle.counted.specs.Gaps.{AreNext}
+use Rattle.counted.specs.Heads.{head_at}
+use Rattle.counted.specs.Sums.{total}
+
+-- the entries below a node come next, those before them add so much, and this is the head of the one behind them
+pub record AreBelow (entries : List Entry) (index : ℕ) (shift : ℤ) (node : List Entry) (next : Option Head) : Type 0 where
+  pub here : AreNext entries index node
+  pub sum : shift ≡ total (take index entries)
+  pub behind : next ≡ head_at entries (index + length node)
+
+-- the entries before a place add so much, these come next in its leaf, and this is the head of the entry there
+pub record IsAt (entries : List Entry) (index : ℕ) (shift : ℤ) (leaf : List Entry) (head : Option Head) : Type 0 where
+  pub here : AreNext entries index leaf
+  pub sum : shift ≡ total (take index entries)
+  pub there : head ≡ head_at entries index

@@ -1,0 +1,32 @@
+use Rattle.std.proofs.Common.{arith}
+use Rattle.std.proofs.lemmas.Int.{ints}
+use Rattle.delta.proofs.StartLemmas.{start_bounds}
+use Rattle.delta.proofs.places.next_row.Goals as goal
+
+pub overflow_sub-shift : goal.overflow_sub-shift
+overflow_sub-shift g c =
+    let b =
+    start_bounds (g.G.Gap.after c.args.gap.now) c.requires.first c.args.rid c.args.tree.now.entries c.args.index c.args.shift
+    c.requires.gap c.requires.shift c.requires.few in
+    omega (arith, ints, b.1)
+
+pub moved-requires : goal.moved-requires
+moved-requires g c =
+    let b =
+    start_bounds (g.G.Gap.after c.args.gap.now) c.requires.first c.args.rid c.args.tree.now.entries c.args.index c.args.shift
+    c.requires.gap c.requires.shift c.requires.few in
+    record {
+      small = c.requires.rid;
+      above = omega (arith, ints, b.2, b.1);
+      below = omega (arith, ints, b.1, b.2);
+      within = omega (arith, ints, b.0, b.1, b.2);
+    }
+
+pub returns : goal.returns
+returns g c =
+    let b =
+    start_bounds (g.G.Gap.after c.args.gap.now) c.requires.first c.args.rid c.args.tree.now.entries c.args.index c.args.shift
+    c.requires.gap c.requires.shift c.requires.few in
+    let at = c.moved.ensures in
+    let shift = c.requires.shift in
+    omega (arith, ints, b.0, b.1, b.2)
