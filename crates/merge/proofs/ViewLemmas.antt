@@ -1,11 +1,16 @@
 -- What the modifies at a SID make of a row, and how a walk over them finds a value.
-use Rattle.std.proofs.Common.{◌≡◌, ℕ, zero, suc, ◌<◌, ◌≤◌, Bool, true, false, cond, not, T, Option, Some, None, List, [], ◌∷◌, ◌++◌, map, length, filter, take, drop, get_or, Ordering, Less, Equal, Greater, is_lt, is_gt, nat_cmp, refl, sym, ap, ◌∙◌, subst, arith, take-append-drop, length-set}
-use Rattle.std.specs.Prelude.{◌==◌, nat_le, slice_get, slice_set, is_none}
+use Rattle.std.proofs.Common.{◌≡◌, ℕ, zero, suc, ◌<◌, ◌≤◌, Bool, true, false, cond, not, T, Option, Some, None, List, [], ◌∷◌}
+use Rattle.std.proofs.Common.{◌++◌, map, length, filter, take, drop, get_or, Ordering, Less, Equal, Greater, is_gt, nat_cmp, refl}
+use Rattle.std.proofs.Common.{sym, ap, ◌∙◌, subst, arith, take-append-drop, length-set}
+use Rattle.std.specs.Prelude.{◌==◌, slice_get, slice_set, is_none}
 use Rattle.std.specs.Bool.{passes}
 use Rattle.std.specs.Ordering.{ordering_then}
 use Rattle.std.specs.Cmp.{ranked, tied_itself, nat_cmp_total}
 use Rattle.std.specs.List.{list_all}
+use Rattle.std.specs.Option.{option_map, option_or}
 use Rattle.std.proofs.lemmas.Bool.Decides.{nat_tests}
+use Rattle.values.specs.Lent.{value_of}
+use Rattle.values.specs.declared.value.ValueRef.{ValueRef}
 use Rattle.values.specs.Shape.{Columns, fits_schema, values_fault}
 use Rattle.values.specs.declared.row.Row.{Row}
 use Rattle.values.specs.declared.value.Value.{Value}
@@ -14,15 +19,15 @@ use Rattle.model.specs.declared.entry.Entry.{Entry}
 use Rattle.model.specs.declared.entry.Change.{Change}
 use Rattle.model.specs.declared.entry.Change.TheVariants.{Ins, Del, Mod}
 use Rattle.model.specs.Effects.{Cells, set_cells}
-use Rattle.model.specs.Entries.{entry_at, entry_cmp, are_ordered}
+use Rattle.model.specs.Entries.{are_ordered}
 use Rattle.model.specs.Merging.{changes_at}
 use Rattle.model.specs.Table.{table_of}
-use Rattle.model.proofs.CallerLemmas.{both, first, second, changes_at_here, changes_at_other, changes_at_after}
+use Rattle.model.proofs.CallerLemmas.{first, second, changes_at_other, changes_at_after}
 use Rattle.delta.specs.Search.{base_cmp, stands_before, IsSplit}
 use Rattle.stable.specs.Stable.{Stable, table_in, IsStable}
-use Rattle.merge.specs.View.{modified_cells, cells_at, last_cell, cells_if, source_row, read_row, write_row, row_of}
+use Rattle.merge.specs.View.{modified_cells, cells_at, layer_cells, last_cell, source_row, read_row, write_row, row_of}
 use Rattle.merge.specs.declared.view.RowView.{RowView}
-use Rattle.merge.proofs.LevelLemmas.{all_from, from_head, after_delete, all_after-from, all_from-weaken, of_le}
+use Rattle.merge.proofs.LevelLemmas.{all_from-ordered, all_after-from}
 
 -- ---- cells
 
@@ -43,7 +48,8 @@ or_else-twice : (a b c : Option Value) → or_else (or_else a b) c ≡ or_else a
 or_else-twice None b c = refl
 or_else-twice (Some value) b c = refl
 
-last_cell-so_far : (col : ℕ) (so_far : Option Value) (cells : Cells) → last_cell col so_far cells ≡ or_else (last_cell col None cells) so_far
+last_cell-so_far : (col : ℕ) (so_far : Option Value) (cells : Cells)
+    → last_cell col so_far cells ≡ or_else (last_cell col None cells) so_far
 last_cell-so_far col so_far [] = refl
 last_cell-so_far col so_far (c ∷ cells) =
     last_cell-so_far col (cond (c.0 == col) (Some c.1) so_far) cells
@@ -60,7 +66,8 @@ first_other j = grind (arith, nat_tests)
 other_first : (i : ℕ) → (suc i == 0) ≡ false
 other_first i = grind (arith, nat_tests)
 
-slice_get-slice_set : (row : Row) (i j : ℕ) (value : Value) → j < length row → slice_get (slice_set row i value) j ≡ cond (i == j) (Some value) (slice_get row j)
+slice_get-slice_set : (row : Row) (i j : ℕ) (value : Value) → j < length row
+    → slice_get (slice_set row i value) j ≡ cond (i == j) (Some value) (slice_get row j)
 slice_get-slice_set [] i j value lt = absurd (omega arith)
 slice_get-slice_set (x ∷ row) zero zero value lt = refl
 slice_get-slice_set (x ∷ row) zero (suc j) value lt = ap (λ b. cond b (Some value) (slice_get row j)) (sym (first_other j))
@@ -70,48 +77,54 @@ slice_get-slice_set (x ∷ row) (suc i) (suc j) value lt =
     slice_get-slice_set row i j value shorter ∙ ap (λ b. cond b (Some value) (slice_get row j)) (same_next i j)
 
 -- the value of a column in a row with other cells
-pub slice_get-set_cells : (cells : Cells) (row : Row) (col : ℕ) → col < length row → slice_get (set_cells cells row) col ≡ or_else (last_cell col None cells) (slice_get row col)
+pub slice_get-set_cells : (cells : Cells) (row : Row) (col : ℕ) → col < length row
+    → slice_get (set_cells cells row) col ≡ or_else (last_cell col None cells) (slice_get row col)
 slice_get-set_cells [] row col lt = refl
 slice_get-set_cells (c ∷ cells) row col lt =
     let wide : col < length (slice_set row c.0 c.1) = omega (arith, length-set row c.0 c.1) in
     slice_get-set_cells cells (slice_set row c.0 c.1) col wide
-    ∙ ap (or_else (last_cell col None cells)) (slice_get-slice_set row c.0 col c.1 lt ∙ sym (or_else-cond (c.0 == col) c.1 (slice_get row col)))
+    ∙ ap (or_else (last_cell col None cells)) (slice_get-slice_set row c.0 col c.1 lt
+    ∙ sym (or_else-cond (c.0 == col) c.1 (slice_get row col)))
     ∙ sym (or_else-twice (last_cell col None cells) (cond (c.0 == col) (Some c.1) None) (slice_get row col))
     ∙ ap (λ o. or_else o (slice_get row col)) (sym (last_cell-so_far col (cond (c.0 == col) (Some c.1) None) cells))
 
 -- ---- a view
 
 module _ (v : RowView) where
-  abbrev pub read_cells : Cells
-  read_cells = cells_if v.modified_by.read v.sids.read v.trees.read.now.entries
-
-  abbrev pub write_cells : Cells
-  write_cells = cells_if v.modified_by.write v.sids.write v.trees.write.now.entries
-
-  abbrev pub trans_cells : Cells
-  trans_cells = cells_if v.modified_by.trans v.sids.trans v.trees.trans.now.entries
-
-  pub length-row_of : length (row_of v) ≡ length (source_row v.sids.stable v.source)
-  length-row_of = length-set_cells trans_cells (write_row v) ∙ length-set_cells write_cells (read_row v) ∙ length-set_cells read_cells (source_row v.sids.stable v.source)
+  pub length-row_of : length (row_of v) ≡ length (source_row v.source)
+  length-row_of =
+      length-set_cells (layer_cells v.trans) (write_row v) ∙ length-set_cells (layer_cells v.write) (read_row v)
+      ∙ length-set_cells (layer_cells v.read) (source_row v.source)
 
   -- the value of a column is that of the highest layer that modifies it
-  pub slice_get-row_of : (col : ℕ) → col < length (row_of v) → slice_get (row_of v) col ≡ or_else (last_cell col None trans_cells) (or_else (last_cell col None write_cells) (or_else (last_cell col None read_cells) (slice_get (source_row v.sids.stable v.source) col)))
-  slice_get-row_of col lt =
+  pub slice_get-row_of : (col : ℕ) (trans write read : Option Value) → col < length (row_of v)
+      → last_cell col None (layer_cells v.trans) ≡ trans → last_cell col None (layer_cells v.write) ≡ write
+      → last_cell col None (layer_cells v.read) ≡ read
+      → slice_get (row_of v) col ≡ or_else trans (or_else write (or_else read (slice_get (source_row v.source) col)))
+  slice_get-row_of col trans write read lt in_trans in_write in_read =
       let l = length-row_of in
-      let l1 = length-set_cells read_cells (source_row v.sids.stable v.source) in
-      let l2 = length-set_cells write_cells (read_row v) in
-      let in_source : col < length (source_row v.sids.stable v.source) = omega arith in
-      let in_read : col < length (read_row v) = omega arith in
-      let in_write : col < length (write_row v) = omega arith in
-      slice_get-set_cells trans_cells (write_row v) col in_write
-      ∙ ap (or_else (last_cell col None trans_cells))
-      (slice_get-set_cells write_cells (read_row v) col in_read
-      ∙ ap (or_else (last_cell col None write_cells)) (slice_get-set_cells read_cells (source_row v.sids.stable v.source) col in_source))
+      let l1 = length-set_cells (layer_cells v.read) (source_row v.source) in
+      let l2 = length-set_cells (layer_cells v.write) (read_row v) in
+      let wide_source : col < length (source_row v.source) = omega arith in
+      let wide_read : col < length (read_row v) = omega arith in
+      let wide_write : col < length (write_row v) = omega arith in
+      slice_get-set_cells (layer_cells v.trans) (write_row v) col wide_write
+      ∙ (λ i. or_else (in_trans i) (slice_get-set_cells (layer_cells v.write) (read_row v) col wide_read i))
+      ∙ (λ i. or_else trans (or_else (in_write i) (slice_get-set_cells (layer_cells v.read) (source_row v.source) col wide_source i)))
+      ∙ ap (λ o. or_else trans (or_else write (or_else o (slice_get (source_row v.source) col)))) in_read
+
+-- what a layer's cells give, from what was found there
+pub found_in : (col : ℕ) (cells : Cells) (found other : Option ValueRef) → option_map value_of found ≡ last_cell col None cells
+    → found ≡ other → last_cell col None cells ≡ option_map value_of other
+found_in col cells found other is same = sym is ∙ ap (option_map value_of) same
 
 -- ---- the modifies at a SID, by a walk
 
 same_of : (a b : ℕ) → (a == b) ≡ true → a ≡ b
 same_of a b h = grind (arith, nat_tests)
+
+same_itself : (a : ℕ) → (a == a) ≡ true
+same_itself a = grind (arith, nat_tests)
 
 tied_of : (sid other : ℕ) → other ≡ sid → nat_cmp sid other ≡ Equal
 tied_of sid other e = ap (nat_cmp sid) e ∙ tied_itself nat_cmp_total sid
@@ -127,10 +140,15 @@ module _ (sid : ℕ) where
       by : (b : Bool) → (x.sid == sid) ≡ b → (c : Change) → x.change ≡ c → cells_at sid (x ∷ es) ≡ cells_at sid es
       by false e c k = ap modified_cells (changes_at_other sid x es e)
       by true e (Ins row) k =
-          ap (λ b. modified_cells (map (λ (e : Entry). e.change) (cond b (x ∷ filter (λ e. e.sid == sid) es) (filter (λ e. e.sid == sid) es)))) e
+          ap (λ b. modified_cells
+          (map (λ (e : Entry). e.change) (cond b (x ∷ filter (λ e. e.sid == sid) es) (filter (λ e. e.sid == sid) es)))) e
           ∙ ap (λ c. modified_cells (c ∷ changes_at sid es)) k
-      by true e (Del key) k = absurd (subst (λ r. T (is_gt (ordering_then r Equal))) (tied_of sid x.sid (same_of x.sid sid e)) (subst (λ c. T (is_gt (ordering_then (nat_cmp sid x.sid) (base_cmp c)))) k h))
-      by true e (Mod col value) k = absurd (subst (λ r. T (is_gt (ordering_then r Equal))) (tied_of sid x.sid (same_of x.sid sid e)) (subst (λ c. T (is_gt (ordering_then (nat_cmp sid x.sid) (base_cmp c)))) k h))
+      by true e (Del key) k =
+          absurd (subst (λ r. T (is_gt (ordering_then r Equal))) (tied_of sid x.sid (same_of x.sid sid e))
+          (subst (λ c. T (is_gt (ordering_then (nat_cmp sid x.sid) (base_cmp c)))) k h))
+      by true e (Mod col value) k =
+          absurd (subst (λ r. T (is_gt (ordering_then r Equal))) (tied_of sid x.sid (same_of x.sid sid e))
+          (subst (λ c. T (is_gt (ordering_then (nat_cmp sid x.sid) (base_cmp c)))) k h))
 
   no_modifies : (xs ys : List Entry) → T (list_all before_base xs) → cells_at sid (xs ++ ys) ≡ cells_at sid ys
   no_modifies [] ys h = refl
@@ -141,38 +159,44 @@ module _ (sid : ℕ) where
   cells_at-split es n h = sym (no_modifies (take n es) (drop n es) h.before) ∙ ap (cells_at sid) (take-append-drop n es)
 
 module _ (key_cols sid : ℕ) where
-  ranked_greater : (n m : ℕ) → m < n → T (is_gt (ordering_then (nat_cmp n m) Equal))
-  ranked_greater n m lt =
-      elim (nat_cmp n m) as (λ r. nat_cmp n m ≡ r → T (is_gt (ordering_then r Equal))) [
-        | Less ↦ λ q. let l : n < m = ranked n m Less (sym q) in absurd (omega arith)
-        | Equal ↦ λ q. let e : n ≡ m = ranked n m Equal (sym q) in absurd (omega arith)
-        | Greater ↦ λ q. tt
-      ] refl
-
-  -- another entry that doesn't stand before the base row's changes ends the modifies
-  pub cells_at-end : (x : Entry) (es : List Entry) → T (are_ordered key_cols (x ∷ es)) → T (not (stands_before base_cmp sid x)) → ((col : ℕ) (value : Value) → x.change ≡ Mod col value → x.sid ≡ sid → ⊥) → cells_at sid (x ∷ es) ≡ []
-  cells_at-end x es ordered after other = by (nat_cmp sid x.sid) refl x.change refl
+  -- an entry at another SID that doesn't stand before the base row's changes ends the modifies
+  pub cells_at-end : (x : Entry) (es : List Entry) → T (are_ordered key_cols (x ∷ es)) → T (not (stands_before base_cmp sid x))
+      → (x.sid ≡ sid → ⊥) → cells_at sid (x ∷ es) ≡ []
+  cells_at-end x es ordered after other = by (nat_cmp sid x.sid) refl
     where
-      follow : T (list_all (λ y. is_lt (entry_cmp key_cols x y)) es)
-      follow = first (list_all (λ y. is_lt (entry_cmp key_cols x y)) es) (are_ordered key_cols es) ordered
-
-      past : sid < x.sid → cells_at sid (x ∷ es) ≡ []
-      past lt =
-          let far : T (all_from x.sid es) = from_head key_cols x es follow in
+      by : (r : Ordering) → nat_cmp sid x.sid ≡ r → cells_at sid (x ∷ es) ≡ []
+      by Less e =
+          let lt : sid < x.sid = ranked sid x.sid Less (sym e) in
           let near : suc sid ≤ x.sid = omega arith in
-          ap modified_cells (changes_at_after sid (x ∷ es) (all_after-from sid (x ∷ es) (both (nat_le (suc sid) x.sid) _ (of_le (suc sid) x.sid near) (all_from-weaken (suc sid) x.sid es near far))))
+          ap modified_cells
+          (changes_at_after sid (x ∷ es) (all_after-from sid (x ∷ es) (all_from-ordered key_cols (suc sid) x es ordered near)))
+      by Equal e = absurd (other (sym (ranked sid x.sid Equal (sym e))))
+      by Greater e = absurd (subst (λ r. T (not (is_gt (ordering_then r (base_cmp x.change))))) e after)
 
-      by : (r : Ordering) → nat_cmp sid x.sid ≡ r → (c : Change) → x.change ≡ c → cells_at sid (x ∷ es) ≡ []
-      by Less e c k = past (ranked sid x.sid Less (sym e))
-      by Equal e (Ins row) k = absurd (subst (λ c. T (not (is_gt (base_cmp c)))) k (subst (λ r. T (not (is_gt (ordering_then r (base_cmp x.change))))) e after))
-      by Equal e (Del key) k =
-          let here : x.sid ≡ sid = sym (ranked sid x.sid Equal (sym e)) in
-          let gone : T (list_all (λ y. is_lt (entry_cmp key_cols (entry_at sid (Del key)) y)) es) = subst (λ z. T (list_all (λ y. is_lt (entry_cmp key_cols z y)) es)) (λ i. entry_at (here i) (k i)) follow in
-          (λ i. cells_at sid (entry_at (here i) (k i) ∷ es))
-          ∙ ap modified_cells (changes_at_here sid (Del key) es)
-          ∙ ap modified_cells (changes_at_after sid es (after_delete key_cols sid key es gone))
-      by Equal e (Mod col value) k = absurd (other col value k (sym (ranked sid x.sid Equal (sym e))))
-      by Greater e c k = absurd (subst (λ r. T (not (is_gt (ordering_then r (base_cmp x.change))))) e after)
+-- the value of a column so far, past an entry at the SID
+pub last_cell-here : (col sid : ℕ) (x : Entry) (es : List Entry) (given found : Option ValueRef) → x.sid ≡ sid
+    → option_map value_of given ≡ last_cell col None (modified_cells (x.change ∷ []))
+    → last_cell col (option_map value_of (option_or given found)) (cells_at sid es) ≡ last_cell col (option_map value_of found)
+    (cells_at sid (x ∷ es))
+last_cell-here col sid x es given found here is =
+    ap (λ o. last_cell col o (cells_at sid es)) (option_or-or_else given found ∙ ap (λ o. or_else o (option_map value_of found)) is)
+    ∙ past x.change
+    ∙ ap (λ b. last_cell col (option_map value_of found)
+    (modified_cells
+    (map (λ (e : Entry). e.change) (cond b (x ∷ filter (λ e. e.sid == sid) es) (filter (λ e. e.sid == sid) es)))))
+    (sym (ap (λ k. k == sid) here ∙ same_itself sid))
+  where
+    option_or-or_else : (a b : Option ValueRef)
+        → option_map value_of (option_or a b) ≡ or_else (option_map value_of a) (option_map value_of b)
+    option_or-or_else None b = refl
+    option_or-or_else (Some value) b = refl
+
+    past : (c : Change)
+        → last_cell col (or_else (last_cell col None (modified_cells (c ∷ []))) (option_map value_of found))
+        (cells_at sid es) ≡ last_cell col (option_map value_of found) (modified_cells (c ∷ changes_at sid es))
+    past (Ins row) = refl
+    past (Del key) = refl
+    past (Mod other value) = ap (λ o. last_cell col o (cells_at sid es)) (or_else-cond (other == col) value (option_map value_of found))
 
 -- ---- rows of a stable table
 
@@ -184,15 +208,18 @@ inside (row ∷ rows) (suc sid) h = let next = inside rows sid h in omega arith
 
 fitting_width : (schema : Columns) (row : Row) → T (fits_schema schema row) → length row ≡ length schema.types
 fitting_width schema row h =
-    elim (length row == length schema.types) as (λ b. (length row == length schema.types) ≡ b → T (is_none (cond b (values_fault 0 schema.types row) (Some WrongCount))) → length row ≡ length schema.types) [
+    elim (length row == length schema.types) as (λ b. (length row == length schema.types) ≡ b
+    → T (is_none (cond b (values_fault 0 schema.types row) (Some WrongCount))) → length row ≡ length schema.types) [
       | true ↦ λ e g. same_of (length row) (length schema.types) e
       | false ↦ λ e g. absurd g
     ] refl h
 
-widths : (schema : Columns) (rows : List Row) → T (list_all (λ e. fits_schema schema e.1) (table_of schema.key_cols rows)) → (sid : ℕ) → sid < length rows → length (get_or rows sid []) ≡ length schema.types
+widths : (schema : Columns) (rows : List Row) → T (list_all (λ e. fits_schema schema e.1) (table_of schema.key_cols rows))
+    → (sid : ℕ) → sid < length rows → length (get_or rows sid []) ≡ length schema.types
 widths schema [] h sid lt = absurd (omega arith)
 widths schema (row ∷ rows) h zero lt = fitting_width schema row (first (fits_schema schema row) _ h)
-widths schema (row ∷ rows) h (suc sid) lt = let shorter : sid < length rows = omega arith in widths schema rows (second (fits_schema schema row) _ h) sid shorter
+widths schema (row ∷ rows) h (suc sid) lt =
+    let shorter : sid < length rows = omega arith in widths schema rows (second (fits_schema schema row) _ h) sid shorter
 
 -- each row of a stable table has a value for each column
 pub stable_width : (s : Stable) (sid : ℕ) → IsStable s → sid < length s.rows → length (get_or s.rows sid []) ≡ length s.schema.types

@@ -1,14 +1,15 @@
 -- A layer's entries from a cursor on, and the steps of the cursor.
-use Rattle.std.specs.Prelude.{◌≡◌, ℕ, suc, ◌+◌, ◌<◌, ◌≤◌, ◌^◌, nat_lt, ◌==◌, ◌||◌, ◌&&◌, cond, Bool, false, T, List, [], ◌∷◌, ◌++◌, length, take, drop}
+use Rattle.std.specs.Prelude.{◌≡◌, ℕ, suc, ◌+◌, ◌<◌, ◌≤◌, ◌^◌, nat_lt, ◌==◌, ◌||◌, ◌&&◌, cond, Bool, false, T, List, [], ◌∷◌, ◌++◌}
+use Rattle.std.specs.Prelude.{length, take, drop, slice_get, Some}
 use Rattle.std.specs.List.{list_all}
 use Rattle.values.specs.declared.row.Row.{Row}
 use Rattle.model.specs.declared.entry.Entry.{Entry}
-use Rattle.model.specs.Effects.{set_cells}
+use Rattle.model.specs.Effects.{Cells, set_cells}
 use Rattle.model.specs.Entries.{is_insert, is_delete, IsLawful}
 use Rattle.model.specs.Merging.{merged_rows, merged_rows_from}
 use Rattle.delta.specs.Tree.{Tree}
 use Rattle.merge.specs.Level.{IsOver}
-use Rattle.merge.specs.View.{cells_at}
+use Rattle.merge.specs.View.{layer_cells}
 use Rattle.merge.specs.declared.cursor.Step.{Step}
 use Rattle.merge.specs.declared.cursor.Step.TheVariants.{Inserted, Modified, Kept}
 
@@ -70,10 +71,18 @@ pub record InsertsNext (inserted : Row) (old new : TreeCursor) : Type 0 where
   pub rows : (base : List Row) → rows_left old base ≡ inserted ∷ rows_left new base
   pub cursor : (count : ℕ) → IsCursor count old → IsCursor count new
 
--- past the modifies of the next base row
-pub record ModifiesNext (sid : ℕ) (old new : TreeCursor) : Type 0 where
+-- the next entry is this one, which changes the next base row
+pub record ChangesNext (entry : Entry) (c : TreeCursor) : Type 0 where
+  pub next : slice_get c.tree.entries c.index ≡ Some entry
+  pub here : entry.sid ≡ c.sid
+  pub other : is_insert entry.change ≡ false
+
+-- past the modifies of the next base row, which change these cells
+pub record ModifiesNext (cells : Cells) (old new : TreeCursor) : Type 0 where
   pub some : (count : ℕ) → IsCursor count old → 0 < count
-  pub rows : (row : Row) (base : List Row) → IsCursor (suc (length base)) old → rows_left old (row ∷ base) ≡ set_cells (cells_at sid old.tree.entries) row ∷ rows_left new base
+  pub rows : (row : Row) (base : List Row) → IsCursor (suc (length base)) old
+      → rows_left old (row ∷ base) ≡ set_cells cells row ∷ rows_left new base
+  pub left : entries_left new ≡ entries_past old.sid (entries_left old)
   pub cursor : (count : ℕ) → IsCursor (suc count) old → IsCursor count new
 
 -- a cursor further on, with no entry between
@@ -85,11 +94,12 @@ pub record KeepsNext (most n : ℕ) (c : TreeCursor) : Type 0 where
   pub few : n ≤ most
   pub some : 0 < most → 0 < n
   pub within : (base : List Row) → IsCursor (length base) c → most ≤ length (rows_left c base) → n ≤ length base
-  pub rows : (xs base : List Row) → length xs ≤ n → IsCursor (length xs + length base) c → rows_left c (xs ++ base) ≡ xs ++ rows_left (moved (length xs) c) base
+  pub rows : (xs base : List Row) → length xs ≤ n → IsCursor (length xs + length base) c
+      → rows_left c (xs ++ base) ≡ xs ++ rows_left (moved (length xs) c) base
   pub cursor : (k count : ℕ) → k ≤ n → IsCursor (k + count) c → IsCursor count (moved k c)
 
 -- what a step passes
 abbrev pub StepGives : ℕ → TreeCursor → Step → TreeCursor → Type 0
 StepGives most old (Inserted row) new = InsertsNext row.now old new
-StepGives most old (Modified sid) new = ModifiesNext sid old new
+StepGives most old (Modified modifies) new = ModifiesNext (layer_cells modifies) old new
 StepGives most old (Kept n) new = KeepsNext most n old × (new ≡ old)

@@ -1,5 +1,5 @@
 -- The row that a view shows.
-use Rattle.std.specs.Prelude.{◌≡◌, ℕ, ◌<◌, ◌==◌, Bool, false, cond, Option, Some, List, [], ◌∷◌, get_or}
+use Rattle.std.specs.Prelude.{◌≡◌, ℕ, ◌<◌, ◌==◌, cond, Option, Some, List, [], ◌∷◌, get_or}
 use Rattle.values.specs.declared.row.Row.{Row}
 use Rattle.values.specs.declared.value.Value.{Value}
 use Rattle.model.specs.declared.entry.Entry.{Entry}
@@ -9,6 +9,8 @@ use Rattle.model.specs.Effects.{Cells, set_cells}
 use Rattle.model.specs.Merging.{changes_at}
 use Rattle.merge.specs.declared.view.Source.{Source}
 use Rattle.merge.specs.declared.view.Source.TheVariants.{Stable, Inserted}
+use Rattle.merge.specs.declared.view.Modifies.{Modifies}
+use Rattle.merge.specs.declared.view.Modifies.TheVariants.{Nothing, One, Two, InTree}
 use Rattle.merge.specs.declared.view.Layer.{Layer}
 use Rattle.merge.specs.declared.view.Layer.TheVariants.{Read, Write, Trans}
 use Rattle.merge.specs.declared.view.RowView.{RowView}
@@ -29,30 +31,33 @@ abbrev pub last_cell : ℕ → Option Value → Cells → Option Value
 last_cell col so_far [] = so_far
 last_cell col so_far (c ∷ cells) = last_cell col (cond (c.0 == col) (Some c.1) so_far) cells
 
--- the cells that a layer changes of a row, where it modifies it
-abbrev pub cells_if : Bool → ℕ → List Entry → Cells
-cells_if is_modified sid entries = cond is_modified (cells_at sid entries) []
+-- the cells that a layer changes of a row
+abbrev pub layer_cells : Modifies → Cells
+layer_cells Nothing = []
+layer_cells (One entry) = modified_cells (entry.now.change ∷ [])
+layer_cells (Two entry other) = modified_cells (entry.now.change ∷ other.now.change ∷ [])
+layer_cells (InTree tree sid) = cells_at sid tree.now.entries
 
 -- the row before its modifies
-abbrev pub source_row : ℕ → Source → Row
-source_row sid (Stable table) = get_or table.now.rows sid []
-source_row sid (Inserted row) = row.now
+abbrev pub source_row : Source → Row
+source_row (Stable table sid) = get_or table.now.rows sid []
+source_row (Inserted row) = row.now
 
 -- the row under the Read-PDT, under the Write-PDT too, and under all three
 abbrev pub read_row : RowView → Row
-read_row v = set_cells (cells_if v.modified_by.read v.sids.read v.trees.read.now.entries) (source_row v.sids.stable v.source)
+read_row v = set_cells (layer_cells v.read) (source_row v.source)
 
 abbrev pub write_row : RowView → Row
-write_row v = set_cells (cells_if v.modified_by.write v.sids.write v.trees.write.now.entries) (read_row v)
+write_row v = set_cells (layer_cells v.write) (read_row v)
 
 abbrev pub row_of : RowView → Row
-row_of v = set_cells (cells_if v.modified_by.trans v.sids.trans v.trees.trans.now.entries) (write_row v)
+row_of v = set_cells (layer_cells v.trans) (write_row v)
 
 -- no layer from that number on modifies the row: the Read-PDT has the number 0
 pub record IsBare (depth : ℕ) (v : RowView) : Type 0 where
-  pub read : depth < 1 → v.modified_by.read ≡ false
-  pub write : depth < 2 → v.modified_by.write ≡ false
-  pub trans : depth < 3 → v.modified_by.trans ≡ false
+  pub read : depth < 1 → layer_cells v.read ≡ []
+  pub write : depth < 2 → layer_cells v.write ≡ []
+  pub trans : depth < 3 → layer_cells v.trans ≡ []
 
 -- the number of a layer
 abbrev pub layer_number : Layer → ℕ

@@ -2,12 +2,16 @@
 ghost use Rattle.std.specs.Prelude.{◌≡◌, ℕ, List, suc, ◌+◌, ◌<◌, ◌≤◌, ◌^◌, T, true, false, drop, length, slice_get, take};
 ghost use Rattle.std.specs.Option.{option_copied};
 ghost use Rattle.model.specs.Merging.{merged_rows};
+ghost use Rattle.model.specs.declared.entry.Entry.{Entry};
 ghost use Rattle.model.specs.Entries.{IsLawful, is_delete};
 ghost use Rattle.std.specs.List.{list_all};
 ghost use Rattle.values.specs.declared.row.Row.{Row as Cells};
 ghost use Rattle.merge.specs.Level.{IsOver};
-ghost use Rattle.merge.specs.Cursor.{DeletesNext, DeletesNone, IsCursor, IsCursorAt, StepGives, entries_left, entries_past, is_past, moved, starts_with_delete};
+ghost use Rattle.merge.specs.View.{cells_at, layer_cells};
+ghost use Rattle.merge.specs.Cursor.{ChangesNext, DeletesNext, DeletesNone, IsCursor, IsCursorAt, ModifiesNext, StepGives};
+ghost use Rattle.merge.specs.Cursor.{entries_left, entries_past, is_past, moved, starts_with_delete};
 
+use crate::view::Modifies;
 use delta::{Change, DeltaTree, Iter, SharedEntry, Start};
 use std::marker::Model;
 use values::Row;
@@ -34,15 +38,16 @@ impl<'a> Model for Cursor<'a> {
 
     ghost view = { λ c. record { tree = c.tree.now; index = c.index; sid = c.sid } };
 
-    ghost invariant = { λ c. (option_copied c.next ≡ slice_get c.tree.now.entries c.index) × (c.rest ≡ drop (c.index + 1) c.tree.now.entries) };
+    ghost invariant = { λ c. (option_copied c.next ≡ slice_get c.tree.now.entries c.index)
+        × (c.rest ≡ drop (c.index + 1) c.tree.now.entries) };
 }
 
 /// What comes next in the image of a tree.
 pub(crate) enum Step<'a> {
     /// A row that the tree inserts.
     Inserted(&'a Row),
-    /// The next base row, which has modifies at this SID.
-    Modified(u32),
+    /// The next base row, of which the tree modifies this.
+    Modified(Modifies<'a>),
     /// So many base rows as they are.
     Kept(u64),
 }
@@ -52,7 +57,9 @@ impl<'a> Cursor<'a> {
     pub(crate) fn at(tree: &'a DeltaTree, rid: u64) -> Cursor<'a>
         requires few { rid < 2 ^ 63 }
         ensures tree { result.tree ≡ tree.now }
-        ensures at { (base : List Cells) → IsOver tree.now.key_cols 0 (length base) tree.now.entries → IsLawful tree.now.key_cols tree.now.entries → length base < 2 ^ 62 → rid ≤ length (merged_rows base tree.now.entries) → IsCursorAt base rid result }
+        ensures at { (base : List Cells) → IsOver tree.now.key_cols 0 (length base) tree.now.entries
+            → IsLawful tree.now.key_cols tree.now.entries → length base < 2 ^ 62 → rid ≤ length (merged_rows base tree.now.entries)
+            → IsCursorAt base rid result }
     {
         let Start {
             index,
@@ -70,13 +77,23 @@ impl<'a> Cursor<'a> {
     }
 
     /// The tree.
-    pub(crate) fn tree(&self) -> &'a DeltaTree
+    #[inline(always)]
+    fn tree(&self) -> &'a DeltaTree
         ensures { result.now ≡ self.now.tree }
     {
         self.tree
     }
 
+    /// How many entries are passed.
+    #[inline(always)]
+    fn index(&self) -> usize
+        ensures { result ≡ self.now.index }
+    {
+        self.index
+    }
+
     /// The position of the next base row.
+    #[inline(always)]
     pub(crate) fn sid(&self) -> u64
         ensures { result ≡ self.now.sid }
     {
@@ -84,6 +101,7 @@ impl<'a> Cursor<'a> {
     }
 
     /// The next entry.
+    #[inline(always)]
     fn next_entry(&self) -> Option<&'a SharedEntry>
         ensures { option_copied result ≡ slice_get self.now.tree.entries self.now.index }
     {
@@ -91,6 +109,7 @@ impl<'a> Cursor<'a> {
     }
 
     /// Goes past a delete of the next base row, if it stands here; tells whether it did.
+    #[inline(always)]
     pub(crate) fn skip_delete(&mut self) -> bool
         requires { (count : ℕ) × IsCursor count self.old }
         ensures tree { self.new.tree ≡ self.old.tree }
@@ -107,6 +126,7 @@ impl<'a> Cursor<'a> {
     }
 
     /// Whether the next entry is a delete of the next base row.
+    #[inline(always)]
     fn stands_at_delete(&self) -> bool
         ensures { result ≡ starts_with_delete self.now.sid (entries_left self.now) }
     {
@@ -118,6 +138,7 @@ impl<'a> Cursor<'a> {
 
     /// Goes past what comes next, where that isn't a deleted row, or tells how many base rows stand as they are: at most so
     /// many.
+    #[inline(always)]
     pub(crate) fn step(&mut self, most: u64) -> Step<'a>
         requires is { (count : ℕ) × IsCursor count self.old }
         requires undeleted { DeletesNone self.old }
@@ -137,17 +158,14 @@ impl<'a> Cursor<'a> {
                         self.advance();
                         Step::Inserted(row)
                     }
-                    Change::Del(_) | Change::Mod(..) => {
-                        self.pass_row_entries();
-                        self.pass(1);
-                        Step::Modified(at as u32)
-                    }
+                    Change::Del(_) | Change::Mod(..) => Step::Modified(self.pass_modifies(entry)),
                 }
             }
         }
     }
 
     /// Goes past so many base rows, with no entry between.
+    #[inline(always)]
     pub(crate) fn pass(&mut self, count: u64)
         requires { self.old.sid + count < 2 ^ 64 }
         ensures { self.new ≡ moved count self.old }
@@ -155,13 +173,54 @@ impl<'a> Cursor<'a> {
         self.sid += count;
     }
 
+    /// Goes past the modifies of the next base row, of which this entry is the first, and tells what they are.
+    #[inline(always)]
+    fn pass_modifies(&mut self, entry: &'a SharedEntry) -> Modifies<'a>
+        requires is { (count : ℕ) × IsCursor count self.old }
+        requires undeleted { DeletesNone self.old }
+        requires next { ChangesNext entry.now self.old }
+        ensures tree { self.new.tree ≡ self.old.tree }
+        ensures passed { ModifiesNext (layer_cells result) self.old self.new }
+    {
+        let sid = self.sid() as u32;
+        let first = self.index();
+        let second = self.pass_row();
+        let last = self.index();
+        if last == first + 1 {
+            return Modifies::One(entry);
+        }
+        match second {
+            Some(other) if last == first + 2 => Modifies::Two(entry, other),
+            Some(_) | None => Modifies::InTree(self.tree(), sid),
+        }
+    }
+
+    /// Goes past the next base row and its modifies, and gives the entry that stands behind the first of them.
+    #[inline(always)]
+    fn pass_row(&mut self) -> Option<&'a SharedEntry>
+        requires is { (count : ℕ) × IsCursor count self.old }
+        requires undeleted { DeletesNone self.old }
+        requires next { (entry : Entry) × ChangesNext entry self.old }
+        ensures tree { self.new.tree ≡ self.old.tree }
+        ensures second { option_copied result ≡ slice_get self.old.tree.entries (self.old.index + 1) }
+        ensures passed { ModifiesNext (cells_at self.old.sid self.old.tree.entries) self.old self.new }
+    {
+        self.advance();
+        let second = self.next_entry();
+        self.pass_row_entries();
+        self.pass(1);
+        second
+    }
+
     /// Goes past the entries that are left at the SID of the next base row.
+    #[inline(always)]
     fn pass_row_entries(&mut self)
         requires { IsLawful self.old.tree.key_cols self.old.tree.entries }
         ensures tree { self.new.tree ≡ self.old.tree }
         ensures sid { self.new.sid ≡ self.old.sid }
         ensures rest { entries_left self.new ≡ entries_past self.old.sid (entries_left self.old) }
-        ensures past { T (list_all (is_past (suc self.old.sid)) (take self.old.index self.old.tree.entries)) → T (list_all (is_past (suc self.old.sid)) (take self.new.index self.old.tree.entries)) }
+        ensures past { T (list_all (is_past (suc self.old.sid)) (take self.old.index self.old.tree.entries))
+            → T (list_all (is_past (suc self.old.sid)) (take self.new.index self.old.tree.entries)) }
     {
         while let Some(entry) = self.next_entry() {
             if entry.sid() != self.sid() {
@@ -172,6 +231,7 @@ impl<'a> Cursor<'a> {
     }
 
     /// Goes past the next entry.
+    #[inline(always)]
     fn advance(&mut self)
         requires lawful { IsLawful self.old.tree.key_cols self.old.tree.entries }
         requires some { self.old.index < length self.old.tree.entries }
@@ -183,6 +243,7 @@ impl<'a> Cursor<'a> {
 }
 
 /// Whether the change is a delete.
+#[inline(always)]
 fn is_delete(change: &Change) -> bool
     ensures { result ≡ is_delete change.now }
 {

@@ -18,6 +18,7 @@ pub(crate) enum Image<'a> {
 
 impl<'a> Image<'a> {
     /// The next rows that come from one place: at least one, and at most so many.
+    #[inline(always)]
     pub(crate) fn next_stretch(&mut self, most: u64) -> Stretch<'a>
         requires cursors { AreCursors self.old }
         requires some { 0 < most }

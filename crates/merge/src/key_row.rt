@@ -11,7 +11,7 @@ ghost use Rattle.merge.specs.Image.{IsLayer};
 ghost use Rattle.merge.specs.KeyRow.{row_above};
 ghost use Rattle.merge.specs.View.{IsBare, layer_number, row_of};
 
-use crate::view::{Layer, RowView};
+use crate::view::{Layer, Modifies, RowView};
 use delta::{BaseChange, DeltaTree, KeyPlace};
 use stable::StableTable;
 use values::Value;
@@ -25,8 +25,8 @@ pub(crate) struct KeyRow<'a> {
     pub row: Option<RowView<'a>>,
 }
 
-/// What the rows of a table have of the key, by halving. The view keeps the tree, and doesn't look into it.
-pub(crate) fn find_in<'a>(table: &'a StableTable, tree: &'a DeltaTree, key: &[Value]) -> KeyRow<'a>
+/// What the rows of a table have of the key, by halving.
+pub(crate) fn find_in<'a>(table: &'a StableTable, key: &[Value]) -> KeyRow<'a>
     requires { IsTable table.now.schema (table_in table.now) }
     ensures rank { result.rank ≡ rank key.now (table_in table.now) }
     ensures row { option_map row_of result.row ≡ row_at (table_in table.now) key.now }
@@ -35,7 +35,7 @@ pub(crate) fn find_in<'a>(table: &'a StableTable, tree: &'a DeltaTree, key: &[Va
 {
     let (rank, is_there) = table.locate(key);
     let row = if is_there {
-        Some(RowView::stable(table, rank, tree))
+        Some(RowView::stable(table, rank))
     } else {
         None
     };
@@ -51,8 +51,10 @@ pub(crate) fn find_over<'a>(
 ) -> KeyRow<'a>
     requires few { below.rank < 2 ^ 63 }
     requires bare { IfSome below.row (IsBare (layer_number layer)) }
-    ensures rank { (schema : Columns) (t : Table) (is : IsLayer schema t tree.now) → below.entry.rank ≡ rank key.now t → result.rank ≡ rank key.now (table_with t is.effects) }
-    ensures row { (schema : Columns) (t : Table) (is : IsLayer schema t tree.now) → below.entry.rank ≡ rank key.now t → option_map row_of below.entry.row ≡ row_at t key.now
+    ensures rank { (schema : Columns) (t : Table) (is : IsLayer schema t tree.now) → below.entry.rank ≡ rank key.now t → result.rank
+        ≡ rank key.now (table_with t is.effects) }
+    ensures row { (schema : Columns) (t : Table) (is : IsLayer schema t tree.now) → below.entry.rank ≡ rank key.now t
+        → option_map row_of below.entry.row ≡ row_at t key.now
         → option_map row_of result.row ≡ row_at (table_with t is.effects) key.now }
     ensures bare { IfSome result.row (IsBare (suc (layer_number layer))) }
 {
@@ -72,18 +74,21 @@ fn row_over<'a>(
 ) -> Option<RowView<'a>>
     requires small { place.base ≡ Modified → below.rank < 2 ^ 32 }
     requires bare { IfSome below.row (IsBare (layer_number layer)) }
-    ensures row { option_map row_of result ≡ row_above below.entry.rank tree.now.entries (option_map row_of below.entry.row) (option_copied place.entry.row) place.entry.base }
+    ensures row { option_map row_of result
+        ≡ row_above below.entry.rank tree.now.entries (option_map row_of below.entry.row)
+        (option_copied place.entry.row) place.entry.base }
     ensures bare { IfSome result (IsBare (suc (layer_number layer))) }
 {
     if let Some(row) = place.row {
-        return Some(RowView::inserted(row, tree));
+        return Some(RowView::inserted(row));
     }
     match place.base {
         BaseChange::Kept => below.row,
         BaseChange::Deleted => None,
         BaseChange::Modified => {
             let view = below.row?;
-            Some(view.modified_in(layer, tree, below.rank as u32))
+            let modifies = Modifies::InTree(tree, below.rank as u32);
+            Some(view.modified_in(layer, modifies))
         }
     }
 }

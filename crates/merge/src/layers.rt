@@ -39,7 +39,8 @@ impl<'a> Model for Layers<'a> {
 
     ghost view = { λ l. stack_of l.stable.now l.read.now l.write.now (tree_over l.stable.now.schema.key_cols (option_copied l.trans)) };
 
-    ghost invariant = { λ l. AreKept l.stable.now l.read.now l.write.now (tree_over l.stable.now.schema.key_cols (option_copied l.trans)) l.len };
+    ghost invariant = { λ l. AreKept l.stable.now l.read.now l.write.now
+        (tree_over l.stable.now.schema.key_cols (option_copied l.trans)) l.len };
 }
 
 impl<'a> Layers<'a> {
@@ -117,7 +118,7 @@ impl<'a> Layers<'a> {
     {
         if rid < self.len {
             let mut rows = self.rows_from(rid);
-            Some(rows.next_stretch(1).first(self.read))
+            Some(rows.next_stretch(1).first())
         } else {
             None
         }
@@ -129,7 +130,7 @@ impl<'a> Layers<'a> {
         ensures { option_map row_of result ≡ row_at (image_table self.now) key.now }
     {
         let cells = key.cells();
-        let in_stable = find_in(self.stable, self.read, cells);
+        let in_stable = find_in(self.stable, cells);
         let in_read = find_over(self.read, Layer::Read, in_stable, cells);
         let in_write = find_over(self.write, Layer::Write, in_read, cells);
         match self.trans {
@@ -152,7 +153,7 @@ impl<'a> Layers<'a> {
     pub fn scan(&self, from: u64, to: u64) -> MergeScan<'a>
         ensures { result ≡ drop from (take to (image_rows self.now)) }
     {
-        MergeScan::new(self.stable, self.stretches(from, to), self.read)
+        MergeScan::new(self.stable, self.stretches(from, to))
     }
 
     /// How many rows have a key below this one, and whether a row has the key: by halving in the stable table and one descent

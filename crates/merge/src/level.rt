@@ -57,6 +57,7 @@ impl<'a> Rows<'a> for StableRows<'a> {
 
     ghost is_sound = { λ r. length r.table.now.rows ≤ MAX_ROWS };
 
+    #[inline(always)]
     fn next_stretch(&mut self, most: u64) -> Stretch<'a> {
         let stretch = StableStretch {
             table: self.table,
@@ -78,6 +79,7 @@ pub(crate) struct Level<'a, B: Drop> {
 
 impl<'a, B: Rows<'a> + Drop> Level<'a, B> {
     /// Goes past the deletes that come next.
+    #[inline(always)]
     fn skip_deleted(&mut self)
         requires below { B.is_sound self.old.below }
         requires cursor { IsCursor (length (B.rows self.old.below)) self.old.cursor }
@@ -101,14 +103,14 @@ impl<'a, B: Rows<'a> + Drop> Rows<'a> for Level<'a, B> {
 
     ghost is_sound = { λ l. B.is_sound l.below × IsCursor (length (B.rows l.below)) l.cursor × (B.depth l.below ≡ layer_number l.layer) };
 
+    #[inline(always)]
     fn next_stretch(&mut self, most: u64) -> Stretch<'a> {
         self.skip_deleted();
-        let tree = self.cursor.tree();
         match self.cursor.step(most) {
-            Step::Inserted(row) => Stretch::Row(RowView::inserted(row, tree)),
-            Step::Modified(sid) => {
-                let view = self.below.next_stretch(1).first(tree);
-                Stretch::Row(view.modified_in(self.layer, tree, sid))
+            Step::Inserted(row) => Stretch::Row(RowView::inserted(row)),
+            Step::Modified(modifies) => {
+                let view = self.below.next_stretch(1).first();
+                Stretch::Row(view.modified_in(self.layer, modifies))
             }
             Step::Kept(count) => {
                 let stretch = self.below.next_stretch(count);
@@ -134,8 +136,10 @@ pub fn grown(count: u64, tree: &DeltaTree) -> u64
 /// the tree. One descent.
 pub(crate) fn locate_over(tree: &DeltaTree, below: (u64, bool), key: &[Value]) -> (u64, bool)
     requires { below.0 < 2 ^ 63 }
-    ensures rank { (schema : Columns) (t : Table) (layer : IsLayer schema t tree.now) → below.0 ≡ rank key.now t → result.0 ≡ rank key.now (table_with t layer.effects) }
-    ensures there { (schema : Columns) (t : Table) (layer : IsLayer schema t tree.now) → below.0 ≡ rank key.now t → below.1 ≡ is_some (row_at t key.now)
+    ensures rank { (schema : Columns) (t : Table) (layer : IsLayer schema t tree.now) → below.0 ≡ rank key.now t → result.0
+        ≡ rank key.now (table_with t layer.effects) }
+    ensures there { (schema : Columns) (t : Table) (layer : IsLayer schema t tree.now) → below.0 ≡ rank key.now t → below.1
+        ≡ is_some (row_at t key.now)
         → result.1 ≡ is_some (row_at (table_with t layer.effects) key.now) }
 {
     let (sid, is_below) = below;

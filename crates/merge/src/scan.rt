@@ -7,7 +7,6 @@ ghost use Rattle.merge.specs.Stretches.{YieldsStretch};
 use crate::image::Image;
 use crate::stretch::{StableStretch, Stretch};
 use crate::view::RowView;
-use delta::DeltaTree;
 use stable::StableTable;
 use std::iter::FusedIterator;
 use std::marker::Model;
@@ -62,6 +61,7 @@ impl<'a> Iterator for Stretches<'a> {
 
     ghost remaining = { λ s. at_most (length s) };
 
+    #[inline(always)]
     fn next(&mut self) -> Option<Stretch<'a>> {
         let Stretches { rows, left } = self;
         if *left == 0 {
@@ -91,8 +91,6 @@ pub struct MergeScan<'a> {
     stretches: Stretches<'a>,
     /// What is left of the stretch that was begun.
     stretch: StableStretch<'a>,
-    /// A tree for the views, which don't look into it.
-    tree: &'a DeltaTree,
 }
 
 impl<'a> Model for MergeScan<'a> {
@@ -104,16 +102,13 @@ impl<'a> Model for MergeScan<'a> {
 
     ghost view = { λ s. take s.stretch.len (drop s.stretch.sid s.stretch.table.now.rows) ++ s.stretches };
 
-    ghost invariant = { λ s. (s.stretch.sid + s.stretch.len ≤ length s.stretch.table.now.rows) × (length s.stretch.table.now.rows ≤ MAX_ROWS) };
+    ghost invariant = { λ s. (s.stretch.sid + s.stretch.len ≤ length s.stretch.table.now.rows)
+        × (length s.stretch.table.now.rows ≤ MAX_ROWS) };
 }
 
 impl<'a> MergeScan<'a> {
     /// The rows of these stretches.
-    pub(crate) fn new(
-        table: &'a StableTable,
-        stretches: Stretches<'a>,
-        tree: &'a DeltaTree,
-    ) -> MergeScan<'a>
+    pub(crate) fn new(table: &'a StableTable, stretches: Stretches<'a>) -> MergeScan<'a>
         ensures { result ≡ stretches.entry }
     {
         let stretch = StableStretch {
@@ -121,11 +116,7 @@ impl<'a> MergeScan<'a> {
             sid: table.len(),
             len: 0,
         };
-        MergeScan {
-            stretches,
-            stretch,
-            tree,
-        }
+        MergeScan { stretches, stretch }
     }
 }
 
@@ -136,15 +127,16 @@ impl<'a> Iterator for MergeScan<'a> {
 
     ghost remaining = { λ s. at_most (length s) };
 
+    #[inline(always)]
     fn next(&mut self) -> Option<RowView<'a>> {
         if self.stretch.len > 0 {
-            return Some(self.stretch.next_view(self.tree));
+            return Some(self.stretch.next_view());
         }
         match self.stretches.next()? {
             Stretch::Row(view) => Some(view),
             Stretch::Stable(stretch) => {
                 let mut rest = stretch;
-                let view = rest.next_view(self.tree);
+                let view = rest.next_view();
                 self.stretch = rest;
                 Some(view)
             }

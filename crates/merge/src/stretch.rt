@@ -5,7 +5,6 @@ ghost use Rattle.merge.specs.Stretches.{IsStretch, IsStableStretch, stretch_rows
 ghost use Rattle.merge.specs.declared.stretch.Stretch.TheVariants.{Stable};
 
 use crate::view::RowView;
-use delta::DeltaTree;
 use stable::StableTable;
 
 /// Rows of a stable table that no layer changes: so many, from the SID on.
@@ -26,13 +25,14 @@ pub enum Stretch<'a> {
 }
 
 impl<'a> StableStretch<'a> {
-    /// The first row of the stretch, which goes on after it. The view keeps the tree, and doesn't look into it.
-    pub(crate) fn next_view(&mut self, tree: &'a DeltaTree) -> RowView<'a>
+    /// The first row of the stretch, which goes on after it.
+    #[inline(always)]
+    pub(crate) fn next_view(&mut self) -> RowView<'a>
         requires { IsStableStretch self.old }
         ensures rows { stretch_rows (Stable self.old) ≡ row_of result ∷ stretch_rows (Stable self.new) }
         ensures moved { self.new ≡ record self.old { sid = self.old.sid + 1; len = self.old.len - 1 } }
     {
-        let view = RowView::stable(self.table, self.sid, tree);
+        let view = RowView::stable(self.table, self.sid);
         self.sid += 1;
         self.len -= 1;
         view
@@ -41,6 +41,7 @@ impl<'a> StableStretch<'a> {
 
 impl<'a> Stretch<'a> {
     /// How many rows the stretch has.
+    #[inline(always)]
     pub(crate) fn count(&self) -> u64
         requires { (depth : ℕ) × IsStretch depth self.now }
         ensures { result ≡ length (stretch_rows self.now) }
@@ -51,14 +52,15 @@ impl<'a> Stretch<'a> {
         }
     }
 
-    /// The first row of the stretch. The view keeps the tree, and doesn't look into it.
-    pub(crate) fn first(&self, tree: &'a DeltaTree) -> RowView<'a>
+    /// The first row of the stretch.
+    #[inline(always)]
+    pub(crate) fn first(&self) -> RowView<'a>
         requires { (depth : ℕ) × IsStretch depth self.now }
         ensures row { stretch_rows self.now ≡ row_of result ∷ drop 1 (stretch_rows self.now) }
         ensures bare { (depth : ℕ) → IsStretch depth self.now → IsBare depth result }
     {
         match self {
-            Stretch::Stable(stretch) => RowView::stable(stretch.table, stretch.sid, tree),
+            Stretch::Stable(stretch) => RowView::stable(stretch.table, stretch.sid),
             Stretch::Row(view) => *view,
         }
     }

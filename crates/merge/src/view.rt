@@ -1,11 +1,11 @@
 //! A row of the image, lent.
-ghost use Rattle.std.specs.Prelude.{◌≡◌, ◌<◌, ◌^◌, suc, false, IfOk, Some, None, length, get_or, slice_get, []};
+ghost use Rattle.std.specs.Prelude.{◌≡◌, ◌<◌, ◌^◌, suc, IfOk, Some, None, length, get_or, slice_get, [], ◌∷◌};
 ghost use Rattle.std.specs.Option.{option_map};
 ghost use Rattle.values.specs.Lent.{value_of};
 ghost use Rattle.model.specs.Effects.{set_cells};
-ghost use Rattle.merge.specs.View.{IsBare, cells_at, cells_if, last_cell, layer_number, row_of, source_row};
+ghost use Rattle.merge.specs.View.{IsBare, cells_at, layer_cells, last_cell, layer_number, modified_cells, row_of, source_row};
 
-use delta::{Change, DeltaTree};
+use delta::{Change, DeltaTree, SharedEntry};
 use stable::StableTable;
 use std::alloc::Global;
 use values::{NoMemory, Row, ValueRef};
@@ -13,44 +13,32 @@ use values::{NoMemory, Row, ValueRef};
 /// Where a row comes from.
 #[derive(Clone, Copy)]
 enum Source<'a> {
-    /// The table's row at the stable SID.
-    Stable(&'a StableTable),
+    /// The table's row at the SID.
+    Stable(&'a StableTable, u32),
     /// A row that a layer inserts.
     Inserted(&'a Row),
 }
 
-/// The trees that modify a row. Where a layer doesn't, any tree stands here.
+/// What a layer modifies of a row.
 #[derive(Clone, Copy)]
-struct Trees<'a> {
-    read: &'a DeltaTree,
-    write: &'a DeltaTree,
-    trans: &'a DeltaTree,
+pub(crate) enum Modifies<'a> {
+    /// Nothing.
+    Nothing,
+    /// What one entry does, which is at hand.
+    One(&'a SharedEntry),
+    /// What two entries do, which are at hand.
+    Two(&'a SharedEntry, &'a SharedEntry),
+    /// What the entries at the SID in the tree do, which are searched there.
+    InTree(&'a DeltaTree, u32),
 }
 
-/// The places of a row: in the stable table, and among the rows below each tree that modifies it.
-#[derive(Clone, Copy)]
-struct Sids {
-    stable: u32,
-    read: u32,
-    write: u32,
-    trans: u32,
-}
-
-/// Which trees modify a row.
-#[derive(Clone, Copy)]
-struct ModifiedBy {
-    read: bool,
-    write: bool,
-    trans: bool,
-}
-
-/// A row of the image, lent: where it comes from, and where each layer modifies it. It has 64 bytes.
+/// A row of the image, lent: where it comes from, and what each layer modifies of it. It has 96 bytes.
 #[derive(Clone, Copy)]
 pub struct RowView<'a> {
     source: Source<'a>,
-    trees: Trees<'a>,
-    sids: Sids,
-    modified_by: ModifiedBy,
+    read: Modifies<'a>,
+    write: Modifies<'a>,
+    trans: Modifies<'a>,
 }
 
 /// The layers, from the lowest.
@@ -61,20 +49,29 @@ pub(crate) enum Layer {
     Trans,
 }
 
-/// The value that a layer gives the column, if it modifies the row, which is at the SID below it.
+impl<'a> Modifies<'a> {
+    /// The value that the modifies give the column, if they give it one.
+    #[inline(always)]
+    fn value(&self, col: usize) -> Option<ValueRef<'a>>
+        ensures { option_map value_of result ≡ last_cell col None (layer_cells self.now) }
+    {
+        match *self {
+            Modifies::Nothing => None,
+            Modifies::One(entry) => given(entry, col),
+            Modifies::Two(entry, other) => given(other, col).or(given(entry, col)),
+            Modifies::InTree(tree, sid) => modified(tree, u64::from(sid), col),
+        }
+    }
+}
+
+/// The value that an entry gives the column of its row, if it gives it one.
 #[inline(always)]
-fn layer_value<'a>(
-    is_modified: bool,
-    tree: &'a DeltaTree,
-    sid: u32,
-    col: usize,
-) -> Option<ValueRef<'a>>
-    ensures { option_map value_of result ≡ last_cell col None (cells_if is_modified sid tree.now.entries) }
+fn given<'a>(entry: &'a SharedEntry, col: usize) -> Option<ValueRef<'a>>
+    ensures { option_map value_of result ≡ last_cell col None (modified_cells (entry.now.change ∷ [])) }
 {
-    if is_modified {
-        modified(tree, u64::from(sid), col)
-    } else {
-        None
+    match entry.change() {
+        Change::Mod(other, value) if *other == col => Some(value.as_ref()),
+        Change::Ins(_) | Change::Del(_) | Change::Mod(..) => None,
     }
 }
 
@@ -84,17 +81,10 @@ fn modified<'a>(tree: &'a DeltaTree, sid: u64, col: usize) -> Option<ValueRef<'a
 {
     let mut found = None;
     for entry in tree.iter_from(tree.base_index(sid)) {
-        match entry.change() {
-            Change::Mod(other, value) => {
-                if entry.sid() != sid {
-                    break;
-                }
-                if *other == col {
-                    found = Some(value.as_ref());
-                }
-            }
-            Change::Ins(_) | Change::Del(_) => break,
+        if entry.sid() != sid {
+            break;
         }
+        found = given(entry, col).or(found);
     }
     found
 }
@@ -105,14 +95,13 @@ impl<'a> RowView<'a> {
         requires { col < length (row_of self.now) }
         ensures { slice_get (row_of self.now) col ≡ Some (value_of result) }
     {
-        let (trees, sids, by) = (self.trees, self.sids, self.modified_by);
-        if let Some(value) = layer_value(by.trans, trees.trans, sids.trans, col) {
+        if let Some(value) = self.trans.value(col) {
             return value;
         }
-        if let Some(value) = layer_value(by.write, trees.write, sids.write, col) {
+        if let Some(value) = self.write.value(col) {
             return value;
         }
-        if let Some(value) = layer_value(by.read, trees.read, sids.read, col) {
+        if let Some(value) = self.read.value(col) {
             return value;
         }
         self.source_value(col)
@@ -120,14 +109,14 @@ impl<'a> RowView<'a> {
 
     /// The value of a column before the modifies.
     fn source_value(&self, col: usize) -> ValueRef<'a>
-        requires { col < length (source_row self.now.sids.stable self.now.source) }
-        ensures { slice_get (source_row self.now.sids.stable self.now.source) col ≡ Some (value_of result) }
+        requires { col < length (source_row self.now.source) }
+        ensures { slice_get (source_row self.now.source) col ≡ Some (value_of result) }
     {
         match self.source {
-            Source::Stable(table) => {
+            Source::Stable(table, sid) => {
                 let width = table.schema().width();
                 prove!(col < width);
-                table.value(u64::from(self.sids.stable), col)
+                table.value(u64::from(sid), col)
             }
             Source::Inserted(row) => row.cells()[col].as_ref(),
         }
@@ -138,10 +127,8 @@ impl<'a> RowView<'a> {
         ensures { result ≡ length (row_of self.now) }
     {
         match self.source {
-            Source::Stable(table) => {
-                let sid = u64::from(self.sids.stable);
-                let rows = table.len();
-                if sid < rows {
+            Source::Stable(table, sid) => {
+                if u64::from(sid) < table.len() {
                     table.schema().width()
                 } else {
                     0
@@ -167,80 +154,61 @@ impl<'a> RowView<'a> {
         Ok(Row::new(cells))
     }
 
-    /// A stable row that no layer modifies. The view keeps the tree, and doesn't look into it.
-    pub(crate) fn stable(table: &'a StableTable, sid: u64, tree: &'a DeltaTree) -> RowView<'a>
+    /// A stable row that no layer modifies.
+    #[inline(always)]
+    pub(crate) fn stable(table: &'a StableTable, sid: u64) -> RowView<'a>
         requires { sid < 2 ^ 32 }
         ensures row { row_of result ≡ get_or table.now.rows sid [] }
         ensures bare { IsBare 0 result }
     {
-        RowView::unmodified(Source::Stable(table), sid as u32, tree)
+        RowView::unmodified(Source::Stable(table, sid as u32))
     }
 
-    /// A row that a layer inserts. The view keeps the tree, and doesn't look into it.
-    pub(crate) fn inserted(row: &'a Row, tree: &'a DeltaTree) -> RowView<'a>
+    /// A row that a layer inserts.
+    #[inline(always)]
+    pub(crate) fn inserted(row: &'a Row) -> RowView<'a>
         ensures row { row_of result ≡ row.now }
         ensures bare { IsBare 0 result }
     {
-        RowView::unmodified(Source::Inserted(row), 0, tree)
+        RowView::unmodified(Source::Inserted(row))
     }
 
     /// A row as it comes.
-    fn unmodified(source: Source<'a>, stable: u32, tree: &'a DeltaTree) -> RowView<'a>
-        ensures row { row_of result ≡ source_row stable source.entry }
+    #[inline(always)]
+    fn unmodified(source: Source<'a>) -> RowView<'a>
+        ensures row { row_of result ≡ source_row source.entry }
         ensures bare { IsBare 0 result }
     {
         RowView {
             source,
-            trees: Trees {
-                read: tree,
-                write: tree,
-                trans: tree,
-            },
-            sids: Sids {
-                stable,
-                read: 0,
-                write: 0,
-                trans: 0,
-            },
-            modified_by: ModifiedBy {
-                read: false,
-                write: false,
-                trans: false,
-            },
+            read: Modifies::Nothing,
+            write: Modifies::Nothing,
+            trans: Modifies::Nothing,
         }
     }
 
-    /// The row with the modifies of a layer, which stand at the SID in its tree.
-    pub(crate) fn modified_in(self, layer: Layer, tree: &'a DeltaTree, sid: u32) -> RowView<'a>
+    /// The row with what a layer modifies of it.
+    #[inline(always)]
+    pub(crate) fn modified_in(self, layer: Layer, modifies: Modifies<'a>) -> RowView<'a>
         requires { IsBare (layer_number layer) self }
-        ensures row { row_of result ≡ set_cells (cells_at sid tree.now.entries) (row_of self.entry) }
+        ensures row { row_of result ≡ set_cells (layer_cells modifies.entry) (row_of self.entry) }
         ensures bare { IsBare (suc (layer_number layer)) result }
     {
-        let (mut trees, mut sids, mut modified_by) = (self.trees, self.sids, self.modified_by);
         match layer {
-            Layer::Read => {
-                trees.read = tree;
-                sids.read = sid;
-                modified_by.read = true;
-            }
-            Layer::Write => {
-                trees.write = tree;
-                sids.write = sid;
-                modified_by.write = true;
-            }
-            Layer::Trans => {
-                trees.trans = tree;
-                sids.trans = sid;
-                modified_by.trans = true;
-            }
-        }
-        RowView {
-            trees,
-            sids,
-            modified_by,
-            ..self
+            Layer::Read => RowView {
+                read: modifies,
+                ..self
+            },
+            Layer::Write => RowView {
+                write: modifies,
+                ..self
+            },
+            Layer::Trans => RowView {
+                trans: modifies,
+                ..self
+            },
         }
     }
 }
 
-const _: () = prove!(size_of::<RowView<'static>>() <= 64);
+const _: () = prove!(size_of::<RowView<'static>>() <= 96);

@@ -2,7 +2,8 @@ use Rattle.std.proofs.Common.{◌≡◌, ◌∙◌, ◌≤◌, suc, length, sym,
 use Rattle.std.proofs.lemmas.Grind.{common_steps}
 use Rattle.merge.specs.Cursor.{TreeCursor, IsCursor, rows_left}
 use Rattle.merge.specs.View.{layer_number}
-use Rattle.merge.specs.Stretches.{stretch_rows}
+use Rattle.merge.specs.Stretches.{IsStretch, stretch_rows}
+use Rattle.merge.proofs.StretchLemmas.{stretch_above}
 use Rattle.merge.proofs.level.LevelRows.next_stretch.Goals as goal
 
 -- the stretch isn't longer than what is left below, and that ends before 2^62
@@ -32,3 +33,10 @@ returns-in-Modified-clause-sound g c =
 
 pub returns-in-Modified-clause-rows : goal.returns-in-Modified-clause-rows
 returns-in-Modified-clause-rows c = grind (arith, common_steps)
+
+pub returns-in-Kept-clause-stretch : goal.returns-in-Kept-clause-stretch
+returns-in-Kept-clause-stretch g c =
+    let stretch = c.next_stretch-stretch.result in
+    let depth = c.skip_deleted.ensures.depth ∙ c.requires.sound.2 in
+    stretch_above (layer_number c.args.self.now.layer) stretch
+    (subst (λ n. IsStretch n stretch) depth c.next_stretch-stretch.ensures.stretch)

@@ -1,38 +1,28 @@
-use Rattle.std.proofs.Common.{◌∙◌, None, Option, ap, sym, arith}
-use Rattle.std.specs.Prelude.{slice_get}
-use Rattle.std.specs.Option.{option_map}
-use Rattle.values.specs.Lent.{value_of}
-use Rattle.values.specs.declared.value.Value.{Value}
-use Rattle.merge.specs.View.{last_cell, source_row}
-use Rattle.merge.proofs.ViewLemmas.{or_else, write_cells, read_cells, length-row_of, slice_get-row_of}
+use Rattle.std.proofs.Common.{◌∙◌, refl, arith}
+use Rattle.merge.specs.View.{layer_cells}
+use Rattle.merge.proofs.ViewLemmas.{found_in, length-row_of, slice_get-row_of}
 use Rattle.merge.proofs.view.RowView.value.Goals as goal
 
 pub returns-in-Some : goal.returns-in-Some
 returns-in-Some c =
     let v = c.args.self.now in
-    let col = c.args.col in
-    let lower = or_else (last_cell col None (write_cells v)) (or_else (last_cell col None (read_cells v)) (slice_get (source_row v.sids.stable v.source) col)) in
-    slice_get-row_of v col c.requires ∙ ap (λ (o : Option Value). or_else o lower) (sym c.layer_value.ensures ∙ ap (option_map value_of) c.in-Some.is)
+    let in_trans = found_in c.args.col (layer_cells v.trans) _ _ c.value.ensures c.in-Some.is in
+    slice_get-row_of v c.args.col _ _ _ c.requires in_trans refl refl
 
-pub returns-in-Some-layer_value : goal.returns-in-Some-layer_value
-returns-in-Some-layer_value c =
+pub returns-in-Some-value : goal.returns-in-Some-value
+returns-in-Some-value c =
     let v = c.args.self.now in
-    let col = c.args.col in
-    let lower = or_else (last_cell col None (read_cells v)) (slice_get (source_row v.sids.stable v.source) col) in
-    slice_get-row_of v col c.requires
-    ∙ ap (λ (o : Option Value). or_else o (or_else (last_cell col None (write_cells v)) lower)) (sym c.layer_value.ensures ∙ ap (option_map value_of) c.in_default.is)
-    ∙ ap (λ (o : Option Value). or_else o lower) (sym c.layer_value-2.ensures ∙ ap (option_map value_of) c.in-Some-layer_value.is)
+    let in_trans = found_in c.args.col (layer_cells v.trans) _ _ c.value.ensures c.in_default.is in
+    let in_write = found_in c.args.col (layer_cells v.write) _ _ c.value-2.ensures c.in-Some-value.is in
+    slice_get-row_of v c.args.col _ _ _ c.requires in_trans in_write refl
 
-pub returns-in-Some-layer_value-2 : goal.returns-in-Some-layer_value-2
-returns-in-Some-layer_value-2 c =
+pub returns-in-Some-value-2 : goal.returns-in-Some-value-2
+returns-in-Some-value-2 c =
     let v = c.args.self.now in
-    let col = c.args.col in
-    let source = slice_get (source_row v.sids.stable v.source) col in
-    let lower = or_else (last_cell col None (read_cells v)) source in
-    slice_get-row_of v col c.requires
-    ∙ ap (λ (o : Option Value). or_else o (or_else (last_cell col None (write_cells v)) lower)) (sym c.layer_value.ensures ∙ ap (option_map value_of) c.in_default.is)
-    ∙ ap (λ (o : Option Value). or_else o lower) (sym c.layer_value-2.ensures ∙ ap (option_map value_of) c.in_default-layer_value.is)
-    ∙ ap (λ (o : Option Value). or_else o source) (sym c.layer_value-3.ensures ∙ ap (option_map value_of) c.in-Some-layer_value-2.is)
+    let in_trans = found_in c.args.col (layer_cells v.trans) _ _ c.value.ensures c.in_default.is in
+    let in_write = found_in c.args.col (layer_cells v.write) _ _ c.value-2.ensures c.in_default-value.is in
+    let in_read = found_in c.args.col (layer_cells v.read) _ _ c.value-3.ensures c.in-Some-value-2.is in
+    slice_get-row_of v c.args.col _ _ _ c.requires in_trans in_write in_read
 
 pub source_value-requires : goal.source_value-requires
 source_value-requires c = omega (arith, length-row_of c.args.self.now, c.requires)
@@ -40,11 +30,7 @@ source_value-requires c = omega (arith, length-row_of c.args.self.now, c.require
 pub returns : goal.returns
 returns c =
     let v = c.args.self.now in
-    let col = c.args.col in
-    let source = slice_get (source_row v.sids.stable v.source) col in
-    let lower = or_else (last_cell col None (read_cells v)) source in
-    slice_get-row_of v col c.requires
-    ∙ ap (λ (o : Option Value). or_else o (or_else (last_cell col None (write_cells v)) lower)) (sym c.layer_value.ensures ∙ ap (option_map value_of) c.in_default.is)
-    ∙ ap (λ (o : Option Value). or_else o lower) (sym c.layer_value-2.ensures ∙ ap (option_map value_of) c.in_default-layer_value.is)
-    ∙ ap (λ (o : Option Value). or_else o source) (sym c.layer_value-3.ensures ∙ ap (option_map value_of) c.in_default-layer_value-2.is)
-    ∙ c.source_value.ensures
+    let in_trans = found_in c.args.col (layer_cells v.trans) _ _ c.value.ensures c.in_default.is in
+    let in_write = found_in c.args.col (layer_cells v.write) _ _ c.value-2.ensures c.in_default-value.is in
+    let in_read = found_in c.args.col (layer_cells v.read) _ _ c.value-3.ensures c.in_default-value-2.is in
+    slice_get-row_of v c.args.col _ _ _ c.requires in_trans in_write in_read ∙ c.source_value.ensures
