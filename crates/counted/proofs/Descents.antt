@@ -12,6 +12,7 @@ use Rattle.model.specs.declared.entry.Entry.{Entry}
 use Rattle.model.specs.declared.entry.Change.{Change}
 use Rattle.counted.specs.declared.entry.Head.{Head}
 use Rattle.counted.specs.declared.node.Child.{Child}
+use Rattle.counted.specs.declared.spot.Above.{Above}
 use Rattle.counted.specs.Descents.{AreBelow, IsAt}
 use Rattle.counted.specs.Gaps.{AreNext, Leads, Follows, IsGap}
 use Rattle.counted.specs.Heads.{head_of, head_at}
@@ -250,6 +251,13 @@ module _ (L H : Entry → ℤ → Type 0) where
     low = λ e h. absurd (omega arith);
     high = λ e lt. absurd (omega arith);
   }
+
+  -- before the root, a descent is at the first of all entries
+  pub begun : (items : List Entry) (above : Above) → above ≡ record { index = 0; shift = pos 0; next = None }
+      → AreBelow items above.index above.shift items above.next × IsBetween L H items above.index above.shift items
+  begun items above is =
+      subst (λ (a : Above). AreBelow items a.index a.shift items a.next × IsBetween L H items a.index a.shift items) (sym is)
+      (below_top items, between_top items (pos 0))
 
   pub between_moved : (items : List Entry) (index k : ℕ) (shift z : ℤ) (node es : List Entry) → index ≡ k → shift ≡ z → node ≡ es
       → IsBetween L H items index shift node → IsBetween L H items k z es

@@ -74,8 +74,8 @@ impl SharedEntry {
         self.weight
     }
 
-    /// What is kept of it where it is the first of a child.
-    pub(crate) fn head(&self) -> Head
+    /// What places it by its SID, and tells what its change adds. It reads no change.
+    pub fn head(&self) -> Head
         ensures { result ≡ head_of self.now }
     {
         Head {

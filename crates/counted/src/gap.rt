@@ -10,9 +10,8 @@ ghost use Rattle.counted.specs.Heads.{head_of};
 ghost use Rattle.counted.specs.Shapes.{AreChildren, all_items, items_of};
 ghost use Rattle.counted.specs.Sums.{total, weight_of};
 
-use crate::children::{head_behind, sums_before};
 use crate::node::{Body, Child, Node};
-use crate::spot::{Spot, spot_in};
+use crate::spot::{Above, Spot};
 use crate::{SharedEntry, Steps};
 use model::Change;
 use std::sync::ledger::Ledger;
@@ -49,19 +48,16 @@ impl Node {
         ensures at { IsAt self.now.items result.index result.shift result.leaf.now result.head }
         ensures steps { ((weight : ℤ) → IsSome (G.by_weight gap.now weight)) → steps.new ≡ steps.old + self.now.depth }
     {
-        let (mut node, mut index, mut shift, mut next) = (self, 0, 0, None);
+        let (mut node, mut above) = (self, Above::root());
         loop {
             match node.read(steps) {
                 Body::Leaf(entries) => {
-                    let at = gap_in(entries, rid, shift, gap);
-                    return spot_in(entries, at, index, shift, next);
+                    let at = gap_in(entries, rid, above.shift, gap);
+                    return above.spot(entries, at);
                 }
                 Body::Inner(children) => {
-                    let at = child_at_gap(children, rid, shift, gap, steps);
-                    let (count, net) = sums_before(children, at);
-                    next = head_behind(children, at, next);
-                    index += count;
-                    shift += net;
+                    let at = child_at_gap(children, rid, above.shift, gap, steps);
+                    above = above.child(children, at);
                     node = &children[at].node;
                 }
             }

@@ -1,6 +1,7 @@
 //! The entries of a tree in order, lent.
-ghost use Rattle.std.specs.Prelude.{◌≡◌, ◌+◌, ◌-◌, ◌^◌, ◌<◌, ◌≤◌, ◌++◌, length, take, drop};
+ghost use Rattle.std.specs.Prelude.{◌≡◌, ◌+◌, ◌-◌, ◌^◌, ◌<◌, ◌≤◌, ◌++◌, length, slice_get, take, drop};
 ghost use Rattle.std.specs.Iterator.{YieldsFirstRef, item_count};
+ghost use Rattle.std.specs.Option.{option_copied};
 ghost use Rattle.counted.specs.Gaps.{AreNext};
 ghost use Rattle.counted.specs.Paths.{AreFrom, IsReached};
 
@@ -50,6 +51,18 @@ impl<'a> Iterator for Iter<'a> {
         let (first, others) = self.leaf.split_first()?;
         self.leaf = others;
         Some(first)
+    }
+}
+
+impl<'a> Iter<'a> {
+    /// The entry that comes next, if there is one. It takes no memory.
+    pub fn first(&self) -> Option<&'a SharedEntry>
+        ensures { option_copied result ≡ slice_get self.now 0 }
+    {
+        if self.leaf.is_empty() && self.left > 0 {
+            return next_leaf(self.tree, self.behind, self.next, self.left).0.first();
+        }
+        self.leaf.first()
     }
 }
 

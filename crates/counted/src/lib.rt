@@ -16,7 +16,7 @@ mod tree;
 pub use entry::{Head, SharedEntry};
 pub use gap::Gap;
 pub use iter::Iter;
-pub use search::{Boundary, First, Probe};
+pub use search::{First, Probe};
 pub use spot::Spot;
 pub use starts::Start;
 pub use steps::Steps;

@@ -11,9 +11,8 @@ ghost use Rattle.counted.specs.Search.{stands_before, IsBoundary};
 ghost use Rattle.counted.specs.Shapes.{AreChildren, items_of};
 ghost use Rattle.counted.specs.Sums.{weight_of};
 
-use crate::children::{head_behind, sums_before};
 use crate::node::{Body, Child, Node};
-use crate::spot::{Spot, spot_in};
+use crate::spot::{Above, Spot};
 use crate::{SharedEntry, Steps};
 use model::Change;
 use std::cmp::Ordering;
@@ -54,14 +53,6 @@ impl Probe for First {
     }
 }
 
-/// Where something stands among entries: how many stand before it, what those add, and the entry that follows them.
-#[derive(Clone, Copy)]
-pub struct Boundary<'a> {
-    pub index: usize,
-    pub shift: i64,
-    pub entry: Option<&'a SharedEntry>,
-}
-
 impl Node {
     /// Where what is looked for at the SID stands. It reads one node on each level, and more only where what a change adds
     /// doesn't tell how it stands to that.
@@ -76,19 +67,13 @@ impl Node {
         ensures at { IsAt self.now.items result.index result.shift result.leaf.now result.head }
         ensures steps { ((weight : ℤ) → IsSome (P.by_weight probe.now weight)) → steps.new ≡ steps.old + self.now.depth }
     {
-        let (mut node, mut index, mut shift, mut next) = (self, 0, 0, None);
+        let (mut node, mut above) = (self, Above::root());
         loop {
             match node.read(steps) {
-                Body::Leaf(entries) => {
-                    let at = place_in(entries, sid, probe);
-                    return spot_in(entries, at, index, shift, next);
-                }
+                Body::Leaf(entries) => return above.spot(entries, place_in(entries, sid, probe)),
                 Body::Inner(children) => {
                     let at = child_before(children, sid, probe, steps);
-                    let (count, net) = sums_before(children, at);
-                    next = head_behind(children, at, next);
-                    index += count;
-                    shift += net;
+                    above = above.child(children, at);
                     node = &children[at].node;
                 }
             }
@@ -150,16 +135,18 @@ fn begins_before<P: Probe, L: Ledger>(
     }
 }
 
-/// Whether the entry stands before what is looked for at the SID.
-fn is_before<P: Probe>(entry: &SharedEntry, sid: u64, probe: &P) -> bool
-    ensures { stands_before (P.stand probe.now) sid entry.now ≡ result }
-{
-    if entry.sid() != sid {
-        return entry.sid() < sid;
-    }
-    match probe.compare_weight(entry.weight()) {
-        Some(order) => order.is_gt(),
-        None => probe.compare(entry.change()).is_gt(),
+impl SharedEntry {
+    /// Whether it stands before what is looked for at the SID. It reads its change only where what that adds doesn't tell.
+    pub fn is_before<P: Probe>(&self, sid: u64, probe: &P) -> bool
+        ensures { stands_before (P.stand probe.now) sid self.now ≡ result }
+    {
+        if self.sid() != sid {
+            return self.sid() < sid;
+        }
+        match probe.compare_weight(self.weight()) {
+            Some(order) => order.is_gt(),
+            None => probe.compare(self.change()).is_gt(),
+        }
     }
 }
 
@@ -171,7 +158,7 @@ fn place_in<P: Probe>(entries: &[SharedEntry], sid: u64, probe: &P) -> usize
     let mut high = entries.len();
     while low < high {
         let middle = low + (high - low) / 2;
-        if is_before(&entries[middle], sid, probe) {
+        if entries[middle].is_before(sid, probe) {
             low = middle + 1;
         } else {
             high = middle;

@@ -1,11 +1,16 @@
 //! Where a search ended.
-ghost use Rattle.std.specs.Prelude.{◌≡◌, ◌+◌, ◌^◌, ◌<◌, ◌≤◌, ◌+ℤ◌, ◌≤ℤ◌, pos, [], length, take, drop};
-ghost use Rattle.counted.specs.Descents.{IsAt};
+ghost use Rattle.std.specs.Prelude.{◌≡◌, ◌+◌, ◌^◌, ◌<◌, ◌≤◌, ◌+ℤ◌, pos, None, List, [], length, take, slice_index_or};
+ghost use Rattle.model.specs.declared.entry.Entry.{Entry};
+ghost use Rattle.counted.specs.declared.node.Child.{Child};
+ghost use Rattle.counted.specs.Descents.{AreBelow, IsAt};
 ghost use Rattle.counted.specs.Heads.{head_at};
+ghost use Rattle.counted.specs.Shapes.{AreChildren, all_items, items_of};
 ghost use Rattle.counted.specs.Sums.{total};
 
+use crate::children::{head_behind, sums_before};
 use crate::entry::Head;
 use crate::leaf::total_of;
+use crate::node::Child;
 use crate::{SharedEntry, Steps};
 use std::sync::ledger::Ledger;
 
@@ -36,29 +41,62 @@ impl<'a> Spot<'a> {
     }
 }
 
-/// A place in a leaf before which so many entries stand, which add so much, and behind which this is the next one's head.
-pub(crate) fn spot_in(
-    entries: &[SharedEntry],
-    at: usize,
+/// How far a descent has come: how many entries stand before a node, what those add, and the head of the one behind it.
+#[derive(Clone, Copy)]
+pub(crate) struct Above {
     index: usize,
-    shift: i64,
+    pub(crate) shift: i64,
     next: Option<Head>,
-) -> Spot<'_>
-    requires within { at ≤ length entries.now }
-    requires few { index + length entries.now < 2 ^ 61 }
-    requires above { shift ≤ℤ pos index }
-    requires below { pos 0 ≤ℤ (shift +ℤ pos index) }
-    ensures index { result.index ≡ index + at }
-    ensures shift { result.shift ≡ shift +ℤ total (take at entries.now) }
-    ensures leaf { result.leaf.now ≡ drop at entries.now }
-    ensures head { at < length entries.now → result.head ≡ head_at entries.now at }
-    ensures next { length entries.now ≤ at → result.head ≡ next }
-{
-    Spot {
-        index: index + at,
-        shift: shift + total_of(&entries[..at]),
-        leaf: &entries[at..],
-        head: head_or(entries, at, next),
+}
+
+impl Above {
+    /// Before the root.
+    pub(crate) fn root() -> Above
+        ensures { result ≡ record { index = 0; shift = pos 0; next = None } }
+    {
+        Above {
+            index: 0,
+            shift: 0,
+            next: None,
+        }
+    }
+
+    /// Before a child of the node.
+    pub(crate) fn child(self, children: &[Child], at: usize) -> Above
+        requires children { AreChildren children.now }
+        requires within { at < length children.now }
+        requires below { (items : List Entry) × (length items < 2 ^ 61)
+            × AreBelow items self.index self.shift (all_items children.now) self.next }
+        ensures index { result.index ≡ self.index + length (all_items (take at children.now)) }
+        ensures shift { result.shift ≡ self.shift +ℤ total (all_items (take at children.now)) }
+        ensures below { (items : List Entry) (d : Child)
+            → AreBelow items self.index self.shift (all_items children.now) self.next
+            → AreBelow items result.index result.shift (items_of (slice_index_or children.now at d)) result.next }
+    {
+        let (count, net) = sums_before(children, at);
+        Above {
+            index: self.index + count,
+            shift: self.shift + net,
+            next: head_behind(children, at, self.next),
+        }
+    }
+
+    /// A place among the entries of the node, which is a leaf.
+    pub(crate) fn spot(self, entries: &[SharedEntry], at: usize) -> Spot<'_>
+        requires within { at ≤ length entries.now }
+        requires below { (items : List Entry) × (length items < 2 ^ 61)
+            × AreBelow items self.index self.shift entries.now self.next }
+        ensures index { result.index ≡ self.index + at }
+        ensures at { (items : List Entry)
+            → AreBelow items self.index self.shift entries.now self.next
+            → IsAt items result.index result.shift result.leaf.now result.head }
+    {
+        Spot {
+            index: self.index + at,
+            shift: self.shift + total_of(&entries[..at]),
+            leaf: &entries[at..],
+            head: head_or(entries, at, self.next),
+        }
     }
 }
 

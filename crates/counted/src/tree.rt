@@ -15,7 +15,7 @@ ghost use Rattle.counted.specs.Trees.{IsDepth, IsRoot};
 use crate::gap::Gap;
 use crate::node::bulk::{root_over, shared};
 use crate::node::{Child, Node};
-use crate::search::{Boundary, First, Probe};
+use crate::search::{First, Probe};
 use crate::spot::Spot;
 use crate::{SharedEntry, Steps};
 use model::Entry;
@@ -118,17 +118,6 @@ impl CountedTree {
         }
     }
 
-    /// Where something comes to stand at a position, where nobody counts nodes.
-    pub fn gap<G: Gap>(&self, rid: u64, gap: &G) -> Boundary<'_>
-        requires rid { rid < 2 ^ 63 }
-        requires placed { ArePlaced self.now.entries }
-        ensures gap { IsGap (G.after gap.now) (pos rid) (pos 0) self.now.entries result.index }
-        ensures shift { result.shift ≡ total (take result.index self.now.entries) }
-        ensures entry { option_copied result.entry ≡ slice_get self.now.entries result.index }
-    {
-        self.boundary(gap_uncounted::<G, Brand>(self, rid, gap, Blank::new(1)))
-    }
-
     /// Where what is looked for at the SID stands.
     pub fn place_of<P: Probe, L: Ledger>(
         &self,
@@ -151,33 +140,6 @@ impl CountedTree {
         }
     }
 
-    /// Where what is looked for at the SID stands, where nobody counts nodes.
-    pub fn place<P: Probe>(&self, sid: u64, probe: &P) -> Boundary<'_>
-        ensures boundary { IsBoundary (stands_before (P.stand probe.now) sid) self.now.entries result.index }
-        ensures shift { result.shift ≡ total (take result.index self.now.entries) }
-        ensures entry { option_copied result.entry ≡ slice_get self.now.entries result.index }
-    {
-        self.boundary(place_uncounted::<P, Brand>(self, sid, probe, Blank::new(1)))
-    }
-
-    /// A place with the entry there, which may be the first one of the next leaf.
-    fn boundary<'a>(&'a self, spot: Spot<'a>) -> Boundary<'a>
-        requires { IsAt self.now.entries spot.index spot.shift spot.leaf.now spot.head }
-        ensures index { result.index ≡ spot.entry.index }
-        ensures shift { result.shift ≡ spot.entry.shift }
-        ensures entry { option_copied result.entry ≡ slice_get self.now.entries spot.entry.index }
-    {
-        let entry = match spot.leaf.first() {
-            Some(entry) => Some(entry),
-            None => self.entry(spot.index),
-        };
-        Boundary {
-            index: spot.index,
-            shift: spot.shift,
-            entry,
-        }
-    }
-
     /// A tree of these entries, none of which is copied.
     pub fn from_sorted(alloc: Global, entries: Vec<Entry>) -> Result<CountedTree, AllocError>
         requires { length entries.items < 2 ^ 60 }
@@ -197,17 +159,6 @@ impl CountedTree {
         }
         let root = root_over(alloc, entries)?;
         Ok(CountedTree::of_root(Arc::new(alloc, root)?))
-    }
-
-    /// The entry at an index. It takes no memory.
-    pub fn entry(&self, at: usize) -> Option<&SharedEntry>
-        ensures { option_copied result ≡ slice_get self.now.entries at }
-    {
-        if at < self.len {
-            Some(&self.leaf_from(at).0[0])
-        } else {
-            None
-        }
     }
 
     /// The entries from an index on that lie in one leaf, and the children behind it at the leaf's parent.
@@ -363,7 +314,7 @@ impl CountedTree {
 }
 
 /// Where what is looked for at the SID stands, by a count that is let go.
-fn place_uncounted<'a, P: Probe, L: Ledger>(
+pub(crate) fn place_uncounted<'a, P: Probe, L: Ledger>(
     tree: &'a CountedTree,
     sid: u64,
     probe: &P,

@@ -1,6 +1,6 @@
 -- What the crates above cite of this one, in one place. Declares nothing.
 pub use Rattle.delta.proofs.AheadLemmas.{next_is}
-pub use Rattle.delta.proofs.ByPlaceLemmas.{base_change-effect, past-kept}
+pub use Rattle.delta.proofs.BySidLemmas.{base_change-effect, past-kept}
 pub use Rattle.delta.proofs.ChangesLemmas.{HasInsert, filter_all, filter_none, has_insert, nothing}
 pub use Rattle.delta.proofs.CountedLemmas.{next_passes, some_is, some_within}
 pub use Rattle.delta.proofs.CountLemmas.{counts-le, delete_count-append, delete_count-cons, delete_worth}

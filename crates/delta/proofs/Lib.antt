@@ -17,5 +17,5 @@ mod RowLemmas
 mod AheadLemmas
 mod KeyPlaceLemmas
 mod RowCountLemmas
-mod ByPlaceLemmas
+mod BySidLemmas
 pub mod CallerLemmas

@@ -17,7 +17,7 @@ use Rattle.model.specs.Places.{insert_count, delete_count}
 use Rattle.model.proofs.CallerLemmas.{both, first, second}
 use Rattle.delta.specs.declared.places.Place.{Place}
 use Rattle.delta.specs.declared.places.Place.TheVariants.{Inserted, Base}
-use Rattle.delta.specs.Search.{insert_cmp, stands_before, IsSplit}
+use Rattle.delta.specs.Search.{insert_cmp, stands_before, IsSplit, base_cmp}
 use Rattle.delta.specs.Lookups.{has_delete}
 use Rattle.delta.specs.Positions.{IsAtRid}
 use Rattle.delta.proofs.CountLemmas.{insert_worth, delete_worth, insert_count-cons, delete_count-cons}
@@ -419,6 +419,10 @@ pub deletes-before-insert : (key_cols sid : ℕ) (key : Key) (es : List Entry) (
     → IsSplit (stands_before (insert_cmp key_cols key) sid) es n → delete_count (take n es) ≤ sid
 deletes-before-insert key_cols sid key es n ordered split =
     deletes-before (insert_cmp key_cols key) (λ gone h. cc) sid key_cols es n ordered split
+
+pub deletes-before-base : (key_cols sid : ℕ) (es : List Entry) (n : ℕ) → T (are_ordered key_cols es)
+    → IsSplit (stands_before base_cmp sid) es n → delete_count (take n es) ≤ sid
+deletes-before-base key_cols sid es n ordered split = deletes-before base_cmp (λ gone h. cc) sid key_cols es n ordered split
 
 pub deletes-before-change : (key_cols sid : ℕ) (c : Change) (es : List Entry) (n : ℕ) → T (are_ordered key_cols es)
     → IsSplit (stands_before (change_cmp key_cols c) sid) es n → delete_count (take n es) ≤ sid

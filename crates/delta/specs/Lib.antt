@@ -5,7 +5,7 @@ pub mod Positions
 pub mod Changes
 pub mod Laws
 pub mod Depth
-pub mod ByPlace
+pub mod BySid
 pub mod Starts
 pub mod Folds
 pub mod Ahead

@@ -12,7 +12,7 @@ ghost use Rattle.delta.specs.Search.{base_cmp, past_cmp, stands_before, IsSplit}
 ghost use Rattle.delta.specs.Changes.{is_modify_at, modify_count, has_cell, entries_with, MayBePut, MayBePutAt, IsRun};
 
 use crate::tree::{DeltaTree, copy_entry};
-use counted::{Boundary, SharedEntry};
+use counted::{SharedEntry, Start};
 use model::{Change, Entry};
 use values::{Key, NoMemory, Row, Value};
 
@@ -115,13 +115,13 @@ impl DeltaTree {
             }
             Change::Del(_) => {
                 let place = self.place_of_base(sid);
-                (place.index, self.end_of_row(place, sid))
+                (place.index, self.end_of_row(&place, sid))
             }
             Change::Mod(col, _) => {
                 let place = self.place_of_modify(sid, *col);
                 (
                     place.index,
-                    place.index + modify_worth(place.entry, sid, *col),
+                    place.index + modify_worth(place.entry(), sid, *col),
                 )
             }
         }
@@ -131,7 +131,8 @@ impl DeltaTree {
     ///
     /// # Errors
     ///
-    /// `NoMemory` where a growth is refused, for the nodes on the way to it are made anew: the tree is as it was.
+    /// `NoMemory` where a growth is refused, for the nodes on the way to it are made anew where another tree shares them or too
+    /// few entries would be left beside it: the tree is as it was.
     pub fn take_ins(&mut self, sid: u64, key: &Key) -> Result<(), NoMemory>
         requires { IsSome (inserted_row self.old.key_cols sid key.now self.old.entries) }
         ensures ok { OnOk result (self.new ≡ record self.old { entries = take_ins self.old.key_cols sid key.now self.old.entries }) }
@@ -146,7 +147,8 @@ impl DeltaTree {
     ///
     /// # Errors
     ///
-    /// `NoMemory` where a growth is refused, for the nodes on the way to it are made anew: the tree is as it was.
+    /// `NoMemory` where a growth is refused, for the nodes on the way to it are made anew where another tree shares them or too
+    /// few entries would be left beside it: the tree is as it was.
     pub fn take_at(&mut self, at: usize) -> Result<(), NoMemory>
         requires { at < length self.old.entries }
         ensures ok { OnOk result (self.new ≡ record self.old { entries = remove self.old.entries at }) }
@@ -196,13 +198,13 @@ impl DeltaTree {
 
     /// The end of the entries at the SID, where a search has found what becomes of the base row. It searches again only
     /// where something does.
-    fn end_of_row(&self, place: Boundary<'_>, sid: u64) -> usize
+    fn end_of_row(&self, place: &Start<'_>, sid: u64) -> usize
         requires lawful { IsLawful self.now.key_cols self.now.entries }
-        requires split { IsSplit (stands_before base_cmp sid) self.now.entries place.index }
-        requires entry { option_copied place.entry ≡ slice_get self.now.entries place.index }
+        requires split { IsSplit (stands_before base_cmp sid) self.now.entries place.now.index }
+        requires rest { place.now.entries ≡ drop place.now.index self.now.entries }
         ensures { IsSplit (stands_before past_cmp sid) self.now.entries result }
     {
-        match place.entry {
+        match place.entry() {
             Some(entry) => if entry.sid() == sid {
                 self.index_past(sid)
             } else {

@@ -5,20 +5,17 @@
 //! either one delete or the modifies by column. It stands on `values` and `model`.
 #![tactic(auto)]
 
-mod beside;
-mod by_place;
+mod by_sid;
 mod changes;
 mod entries;
 mod folds;
 mod laws;
 mod lookup;
-mod memory;
 mod places;
 mod sorted;
 mod tree;
 
-pub use beside::ChangePlace;
-pub use by_place::{BaseChange, KeyPlace};
+pub use by_sid::{BaseChange, SidPlace, Sought};
 pub use counted::{CountedTree, Iter, SharedEntry, Steps};
 pub use folds::Fold;
 pub use laws::{a_write_is_one_call, canonical_look_ups, inserts_ascend_at_a_sid};

@@ -1,5 +1,5 @@
 //! What stands at a SID, found by binary search.
-ghost use Rattle.std.specs.Prelude.{◌≡◌, slice_get};
+ghost use Rattle.std.specs.Prelude.{◌≡◌, drop};
 ghost use Rattle.std.specs.Option.{option_copied};
 ghost use Rattle.delta.specs.Lookups.{inserted_row};
 ghost use Rattle.delta.specs.Changes.{row_at};
@@ -7,7 +7,7 @@ ghost use Rattle.delta.specs.Search.{insert_cmp, stands_before, IsSplit};
 
 use crate::sorted::compare_insert;
 use crate::tree::DeltaTree;
-use counted::{Boundary, SharedEntry};
+use counted::{SharedEntry, Start};
 use model::Change;
 use values::{Row, Value};
 
@@ -15,15 +15,15 @@ impl DeltaTree {
     /// The row that is inserted at the SID with the key of these cells, if there is one, by the place of the key.
     pub(crate) fn insert_at<'a>(
         &self,
-        place: Boundary<'a>,
+        place: &Start<'a>,
         sid: u64,
         key: &[Value],
     ) -> Option<&'a Row>
-        requires split { IsSplit (stands_before (insert_cmp self.now.key_cols key.now) sid) self.now.entries place.index }
-        requires entry { option_copied place.entry ≡ slice_get self.now.entries place.index }
+        requires split { IsSplit (stands_before (insert_cmp self.now.key_cols key.now) sid) self.now.entries place.now.index }
+        requires rest { place.now.entries ≡ drop place.now.index self.now.entries }
         ensures { option_copied result ≡ inserted_row self.now.key_cols sid key.now self.now.entries }
     {
-        match place.entry {
+        match place.entry() {
             Some(entry) => inserted_at(self.key_cols, entry, sid, key),
             None => None,
         }

@@ -1,12 +1,12 @@
 //! Positions in the image above: how far the entries move what stands at a SID, and what stands at a position.
-ghost use Rattle.std.specs.Prelude.{◌≡◌, false, ◌<◌, ◌≤◌, ◌^◌, ◌+ℤ◌, ◌≤ℤ◌, List, drop, length, pos, slice_get, take};
-ghost use Rattle.std.specs.Option.{option_copied};
+ghost use Rattle.std.specs.Prelude.{◌≡◌, false, ◌<◌, ◌≤◌, ◌^◌, ◌+ℤ◌, ◌≤ℤ◌, Option, drop, length, pos, take};
+ghost use Rattle.std.specs.Option.{option_copied, option_map};
 ghost use Rattle.values.specs.declared.row.Row.{Row};
 ghost use Rattle.counted.specs.Gaps.{IsGap};
-ghost use Rattle.counted.specs.Heads.{head_at};
+ghost use Rattle.counted.specs.Heads.{head_of};
 ghost use Rattle.counted.specs.Sums.{total};
 ghost use Rattle.model.specs.declared.entry.Entry.{Entry};
-ghost use Rattle.model.specs.Entries.{is_delete, is_insert, IsLawful};
+ghost use Rattle.model.specs.Entries.{is_delete, IsLawful};
 ghost use Rattle.model.specs.declared.entry.Change.TheVariants.{Ins};
 ghost use Rattle.model.specs.Places.{delete_count, rid_of_insert};
 ghost use Rattle.delta.specs.Positions.{shift_before, after_deletes, IsAtRid};
@@ -89,7 +89,7 @@ impl DeltaTree {
         ensures rest { result.entries ≡ drop result.index self.now.entries }
         ensures lawful { IsLawful self.now.key_cols self.now.entries }
     {
-        let start = self.tree.start(rid, &RowThere);
+        let start = self.tree.gap(rid, &RowThere);
         Start {
             index: start.index,
             sid: next_row(&self.tree, rid, &RowThere, start.index, start.shift),
@@ -134,28 +134,18 @@ pub(crate) fn row_at(entry: Option<&SharedEntry>, index: usize, sid: u64) -> Pla
     ensures { result ≡ place_at index sid (option_copied entry.entry) }
 {
     match entry {
-        Some(found) if found.sid() == sid && is_insert(found.change()) => Place::Inserted(index),
-        _ => Place::Base(sid),
+        Some(found) => row_of(Some(found.head()), index, sid),
+        None => Place::Base(sid),
     }
 }
 
 /// The same by the head of the entry there.
 fn row_of(head: Option<Head>, index: usize, sid: u64) -> Place
-    ensures { (entries : List Entry) → head ≡ head_at entries index → result ≡ place_at index sid (slice_get entries index) }
+    ensures { (entry : Option Entry) → head ≡ option_map head_of entry → result ≡ place_at index sid entry }
 {
     match head {
         Some(found) if found.sid == sid && found.weight > 0 => Place::Inserted(index),
         _ => Place::Base(sid),
-    }
-}
-
-/// Whether the change is an insert.
-fn is_insert(change: &Change) -> bool
-    ensures { result ≡ is_insert change.now }
-{
-    match change {
-        Change::Ins(_) => true,
-        Change::Del(_) | Change::Mod(..) => false,
     }
 }
 

@@ -1,15 +1,17 @@
 //! Binary search in the entries of a tree: by SID, and among those of one SID by what the change is.
-ghost use Rattle.std.specs.Prelude.{◌≡◌, T, slice_get, take};
+ghost use Rattle.std.specs.Prelude.{◌≡◌, T, drop, slice_get, take};
 ghost use Rattle.std.specs.Option.{option_copied};
 ghost use Rattle.std.specs.List.{list_all};
 ghost use Rattle.model.specs.Entries.{change_cmp, IsLawful};
 ghost use Rattle.counted.specs.Sums.{total};
 ghost use Rattle.delta.specs.Ahead.{IsAhead};
+ghost use Rattle.delta.specs.BySid.{stand_of};
 ghost use Rattle.delta.specs.Search.{first_cmp, insert_cmp, base_cmp, modify_cmp, past_cmp, stands_before, IsClosed, IsSplit};
 ghost use Rattle.delta.specs.Search.{insert_by_weight, base_by_weight, modify_by_weight, past_by_weight};
 
+use crate::by_sid::Sought;
 use crate::tree::DeltaTree;
-use counted::{Boundary, First, Iter, Probe, SharedEntry};
+use counted::{First, Iter, Probe, SharedEntry, Start};
 use model::Change;
 use std::cmp::Ordering;
 use values::Value;
@@ -113,12 +115,12 @@ impl Probe for Past {
 }
 
 impl DeltaTree {
-    /// Where what is looked for at the SID stands, what the entries before it add, and the entry there. One descent.
-    fn place<P: Probe>(&self, sid: u64, probe: &P) -> Boundary<'_>
+    /// Where what is looked for at the SID stands, what the entries before it add, and the entries from there on. One descent.
+    fn place<P: Probe>(&self, sid: u64, probe: &P) -> Start<'_>
         requires { IsClosed self.now.key_cols (P.stand probe.now) }
         ensures split { IsSplit (stands_before (P.stand probe.now) sid) self.now.entries result.index }
         ensures shift { result.shift ≡ total (take result.index self.now.entries) }
-        ensures entry { option_copied result.entry ≡ slice_get self.now.entries result.index }
+        ensures rest { result.entries ≡ drop result.index self.now.entries }
         ensures lawful { IsLawful self.now.key_cols self.now.entries }
     {
         self.tree.place(sid, probe)
@@ -145,7 +147,7 @@ impl DeltaTree {
             mut rest,
         } = ahead;
         while let Some(entry) = next {
-            if !is_before(entry, sid, probe) {
+            if !entry.is_before(sid, probe) {
                 break;
             }
             next = rest.next();
@@ -188,10 +190,10 @@ impl DeltaTree {
     }
 
     /// Where the inserts of this key, or a greater one, stand at the SID.
-    pub(crate) fn place_of_insert(&self, sid: u64, key: &[Value]) -> Boundary<'_>
+    pub(crate) fn place_of_insert(&self, sid: u64, key: &[Value]) -> Start<'_>
         ensures split { IsSplit (stands_before (insert_cmp self.now.key_cols key.now) sid) self.now.entries result.index }
         ensures shift { result.shift ≡ total (take result.index self.now.entries) }
-        ensures entry { option_copied result.entry ≡ slice_get self.now.entries result.index }
+        ensures rest { result.entries ≡ drop result.index self.now.entries }
         ensures lawful { IsLawful self.now.key_cols self.now.entries }
     {
         self.place(
@@ -211,21 +213,13 @@ impl DeltaTree {
     }
 
     /// Where what becomes of the base row at the SID stands: its delete or its modifies, past the inserts there.
-    pub(crate) fn place_of_base(&self, sid: u64) -> Boundary<'_>
+    pub(crate) fn place_of_base(&self, sid: u64) -> Start<'_>
         ensures split { IsSplit (stands_before base_cmp sid) self.now.entries result.index }
         ensures shift { result.shift ≡ total (take result.index self.now.entries) }
-        ensures entry { option_copied result.entry ≡ slice_get self.now.entries result.index }
+        ensures rest { result.entries ≡ drop result.index self.now.entries }
         ensures lawful { IsLawful self.now.key_cols self.now.entries }
     {
         self.place(sid, &BaseRow)
-    }
-
-    /// How many entries stand before what becomes of the base row at the SID: before its delete or its modifies, and past
-    /// the inserts there. Found by binary search; it takes no memory.
-    pub fn base_index(&self, sid: u64) -> usize
-        ensures { IsSplit (stands_before base_cmp sid) self.now.entries result }
-    {
-        self.place_of_base(sid).index
     }
 
     /// How many entries stand at SIDs up to this one.
@@ -236,20 +230,34 @@ impl DeltaTree {
     }
 
     /// Where the modifies of this column, or a greater one, stand at the SID.
-    pub(crate) fn place_of_modify(&self, sid: u64, col: usize) -> Boundary<'_>
+    pub(crate) fn place_of_modify(&self, sid: u64, col: usize) -> Start<'_>
         ensures split { IsSplit (stands_before (modify_cmp col) sid) self.now.entries result.index }
         ensures shift { result.shift ≡ total (take result.index self.now.entries) }
-        ensures entry { option_copied result.entry ≡ slice_get self.now.entries result.index }
+        ensures rest { result.entries ≡ drop result.index self.now.entries }
         ensures lawful { IsLawful self.now.key_cols self.now.entries }
     {
         self.place(sid, &ModifyOf { col })
     }
 
+    /// Where what is looked for at the SID stands, or would stand.
+    pub(crate) fn place_of(&self, sid: u64, sought: Sought<'_>) -> Start<'_>
+        ensures split { IsSplit (stands_before (stand_of self.now.key_cols sought.entry) sid) self.now.entries result.index }
+        ensures shift { result.shift ≡ total (take result.index self.now.entries) }
+        ensures rest { result.entries ≡ drop result.index self.now.entries }
+        ensures lawful { IsLawful self.now.key_cols self.now.entries }
+    {
+        match sought {
+            Sought::Insert(key) => self.place_of_insert(sid, key),
+            Sought::Base => self.place_of_base(sid),
+            Sought::Change(change) => self.place_of_change(sid, change),
+        }
+    }
+
     /// Where a change stands at the SID, or would stand.
-    pub(crate) fn place_of_change(&self, sid: u64, change: &Change) -> Boundary<'_>
+    fn place_of_change(&self, sid: u64, change: &Change) -> Start<'_>
         ensures split { IsSplit (stands_before (change_cmp self.now.key_cols change.now) sid) self.now.entries result.index }
         ensures shift { result.shift ≡ total (take result.index self.now.entries) }
-        ensures entry { option_copied result.entry ≡ slice_get self.now.entries result.index }
+        ensures rest { result.entries ≡ drop result.index self.now.entries }
         ensures lawful { IsLawful self.now.key_cols self.now.entries }
     {
         match change {
@@ -257,17 +265,6 @@ impl DeltaTree {
             Change::Del(_) => self.place_of_base(sid),
             Change::Mod(col, _) => self.place_of_modify(sid, *col),
         }
-    }
-}
-
-/// Whether the entry stands before what is looked for at the SID.
-fn is_before<P: Probe>(entry: &SharedEntry, sid: u64, probe: &P) -> bool
-    ensures { result ≡ stands_before (P.stand probe.now) sid entry.now }
-{
-    match sid.cmp(&entry.sid()) {
-        Ordering::Less => false,
-        Ordering::Equal => probe.compare(entry.change()).is_gt(),
-        Ordering::Greater => true,
     }
 }
 

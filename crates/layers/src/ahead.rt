@@ -31,7 +31,7 @@ impl<'a> Ahead<'a> {
         ensures all { result ≡ tree.now.entries }
         ensures lawful { IsLawful tree.now.key_cols tree.now.entries }
     {
-        let mut rest = tree.iter_from(0);
+        let mut rest = tree.iter();
         let first = rest.next();
         Ahead { first, rest }
     }

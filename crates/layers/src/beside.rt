@@ -7,7 +7,7 @@ ghost use Rattle.layers.specs.Serialization.{IsClashBeside};
 
 use crate::clash::clash_beside;
 use crate::cursor::Cursor;
-use delta::{DeltaTree, SharedEntry};
+use delta::{DeltaTree, SharedEntry, Sought};
 use model::{Clash, ConflictRule};
 
 /// A descent for each entry is taken where the tree has at least so many times as many.
@@ -66,9 +66,9 @@ fn find_beside(rule: ConflictRule, index: usize, entry: &SharedEntry, other: &De
     ensures rid { result.rid ≡ (rebased_entry other.now.key_cols other.now.entries entry.now).sid }
     ensures clash { IsClashBeside rule other.now.key_cols index entry.now other.now.entries result.clash }
 {
-    let place = other.find_place(entry.sid(), entry.change());
+    let place = other.find(entry.sid(), Sought::Change(entry.change()));
     Beside {
         rid: place.rid,
-        clash: clash_beside(rule, index, entry, other, place),
+        clash: clash_beside(rule, index, entry, other, &place),
     }
 }

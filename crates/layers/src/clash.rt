@@ -1,5 +1,5 @@
 //! Two entries over one image that can't both be kept.
-ghost use Rattle.std.specs.Prelude.{◌≡◌, List, None, drop, slice_get};
+ghost use Rattle.std.specs.Prelude.{◌≡◌, ◌<◌, ◌^◌, List, None, drop, slice_get};
 ghost use Rattle.std.specs.Option.{option_copied};
 ghost use Rattle.std.specs.Ordering.{eq_by_cmp};
 ghost use Rattle.values.specs.Orders.{key_cmp};
@@ -10,8 +10,7 @@ ghost use Rattle.model.specs.Rebasing.{clash_of_entries, clash_of_changes, colum
 ghost use Rattle.model.specs.declared.entry.Entry.{Entry};
 ghost use Rattle.layers.specs.Serialization.{clash_cmp, clash_with_head, IsClashBeside};
 
-use crate::entry::entry_from;
-use delta::{Change, ChangePlace, DeltaTree, SharedEntry};
+use delta::{Change, DeltaTree, SharedEntry, SidPlace, Sought};
 use model::{Clash, ClashKind, ConflictRule};
 use std::cmp::Ordering;
 use values::Row;
@@ -70,37 +69,28 @@ fn compare_changes(key_cols: usize, change: &Change, there: &Change) -> Ordering
     }
 }
 
-/// The index of the first entry of the tree that the entry can clash with, if there is one; its own is `index`.
-fn index_of_clash(rule: ConflictRule, entry: &SharedEntry, other: &DeltaTree, index: usize) -> usize
-    requires { IsSplit (stands_before (change_cmp other.now.key_cols entry.now.change) entry.now.sid) other.now.entries index }
-    ensures { IsSplit (stands_before (clash_cmp other.now.key_cols rule entry.now.change) entry.now.sid) other.now.entries result }
-{
-    match (rule, entry.change()) {
-        (ConflictRule::ByRow, Change::Mod(_, _)) => other.base_index(entry.sid()),
-        _ => index,
-    }
-}
-
 /// The clash of the entry, which has the index `i` in its tree, with the first one of the other tree that it can clash with;
-/// its own place there is given.
+/// its own place there is given. A modify by row can clash with all that becomes of its row, and looks for the first of that.
 pub(crate) fn clash_beside(
     rule: ConflictRule,
     i: usize,
     entry: &SharedEntry,
     other: &DeltaTree,
-    place: ChangePlace<'_>,
+    place: &SidPlace<'_>,
 ) -> Option<Clash>
-    requires split { IsSplit (stands_before (change_cmp other.now.key_cols entry.now.change) entry.now.sid) other.now.entries place.index }
-    requires entry { option_copied place.entry ≡ slice_get other.now.entries place.index }
+    requires sid { entry.now.sid < 2 ^ 63 }
+    requires split { IsSplit (stands_before (change_cmp other.now.key_cols entry.now.change) entry.now.sid) other.now.entries place.now.index }
+    requires rest { place.now.entries ≡ drop place.now.index other.now.entries }
     ensures { IsClashBeside rule other.now.key_cols i entry.now other.now.entries result }
 {
-    let j = index_of_clash(rule, entry, other, place.index);
-    let there = if j == place.index {
-        place.entry
-    } else {
-        entry_from(other, j)
-    };
-    clash_at(rule, other.key_cols(), i, entry, j, there)
+    let key_cols = other.key_cols();
+    match (rule, entry.change()) {
+        (ConflictRule::ByRow, Change::Mod(_, _)) => {
+            let first = other.find(entry.sid(), Sought::Base);
+            clash_at(rule, key_cols, i, entry, first.index, first.entry())
+        }
+        _ => clash_at(rule, key_cols, i, entry, place.index, place.entry()),
+    }
 }
 
 /// The clash of the entry, which has the index `i` in its tree, with the one at `j` in the other tree, if there is one.

@@ -11,7 +11,6 @@ mod ahead;
 mod beside;
 mod clash;
 mod cursor;
-mod entry;
 mod meeting;
 mod propagation;
 mod rebase;

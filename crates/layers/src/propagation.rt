@@ -1,15 +1,20 @@
 //! A tree folded into the tree below it.
-ghost use Rattle.std.specs.Prelude.{◌≡◌, IfOk, OnOk};
+ghost use Rattle.std.specs.Prelude.{◌≡◌, IfOk, OnOk, Some, map};
+ghost use Rattle.std.specs.Option.{option_copied};
 ghost use Rattle.layers.specs.Over.{AreConsecutive};
 ghost use Rattle.layers.specs.Propagation.{IsNext, next_tree, composed_tree};
 
-use crate::entry::entry_of;
 use crate::walk::fold_all;
 use delta::{Change, DeltaTree, Fold, SharedEntry};
+use smallvec::SmallVec;
+use std::alloc::Global;
 use values::NoMemory;
 
 /// Upper entries are edited in where the lower tree has at least so many times as many.
 const FEW: usize = 16;
+
+/// The entries of an upper tree. So many are gathered without taking memory.
+type Uppers<'a> = SmallVec<Option<&'a SharedEntry>, 31>;
 
 /// The lower tree with the upper one, which is over its image, folded into it (Héman et al. 2010, "Propagate"): a copy
 /// of the lower tree, with an edit for each upper entry, or, where those are many, a tree built in one walk over both.
@@ -18,31 +23,42 @@ const FEW: usize = 16;
 /// # Errors
 ///
 /// `NoMemory` where a growth is refused.
-pub fn propagate(lower: &DeltaTree, upper: &DeltaTree) -> Result<DeltaTree, NoMemory>
+pub fn propagate(alloc: Global, lower: &DeltaTree, upper: &DeltaTree) -> Result<DeltaTree, NoMemory>
     requires { AreConsecutive lower.now upper.now }
     ensures { IfOk result (λ tree. (w : AreConsecutive lower.now upper.now) → tree ≡ composed_tree lower.now upper.now w) }
 {
     if upper.len() > lower.len() / FEW {
-        fold_all(lower, upper)
+        fold_all(alloc, lower, upper)
     } else {
-        fold_each(lower, upper)
+        fold_each(alloc, lower, upper)
     }
 }
 
 /// A copy of the lower tree, with an edit for each upper entry.
-fn fold_each(lower: &DeltaTree, upper: &DeltaTree) -> Result<DeltaTree, NoMemory>
+fn fold_each(alloc: Global, lower: &DeltaTree, upper: &DeltaTree) -> Result<DeltaTree, NoMemory>
     requires { AreConsecutive lower.now upper.now }
     ensures { IfOk result (λ tree. (w : AreConsecutive lower.now upper.now) → tree ≡ composed_tree lower.now upper.now w) }
 {
     let mut tree = lower.copy()?;
+    let mut uppers = entries_of(alloc, upper)?;
 
     // From the last entry to the first: an edit moves no position below its own.
-    let mut left = upper.len();
-    while left > 0 {
-        left -= 1;
-        fold_entry(&mut tree, entry_of(upper, left))?;
+    while let Some(last) = uppers.pop() {
+        let Some(upper) = last else { unreachable!() };
+        fold_entry(&mut tree, upper)?;
     }
     Ok(tree)
+}
+
+/// The entries of a tree, in order.
+fn entries_of(alloc: Global, tree: &DeltaTree) -> Result<Uppers<'_>, NoMemory>
+    ensures { IfOk result (λ entries. map option_copied entries.items ≡ map (λ e. Some e) tree.now.entries) }
+{
+    let mut entries = SmallVec::new(alloc);
+    for entry in tree.iter() {
+        entries.push(Some(entry))?;
+    }
+    Ok(entries)
 }
 
 /// Folds one upper entry into the tree: above it all upper entries of greater keys are folded in already.

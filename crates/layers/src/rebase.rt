@@ -40,7 +40,7 @@ pub fn serialize(
     let mut search = Search::of(y, x.len());
     let mut entries = Vec::new(alloc);
     let mut index = 0;
-    for entry in x.iter_from(0) {
+    for entry in x.iter() {
         let found = search.find(rule, index, entry);
         if let Some(clash) = found.clash {
             return Ok(Serialized::Conflict(clash));

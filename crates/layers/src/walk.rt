@@ -110,12 +110,15 @@ impl<'a> Walk<'a> {
 }
 
 /// The lower tree with the upper one folded into it, built anew of the entries of both. Those that stay share their rows.
-pub(crate) fn fold_all(lower: &DeltaTree, upper: &DeltaTree) -> Result<DeltaTree, NoMemory>
+pub(crate) fn fold_all(
+    alloc: Global,
+    lower: &DeltaTree,
+    upper: &DeltaTree,
+) -> Result<DeltaTree, NoMemory>
     requires { AreConsecutive lower.now upper.now }
     ensures { IfOk result (λ tree. (w : AreConsecutive lower.now upper.now) → tree ≡ composed_tree lower.now upper.now w) }
 {
     folds_to_composed();
-    let alloc = lower.allocator();
     let mut walk = Walk {
         key_cols: lower.key_cols(),
         alloc,
@@ -124,7 +127,7 @@ pub(crate) fn fold_all(lower: &DeltaTree, upper: &DeltaTree) -> Result<DeltaTree
         gone: 0,
         out: Vec::with_capacity(alloc, lower.len().saturating_add(upper.len()))?,
     };
-    for entry in lower.iter_from(0) {
+    for entry in lower.iter() {
         walk.fold(entry)?;
     }
     walk.put_rest()?;

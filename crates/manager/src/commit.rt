@@ -198,7 +198,7 @@ impl Manager {
         requires { MayGrant self.now tree }
         ensures { IfOk result (λ grant. (w : MayGrant self.now tree) → IsGrant self.now w.x grant) }
     {
-        let write = Arc::new(self.alloc, propagate(&self.held.write, &tree)?)?;
+        let write = Arc::new(self.alloc, propagate(self.alloc, &self.held.write, &tree)?)?;
         let held = Held {
             stable: self.held.stable.clone()?,
             read: self.held.read.clone()?,

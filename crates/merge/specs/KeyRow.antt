@@ -3,8 +3,8 @@ use Rattle.std.specs.Prelude.{ℕ, Option, Some, None, option_map, List}
 use Rattle.values.specs.declared.row.Row.{Row}
 use Rattle.model.specs.declared.entry.Entry.{Entry}
 use Rattle.model.specs.Effects.{set_cells}
-use Rattle.delta.specs.declared.by_place.BaseChange.{BaseChange}
-use Rattle.delta.specs.declared.by_place.BaseChange.TheVariants.{Kept, Modified, Deleted}
+use Rattle.delta.specs.declared.by_sid.BaseChange.{BaseChange}
+use Rattle.delta.specs.declared.by_sid.BaseChange.TheVariants.{Kept, Modified, Deleted}
 use Rattle.merge.specs.View.{cells_at}
 
 -- from the row below, which stands at the SID: the row that is inserted with the key, or else what becomes of that below

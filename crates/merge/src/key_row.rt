@@ -6,13 +6,13 @@ ghost use Rattle.values.specs.declared.limits.TheConstants.{MAX_ROWS};
 ghost use Rattle.model.specs.Table.{Table, IsTable, rank, row_at};
 ghost use Rattle.model.specs.Effects.{table_with};
 ghost use Rattle.stable.specs.Stable.{table_in};
-ghost use Rattle.delta.specs.declared.by_place.BaseChange.TheVariants.{Modified};
+ghost use Rattle.delta.specs.declared.by_sid.BaseChange.TheVariants.{Modified};
 ghost use Rattle.merge.specs.Image.{IsLayer};
 ghost use Rattle.merge.specs.KeyRow.{row_above};
 ghost use Rattle.merge.specs.View.{IsBare, layer_number, row_of};
 
 use crate::view::{Layer, Modifies, RowView};
-use delta::{BaseChange, DeltaTree, KeyPlace};
+use delta::{BaseChange, DeltaTree, SidPlace, Sought};
 use stable::StableTable;
 use values::Value;
 
@@ -58,7 +58,7 @@ pub(crate) fn find_over<'a>(
         → option_map row_of result.row ≡ row_at (table_with t is.effects) key.now }
     ensures bare { IfSome result.row (IsBare (suc (layer_number layer))) }
 {
-    let place = tree.find_key(below.rank, key);
+    let place = tree.find(below.rank, Sought::Insert(key));
     KeyRow {
         rank: place.rid,
         row: row_over(tree, layer, below, place),
@@ -70,7 +70,7 @@ fn row_over<'a>(
     tree: &'a DeltaTree,
     layer: Layer,
     below: KeyRow<'a>,
-    place: KeyPlace<'a>,
+    place: SidPlace<'a>,
 ) -> Option<RowView<'a>>
     requires small { place.base ≡ Modified → below.rank < 2 ^ 32 }
     requires bare { IfSome below.row (IsBare (layer_number layer)) }

@@ -16,7 +16,7 @@ ghost use Rattle.merge.specs.Stretches.{IsStretch, stretch_rows};
 use crate::cursor::{Cursor, Step};
 use crate::stretch::{StableStretch, Stretch};
 use crate::view::{Layer, RowView};
-use delta::DeltaTree;
+use delta::{DeltaTree, Sought};
 use stable::StableTable;
 use values::Value;
 
@@ -143,6 +143,6 @@ pub(crate) fn locate_over(tree: &DeltaTree, below: (u64, bool), key: &[Value]) -
         → result.1 ≡ is_some (row_at (table_with t layer.effects) key.now) }
 {
     let (sid, is_below) = below;
-    let place = tree.find_key(sid, key);
+    let place = tree.find(sid, Sought::Insert(key));
     (place.rid, place.is_there(is_below))
 }

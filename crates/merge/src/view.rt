@@ -5,7 +5,7 @@ ghost use Rattle.values.specs.Lent.{value_of};
 ghost use Rattle.model.specs.Effects.{set_cells};
 ghost use Rattle.merge.specs.View.{IsBare, cells_at, layer_cells, last_cell, layer_number, modified_cells, row_of, source_row};
 
-use delta::{Change, DeltaTree, SharedEntry};
+use delta::{Change, DeltaTree, SharedEntry, Sought};
 use stable::StableTable;
 use std::alloc::Global;
 use values::{NoMemory, Row, ValueRef};
@@ -77,10 +77,11 @@ fn given<'a>(entry: &'a SharedEntry, col: usize) -> Option<ValueRef<'a>>
 
 /// The value that a modify at the SID gives the column, if there is one.
 fn modified<'a>(tree: &'a DeltaTree, sid: u64, col: usize) -> Option<ValueRef<'a>>
+    requires { sid < 2 ^ 63 }
     ensures { option_map value_of result ≡ last_cell col None (cells_at sid tree.now.entries) }
 {
     let mut found = None;
-    for entry in tree.iter_from(tree.base_index(sid)) {
+    for entry in tree.find(sid, Sought::Base).entries {
         if entry.sid() != sid {
             break;
         }

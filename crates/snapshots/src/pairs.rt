@@ -112,7 +112,7 @@ fn folded(
     if !are_few(stable, lower, &upper.tree) {
         return Err(Fail::new("many rows"));
     }
-    Ok((propagate(lower, &upper.tree)?, upper))
+    Ok((propagate(alloc, lower, &upper.tree)?, upper))
 }
 
 /// The one tree beside the other.

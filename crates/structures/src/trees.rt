@@ -18,7 +18,7 @@ mod removals;
 mod steps;
 
 use crate::assertions::{assert_holds_at, assert_text};
-use delta::{Change, DeltaTree};
+use delta::{Change, DeltaTree, Sought};
 use fixtures::{Step, entries_text, item, key};
 use std::alloc::Global;
 use std::process::Abort;
@@ -44,7 +44,7 @@ fn put_ins(rt: &impl Abort, tree: &mut DeltaTree, sid: u64, row: Row) -> Result<
 {
     assert!(rt; sid < 100_000);
     assert!(rt; tree.len() < 100_000);
-    assert!(rt; tree.find_key(sid, row.key(1)).row.is_none());
+    assert!(rt; tree.find(sid, Sought::Insert(row.key(1))).row.is_none());
     tree.put_ins(sid, row)
 }
 
@@ -82,7 +82,7 @@ fn take_ins(rt: &impl Abort, tree: &mut DeltaTree, sid: u64, key: &Key) -> Resul
     ensures keyed { tree.new.key_cols ≡ 1 }
 {
     assert!(rt; sid < 100_000);
-    assert!(rt; tree.find_key(sid, key.cells()).row.is_some());
+    assert!(rt; tree.find(sid, Sought::Insert(key.cells())).row.is_some());
     tree.take_ins(sid, key)
 }
 
@@ -91,7 +91,7 @@ fn has_cell(tree: &DeltaTree, sid: u64, key: &Key, col: usize) -> bool
     requires { sid < 2 ^ 63 }
     ensures { IsTrue result → IsSomeAnd (inserted_row tree.now.key_cols sid key.now tree.now.entries) (λ row. col < length row) }
 {
-    match tree.find_key(sid, key.cells()).row {
+    match tree.find(sid, Sought::Insert(key.cells())).row {
         Some(row) => col < row.cells().len(),
         None => false,
     }
@@ -276,7 +276,7 @@ fn assert_insert(
 ) -> Result<(), NoMemory> {
     let key = key(alloc, id)?;
     assert!(rt; sid < 100_000);
-    let found = tree.find_key(sid, key.cells()).row.is_some();
+    let found = tree.find(sid, Sought::Insert(key.cells())).row.is_some();
     assert_holds_at(rt, found == there, sid);
     Ok(())
 }

@@ -10,12 +10,12 @@ use Rattle.model.specs.Maps.{find}
 use Rattle.model.specs.Table.{rows_of, table_of, row_at, rank, is_keyed_table, IsTable}
 use Rattle.model.specs.Merging.{merged_rows}
 use Rattle.model.proofs.CallerLemmas.{leaves, table_of-rows_of}
-use Rattle.delta.specs.ByPlace.{base_change, is_deleted}
+use Rattle.delta.specs.BySid.{base_change, is_deleted}
 use Rattle.delta.specs.Lookups.{inserted_row}
 use Rattle.delta.specs.Laws.{row_inserted}
 use Rattle.delta.specs.Search.{insert_cmp, past_cmp, stands_before, IsSplit}
-use Rattle.delta.specs.declared.by_place.BaseChange.{BaseChange}
-use Rattle.delta.specs.declared.by_place.BaseChange.TheVariants.{Kept}
+use Rattle.delta.specs.declared.by_sid.BaseChange.{BaseChange}
+use Rattle.delta.specs.declared.by_sid.BaseChange.TheVariants.{Kept}
 use Rattle.delta.proofs.CallerLemmas.{past-kept}
 use Rattle.merge.specs.Image.{IsLayer}
 use Rattle.merge.proofs.CallerLemmas.{layer_there, merges}

@@ -15,7 +15,7 @@ use crate::parts::Parts;
 use crate::place::RecordPlace;
 use crate::version::Version;
 use crate::writes::{Found, FoundRow, edit};
-use delta::DeltaTree;
+use delta::{DeltaTree, Sought};
 use merge::Layers;
 use model::{CommitReply, Record, Write, WriteReply, key_of_write, reply_where};
 use std::alloc::Global;
@@ -214,7 +214,8 @@ impl Txn {
         let found = self.find(key_of_write(key_cols, &write));
         let reply = reply_where(self.row_limit, found.row.is_there(), self.len(), &write);
         self.writes.try_reserve(1)?;
-        edit(&mut self.tree, found, &write, reply)?;
+        let alloc = *self.writes.allocator();
+        edit(alloc, &mut self.tree, found, &write, reply)?;
         self.writes.push_reserved((write, reply));
         Ok(reply)
     }
@@ -226,7 +227,7 @@ impl Txn {
         ensures kept { IsTrue (is_kept result.row) → IsSplit (stands_before past_cmp result.sid) (entries_of self.now) result.index }
     {
         let (sid, in_base) = self.version.locate(key);
-        let place = self.tree.find_key(sid, key);
+        let place = self.tree.find(sid, Sought::Insert(key));
         Found {
             sid,
             index: place.index,

@@ -1,16 +1,18 @@
 //! The change of the tree that a write makes.
-ghost use Rattle.std.specs.Prelude.{◌≡◌, ◌≤◌, ◌^◌, ◌&&◌, ◌||◌, not, cond, is_some, IsNone, IsTrue, OnOk, OnErr, length};
+ghost use Rattle.std.specs.Prelude.{◌≡◌, ◌<◌, ◌≤◌, ◌^◌, ◌&&◌, ◌||◌, not, cond, is_some, IsNone, IsTrue, OnOk, OnErr, length};
 ghost use Rattle.std.specs.Option.{option_copied};
 ghost use Rattle.values.specs.declared.limits.TheConstants.{MAX_ROWS};
 ghost use Rattle.model.specs.Entries.{are_ordered};
 ghost use Rattle.model.specs.Writes.{is_done, key_of_write};
-ghost use Rattle.delta.specs.ByPlace.{is_deleted};
+ghost use Rattle.delta.specs.BySid.{is_deleted};
+ghost use Rattle.delta.specs.Changes.{entries_with, IsRun, MayBePut};
 ghost use Rattle.delta.specs.Search.{insert_cmp, past_cmp, stands_before, IsSplit};
-ghost use Rattle.delta.specs.declared.by_place.BaseChange.TheVariants as base_change;
+ghost use Rattle.delta.specs.declared.by_sid.BaseChange.TheVariants as base_change;
 ghost use Rattle.txn.specs.Edit.{edited, is_inserted, is_kept, is_there, MayBeEdited};
 
-use delta::{BaseChange, DeltaTree, KeyPlace};
-use model::{Change, Write, WriteReply, is_done};
+use delta::{BaseChange, DeltaTree, SharedEntry, SidPlace};
+use model::{Change, Entry, Write, WriteReply, is_done};
+use std::alloc::Global;
 use values::NoMemory;
 
 /// What a transaction finds at a key.
@@ -39,7 +41,7 @@ pub(crate) enum FoundRow {
 
 impl FoundRow {
     /// What a key's place in the transaction's tree says of its row, from whether the version's table has the key.
-    pub(crate) fn at(place: &KeyPlace<'_>, in_base: bool) -> FoundRow
+    pub(crate) fn at(place: &SidPlace<'_>, in_base: bool) -> FoundRow
         ensures there { is_there result ≡ (is_some (option_copied place.now.row) || (in_base && not (is_deleted place.now.base))) }
         ensures inserted { is_inserted result ≡ is_some (option_copied place.now.row) }
         ensures kept { IsTrue (is_kept result) → IsTrue in_base × IsNone (option_copied place.now.row)
@@ -86,6 +88,7 @@ impl FoundRow {
 
 /// Changes the tree as the write does, where it is done.
 pub(crate) fn edit(
+    alloc: Global,
     tree: &mut DeltaTree,
     found: Found,
     write: &Write,
@@ -114,14 +117,33 @@ pub(crate) fn edit(
     let inserted = row.is_inserted();
     let kept = row.is_kept();
     match write {
-        Write::Insert(row) => tree.put_change_at(index, sid, Change::Ins(row.copy()?)),
+        Write::Insert(row) => put_at(alloc, tree, index, sid, Change::Ins(row.copy()?)),
         Write::Delete(_) if inserted => tree.take_at(index),
-        Write::Delete(key) if kept => tree.put_change_at(index, sid, Change::Del(key.copy()?)),
+        Write::Delete(key) if kept => put_at(alloc, tree, index, sid, Change::Del(key.copy()?)),
         Write::Delete(key) => tree.put_del(sid, key.copy()?),
         Write::Set(_, col, value) if inserted => tree.set_at(index, *col, value.copy()?),
         Write::Set(_, col, value) if kept => {
-            tree.put_change_at(index, sid, Change::Mod(*col, value.copy()?))
+            put_at(alloc, tree, index, sid, Change::Mod(*col, value.copy()?))
         }
         Write::Set(_, col, value) => tree.put_mod(sid, *col, value.copy()?),
     }
+}
+
+/// Puts in a change where it replaces no entry, as a search has found it: an insert at the place of its key, or what becomes of
+/// a base row of which no entry tells yet.
+fn put_at(
+    alloc: Global,
+    tree: &mut DeltaTree,
+    at: usize,
+    sid: u64,
+    change: Change,
+) -> Result<(), NoMemory>
+    requires run { IsRun tree.old.key_cols sid change tree.old.entries at at }
+    requires free { MayBePut tree.old.key_cols sid change tree.old.entries }
+    requires sid { sid < 2 ^ 32 }
+    requires room { length (entries_with tree.old.key_cols sid change tree.old.entries) ≤ 2 ^ 40 }
+    ensures ok { OnOk result (tree.new ≡ record tree.old { entries = entries_with tree.old.key_cols sid change tree.old.entries }) }
+    ensures err { OnErr result (tree.new ≡ tree.old) }
+{
+    tree.put_run(at, at, SharedEntry::new(alloc, Entry { sid, change })?)
 }

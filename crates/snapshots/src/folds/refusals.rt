@@ -23,12 +23,12 @@ pub(crate) fn folded(
 ) -> Result<DeltaTree, Fail>
     requires { AreConsecutive trees.now.lower trees.now.upper }
 {
-    let answer = propagate(&trees.lower, &trees.upper);
+    let answer = propagate(alloc, &trees.lower, &trees.upper);
     assert_entries(rt, alloc, &trees.lower, entries[0], "the lower entries")?;
     assert_entries(rt, alloc, &trees.upper, entries[1], "the upper entries")?;
     match answer {
         Ok(tree) => Ok(tree),
-        Err(NoMemory) => Ok(propagate(&trees.lower, &trees.upper)?),
+        Err(NoMemory) => Ok(propagate(alloc, &trees.lower, &trees.upper)?),
     }
 }
 

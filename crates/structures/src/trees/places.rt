@@ -4,7 +4,7 @@ ghost use Rattle.std.specs.Prelude.{◌≡◌, ◌<◌, ◌^◌, IfOk};
 
 use super::changed;
 use crate::assertions::{assert_holds, assert_holds_at, assert_text, assert_text_at};
-use delta::{DeltaTree, Place, Steps};
+use delta::{DeltaTree, Place, Sought, Steps};
 use fixtures::{Step, copy_entry, entries_text, key};
 use std::alloc::Global;
 use std::marker::Brand;
@@ -59,7 +59,7 @@ pub(super) fn made_again(alloc: Global, tree: &DeltaTree) -> Result<DeltaTree, N
     ensures keyed { IfOk result (λ made. made.key_cols ≡ 1) }
 {
     let mut entries = Vec::with_capacity(alloc, tree.len())?;
-    for entry in tree.iter_from(0) {
+    for entry in tree.iter() {
         entries.push(copy_entry(entry)?)?;
     }
     DeltaTree::from_sorted(alloc, 1, entries)
@@ -68,8 +68,8 @@ pub(super) fn made_again(alloc: Global, tree: &DeltaTree) -> Result<DeltaTree, N
 /// Whether no look-up finds an entry.
 fn has_none(tree: &DeltaTree) -> bool {
     let at_sid = tree.entries_at(0).next().is_none();
-    let from_first = tree.iter_from(0).next().is_none();
-    at_sid & from_first & (tree.base_index(3) == 0)
+    let from_first = tree.iter().next().is_none();
+    at_sid & from_first & (tree.find(3, Sought::Base).index == 0)
 }
 
 #[test]
@@ -114,45 +114,38 @@ fn the_entries_at_a_sid_are_found(rt: HostRuntime) -> Result<(), Fail> {
     Ok(())
 }
 
-/// That the entries from a place on are these.
-fn assert_entries_from(
+/// A SID; how many entries stand before what becomes of its base row, and the entries from there on.
+type BaseCase<'a> = (u64, usize, &'a str);
+
+/// That what becomes of a base row stands there.
+fn assert_base(
     rt: &impl Abort,
     alloc: Global,
     tree: &DeltaTree,
-    index: usize,
-    want: &str,
+    (sid, index, want): BaseCase<'_>,
 ) -> Result<(), NoMemory> {
-    assert!(rt; index <= tree.len());
-    let text = entries_text(alloc, tree.iter_from(index))?;
-    assert_text_at(rt, text.as_str(), want, index as u64);
-    Ok(())
-}
-
-#[test]
-fn the_entries_from_a_place_on_follow_those_before_it(rt: HostRuntime) -> Result<(), Fail> {
-    static CASES: [(usize, &str); 4] = [
-        (0, "1+20,Bea,8 1-20 2:1=Cy 2:2=7 3+40,Gus,9"),
-        (1, "1-20 2:1=Cy 2:2=7 3+40,Gus,9"),
-        (4, "3+40,Gus,9"),
-        (5, ""),
-    ];
-    let Some(tree) = changed(&rt, rt.alloc(), MIXED.as_slice())? else {
-        return Ok(());
-    };
-    for (index, want) in &CASES {
-        assert_entries_from(&rt, rt.alloc(), &tree, *index, *want)?;
-    }
+    assert!(rt; sid <= MOST);
+    let found = tree.find(sid, Sought::Base);
+    assert_holds_at(rt, found.index == index, sid);
+    let text = entries_text(alloc, found.entries)?;
+    assert_text_at(rt, text.as_str(), want, sid);
     Ok(())
 }
 
 #[test]
 fn a_base_rows_changes_stand_past_the_inserts_at_its_sid(rt: HostRuntime) -> Result<(), Fail> {
-    static CASES: [(u64, usize); 5] = [(0, 0), (1, 1), (2, 2), (3, 5), (4, 5)];
+    static CASES: [BaseCase<'static>; 5] = [
+        (0, 0, "1+20,Bea,8 1-20 2:1=Cy 2:2=7 3+40,Gus,9"),
+        (1, 1, "1-20 2:1=Cy 2:2=7 3+40,Gus,9"),
+        (2, 2, "2:1=Cy 2:2=7 3+40,Gus,9"),
+        (3, 5, ""),
+        (4, 5, ""),
+    ];
     let Some(tree) = changed(&rt, rt.alloc(), MIXED.as_slice())? else {
         return Ok(());
     };
-    for (sid, index) in &CASES {
-        assert_holds_at(&rt, tree.base_index(*sid) == *index, *sid);
+    for case in &CASES {
+        assert_base(&rt, rt.alloc(), &tree, *case)?;
     }
     Ok(())
 }
@@ -206,7 +199,7 @@ pub(super) fn assert_key(
 ) -> Result<(), NoMemory> {
     assert!(rt; sid <= MOST);
     let key = key(alloc, id)?;
-    let there = tree.find_key(sid, key.cells());
+    let there = tree.find(sid, Sought::Insert(key.cells()));
     assert_holds(
         rt,
         (there.index, there.rid, there.row.is_some()) == (index, rid, found),

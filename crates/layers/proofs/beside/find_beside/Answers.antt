@@ -11,8 +11,8 @@ pub returns-clause-rid : goal.returns-clause-rid
 returns-clause-rid c =
     let y = c.args.other.now in
     let e = c.args.entry.now in
-    let i = c.find_place-place.result.index in
-    let found = c.find_place-place.ensures.split in
+    let i = c.find-place.result.index in
+    let found = c.find-place.ensures.split in
     let here = subst (λ (s : ℕ). IsSplit (stands_before (change_cmp y.key_cols c.change.result.now) s) y.entries i) c.sid.ensures found in
     let split = subst (λ (d : Change). IsSplit (stands_before (change_cmp y.key_cols d) e.sid) y.entries i) c.change.ensures here in
-    c.find_place-place.ensures.rid ∙ ap (rid_of_insert (take i y.entries)) c.sid.ensures ∙ rebased_place ByColumn y.key_cols e y.entries i split
+    c.find-place.ensures.rid ∙ ap (rid_of_insert (take i y.entries)) c.sid.ensures ∙ rebased_place ByColumn y.key_cols e y.entries i split

@@ -15,17 +15,17 @@ use Rattle.merge.proofs.view.modified.Goals as goal
 pub loop-entry-init : goal.loop-entry-init
 loop-entry-init c =
     let t = c.args.tree.now in
-    let n = c.base_index.result in
+    let n = c.find-entry-items.result.index in
     let test = stands_before base_cmp c.args.sid in
-    let is = c.into_iter-entry-iterator.ensures.into_iter_gives ∙ c.iter_from-entry-items.ensures.rest in
+    let is = c.into_iter-entry-iterator.ensures.into_iter_gives ∙ c.find-entry-items.ensures.rest in
     let ordered : T (are_ordered t.key_cols (drop n t.entries)) =
     ordered_right t.key_cols (take n t.entries) (drop n t.entries)
     (subst (λ (es : List Entry). T (are_ordered t.key_cols es)) (sym (take-append-drop n t.entries))
-    (passes (are_ordered t.key_cols t.entries) c.iter_from-entry-items.ensures.lawful.ordered)) in (
+    (passes (are_ordered t.key_cols t.entries) c.find-entry-items.ensures.lawful.ordered)) in (
       subst (λ (es : List Entry). T (are_ordered t.key_cols es)) (sym is) ordered,
-      subst (λ (es : List Entry). T (list_all (λ e. not (test e)) es)) (sym is) c.base_index.ensures.after,
+      subst (λ (es : List Entry). T (list_all (λ e. not (test e)) es)) (sym is) c.find-entry-items.ensures.split.after,
       ap (λ (es : List Entry). last_cell c.args.col None (cells_at c.args.sid es)) is
-          ∙ ap (last_cell c.args.col None) (cells_at-split c.args.sid t.entries n c.base_index.ensures),
+          ∙ ap (last_cell c.args.col None) (cells_at-split c.args.sid t.entries n c.find-entry-items.ensures.split),
     )
 
 -- nothing is left to find past an entry at another SID

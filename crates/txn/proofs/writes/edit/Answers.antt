@@ -68,16 +68,16 @@ returns-in_ok-copy-in-Set-clause-ok c =
     (ap (λ (v : Value). set t.entries f.index (entry_at y.sid (change_with_cell c.in-Set.col v y.change))) copied ∙ is))
     c.set_at.ensures.ok
 
-pub put_change_at-requires-in-Delete-2-clause-run : goal.put_change_at-requires-in-Delete-2-clause-run
-put_change_at-requires-in-Delete-2-clause-run c =
+pub put_at-requires-in-Delete-2-clause-run : goal.put_at-requires-in-Delete-2-clause-run
+put_at-requires-in-Delete-2-clause-run c =
     let t = c.args.tree.now in
     let f = c.args.found in
     let end = c.requires.kept (sym c.is_kept-kept.ensures ∙ c.if-kept.true) in
     let key = key_of_write t.key_cols c.args.write.now in
     run-del t.key_cols f.sid c.in_ok-copy-in-Delete-2.field-0 key t.entries f.index c.requires.place end
 
-pub put_change_at-requires-in-Set-2-clause-run : goal.put_change_at-requires-in-Set-2-clause-run
-put_change_at-requires-in-Set-2-clause-run c =
+pub put_at-requires-in-Set-2-clause-run : goal.put_at-requires-in-Set-2-clause-run
+put_at-requires-in-Set-2-clause-run c =
     let t = c.args.tree.now in
     let f = c.args.found in
     let end = c.requires.kept (sym c.is_kept-kept.ensures ∙ c.if-kept-2.true) in

@@ -8,9 +8,9 @@ use Rattle.counted.proofs.node.Node.place_of.Given as goal
 -- the place lies among the entries below the node, at their end, or before them where no others stand before them
 abbrev pub invariant-loop-entries : goal.invariant-loop-entries
 invariant-loop-entries g l = record {
-  below : AreBelow l.self.items l.index l.shift l.node.items l.next;
+  below : AreBelow l.self.items l.above.index l.above.shift l.node.items l.above.next;
   between : let test = stands_before (g.P.Probe.stand l.probe) l.sid in
-      IsBetween (Passes test) (Fails test) l.self.items l.index l.shift l.node.items;
+      IsBetween (Passes test) (Fails test) l.self.items l.above.index l.above.shift l.node.items;
   steps : ((weight : ℤ) → IsSome (g.P.Probe.by_weight l.probe weight)) → l.steps + l.node.depth ≡ l.fn.steps + l.self.depth;
 }
 

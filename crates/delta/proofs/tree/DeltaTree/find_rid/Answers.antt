@@ -1,5 +1,6 @@
 use Rattle.std.proofs.Common.{◌≡◌, refl, List, length, sym, ap, subst}
 use Rattle.std.proofs.lemmas.Float.{T_from_true}
+use Rattle.std.specs.Prelude.{slice_get}
 use Rattle.counted.specs.Trees.{IsDepth}
 use Rattle.model.specs.declared.entry.Entry.{Entry}
 use Rattle.delta.specs.Tree.{Tree}
@@ -24,7 +25,7 @@ returns g c =
     let list : es ≡ c.args.self.now.entries = ap (λ (w : Tree). w.entries) c.self.view_is in
     let ordered = T_from_true _ c.self.invariant.ordered in
     let start = start_is k rid s es n ordered c.find_gap-found.ensures.gap c.next_row-sid.ensures in
-    let found = c.row_of.ensures es c.find_gap-found.ensures.at.there in
+    let found = c.row_of.ensures (slice_get es n) c.find_gap-found.ensures.at.there in
     let at = subst (λ (place : Place). IsAtRid es rid place) (sym found) (row_is k rid s es n ordered start) in
     record {
       at = subst (λ (xs : List Entry). IsAtRid xs rid c.row_of.result) list at;

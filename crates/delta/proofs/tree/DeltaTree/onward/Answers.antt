@@ -20,7 +20,7 @@ loop-next-preserved g c =
       next_is = next.0;
       rest_is = next.1;
       before = passed_more (stands_before (g.P.Probe.stand c.args.probe.now) c.args.sid) es n c.in-Some.entry.now at
-          (sym c.is_before.ensures ∙ c.if-not-is_before.false) c.loop-next.invariant.before;
+          (c.is_before.ensures ∙ c.if-not-is_before.false) c.loop-next.invariant.before;
     }
 
 pub returns-clause-split : goal.returns-clause-split
@@ -37,6 +37,6 @@ returns-clause-split g c =
       | in-Some+then-not-is_before w ↦
           let at = sym inv.next_is ∙ ap option_copied w.in-Some.is in
           ends (λ e is. let same : w.in-Some.entry.now ≡ e = some_is w.in-Some.entry.now e (sym at ∙ is) in
-          sym (ap (stands_before cmp c.args.sid) same) ∙ sym w.is_before.ensures ∙ w.if-not-is_before.true)
+          sym (ap (stands_before cmp c.args.sid) same) ∙ w.is_before.ensures ∙ w.if-not-is_before.true)
       | in_default w ↦ ends (λ e is. absurd (none_is e (sym (sym inv.next_is ∙ ap option_copied w.in_default.is) ∙ is)))
     ]

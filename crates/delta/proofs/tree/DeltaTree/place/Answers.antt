@@ -1,5 +1,4 @@
-use Rattle.std.proofs.Common.{◌≡◌, ℕ, List, take, sym, ap, ◌∙◌, subst}
-use Rattle.std.specs.Prelude.{slice_get}
+use Rattle.std.proofs.Common.{◌≡◌, ℕ, List, take, drop, sym, ap, ◌∙◌, subst}
 use Rattle.std.proofs.lemmas.Float.{T_from_true}
 use Rattle.model.specs.declared.entry.Entry.{Entry}
 use Rattle.model.specs.Entries.{IsLawful}
@@ -24,5 +23,5 @@ returns g c =
       lawful = subst (λ (w : Tree). IsLawful w.key_cols w.entries) c.self.view_is c.self.invariant;
       split = subst (λ (es : List Entry). IsSplit (stands_before cmp c.args.sid) es n) whole split;
       shift = c.place.ensures.shift ∙ ap (λ (es : List Entry). total (take n es)) whole;
-      entry = c.place.ensures.entry ∙ ap (λ (es : List Entry). slice_get es n) whole;
+      rest = c.place.ensures.rest ∙ ap (λ (es : List Entry). drop n es) whole;
     }

@@ -35,7 +35,7 @@ returns-in-Mod c =
     (λ (s : ℕ). IsSplit
     (stands_before (modify_cmp col) s) t.entries n) c.sid-sid.ensures c.place_of_modify-place.ensures.split in
     let end =
-    ap (λ k. n + k) (c.modify_worth.ensures t.entries n c.place_of_modify-place.ensures.entry ∙ ap
+    ap (λ k. n + k) (c.modify_worth.ensures t.entries n (c.entry.ensures t.entries c.place_of_modify-place.ensures.rest) ∙ ap
     (λ s. modify_count s col (drop n t.entries)) c.sid-sid.ensures) in
     let change : e.change ≡ Mod col c.in-Mod.field-1 = sym c.change.ensures ∙ c.in-Mod.is in
     record { run = subst (λ (d : Change). IsRun t.key_cols e.sid d t.entries n m) (sym change) (split, end) }

@@ -9,4 +9,4 @@ from_sorted-requires c =
     let entries = c.args.tree.now.entries in
     let whole : entries ≡ copied =
     sym c.loop-entry.invariant ∙ ap (λ rest. copied ++ rest) c.in-None.ensures.steps.0 ∙ append-nil copied in
-    subst (λ es. IsLawful 1 es) whole (subst (λ n. IsLawful n entries) c.requires.keyed c.iter_from-entry-items.ensures.lawful)
+    subst (λ es. IsLawful 1 es) whole (subst (λ n. IsLawful n entries) c.requires.keyed c.iter-entry-items.ensures.lawful)

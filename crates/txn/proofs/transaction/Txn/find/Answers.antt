@@ -2,7 +2,7 @@ use Rattle.std.proofs.Common.{◌≤◌, Bool, is_some, sym, ap, ◌∙◌, subs
 use Rattle.std.specs.Prelude.{slice_get}
 use Rattle.std.specs.Option.{option_copied}
 use Rattle.model.proofs.CallerLemmas.{rank-le-length}
-use Rattle.delta.specs.ByPlace.{base_change}
+use Rattle.delta.specs.BySid.{base_change}
 use Rattle.delta.specs.Lookups.{inserted_row}
 use Rattle.delta.specs.Search.{insert_cmp, past_cmp, stands_before, IsSplit}
 use Rattle.delta.specs.Tree.{Tree}
@@ -12,8 +12,8 @@ use Rattle.txn.proofs.ReadsLemmas.{found, ends_there}
 use Rattle.txn.specs.Version.{lower_table, table_version}
 use Rattle.txn.proofs.transaction.Txn.find.Goals as goal
 
-pub find_key-place-requires : goal.find_key-place-requires
-find_key-place-requires c =
+pub find-place-requires : goal.find-place-requires
+find-place-requires c =
     let inside = c.self.inside in
     let h = c.self.invariant.0 in
     let limited : inside.row_limit ≤ 2147483647 = h.limited in
@@ -25,7 +25,7 @@ returns-clause-found c =
     let txn : Transaction = transaction_at (table_version inside.version) inside.row_limit inside.client inside.writes.items in
     let key = c.args.key.now in
     let sid = c.locate-sid.result.0 in
-    let place = c.find_key-place in
+    let place = c.find-place in
     let tree_is = c.self.invariant.1 in
     let split = subst (λ (t : Tree). IsSplit (stands_before (insert_cmp t.key_cols key) sid) t.entries place.result.index) tree_is place.ensures.split in
     let inserted = ap is_some place.ensures.row ∙ ap (λ (t : Tree). is_some (inserted_row t.key_cols sid key t.entries)) tree_is in
@@ -40,7 +40,7 @@ pub returns-clause-place : goal.returns-clause-place
 returns-clause-place c =
     let key = c.args.key.now in
     let sid = c.locate-sid.result.0 in
-    let place = c.find_key-place in
+    let place = c.find-place in
     subst (λ (t : Transaction). IsSplit (stands_before (insert_cmp t.schema.key_cols key) sid) (entries_of t) place.result.index) c.self.view_is
     (subst (λ (t : Tree). IsSplit (stands_before (insert_cmp t.key_cols key) sid) t.entries place.result.index) c.self.invariant.1 place.ensures.split)
 
@@ -50,7 +50,7 @@ returns-clause-kept c = λ yes.
     let txn : Transaction = transaction_at (table_version inside.version) inside.row_limit inside.client inside.writes.items in
     let key = c.args.key.now in
     let sid = c.locate-sid.result.0 in
-    let place = c.find_key-place in
+    let place = c.find-place in
     let n = place.result.index in
     let tree_is = c.self.invariant.1 in
     let split = subst (λ (t : Tree). IsSplit (stands_before (insert_cmp t.key_cols key) sid) t.entries n) tree_is place.ensures.split in

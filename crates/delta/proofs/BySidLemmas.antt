@@ -1,5 +1,5 @@
--- What stands at the place of a key.
-use Rattle.std.proofs.Common.{◌≡◌, ℕ, zero, suc, ◌<◌, ◌^◌, Bool, true, false, cond, not, T, Option, Some, None, is_some, List, [], ◌∷◌, ◌++◌, map, take, drop, nat_cmp, Less, Equal, Greater, is_lt, is_eq, is_gt, refl, sym, ap, ◌∙◌, subst, arith, take-append-drop}
+-- What stands at the place of a key, and before what is looked for at a SID.
+use Rattle.std.proofs.Common.{◌≡◌, ℕ, zero, suc, ◌<◌, ◌≤◌, ◌^◌, Bool, true, false, cond, not, T, Option, Some, None, is_some, List, [], ◌∷◌, ◌++◌, map, take, drop, nat_cmp, Less, Equal, Greater, is_lt, is_eq, is_gt, refl, sym, ap, ◌∙◌, subst, arith, take-append-drop}
 use Rattle.std.specs.Prelude.{◌==◌, slice_get}
 use Rattle.std.specs.Cmp.{ranked}
 use Rattle.std.specs.Ordering.{ordering_then}
@@ -23,12 +23,25 @@ use Rattle.model.specs.Effects.{Cells, Effects, AreOver, is_keyed_effect}
 use Rattle.model.specs.Entries.{IsLawful, entry_at, entries_of, canonical_entries}
 use Rattle.model.proofs.CallerLemmas.{both, first, second, find_below, find_past, below_less, turn_less, turn_greater, rank-lt, canonical_entries-at_key}
 use Rattle.delta.specs.Search.{insert_cmp, past_cmp, stands_before, IsSplit}
-use Rattle.delta.specs.ByPlace.{made_of_base, base_change, effect_on_base}
+use Rattle.model.specs.Places.{delete_count}
+use Rattle.model.specs.Entries.{are_ordered}
+use Rattle.delta.specs.BySid.{made_of_base, base_change, effect_on_base, stand_of}
+use Rattle.delta.specs.declared.by_sid.Sought.{Sought}
+use Rattle.delta.specs.declared.by_sid.Sought.TheVariants as sought
+use Rattle.delta.proofs.PositionsLemmas.{deletes-before-insert, deletes-before-base, deletes-before-change}
 use Rattle.delta.specs.Laws.{row_inserted}
-use Rattle.delta.specs.declared.by_place.BaseChange.TheVariants.{Kept, Modified, Deleted}
+use Rattle.delta.specs.declared.by_sid.BaseChange.TheVariants.{Kept, Modified, Deleted}
 use Rattle.delta.proofs.ChangesLemmas.{all_from}
 use Rattle.delta.proofs.PutLemmas.{by_insert}
 use Rattle.delta.proofs.KeyPlaceLemmas.{high, own, sorted_effects, before_key}
+
+-- no more deletes stand before what is looked for than base rows
+pub deletes-before-sought : (key_cols sid : ℕ) (sought : Sought) (es : List Entry) (n : ℕ) → T (are_ordered key_cols es)
+    → IsSplit (stands_before (stand_of key_cols sought) sid) es n → delete_count (take n es) ≤ sid
+deletes-before-sought key_cols sid (sought.Insert key) es n ordered split = deletes-before-insert key_cols sid key.now es n ordered split
+deletes-before-sought key_cols sid sought.Base es n ordered split = deletes-before-base key_cols sid es n ordered split
+deletes-before-sought key_cols sid (sought.Change change) es n ordered split =
+    deletes-before-change key_cols sid change.now es n ordered split
 
 -- a base row with modifies stands below 2^32, as its entries do
 pub modified_below : (key_cols sid : ℕ) (es : List Entry) (n : ℕ) → IsLawful key_cols es → base_change sid (slice_get es n) ≡ Modified → sid < 2 ^ 32
