@@ -60,7 +60,9 @@ impl<'a> Iter<'a> {
         ensures { option_copied result ≡ slice_get self.now 0 }
     {
         if self.leaf.is_empty() && self.left > 0 {
-            return next_leaf(self.tree, self.behind, self.next, self.left).0.first();
+            return next_leaf(self.tree, self.behind, self.next, self.left)
+                .0
+                .first();
         }
         self.leaf.first()
     }

@@ -79,7 +79,8 @@ pub(crate) fn clash_beside(
     place: &SidPlace<'_>,
 ) -> Option<Clash>
     requires sid { entry.now.sid < 2 ^ 63 }
-    requires split { IsSplit (stands_before (change_cmp other.now.key_cols entry.now.change) entry.now.sid) other.now.entries place.now.index }
+    requires split { IsSplit (stands_before (change_cmp other.now.key_cols entry.now.change) entry.now.sid) other.now.entries
+        place.now.index }
     requires rest { place.now.entries ≡ drop place.now.index other.now.entries }
     ensures { IsClashBeside rule other.now.key_cols i entry.now other.now.entries result }
 {

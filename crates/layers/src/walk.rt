@@ -36,7 +36,9 @@ impl<'a> Walk<'a> {
         requires few { self.old.added + self.old.gone < 2 ^ 40 }
 
         // Whatever lower entries follow: what is put, and what comes of the rest, is what was to come.
-        ensures folded { OnOk result ((lowers : List Entry) → self.new.out.items ++ fold_from self.new.key_cols lowers self.new.added self.new.gone self.new.uppers ≡ self.old.out.items ++ fold_from self.old.key_cols (lower.now ∷ lowers) self.old.added self.old.gone self.old.uppers) }
+        ensures folded { OnOk result ((lowers : List Entry) → self.new.out.items ++ fold_from self.new.key_cols lowers self.new.added
+            self.new.gone self.new.uppers
+            ≡ self.old.out.items ++ fold_from self.old.key_cols (lower.now ∷ lowers) self.old.added self.old.gone self.old.uppers) }
         ensures placed { OnOk result (All (λ e. e.sid < 2 ^ 32) self.new.uppers) }
         ensures few { OnOk result (self.new.added + self.new.gone ≤ self.old.added + self.old.gone + 1) }
         ensures key_cols { self.new.key_cols ≡ self.old.key_cols }
@@ -84,7 +86,8 @@ impl<'a> Walk<'a> {
     fn put_rest(&mut self) -> Result<(), NoMemory>
         requires placed { All (λ e. e.sid < 2 ^ 32) self.old.uppers }
         requires few { self.old.gone ≤ 2 ^ 40 }
-        ensures { OnOk result (self.new.out.items ≡ self.old.out.items ++ fold_from self.old.key_cols [] self.old.added self.old.gone self.old.uppers) }
+        ensures { OnOk result (self.new.out.items ≡ self.old.out.items ++ fold_from self.old.key_cols [] self.old.added self.old.gone
+            self.old.uppers) }
     {
         while let Some(upper) = self.uppers.first() {
             self.put_upper(upper)?;

@@ -1,6 +1,5 @@
 -- A checkpoint: the newest table goes to a store, and becomes the stable table only once the store has it.
 use Rattle.std.specs.Prelude.{ℕ, Result, Ok, Err}
-use Rattle.stable.specs.Stable.{Stable}
 use Rattle.devices.specs.Appending.{Taken, Appends}
 use Rattle.devices.specs.declared.fault.StoreFault.{StoreFault}
 use Rattle.devices.specs.declared.fault.StoreFault.TheVariants as store

@@ -64,7 +64,10 @@ impl Manager {
     pub fn prepare_fold(&self) -> Result<Folded, NoMemory>
         ensures { IfOk result (λ folded. IsFolded self.now folded) }
     {
-        let read = Arc::new(self.alloc, propagate(self.alloc, &self.held.read, &self.held.write)?)?;
+        let read = Arc::new(
+            self.alloc,
+            propagate(self.alloc, &self.held.read, &self.held.write)?,
+        )?;
         let none = DeltaTree::new(self.alloc, self.held.write.key_cols());
         let write = Arc::new(self.alloc, none)?;
         let held = Held {

@@ -6,3 +6,4 @@ pub mod Stretches
 pub mod Left
 pub mod Fitting
 pub mod KeyRow
+pub mod Columns

@@ -1,9 +1,10 @@
 //! The image as a table of its own.
-ghost use Rattle.std.specs.Prelude.{◌≡◌, ◌≤◌, ◌<◌, ◌+◌, ◌^◌, ◌++◌, IfOk, OnOk, drop, length, take};
+ghost use Rattle.std.specs.Prelude.{◌≡◌, ℕ, ◌≤◌, ◌<◌, ◌+◌, ◌^◌, [], ◌++◌, IfOk, OnOk, drop, get_or, length, take};
 ghost use Rattle.std.specs.List.{All};
 ghost use Rattle.values.specs.declared.limits.TheConstants.{MAX_ROWS};
-ghost use Rattle.stable.specs.Rows.{column_at, column_values};
-ghost use Rattle.stable.specs.Stable.{IsStable};
+ghost use Rattle.blocks.specs.Column.{Column as Values};
+ghost use Rattle.stable.specs.Rows.{column_values, first_columns};
+ghost use Rattle.merge.specs.Columns.{grown};
 ghost use Rattle.merge.specs.Fitting.{StandsAt};
 ghost use Rattle.merge.specs.Image.{image_rows};
 ghost use Rattle.merge.specs.Stretches.{IsStretch, stretch_rows};
@@ -12,11 +13,12 @@ use crate::layers::Layers;
 use crate::stretch::Stretch;
 use stable::{Column, StableTable};
 use std::alloc::Global;
-use values::NoMemory;
 use values::limits::MAX_ROWS;
+use values::{ColumnType, NoMemory};
 
 impl<'a> Layers<'a> {
-    /// The image as a stable table, column by column: stable rows go from block to block, and no row is made on the way.
+    /// The image as a stable table, by one walk over its stretches: stable rows go from block to block, and no row is made on
+    /// the way.
     ///
     /// # Errors
     ///
@@ -42,25 +44,39 @@ impl<'a> Layers<'a> {
         prove!(rows <= MAX_ROWS);
         let schema = self.schema();
         let width = schema.width();
-        let mut columns = Vec::with_capacity(alloc, width)?;
-        for col in 0..width {
-            columns.push(self.column(alloc, from, to, col)?)?;
+        prove!(width > 0);
+        let mut columns = empty_columns(alloc, schema.types())?;
+        for stretch in self.stretches(from, to) {
+            add_to_each(&mut columns, stretch)?;
         }
         Ok(StableTable::of_columns(schema.copy()?, columns))
     }
+}
 
-    /// The values of those rows in one column.
-    fn column(&self, alloc: Global, from: u64, to: u64, col: usize) -> Result<Column, NoMemory>
-        requires within { col < length self.now.schema.types }
-        requires table { IsStable (record { schema = self.now.schema; rows = drop from (take to (image_rows self.now)) }) }
-        ensures { IfOk result (λ column. column ≡ column_at self.now.schema.types (drop from (take to (image_rows self.now))) col) }
-    {
-        let mut column = Column::new(alloc, self.schema().types()[col]);
-        for stretch in self.stretches(from, to) {
-            add_stretch(&mut column, stretch, col)?;
-        }
-        Ok(column)
+/// Columns of these types, with no values.
+fn empty_columns(alloc: Global, types: &[ColumnType]) -> Result<Vec<Column>, NoMemory>
+    ensures { IfOk result (λ columns. columns.items ≡ first_columns types.now [] (length types.now)) }
+{
+    let mut columns = Vec::with_capacity(alloc, types.len())?;
+    for col in 0..types.len() {
+        columns.push(Column::new(alloc, types[col]))?;
     }
+    Ok(columns)
+}
+
+/// Puts the values of a stretch's rows in each column after the others.
+fn add_to_each(columns: &mut Vec<Column>, stretch: Stretch<'_>) -> Result<(), NoMemory>
+    requires is { IsStretch 3 stretch }
+    requires stand { (col : ℕ) (d : Values) → col < length columns.old.items
+        → All (StandsAt (get_or columns.old.items col d).ty col) (stretch_rows stretch) }
+    requires room { (col : ℕ) (d : Values) → col < length columns.old.items
+        → length (get_or columns.old.items col d).values + length (stretch_rows stretch) < 2 ^ 63 }
+    ensures { OnOk result (columns.new.items ≡ grown 0 columns.old.items (stretch_rows stretch.entry)) }
+{
+    for col in 0..columns.len() {
+        add_stretch(&mut columns[col], stretch, col)?;
+    }
+    Ok(())
 }
 
 /// Puts the values of a stretch's rows in one column after the others.
@@ -68,7 +84,9 @@ fn add_stretch(column: &mut Column, stretch: Stretch<'_>, col: usize) -> Result<
     requires is { IsStretch 3 stretch }
     requires stand { All (StandsAt column.old.ty col) (stretch_rows stretch) }
     requires room { length column.old.values + length (stretch_rows stretch) < 2 ^ 63 }
-    ensures { OnOk result (column.new ≡ record column.old { values = column.old.values ++ column_values col (stretch_rows stretch.entry) }) }
+    ensures { OnOk result (column.new ≡ record column.old {
+      values = column.old.values ++ column_values col (stretch_rows stretch.entry);
+    }) }
 {
     match stretch {
         Stretch::Stable(stretch) => {

@@ -80,7 +80,12 @@ fn written_over(
 /// The image of the tree over the table.
 fn image_of(alloc: Global, stable: &Arc<StableTable>, tree: &DeltaTree) -> Result<Version, Fail>
     requires { IsLayer stable.now.value.schema (table_in stable.now.value) tree.now }
-    ensures { IfOk result (λ version. version ≡ numbered (record { stable = stable.now.value; read = tree.now; write = empty_tree stable.now.value.schema.key_cols }) 1) }
+    ensures { IfOk result (λ version. version ≡ numbered (record {
+      stable = stable.now.value;
+      read = tree.now;
+      write = empty_tree
+          stable.now.value.schema.key_cols;
+    }) 1) }
 {
     let read = Arc::new(alloc, tree.copy()?)?;
     let none = Arc::new(alloc, DeltaTree::new(alloc, stable.schema().key_cols()))?;

@@ -37,16 +37,20 @@ module _ (txn : Transaction) (h : IsTransaction txn) where
   image_rows_is = merges txn.schema txn.table (effects_of txn) (over txn h)
 
   pub image_table_is : table_of txn.schema.key_cols (rows_of (image_of txn)) ≡ image_of txn
-  image_table_is = table_of-rows_of txn.schema.key_cols (image_of txn) (passes (is_keyed_table txn.schema.key_cols (image_of txn)) image_IsTable.keyed)
+  image_table_is = table_of-rows_of txn.schema.key_cols (image_of txn) (passes (is_keyed_table txn.schema.key_cols (image_of txn))
+      image_IsTable.keyed)
 
   -- what a key's place in its tree tells
-  pub found : (key : Key) (sid n : ℕ) (in_base inserted : Bool) (made : BaseChange) → sid ≡ rank key txn.table → IsSplit (stands_before (insert_cmp txn.schema.key_cols key) sid) (entries_of txn) n
-      → in_base ≡ is_some (row_at txn.table key) → inserted ≡ is_some (inserted_row txn.schema.key_cols sid key (entries_of txn)) → made ≡ base_change sid (slice_get (entries_of txn) n)
+  pub found : (key : Key) (sid n : ℕ) (in_base inserted : Bool) (made : BaseChange) → sid ≡ rank key txn.table
+      → IsSplit (stands_before (insert_cmp txn.schema.key_cols key) sid) (entries_of txn) n
+      → in_base ≡ is_some (row_at txn.table key) → inserted ≡ is_some (inserted_row txn.schema.key_cols sid key (entries_of txn))
+      → made ≡ base_change sid (slice_get (entries_of txn) n)
       → IsFound txn key sid (inserted || (in_base && not (is_deleted made))) inserted
   unfolding is_layer
   found key sid n in_base inserted made sid_is split in_base_is inserted_is made_is = record {
     sid_is = sid_is;
-    there_is = layer_there txn.schema txn.table (tree_of txn) is_layer key sid n in_base inserted made sid_is split in_base_is inserted_is made_is;
+    there_is = layer_there txn.schema txn.table (tree_of txn) is_layer key sid n in_base inserted made sid_is split in_base_is inserted_is
+        made_is;
     inserted_is =
         inserted_is ∙ ap (λ m. is_some (inserted_row txn.schema.key_cols m key (entries_of txn))) sid_is
         ∙ ap is_some (finds txn h key).insert;

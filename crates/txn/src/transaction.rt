@@ -163,7 +163,8 @@ impl Txn {
     /// `Shape` with the row's first fault, and `NoMemory` where a growth is refused: nothing changes.
     pub fn insert(&mut self, row: Row) -> Result<WriteReply, WriteFault>
         ensures ok { IfOk result (λ reply. IsAnswered self.old (asked.Insert row) reply self.new) }
-        ensures fault { MatchOption (row_fault self.old.schema row) (IsOkUnless result WriteFault.NoMemory) (λ fault. result ≡ Err (write_fault.Shape fault)) }
+        ensures fault { MatchOption (row_fault self.old.schema row) (IsOkUnless result WriteFault.NoMemory)
+            (λ fault. result ≡ Err (write_fault.Shape fault)) }
         ensures err { OnErr result (self.new ≡ self.old) }
     {
         self.schema().check_row(&row)?;
@@ -177,7 +178,8 @@ impl Txn {
     /// `Shape` with the key's first fault, and `NoMemory` where a growth is refused: nothing changes.
     pub fn delete(&mut self, key: &Key) -> Result<WriteReply, WriteFault>
         ensures ok { IfOk result (λ reply. IsAnswered self.old (asked.Delete key.now) reply self.new) }
-        ensures fault { MatchOption (key_fault self.old.schema key.now) (IsOkUnless result WriteFault.NoMemory) (λ fault. result ≡ Err (write_fault.Shape fault)) }
+        ensures fault { MatchOption (key_fault self.old.schema key.now) (IsOkUnless result WriteFault.NoMemory)
+            (λ fault. result ≡ Err (write_fault.Shape fault)) }
         ensures err { OnErr result (self.new ≡ self.old) }
     {
         self.schema().check_key(key)?;
@@ -192,7 +194,8 @@ impl Txn {
     /// changes.
     pub fn set(&mut self, key: &Key, col: usize, value: Value) -> Result<WriteReply, WriteFault>
         ensures ok { IfOk result (λ reply. IsAnswered self.old (asked.Set key.now col value) reply self.new) }
-        ensures fault { MatchOption (or_fault (key_fault self.old.schema key.now) (cell_fault self.old.schema col value)) (IsOkUnless result WriteFault.NoMemory) (λ fault. result ≡ Err (write_fault.Shape fault)) }
+        ensures fault { MatchOption (or_fault (key_fault self.old.schema key.now) (cell_fault self.old.schema col value))
+            (IsOkUnless result WriteFault.NoMemory) (λ fault. result ≡ Err (write_fault.Shape fault)) }
         ensures err { OnErr result (self.new ≡ self.old) }
     {
         self.schema().check_key(key)?;
@@ -223,7 +226,8 @@ impl Txn {
     /// What stands at a key. One descent in each tree.
     fn find(&self, key: &[Value]) -> Found
         ensures found { IsFound self.now key.now result.sid (is_there result.row) (is_inserted result.row) }
-        ensures place { IsSplit (stands_before (insert_cmp self.now.schema.key_cols key.now) result.sid) (entries_of self.now) result.index }
+        ensures place { IsSplit (stands_before (insert_cmp self.now.schema.key_cols key.now) result.sid) (entries_of self.now)
+            result.index }
         ensures kept { IsTrue (is_kept result.row) → IsSplit (stands_before past_cmp result.sid) (entries_of self.now) result.index }
     {
         let (sid, in_base) = self.version.locate(key);

@@ -1,4 +1,5 @@
-use Rattle.std.proofs.Common.{Bor, is_some, false, true, inl, inr, ◌≡◌, ℕ, suc, List, Option, Some, [], ◌∷◌, ◌++◌, length, map, take, ap, sym, ◌∙◌, refl, arith}
+use Rattle.std.proofs.Common.{Bor, is_some, false, true, inl, inr, ◌≡◌, ℕ, suc, List, Option, Some, [], ◌∷◌, ◌++◌, length, map}
+use Rattle.std.proofs.Common.{take, ap, sym, ◌∙◌, refl, arith}
 use Rattle.std.specs.Prelude.{slice_get}
 use Rattle.std.specs.Option.{option_copied}
 use Rattle.std.proofs.Common.{length-append}
@@ -63,7 +64,8 @@ pub unreachable-requires : goal.unreachable-requires
 unreachable-requires c =
     let p = popped c.args.upper.now.entries c.loop-last.uppers.items c.pop.new.self.items c.in-Some.last c.in-Some.ensures.items
     c.loop-last.invariant.uppers in
-    let none : is_some (option_copied c.in-Some.last) ≡ false = ap (λ o. is_some (option_copied {T = SharedEntry} o)) c.in_default-last.is in
+    let none : is_some (option_copied c.in-Some.last) ≡ false = ap (λ o. is_some (option_copied {T = SharedEntry} o)) c.in_default-last.is
+    in
     let no : false ≡ true = sym none ∙ p.some in
     cc
 

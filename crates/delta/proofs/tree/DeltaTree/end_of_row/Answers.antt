@@ -21,4 +21,5 @@ returns-in-None c =
     let t = c.args.self.now in
     let n = c.args.place.now.index in
     let end = none_within t.entries n (sym (c.entry.ensures t.entries c.requires.rest) ∙ ap option_copied c.in-None.is) in
-    past-base t.key_cols c.args.sid t.entries n (T_from_true _ c.requires.lawful.ordered) c.requires.split (λ d lt same. absurd (omega arith))
+    past-base t.key_cols c.args.sid t.entries n (T_from_true _ c.requires.lawful.ordered) c.requires.split
+    (λ d lt same. absurd (omega arith))

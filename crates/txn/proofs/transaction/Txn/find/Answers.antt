@@ -27,10 +27,12 @@ returns-clause-found c =
     let sid = c.locate-sid.result.0 in
     let place = c.find-place in
     let tree_is = c.self.invariant.1 in
-    let split = subst (λ (t : Tree). IsSplit (stands_before (insert_cmp t.key_cols key) sid) t.entries place.result.index) tree_is place.ensures.split in
+    let split = subst (λ (t : Tree). IsSplit (stands_before (insert_cmp t.key_cols key) sid) t.entries place.result.index) tree_is
+    place.ensures.split in
     let inserted = ap is_some place.ensures.row ∙ ap (λ (t : Tree). is_some (inserted_row t.key_cols sid key t.entries)) tree_is in
     let base = place.ensures.base ∙ ap (λ (t : Tree). base_change sid (slice_get t.entries place.result.index)) tree_is in
-    let here = found txn c.self.invariant.0 key sid place.result.index c.locate-sid.result.1 (is_some (option_copied place.result.row)) place.result.base
+    let here = found txn c.self.invariant.0 key sid place.result.index c.locate-sid.result.1 (is_some (option_copied place.result.row))
+    place.result.base
     c.locate-sid.ensures.rank split c.locate-sid.ensures.there inserted base in
     let row = c.at.ensures in
     subst (λ (t : Transaction). IsFound t key sid (is_there c.at.result) (is_inserted c.at.result)) c.self.view_is
@@ -41,8 +43,10 @@ returns-clause-place c =
     let key = c.args.key.now in
     let sid = c.locate-sid.result.0 in
     let place = c.find-place in
-    subst (λ (t : Transaction). IsSplit (stands_before (insert_cmp t.schema.key_cols key) sid) (entries_of t) place.result.index) c.self.view_is
-    (subst (λ (t : Tree). IsSplit (stands_before (insert_cmp t.key_cols key) sid) t.entries place.result.index) c.self.invariant.1 place.ensures.split)
+    subst (λ (t : Transaction). IsSplit (stands_before (insert_cmp t.schema.key_cols key) sid) (entries_of t) place.result.index)
+    c.self.view_is
+    (subst (λ (t : Tree). IsSplit (stands_before (insert_cmp t.key_cols key) sid) t.entries place.result.index) c.self.invariant.1
+    place.ensures.split)
 
 pub returns-clause-kept : goal.returns-clause-kept
 returns-clause-kept c = λ yes.
