@@ -169,7 +169,7 @@ module _ (key_cols : ℕ) where
 
   module _ (rule : ConflictRule) where
     -- how entries stand to one another, so that those tie that can clash
-    abbrev clash_order : Entry → Entry → Ordering
+    abbrev pub clash_order : Entry → Entry → Ordering
     clash_order x y = ordering_then (nat_cmp x.sid y.sid) (clash_cmp key_cols rule x.change y.change)
 
     -- changes that don't tie don't clash
@@ -263,7 +263,7 @@ module _ (key_cols : ℕ) where
         by Equal e h = absurd (never y.change h)
         by Greater e h = cc
 
-    clash_order-trans : (x y z : Entry) → clash_order x y ≡ Less → entry_cmp key_cols y z ≡ Less → clash_order x z ≡ Less
+    pub clash_order-trans : (x y z : Entry) → clash_order x y ≡ Less → entry_cmp key_cols y z ≡ Less → clash_order x z ≡ Less
     clash_order-trans x y z p q = by rule p
       where
         by : (r : ConflictRule) → ordering_then (nat_cmp x.sid y.sid) (clash_cmp key_cols r x.change y.change) ≡ Less →
@@ -272,14 +272,14 @@ module _ (key_cols : ℕ) where
         by ByRow h = row_cmp-trans x.change x.sid y z h q
 
     module _ (x : Entry) where
-      unclashed_entry : (y : Entry) → T (agrees x y) → (clash_order x y ≡ Equal → ⊥) → clash_of_entries rule key_cols x y ≡ None
+      pub unclashed_entry : (y : Entry) → T (agrees x y) → (clash_order x y ≡ Equal → ⊥) → clash_of_entries rule key_cols x y ≡ None
       unclashed_entry y a f =
           unclashed (x.sid == y.sid) x.change y.change a
           (λ here tie.
           let cmp = clash_cmp key_cols rule x.change y.change in
           f (ap (λ n. ordering_then (nat_cmp x.sid n) cmp) (sym (eqb-true x.sid y.sid here)) ∙ ap (λ r. ordering_then r cmp) (tied_itself nat_cmp_total x.sid) ∙ tie))
 
-      tied_entry : (y : Entry) → clash_order x y ≡ Equal → is_some (clash_of_entries rule key_cols x y) ≡ true
+      pub tied_entry : (y : Entry) → clash_order x y ≡ Equal → is_some (clash_of_entries rule key_cols x y) ≡ true
       tied_entry y e = by (nat_cmp x.sid y.sid) refl e
         where
           by : (r : Ordering) → nat_cmp x.sid y.sid ≡ r → ordering_then r (clash_cmp key_cols rule x.change y.change) ≡ Equal →

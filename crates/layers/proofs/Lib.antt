@@ -6,3 +6,5 @@ pub mod ClashLemmas
 pub mod SerialLemmas
 pub mod PassLemmas
 pub mod WalkLemmas
+pub mod TurnedLemmas
+pub mod StillLemmas

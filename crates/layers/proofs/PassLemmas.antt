@@ -76,7 +76,7 @@ greater_sid a b o h = by (nat_cmp a b) refl
 same_sid : (a b : ℕ) (o : Ordering) → a ≡ b → o ≡ Greater → ordering_then (nat_cmp a b) o ≡ Greater
 same_sid a b o h g = ap (λ m. ordering_then (nat_cmp a m) o) (sym h) ∙ ap (λ r. ordering_then r o) (tied_itself nat_cmp_total a) ∙ g
 
-sids_greater : (a b : ℕ) (o : Ordering) → ordering_then (nat_cmp a b) o ≡ Greater → (b < a) ⊎ ((a ≡ b) × (o ≡ Greater))
+pub sids_greater : (a b : ℕ) (o : Ordering) → ordering_then (nat_cmp a b) o ≡ Greater → (b < a) ⊎ ((a ≡ b) × (o ≡ Greater))
 sids_greater a b o h = by (nat_cmp a b) refl h
   where
     by : (r : Ordering) → nat_cmp a b ≡ r → ordering_then r o ≡ Greater → (b < a) ⊎ ((a ≡ b) × (o ≡ Greater))
@@ -189,12 +189,12 @@ module _ (key_cols : ℕ) where
 
 -- ---- entries in order
 
-yields : (r : Ordering) → T (is_gt r) → r ≡ Greater
+pub yields : (r : Ordering) → T (is_gt r) → r ≡ Greater
 yields Less h = absurd h
 yields Equal h = absurd h
 yields Greater h = refl
 
-tested : (r : Ordering) → r ≡ Greater → T (is_gt r)
+pub tested : (r : Ordering) → r ≡ Greater → T (is_gt r)
 tested r e = subst (λ (o : Ordering). T (is_gt o)) (sym e) tt
 
 module _ (key_cols : ℕ) (rule : ConflictRule) where
@@ -221,7 +221,7 @@ module _ (key_cols : ℕ) (rule : ConflictRule) where
             ]
       ])
 
-  still : (e z y : Entry) → entry_cmp key_cols e z ≡ Less → T (is_before e y) → T (is_before z y)
+  pub still : (e z y : Entry) → entry_cmp key_cols e z ≡ Less → T (is_before e y) → T (is_before z y)
   still e z y below tests =
       let own = clash_cmp key_cols rule e.change in
       let cmp = clash_cmp key_cols rule z.change in

@@ -67,7 +67,7 @@ is_at (suc n) (z ∷ es) left e is =
     let there = is_at n es left e is in
     record { at = there.at; left_is = there.left_is ∙ ap (λ m. drop m (z ∷ es)) next; within = omega (arith, there.within) }
 
-holds_at : (p : Entry → Bool) (n : ℕ) (es : List Entry) (e : Entry) → T (list_all p es) → slice_get es n ≡ Some e → T (p e)
+pub holds_at : (p : Entry → Bool) (n : ℕ) (es : List Entry) (e : Entry) → T (list_all p es) → slice_get es n ≡ Some e → T (p e)
 holds_at p n [] e h is = cc
 holds_at p zero (z ∷ es) e h is = let same : z ≡ e = cc in subst (λ y. T (p y)) same (first (p z) _ h)
 holds_at p (suc n) (z ∷ es) e h is = holds_at p n es e (second (p z) _ h) is
@@ -164,7 +164,7 @@ module _ (schema : Columns) (t : Table) (x : Effects) (tree : Tree) (h : IsTreeO
   keyed : T (are_keyed_effects schema.key_cols x)
   keyed = passes (are_keyed_effects schema.key_cols x) h.over.effects_are.keyed
 
-  each : T (list_all (λ e. is_keyed_effect schema.key_cols e.0 e.1) x)
+  pub each : T (list_all (λ e. is_keyed_effect schema.key_cols e.0 e.1) x)
   each = second (is_sorted key_cmp x) (list_all (λ e. is_keyed_effect schema.key_cols e.0 e.1) x) keyed
 
   rows_after : length (table_with t x) ≤ 4294967294
@@ -176,16 +176,16 @@ module _ (schema : Columns) (t : Table) (x : Effects) (tree : Tree) (h : IsTreeO
       omega (arith, moved, same, h.few, rows)
 
 module _ (rule : ConflictRule) (x y : Tree) (w : AreAligned x y) where
-  cols_x : x.key_cols ≡ w.schema.key_cols
+  pub cols_x : x.key_cols ≡ w.schema.key_cols
   cols_x = ap (λ (r : Tree). r.key_cols) w.x_is.tree_is
 
-  cols_y : y.key_cols ≡ w.schema.key_cols
+  pub cols_y : y.key_cols ≡ w.schema.key_cols
   cols_y = ap (λ (r : Tree). r.key_cols) w.y_is.tree_is
 
-  list_x : x.entries ≡ canonical_entries w.t w.x
+  pub list_x : x.entries ≡ canonical_entries w.t w.x
   list_x = ap (λ (r : Tree). r.entries) w.x_is.tree_is
 
-  list_y : y.entries ≡ canonical_entries w.t w.y
+  pub list_y : y.entries ≡ canonical_entries w.t w.y
   list_y = ap (λ (r : Tree). r.entries) w.y_is.tree_is
 
   pub small_sid : (n : ℕ) (e : Entry) → slice_get x.entries n ≡ Some e → e.sid < 2 ^ 63

@@ -28,6 +28,10 @@ module _ (rule : ConflictRule) where
   IsSerialized first second w (answer.Conflict clash) =
       Conflicts rule w.x w.y × IsLeastClash rule w.schema.key_cols first.entries second.entries clash
 
+-- the clash, as the other tree sees it
+abbrev pub turned_clash : Clash → Clash
+turned_clash clash = record { kind = clash.kind; x = clash.y; y = clash.x }
+
 -- ---- one entry
 
 module _ (key_cols : ℕ) where

@@ -1,7 +1,8 @@
 //! What a tree makes of the entries of another one over the same image: each is found by a descent, or all by one walk.
 ghost use Rattle.std.specs.Prelude.{◌≡◌, ◌<◌, ◌^◌};
-ghost use Rattle.model.specs.Rebasing.{rebased_entry};
+ghost use Rattle.model.specs.Rebasing.{first_clash, rebased_entry};
 ghost use Rattle.model.specs.declared.entry.Entry.{Entry};
+ghost use Rattle.layers.specs.Over.{AreAligned};
 ghost use Rattle.layers.specs.Passing.{IsReady, searched_tree};
 ghost use Rattle.layers.specs.Serialization.{IsClashBeside};
 
@@ -11,7 +12,7 @@ use delta::{DeltaTree, SharedEntry, Sought};
 use model::{Clash, ConflictRule};
 
 /// A descent for each entry is taken where the tree has at least so many times as many.
-const FEW: usize = 10;
+pub(crate) const FEW: usize = 10;
 
 /// What a tree makes of an entry of another one.
 #[derive(Drop)]
@@ -71,4 +72,21 @@ fn find_beside(rule: ConflictRule, index: usize, entry: &SharedEntry, other: &De
         rid: place.rid,
         clash: clash_beside(rule, index, entry, other, &place),
     }
+}
+
+/// The clash of the first entry of `x` that clashes with one of `y`, with the first of those, by a descent in `y` for each
+/// entry of `x`.
+pub(crate) fn first_clash(rule: ConflictRule, x: &DeltaTree, y: &DeltaTree) -> Option<Clash>
+    requires { AreAligned x.now y.now }
+    ensures { result ≡ first_clash rule y.now.key_cols x.now.entries y.now.entries }
+{
+    let mut index = 0;
+    for entry in x.iter() {
+        let found = find_beside(rule, index, entry, y);
+        if let Some(clash) = found.clash {
+            return Some(clash);
+        }
+        index += 1;
+    }
+    None
 }

@@ -8,7 +8,7 @@ ghost use Rattle.delta.specs.Search.{base_cmp, stands_before, IsSplit};
 ghost use Rattle.model.specs.Entries.{change_cmp};
 ghost use Rattle.model.specs.Rebasing.{clash_of_entries, clash_of_changes, columns_clash, or_clash};
 ghost use Rattle.model.specs.declared.entry.Entry.{Entry};
-ghost use Rattle.layers.specs.Serialization.{clash_cmp, clash_with_head, IsClashBeside};
+ghost use Rattle.layers.specs.Serialization.{clash_cmp, clash_with_head, turned_clash, IsClashBeside};
 
 use delta::{Change, DeltaTree, SharedEntry, SidPlace, Sought};
 use model::{Clash, ClashKind, ConflictRule};
@@ -119,6 +119,17 @@ fn clash_of_kind(i: usize, j: usize, kind: Option<ClashKind>) -> Option<Clash>
     match kind {
         Some(kind) => Some(Clash { kind, x: i, y: j }),
         None => None,
+    }
+}
+
+/// The same clash, as the other tree sees it.
+pub(crate) fn turned(clash: Clash) -> Clash
+    ensures { result ≡ turned_clash clash }
+{
+    Clash {
+        kind: clash.kind,
+        x: clash.y,
+        y: clash.x,
     }
 }
 

@@ -1,12 +1,14 @@
 //! A tree made consecutive to another one over the same image.
-ghost use Rattle.std.specs.Prelude.{◌≡◌, ◌+◌, ◌≤◌, ◌∷◌, [], ◌++◌, Some, IfOk, OnOk, length, slice_get, take};
-ghost use Rattle.model.specs.Entries.{entry_at};
+ghost use Rattle.std.specs.Prelude.{◌≡◌, ◌+◌, ◌≤◌, true, ◌∷◌, [], ◌++◌, Some, IfOk, OnOk, length, slice_get, take};
+ghost use Rattle.model.specs.Entries.{entry_at, is_modify};
+ghost use Rattle.model.specs.Rebasing.{rebased_entries};
 ghost use Rattle.layers.specs.Over.{AreAligned};
 ghost use Rattle.layers.specs.Passing.{put_entries};
 ghost use Rattle.layers.specs.Serialization.{IsSerialized};
 
-use crate::beside::Search;
-use delta::{DeltaTree, SharedEntry};
+use crate::beside::{FEW, Search, first_clash};
+use crate::clash::turned;
+use delta::{Change, DeltaTree, SharedEntry, Sought};
 use model::{Clash, ConflictRule};
 use std::alloc::Global;
 use values::NoMemory;
@@ -22,8 +24,9 @@ pub enum Serialized {
 
 /// The tree `x` made consecutive to `y`, which is over the same image, or the clash with the least index in `x`, then in
 /// `y` (Héman et al. 2010, "Serialize"): by one look-up in `y` for each entry of `x`, and for a modify by row one more, or,
-/// where `x` has more than a tenth of the entries of `y`, by one walk over both. The rule says which modifies clash. The
-/// tree shares the rows of `x`, and where no entry moves its nodes, so that nothing is built.
+/// where `x` has more than a tenth of the entries of `y`, by one walk over both. Where `y` has no more than a tenth of the
+/// entries of `x`, and all of those stand before its first insert or delete, its own are looked up in `x`. The rule says
+/// which modifies clash. The tree shares the rows of `x`, and where no entry moves its nodes, so that nothing is built.
 ///
 /// # Errors
 ///
@@ -37,6 +40,9 @@ pub fn serialize(
     requires { AreAligned x.now y.now }
     ensures { IfOk result (λ serialized. (w : AreAligned x.now y.now) → IsSerialized rule x.now y.now w serialized) }
 {
+    if y.len() <= x.len() / FEW && moves_none(x, y) {
+        return beside_still(rule, x, y);
+    }
     let mut search = Search::of(y, x.len());
     let mut entries = Vec::new(alloc);
     let mut index = 0;
@@ -52,6 +58,41 @@ pub fn serialize(
         return Ok(Serialized::Tree(x.copy()?));
     }
     Ok(Serialized::Tree(DeltaTree::from_shared(alloc, x.key_cols(), entries)?))
+}
+
+/// Whether no entry of `x` moves past `y`: all stand before its first insert or delete.
+fn moves_none(x: &DeltaTree, y: &DeltaTree) -> bool
+    requires { x.now.key_cols ≡ y.now.key_cols }
+    ensures { result ≡ true → x.now.entries ≡ rebased_entries y.now.key_cols y.now.entries x.now.entries }
+{
+    for entry in y.iter() {
+        if !is_modify(entry.change()) {
+            return x.find(entry.sid(), Sought::Change(entry.change())).index == x.len();
+        }
+    }
+    true
+}
+
+/// Whether the change is a modify.
+fn is_modify(change: &Change) -> bool
+    ensures { result ≡ is_modify change.now }
+{
+    match change {
+        Change::Ins(_) | Change::Del(_) => false,
+        Change::Mod(_, _) => true,
+    }
+}
+
+/// What becomes of `x` beside `y`, past which none of its entries moves, by a descent in `x` for each entry of `y`.
+fn beside_still(rule: ConflictRule, x: &DeltaTree, y: &DeltaTree) -> Result<Serialized, NoMemory>
+    requires aligned { AreAligned x.now y.now }
+    requires still { x.now.entries ≡ rebased_entries y.now.key_cols y.now.entries x.now.entries }
+    ensures { IfOk result (λ serialized. (w : AreAligned x.now y.now) → IsSerialized rule x.now y.now w serialized) }
+{
+    match first_clash(rule, y, x) {
+        Some(clash) => Ok(Serialized::Conflict(turned(clash))),
+        None => Ok(Serialized::Tree(x.copy()?)),
+    }
 }
 
 /// Puts the entry, which has the index in its tree, at the SID: nothing as long as it and those before it stand there.

@@ -61,6 +61,33 @@ fn drawn_writes(alloc: Global, draws: &mut Draws) -> Result<Vec<Write>, Fail> {
     Ok(writes_of(alloc, named.as_slice())?)
 }
 
+/// Ten writes and more of all keys, so that their tree has about ten entries for one of `few_writes`.
+fn many_writes(alloc: Global, draws: &mut Draws) -> Result<Vec<Write>, Fail> {
+    let mut named = Vec::new(alloc);
+    for _ in 0..10 + draws.below(50) {
+        named.push(drawn_write(draws, KEYS))?;
+    }
+    Ok(writes_of(alloc, named.as_slice())?)
+}
+
+/// Up to six writes that set cells; some lists have a drawn write beside them, and some an insert past all keys.
+fn few_writes(alloc: Global, draws: &mut Draws) -> Result<Vec<Write>, Fail> {
+    let mut named = Vec::new(alloc);
+    for _ in 0..draws.below(7) {
+        let row = (draws.below(KEYS / STEP) * STEP) as i64;
+        named.push(match draws.below(2) {
+            0 => ItemWrite::Set(row, 9),
+            _ => ItemWrite::Name(row, "now"),
+        })?;
+    }
+    match draws.below(4) {
+        0 => named.push(drawn_write(draws, KEYS))?,
+        1 => named.push(ItemWrite::Insert(KEYS as i64, "last", 7))?,
+        _ => {}
+    }
+    Ok(writes_of(alloc, named.as_slice())?)
+}
+
 /// Whether the tree has these entries.
 fn has_entries(tree: &DeltaTree, entries: &[Entry]) -> bool {
     tree.len() == entries.len()
@@ -198,6 +225,36 @@ fn a_thousand_pairs_fold_pass_and_clash_as_the_slow_program_says(
     let stable = Arc::new(alloc, table_of(alloc, rows)?)?;
     for seed in 0..PAIRS {
         assert!(rt; agrees(alloc, &stable, &table, seed)?, "seed {seed}");
+    }
+    Ok(())
+}
+
+/// Whether a transaction of many writes and one of few pass each other, or clash, as the slow program says.
+fn many_and_few_agree(
+    alloc: Global,
+    stable: &Arc<StableTable>,
+    table: &OrderedTable,
+    seed: u64,
+) -> Result<bool, Fail> {
+    let mut draws = Draws::new(seed);
+    let many = many_writes(alloc, &mut draws)?;
+    let x = written_over(alloc, stable, many)?;
+    let few = few_writes(alloc, &mut draws)?;
+    let y = written_over(alloc, stable, few)?;
+    Ok(pass(alloc, stable, table, &x, &y)?)
+}
+
+#[test]
+fn many_writes_pass_a_few_sets_as_the_slow_program_says(rt: HostRuntime) -> Result<(), Fail> {
+    let alloc = rt.alloc();
+    let rows = base_rows(alloc)?;
+    let table = OrderedTable::from_rows(alloc, 1, copy_rows(alloc, rows.as_slice())?)?;
+    let stable = Arc::new(alloc, table_of(alloc, rows)?)?;
+    for seed in 0..PAIRS {
+        assert!(rt;
+            many_and_few_agree(alloc, &stable, &table, seed)?,
+            "seed {seed}"
+        );
     }
     Ok(())
 }

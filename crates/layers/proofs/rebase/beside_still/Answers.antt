@@ -1,0 +1,25 @@
+use Rattle.std.proofs.Common.{sym, ◌∙◌, subst}
+use Rattle.model.specs.declared.clash.Clash.{Clash}
+use Rattle.model.specs.Rebasing.{IsLeastClash}
+use Rattle.layers.specs.Over.{AreAligned}
+use Rattle.layers.proofs.SerialLemmas.{unconflicting, rebased_is}
+use Rattle.layers.proofs.TurnedLemmas.{first_clash-turns, no_clash-turns}
+use Rattle.layers.proofs.rebase.beside_still.Goals as goal
+
+pub returns-in-Some : goal.returns-in-Some
+returns-in-Some c =
+    let x = c.args.x.now in
+    let y = c.args.y.now in
+    let found = sym c.first_clash.ensures ∙ c.in-Some.is in
+    λ (w : AreAligned x y).
+    let both = first_clash-turns c.args.rule x y w c.in-Some.clash found in
+    (both.0, subst (λ (k : Clash). IsLeastClash c.args.rule w.schema.key_cols x.entries y.entries k) (sym c.turned.ensures) both.1)
+
+pub returns-in_ok-copy-in-None : goal.returns-in_ok-copy-in-None
+returns-in_ok-copy-in-None c =
+    let x = c.args.x.now in
+    let y = c.args.y.now in
+    let found = sym c.first_clash.ensures ∙ c.in-None.is in
+    λ (w : AreAligned x y).
+    let none = no_clash-turns c.args.rule x y w found in
+    (unconflicting c.args.rule x y w none, rebased_is c.args.rule x y w c.in_ok-copy-in-None.field-0 x.entries none c.requires.still c.in_ok-copy-in-None.ensures)
