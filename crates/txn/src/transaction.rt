@@ -1,5 +1,6 @@
 //! A client's writes over a version of the table, kept as a delta tree (Héman et al. 2010, "Trans-PDT").
-ghost use Rattle.std.specs.Prelude.{◌≡◌, ◌≤◌, [], ◌∷◌, IsTrue, IfOk, OnErr, IsOkUnless, MatchOption, Err, length};
+ghost use Rattle.std.specs.Prelude.{◌≡◌, ◌+◌, ◌≤◌, [], ◌∷◌, IsTrue, IfOk, OnOk, OnErr, IsOkUnless, MatchOption, Err, length};
+ghost use Rattle.std.specs.Vec.{vec_len, vec_capacity};
 ghost use Rattle.values.specs.Shape.{row_fault, key_fault, cell_fault, or_fault};
 ghost use Rattle.values.specs.declared.limits.TheConstants.{MAX_ROWS};
 ghost use Rattle.model.specs.declared.write.Write.TheVariants as asked;
@@ -216,7 +217,7 @@ impl Txn {
         let key_cols = self.schema().key_cols();
         let found = self.find(key_of_write(key_cols, &write));
         let reply = reply_where(self.row_limit, found.row.is_there(), self.len(), &write);
-        self.writes.try_reserve(1)?;
+        reserve_one(&mut self.writes)?;
         let alloc = *self.writes.allocator();
         edit(alloc, &mut self.tree, found, &write, reply)?;
         self.writes.push_reserved((write, reply));
@@ -267,4 +268,17 @@ impl Txn {
             place: _place,
         } = self;
     }
+}
+
+/// Room for one more write. The first gets room for itself alone: many transactions make one, and their records are kept.
+fn reserve_one(writes: &mut Vec<(Write, WriteReply)>) -> Result<(), NoMemory>
+    ensures items { writes.new.items ≡ writes.old.items }
+    ensures ok { OnOk result (vec_len writes.new + 1 ≤ vec_capacity writes.new) }
+{
+    if writes.is_empty() {
+        writes.reserve_exact(1)?;
+    } else {
+        writes.try_reserve(1)?;
+    }
+    Ok(())
 }

@@ -58,5 +58,5 @@ invariant_of-self-2 c =
     c.schema.ensures c.key_cols-key_cols.ensures.count c.key_of_write.ensures c.find-found.ensures.found c.len.ensures (c.reply_where-reply.ensures ∙ ap (λ b. reply_where c.self.inside.row_limit b c.len.result c.args.write) c.is_there.ensures) in
     let kept = seen_next txn c.self.invariant.0 inside.tree c.self.invariant.1 c.args.write c.find-found.result.sid (is_inserted c.find-found.result.row) reply s in
     let tree = c.in_ok-edit.ensures.ok ∙ seen_tree txn c.self.invariant.0 inside.tree c.self.invariant.1 c.args.write c.find-found.result.sid (is_inserted c.find-found.result.row) reply s in
-    let items : c.push_reserved.new.self.items ≡ inside.writes.items ++ (c.args.write, reply) ∷ [] = c.push_reserved.ensures.items ∙ ap (λ ws. ws ++ (c.args.write, reply) ∷ []) c.in_ok-try_reserve.ensures.items in
+    let items : c.push_reserved.new.self.items ≡ inside.writes.items ++ (c.args.write, reply) ∷ [] = c.push_reserved.ensures.items ∙ ap (λ ws. ws ++ (c.args.write, reply) ∷ []) c.in_ok-reserve_one.ensures.items in
     subst (λ (ws : List (Write × WriteReply)). Kept c.edit.new.tree (transaction_at (table_version inside.version) inside.row_limit inside.client ws)) (sym items) (kept, tree)
