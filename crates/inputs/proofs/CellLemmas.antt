@@ -1,17 +1,19 @@
 -- What the bytes of a cell say.
-use Rattle.std.proofs.Common.{◌≡◌, ◌<◌, ◌≤◌, ◌^◌, ℕ, ℤ, pos, neg_ℤ, Bool, true, false, ◌&&◌, ◌==◌, List, [], ◌∷◌, length, take, drop, get_or, Option, Some, None, Result, Ok, Err, refl, sym, ap, ◌∙◌, arith, inl, inr, nat_lt, nat_le, w64, to_z, of_z, ◌-ℤ◌, zero, suc, lit<}
+use Rattle.std.proofs.Common.{◌≡◌, ◌<◌, ◌≤◌, ◌^◌, ◌-◌, ℕ, ℤ, pos, neg_ℤ, Bool, true, false, ◌&&◌, ◌==◌, List, [], ◌∷◌, length, take, drop, get_or, Option, Some, None, Result, Ok, Err, refl, sym, ap, ◌∙◌, arith, inl, inr, nat_lt, nat_le, w64, to_z, of_z, ◌-ℤ◌, zero, suc, lit<}
 use Rattle.std.proofs.lemmas.Bool.{cases_Bool, cases_eq, eq-eqb, ne_eqb}
 use Rattle.std.proofs.lemmas.Bool.Decides.{nat_tests}
 use Rattle.std.proofs.Math.IntN.{+ℤ_idl}
 use Rattle.std.proofs.lemmas.Int.{to_z-of_z}
 use Rattle.std.proofs.lemmas.List.{length-take}
-use Rattle.std.proofs.lemmas.Str.{IsUtf8-from_is_utf8, is_utf8-from_IsUtf8, IsUtf8-from_ascii}
+use Rattle.std.proofs.lemmas.Str.{IsAscii-drop, IsAscii-take, IsUtf8-from_is_utf8, is_utf8-from_IsUtf8, IsUtf8-from_ascii}
 use Rattle.std.proofs.lemmas.Str.Parse.{IsNumeralModel, digits_value_short, numerals_by_value, tells_all_ascii_digits, parse_signed_minus, parse_signed_plain, parse_signed_plus}
+use Rattle.std.specs.List.{list_all}
 use Rattle.std.specs.Option.{IfSome}
 use Rattle.std.specs.Result.{OkIff, MatchResult, result_ok}
-use Rattle.std.specs.Str.{IsUtf8, is_utf8, all_ascii_digits}
+use Rattle.std.specs.Str.{IsAscii, IsUtf8, is_utf8, all_ascii_digits}
 use Rattle.std.specs.Str.Parse.{AllDigits, ParsesSigned, digits_value, starts_with_minus, without_leading_sign}
 use Rattle.std.specs.Char.{is_ascii_digit}
+use Rattle.csv.specs.Records.{cut_from}
 use Rattle.values.specs.declared.value.ColumnType.TheVariants as column
 use Rattle.values.specs.declared.value.Value.TheVariants.{Text}
 use Rattle.inputs.specs.Cells.{is_numeral, signed_number, int_of, value_of}
@@ -25,6 +27,14 @@ not_utf8 bs h = elim (cases_Bool (is_utf8 bs)) [
   | inl e ↦ absurd (h (IsUtf8-from_is_utf8 bs e))
   | inr e ↦ e
 ]
+
+-- the fields of a record whose bytes are all ASCII
+pub list_all-ascii : (start : ℕ) (ends bytes : List ℕ) → IsAscii bytes → list_all is_utf8 (cut_from start ends bytes) ≡ true
+unfolding cut_from
+list_all-ascii start [] bytes h = refl
+list_all-ascii start (end ∷ ends) bytes h =
+    let field = IsAscii-take (drop start bytes) (end - start) (IsAscii-drop bytes start h) in
+    rw (is_utf8-from_IsUtf8 _ (IsUtf8-from_ascii _ field), list_all-ascii end ends bytes h) refl
 
 pub lt_false : (a b : ℕ) → b ≤ a → nat_lt a b ≡ false
 lt_false a b h = grind (arith, nat_tests)

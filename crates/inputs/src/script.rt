@@ -131,8 +131,15 @@ fn read_call(
     Ok(ClientCall { client, call })
 }
 
-/// Whether each field is UTF-8.
+/// Whether each field is UTF-8. Where all bytes are ASCII, one look at the whole record tells it.
 fn is_all_text(fields: &ByteRecord) -> bool
+    ensures { result ≡ list_all is_utf8 (fields_of fields.now) }
+{
+    fields.as_slice().is_ascii() || is_each_text(fields)
+}
+
+/// The same, field by field.
+fn is_each_text(fields: &ByteRecord) -> bool
     ensures { result ≡ list_all is_utf8 (fields_of fields.now) }
 {
     for i in 0..fields.len() {

@@ -1,5 +1,5 @@
 -- What is written, record by record and some records at a time.
-use Rattle.std.proofs.Common.{◌≡◌, ◌∙◌, ℕ, zero, suc, List, [], ◌∷◌, ◌++◌, map, drop, Option, Some, None, Result, Ok, Err, refl, sym, ap, subst, append_assoc, nat_lt}
+use Rattle.std.proofs.Common.{◌≡◌, ◌∙◌, ℕ, zero, suc, List, [], ◌∷◌, ◌++◌, map, drop, Option, Some, Result, Ok, Err, refl, sym, ap, subst, append_assoc, nat_lt}
 use Rattle.std.specs.Prelude.{OnOk}
 use Rattle.std.proofs.KnownBytes.{Appends-trans}
 use Rattle.std.proofs.lemmas.List.{append-nil, map-append}
@@ -15,7 +15,8 @@ use Rattle.delta.specs.Tree.{Tree}
 use Rattle.merge.specs.Image.{AreStacked, image_rows, stack_of}
 use Rattle.txn.specs.Version.{empty_tree}
 use Rattle.txn.proofs.CallerLemmas.{no_layer}
-use Rattle.pdtcli.specs.Output.{header_cells, header_fields, image_text, kind_text, record_text, records_text, lines_text, rows_text}
+use Rattle.pdtcli.specs.Output.{header_cells, header_fields, image_text, kind_text, records_text, lines_text, rows_text}
+use Rattle.pdtcli.specs.Records.{record_text}
 use Rattle.pdtcli.specs.Shown.{row_fields}
 use Rattle.inputs.specs.Reading.{Fields}
 use Rattle.pdtcli.specs.Replies.{line_fields}
@@ -41,12 +42,6 @@ lines_text-more start clients lines line =
     append_assoc start (lines_text clients lines) (record_text (line_fields clients line))
     ∙ ap (λ (z : List ℕ). start ++ z)
     (ap (λ (z : List ℕ). lines_text clients lines ++ z) (sym (append-nil (record_text (line_fields clients line)))) ∙ sym (lines_text-append clients lines (line ∷ [])))
-
--- what a writer with these known bytes holds after more
-pub appended : (a b : Option (List ℕ)) (xs ys : List ℕ) → a ≡ Some xs → Appends a b ys → b ≡ Some (xs ++ ys)
-appended None b xs ys e h = cc e
-appended (Some x) None xs ys e h = absurd h
-appended (Some x) (Some y) xs ys e h = ap Some (h ∙ ap (λ (z : List ℕ). z ++ ys) (cc e))
 
 -- ---- the header
 

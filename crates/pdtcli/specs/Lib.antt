@@ -3,6 +3,7 @@ pub mod Outcome
 pub mod Output
 pub mod Program
 pub mod Reads
+pub mod Records
 pub mod Recovery
 pub mod Ready
 pub mod Refusals

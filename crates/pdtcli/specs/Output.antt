@@ -1,9 +1,6 @@
 -- What is shown of a run: its reply lines, an empty line, and the image with its header.
-use Rattle.std.specs.Prelude.{◌≡◌, ℕ, suc, Bool, true, false, cond, nat_lt, Some, List, [], ◌∷◌, ◌++◌, map, Vec}
-use Rattle.std.specs.declared.alloc.Global.{Global}
+use Rattle.std.specs.Prelude.{ℕ, suc, Bool, true, false, cond, nat_lt, List, [], ◌∷◌, ◌++◌, map}
 use Rattle.std.specs.List.{list_any}
-use Rattle.csv.specs.Writing.{default_writer, with_flexible, row_text, writer_setup, fields_written, has_written, text_written}
-use Rattle.csv.specs.declared.writer.Writer.{Writer}
 use Rattle.values.specs.Shape.{Columns}
 use Rattle.values.specs.declared.row.Row.{Row}
 use Rattle.values.specs.declared.value.ColumnType.{ColumnType}
@@ -12,6 +9,7 @@ use Rattle.manager.specs.Managed.{newest_table}
 use Rattle.pdtcli.specs.Outcome.{Left}
 use Rattle.inputs.specs.Header.{kind_word}
 use Rattle.inputs.specs.Reading.{Fields}
+use Rattle.pdtcli.specs.Records.{record_text}
 use Rattle.pdtcli.specs.Replies.{line_fields}
 use Rattle.pdtcli.specs.Shown.{row_fields}
 use Rattle.pdtcli.specs.declared.reply.Reply.{Reply}
@@ -37,20 +35,9 @@ header_fields schema = header_cells schema.key_cols 0 schema.names schema.types
 
 -- ---- the text
 
--- the text that the crate `csv` writes of a record, ended by a line feed
-abbrev pub record_text : Fields → List ℕ
-record_text fields = row_text (with_flexible default_writer true) fields
-
 abbrev pub records_text : List Fields → List ℕ
 records_text [] = []
 records_text (fields ∷ records) = record_text fields ++ records_text records
-
--- what the writer was given and has written is this text, and it stands at a record's start
-pub record IsWritten (writer : Writer (Vec ℕ Global)) (text : List ℕ) : Type 0 where
-  pub setup : writer_setup writer ≡ with_flexible default_writer true
-  pub fresh : fields_written writer ≡ 0
-  pub clean : has_written writer ≡ false
-  pub written : text_written (λ v. Some v.items) writer ≡ Some text
 
 -- a run's reply lines
 abbrev pub lines_text : List (List ℕ) → List ReplyLine → List ℕ

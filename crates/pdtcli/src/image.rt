@@ -2,12 +2,12 @@
 ghost use Rattle.std.specs.Prelude.{◌≡◌, ◌++◌, ◌∷◌, [], OnOk, IfOk};
 ghost use Rattle.values.specs.Lent.{value_of};
 ghost use Rattle.values.specs.Shown.{cell_text};
-ghost use Rattle.csv.specs.Records.{fields_of, partial_of};
 ghost use Rattle.merge.specs.View.{row_of};
 ghost use Rattle.pdtcli.specs.Output.{header_fields};
+ghost use Rattle.pdtcli.specs.Records.{TakesFields};
 ghost use Rattle.pdtcli.specs.Shown.{row_fields};
 
-use csv::ByteRecord;
+use crate::records::{Records, push_field};
 use inputs::kind_word;
 use itoa::Buffer;
 use merge::RowView;
@@ -17,17 +17,15 @@ use values::{NoMemory, Schema, ValueRef};
 /// Adds a header cell for each column.
 pub(crate) fn push_header(
     alloc: Global,
-    fields: &mut ByteRecord,
+    records: &mut Records,
     schema: &Schema,
 ) -> Result<(), NoMemory>
-    requires whole { partial_of fields.old ≡ [] }
-    ensures fields { OnOk result (fields_of fields.new ≡ fields_of fields.old ++ header_fields schema.now) }
-    ensures whole { OnOk result (partial_of fields.new ≡ []) }
+    ensures { OnOk result (TakesFields records.old records.new (header_fields schema.now)) }
 {
     for col in 0..schema.width() {
         let kind = kind_word(schema.column_type(col), col < schema.key_cols());
         let cell = header_cell(alloc, schema.name(col), kind)?;
-        fields.push_field(cell.as_slice())?;
+        push_field(records, cell.as_slice())?;
     }
     Ok(())
 }
@@ -43,22 +41,18 @@ fn header_cell(alloc: Global, name: &str, kind: &str) -> Result<Vec<u8>, NoMemor
 }
 
 /// Adds a field for each cell of a row.
-pub(crate) fn push_row(fields: &mut ByteRecord, row: &RowView<'_>) -> Result<(), NoMemory>
-    requires whole { partial_of fields.old ≡ [] }
-    ensures fields { OnOk result (fields_of fields.new ≡ fields_of fields.old ++ row_fields (row_of row.now)) }
-    ensures whole { OnOk result (partial_of fields.new ≡ []) }
+pub(crate) fn push_row(records: &mut Records, row: &RowView<'_>) -> Result<(), NoMemory>
+    ensures { OnOk result (TakesFields records.old records.new (row_fields (row_of row.now))) }
 {
     for col in 0..row.width() {
-        push_cell(fields, row.value(col))?;
+        push_cell(records, row.value(col))?;
     }
     Ok(())
 }
 
 /// Adds a cell: a number in decimal, a text as it is, a truth by its name.
-pub(crate) fn push_cell(fields: &mut ByteRecord, cell: ValueRef<'_>) -> Result<(), NoMemory>
-    requires whole { partial_of fields.old ≡ [] }
-    ensures fields { OnOk result (fields_of fields.new ≡ fields_of fields.old ++ cell_text (value_of cell.entry) ∷ []) }
-    ensures whole { OnOk result (partial_of fields.new ≡ []) }
+pub(crate) fn push_cell(records: &mut Records, cell: ValueRef<'_>) -> Result<(), NoMemory>
+    ensures { OnOk result (TakesFields records.old records.new (cell_text (value_of cell.entry) ∷ [])) }
 {
     let mut digits = Buffer::new();
     let text = match cell {
@@ -67,6 +61,5 @@ pub(crate) fn push_cell(fields: &mut ByteRecord, cell: ValueRef<'_>) -> Result<(
         ValueRef::Bool(true) => "true",
         ValueRef::Bool(false) => "false",
     };
-    fields.push_field(text.as_bytes())?;
-    Ok(())
+    push_field(records, text.as_bytes())
 }

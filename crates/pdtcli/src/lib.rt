@@ -21,6 +21,7 @@ mod outcome;
 mod output;
 mod program;
 mod reads;
+mod records;
 mod recovery;
 mod refusal;
 mod reply;

@@ -1,21 +1,20 @@
 //! The output of a run: its reply lines, an empty line, and the newest image with its header. And that of a store: the image
 //! that it has.
 //!
-//! The image is walked as its layers lend it, row by row. Text is made of a few hundred records and handed on before more
-//! is made, so that the memory that it takes does not grow with the table.
-ghost use Rattle.std.specs.Prelude.{◌≡◌, ◌≤◌, ◌++◌, ◌∷◌, [], ℕ, List, Some, OnOk, IfOk, length};
+//! The image is walked as its layers lend it, row by row. Text is made of a thousand records and handed on before more is
+//! made, so that the memory that it takes does not grow with the table.
+ghost use Rattle.std.specs.Prelude.{◌≡◌, ◌≤◌, ◌++◌, ◌∷◌, [], Some, OnOk, IfOk, length};
 ghost use Rattle.std.specs.Io.KnownBytes.{Appends};
-ghost use Rattle.csv.specs.Records.{fields_of};
 ghost use Rattle.values.specs.declared.limits.TheConstants.{MAX_ROWS};
 ghost use Rattle.merge.specs.Image.{image_rows};
-ghost use Rattle.pdtcli.specs.Output.{IsWritten, exit_status, image_text, is_refused, lines_text, record_text, rows_text, shown};
+ghost use Rattle.pdtcli.specs.Output.{exit_status, image_text, is_refused, lines_text, rows_text, shown};
 ghost use Rattle.pdtcli.specs.Refusals.{show_fault_text};
 ghost use Rattle.pdtcli.specs.declared.output.ShowFault.TheVariants as show_fault;
 
 use crate::image::{push_header, push_row};
 use crate::outcome::Left;
+use crate::records::{end_record, records_after, text_of};
 use crate::reply::{Reply, ReplyLine, push_line};
-use csv::{ByteRecord, Writer, WriterBuilder};
 use delta::DeltaTree;
 use devices::StoredImage;
 use merge::{Layers, MergeScan};
@@ -25,8 +24,8 @@ use std::fmt;
 use std::io::Write;
 use values::{NoMemory, Schema, Text};
 
-/// How many records are made text before it is handed on.
-const RECORDS_AT_ONCE: usize = 256;
+/// How many records are made text before it is handed on: many, since each text's writer begins with 8 KB of zeros.
+const RECORDS_AT_ONCE: usize = 1_024;
 
 /// Why an output isn't whole. What went out before it is not said.
 #[derive(Clone, Copy, Debug, PartialEq, Eq)]
@@ -143,10 +142,9 @@ fn show_lines<W: Write>(
 ) -> Result<(), ShowFault>
     ensures { OnOk result (Appends (W.contents out.old) (W.contents out.new) (lines_text clients.now lines.now)) }
 {
-    let mut fields = ByteRecord::new(alloc);
     let mut text = Vec::new(alloc);
     for chunk in lines.chunks(RECORDS_AT_ONCE) {
-        text = lines_after(&mut fields, clients, chunk, text)?;
+        text = lines_after(clients, chunk, text)?;
         send(&mut text, out)?;
     }
     Ok(())
@@ -166,34 +164,27 @@ fn show_rows<W: Write>(alloc: Global, newest: &Layers<'_>, out: &mut W) -> Resul
     ensures { OnOk result (Appends (W.contents out.old) (W.contents out.new) (rows_text (image_rows newest.now))) }
 {
     let count = newest.len();
-    let mut fields = ByteRecord::new(alloc);
     let mut text = Vec::new(alloc);
     let mut shown = 0;
     while shown < count {
         let next = count.min(shown + RECORDS_AT_ONCE as u64);
-        text = rows_after(&mut fields, newest.scan(shown, next), text)?;
+        text = rows_after(newest.scan(shown, next), text)?;
         send(&mut text, out)?;
         shown = next;
     }
     Ok(())
 }
 
-/// The text, and after it the reply lines. The record is used again for each line.
-fn lines_after(
-    fields: &mut ByteRecord,
-    clients: &[Text],
-    lines: &[ReplyLine],
-    text: Vec<u8>,
-) -> Result<Vec<u8>, NoMemory>
+/// The text, and after it the reply lines.
+fn lines_after(clients: &[Text], lines: &[ReplyLine], text: Vec<u8>) -> Result<Vec<u8>, NoMemory>
     ensures { IfOk result (λ longer. longer.items ≡ text.items ++ lines_text clients.now lines.now) }
 {
-    let mut writer = records_after(text);
+    let mut records = records_after(text);
     for line in lines {
-        fields.clear();
-        push_line(fields, clients, line)?;
-        put(&mut writer, fields)?;
+        push_line(&mut records, clients, line)?;
+        end_record(&mut records)?;
     }
-    text_of(writer)
+    text_of(records)
 }
 
 /// The empty line and the header.
@@ -207,55 +198,22 @@ fn line_and_header(alloc: Global, schema: &Schema) -> Result<Vec<u8>, NoMemory>
 fn header_after(alloc: Global, schema: &Schema, text: Vec<u8>) -> Result<Vec<u8>, NoMemory>
     ensures { IfOk result (λ longer. longer.items ≡ text.items ++ image_text schema.now []) }
 {
-    let mut fields = ByteRecord::new(alloc);
-    push_header(alloc, &mut fields, schema)?;
-    let mut writer = records_after(text);
-    put(&mut writer, &fields)?;
-    text_of(writer)
+    let mut records = records_after(text);
+    push_header(alloc, &mut records, schema)?;
+    end_record(&mut records)?;
+    text_of(records)
 }
 
-/// The text, and after it the rows. The record is used again for each row.
-fn rows_after(
-    fields: &mut ByteRecord,
-    rows: MergeScan<'_>,
-    text: Vec<u8>,
-) -> Result<Vec<u8>, NoMemory>
+/// The text, and after it the rows.
+fn rows_after(rows: MergeScan<'_>, text: Vec<u8>) -> Result<Vec<u8>, NoMemory>
     ensures { IfOk result (λ longer. longer.items ≡ text.items ++ rows_text rows.entry) }
 {
-    let mut writer = records_after(text);
+    let mut records = records_after(text);
     for view in rows {
-        fields.clear();
-        push_row(fields, &view)?;
-        put(&mut writer, fields)?;
+        push_row(&mut records, &view)?;
+        end_record(&mut records)?;
     }
-    text_of(writer)
-}
-
-/// A writer of records of any length after the text.
-fn records_after(text: Vec<u8>) -> Writer<Vec<u8>>
-    ensures { IsWritten result text.items }
-{
-    WriterBuilder::new().flexible(true).from_writer(text)
-}
-
-/// Writes a record.
-fn put(writer: &mut Writer<Vec<u8>>, fields: &ByteRecord) -> Result<(), NoMemory>
-    ensures { OnOk result ((text : List ℕ) → IsWritten writer.old text → IsWritten writer.new (text ++ record_text (fields_of fields.now))) }
-{
-    match writer.write_byte_record(fields) {
-        Ok(()) => Ok(()),
-        Err(_) => Err(NoMemory),
-    }
-}
-
-/// What was written.
-fn text_of(writer: Writer<Vec<u8>>) -> Result<Vec<u8>, NoMemory>
-    ensures { IfOk result (λ text. (written : List ℕ) → IsWritten writer written → text.items ≡ written) }
-{
-    match writer.into_inner() {
-        Ok(text) => Ok(text),
-        Err(_) => Err(NoMemory),
-    }
+    text_of(records)
 }
 
 /// Hands the text on, and leaves the vector empty.

@@ -1,13 +1,13 @@
 //! What a script's calls are answered, and the fields of the reply lines: the one place where a reply becomes text.
-ghost use Rattle.std.specs.Prelude.{◌≡◌, ◌++◌, ◌∷◌, [], OnOk, codes, decimal};
+ghost use Rattle.std.specs.Prelude.{◌≡◌, ◌∷◌, [], OnOk, codes, decimal};
 ghost use Rattle.values.specs.Shown.{truth_text};
-ghost use Rattle.csv.specs.Records.{fields_of, partial_of};
+ghost use Rattle.pdtcli.specs.Records.{TakesFields};
 ghost use Rattle.pdtcli.specs.Replies.{client_name, commit_fields, line_fields, reply_fields, write_fields};
 ghost use Rattle.pdtcli.specs.Shown.{row_fields};
 
 use crate::image::push_cell;
+use crate::records::{Records, push_field};
 use crate::shown::ShownRow;
-use csv::ByteRecord;
 use inputs::Verb;
 use itoa::Buffer;
 use model::{CommitReply, WriteReply};
@@ -77,17 +77,15 @@ pub struct ReplyLine {
 
 /// Adds the fields of a line: the client's name, the verb, the reply's word and its values where it has some.
 pub(crate) fn push_line(
-    fields: &mut ByteRecord,
+    records: &mut Records,
     clients: &[Text],
     line: &ReplyLine,
 ) -> Result<(), NoMemory>
-    requires whole { partial_of fields.old ≡ [] }
-    ensures fields { OnOk result (fields_of fields.new ≡ fields_of fields.old ++ line_fields clients.now line.now) }
-    ensures whole { OnOk result (partial_of fields.new ≡ []) }
+    ensures { OnOk result (TakesFields records.old records.new (line_fields clients.now line.now)) }
 {
-    push_word(fields, name_of(clients, line.client))?;
-    push_word(fields, line.verb.word())?;
-    push_reply(fields, &line.reply)
+    push_word(records, name_of(clients, line.client))?;
+    push_word(records, line.verb.word())?;
+    push_reply(records, &line.reply)
 }
 
 /// The name of the client of this number; the empty one where there is no such client.
@@ -101,35 +99,33 @@ fn name_of(clients: &[Text], client: u32) -> &str
 }
 
 /// Adds the reply's word, and its values where it has some.
-fn push_reply(fields: &mut ByteRecord, reply: &Reply) -> Result<(), NoMemory>
-    requires whole { partial_of fields.old ≡ [] }
-    ensures fields { OnOk result (fields_of fields.new ≡ fields_of fields.old ++ reply_fields reply.now) }
-    ensures whole { OnOk result (partial_of fields.new ≡ []) }
+fn push_reply(records: &mut Records, reply: &Reply) -> Result<(), NoMemory>
+    ensures { OnOk result (TakesFields records.old records.new (reply_fields reply.now)) }
 {
     match reply {
-        Reply::Begun => push_word(fields, "Begun"),
-        Reply::AlreadyOpen => push_word(fields, "AlreadyOpen"),
-        Reply::NotOpen => push_word(fields, "NotOpen"),
-        Reply::Wrote(answer) => push_word(fields, word_of_write(*answer)),
-        Reply::KeyColumn => push_word(fields, "KeyColumn"),
-        Reply::TextTooLong(at) => push_counted(fields, "TextTooLong", *at as u64),
-        Reply::Row(row) => push_row(fields, row),
-        Reply::Missing => push_word(fields, "Missing"),
-        Reply::NoRow => push_word(fields, "None"),
-        Reply::Place(below, there) => push_place(fields, *below, *there),
-        Reply::Rows(count) => push_counted(fields, "Rows", *count),
-        Reply::End(count) => push_counted(fields, "End", *count),
-        Reply::Decided(answer) => push_decided(fields, *answer),
-        Reply::Aborted => push_word(fields, "Aborted"),
-        Reply::Folded => push_word(fields, "Done"),
-        Reply::Stored(generation) => push_counted(fields, "Done", u64::from(*generation)),
-        Reply::DeviceFailed(device) => push_counted(fields, "DeviceFailed", *device as u64),
-        Reply::StoreFailed => push_word(fields, "StoreFailed"),
-        Reply::GenerationsSpent => push_word(fields, "GenerationsSpent"),
-        Reply::Cut(count) => push_counted(fields, "Done", *count),
-        Reply::Ended => push_word(fields, "Ended"),
-        Reply::Stranger => push_word(fields, "Stranger"),
-        Reply::NoMemory => push_word(fields, "NoMemory"),
+        Reply::Begun => push_word(records, "Begun"),
+        Reply::AlreadyOpen => push_word(records, "AlreadyOpen"),
+        Reply::NotOpen => push_word(records, "NotOpen"),
+        Reply::Wrote(answer) => push_word(records, word_of_write(*answer)),
+        Reply::KeyColumn => push_word(records, "KeyColumn"),
+        Reply::TextTooLong(at) => push_counted(records, "TextTooLong", *at as u64),
+        Reply::Row(row) => push_row(records, row),
+        Reply::Missing => push_word(records, "Missing"),
+        Reply::NoRow => push_word(records, "None"),
+        Reply::Place(below, there) => push_place(records, *below, *there),
+        Reply::Rows(count) => push_counted(records, "Rows", *count),
+        Reply::End(count) => push_counted(records, "End", *count),
+        Reply::Decided(answer) => push_decided(records, *answer),
+        Reply::Aborted => push_word(records, "Aborted"),
+        Reply::Folded => push_word(records, "Done"),
+        Reply::Stored(generation) => push_counted(records, "Done", u64::from(*generation)),
+        Reply::DeviceFailed(device) => push_counted(records, "DeviceFailed", *device as u64),
+        Reply::StoreFailed => push_word(records, "StoreFailed"),
+        Reply::GenerationsSpent => push_word(records, "GenerationsSpent"),
+        Reply::Cut(count) => push_counted(records, "Done", *count),
+        Reply::Ended => push_word(records, "Ended"),
+        Reply::Stranger => push_word(records, "Stranger"),
+        Reply::NoMemory => push_word(records, "NoMemory"),
     }
 }
 
@@ -146,59 +142,48 @@ fn word_of_write(answer: WriteReply) -> &'static str
 }
 
 /// Adds the word of a commit's answer, and the number of commits held.
-fn push_decided(fields: &mut ByteRecord, answer: CommitReply) -> Result<(), NoMemory>
-    requires whole { partial_of fields.old ≡ [] }
-    ensures fields { OnOk result (fields_of fields.new ≡ fields_of fields.old ++ commit_fields answer) }
-    ensures whole { OnOk result (partial_of fields.new ≡ []) }
+fn push_decided(records: &mut Records, answer: CommitReply) -> Result<(), NoMemory>
+    ensures { OnOk result (TakesFields records.old records.new (commit_fields answer)) }
 {
     match answer {
-        CommitReply::Committed(held) => push_counted(fields, "Committed", held),
-        CommitReply::Conflict(held) => push_counted(fields, "Conflict", held),
-        CommitReply::TooOld(held) => push_counted(fields, "TooOld", held),
-        CommitReply::Full(held) => push_counted(fields, "Full", held),
+        CommitReply::Committed(held) => push_counted(records, "Committed", held),
+        CommitReply::Conflict(held) => push_counted(records, "Conflict", held),
+        CommitReply::TooOld(held) => push_counted(records, "TooOld", held),
+        CommitReply::Full(held) => push_counted(records, "Full", held),
     }
 }
 
 /// Adds the word of a row, and its cells.
-fn push_row(fields: &mut ByteRecord, row: &ShownRow) -> Result<(), NoMemory>
-    requires whole { partial_of fields.old ≡ [] }
-    ensures fields { OnOk result (fields_of fields.new ≡ fields_of fields.old ++ codes "Row" ∷ row_fields row.now) }
-    ensures whole { OnOk result (partial_of fields.new ≡ []) }
+fn push_row(records: &mut Records, row: &ShownRow) -> Result<(), NoMemory>
+    ensures { OnOk result (TakesFields records.old records.new (codes "Row" ∷ row_fields row.now)) }
 {
-    push_word(fields, "Row")?;
+    push_word(records, "Row")?;
     for col in 0..row.width() {
-        push_cell(fields, row.value(col))?;
+        push_cell(records, row.value(col))?;
     }
     Ok(())
 }
 
 /// Adds the word of a key's place, its number, and whether the key is there.
-fn push_place(fields: &mut ByteRecord, below: u64, there: bool) -> Result<(), NoMemory>
-    requires whole { partial_of fields.old ≡ [] }
-    ensures fields { OnOk result (fields_of fields.new ≡ fields_of fields.old ++ codes "Place" ∷ decimal below ∷ truth_text there ∷ []) }
-    ensures whole { OnOk result (partial_of fields.new ≡ []) }
+fn push_place(records: &mut Records, below: u64, there: bool) -> Result<(), NoMemory>
+    ensures { OnOk result (TakesFields records.old records.new (codes "Place" ∷ decimal below ∷ truth_text there ∷ [])) }
 {
-    push_counted(fields, "Place", below)?;
-    push_cell(fields, ValueRef::Bool(there))
+    push_counted(records, "Place", below)?;
+    push_cell(records, ValueRef::Bool(there))
 }
 
 /// Adds a word.
-fn push_word(fields: &mut ByteRecord, word: &str) -> Result<(), NoMemory>
-    requires whole { partial_of fields.old ≡ [] }
-    ensures fields { OnOk result (fields_of fields.new ≡ fields_of fields.old ++ word.now ∷ []) }
-    ensures whole { OnOk result (partial_of fields.new ≡ []) }
+fn push_word(records: &mut Records, word: &str) -> Result<(), NoMemory>
+    ensures { OnOk result (TakesFields records.old records.new (word.now ∷ [])) }
 {
-    fields.push_field(word.as_bytes())?;
-    Ok(())
+    push_field(records, word.as_bytes())
 }
 
 /// Adds a word and a number.
-fn push_counted(fields: &mut ByteRecord, word: &str, number: u64) -> Result<(), NoMemory>
-    requires whole { partial_of fields.old ≡ [] }
-    ensures fields { OnOk result (fields_of fields.new ≡ fields_of fields.old ++ word.now ∷ decimal number ∷ []) }
-    ensures whole { OnOk result (partial_of fields.new ≡ []) }
+fn push_counted(records: &mut Records, word: &str, number: u64) -> Result<(), NoMemory>
+    ensures { OnOk result (TakesFields records.old records.new (word.now ∷ decimal number ∷ [])) }
 {
     let mut digits = Buffer::new();
-    push_word(fields, word)?;
-    push_word(fields, digits.format(number))
+    push_word(records, word)?;
+    push_word(records, digits.format(number))
 }

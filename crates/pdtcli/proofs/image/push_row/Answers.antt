@@ -1,32 +1,31 @@
-use Rattle.std.proofs.Common.{◌≡◌, ◌++◌, ◌∷◌, ◌+◌, [], map, take, sym, ap, ◌∙◌, append_assoc, arith}
+use Rattle.std.proofs.Common.{◌≡◌, ◌++◌, ◌∷◌, ◌+◌, [], map, take, sym, ap, ◌∙◌, subst, arith}
 use Rattle.std.proofs.lemmas.List.{take_more, take_all, map-append}
 use Rattle.std.proofs.lemmas.Option.{get_or_from_slice_get, slice_get_within}
-use Rattle.csv.specs.Records.{fields_of}
 use Rattle.values.specs.Lent.{value_of}
 use Rattle.values.specs.Shown.{cell_text}
 use Rattle.values.specs.declared.row.Row.{Row}
 use Rattle.merge.specs.View.{row_of}
-use Rattle.inputs.specs.Reading.{Fields}
+use Rattle.pdtcli.specs.Records.{TakesFields}
+use Rattle.pdtcli.proofs.RecordsLemmas.{TakesFields-none, TakesFields-trans}
 use Rattle.pdtcli.proofs.image.push_row.Goals as goal
+
+pub loop-col-init : goal.loop-col-init
+loop-col-init c = TakesFields-none c.args.records.now
 
 pub loop-col-preserved : goal.loop-col-preserved
 loop-col-preserved c =
     let row : Row = row_of c.args.row.now in
     let col = c.loop-col.col in
     let v = value_of c.value.result in
-    let before : Fields = fields_of c.args.fields.now in
     let longer : take (col + 1) row ≡ take col row ++ v ∷ [] =
-    take_more row col v (slice_get_within row col v c.value.ensures) ∙ ap (λ w. take col row ++ w ∷ []) (get_or_from_slice_get row col v v c.value.ensures) in
-    record {
-      added = c.in_ok-push_cell.ensures.fields
-          ∙ ap (λ (z : Fields). z ++ cell_text v ∷ []) c.loop-col.invariant.added
-          ∙ append_assoc before (map cell_text (take col row)) (cell_text v ∷ [])
-          ∙ ap (λ (z : Fields). before ++ z) (sym (map-append cell_text (take col row) (v ∷ [])) ∙ ap (map cell_text) (sym longer));
-      whole = c.in_ok-push_cell.ensures.whole;
-    }
+    take_more row col v (slice_get_within row col v c.value.ensures)
+    ∙ ap (λ w. take col row ++ w ∷ []) (get_or_from_slice_get row col v v c.value.ensures) in
+    subst (TakesFields c.args.records.now c.push_cell.new.records)
+    (sym (ap (map cell_text) longer ∙ map-append cell_text (take col row) (v ∷ [])))
+    (TakesFields-trans _ _ _ (map cell_text (take col row)) (cell_text v ∷ []) c.loop-col.invariant c.in_ok-push_cell.ensures)
 
-pub returns-clause-fields : goal.returns-clause-fields
-returns-clause-fields c =
+pub returns : goal.returns
+returns c =
     let row : Row = row_of c.args.row.now in
-    let all = take_all c.loop-col.col row (omega (arith, c.width-col-end.ensures, c.loop-col-test.false)) in
-    c.loop-col.invariant.added ∙ ap (λ (r : Row). fields_of c.args.fields.now ++ map cell_text r) all
+    subst (λ (r : Row). TakesFields c.args.records.now c.loop-col.records (map cell_text r))
+    (take_all c.loop-col.col row (omega (arith, c.width-col-end.ensures, c.loop-col-test.false))) c.loop-col.invariant

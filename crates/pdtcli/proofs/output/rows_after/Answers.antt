@@ -1,11 +1,12 @@
-use Rattle.std.proofs.Common.{◌≡◌, ◌∙◌, ◌++◌, ℕ, List, ap, sym, append_assoc}
+use Rattle.std.proofs.Common.{◌∙◌, ◌++◌, [], ℕ, List, ap, sym, append_assoc}
 use Rattle.std.proofs.lemmas.List.{append-nil}
 use Rattle.std.proofs.lemmas.Result.{IfOk-weaker}
-use Rattle.csv.specs.Records.{fields_of}
 use Rattle.values.specs.declared.row.Row.{Row}
 use Rattle.merge.specs.View.{row_of}
-use Rattle.pdtcli.specs.Output.{record_text, rows_text}
+use Rattle.pdtcli.specs.Output.{rows_text}
+use Rattle.pdtcli.specs.Records.{record_text}
 use Rattle.pdtcli.specs.Shown.{row_fields}
+use Rattle.pdtcli.proofs.RecordsLemmas.{IsUnderway-none}
 use Rattle.pdtcli.proofs.output.rows_after.Goals as goal
 
 pub loop-view-preserved : goal.loop-view-preserved
@@ -14,13 +15,13 @@ loop-view-preserved c =
     let row : Row = row_of c.in-Some.view in
     let rest : List Row = c.next.new.self in
     let done : List ℕ = inv.written.0 in
-    let same : fields_of c.push_row.new.fields ≡ row_fields row = rw c.clear.ensures.fields at c.in_ok-push_row.ensures.fields in
+    let made = c.in_ok-push_row.ensures done [] (IsUnderway-none _ done inv.written.1) in
     record {
       can_next = tt;
       finite = tt;
       written = (
         done ++ record_text (row_fields row),
-        rw same at (c.in_ok-put.ensures done inv.written.1),
+        c.in_ok-end_record.ensures done (row_fields row) made,
         append_assoc done (record_text (row_fields row)) (rows_text rest)
             ∙ ap (λ (rows : List Row). done ++ rows_text rows) (sym c.in-Some.ensures.steps)
             ∙ inv.written.2,

@@ -1,4 +1,4 @@
-use Rattle.std.proofs.Common.{◌≡◌, ◌≤◌, ◌+◌, None, length, map, take, replicate}
+use Rattle.std.proofs.Common.{◌≡◌, ◌≤◌, ◌+◌, None, length, take, replicate}
 use Rattle.std.specs.Prelude.{vec_capacity, vec_len}
 use Rattle.devices.specs.Appending.{taken_by}
 use Rattle.pdtcli.specs.Run.{IsRun}

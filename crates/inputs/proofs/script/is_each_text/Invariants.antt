@@ -2,7 +2,7 @@ use Rattle.std.proofs.Common.{◌≡◌, drop}
 use Rattle.std.specs.List.{list_all}
 use Rattle.std.specs.Str.{is_utf8}
 use Rattle.csv.specs.Records.{fields_of}
-use Rattle.inputs.proofs.script.is_all_text.Given as goal
+use Rattle.inputs.proofs.script.is_each_text.Given as goal
 
 -- each field so far is text
 abbrev pub invariant-loop-i : goal.invariant-loop-i

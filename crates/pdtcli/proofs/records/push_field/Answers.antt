@@ -1,0 +1,11 @@
+use Rattle.pdtcli.proofs.RecordsLemmas.{TakesFields-one}
+use Rattle.pdtcli.proofs.records.push_field.Goals.{in-Ok, in-Err}
+use Rattle.pdtcli.proofs.records.push_field.Goals as goal
+
+pub returns : goal.returns
+returns c = elim c.match-write_field.branch [
+  | in-Ok w ↦ rw w.result-is
+      (let e = w.in-Ok.ensures in
+      TakesFields-one c.args.records.now c.write_field.new.self c.args.field.now e.text e.same e.count e.wrote e.stays)
+  | in-Err w ↦ rw w.result-is tt
+]
