@@ -1,5 +1,5 @@
 # Each target is one line; the work is done by the toolchain's command rt.
-.PHONY: try run test examples fmt check
+.PHONY: try run test examples fmt check door install
 
 # how many checks the gate does at a time: each takes up to 6 GB
 RT_JOBS ?= 2
@@ -12,11 +12,11 @@ try:
 run:
 	cd crates/pdt && rt run -- run data/table.csv data/script.csv
 
-# the gate: every proof from nothing, the must-fail edits, the tests and the program; then the names in the documents, and the
-# examples and the cases through that program.
+# the gate: every proof from nothing, the must-fail edits, the tests and the program; then the names in the documents, the
+# examples and the cases through that program, and the tests of the door for C.
 # RT_JOBS checks go on at a time, each on one processor, since a check that has several takes more processor time
 test:
-	RT_JOBS=$(RT_JOBS) rt ci && docs/check && examples/check
+	RT_JOBS=$(RT_JOBS) rt ci && docs/check && examples/check && door/check
 
 # each example and case through the program as `make run` proves and builds it, against its replies
 examples: run
@@ -28,3 +28,11 @@ fmt:
 # proves one crate while you write: make check CRATE=delta
 check:
 	cd crates/$(CRATE) && rt check
+
+# the door for C: proves crates/pdt_c, and builds a static and a shared library from it in door/c/out
+door:
+	cd crates/pdt_c && rt lib && $(MAKE) -C ../../door/c
+
+# installs the header, both libraries and pdt.pc: make install PREFIX=/usr/local
+install: door
+	$(MAKE) -C door/c install

@@ -1,0 +1,2 @@
+mod WordSteps
+mod CellLemmas

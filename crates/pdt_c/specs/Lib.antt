@@ -1,0 +1,7 @@
+pub mod Held
+pub mod Cells
+pub mod Told
+pub mod Opening
+pub mod Writes
+pub mod Reads
+pub mod Stored

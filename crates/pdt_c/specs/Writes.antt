@@ -1,0 +1,48 @@
+-- A write that C asked for.
+use Rattle.std.specs.Prelude.{◌≡◌, ℕ, ℤ, List, take, slice_get, Some}
+use Rattle.values.specs.declared.value.Value.{Value}
+use Rattle.values.specs.declared.value.ColumnType.{ColumnType}
+use Rattle.model.specs.declared.write.Write.{Write}
+use Rattle.model.specs.declared.write.Write.TheVariants.{Insert, Delete, Set}
+use Rattle.model.specs.declared.write.WriteReply.{WriteReply}
+use Rattle.txn.specs.Txn.{Transaction, IsAnswered}
+use Rattle.pdt_c.specs.Cells.{ArePassed, IsPassed}
+use Rattle.pdt_c.specs.Told.{code_of_reply}
+
+-- a write was answered, and C is told the reply that was due
+pub record IsTold (old : Transaction) (write : Write) (code : ℕ) (new : Transaction) : Type 0 where
+  pub reply : WriteReply
+  pub answered : IsAnswered old write reply new
+  pub code_is : code ≡ code_of_reply reply
+
+-- the types of the key's columns
+abbrev pub key_types : Transaction → List ColumnType
+key_types txn = take txn.schema.key_cols txn.schema.types
+
+-- the row that C passed was inserted, or was answered why not
+pub record Inserts (numbers : List ℤ) (texts : List ℕ) (old : Transaction) (code : ℕ) (new : Transaction) : Type 0 where
+  pub row : List Value
+  pub passed : ArePassed old.schema.types numbers texts row
+  pub told : IsTold old (Insert row) code new
+
+-- the row of the key that C passed was deleted, or was answered why not
+pub record Deletes (numbers : List ℤ) (texts : List ℕ) (old : Transaction) (code : ℕ) (new : Transaction) : Type 0 where
+  pub key : List Value
+  pub passed : ArePassed (key_types old) numbers texts key
+  pub told : IsTold old (Delete key) code new
+
+-- the cell that C passed was set in the row of a key, or was answered why not
+pub record SetsCell (key : List Value) (col : ℕ) (number : ℤ) (text : List ℕ)
+    (old : Transaction) (code : ℕ) (new : Transaction) : Type 0 where
+  pub type : ColumnType
+  pub type_is : slice_get old.schema.types col ≡ Some type
+  pub cell : Value
+  pub cell_passed : IsPassed type number text cell
+  pub told : IsTold old (Set key col cell) code new
+
+-- in the row of the key that C passed
+pub record Sets (numbers : List ℤ) (texts : List ℕ) (col : ℕ) (number : ℤ) (text : List ℕ)
+    (old : Transaction) (code : ℕ) (new : Transaction) : Type 0 where
+  pub key : List Value
+  pub passed : ArePassed (key_types old) numbers texts key
+  pub cell : SetsCell key col number text old code new

@@ -1,0 +1,136 @@
+//! What a call answers C, as numbers. `pdt.h` has their names.
+ghost use Rattle.std.specs.Prelude.{◌≡◌, ◌≢◌, ◌<◌, ◌⊎◌, IfOk, IfErr, Ok, Err};
+ghost use Rattle.pdt_c.specs.Told.{told, code_of_reply};
+ghost use Rattle.pdt_c.specs.declared.codes.TheConstants.{NO_MEMORY, SHAPE};
+ghost use Rattle.txn.specs.declared.fault.WriteFault.TheVariants as write_fault;
+
+use crate::cells::CellFault;
+use columns::ReadFault;
+use devices::StoreFault;
+use inputs::TableFault;
+use manager::{CheckpointFault, OpenFault};
+use model::{CommitReply, WriteReply};
+use txn::WriteFault;
+use values::SchemaFault;
+
+pub(crate) const DONE: u32 = 0;
+
+pub(crate) const NO_MEMORY: u32 = 1;
+
+pub(crate) const CONFLICT: u32 = 2;
+
+pub(crate) const TOO_OLD: u32 = 3;
+
+pub(crate) const FULL: u32 = 4;
+
+pub(crate) const DUPLICATE: u32 = 5;
+
+pub(crate) const MISSING: u32 = 6;
+
+pub(crate) const SHAPE: u32 = 7;
+
+pub(crate) const BAD_TABLE: u32 = 8;
+
+pub(crate) const BAD_LIMIT: u32 = 9;
+
+pub(crate) const TOO_MANY_ROWS: u32 = 10;
+
+pub(crate) const TOO_SMALL: u32 = 11;
+
+pub(crate) const BAD_STORE: u32 = 12;
+
+pub(crate) const NO_IMAGE: u32 = 13;
+
+/// The code of cells that aren't there.
+pub(crate) fn code_of_cells(fault: CellFault) -> u32
+    ensures { (result ≡ SHAPE) ⊎ (result ≡ NO_MEMORY) }
+{
+    match fault {
+        CellFault::Shape => SHAPE,
+        CellFault::NoMemory => NO_MEMORY,
+    }
+}
+
+/// The code of a reply to a write.
+pub(crate) fn code_of_reply(reply: WriteReply) -> u32
+    ensures { result ≡ code_of_reply reply }
+{
+    match reply {
+        WriteReply::Done => DONE,
+        WriteReply::Duplicate => DUPLICATE,
+        WriteReply::Full => FULL,
+        WriteReply::Missing => MISSING,
+    }
+}
+
+/// The code of why a write has no reply.
+pub(crate) fn code_of_fault(fault: WriteFault) -> u32
+    ensures { (result ≡ SHAPE) ⊎ (result ≡ NO_MEMORY) }
+{
+    match fault {
+        WriteFault::Shape(_) => SHAPE,
+        WriteFault::NoMemory => NO_MEMORY,
+    }
+}
+
+/// The code of a commit's reply, and the number of the newest table.
+pub(crate) fn code_of_commit(reply: CommitReply) -> (u32, u64)
+    ensures { result ≡ told reply }
+{
+    match reply {
+        CommitReply::Committed(number) => (DONE, number),
+        CommitReply::Conflict(number) => (CONFLICT, number),
+        CommitReply::TooOld(number) => (TOO_OLD, number),
+        CommitReply::Full(number) => (FULL, number),
+    }
+}
+
+pub(crate) fn code_of_table(fault: TableFault) -> u32
+    ensures { 0 < result }
+{
+    match fault {
+        TableFault::NoMemory => NO_MEMORY,
+        TableFault::Schema(SchemaFault::NoMemory) => NO_MEMORY,
+        TableFault::TooManyRows => TOO_MANY_ROWS,
+        _ => BAD_TABLE,
+    }
+}
+
+pub(crate) fn code_of_opening(fault: OpenFault) -> u32
+    ensures { 0 < result }
+{
+    match fault {
+        OpenFault::BadLimit => BAD_LIMIT,
+        OpenFault::TooManyRows => TOO_MANY_ROWS,
+        OpenFault::NoMemory => NO_MEMORY,
+    }
+}
+
+pub(crate) fn code_of_reading(fault: ReadFault) -> u32
+    ensures { 0 < result }
+{
+    match fault {
+        ReadFault::NoMemory => NO_MEMORY,
+        ReadFault::NoImage => NO_IMAGE,
+        _ => BAD_STORE,
+    }
+}
+
+pub(crate) fn code_of_store(fault: StoreFault) -> u32
+    ensures { 0 < result }
+{
+    match fault {
+        // A device in memory fails only where memory is refused.
+        StoreFault::NoMemory | StoreFault::DeviceFailed(_) => NO_MEMORY,
+        _ => BAD_STORE,
+    }
+}
+
+pub(crate) fn code_of_checkpoint(fault: CheckpointFault) -> u32
+    ensures { 0 < result }
+{
+    match fault {
+        CheckpointFault::NoMemory | CheckpointFault::DeviceFailed(_) => NO_MEMORY,
+        _ => BAD_STORE,
+    }
+}

@@ -1,0 +1,65 @@
+//! C's handle of a manager.
+ghost use Rattle.std.specs.Prelude.{◌≡◌, IsSome, Some, None};
+ghost use Rattle.std.specs.declared.option.Option.{Option};
+ghost use Rattle.manager.specs.Managed.{Managed};
+
+use crate::held::Held;
+use manager::Manager;
+use std::alloc::Global;
+use std::marker::Model;
+use std::mem;
+
+/// Nothing, or a manager on the heap. C has it as a struct of one pointer, which is null before a call fills it.
+#[repr(C)]
+#[derive(Drop)]
+pub struct Store {
+    at: *mut u8,
+    alloc: Global,
+    ghost value: { Option Managed },
+}
+
+impl Model for Store {
+    ghost use Rattle.pdt_c.specs.Held.{owns_at};
+    ghost use Rattle.manager.specs.contracts.manager.Manager.{the_row};
+    ghost use Rattle.std.specs.contracts.impls.GlobalAllocator.TheImpl.{ghosts};
+
+    ghost also_owns = { λ h. owns_at (ghosts.dealloc_token h.alloc) the_row h.at h.value };
+}
+
+/// The handle that C keeps of what is held.
+fn handle_of(held: Held<Manager, Global>) -> Store
+    ensures { result.value ≡ held.value }
+{
+    let Held { at, alloc } = held;
+    Store {
+        at: at as *mut u8,
+        alloc,
+    }
+}
+
+/// What a handle holds.
+fn held_by(handle: Store) -> Held<Manager, Global>
+    ensures { result.value ≡ handle.value }
+{
+    let Store { at, alloc } = handle;
+    Held {
+        at: at as *mut Manager,
+        alloc,
+    }
+}
+
+/// Fills a handle. What it held before is lost.
+pub(crate) fn put(handle: &mut Store, value: Box<Manager>)
+    ensures { handle.new.value ≡ Some value.value }
+{
+    *handle = handle_of(Held::of(value));
+}
+
+/// Takes what a handle holds, and leaves nothing.
+pub(crate) fn take(alloc: Global, handle: &mut Store) -> Box<Manager>
+    requires { IsSome handle.old.value }
+    ensures value { handle.old.value ≡ Some result.value }
+    ensures empty { handle.new.value ≡ None }
+{
+    held_by(mem::replace(handle, handle_of(Held::none(alloc)))).into_box()
+}

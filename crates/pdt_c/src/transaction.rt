@@ -1,0 +1,87 @@
+//! C's handle of an open transaction.
+ghost use Rattle.std.specs.Prelude.{◌≡◌, IsSome, Some, None};
+ghost use Rattle.std.specs.declared.option.Option.{Option};
+ghost use Rattle.pdt_c.specs.declared.transaction.OpenTxn.{OpenTxn};
+
+use crate::held::Held;
+use std::alloc::Global;
+use std::marker::Model;
+use std::mem;
+use txn::Txn;
+
+/// An open transaction, which is let go by an abort.
+pub(crate) struct OpenTxn {
+    pub(crate) txn: Txn,
+}
+
+impl OpenTxn {
+    /// The transaction, for its commit.
+    pub(crate) fn into_txn(self) -> Txn
+        ensures { result ≡ self.txn }
+    {
+        let Self { txn } = self;
+        txn
+    }
+}
+
+impl Drop for OpenTxn {
+    fn drop(self) {
+        let Self { txn } = self;
+        txn.abort();
+    }
+}
+
+/// Nothing, or an open transaction on the heap. C has it as a struct of one pointer, which is null before a call fills it.
+#[repr(C)]
+#[derive(Drop)]
+pub struct Transaction {
+    at: *mut u8,
+    alloc: Global,
+    ghost value: { Option OpenTxn },
+}
+
+impl Model for Transaction {
+    ghost use Rattle.pdt_c.specs.Held.{owns_at};
+    ghost use Rattle.pdt_c.specs.contracts.transaction.OpenTxn.{the_row};
+    ghost use Rattle.std.specs.contracts.impls.GlobalAllocator.TheImpl.{ghosts};
+
+    ghost also_owns = { λ h. owns_at (ghosts.dealloc_token h.alloc) the_row h.at h.value };
+}
+
+/// The handle that C keeps of what is held.
+fn handle_of(held: Held<OpenTxn, Global>) -> Transaction
+    ensures { result.value ≡ held.value }
+{
+    let Held { at, alloc } = held;
+    Transaction {
+        at: at as *mut u8,
+        alloc,
+    }
+}
+
+/// What a handle holds.
+fn held_by(handle: Transaction) -> Held<OpenTxn, Global>
+    ensures { result.value ≡ handle.value }
+{
+    let Transaction { at, alloc } = handle;
+    Held {
+        at: at as *mut OpenTxn,
+        alloc,
+    }
+}
+
+/// Fills a handle. What it held before is lost.
+pub(crate) fn put(handle: &mut Transaction, value: Box<OpenTxn>)
+    ensures { handle.new.value ≡ Some value.value }
+{
+    *handle = handle_of(Held::of(value));
+}
+
+/// Takes what a handle holds, and leaves nothing.
+pub(crate) fn take(alloc: Global, handle: &mut Transaction) -> Box<OpenTxn>
+    requires { IsSome handle.old.value }
+    ensures value { handle.old.value ≡ Some result.value }
+    ensures empty { handle.new.value ≡ None }
+{
+    held_by(mem::replace(handle, handle_of(Held::none(alloc)))).into_box()
+}

@@ -1,0 +1,492 @@
+/* The layer between C and the exports of crates/pdt_c. Nothing there is checked against a C caller, so this file meets each
+   `requires`: a handle is never copied and goes to one call at a time, one that is asked to hold something holds it, one
+   that is filled holds nothing, and a commit gets the store that its transaction began over. */
+#define _POSIX_C_SOURCE 200809L
+#include "pdt.h"
+
+#include <errno.h>
+#include <fcntl.h>
+#include <pthread.h>
+#include <stdio.h>
+#include <stdlib.h>
+#include <string.h>
+#include <sys/stat.h>
+#include <unistd.h>
+
+/* ---- the exports: a handle is a struct of one pointer, a slice its pointer and its length */
+
+typedef struct {
+  void *at;
+} handle;
+
+typedef struct {
+  const uint8_t *at;
+  size_t len;
+} slice;
+
+extern uint32_t pdtr_open(const uint8_t *, size_t, size_t, uint64_t, bool, handle *);
+extern uint32_t pdtr_recover(const uint8_t *, size_t, const slice *, size_t, size_t, uint64_t, bool, uint32_t *, handle *);
+extern void pdtr_close(handle *);
+extern size_t pdtr_width(handle *);
+extern size_t pdtr_key_columns(handle *);
+extern uint32_t pdtr_type(handle *, size_t);
+extern size_t pdtr_name(handle *, size_t, uint8_t *, size_t);
+extern uint64_t pdtr_commits(handle *);
+extern size_t pdtr_write_entries(handle *);
+extern size_t pdtr_read_entries(handle *);
+extern uint32_t pdtr_fold(handle *);
+extern void pdtr_cut(handle *);
+extern uint32_t pdtr_checkpoint(handle *, handle *);
+extern size_t pdtr_image_len(handle *, size_t);
+extern size_t pdtr_image_read(handle *, size_t, size_t, uint8_t *, size_t);
+extern void pdtr_image_close(handle *);
+extern uint32_t pdtr_begin(handle *, uint32_t, handle *);
+extern void pdtr_abort(handle *);
+extern uint32_t pdtr_commit(handle *, handle *, uint64_t *);
+extern uint32_t pdtr_insert(handle *, const int64_t *, size_t, const uint8_t *, size_t);
+extern uint32_t pdtr_delete(handle *, const int64_t *, size_t, const uint8_t *, size_t);
+extern uint32_t pdtr_set(handle *, const int64_t *, size_t, const uint8_t *, size_t, size_t, int64_t, const uint8_t *, size_t);
+extern uint64_t pdtr_rows(handle *);
+extern uint32_t pdtr_rank(handle *, const int64_t *, size_t, const uint8_t *, size_t, uint64_t *, bool *);
+extern uint32_t pdtr_get(handle *, const int64_t *, size_t, const uint8_t *, size_t, int64_t *, size_t, uint8_t *, size_t, size_t *);
+extern uint32_t pdtr_row_at(handle *, uint64_t, int64_t *, size_t, uint8_t *, size_t, size_t *);
+extern size_t pdtr_cells(handle *, size_t, uint64_t, int64_t *, size_t, uint8_t *, size_t, size_t *);
+extern size_t pdtr_ints(handle *, size_t, uint64_t, int64_t *, size_t);
+extern size_t pdtr_pieces(handle *, size_t, uint64_t, uint64_t, pdt_piece *, size_t, uint64_t *);
+
+/* ---- the objects */
+
+struct pdt_store {
+  handle raw;
+  pthread_mutex_t lock; /* held in each call on raw but the opening and the closing */
+  size_t open;          /* how many transactions are open; under the lock */
+  size_t width, key;    /* the columns never change, and are read without the lock */
+  int types[PDT_MAX_COLUMNS];
+  char names[PDT_MAX_COLUMNS][PDT_MAX_NAME + 1];
+};
+
+struct pdt_txn {
+  handle raw;
+  pdt_store *store;
+};
+
+/* A slice of nothing still has an address that may be read. */
+static const uint8_t no_bytes[1];
+static uint8_t no_room[1];
+static int64_t no_numbers[1];
+static pdt_piece no_pieces[1];
+
+static const uint8_t *bytes_at(const void *bytes, size_t len) { return len ? bytes : no_bytes; }
+static uint8_t *room_at(void *room, size_t len) { return len ? room : no_room; }
+
+const char *pdt_text(int code) {
+  static const char *const texts[] = {
+      "done",
+      "memory was refused",
+      "a commit since the transaction began is in conflict with it",
+      "the transaction began before the commits that are kept",
+      "the table has as many rows as its limit",
+      "there is a row of the key",
+      "there is no such row",
+      "the cells don't fit the columns",
+      "the text is no table",
+      "a limit is outside its range",
+      "the table has more rows than the limit",
+      "the room is too small",
+      "the files of the store can't be read as one",
+      "the store has no whole image",
+      "the call may not be made so, or not now",
+      "a file failed",
+      "a file of a store is there already",
+  };
+  return code >= 0 && (size_t)code < sizeof texts / sizeof *texts ? texts[code] : "no such code";
+}
+
+/* ---- stores */
+
+static size_t recent_of(const pdt_options *options) { return options && options->recent ? options->recent : 65536; }
+static uint64_t limit_of(const pdt_options *options) { return options && options->row_limit ? options->row_limit : 2147483647; }
+static bool rule_of(const pdt_options *options) { return options && options->by_row; }
+
+/* Keeps the columns of a store whose handle has just been filled, and hands it out. */
+static int adopt(pdt_store *store, pdt_store **out) {
+  if (pthread_mutex_init(&store->lock, NULL)) {
+    pdtr_close(&store->raw);
+    free(store);
+    return PDT_NOMEM;
+  }
+  store->width = pdtr_width(&store->raw);
+  store->key = pdtr_key_columns(&store->raw);
+  for (size_t column = 0; column < store->width; column++) {
+    store->types[column] = (int)pdtr_type(&store->raw, column);
+    pdtr_name(&store->raw, column, (uint8_t *)store->names[column], PDT_MAX_NAME);
+  }
+  *out = store;
+  return PDT_OK;
+}
+
+int pdt_open(const void *csv, size_t bytes, const pdt_options *options, pdt_store **out) {
+  if (!out) return PDT_MISUSE;
+  *out = NULL;
+  if (!csv && bytes) return PDT_MISUSE;
+  pdt_store *store = calloc(1, sizeof *store);
+  if (!store) return PDT_NOMEM;
+  int code = (int)pdtr_open(bytes_at(csv, bytes), bytes, recent_of(options), limit_of(options), rule_of(options), &store->raw);
+  if (code) {
+    free(store);
+    return code;
+  }
+  return adopt(store, out);
+}
+
+int pdt_close(pdt_store *store) {
+  if (!store) return PDT_OK;
+  pthread_mutex_lock(&store->lock);
+  size_t open = store->open;
+  pthread_mutex_unlock(&store->lock);
+  if (open) return PDT_MISUSE;
+  pdtr_close(&store->raw);
+  pthread_mutex_destroy(&store->lock);
+  free(store);
+  return PDT_OK;
+}
+
+size_t pdt_columns(const pdt_store *store) { return store ? store->width : 0; }
+size_t pdt_key_columns(const pdt_store *store) { return store ? store->key : 0; }
+int pdt_column_type(const pdt_store *store, size_t column) { return store && column < store->width ? store->types[column] : 0; }
+const char *pdt_column_name(const pdt_store *store, size_t column) { return store && column < store->width ? store->names[column] : NULL; }
+
+int pdt_size(pdt_store *store, pdt_sizes *sizes) {
+  if (!store || !sizes) return PDT_MISUSE;
+  pthread_mutex_lock(&store->lock);
+  sizes->commits = pdtr_commits(&store->raw);
+  sizes->write_entries = pdtr_write_entries(&store->raw);
+  sizes->read_entries = pdtr_read_entries(&store->raw);
+  sizes->open_transactions = store->open;
+  pthread_mutex_unlock(&store->lock);
+  return PDT_OK;
+}
+
+int pdt_fold(pdt_store *store) {
+  if (!store) return PDT_MISUSE;
+  pthread_mutex_lock(&store->lock);
+  int code = (int)pdtr_fold(&store->raw);
+  pthread_mutex_unlock(&store->lock);
+  return code;
+}
+
+int pdt_cut(pdt_store *store) {
+  if (!store) return PDT_MISUSE;
+  pthread_mutex_lock(&store->lock);
+  pdtr_cut(&store->raw);
+  pthread_mutex_unlock(&store->lock);
+  return PDT_OK;
+}
+
+/* ---- transactions */
+
+int pdt_begin(pdt_store *store, uint32_t client, pdt_txn **out) {
+  if (!out) return PDT_MISUSE;
+  *out = NULL;
+  if (!store) return PDT_MISUSE;
+  pdt_txn *txn = calloc(1, sizeof *txn);
+  if (!txn) return PDT_NOMEM;
+  pthread_mutex_lock(&store->lock);
+  int code = (int)pdtr_begin(&store->raw, client, &txn->raw);
+  if (!code) store->open++;
+  pthread_mutex_unlock(&store->lock);
+  if (code) {
+    free(txn);
+    return code;
+  }
+  txn->store = store;
+  *out = txn;
+  return PDT_OK;
+}
+
+void pdt_abort(pdt_txn *txn) {
+  if (!txn) return;
+  pdt_store *store = txn->store;
+  pdtr_abort(&txn->raw);
+  free(txn);
+  pthread_mutex_lock(&store->lock);
+  store->open--;
+  pthread_mutex_unlock(&store->lock);
+}
+
+int pdt_commit(pdt_txn *txn, uint64_t *commits) {
+  if (!txn) return PDT_MISUSE;
+  pdt_store *store = txn->store;
+  uint64_t number = 0;
+  pthread_mutex_lock(&store->lock);
+  int code = (int)pdtr_commit(&store->raw, &txn->raw, &number);
+  if (code != PDT_NOMEM) store->open--;
+  pthread_mutex_unlock(&store->lock);
+  if (code == PDT_NOMEM) return code;
+  free(txn);
+  if (commits) *commits = number;
+  return code;
+}
+
+/* ---- writes */
+
+int pdt_insert(pdt_txn *txn, const int64_t *numbers, const void *texts, size_t bytes) {
+  if (!txn || !numbers || (!texts && bytes)) return PDT_MISUSE;
+  return (int)pdtr_insert(&txn->raw, numbers, txn->store->width, bytes_at(texts, bytes), bytes);
+}
+
+int pdt_delete(pdt_txn *txn, const int64_t *key, const void *texts, size_t bytes) {
+  if (!txn || !key || (!texts && bytes)) return PDT_MISUSE;
+  return (int)pdtr_delete(&txn->raw, key, txn->store->key, bytes_at(texts, bytes), bytes);
+}
+
+int pdt_set(pdt_txn *txn, const int64_t *key, const void *texts, size_t bytes, size_t column, int64_t number, const void *text) {
+  if (!txn || !key || (!texts && bytes)) return PDT_MISUSE;
+  size_t len = 0;
+  if (pdt_column_type(txn->store, column) == PDT_TEXT) {
+    if (number < 0 || number > PDT_MAX_TEXT) return PDT_SHAPE;
+    len = (size_t)number;
+  }
+  if (!text && len) return PDT_MISUSE;
+  return (int)pdtr_set(&txn->raw, key, txn->store->key, bytes_at(texts, bytes), bytes, column, number, bytes_at(text, len), len);
+}
+
+/* ---- reads */
+
+int pdt_rows(pdt_txn *txn, uint64_t *rows) {
+  if (!txn || !rows) return PDT_MISUSE;
+  *rows = pdtr_rows(&txn->raw);
+  return PDT_OK;
+}
+
+int pdt_rank(pdt_txn *txn, const int64_t *key, const void *texts, size_t bytes, uint64_t *below, bool *there) {
+  if (!txn || !key || (!texts && bytes) || !below || !there) return PDT_MISUSE;
+  *below = 0;
+  *there = false;
+  return (int)pdtr_rank(&txn->raw, key, txn->store->key, bytes_at(texts, bytes), bytes, below, there);
+}
+
+int pdt_get(pdt_txn *txn, const int64_t *key, const void *texts, size_t bytes, int64_t *numbers, void *out, size_t room,
+            size_t *needed) {
+  if (!txn || !key || (!texts && bytes) || !numbers || (!out && room)) return PDT_MISUSE;
+  size_t count = 0;
+  int code = (int)pdtr_get(&txn->raw, key, txn->store->key, bytes_at(texts, bytes), bytes, numbers, txn->store->width,
+                           room_at(out, room), room, &count);
+  if (needed) *needed = count;
+  return code;
+}
+
+int pdt_row_at(pdt_txn *txn, uint64_t position, int64_t *numbers, void *out, size_t room, size_t *needed) {
+  if (!txn || !numbers || (!out && room)) return PDT_MISUSE;
+  size_t count = 0;
+  int code = (int)pdtr_row_at(&txn->raw, position, numbers, txn->store->width, room_at(out, room), room, &count);
+  if (needed) *needed = count;
+  return code;
+}
+
+int pdt_cells(pdt_txn *txn, size_t column, uint64_t from, int64_t *numbers, size_t *count, void *out, size_t room,
+              size_t *bytes) {
+  if (!txn || !count || (!numbers && *count) || (!out && room)) return PDT_MISUSE;
+  size_t end = 0;
+  *count = pdtr_cells(&txn->raw, column, from, *count ? numbers : no_numbers, *count, room_at(out, room), room, &end);
+  if (bytes) *bytes = end;
+  return PDT_OK;
+}
+
+int pdt_ints(pdt_txn *txn, size_t column, uint64_t from, int64_t *numbers, size_t *count) {
+  if (!txn || !count || (!numbers && *count)) return PDT_MISUSE;
+  *count = pdtr_ints(&txn->raw, column, from, *count ? numbers : no_numbers, *count);
+  return PDT_OK;
+}
+
+int pdt_pieces(pdt_txn *txn, size_t column, uint64_t from, uint64_t to, pdt_piece *pieces, size_t *count, uint64_t *rows) {
+  if (!txn || !count || (!pieces && *count)) return PDT_MISUSE;
+  uint64_t in_them = 0;
+  *count = pdtr_pieces(&txn->raw, column, from, to, *count ? pieces : no_pieces, *count, &in_them);
+  if (rows) *rows = in_them;
+  return PDT_OK;
+}
+
+/* ---- files: a folder has header.csv and column-0.pdt, column-1.pdt and so on */
+
+enum { PATH_BYTES = 4096, CHUNK = 1 << 20 };
+
+/* The path of a file of a store: the header's where column is negative. */
+static int path_of(char *path, const char *folder, int column) {
+  int len = column < 0 ? snprintf(path, PATH_BYTES, "%s/header.csv", folder) : snprintf(path, PATH_BYTES, "%s/column-%d.pdt", folder, column);
+  return len >= 0 && len < PATH_BYTES ? PDT_OK : PDT_MISUSE;
+}
+
+static int write_all(int file, const uint8_t *bytes, size_t len) {
+  while (len) {
+    ssize_t done = write(file, bytes, len);
+    if (done < 0 && errno == EINTR) continue;
+    if (done <= 0) return PDT_IO;
+    bytes += done;
+    len -= (size_t)done;
+  }
+  return PDT_OK;
+}
+
+/* Closes a file whose bytes stand written, synced first. */
+static int end_file(int file, int code) {
+  if (!code && fsync(file)) code = PDT_IO;
+  if (close(file) && !code) code = PDT_IO;
+  return code;
+}
+
+static int make_file(const char *folder, int column) {
+  char path[PATH_BYTES];
+  if (path_of(path, folder, column)) return -PDT_MISUSE;
+  int file = open(path, O_WRONLY | O_CREAT | O_EXCL | O_CLOEXEC, 0666);
+  return file >= 0 ? file : errno == EEXIST ? -PDT_EXISTS : -PDT_IO;
+}
+
+/* The header's record, each name in quotes, since it may have commas, quotes and ends of lines. */
+static int write_header(const pdt_store *store, const char *folder) {
+  static const char *const words[] = {"", "int", "text", "bool"};
+  char text[PDT_MAX_COLUMNS * (2 * PDT_MAX_NAME + 16)];
+  size_t len = 0;
+  for (size_t column = 0; column < store->width; column++) {
+    if (column) text[len++] = ',';
+    text[len++] = '"';
+    for (const char *at = store->names[column]; *at; at++) {
+      if (*at == '"') text[len++] = '"';
+      text[len++] = *at;
+    }
+    len += (size_t)sprintf(text + len, ":%s%s\"", words[store->types[column]], column < store->key ? ":key" : "");
+  }
+  text[len++] = '\n';
+  int file = make_file(folder, -1);
+  return file < 0 ? -file : end_file(file, write_all(file, (const uint8_t *)text, len));
+}
+
+static int write_column(handle *image, const char *folder, size_t column, uint8_t *chunk) {
+  int file = make_file(folder, (int)column);
+  if (file < 0) return -file;
+  int code = PDT_OK;
+  size_t len = pdtr_image_len(image, column);
+  for (size_t at = 0; at < len && !code;) {
+    size_t count = pdtr_image_read(image, column, at, chunk, CHUNK);
+    code = write_all(file, chunk, count);
+    at += count;
+  }
+  return end_file(file, code);
+}
+
+/* Syncs the folder, so that the names of the files in it last. */
+static int sync_folder(const char *folder) {
+  int file = open(folder, O_RDONLY | O_CLOEXEC);
+  if (file < 0) return PDT_IO;
+  int bad = fsync(file);
+  return close(file) || bad ? PDT_IO : PDT_OK;
+}
+
+static int has_store(const pdt_store *store, const char *folder) {
+  char path[PATH_BYTES];
+  for (int column = -1; column < (int)store->width; column++) {
+    if (path_of(path, folder, column)) return PDT_MISUSE;
+    if (!access(path, F_OK)) return PDT_EXISTS;
+  }
+  return PDT_OK;
+}
+
+/* Takes away the files from the header's up to this column's, which this call made. */
+static void remove_files(const char *folder, int end) {
+  char path[PATH_BYTES];
+  for (int column = -1; column < end; column++)
+    if (!path_of(path, folder, column)) unlink(path);
+}
+
+int pdt_checkpoint(pdt_store *store, const char *folder) {
+  if (!store || !folder) return PDT_MISUSE;
+  int code = has_store(store, folder);
+  if (code) return code;
+  uint8_t *chunk = malloc(CHUNK);
+  if (!chunk) return PDT_NOMEM;
+  handle image = {NULL};
+  pthread_mutex_lock(&store->lock);
+  code = (int)pdtr_checkpoint(&store->raw, &image);
+  pthread_mutex_unlock(&store->lock);
+  if (!code) {
+    int made = -1; /* which file is made next: a file that was there is not ours to remove */
+    code = write_header(store, folder);
+    if (code != PDT_EXISTS) made = 0;
+    for (size_t column = 0; column < store->width && !code; column++) {
+      code = write_column(&image, folder, column, chunk);
+      if (code != PDT_EXISTS) made = (int)column + 1;
+    }
+    if (!code) code = sync_folder(folder);
+    if (code) remove_files(folder, made);
+    pdtr_image_close(&image);
+  }
+  free(chunk);
+  return code;
+}
+
+/* Reads a file whole into memory, which is the caller's to free. */
+static int read_file(const char *path, uint8_t **bytes, size_t *len) {
+  int file = open(path, O_RDONLY | O_CLOEXEC);
+  if (file < 0) return PDT_IO;
+  struct stat about;
+  int code = fstat(file, &about) ? PDT_IO : PDT_OK;
+  size_t room = code || about.st_size < 0 ? 0 : (size_t)about.st_size;
+  uint8_t *into = code ? NULL : malloc(room + 1);
+  if (!code && !into) code = PDT_NOMEM;
+  size_t count = 0;
+  while (!code && count < room) {
+    ssize_t done = read(file, into + count, room - count);
+    if (done < 0 && errno == EINTR) continue;
+    if (done < 0) code = PDT_IO;
+    if (done <= 0) break;
+    count += (size_t)done;
+  }
+  close(file);
+  if (code) {
+    free(into);
+    return code;
+  }
+  *bytes = into;
+  *len = count;
+  return PDT_OK;
+}
+
+/* How many columns the header of a store has: it is the text of a table with no rows. */
+static int width_of(const uint8_t *header, size_t len, size_t *width) {
+  handle table = {NULL};
+  int code = (int)pdtr_open(bytes_at(header, len), len, 1, 2147483647, false, &table);
+  if (code) return code;
+  *width = pdtr_width(&table);
+  pdtr_close(&table);
+  return PDT_OK;
+}
+
+int pdt_recover(const char *folder, const pdt_options *options, pdt_store **out) {
+  if (!out) return PDT_MISUSE;
+  *out = NULL;
+  if (!folder) return PDT_MISUSE;
+  char path[PATH_BYTES];
+  uint8_t *header = NULL, *bytes[PDT_MAX_COLUMNS] = {NULL};
+  slice columns[PDT_MAX_COLUMNS];
+  size_t header_len = 0, width = 0;
+  uint32_t generation = 0;
+  pdt_store *store = calloc(1, sizeof *store);
+  int code = store ? path_of(path, folder, -1) : PDT_NOMEM;
+  if (!code) code = read_file(path, &header, &header_len);
+  if (!code) code = width_of(header, header_len, &width);
+  for (size_t column = 0; column < width && !code; column++) {
+    code = path_of(path, folder, (int)column);
+    if (!code) code = read_file(path, &bytes[column], &columns[column].len);
+    columns[column].at = bytes[column];
+  }
+  if (!code)
+    code = (int)pdtr_recover(bytes_at(header, header_len), header_len, columns, width, recent_of(options), limit_of(options),
+                             rule_of(options), &generation, &store->raw);
+  free(header);
+  for (size_t column = 0; column < width; column++) free(bytes[column]);
+  if (code) {
+    free(store);
+    return code;
+  }
+  return adopt(store, out);
+}

@@ -1,0 +1,186 @@
+/* Narthexmace from C: an ordered table under snapshot isolation, which takes updates without touching its sorted columns.
+
+   Objects. A pdt_store is a table with its history; a pdt_txn is an open transaction over it. Both are made by a call,
+   known by their address, and let go by a call: pdt_close; pdt_commit or pdt_abort.
+
+   Threads. Calls on one pdt_store may come from several threads: each takes the store's lock. A pdt_txn is used by one
+   thread at a time; transactions of several threads read and write side by side and take no lock but to begin and to end.
+   No call is made in a signal handler.
+
+   Memory. Every call that can want memory answers PDT_NOMEM where malloc refuses it, and then the table, the transaction
+   and the history are as they were. No call aborts. What a call writes goes into room that the caller owns; only what
+   pdt_pieces hands out is the library's, and stays where it is until the next call on its transaction.
+
+   Errors. A call that can fail returns a code; PDT_OK is 0. PDT_MISUSE is told of what can be seen: a null pointer where
+   none may be, a store that is closed while transactions are open. What stands in a caller's room after a code other than
+   PDT_OK is unspecified.
+
+   Cells. A row or a key is passed as one number for each column and the bytes of its texts, one after the other, in the
+   order of the columns: a text's number is how many bytes it has, a truth's is 0 or 1. There are as many bytes as the
+   numbers say, and no more. A row has all columns, a key the first pdt_key_columns of them.
+
+   Nothing folds, cuts or checkpoints by itself: pdt_size says what has grown. */
+#ifndef PDT_H
+#define PDT_H
+
+#include <stdbool.h>
+#include <stddef.h>
+#include <stdint.h>
+
+#ifdef __cplusplus
+extern "C" {
+#endif
+
+/* What a call answers. */
+enum pdt_code {
+  PDT_OK = 0,
+  PDT_NOMEM = 1,          /* malloc refused memory; nothing changed */
+  PDT_CONFLICT = 2,       /* a commit since the transaction began changed what it changed; the transaction is over */
+  PDT_TOO_OLD = 3,        /* more commits since it began than are kept, or a cut; the transaction is over */
+  PDT_FULL = 4,           /* the table would have more rows than its limit */
+  PDT_DUPLICATE = 5,      /* there is a row of the key */
+  PDT_MISSING = 6,        /* there is no row of the key, or none at the position */
+  PDT_SHAPE = 7,          /* the cells don't fit the columns: their number, a type, UTF-8, a text above 4,096 bytes, a key
+                             column that would be set, bytes left over */
+  PDT_BAD_TABLE = 8,      /* the text is no table */
+  PDT_BAD_LIMIT = 9,      /* a limit is outside its range */
+  PDT_TOO_MANY_ROWS = 10, /* the table has more rows than the limit */
+  PDT_TOO_SMALL = 11,     /* the caller's room is too small */
+  PDT_BAD_STORE = 12,     /* a column's file can't be read as one */
+  PDT_NO_IMAGE = 13,      /* the files hold no whole image */
+  PDT_MISUSE = 14,        /* the call isn't one that may be made now, or a pointer is null */
+  PDT_IO = 15,            /* a file can't be made, written, synced or read; errno says why */
+  PDT_EXISTS = 16         /* a file of a store is there already */
+};
+
+/* A sentence for a code, in English; never null. */
+const char *pdt_text(int code);
+
+/* The type of a column. */
+enum pdt_type { PDT_INT = 1, PDT_TEXT = 2, PDT_BOOL = 3 };
+
+enum { PDT_MAX_COLUMNS = 32, PDT_MAX_NAME = 64, PDT_MAX_TEXT = 4096 };
+
+typedef struct pdt_store pdt_store;
+typedef struct pdt_txn pdt_txn;
+
+/* What a store is opened with. A null pointer, or zeros, stand for 65,536, 2,147,483,647 and conflicts by column. */
+typedef struct pdt_options {
+  size_t recent;      /* how many commits may come between a transaction's begin and its commit: 1 to 65,536 */
+  uint64_t row_limit; /* how many rows a table may have: 1 to 2,147,483,647 */
+  bool by_row;        /* whether changes of two columns of one row conflict */
+} pdt_options;
+
+/* ---- stores */
+
+/* Opens a store over the table of a CSV text, whose first record names the columns, as `id:int:key,name:text`.
+   PDT_BAD_TABLE, PDT_TOO_MANY_ROWS, PDT_BAD_LIMIT, PDT_NOMEM, PDT_MISUSE: *store is null then.
+   The text may go after the call. */
+int pdt_open(const void *csv, size_t bytes, const pdt_options *options, pdt_store **store);
+
+/* Opens a store over the image that pdt_checkpoint, or the program `pdt --store`, left in a folder.
+   PDT_IO, PDT_BAD_TABLE (the header), PDT_BAD_STORE, PDT_NO_IMAGE, and those of pdt_open: *store is null then.
+   The files are read whole, and not touched. */
+int pdt_recover(const char *folder, const pdt_options *options, pdt_store **store);
+
+/* Closes a store. PDT_MISUSE while one of its transactions is open: the store stays then. A null pointer is no error.
+   Called when no other thread uses the store any more. */
+int pdt_close(pdt_store *store);
+
+/* The columns: how many, how many of the first are the key, the type of one (0 where there is none), and its name (null
+   where there is none), which stays until the store is closed. They take no lock: columns never change. */
+size_t pdt_columns(const pdt_store *store);
+size_t pdt_key_columns(const pdt_store *store);
+int pdt_column_type(const pdt_store *store, size_t column);
+const char *pdt_column_name(const pdt_store *store, size_t column);
+
+/* What has grown: commits since the opening, entries that a fold moves, entries that a checkpoint moves. */
+typedef struct pdt_sizes {
+  uint64_t commits;
+  size_t write_entries;
+  size_t read_entries;
+  size_t open_transactions;
+} pdt_sizes;
+int pdt_size(pdt_store *store, pdt_sizes *sizes);
+
+/* Folds the Write-PDT into the Read-PDT: later commits are folded into a smaller tree. No table changes, and no open
+   transaction. PDT_NOMEM, PDT_MISUSE. Begins and commits wait for it. */
+int pdt_fold(pdt_store *store);
+
+/* Lets the history so far go, so that it takes no memory. A transaction that began before is PDT_TOO_OLD at its commit;
+   it reads on. PDT_MISUSE. */
+int pdt_cut(pdt_store *store);
+
+/* Writes the newest table into a folder that has no store, as header.csv and column-N.pdt, each synced, and the folder
+   after them; in memory it is the stable table then. PDT_EXISTS, PDT_IO, PDT_NOMEM, PDT_MISUSE: what was written is
+   removed. Once it answers PDT_OK the table is durable; begins and commits wait only while the bytes are made. */
+int pdt_checkpoint(pdt_store *store, const char *folder);
+
+/* ---- transactions */
+
+/* Begins a transaction of a client over the newest table; the number of the client goes into the history, and says nothing
+   else. PDT_NOMEM, PDT_MISUSE: *txn is null then. In constant time. */
+int pdt_begin(pdt_store *store, uint32_t client, pdt_txn **txn);
+
+/* Ends a transaction and leaves no record of it. A null pointer is no error. */
+void pdt_abort(pdt_txn *txn);
+
+/* Commits a transaction: PDT_OK, PDT_CONFLICT, PDT_TOO_OLD or PDT_FULL, and it is over; *commits, if not null, is the
+   number of the newest table then. PDT_NOMEM: it stays open as it was, and may commit again. PDT_MISUSE. */
+int pdt_commit(pdt_txn *txn, uint64_t *commits);
+
+/* ---- writes: each is answered at once, and seen by the transaction's own reads */
+
+/* PDT_OK, PDT_DUPLICATE, PDT_FULL, PDT_SHAPE, PDT_NOMEM, PDT_MISUSE. */
+int pdt_insert(pdt_txn *txn, const int64_t *numbers, const void *texts, size_t bytes);
+
+/* PDT_OK, PDT_MISSING, PDT_SHAPE, PDT_NOMEM, PDT_MISUSE. */
+int pdt_delete(pdt_txn *txn, const int64_t *key, const void *texts, size_t bytes);
+
+/* Sets one cell, which is no key column's: its number, and a text's bytes. PDT_OK, PDT_MISSING, PDT_SHAPE, PDT_NOMEM,
+   PDT_MISUSE. */
+int pdt_set(pdt_txn *txn, const int64_t *key, const void *texts, size_t bytes, size_t column, int64_t number,
+            const void *text);
+
+/* ---- reads: of the table as it was when the transaction began, with its own writes; positions count from 0 */
+
+/* How many rows there are. PDT_MISUSE. */
+int pdt_rows(pdt_txn *txn, uint64_t *rows);
+
+/* How many rows stand below a key, and whether there is a row of it: a range of keys is the positions between two ranks.
+   PDT_SHAPE, PDT_NOMEM, PDT_MISUSE. In logarithmic time. */
+int pdt_rank(pdt_txn *txn, const int64_t *key, const void *texts, size_t bytes, uint64_t *below, bool *there);
+
+/* The row of a key, and the row at a position: a number for each column into numbers, the texts into room bytes at out,
+   and *needed, if not null, how many bytes they have. PDT_MISSING, PDT_TOO_SMALL (*needed says what would do), PDT_MISUSE;
+   pdt_get also PDT_SHAPE and PDT_NOMEM. */
+int pdt_get(pdt_txn *txn, const int64_t *key, const void *texts, size_t bytes, int64_t *numbers, void *out, size_t room,
+            size_t *needed);
+int pdt_row_at(pdt_txn *txn, uint64_t position, int64_t *numbers, void *out, size_t room, size_t *needed);
+
+/* The cells of a column from a position on: up to *count numbers, and the texts into room bytes at out. *count says how
+   many cells came, and *bytes, if not null, how many bytes their texts have. It stops at the end, and before a text that
+   has no room. PDT_MISUSE. */
+int pdt_cells(pdt_txn *txn, size_t column, uint64_t from, int64_t *numbers, size_t *count, void *out, size_t room,
+              size_t *bytes);
+
+/* The numbers of an int column from a position on, copied: up to *count of them. *count says how many came: none of a
+   column of another type. PDT_MISUSE. */
+int pdt_ints(pdt_txn *txn, size_t column, uint64_t from, int64_t *numbers, size_t *count);
+
+/* Numbers that stand together: count of them from at on, or the one in number where at is null. */
+typedef struct pdt_piece {
+  const int64_t *at;
+  uint64_t count;
+  int64_t number;
+} pdt_piece;
+
+/* The numbers of an int column between two positions, where they lie: up to *count pieces. *count says how many came, and
+   *rows, if not null, how many rows they have. They may be read until the next call on the transaction. PDT_MISUSE. */
+int pdt_pieces(pdt_txn *txn, size_t column, uint64_t from, uint64_t to, pdt_piece *pieces, size_t *count,
+               uint64_t *rows);
+
+#ifdef __cplusplus
+}
+#endif
+#endif

@@ -1,0 +1,336 @@
+/* Each call once where it succeeds, and once for each code that it can refuse with. */
+#define _POSIX_C_SOURCE 200809L
+#include <pdt.h>
+#include <stdio.h>
+#include <stdlib.h>
+#include <string.h>
+#include <unistd.h>
+
+static int failures;
+static void is(const char *what, long long wanted, long long found) {
+  if (wanted == found) return;
+  failures++;
+  fprintf(stderr, "%s: wanted %lld, found %lld\n", what, wanted, found);
+}
+static void same(const char *what, const void *wanted, const void *found, size_t len) {
+  if (!memcmp(wanted, found, len)) return;
+  failures++;
+  fprintf(stderr, "%s: other bytes\n", what);
+}
+
+static const char csv[] = "id:int:key,name:text,ok:bool,qty:int\n30,Cid,true,3\n10,\"Ann, Jr\",false,1\n20,Bob,true,2\n";
+static const char many[] = "id:int:key,qty:int\n";
+
+static pdt_store *opened(const pdt_options *options) {
+  pdt_store *store = NULL;
+  is("open", PDT_OK, pdt_open(csv, sizeof csv - 1, options, &store));
+  return store;
+}
+static pdt_txn *begun(pdt_store *store) {
+  pdt_txn *txn = NULL;
+  is("begin", PDT_OK, pdt_begin(store, 7, &txn));
+  return txn;
+}
+static uint64_t rows_of(pdt_txn *txn) {
+  uint64_t rows = 0;
+  is("rows", PDT_OK, pdt_rows(txn, &rows));
+  return rows;
+}
+
+static void texts(void) {
+  for (int code = PDT_OK; code <= PDT_EXISTS; code++) is("a text", 1, strcmp(pdt_text(code), "no such code") != 0);
+  is("no such code", 0, strcmp(pdt_text(-1), "no such code"));
+  is("no such code", 0, strcmp(pdt_text(1000), "no such code"));
+}
+
+static void openings(void) {
+  pdt_store *store = (pdt_store *)&store;
+  pdt_options one = {1, 1, false}, bad = {65537, 0, false};
+  is("no table", PDT_BAD_TABLE, pdt_open("", 0, NULL, &store));
+  is("null after a refusal", 1, store == NULL);
+  is("a bad cell", PDT_BAD_TABLE, pdt_open("id:int:key\nx\n", 13, NULL, &store));
+  is("a repeated key", PDT_BAD_TABLE, pdt_open("id:int:key\n1\n1\n", 15, NULL, &store));
+  is("too many rows", PDT_TOO_MANY_ROWS, pdt_open("id:int:key\n1\n2\n", 15, &one, &store));
+  is("a bad limit", PDT_BAD_LIMIT, pdt_open(csv, sizeof csv - 1, &bad, &store));
+  is("no text", PDT_MISUSE, pdt_open(NULL, 1, NULL, &store));
+  is("nowhere to", PDT_MISUSE, pdt_open(csv, 1, NULL, NULL));
+  store = opened(NULL);
+  is("columns", 4, (long long)pdt_columns(store));
+  is("key columns", 1, (long long)pdt_key_columns(store));
+  is("type", PDT_INT, pdt_column_type(store, 0));
+  is("type", PDT_TEXT, pdt_column_type(store, 1));
+  is("type", PDT_BOOL, pdt_column_type(store, 2));
+  is("no type", 0, pdt_column_type(store, 4));
+  is("name", 0, strcmp(pdt_column_name(store, 3), "qty"));
+  is("no name", 1, pdt_column_name(store, 4) == NULL);
+  is("columns of null", 0, (long long)pdt_columns(NULL));
+  pdt_txn *txn = begun(store);
+  is("close too soon", PDT_MISUSE, pdt_close(store));
+  pdt_abort(txn);
+  pdt_abort(NULL);
+  is("close", PDT_OK, pdt_close(store));
+  is("close null", PDT_OK, pdt_close(NULL));
+}
+
+static void writes(void) {
+  pdt_store *store = opened(NULL);
+  pdt_txn *txn = begun(store);
+  int64_t row[] = {40, 3, 1, 4}, key = 20, none = 99;
+  is("insert", PDT_OK, pdt_insert(txn, row, "Dee", 3));
+  is("insert again", PDT_DUPLICATE, pdt_insert(txn, row, "Dee", 3));
+  row[0] = 50;
+  is("bytes left over", PDT_SHAPE, pdt_insert(txn, row, "Deed", 4));
+  is("bytes that lack", PDT_SHAPE, pdt_insert(txn, row, "De", 2));
+  is("no UTF-8", PDT_SHAPE, pdt_insert(txn, row, "\xff\xfe\xfd", 3));
+  row[1] = -1;
+  is("a negative length", PDT_SHAPE, pdt_insert(txn, row, "Dee", 3));
+  row[1] = INT64_MAX;
+  is("a great length", PDT_SHAPE, pdt_insert(txn, row, "Dee", 3));
+  row[1] = 3, row[2] = 2;
+  is("no truth", PDT_SHAPE, pdt_insert(txn, row, "Dee", 3));
+  row[2] = 1, row[1] = 4097;
+  char *text = calloc(1, 4097);
+  is("a long text", PDT_SHAPE, pdt_insert(txn, row, text, 4097));
+  row[1] = 4096;
+  memset(text, 'a', 4096);
+  is("the longest text", PDT_OK, pdt_insert(txn, row, text, 4096));
+  free(text);
+  is("rows", 5, (long long)rows_of(txn));
+  is("set", PDT_OK, pdt_set(txn, &key, NULL, 0, 3, 22, NULL));
+  is("set a text", PDT_OK, pdt_set(txn, &key, NULL, 0, 1, 5, "Robin"));
+  is("set no row", PDT_MISSING, pdt_set(txn, &none, NULL, 0, 3, 1, NULL));
+  is("set the key", PDT_SHAPE, pdt_set(txn, &key, NULL, 0, 0, 21, NULL));
+  is("set no column", PDT_SHAPE, pdt_set(txn, &key, NULL, 0, 4, 21, NULL));
+  is("set a negative text", PDT_SHAPE, pdt_set(txn, &key, NULL, 0, 1, -5, "Robin"));
+  is("set no text", PDT_MISUSE, pdt_set(txn, &key, NULL, 0, 1, 5, NULL));
+  is("delete", PDT_OK, pdt_delete(txn, &key, NULL, 0));
+  is("delete again", PDT_MISSING, pdt_delete(txn, &key, NULL, 0));
+  is("a key with bytes", PDT_SHAPE, pdt_delete(txn, &key, "x", 1));
+  is("insert of null", PDT_MISUSE, pdt_insert(txn, NULL, NULL, 0));
+  is("insert into null", PDT_MISUSE, pdt_insert(NULL, row, NULL, 0));
+  is("delete of null", PDT_MISUSE, pdt_delete(txn, NULL, NULL, 0));
+  pdt_abort(txn);
+  txn = begun(store);
+  is("an abort leaves nothing", 3, (long long)rows_of(txn));
+  pdt_abort(txn);
+  pdt_options few = {0, 3, false};
+  pdt_store *full = opened(&few);
+  txn = begun(full);
+  row[1] = 3;
+  is("full", PDT_FULL, pdt_insert(txn, row, "Dee", 3));
+  pdt_abort(txn);
+  pdt_close(full);
+  pdt_close(store);
+}
+
+static void commits(void) {
+  pdt_options one = {1, 0, false};
+  pdt_store *store = opened(&one);
+  pdt_txn *a = begun(store), *b = begun(store), *c = begun(store), *d = begun(store);
+  int64_t key = 10, other = 20;
+  uint64_t number = 77;
+  is("set", PDT_OK, pdt_set(a, &key, NULL, 0, 3, 5, NULL));
+  is("set", PDT_OK, pdt_set(b, &key, NULL, 0, 3, 6, NULL));
+  is("commit", PDT_OK, pdt_commit(a, &number));
+  is("number", 1, (long long)number);
+  is("conflict", PDT_CONFLICT, pdt_commit(b, &number));
+  is("number", 1, (long long)number);
+  is("set", PDT_OK, pdt_set(c, &other, NULL, 0, 3, 6, NULL));
+  is("another row", PDT_OK, pdt_commit(c, NULL));
+  is("too old", PDT_TOO_OLD, pdt_commit(d, &number));
+  is("number", 2, (long long)number);
+  is("commit null", PDT_MISUSE, pdt_commit(NULL, NULL));
+  is("begin in null", PDT_MISUSE, pdt_begin(NULL, 1, &a));
+  is("begin to nowhere", PDT_MISUSE, pdt_begin(store, 1, NULL));
+  pdt_sizes sizes;
+  is("size", PDT_OK, pdt_size(store, &sizes));
+  is("commits", 2, (long long)sizes.commits);
+  is("write entries", 2, (long long)sizes.write_entries);
+  is("fold", PDT_OK, pdt_fold(store));
+  is("size", PDT_OK, pdt_size(store, &sizes));
+  is("write entries", 0, (long long)sizes.write_entries);
+  is("read entries", 2, (long long)sizes.read_entries);
+  is("open", 0, (long long)sizes.open_transactions);
+  a = begun(store);
+  is("cut", PDT_OK, pdt_cut(store));
+  is("set", PDT_OK, pdt_set(a, &key, NULL, 0, 3, 5, NULL));
+  is("after a cut at its number", PDT_OK, pdt_commit(a, &number));
+  is("numbers go on", 3, (long long)number);
+  is("fold null", PDT_MISUSE, pdt_fold(NULL));
+  is("cut null", PDT_MISUSE, pdt_cut(NULL));
+  is("size null", PDT_MISUSE, pdt_size(store, NULL));
+  pdt_close(store);
+}
+
+static void reads(void) {
+  pdt_store *store = opened(NULL);
+  pdt_txn *txn = begun(store);
+  int64_t key = 10, none = 15, numbers[4], qty[8];
+  char out[64];
+  size_t needed = 0, count = 8, bytes = 0;
+  uint64_t below = 9, in_them = 0;
+  bool there = false;
+  pdt_piece pieces[8];
+  is("set", PDT_OK, pdt_set(txn, &none, NULL, 0, 3, 1, NULL) == PDT_MISSING ? PDT_OK : 1);
+  is("get", PDT_OK, pdt_get(txn, &key, NULL, 0, numbers, out, sizeof out, &needed));
+  int64_t ann[] = {10, 7, 0, 1};
+  same("its numbers", ann, numbers, sizeof ann);
+  is("its bytes", 7, (long long)needed);
+  same("its text", "Ann, Jr", out, 7);
+  is("exact room", PDT_OK, pdt_get(txn, &key, NULL, 0, numbers, out, 7, &needed));
+  is("small room", PDT_TOO_SMALL, pdt_get(txn, &key, NULL, 0, numbers, out, 6, &needed));
+  is("what would do", 7, (long long)needed);
+  is("no room", PDT_TOO_SMALL, pdt_get(txn, &key, NULL, 0, numbers, NULL, 0, &needed));
+  is("no row", PDT_MISSING, pdt_get(txn, &none, NULL, 0, numbers, out, sizeof out, &needed));
+  is("row at", PDT_OK, pdt_row_at(txn, 2, numbers, out, sizeof out, NULL));
+  int64_t cid[] = {30, 3, 1, 3};
+  same("its numbers", cid, numbers, sizeof cid);
+  same("its text", "Cid", out, 3);
+  is("past the end", PDT_MISSING, pdt_row_at(txn, 3, numbers, out, sizeof out, NULL));
+  is("far past the end", PDT_MISSING, pdt_row_at(txn, UINT64_MAX, numbers, out, sizeof out, NULL));
+  is("rank", PDT_OK, pdt_rank(txn, &none, NULL, 0, &below, &there));
+  is("below", 1, (long long)below);
+  is("there", 0, there);
+  is("rank", PDT_OK, pdt_rank(txn, &key, NULL, 0, &below, &there));
+  is("below", 0, (long long)below);
+  is("there", 1, there);
+  is("set", PDT_OK, pdt_set(txn, (int64_t[]){20}, NULL, 0, 3, 22, NULL));
+  is("ints", PDT_OK, pdt_ints(txn, 3, 0, qty, &count));
+  is("how many", 3, (long long)count);
+  int64_t all[] = {1, 22, 3};
+  same("which", all, qty, sizeof all);
+  count = 1;
+  is("ints from", PDT_OK, pdt_ints(txn, 3, 1, qty, &count));
+  is("how many", 1, (long long)count);
+  is("which", 22, (long long)qty[0]);
+  count = 8;
+  is("ints of a text column", PDT_OK, pdt_ints(txn, 1, 0, qty, &count));
+  is("none", 0, (long long)count);
+  count = 8;
+  is("ints of no column", PDT_OK, pdt_ints(txn, 9, 0, qty, &count));
+  is("none", 0, (long long)count);
+  count = 8;
+  is("cells", PDT_OK, pdt_cells(txn, 1, 0, qty, &count, out, sizeof out, &bytes));
+  is("how many", 3, (long long)count);
+  is("bytes", 13, (long long)bytes);
+  same("texts", "Ann, JrBobCid", out, 13);
+  int64_t lengths[] = {7, 3, 3};
+  same("lengths", lengths, qty, sizeof lengths);
+  count = 8;
+  is("cells in small room", PDT_OK, pdt_cells(txn, 1, 0, qty, &count, out, 9, &bytes));
+  is("how many", 1, (long long)count);
+  is("bytes", 7, (long long)bytes);
+  count = 2;
+  is("truths", PDT_OK, pdt_cells(txn, 2, 1, qty, &count, NULL, 0, NULL));
+  is("how many", 2, (long long)count);
+  is("true", 1, (long long)(qty[0] && qty[1]));
+  count = 8;
+  is("cells past the end", PDT_OK, pdt_cells(txn, 2, 4, qty, &count, NULL, 0, NULL));
+  is("none", 0, (long long)count);
+  count = 8;
+  is("pieces", PDT_OK, pdt_pieces(txn, 3, 0, UINT64_MAX, pieces, &count, &in_them));
+  is("how many", 3, (long long)count);
+  is("rows", 3, (long long)in_them);
+  is("a stable one", 1, (long long)*pieces[0].at);
+  is("a changed one", 22, (long long)(pieces[1].at ? 0 : pieces[1].number));
+  count = 0;
+  is("no pieces", PDT_OK, pdt_pieces(txn, 3, 0, 3, NULL, &count, NULL));
+  is("none", 0, (long long)count);
+  is("get null", PDT_MISUSE, pdt_get(txn, NULL, NULL, 0, numbers, out, sizeof out, NULL));
+  is("rank null", PDT_MISUSE, pdt_rank(txn, &key, NULL, 0, NULL, &there));
+  is("rows null", PDT_MISUSE, pdt_rows(txn, NULL));
+  is("cells null", PDT_MISUSE, pdt_cells(txn, 0, 0, NULL, NULL, NULL, 0, NULL));
+  is("ints null", PDT_MISUSE, pdt_ints(NULL, 0, 0, qty, &count));
+  pdt_abort(txn);
+  pdt_close(store);
+}
+
+static void stores(const char *room) {
+  char folder[512], other[600];
+  snprintf(folder, sizeof folder, "%s/one", room);
+  snprintf(other, sizeof other, "mkdir -p '%s'", folder);
+  is("mkdir", 0, system(other));
+  pdt_store *store = opened(NULL), *again = NULL;
+  pdt_txn *txn = begun(store);
+  is("delete", PDT_OK, pdt_delete(txn, (int64_t[]){20}, NULL, 0));
+  is("insert", PDT_OK, pdt_insert(txn, (int64_t[]){25, 2, 0, -4}, "\xc3\xa9", 2));
+  is("commit", PDT_OK, pdt_commit(txn, NULL));
+  is("nothing there", PDT_IO, pdt_recover(folder, NULL, &again));
+  is("checkpoint", PDT_OK, pdt_checkpoint(store, folder));
+  is("a second one", PDT_EXISTS, pdt_checkpoint(store, folder));
+  is("no folder", PDT_IO, pdt_checkpoint(store, "/nowhere/at/all"));
+  is("checkpoint null", PDT_MISUSE, pdt_checkpoint(store, NULL));
+  is("recover", PDT_OK, pdt_recover(folder, NULL, &again));
+  txn = begun(again);
+  int64_t ids[4], numbers[4];
+  char out[16];
+  size_t count = 4, needed = 0;
+  is("ids", PDT_OK, pdt_ints(txn, 0, 0, ids, &count));
+  is("how many", 3, (long long)count);
+  int64_t wanted[] = {10, 25, 30};
+  same("which", wanted, ids, sizeof wanted);
+  is("row", PDT_OK, pdt_row_at(txn, 1, numbers, out, sizeof out, &needed));
+  int64_t row[] = {25, 2, 0, -4};
+  same("its numbers", row, numbers, sizeof row);
+  same("its text", "\xc3\xa9", out, 2);
+  pdt_abort(txn);
+  pdt_close(again);
+  snprintf(other, sizeof other, "%s/column-1.pdt", folder);
+  FILE *file = fopen(other, "r+b");
+  if (file) fseek(file, 9, SEEK_SET), fputc('?', file), fclose(file);
+  is("a damaged column", PDT_BAD_STORE, pdt_recover(folder, NULL, &again));
+  is("truncate", 0, truncate(other, 0));
+  int code = pdt_recover(folder, NULL, &again);
+  is("an empty column", 1, code == PDT_NO_IMAGE || code == PDT_BAD_STORE);
+  is("recover null", PDT_MISUSE, pdt_recover(NULL, NULL, &again));
+  pdt_close(store);
+}
+
+/* Rows over several blocks, with one in a hundred changed: copies and pieces say the same. */
+static void scans(void) {
+  enum { ROWS = 5000 };
+  size_t room = ROWS * 24 + 64, len = 0;
+  char *text = malloc(room);
+  len += (size_t)sprintf(text, "%s", many);
+  for (int i = 0; i < ROWS; i++) len += (size_t)sprintf(text + len, "%d,%d\n", 2 * i, i);
+  pdt_store *store = NULL;
+  is("open", PDT_OK, pdt_open(text, len, NULL, &store));
+  free(text);
+  pdt_txn *txn = begun(store);
+  for (int i = 0; i < ROWS; i += 100) {
+    is("set", PDT_OK, pdt_set(txn, (int64_t[]){2 * i}, NULL, 0, 1, -i, NULL));
+    is("insert", PDT_OK, pdt_insert(txn, (int64_t[]){2 * i + 1, 7}, NULL, 0));
+  }
+  static int64_t qty[ROWS + 100], cells[ROWS + 100];
+  static pdt_piece pieces[ROWS];
+  size_t count = ROWS + 100, more = ROWS + 100, parts = ROWS, at = 0;
+  uint64_t rows = 0;
+  is("ints", PDT_OK, pdt_ints(txn, 1, 0, qty, &count));
+  is("cells", PDT_OK, pdt_cells(txn, 1, 0, cells, &more, NULL, 0, NULL));
+  is("pieces", PDT_OK, pdt_pieces(txn, 1, 0, UINT64_MAX, pieces, &parts, &rows));
+  is("ints", ROWS + 50, (long long)count);
+  is("cells", ROWS + 50, (long long)more);
+  is("rows", ROWS + 50, (long long)rows);
+  same("ints and cells", qty, cells, sizeof *qty * (ROWS + 50));
+  for (size_t i = 0; i < parts; i++)
+    for (uint64_t k = 0; k < pieces[i].count; k++, at++)
+      is("a piece", (long long)qty[at], (long long)(pieces[i].at ? pieces[i].at[k] : pieces[i].number));
+  is("all pieces", ROWS + 50, (long long)at);
+  for (int i = 0, j = 0; i < ROWS; i++, j++) {
+    is("a row", i % 100 ? i : -i, (long long)qty[j]);
+    if (i % 100 == 0) is("an inserted row", 7, (long long)qty[++j]);
+  }
+  pdt_abort(txn);
+  pdt_close(store);
+}
+
+int main(int argc, char **argv) {
+  texts();
+  openings();
+  writes();
+  commits();
+  reads();
+  scans();
+  if (argc > 1) stores(argv[1]);
+  return failures ? 1 : 0;
+}

@@ -1,0 +1,45 @@
+/* Eight threads add to the same ten rows, and try again at a conflict: the sum is that of all that was added. */
+#include <pdt.h>
+#include <pthread.h>
+#include <stdio.h>
+#include <string.h>
+
+enum { THREADS = 8, ADDS = 500, ROWS = 10 };
+static pdt_store *store;
+
+static void *adds(void *arg) {
+  uint32_t client = (uint32_t)(size_t)arg;
+  for (int i = 0; i < ADDS;) {
+    pdt_txn *txn;
+    int64_t key = (i * 7 + (int)client) % ROWS, row[2];
+    if (pdt_begin(store, client, &txn)) return "begin";
+    if (pdt_get(txn, &key, NULL, 0, row, NULL, 0, NULL)) return "get";
+    if (pdt_set(txn, &key, NULL, 0, 1, row[1] + 1, NULL)) return "set";
+    int code = pdt_commit(txn, NULL);
+    if (code == PDT_OK) i++;
+    else if (code != PDT_CONFLICT) return "commit";
+  }
+  return NULL;
+}
+
+int main(void) {
+  static const char csv[] = "id:int:key,sum:int\n0,0\n1,0\n2,0\n3,0\n4,0\n5,0\n6,0\n7,0\n8,0\n9,0\n";
+  pthread_t threads[THREADS];
+  if (pdt_open(csv, sizeof csv - 1, NULL, &store)) return 1;
+  for (size_t i = 0; i < THREADS; i++) if (pthread_create(&threads[i], NULL, adds, (void *)i)) return 1;
+  int failed = 0;
+  for (size_t i = 0; i < THREADS; i++) {
+    void *what = NULL;
+    pthread_join(threads[i], &what);
+    if (what) failed = fprintf(stderr, "%s failed\n", (char *)what);
+  }
+  pdt_txn *txn;
+  int64_t sums[ROWS], sum = 0;
+  size_t count = ROWS;
+  if (pdt_begin(store, 0, &txn) || pdt_ints(txn, 1, 0, sums, &count)) return 1;
+  for (size_t i = 0; i < count; i++) sum += sums[i];
+  pdt_abort(txn);
+  pdt_close(store);
+  if (failed || sum != THREADS * ADDS) return fprintf(stderr, "sum %lld\n", (long long)sum), 1;
+  return 0;
+}
