@@ -62,6 +62,7 @@ struct pdt_store {
   size_t open;          /* how many transactions are open; under the lock */
   size_t width, key;    /* the columns never change, and are read without the lock */
   int types[PDT_MAX_COLUMNS];
+  size_t name_bytes[PDT_MAX_COLUMNS]; /* a name may have a zero byte */
   char names[PDT_MAX_COLUMNS][PDT_MAX_NAME + 1];
 };
 
@@ -119,7 +120,7 @@ static int adopt(pdt_store *store, pdt_store **out) {
   store->key = pdtr_key_columns(&store->raw);
   for (size_t column = 0; column < store->width; column++) {
     store->types[column] = (int)pdtr_type(&store->raw, column);
-    pdtr_name(&store->raw, column, (uint8_t *)store->names[column], PDT_MAX_NAME);
+    store->name_bytes[column] = pdtr_name(&store->raw, column, (uint8_t *)store->names[column], PDT_MAX_NAME);
   }
   *out = store;
   return PDT_OK;
@@ -350,9 +351,9 @@ static int write_header(const pdt_store *store, const char *folder) {
   for (size_t column = 0; column < store->width; column++) {
     if (column) text[len++] = ',';
     text[len++] = '"';
-    for (const char *at = store->names[column]; *at; at++) {
-      if (*at == '"') text[len++] = '"';
-      text[len++] = *at;
+    for (size_t i = 0; i < store->name_bytes[column]; i++) {
+      if (store->names[column][i] == '"') text[len++] = '"';
+      text[len++] = store->names[column][i];
     }
     len += (size_t)sprintf(text + len, ":%s%s\"", words[store->types[column]], column < store->key ? ":key" : "");
   }
@@ -391,11 +392,13 @@ static int has_store(const pdt_store *store, const char *folder) {
   return PDT_OK;
 }
 
-/* Takes away the files from the header's up to this column's, which this call made. */
+/* Takes away the files from the header's up to this column's, which this call made. errno goes on saying why. */
 static void remove_files(const char *folder, int end) {
   char path[PATH_BYTES];
+  int why = errno;
   for (int column = -1; column < end; column++)
     if (!path_of(path, folder, column)) unlink(path);
+  errno = why;
 }
 
 int pdt_checkpoint(pdt_store *store, const char *folder) {

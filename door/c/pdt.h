@@ -9,7 +9,7 @@
 
    Memory. Every call that can want memory answers PDT_NOMEM where malloc refuses it, and then the table, the transaction
    and the history are as they were. No call aborts. What a call writes goes into room that the caller owns; only what
-   pdt_pieces hands out is the library's, and stays where it is until the next call on its transaction.
+   pdt_pieces hands out is the library's, and stays where it is until the next write on its transaction, or its end.
 
    Errors. A call that can fail returns a code; PDT_OK is 0. PDT_MISUSE is told of what can be seen: a null pointer where
    none may be, a store that is closed while transactions are open. What stands in a caller's room after a code other than
@@ -88,7 +88,8 @@ int pdt_recover(const char *folder, const pdt_options *options, pdt_store **stor
 int pdt_close(pdt_store *store);
 
 /* The columns: how many, how many of the first are the key, the type of one (0 where there is none), and its name (null
-   where there is none), which stays until the store is closed. They take no lock: columns never change. */
+   where there is none), which stays until the store is closed and ends at its first zero byte, if it has one. They take no
+   lock: columns never change. */
 size_t pdt_columns(const pdt_store *store);
 size_t pdt_key_columns(const pdt_store *store);
 int pdt_column_type(const pdt_store *store, size_t column);
@@ -176,7 +177,8 @@ typedef struct pdt_piece {
 } pdt_piece;
 
 /* The numbers of an int column between two positions, where they lie: up to *count pieces. *count says how many came, and
-   *rows, if not null, how many rows they have. They may be read until the next call on the transaction. PDT_MISUSE. */
+   *rows, if not null, how many rows they have. They lie in the stable table, which nobody writes: any thread may read
+   them until the next write on the transaction, or its end. PDT_MISUSE. */
 int pdt_pieces(pdt_txn *txn, size_t column, uint64_t from, uint64_t to, pdt_piece *pieces, size_t *count,
                uint64_t *rows);
 

@@ -1,5 +1,6 @@
 /* Each call once where it succeeds, and once for each code that it can refuse with. */
 #define _POSIX_C_SOURCE 200809L
+#include <errno.h>
 #include <pdt.h>
 #include <stdio.h>
 #include <stdlib.h>
@@ -286,6 +287,32 @@ static void stores(const char *room) {
   pdt_close(store);
 }
 
+/* A failed checkpoint says why, and not how the taking away of its files went: no file can be made in /sys. */
+static void causes(void) {
+  if (access("/sys/kernel", F_OK)) return;
+  pdt_store *store = opened(NULL);
+  is("a checkpoint in /sys", PDT_IO, pdt_checkpoint(store, "/sys"));
+  is("its cause", 1, errno == EACCES || errno == EROFS || errno == EPERM);
+  pdt_close(store);
+}
+
+/* Names with quotes, commas and zero bytes: two that differ behind a zero byte are two columns in a recovered store. */
+static void names(const char *room) {
+  static const char odd[] = "id:int:key,a\0b:int,a\0c:int,\"x,\"\"y\"\"\":text\n1,2,3,z\n";
+  char folder[512], other[600];
+  snprintf(folder, sizeof folder, "%s/names", room);
+  snprintf(other, sizeof other, "mkdir -p '%s'", folder);
+  is("mkdir", 0, system(other));
+  pdt_store *store = NULL, *again = NULL;
+  is("open", PDT_OK, pdt_open(odd, sizeof odd - 1, NULL, &store));
+  is("checkpoint", PDT_OK, pdt_checkpoint(store, folder));
+  is("recover", PDT_OK, pdt_recover(folder, NULL, &again));
+  is("columns", 4, (long long)pdt_columns(again));
+  if (again) is("name", 0, strcmp(pdt_column_name(again, 3), "x,\"y\""));
+  pdt_close(again);
+  pdt_close(store);
+}
+
 /* Rows over several blocks, with one in a hundred changed: copies and pieces say the same. */
 static void scans(void) {
   enum { ROWS = 5000 };
@@ -331,6 +358,7 @@ int main(int argc, char **argv) {
   commits();
   reads();
   scans();
-  if (argc > 1) stores(argv[1]);
+  causes();
+  if (argc > 1) stores(argv[1]), names(argv[1]);
   return failures ? 1 : 0;
 }

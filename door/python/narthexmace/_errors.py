@@ -1,0 +1,166 @@
+"""What a call raises where the library answers another code than PDT_OK."""
+from __future__ import annotations
+
+import ctypes
+import os
+from typing import Dict, Optional, Tuple, Type
+
+from ._library import library
+
+
+class Error(Exception):
+    """Something that the library refused. Each has the code of ``pdt.h``, and a sentence that says the cause."""
+
+    code = -1
+
+    def __init__(self, sentence: Optional[str] = None) -> None:
+        super().__init__(sentence or library.pdt_text(self.code).decode())
+
+    def __str__(self) -> str:
+        return str(self.args[0])
+
+
+class NoMemory(Error, MemoryError):
+    """Memory was refused. The table, the transaction and the history are as they were."""
+
+    code = 1
+
+
+class _CommitRefused(Error):
+    """A commit that was refused. The transaction is over, and left no trace: begin again, and do the work again."""
+
+    #: The number of the newest table.
+    commits: int = 0
+
+
+class Conflict(_CommitRefused):
+    """A commit since the transaction began changed what it changed. The transaction is over: begin again."""
+
+    code = 2
+
+
+class TooOld(_CommitRefused):
+    """More commits came since the transaction began than are kept, or the history was cut. The transaction is over."""
+
+    code = 3
+
+
+class Full(_CommitRefused):
+    """The table would have more rows than its limit. After a write the transaction goes on, after a commit not."""
+
+    code = 4
+
+
+class Duplicate(Error):
+    """There is a row of the key."""
+
+    code = 5
+
+
+class Missing(Error, LookupError):
+    """There is no row of the key."""
+
+    code = 6
+
+
+class Shape(Error, ValueError):
+    """The cells don't fit the columns: their number, a type, a text above 4,096 bytes, a key column to be set."""
+
+    code = 7
+
+
+class BadTable(Error, ValueError):
+    """The text is no table."""
+
+    code = 8
+
+
+class BadLimit(Error, ValueError):
+    """``recent`` or ``row_limit`` is outside its range."""
+
+    code = 9
+
+
+class TooManyRows(Error):
+    """The table has more rows than ``row_limit``."""
+
+    code = 10
+
+
+class TooSmall(Error):
+    """Room that was passed is too small. No call of this package should raise it."""
+
+    code = 11
+
+
+class BadStore(Error):
+    """A column's file can't be read as one."""
+
+    code = 12
+
+
+class NoImage(Error):
+    """The files of a folder hold no whole image."""
+
+    code = 13
+
+
+class Misuse(Error):
+    """The call may not be made now: the store is closed, the transaction over, or another thread in a call of it."""
+
+    code = 14
+
+
+class Lent(Misuse, BufferError):
+    """Numbers that ``Transaction.pieces`` lent are in use, by an array or a view over them. Let go of it first."""
+
+
+class FileFailed(Error):
+    """A file can't be made, written, synced or read: ``errno`` says why."""
+
+    code = 15
+
+    def __init__(self, sentence: Optional[str] = None, errno: int = 0) -> None:
+        super().__init__(sentence)
+        self.errno = errno
+
+
+class Exists(Error):
+    """A file of a store is in the folder already."""
+
+    code = 16
+
+
+_KINDS: Tuple[Type[Error], ...] = (
+    NoMemory,
+    Conflict,
+    TooOld,
+    Full,
+    Duplicate,
+    Missing,
+    Shape,
+    BadTable,
+    BadLimit,
+    TooManyRows,
+    TooSmall,
+    BadStore,
+    NoImage,
+    Misuse,
+    FileFailed,
+    Exists,
+)
+_BY_CODE: Dict[int, Type[Error]] = {kind.code: kind for kind in _KINDS}
+
+
+def error_of(code: int) -> Error:
+    """The exception of a code that is not PDT_OK."""
+    if code == FileFailed.code:
+        errno = ctypes.get_errno()
+        return FileFailed(f"{library.pdt_text(code).decode()}: {os.strerror(errno)}", errno)
+    return _BY_CODE[code]() if code in _BY_CODE else Error(library.pdt_text(code).decode())
+
+
+def check(code: int) -> None:
+    """Raises the exception of a code, where it is not PDT_OK."""
+    if code:
+        raise error_of(code)

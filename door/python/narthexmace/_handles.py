@@ -1,0 +1,162 @@
+"""The addresses of C's objects. A call gets one for as long as it goes on, and none once the object is let go."""
+from __future__ import annotations
+
+import threading
+import weakref
+from ctypes import byref, c_void_p
+from typing import Any, List, Optional, Tuple
+
+from ._errors import Lent, Misuse, check
+from ._library import library
+
+
+class StoreHandle:
+    """A store's address, which several threads may have at once. It is freed when nothing uses it any more.
+
+    ``with handle as at`` is a call on the store. C's own lock orders the calls; the lock here only counts those that go
+    on, so that the store isn't freed in one. It may be taken twice by one thread, since the interpreter may drop a
+    transaction at any point.
+    """
+
+    def __init__(self) -> None:
+        #: What an opening fills: whoever interrupts the opening then, it is let go with this.
+        self.room = c_void_p()
+        self._lock = threading.RLock()
+        self._calls = 0
+        self._ending = False
+
+    def __enter__(self) -> int:
+        with self._lock:
+            if self.room.value is None or self._ending:
+                raise Misuse("the store is closed")
+            self._calls += 1
+            return self.room.value
+
+    def __exit__(self, *_: object) -> None:
+        with self._lock:
+            self._calls -= 1
+        self.free_if_ending()
+
+    def close(self) -> None:
+        """Frees the store. Misuse while a transaction is open, or while another thread is in a call."""
+        with self._lock:
+            if self._calls:
+                raise Misuse("another thread is in a call of the store")
+            if not self._free():
+                raise Misuse("a transaction of the store is open")
+
+    def end(self) -> None:
+        """Takes no more calls, and frees the store now, or with the end of its last transaction."""
+        self._ending = True
+        self.free_if_ending()
+
+    def free_if_ending(self) -> None:
+        """Frees a store that takes no more calls, once none goes on and no transaction is open."""
+        if not self._ending:
+            return
+        with self._lock:
+            if not self._calls:
+                self._free()
+
+    def _free(self) -> bool:
+        """Frees the store, and says whether it is free: a transaction may be open."""
+        at, self.room = self.room, c_void_p()  # before the call: who interrupts it must not free the store again
+        if library.pdt_close(at) == Misuse.code:
+            self.room = at
+        return self.room.value is None
+
+    def __del__(self) -> None:
+        self.end()
+
+
+class _Address:
+    """The address of an open transaction, which is aborted when nobody keeps this any more."""
+
+    __slots__ = ("room", "store")
+
+    def __init__(self, store: StoreHandle) -> None:
+        self.room = c_void_p()
+        self.store = store
+
+    def __del__(self) -> None:
+        library.pdt_abort(self.room)  # null where the transaction has committed
+        self.store.free_if_ending()
+
+
+class TransactionHandle:
+    """A transaction's address, which one thread may have at a time.
+
+    ``with handle as at`` is a call on the transaction. It first takes back what the last call lent: each array over the
+    library's memory keeps the address, so that the memory stays for as long as someone can read it.
+    """
+
+    def __init__(self, store: StoreHandle, client: int) -> None:
+        """Begins a transaction of a client."""
+        address = _Address(store)
+        with store as at:
+            check(library.pdt_begin(at, client, byref(address.room)))
+        self._address: Optional[_Address] = address
+        self._lock = threading.Lock()
+        # the views that were lent, and the memory under each: neither is kept alive by this
+        self._lent: List[Tuple["weakref.ref[memoryview]", "weakref.ref[Any]"]] = []
+
+    @property
+    def is_open(self) -> bool:
+        return self._address is not None
+
+    def __enter__(self) -> int:
+        self._take_lock()
+        try:
+            if self._address is None or self._address.room.value is None:
+                raise Misuse("the transaction is over")
+            if self._lent and not self._take_back():
+                raise Lent("numbers that were lent are still in use: let go of the arrays over them, or copy them")
+            return self._address.room.value
+        except BaseException:
+            self._lock.release()
+            raise
+
+    def __exit__(self, *_: object) -> None:
+        self._lock.release()
+
+    def _take_lock(self) -> None:
+        if not self._lock.acquire(blocking=False):
+            raise Misuse("another thread is in a call of the transaction")
+
+    def lend(self, memory: Any) -> memoryview:
+        """A view of int64 over the library's memory, until the next call. Made within a call."""
+        memory.keeps = self._address
+        view = memoryview(memory).cast("B").cast("q")
+        self._lent.append((weakref.ref(view), weakref.ref(memory)))
+        return view
+
+    def _take_back(self) -> bool:
+        """Releases the views that were lent, and says whether nothing reads the memory, as a part of a view may."""
+        for view, _ in self._lent:
+            _release(view())
+        self._lent = [(view, memory) for view, memory in self._lent if memory() is not None]
+        return not self._lent
+
+    def committed(self) -> None:
+        """Notes that C has freed the transaction. Made within the call that did it."""
+        if self._address is not None:
+            self._address.room = c_void_p()
+        self._address = None
+
+    def abort(self) -> None:
+        """Ends the transaction: at once, or once nothing reads what it lent."""
+        self._take_lock()
+        try:
+            self._take_back()
+            self._address = None
+        finally:
+            self._lock.release()
+
+
+def _release(view: Optional[memoryview]) -> None:
+    """Releases a view that is still there and over which there is no array."""
+    if view is not None:
+        try:
+            view.release()
+        except BufferError:
+            pass

@@ -1,0 +1,98 @@
+"""The C library: where it is found, and what its calls take and return. ``door/c/pdt.h`` says what each call does."""
+from __future__ import annotations
+
+import ctypes
+import os
+from ctypes import c_bool, c_char_p, c_int, c_int64, c_size_t, c_uint32, c_uint64, c_void_p
+from pathlib import Path
+
+#: The environment variable that names another library than the one that was packed.
+PLACE = "NARTHEXMACE_LIBRARY"
+
+MAX_TEXT = 4096
+MAX_RECENT = 65_536
+MAX_ROWS = 2_147_483_647
+
+
+class Options(ctypes.Structure):
+    """pdt_options"""
+
+    _fields_ = [("recent", c_size_t), ("row_limit", c_uint64), ("by_row", c_bool)]
+
+
+class SizesOf(ctypes.Structure):
+    """pdt_sizes"""
+
+    _fields_ = [
+        ("commits", c_uint64),
+        ("write_entries", c_size_t),
+        ("read_entries", c_size_t),
+        ("open_transactions", c_size_t),
+    ]
+
+
+class Piece(ctypes.Structure):
+    """pdt_piece"""
+
+    _fields_ = [("at", c_void_p), ("count", c_uint64), ("number", c_int64)]
+
+
+# Each call's result, and its arguments. A pointer to what the call fills is a void pointer here, so that an array, a
+# part of one and a number by reference may all stand there.
+_CELLS = [c_void_p, c_char_p, c_size_t]  # numbers, texts, and how many bytes the texts have
+_CALLS = {
+    "text": (c_char_p, [c_int]),
+    "open": (c_int, [c_char_p, c_size_t, c_void_p, c_void_p]),
+    "recover": (c_int, [c_char_p, c_void_p, c_void_p]),
+    "close": (c_int, [c_void_p]),
+    "columns": (c_size_t, [c_void_p]),
+    "key_columns": (c_size_t, [c_void_p]),
+    "column_type": (c_int, [c_void_p, c_size_t]),
+    "column_name": (c_char_p, [c_void_p, c_size_t]),
+    "size": (c_int, [c_void_p, c_void_p]),
+    "fold": (c_int, [c_void_p]),
+    "cut": (c_int, [c_void_p]),
+    "checkpoint": (c_int, [c_void_p, c_char_p]),
+    "begin": (c_int, [c_void_p, c_uint32, c_void_p]),
+    "abort": (None, [c_void_p]),
+    "commit": (c_int, [c_void_p, c_void_p]),
+    "insert": (c_int, [c_void_p, *_CELLS]),
+    "delete": (c_int, [c_void_p, *_CELLS]),
+    "set": (c_int, [c_void_p, *_CELLS, c_size_t, c_int64, c_char_p]),
+    "rows": (c_int, [c_void_p, c_void_p]),
+    "rank": (c_int, [c_void_p, *_CELLS, c_void_p, c_void_p]),
+    "get": (c_int, [c_void_p, *_CELLS, c_void_p, c_void_p, c_size_t, c_void_p]),
+    "row_at": (c_int, [c_void_p, c_uint64, c_void_p, c_void_p, c_size_t, c_void_p]),
+    "cells": (c_int, [c_void_p, c_size_t, c_uint64, c_void_p, c_void_p, c_void_p, c_size_t, c_void_p]),
+    "ints": (c_int, [c_void_p, c_size_t, c_uint64, c_void_p, c_void_p]),
+    "pieces": (c_int, [c_void_p, c_size_t, c_uint64, c_uint64, c_void_p, c_void_p, c_void_p]),
+}
+
+
+def _places() -> list[Path]:
+    """Where the library may lie: where the environment says; or else in the package, or where `make door` builds it."""
+    named = os.environ.get(PLACE)
+    if named:
+        return [Path(named)]
+    here = Path(__file__).resolve()
+    return [here.parent / "libpdt.so", here.parents[2] / "c/out/libpdt.so"]
+
+
+def _load() -> ctypes.CDLL:
+    for place in _places():
+        if place.is_file():
+            break
+    else:
+        raise ImportError(
+            f"libpdt.so isn't there: {' nor '.join(map(str, _places()))}. `make door` in the repository of Narthexmace "
+            "builds it, and `pip install ./door/python` packs it"
+        )
+    # The interpreter's lock is given up in each call, and errno is kept for this thread.
+    library = ctypes.CDLL(str(place), use_errno=True)
+    for name, (result, arguments) in _CALLS.items():
+        call = getattr(library, f"pdt_{name}")
+        call.restype, call.argtypes = result, arguments
+    return library
+
+
+library = _load()

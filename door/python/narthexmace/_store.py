@@ -1,0 +1,170 @@
+"""Stores: a table with its history, and what is done to it as a whole."""
+from __future__ import annotations
+
+import operator
+import os
+from ctypes import byref
+from types import TracebackType
+from typing import Mapping, NamedTuple, Optional, Tuple, Type, Union
+
+from ._cells import TYPES, Column, Shaping
+from ._errors import BadLimit, Misuse, check
+from ._handles import StoreHandle, TransactionHandle
+from ._library import MAX_RECENT, MAX_ROWS, Options, SizesOf, library
+from ._tables import KeyNames, Table, text_of_table
+from ._transaction import Transaction
+
+Folder = Union[str, bytes, "os.PathLike[str]"]
+
+
+class Sizes(NamedTuple):
+    """What has grown: the commits, the entries that ``fold`` moves, those that ``checkpoint`` moves, what is open."""
+
+    commits: int
+    write_entries: int
+    read_entries: int
+    open_transactions: int
+
+
+def open(
+    table: Table,
+    *,
+    key: Optional[KeyNames] = None,
+    types: Optional[Mapping[str, str]] = None,
+    recent: int = MAX_RECENT,
+    row_limit: int = MAX_ROWS,
+    conflicts: str = "column",
+) -> "Store":
+    """Opens a store over a table, which is a CSV text, the path of one, or columns.
+
+    A text is ``bytes``, or a ``str`` that has an end of a line; any other ``str`` is a path, as is a ``Path``. Its
+    first record names the columns, as ``id:int:key,name:text``. Columns are a mapping from names to lists or arrays;
+    ``key`` names those of the key, which come first then, and ``types`` may give the type of some: "int", "text" or
+    "bool".
+
+    ``recent`` is how many commits may come between a transaction's begin and its commit, ``row_limit`` how many rows a
+    table may have, and ``conflicts`` says whether changes of two columns of one row conflict: "row", or not: "column".
+
+    BadTable, Shape (the columns), TooManyRows, BadLimit, NoMemory; OSError where the file can't be read.
+    """
+    options = _options(recent, row_limit, conflicts)
+    text = text_of_table(table, key, types)
+    handle = StoreHandle()
+    check(library.pdt_open(text, len(text), byref(options), byref(handle.room)))
+    return Store(handle)
+
+
+def recover(
+    folder: Folder, *, recent: int = MAX_RECENT, row_limit: int = MAX_ROWS, conflicts: str = "column"
+) -> "Store":
+    """Opens a store over the image that ``Store.checkpoint`` left in a folder, whose files are read whole.
+
+    FileFailed, BadTable (the header), BadStore, NoImage, TooManyRows, BadLimit, NoMemory.
+    """
+    options = _options(recent, row_limit, conflicts)
+    handle = StoreHandle()
+    check(library.pdt_recover(_folder(folder), byref(options), byref(handle.room)))
+    return Store(handle)
+
+
+class Store:
+    """A table with its history. Several threads may use it at once; each transaction is for one thread.
+
+    With ``with`` it is closed at the end of the block. Nothing folds, cuts or checkpoints by itself: ``sizes`` says
+    what has grown.
+    """
+
+    __slots__ = ("_handle", "_shaping", "__weakref__")
+
+    def __init__(self, handle: StoreHandle) -> None:
+        self._handle = handle
+        with handle as at:
+            self._shaping = Shaping(_columns_at(at))
+
+    @property
+    def columns(self) -> Tuple[Column, ...]:
+        """The columns, those of the key first. They never change."""
+        return self._shaping.columns
+
+    def begin(self, client: int = 0) -> Transaction:
+        """Begins a transaction over the newest table. The number of the client goes into the history. NoMemory."""
+        number = operator.index(client)
+        if not 0 <= number < 2**32:
+            raise Misuse("a client is a number from 0 to 4,294,967,295")
+        return Transaction(TransactionHandle(self._handle, number), self._shaping)
+
+    def fold(self) -> None:
+        """Folds the Write-PDT into the Read-PDT, for later commits a smaller tree. No table changes. NoMemory."""
+        with self._handle as at:
+            check(library.pdt_fold(at))
+
+    def cut(self) -> None:
+        """Lets the history so far go. A transaction that began before reads on, and is TooOld at its commit."""
+        with self._handle as at:
+            check(library.pdt_cut(at))
+
+    def checkpoint(self, folder: Folder) -> None:
+        """Writes the newest table into a folder that has no store. When it returns, that table is durable.
+
+        Exists, FileFailed, NoMemory: what was written is removed.
+        """
+        with self._handle as at:
+            check(library.pdt_checkpoint(at, _folder(folder)))
+
+    def sizes(self) -> Sizes:
+        """What has grown."""
+        sizes = SizesOf()
+        with self._handle as at:
+            check(library.pdt_size(at, byref(sizes)))
+        return Sizes(sizes.commits, sizes.write_entries, sizes.read_entries, sizes.open_transactions)
+
+    def close(self) -> None:
+        """Closes the store. Misuse while a transaction is open, or another thread in a call: the store stays open then.
+
+        Closing again is no error.
+        """
+        self._handle.close()
+
+    def __enter__(self) -> "Store":
+        return self
+
+    def __exit__(
+        self, kind: Optional[Type[BaseException]], error: Optional[BaseException], trace: Optional[TracebackType]
+    ) -> None:
+        """Closes the store; at an exception it is closed with the last of its transactions, which may still be open."""
+        if kind is None:
+            self.close()
+        else:
+            self._handle.end()
+
+    def __repr__(self) -> str:
+        return f"<Store of {', '.join(self._shaping.names)}>"
+
+
+def _options(recent: int, row_limit: int, conflicts: str) -> Options:
+    if not 1 <= recent <= MAX_RECENT:
+        raise BadLimit(f"recent is {recent}, and not from 1 to {MAX_RECENT:,}")
+    if not 1 <= row_limit <= MAX_ROWS:
+        raise BadLimit(f"row_limit is {row_limit}, and not from 1 to {MAX_ROWS:,}")
+    if conflicts not in ("column", "row"):
+        raise BadLimit(f'conflicts is {conflicts!r}, and not "column" or "row"')
+    return Options(operator.index(recent), operator.index(row_limit), conflicts == "row")
+
+
+def _folder(folder: Folder) -> bytes:
+    path = os.fsencode(folder)
+    if b"\0" in path:
+        raise Misuse("a path has no null character")
+    return path
+
+
+def _columns_at(store: int) -> Tuple[Column, ...]:
+    key_columns = library.pdt_key_columns(store)
+    return tuple(
+        Column(
+            library.pdt_column_name(store, place).decode(),
+            TYPES[library.pdt_column_type(store, place)],
+            place < key_columns,
+        )
+        for place in range(library.pdt_columns(store))
+    )

@@ -1,0 +1,445 @@
+"""Each exception once, with its code and what stays; and that what is over or closed raises, and never crashes."""
+import ctypes
+import gc
+import os
+import pickle
+import subprocess
+import sys
+import tempfile
+import threading
+import unittest
+from pathlib import Path
+from typing import Any, Callable, Type
+from unittest import mock
+
+import narthexmace
+from narthexmace import _handles, _library, _transaction
+
+TABLE = "id:int:key,name:text,qty:int,new:bool\n10,Ann,7,true\n20,Bob,2,false\n"
+ROWS = [(10, "Ann", 7, True), (20, "Bob", 2, False)]
+
+
+def codes() -> dict:
+    """The codes of pdt.h, by name."""
+    lines = (Path(__file__).parents[2] / "c/pdt.h").read_text().splitlines()
+    parts = (line.split("=") for line in lines if line.startswith("  PDT_") and "=" in line)
+    return {name.strip(): int(value.split(",")[0].split("/")[0]) for name, value in parts}
+
+
+class Codes(unittest.TestCase):
+    def test_each_code_of_the_header_has_its_exception(self) -> None:
+        names = {
+            "PDT_NOMEM": "NoMemory", "PDT_CONFLICT": "Conflict", "PDT_TOO_OLD": "TooOld", "PDT_FULL": "Full",
+            "PDT_DUPLICATE": "Duplicate", "PDT_MISSING": "Missing", "PDT_SHAPE": "Shape", "PDT_BAD_TABLE": "BadTable",
+            "PDT_BAD_LIMIT": "BadLimit", "PDT_TOO_MANY_ROWS": "TooManyRows", "PDT_TOO_SMALL": "TooSmall",
+            "PDT_BAD_STORE": "BadStore", "PDT_NO_IMAGE": "NoImage", "PDT_MISUSE": "Misuse", "PDT_IO": "FileFailed",
+            "PDT_EXISTS": "Exists",
+        }  # fmt: skip
+        there = {name: code for name, code in codes().items() if code and name in names or name == "PDT_OK"}
+        self.assertEqual(set(there), {"PDT_OK", *names})
+        for name, kind in names.items():
+            fault = narthexmace._errors.error_of(there[name])
+            self.assertIs(type(fault), getattr(narthexmace, kind))
+            self.assertEqual(fault.code, there[name])
+            self.assertRegex(str(fault), r"\w+ \w+")
+            self.assertIsInstance(fault, narthexmace.Error)
+        self.assertEqual(type(narthexmace._errors.error_of(99)), narthexmace.Error)
+
+    def test_an_exception_goes_through_pickle(self) -> None:
+        again = pickle.loads(pickle.dumps(narthexmace.Missing()))
+        self.assertEqual((type(again), str(again)), (narthexmace.Missing, str(narthexmace.Missing())))
+
+
+class Case(unittest.TestCase):
+    """A store of two rows."""
+
+    def setUp(self) -> None:
+        self.store = narthexmace.open(TABLE)
+        self.addCleanup(self.store._handle.end)
+
+    def refused(self, kind: Type[Exception], call: Callable[..., Any], *arguments: Any, **words: Any) -> Exception:
+        with self.assertRaises(kind) as caught:
+            call(*arguments, **words)
+        self.assertIs(type(caught.exception), kind)
+        return caught.exception
+
+
+class Writes(Case):
+    def test_a_duplicate_a_missing_and_a_full_row(self) -> None:
+        with narthexmace.open(TABLE, row_limit=2) as store, store.begin() as txn:
+            self.refused(narthexmace.Duplicate, txn.insert, (10, "Amy", 1, True))
+            self.refused(narthexmace.Full, txn.insert, (30, "Cid", 1, True))
+            self.refused(narthexmace.Missing, txn.delete, 30)
+            self.refused(narthexmace.Missing, txn.set, 30, "qty", 1)
+            self.assertEqual(txn[:], ROWS)
+            with self.assertRaises(LookupError):
+                txn.delete(30)
+
+    def test_cells_that_do_not_fit(self) -> None:
+        with self.store.begin() as txn:
+            for row in [
+                (30, "Cid", 1),
+                (30, "Cid", 1, True, 5),
+                ("30", "Cid", 1, True),
+                (30, 5, 1, True),
+                (30, b"Cid", 1, True),
+                (30, "Cid", 1.0, True),
+                (30, "Cid", None, True),
+                (30, "Cid", True, True),
+                (30, "Cid", 1, 1),
+                (30, "Cid", 2**63, True),
+                (30, "Cid", -(2**63) - 1, True),
+                (30, "x" * 4097, 1, True),
+                (30, "\ud800", 1, True),
+                "row",
+                {"id": 30, "name": "Cid", "qty": 1},
+                {"id": 30, "name": "Cid", "qty": 1, "new": True, "old": True},
+            ]:
+                self.refused(narthexmace.Shape, txn.insert, row)
+            for key in ["10", 10.0, None, True, (10, 20), ()]:
+                self.refused(narthexmace.Shape, txn.get, key)
+                self.refused(narthexmace.Shape, txn.rank, key)
+                self.refused(narthexmace.Shape, txn.delete, key)
+            self.refused(narthexmace.Shape, txn.set, 10, "id", 11)
+            self.refused(narthexmace.Shape, txn.set, 10, "weight", 11)
+            self.refused(narthexmace.Shape, txn.set, 10, "qty", "many")
+            self.refused(narthexmace.Shape, txn.scan, ["weight"])
+            self.refused(narthexmace.Shape, txn.scan, "qty")
+            self.refused(narthexmace.Shape, txn.scan, ["qty"], start=-1)
+            self.refused(narthexmace.Shape, txn.scan, ["qty"], batch=0)
+            self.refused(narthexmace.Shape, txn.pieces, "name")
+            self.refused(IndexError, txn.__getitem__, 2)
+            self.refused(IndexError, txn.__getitem__, -3)
+            self.refused(IndexError, txn.__getitem__, 2**64)
+            self.assertEqual(list(txn), ROWS)
+
+    def test_c_refuses_what_python_would_let_through(self) -> None:
+        numbers, texts, count = self.store._shaping.row((30, "Cid", 1, True))
+        numbers[3] = 2
+        with self.store.begin() as txn, txn._handle as at:
+            self.assertEqual(_library.library.pdt_insert(at, numbers, texts, count), narthexmace.Shape.code)
+
+    def test_the_edges_of_cells(self) -> None:
+        row = (2**63 - 1, "é" * 2048, -(2**63), False)
+        with self.store.begin() as txn:
+            txn.insert(row)
+            txn.set(10, "name", "")
+            txn.set(20, "name", "\0,\"\n")
+            self.assertEqual((txn.get(2**63 - 1), txn.get(10)[1], txn.get(20)[1]), (row, "", "\0,\"\n"))
+        with self.store.begin() as txn:
+            self.assertEqual((txn[-1], txn.get(7), txn.get(7, "none")), (row, None, "none"))
+
+
+class Commits(Case):
+    def test_a_conflict_and_what_is_no_conflict(self) -> None:
+        for conflicts, kind in [("row", narthexmace.Conflict), ("column", None)]:
+            with narthexmace.open(TABLE, conflicts=conflicts) as store:
+                first, second = store.begin(1), store.begin(2)
+                first.set(10, "qty", 1)
+                second.set(10, "name", "Amy")
+                self.assertEqual(first.commit(), 1)
+                if kind:
+                    refused = self.refused(kind, second.commit)
+                    self.assertEqual(refused.commits, 1)  # type: ignore[attr-defined]
+                else:
+                    self.assertEqual(second.commit(), 2)
+                self.assertFalse(second.is_open)
+                self.refused(narthexmace.Misuse, second.commit)
+                with store.begin() as txn:
+                    self.assertEqual(txn.get(10), (10, "Ann" if kind else "Amy", 1, True))
+
+    def test_too_old_by_commits_and_by_a_cut(self) -> None:
+        with narthexmace.open(TABLE, recent=1) as store:
+            old = store.begin()
+            for number in range(2):
+                with store.begin() as txn:
+                    txn.set(10, "qty", number)
+            self.refused(narthexmace.TooOld, old.commit)
+            old = store.begin()
+            with store.begin() as txn:  # as many commits as may come
+                txn.set(10, "qty", 5)
+            store.cut()
+            self.assertEqual(old.get(10), (10, "Ann", 1, True))  # it reads on
+            self.refused(narthexmace.TooOld, old.commit)
+
+    def test_full_at_a_commit(self) -> None:
+        with narthexmace.open(TABLE, row_limit=3) as store:
+            one, other = store.begin(), store.begin()
+            one.insert((30, "Cid", 1, True))
+            other.insert((40, "Dee", 1, True))
+            one.commit()
+            self.assertEqual(self.refused(narthexmace.Full, other.commit).commits, 1)  # type: ignore[attr-defined]
+
+    def test_with_commits_and_aborts(self) -> None:
+        with self.store.begin() as txn:
+            txn.set(10, "qty", 1)
+        with self.assertRaises(ZeroDivisionError), self.store.begin() as txn:
+            txn.set(10, "qty", 2)
+            1 / 0
+        with self.store.begin() as txn:
+            txn.set(10, "qty", 3)
+            txn.abort()
+            txn.abort()
+        with self.store.begin() as txn:
+            self.assertEqual(txn.get(10)[2], 1)
+        self.assertEqual(self.store.sizes().open_transactions, 0)
+
+    def test_memory_that_is_refused_leaves_the_transaction_open(self) -> None:
+        txn = self.store.begin()
+        with mock.patch.object(_transaction.library, "pdt_commit", lambda *_: narthexmace.NoMemory.code):
+            self.refused(narthexmace.NoMemory, txn.commit)
+            self.assertTrue(txn.is_open)
+            with self.assertRaises(MemoryError), self.store.begin() as other:
+                other.delete(10)
+            self.assertFalse(other.is_open)
+        self.assertEqual((txn.commit(), self.store.sizes().open_transactions), (1, 0))
+
+
+    def test_an_interrupt_in_a_commit(self) -> None:
+        commit = _transaction.library.pdt_commit
+
+        def interrupted(*arguments: Any) -> int:
+            commit(*arguments)
+            raise KeyboardInterrupt
+
+        with mock.patch.object(_transaction.library, "pdt_commit", interrupted):
+            with self.assertRaises(KeyboardInterrupt), self.store.begin() as txn:
+                txn.set(10, "qty", 1)
+        self.assertFalse(txn.is_open)  # C has freed it, and nothing frees it again
+        self.assertEqual(self.store.sizes()[::3], (1, 0))
+
+    def test_an_interrupt_in_a_begin(self) -> None:
+        begin = _handles.library.pdt_begin
+
+        def interrupted(*arguments: Any) -> int:
+            begin(*arguments)
+            raise KeyboardInterrupt
+
+        with mock.patch.object(_handles.library, "pdt_begin", interrupted):
+            with self.assertRaises(KeyboardInterrupt):
+                self.store.begin()
+        self.assertEqual(self.store.sizes().open_transactions, 0)
+
+    def test_an_interrupt_in_a_close(self) -> None:
+        close = _handles.library.pdt_close
+
+        def interrupted(at: Any) -> int:
+            close(at)
+            raise KeyboardInterrupt
+
+        with mock.patch.object(_handles.library, "pdt_close", interrupted):
+            with self.assertRaises(KeyboardInterrupt):
+                self.store.close()
+        self.refused(narthexmace.Misuse, self.store.begin)
+        self.store.close()
+
+
+class Openings(Case):
+    def test_texts_that_are_no_table(self) -> None:
+        header = "id:int:key\n"
+        for text in ["id:int\n", header + "1,2\n", header + "x\n", header + "1\n1\n", b"", b"\xff", "\n", "\ud800\n"]:
+            self.refused(narthexmace.BadTable, narthexmace.open, text)
+
+    def test_limits(self) -> None:
+        for words in [{"recent": 0}, {"recent": 65_537}, {"row_limit": 0}, {"row_limit": 2**31}, {"conflicts": "cell"}]:
+            self.refused(narthexmace.BadLimit, narthexmace.open, TABLE, **words)
+        self.refused(narthexmace.TooManyRows, narthexmace.open, TABLE, row_limit=1)
+        self.refused(narthexmace.Misuse, self.store.begin, -1)
+        self.refused(narthexmace.Misuse, self.store.begin, 2**32)
+
+    def test_what_is_no_table_at_all(self) -> None:
+        self.refused(FileNotFoundError, narthexmace.open, "no such table.csv")
+        self.refused(TypeError, narthexmace.open, 5)
+        self.refused(TypeError, narthexmace.open, TABLE, key="id")
+
+    def test_columns_that_fit_no_table(self) -> None:
+        for columns, words in [
+            ({"id": [1, 2], "qty": [1]}, {"key": "id"}),
+            ({"id": [1, 2.5]}, {"key": "id"}),
+            ({"id": [1, "2"]}, {"key": "id"}),
+            ({"id": [1, True]}, {"key": "id"}),
+            ({"id": []}, {"key": "id"}),
+            ({"id": [2**63]}, {"key": "id"}),
+            ({"id": [1]}, {}),
+            ({"id": [1]}, {"key": "no"}),
+            ({"id": [1]}, {"key": ["id", "id"]}),
+            ({"id": [1]}, {"key": "id", "types": {"no": "int"}}),
+            ({"id": [1]}, {"key": "id", "types": {"id": "float"}}),
+            ({"id": [1]}, {"key": "id", "types": {"id": "text"}}),
+            ({"\ud800": [1]}, {"key": "\ud800"}),
+            ({"a\0b": [1]}, {"key": "a\0b"}),
+        ]:
+            self.refused(narthexmace.Shape, narthexmace.open, columns, **words)
+        for columns in [{"a:b": [1]}, {"": [1]}, {"x" * 65: [1]}, {"id": [1, 1]}]:
+            self.refused(narthexmace.BadTable, narthexmace.open, columns, key=list(columns))
+
+    def test_stores_that_cannot_be_recovered(self) -> None:
+        with tempfile.TemporaryDirectory() as folder:
+            fault = self.refused(narthexmace.FileFailed, narthexmace.recover, folder)
+            self.assertEqual(fault.errno, 2)  # type: ignore[attr-defined]
+            self.assertIn("No such file", str(fault))
+            self.refused(narthexmace.Misuse, narthexmace.recover, "a\0b")
+            self.store.checkpoint(folder)
+            self.refused(narthexmace.Exists, self.store.checkpoint, folder)
+            column = Path(folder, "column-2.pdt")
+            whole = column.read_bytes()
+            column.write_bytes(b"nonsense")
+            self.refused(narthexmace.BadStore, narthexmace.recover, folder)
+            column.write_bytes(whole[:5])
+            self.refused(narthexmace.NoImage, narthexmace.recover, folder)
+            column.write_bytes(whole)
+            self.refused(narthexmace.TooManyRows, narthexmace.recover, folder, row_limit=1)
+            Path(folder, "header.csv").write_text("id\n")
+            self.refused(narthexmace.BadTable, narthexmace.recover, folder)
+
+    def test_a_folder_that_is_not_there(self) -> None:
+        with tempfile.TemporaryDirectory() as folder:
+            self.refused(narthexmace.FileFailed, self.store.checkpoint, Path(folder, "no"))
+            self.assertEqual(os.listdir(folder), [])
+        with self.store.begin() as txn:
+            self.assertEqual(txn[:], ROWS)
+
+    def test_a_library_that_is_not_there_is_named(self) -> None:
+        words = {**os.environ, _library.PLACE: "/no/libpdt.so", "PYTHONPATH": str(Path(__file__).parents[1])}
+        told = subprocess.run([sys.executable, "-c", "import narthexmace"], env=words, capture_output=True, text=True)
+        self.assertEqual(told.returncode, 1)
+        self.assertIn("make door", told.stderr)
+        self.assertIn("/no/libpdt.so", told.stderr)
+
+
+class Ends(Case):
+    """What is over, closed, or in use by another thread."""
+
+    def calls(self, txn: narthexmace.Transaction) -> list:
+        return [
+            lambda: txn.insert((30, "Cid", 1, True)),
+            lambda: txn.delete(10),
+            lambda: txn.set(10, "qty", 1),
+            lambda: txn.get(10),
+            lambda: txn.rank(10),
+            lambda: len(txn),
+            lambda: txn[0],
+            lambda: txn[:],
+            lambda: list(txn),
+            lambda: txn.scan(),
+            lambda: txn.pieces("qty"),
+            lambda: txn.commit(),
+        ]
+
+    def test_a_transaction_that_is_over(self) -> None:
+        committed, aborted = self.store.begin(), self.store.begin()
+        committed.commit()
+        aborted.abort()
+        for txn in (committed, aborted):
+            for call in self.calls(txn):
+                self.refused(narthexmace.Misuse, call)
+            txn.abort()
+
+    def test_a_store_that_is_closed(self) -> None:
+        txn = self.store.begin()
+        self.refused(narthexmace.Misuse, self.store.close)
+        self.assertEqual(len(txn), 2)  # all goes on
+        txn.abort()
+        self.store.close()
+        self.store.close()
+        for call in (self.store.begin, self.store.fold, self.store.cut, self.store.sizes):
+            self.refused(narthexmace.Misuse, call)
+        self.refused(narthexmace.Misuse, self.store.checkpoint, "/")
+        self.assertEqual(self.store.columns[0], narthexmace.Column("id", "int", True))
+
+    def test_an_exception_closes_a_store_with_its_last_transaction(self) -> None:
+        closed = []
+        close = _handles.library.pdt_close
+        with mock.patch.object(_handles.library, "pdt_close", lambda at: closed.append(close(at)) or closed[-1]):
+            with self.assertRaises(ZeroDivisionError), narthexmace.open(TABLE) as store:
+                txn = store.begin()
+                1 / 0
+            self.refused(narthexmace.Misuse, store.begin)
+            self.assertEqual(txn.get(20), ROWS[1])
+            txn.abort()
+        self.assertEqual((closed[0], closed[-1], closed.count(0)), (narthexmace.Misuse.code, 0, 1))
+
+    def test_what_is_dropped_is_let_go(self) -> None:
+        txn = self.store.begin()
+        txn.set(10, "qty", 1)
+        del txn
+        gc.collect()
+        self.assertEqual(self.store.sizes().open_transactions, 0)
+        closed = []
+        close = _handles.library.pdt_close
+        with mock.patch.object(_handles.library, "pdt_close", lambda at: closed.append(close(at)) or closed[-1]):
+            store = narthexmace.open(TABLE)
+            ring: list = [store, store.begin()]
+            ring.append(ring)
+            del store, ring
+            gc.collect()
+        self.assertEqual(closed[-1], 0)
+
+    def test_a_scan_ends_where_its_transaction_writes(self) -> None:
+        with self.store.begin() as txn:
+            batches = txn.scan(batch=1)
+            next(batches)
+            txn.delete(10)
+            self.refused(narthexmace.Misuse, next, batches)
+            rows = iter(txn)
+            self.assertEqual(next(rows), ROWS[1])
+
+    def test_two_threads_in_one_transaction(self) -> None:
+        txn = self.store.begin()
+        entered, leave, told = threading.Event(), threading.Event(), []
+
+        def slow(*_: Any) -> int:
+            entered.set()
+            leave.wait(30)
+            return 0
+
+        with mock.patch.object(_transaction.library, "pdt_delete", slow):
+            thread = threading.Thread(target=lambda: told.append(txn.delete(10)))
+            thread.start()
+            self.assertTrue(entered.wait(30))
+            for call in [*self.calls(txn), txn.abort]:
+                self.refused(narthexmace.Misuse, call)
+            leave.set()
+            thread.join()
+        self.assertEqual((told, len(txn)), ([None], 2))
+        txn.abort()
+
+    def under_a_call(self, check: Callable[[], None]) -> None:
+        """Makes a check while another thread is in a call of the store."""
+        entered, leave = threading.Event(), threading.Event()
+
+        def slow(*_: Any) -> int:
+            entered.set()
+            leave.wait(30)
+            return 0
+
+        with mock.patch.object(_handles.library, "pdt_fold", slow):
+            thread = threading.Thread(target=self.store.fold)
+            thread.start()
+            self.assertTrue(entered.wait(30))
+            try:
+                check()
+            finally:
+                leave.set()
+                thread.join()
+
+    def test_a_store_is_not_closed_under_a_call(self) -> None:
+        self.under_a_call(lambda: self.refused(narthexmace.Misuse, self.store.close) and None)
+        self.store.close()
+
+    def test_an_exception_closes_a_store_after_the_calls_that_go_on(self) -> None:
+        closed: list = []
+        close = _handles.library.pdt_close
+
+        def leave_by_an_exception() -> None:
+            with self.assertRaises(ZeroDivisionError), self.store:
+                1 / 0
+            self.assertEqual(closed, [])
+
+        with mock.patch.object(_handles.library, "pdt_close", lambda at: closed.append(close(at)) or closed[-1]):
+            self.under_a_call(leave_by_an_exception)
+        self.assertEqual(closed, [0])
+
+
+if __name__ == "__main__":
+    unittest.main()

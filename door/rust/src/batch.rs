@@ -1,0 +1,313 @@
+//! Cells column by column.
+use crate::cells::filled;
+use crate::error::done;
+use crate::store::ColumnType;
+use crate::{Error, Transaction, ffi};
+use std::iter::FusedIterator;
+use std::slice;
+
+/// How many pieces the library is asked for at a time.
+const PIECES: usize = 128;
+
+/// The cells of chosen columns between two positions.
+///
+/// Numbers are lent where they lie, as long as the transaction is borrowed: no write, commit or abort of it compiles
+/// while a batch is there. Texts and truths are copied.
+///
+/// ```
+/// use narthexmace::{Error, Options, Store};
+/// let store = Store::open("id:int:key,name:text,qty:int\n10,Ann,7\n20,Bob,2\n", &Options::default())?;
+/// let txn = store.begin(1)?;
+/// let batch = txn.batch(&[2, 1], ..)?;
+/// assert_eq!(vec![7, 2], batch.ints(0).unwrap().iter().collect::<Vec<i64>>());
+/// assert_eq!(vec!["Ann", "Bob"], batch.texts(1).unwrap().iter().collect::<Vec<&str>>());
+/// # Ok::<(), Error>(())
+/// ```
+#[derive(Clone, Debug)]
+pub struct Batch<'t> {
+    first: u64,
+    rows: usize,
+    columns: Vec<Values<'t>>,
+}
+
+/// The cells of one column of a batch.
+#[derive(Clone, Debug)]
+#[non_exhaustive]
+pub enum Values<'t> {
+    /// Of a column of numbers.
+    Ints(Ints<'t>),
+    /// Of a column of texts.
+    Texts(Texts),
+    /// Of a column of truths.
+    Bools(Vec<bool>),
+}
+
+impl<'t> Batch<'t> {
+    /// The position of its first row.
+    pub fn first(&self) -> u64 {
+        self.first
+    }
+
+    /// How many rows it has.
+    pub fn rows(&self) -> usize {
+        self.rows
+    }
+
+    /// The cells of each chosen column, in the order in which they were chosen.
+    pub fn columns(&self) -> &[Values<'t>] {
+        &self.columns
+    }
+
+    /// The numbers of the chosen column of this index, where it is one of numbers.
+    pub fn ints(&self, chosen: usize) -> Option<&Ints<'t>> {
+        match self.columns.get(chosen) {
+            Some(Values::Ints(ints)) => Some(ints),
+            _ => None,
+        }
+    }
+
+    /// The texts of the chosen column of this index, where it is one of texts.
+    pub fn texts(&self, chosen: usize) -> Option<&Texts> {
+        match self.columns.get(chosen) {
+            Some(Values::Texts(texts)) => Some(texts),
+            _ => None,
+        }
+    }
+
+    /// The truths of the chosen column of this index, where it is one of truths.
+    pub fn bools(&self, chosen: usize) -> Option<&[bool]> {
+        match self.columns.get(chosen) {
+            Some(Values::Bools(truths)) => Some(truths),
+            _ => None,
+        }
+    }
+
+    /// The cells of the columns from one position of the table up to another.
+    pub(crate) fn read(txn: &'t Transaction<'_>, chosen: &[usize], from: u64, to: u64) -> Result<Batch<'t>, Error> {
+        let rows = usize::try_from(to - from).map_err(|_| Error::NoMemory)?;
+        let mut columns = Vec::new();
+        columns.try_reserve_exact(chosen.len())?;
+        for column in chosen {
+            let values = match txn.store().columns().get(*column).ok_or(Error::Shape)?.column_type {
+                ColumnType::Int => Values::Ints(Ints::read(txn, *column, from, to)?),
+                ColumnType::Text => Values::Texts(Texts::read(txn, *column, from, rows)?),
+                ColumnType::Bool => Values::Bools(read_truths(txn, *column, from, rows)?),
+            };
+            columns.push(values);
+        }
+        Ok(Batch { first: from, rows, columns })
+    }
+}
+
+/// Numbers that stand together in a column.
+#[derive(Clone, Copy, Debug)]
+pub enum Piece<'t> {
+    /// Numbers of the stable table, where they lie.
+    Stable(&'t [i64]),
+    /// The number of a row that was inserted or changed.
+    Changed(i64),
+}
+
+impl Piece<'_> {
+    /// The numbers: one, or as many as lie together.
+    pub fn as_slice(&self) -> &[i64] {
+        match self {
+            Piece::Stable(numbers) => numbers,
+            Piece::Changed(number) => slice::from_ref(number),
+        }
+    }
+}
+
+/// The numbers of a column of a batch, by pieces: where few rows have changed a piece has up to 1,024.
+#[derive(Clone, Debug)]
+pub struct Ints<'t> {
+    pieces: Vec<Piece<'t>>,
+}
+
+impl<'t> Ints<'t> {
+    /// The pieces, in order.
+    pub fn pieces(&self) -> &[Piece<'t>] {
+        &self.pieces
+    }
+
+    /// The numbers, one by one.
+    pub fn iter(&self) -> impl Iterator<Item = i64> {
+        self.pieces.iter().flat_map(|piece| piece.as_slice().iter().copied())
+    }
+
+    /// The pieces of an int column from one position of the table up to another.
+    fn read(txn: &'t Transaction<'_>, column: usize, from: u64, to: u64) -> Result<Ints<'t>, Error> {
+        let none = ffi::Piece { at: std::ptr::null(), count: 0, number: 0 };
+        let mut pieces = Vec::new();
+        let mut at = from;
+        while at < to {
+            let mut room = [none; PIECES];
+            let (mut count, mut rows) = (PIECES, 0);
+            // SAFETY: the transaction is open, and there is room for as many pieces as `count` says.
+            done(unsafe { ffi::pdt_pieces(txn.raw(), column, at, to, room.as_mut_ptr(), &mut count, &mut rows) })?;
+            assert!(rows > 0, "each number between two positions of a table is in a piece");
+            pieces.try_reserve(count)?;
+            // SAFETY: the library has filled so many pieces, and the transaction is borrowed as long as they are there.
+            pieces.extend(room[..count].iter().map(|piece| unsafe { Piece::lent(piece) }));
+            at += rows;
+        }
+        Ok(Ints { pieces })
+    }
+}
+
+impl<'t> Piece<'t> {
+    /// What the library hands out of a transaction.
+    ///
+    /// # Safety
+    /// `pdt_pieces` has filled the piece, and until `'t` ends its transaction makes no write and isn't over.
+    unsafe fn lent(piece: &ffi::Piece) -> Piece<'t> {
+        if piece.at.is_null() {
+            return Piece::Changed(piece.number);
+        }
+        // SAFETY: so many numbers lie there, which nobody writes, and they stay as long as the caller promises.
+        Piece::Stable(unsafe { slice::from_raw_parts(piece.at, piece.count as usize) })
+    }
+}
+
+/// The texts of a column of a batch, one after the other.
+#[derive(Clone, Debug, PartialEq, Eq)]
+pub struct Texts {
+    offsets: Vec<usize>,
+    bytes: String,
+}
+
+impl Texts {
+    /// Where each text begins in [`as_str`](Texts::as_str), and at the end where the last one ends: one more than there
+    /// are texts.
+    pub fn offsets(&self) -> &[usize] {
+        &self.offsets
+    }
+
+    /// All texts, one after the other.
+    pub fn as_str(&self) -> &str {
+        &self.bytes
+    }
+
+    /// One text.
+    pub fn get(&self, index: usize) -> Option<&str> {
+        let (from, to) = (self.offsets.get(index)?, self.offsets.get(index.checked_add(1)?)?);
+        Some(&self.bytes[*from..*to])
+    }
+
+    /// The texts, one by one.
+    pub fn iter(&self) -> impl Iterator<Item = &str> {
+        self.offsets.windows(2).map(|ends| &self.bytes[ends[0]..ends[1]])
+    }
+
+    /// The texts of a text column, so many rows from a position on.
+    fn read(txn: &Transaction<'_>, column: usize, from: u64, rows: usize) -> Result<Texts, Error> {
+        let mut lengths = filled(rows, 0i64)?;
+        let mut bytes = filled(rows.saturating_mul(16).max(ffi::MAX_TEXT), 0u8)?;
+        let (mut done, mut end) = (0, 0);
+        while done < rows {
+            let read = read_cells(txn, column, from + done as u64, &mut lengths[done..], &mut bytes[end..])?;
+            done += read.cells;
+            end += read.bytes;
+            if done < rows {
+                let room = bytes.len().max(ffi::MAX_TEXT); // twice as much, so that the longest text has room
+                bytes.try_reserve_exact(room)?;
+                bytes.resize(bytes.len() + room, 0);
+            }
+        }
+        bytes.truncate(end);
+        let bytes = String::from_utf8(bytes).expect("the texts of a column are UTF-8");
+        Ok(Texts { offsets: offsets_of(&lengths)?, bytes })
+    }
+}
+
+/// Where texts of these lengths begin, and where the last one ends.
+fn offsets_of(lengths: &[i64]) -> Result<Vec<usize>, Error> {
+    let mut offsets = Vec::new();
+    offsets.try_reserve_exact(lengths.len() + 1)?;
+    let mut end = 0;
+    offsets.push(end);
+    for length in lengths {
+        end += *length as usize;
+        offsets.push(end);
+    }
+    Ok(offsets)
+}
+
+/// The truths of a bool column, so many rows from a position on.
+fn read_truths(txn: &Transaction<'_>, column: usize, from: u64, rows: usize) -> Result<Vec<bool>, Error> {
+    let mut numbers = filled(rows, 0i64)?;
+    let read = read_cells(txn, column, from, &mut numbers, &mut [])?;
+    assert_eq!(rows, read.cells, "each truth between two positions of a table is handed out");
+    let mut truths = Vec::new();
+    truths.try_reserve_exact(rows)?;
+    truths.extend(numbers.iter().map(|number| *number != 0));
+    Ok(truths)
+}
+
+/// How many cells came, and how many bytes their texts have.
+struct Read {
+    cells: usize,
+    bytes: usize,
+}
+
+/// Reads the cells of a column from a position on, as many as there is room for.
+fn read_cells(
+    txn: &Transaction<'_>,
+    column: usize,
+    from: u64,
+    numbers: &mut [i64],
+    texts: &mut [u8],
+) -> Result<Read, Error> {
+    let mut read = Read { cells: numbers.len(), bytes: 0 };
+    let (count, bytes) = (&mut read.cells, &mut read.bytes);
+    let (room, out) = (texts.len(), texts.as_mut_ptr().cast());
+    // SAFETY: the transaction is open, and there is room for as many numbers and bytes as is said.
+    done(unsafe { ffi::pdt_cells(txn.raw(), column, from, numbers.as_mut_ptr(), count, out, room, bytes) })?;
+    Ok(read)
+}
+
+/// The batches of a range of positions, in order. After one that was refused none comes.
+#[derive(Debug)]
+pub struct Batches<'t> {
+    txn: &'t Transaction<'t>,
+    columns: Vec<usize>,
+    at: u64,
+    to: u64,
+    rows: u64,
+}
+
+impl<'t> Batches<'t> {
+    /// The batches of so many rows from one position of the table up to another.
+    pub(crate) fn over(
+        txn: &'t Transaction<'_>,
+        chosen: &[usize],
+        from: u64,
+        to: u64,
+        rows: usize,
+    ) -> Result<Batches<'t>, Error> {
+        let width = txn.store().columns().len();
+        if chosen.iter().any(|column| *column >= width) {
+            return Err(Error::Shape);
+        }
+        let mut columns = Vec::new();
+        columns.try_reserve_exact(chosen.len())?;
+        columns.extend_from_slice(chosen);
+        Ok(Batches { txn, columns, at: from, to, rows: rows.max(1) as u64 })
+    }
+}
+
+impl<'t> Iterator for Batches<'t> {
+    type Item = Result<Batch<'t>, Error>;
+
+    fn next(&mut self) -> Option<Self::Item> {
+        if self.at >= self.to {
+            return None;
+        }
+        let end = self.at.saturating_add(self.rows).min(self.to);
+        let batch = Batch::read(self.txn, &self.columns, self.at, end);
+        self.at = if batch.is_ok() { end } else { self.to };
+        Some(batch)
+    }
+}
+
+impl FusedIterator for Batches<'_> {}

@@ -1,0 +1,145 @@
+//! The declarations of `door/c/pdt.h`, in its order.
+use std::ffi::{c_char, c_int, c_void};
+use std::marker::{PhantomData, PhantomPinned};
+
+/// A `pdt_store`, known by its address.
+#[repr(C)]
+pub struct Store {
+    private: [u8; 0],
+    pinned: PhantomData<(*mut u8, PhantomPinned)>,
+}
+
+/// A `pdt_txn`, known by its address.
+#[repr(C)]
+pub struct Txn {
+    private: [u8; 0],
+    pinned: PhantomData<(*mut u8, PhantomPinned)>,
+}
+
+#[repr(C)]
+pub struct Options {
+    pub recent: usize,
+    pub row_limit: u64,
+    pub by_row: bool,
+}
+
+#[repr(C)]
+#[derive(Default)]
+pub struct Sizes {
+    pub commits: u64,
+    pub write_entries: usize,
+    pub read_entries: usize,
+    pub open_transactions: usize,
+}
+
+#[repr(C)]
+#[derive(Clone, Copy)]
+pub struct Piece {
+    pub at: *const i64,
+    pub count: u64,
+    pub number: i64,
+}
+
+pub const OK: c_int = 0;
+pub const NOMEM: c_int = 1;
+pub const CONFLICT: c_int = 2;
+pub const TOO_OLD: c_int = 3;
+pub const FULL: c_int = 4;
+pub const DUPLICATE: c_int = 5;
+pub const MISSING: c_int = 6;
+pub const SHAPE: c_int = 7;
+pub const BAD_TABLE: c_int = 8;
+pub const BAD_LIMIT: c_int = 9;
+pub const TOO_MANY_ROWS: c_int = 10;
+pub const TOO_SMALL: c_int = 11;
+pub const BAD_STORE: c_int = 12;
+pub const NO_IMAGE: c_int = 13;
+pub const MISUSE: c_int = 14;
+pub const IO: c_int = 15;
+pub const EXISTS: c_int = 16;
+
+pub const INT: c_int = 1;
+pub const TEXT: c_int = 2;
+pub const BOOL: c_int = 3;
+
+pub const MAX_COLUMNS: usize = 32;
+pub const MAX_TEXT: usize = 4096;
+
+unsafe extern "C" {
+    pub fn pdt_text(code: c_int) -> *const c_char;
+
+    pub fn pdt_open(csv: *const c_void, bytes: usize, options: *const Options, store: *mut *mut Store) -> c_int;
+    pub fn pdt_recover(folder: *const c_char, options: *const Options, store: *mut *mut Store) -> c_int;
+    pub fn pdt_close(store: *mut Store) -> c_int;
+    pub fn pdt_columns(store: *const Store) -> usize;
+    pub fn pdt_key_columns(store: *const Store) -> usize;
+    pub fn pdt_column_type(store: *const Store, column: usize) -> c_int;
+    pub fn pdt_column_name(store: *const Store, column: usize) -> *const c_char;
+    pub fn pdt_size(store: *mut Store, sizes: *mut Sizes) -> c_int;
+    pub fn pdt_fold(store: *mut Store) -> c_int;
+    pub fn pdt_cut(store: *mut Store) -> c_int;
+    pub fn pdt_checkpoint(store: *mut Store, folder: *const c_char) -> c_int;
+
+    pub fn pdt_begin(store: *mut Store, client: u32, txn: *mut *mut Txn) -> c_int;
+    pub fn pdt_abort(txn: *mut Txn);
+    pub fn pdt_commit(txn: *mut Txn, commits: *mut u64) -> c_int;
+
+    pub fn pdt_insert(txn: *mut Txn, numbers: *const i64, texts: *const c_void, bytes: usize) -> c_int;
+    pub fn pdt_delete(txn: *mut Txn, key: *const i64, texts: *const c_void, bytes: usize) -> c_int;
+    pub fn pdt_set(
+        txn: *mut Txn,
+        key: *const i64,
+        texts: *const c_void,
+        bytes: usize,
+        column: usize,
+        number: i64,
+        text: *const c_void,
+    ) -> c_int;
+
+    pub fn pdt_rows(txn: *mut Txn, rows: *mut u64) -> c_int;
+    pub fn pdt_rank(
+        txn: *mut Txn,
+        key: *const i64,
+        texts: *const c_void,
+        bytes: usize,
+        below: *mut u64,
+        there: *mut bool,
+    ) -> c_int;
+    pub fn pdt_get(
+        txn: *mut Txn,
+        key: *const i64,
+        texts: *const c_void,
+        bytes: usize,
+        numbers: *mut i64,
+        out: *mut c_void,
+        room: usize,
+        needed: *mut usize,
+    ) -> c_int;
+    pub fn pdt_row_at(
+        txn: *mut Txn,
+        position: u64,
+        numbers: *mut i64,
+        out: *mut c_void,
+        room: usize,
+        needed: *mut usize,
+    ) -> c_int;
+    pub fn pdt_cells(
+        txn: *mut Txn,
+        column: usize,
+        from: u64,
+        numbers: *mut i64,
+        count: *mut usize,
+        out: *mut c_void,
+        room: usize,
+        bytes: *mut usize,
+    ) -> c_int;
+    pub fn pdt_pieces(
+        txn: *mut Txn,
+        column: usize,
+        from: u64,
+        to: u64,
+        pieces: *mut Piece,
+        count: *mut usize,
+        rows: *mut u64,
+    ) -> c_int;
+}

@@ -1,0 +1,116 @@
+//! Narthexmace from Rust: an ordered table under snapshot isolation, which takes updates without touching its sorted
+//! columns.
+//!
+//! A [`Store`] is a table with its history. Threads share it. A [`Transaction`] reads the table as it was when it
+//! began, with its own writes, row by row or column by column ([`Batch`]), and is committed, or aborted when it is
+//! dropped. Of two transactions that change the same cells the first that commits wins, and the other one gets a
+//! conflict.
+//!
+//! ```
+//! use narthexmace::{Error, Options, Store, cells};
+//!
+//! let store = Store::open("id:int:key,name:text,qty:int\n10,Ann,7\n20,Bob,2\n", &Options::default())?;
+//! let mut txn = store.begin(1)?;
+//! txn.set([10], 2, 5)?;
+//! txn.insert(cells![30, "Cid", 4])?;
+//! assert_eq!(3, txn.rows());
+//! assert_eq!(Some("Cid"), txn.row_at(2)?.unwrap()[1].as_text());
+//! assert_eq!(1, txn.commit()?);
+//! # Ok::<(), Error>(())
+//! ```
+//!
+//! The crate links the static library that `make door` builds at the top of the repository, and needs nothing but std.
+//!
+//! # Memory
+//!
+//! Where memory is refused a call answers [`Error::NoMemory`], also where it is this crate that asks for it, and the
+//! table, the transaction and the history are as they were.
+//!
+//! # What doesn't compile
+//!
+//! A batch borrows its transaction, so that it can't outlive it:
+//!
+//! ```compile_fail,E0505
+//! # use narthexmace::{Error, Options, Store};
+//! # let store = Store::open("id:int:key\n10\n", &Options::default())?;
+//! let txn = store.begin(1)?;
+//! let batch = txn.batch(&[0], ..)?;
+//! drop(txn);
+//! println!("{}", batch.rows());
+//! # Ok::<(), Error>(())
+//! ```
+//!
+//! nor see a write:
+//!
+//! ```compile_fail,E0502
+//! # use narthexmace::{Error, Options, Store};
+//! # let store = Store::open("id:int:key\n10\n", &Options::default())?;
+//! let mut txn = store.begin(1)?;
+//! let batch = txn.batch(&[0], ..)?;
+//! txn.delete([10])?;
+//! println!("{}", batch.rows());
+//! # Ok::<(), Error>(())
+//! ```
+//!
+//! nor lend numbers for longer than it is there itself:
+//!
+//! ```compile_fail,E0597
+//! # use narthexmace::{Error, Options, Piece, Store};
+//! # let store = Store::open("id:int:key\n10\n", &Options::default())?;
+//! let piece: Piece<'_>;
+//! {
+//!     let txn = store.begin(1)?;
+//!     piece = txn.batch(&[0], ..)?.ints(0).unwrap().pieces()[0];
+//! }
+//! println!("{:?}", piece.as_slice());
+//! # Ok::<(), Error>(())
+//! ```
+//!
+//! A transaction borrows its store:
+//!
+//! ```compile_fail,E0505
+//! # use narthexmace::{Error, Options, Store};
+//! let store = Store::open("id:int:key\n10\n", &Options::default())?;
+//! let txn = store.begin(1)?;
+//! drop(store);
+//! println!("{}", txn.rows());
+//! # Ok::<(), Error>(())
+//! ```
+//!
+//! A commit takes the transaction:
+//!
+//! ```compile_fail,E0382
+//! # use narthexmace::{Error, Options, Store};
+//! # let store = Store::open("id:int:key\n10\n", &Options::default())?;
+//! let mut txn = store.begin(1)?;
+//! txn.commit()?;
+//! txn.insert([20])?;
+//! # Ok::<(), Error>(())
+//! ```
+//!
+//! A transaction may be sent to a thread, but two threads can't share it:
+//!
+//! ```compile_fail,E0277
+//! # use narthexmace::{Error, Options, Store};
+//! # let store = Store::open("id:int:key\n10\n", &Options::default())?;
+//! let txn = store.begin(1)?;
+//! std::thread::scope(|threads| {
+//!     threads.spawn(|| txn.rows());
+//!     threads.spawn(|| txn.rows());
+//! });
+//! # Ok::<(), Error>(())
+//! ```
+#![deny(missing_docs, unsafe_op_in_unsafe_fn, clippy::undocumented_unsafe_blocks)]
+
+mod batch;
+mod cells;
+mod error;
+mod ffi;
+mod store;
+mod transaction;
+
+pub use batch::{Batch, Batches, Ints, Piece, Texts, Values};
+pub use cells::{Cell, CellRef, Row};
+pub use error::{CommitError, Error};
+pub use store::{Column, ColumnType, ConflictRule, Options, Sizes, Store};
+pub use transaction::{Rank, Transaction};

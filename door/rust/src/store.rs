@@ -1,0 +1,258 @@
+//! A table with its history.
+use crate::cells::owned;
+use crate::error::done;
+use crate::{Error, Transaction, ffi};
+use std::ffi::{CStr, c_char, c_int};
+use std::fmt;
+use std::os::unix::ffi::OsStrExt;
+use std::path::Path;
+use std::ptr::{self, NonNull};
+
+/// What a store is opened with.
+#[derive(Clone, Copy, Debug, PartialEq, Eq)]
+pub struct Options {
+    /// How many commits may come between a transaction's begin and its commit: 1 to 65,536, which is the default.
+    pub recent: usize,
+    /// How many rows a table may have: 1 to 2,147,483,647, which is the default.
+    pub row_limit: u64,
+    /// Which changes of one row conflict: by column, which is the default, or by row.
+    pub conflicts: ConflictRule,
+}
+
+/// Which changes of one row conflict. An insert, a delete or a replacement of the row conflicts by either rule.
+#[derive(Clone, Copy, Debug, Default, PartialEq, Eq)]
+pub enum ConflictRule {
+    /// Those of one column.
+    #[default]
+    ByColumn,
+    /// Any two.
+    ByRow,
+}
+
+impl Default for Options {
+    fn default() -> Options {
+        Options { recent: 65_536, row_limit: 2_147_483_647, conflicts: ConflictRule::ByColumn }
+    }
+}
+
+impl Options {
+    /// For the library, to which a zero stands for the default: here it is a limit outside its range.
+    fn passed(&self) -> Result<ffi::Options, Error> {
+        if self.recent == 0 || self.row_limit == 0 {
+            return Err(Error::BadLimit);
+        }
+        let by_row = self.conflicts == ConflictRule::ByRow;
+        Ok(ffi::Options { recent: self.recent, row_limit: self.row_limit, by_row })
+    }
+}
+
+/// The type of a column.
+#[derive(Clone, Copy, Debug, PartialEq, Eq, Hash)]
+pub enum ColumnType {
+    /// Numbers of 64 bits.
+    Int,
+    /// Texts of at most 4,096 bytes.
+    Text,
+    /// Truths.
+    Bool,
+}
+
+/// A column of a table.
+#[derive(Clone, Debug, PartialEq, Eq, Hash)]
+pub struct Column {
+    /// Its name.
+    pub name: String,
+    /// The type of its cells.
+    pub column_type: ColumnType,
+}
+
+/// What has grown in a store. [`Store::fold`], [`Store::cut`] and [`Store::checkpoint`] make it small again.
+#[derive(Clone, Copy, Debug, PartialEq, Eq)]
+pub struct Sizes {
+    /// Commits since the opening.
+    pub commits: u64,
+    /// Entries that a fold moves.
+    pub write_entries: usize,
+    /// Entries that a checkpoint moves.
+    pub read_entries: usize,
+    /// Transactions that are open.
+    pub open_transactions: usize,
+}
+
+/// A table with its history. Threads share it: each call takes the store's lock, but those that ask for the columns,
+/// which never change. It is closed when it is dropped.
+///
+/// A transaction that is forgotten ([`std::mem::forget`]) stays open, and then the store's memory is never freed.
+pub struct Store {
+    raw: NonNull<ffi::Store>,
+    columns: Vec<Column>,
+    key_columns: usize,
+}
+
+// SAFETY: a store is no thread's own, and closed by whichever drops it.
+unsafe impl Send for Store {}
+// SAFETY: each call on a `pdt_store` takes its lock. The columns are read at the opening, and never change.
+unsafe impl Sync for Store {}
+
+impl Store {
+    /// Opens a store over the table of a CSV text, whose first record names the columns, as `id:int:key,name:text`.
+    ///
+    /// [`Error::BadTable`], [`Error::TooManyRows`], [`Error::BadLimit`], [`Error::NoMemory`].
+    ///
+    /// ```
+    /// use narthexmace::{ColumnType, Error, Options, Store};
+    /// let store = Store::open("id:int:key,name:text\n10,Ann\n", &Options::default())?;
+    /// assert_eq!("name", store.columns()[1].name);
+    /// assert_eq!(ColumnType::Text, store.columns()[1].column_type);
+    /// assert_eq!(Some(Error::BadTable), Store::open("no table", &Options::default()).err());
+    /// # Ok::<(), Error>(())
+    /// ```
+    pub fn open(csv: impl AsRef<[u8]>, options: &Options) -> Result<Store, Error> {
+        let csv = csv.as_ref();
+        let options = options.passed()?;
+        let mut raw = ptr::null_mut();
+        // SAFETY: the pointer and the length are one slice's; the options and `raw` are there during the call.
+        done(unsafe { ffi::pdt_open(csv.as_ptr().cast(), csv.len(), &options, &mut raw) })?;
+        // SAFETY: an opening that is done hands out a store.
+        unsafe { Store::adopt(raw) }
+    }
+
+    /// Opens a store over the image that [`checkpoint`](Store::checkpoint) left in a folder. The files are read whole,
+    /// and not touched.
+    ///
+    /// [`Error::Io`], [`Error::BadTable`] (the header), [`Error::BadStore`], [`Error::NoImage`],
+    /// [`Error::TooManyRows`], [`Error::BadLimit`], [`Error::NoMemory`]; [`Error::Misuse`] of a path that no file can
+    /// have.
+    pub fn recover(folder: impl AsRef<Path>, options: &Options) -> Result<Store, Error> {
+        let folder = path_of(folder.as_ref())?;
+        let options = options.passed()?;
+        let mut raw = ptr::null_mut();
+        // SAFETY: the path ends with a zero; it, the options and `raw` are there during the call.
+        done(unsafe { ffi::pdt_recover(folder.as_ptr(), &options, &mut raw) })?;
+        // SAFETY: a recovery that is done hands out a store.
+        unsafe { Store::adopt(raw) }
+    }
+
+    /// A store that was just opened, with its columns.
+    ///
+    /// # Safety
+    /// `raw` is a store that is open, which nobody else has.
+    unsafe fn adopt(raw: *mut ffi::Store) -> Result<Store, Error> {
+        let raw = NonNull::new(raw).expect("an opening that is done hands out a store");
+        let mut store = Store { raw, columns: Vec::new(), key_columns: 0 }; // closed again where a column is refused
+        // SAFETY: the store is open.
+        let (width, key) = unsafe { (ffi::pdt_columns(raw.as_ptr()), ffi::pdt_key_columns(raw.as_ptr())) };
+        store.key_columns = key;
+        store.columns.try_reserve_exact(width)?;
+        for column in 0..width {
+            // SAFETY: the store is open; the name of a column that is there ends with a zero, and stays until the
+            // close.
+            let (name, code) = unsafe {
+                let name = CStr::from_ptr(ffi::pdt_column_name(raw.as_ptr(), column));
+                (name, ffi::pdt_column_type(raw.as_ptr(), column))
+            };
+            let name = owned(name.to_str().expect("a column's name is UTF-8"))?;
+            store.columns.push(Column { name, column_type: type_of(code) });
+        }
+        Ok(store)
+    }
+
+    /// The columns, the key's first.
+    pub fn columns(&self) -> &[Column] {
+        &self.columns
+    }
+
+    /// How many of the first columns are the key.
+    pub fn key_columns(&self) -> usize {
+        self.key_columns
+    }
+
+    /// Which column has this name.
+    pub fn column(&self, name: &str) -> Option<usize> {
+        self.columns.iter().position(|column| column.name == name)
+    }
+
+    /// What has grown.
+    pub fn sizes(&self) -> Sizes {
+        let mut sizes = ffi::Sizes::default();
+        // SAFETY: the store is open while `self` is there.
+        let code = unsafe { ffi::pdt_size(self.raw.as_ptr(), &mut sizes) };
+        debug_assert_eq!(ffi::OK, code);
+        let ffi::Sizes { commits, write_entries, read_entries, open_transactions } = sizes;
+        Sizes { commits, write_entries, read_entries, open_transactions }
+    }
+
+    /// Begins a transaction of a client over the newest table, in constant time. The number of the client goes into the
+    /// history, and says nothing else. [`Error::NoMemory`].
+    pub fn begin(&self, client: u32) -> Result<Transaction<'_>, Error> {
+        let mut raw = ptr::null_mut();
+        // SAFETY: the store is open while `self` is there.
+        done(unsafe { ffi::pdt_begin(self.raw.as_ptr(), client, &mut raw) })?;
+        let raw = NonNull::new(raw).expect("a begin that is done hands out a transaction");
+        // SAFETY: the transaction is open, over this store, and nobody else has it.
+        Ok(unsafe { Transaction::adopt(raw, self) })
+    }
+
+    /// Folds the Write-PDT into the Read-PDT: later commits are folded into a smaller tree. No table changes, and no
+    /// open transaction; begins and commits wait for it. [`Error::NoMemory`].
+    pub fn fold(&self) -> Result<(), Error> {
+        // SAFETY: the store is open while `self` is there.
+        done(unsafe { ffi::pdt_fold(self.raw.as_ptr()) })
+    }
+
+    /// Lets the history so far go, so that it takes no memory. A transaction that began before the newest commit is
+    /// [`TooOld`](crate::CommitError::TooOld) at its own; it reads on.
+    pub fn cut(&self) {
+        // SAFETY: the store is open while `self` is there.
+        let code = unsafe { ffi::pdt_cut(self.raw.as_ptr()) };
+        debug_assert_eq!(ffi::OK, code);
+    }
+
+    /// Writes the newest table into a folder that has no store, each file synced, and the folder after them; in memory
+    /// it is the stable table then. Once it answers `Ok` the table is durable. Begins and commits wait only while the
+    /// bytes are made.
+    ///
+    /// [`Error::Exists`], [`Error::Io`], [`Error::NoMemory`]: what was written is removed; [`Error::Misuse`] of a path
+    /// that no file can have.
+    pub fn checkpoint(&self, folder: impl AsRef<Path>) -> Result<(), Error> {
+        let folder = path_of(folder.as_ref())?;
+        // SAFETY: the store is open while `self` is there; the path ends with a zero, and is there during the call.
+        done(unsafe { ffi::pdt_checkpoint(self.raw.as_ptr(), folder.as_ptr()) })
+    }
+}
+
+impl Drop for Store {
+    fn drop(&mut self) {
+        // SAFETY: nobody else uses the store, since each transaction borrows it. One that was forgotten is still open:
+        // the library answers MISUSE then, and the store stays.
+        unsafe { ffi::pdt_close(self.raw.as_ptr()) };
+    }
+}
+
+impl fmt::Debug for Store {
+    fn fmt(&self, f: &mut fmt::Formatter<'_>) -> fmt::Result {
+        f.debug_struct("Store").field("columns", &self.columns).finish_non_exhaustive()
+    }
+}
+
+fn type_of(code: c_int) -> ColumnType {
+    match code {
+        ffi::INT => ColumnType::Int,
+        ffi::TEXT => ColumnType::Text,
+        ffi::BOOL => ColumnType::Bool,
+        _ => unreachable!("pdt.h has no type {code}"),
+    }
+}
+
+/// The bytes of a path and a zero, or `Misuse` where there is one among them.
+fn path_of(path: &Path) -> Result<Vec<c_char>, Error> {
+    let bytes = path.as_os_str().as_bytes();
+    if bytes.contains(&0) {
+        return Err(Error::Misuse);
+    }
+    let mut passed = Vec::new();
+    passed.try_reserve_exact(bytes.len() + 1)?;
+    passed.extend(bytes.iter().map(|byte| *byte as c_char));
+    passed.push(0);
+    Ok(passed)
+}

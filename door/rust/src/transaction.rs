@@ -1,0 +1,243 @@
+//! An open transaction: its writes, and its reads row by row.
+use crate::batch::{Batch, Batches};
+use crate::cells::{Passed, filled, row_of};
+use crate::error::done;
+use crate::{CellRef, CommitError, Error, Row, Store, ffi};
+use std::ffi::{c_int, c_void};
+use std::fmt;
+use std::mem::ManuallyDrop;
+use std::ops::{Bound, RangeBounds};
+use std::ptr::NonNull;
+
+/// Room for the texts of a row that is read without asking twice.
+const TEXT_ROOM: usize = 512;
+
+/// Where a key stands among the rows.
+#[derive(Clone, Copy, Debug, PartialEq, Eq)]
+pub struct Rank {
+    /// How many rows have a smaller key: the position of the key's row, or where it would come to stand.
+    pub below: u64,
+    /// Whether there is a row of the key.
+    pub there: bool,
+}
+
+/// An open transaction. It reads the table as it was when it began, with its own writes; positions count from 0. One
+/// that is dropped is aborted. It may be sent to another thread, and is used by one at a time.
+///
+/// Writes want it for themselves (`&mut self`), so that what a [`Batch`] borrows stays where it is.
+///
+/// A row and a key are given as anything that iterates over cells: `[10]`, [`cells!`](crate::cells), a `&Row`.
+pub struct Transaction<'s> {
+    raw: NonNull<ffi::Txn>,
+    store: &'s Store,
+}
+
+// SAFETY: a `pdt_txn` is used by one thread at a time, whichever that is: it isn't `Sync`, so no two threads have it.
+unsafe impl Send for Transaction<'_> {}
+
+impl<'s> Transaction<'s> {
+    /// A transaction that has just begun.
+    ///
+    /// # Safety
+    /// `raw` is open, a transaction over this store, and nobody else has it.
+    pub(crate) unsafe fn adopt(raw: NonNull<ffi::Txn>, store: &'s Store) -> Transaction<'s> {
+        Transaction { raw, store }
+    }
+
+    pub(crate) fn raw(&self) -> *mut ffi::Txn {
+        self.raw.as_ptr()
+    }
+
+    /// The store that it is over.
+    pub fn store(&self) -> &'s Store {
+        self.store
+    }
+
+    /// Commits, and answers the number of the newest table. It is over then, unless memory was refused: then
+    /// [`CommitError::NoMemory`] gives it back as it was.
+    ///
+    /// ```
+    /// use narthexmace::{CommitError, Error, Options, Store};
+    /// let store = Store::open("id:int:key,qty:int\n10,7\n", &Options::default())?;
+    /// let (mut first, mut second) = (store.begin(1)?, store.begin(2)?);
+    /// first.set([10], 1, 5)?;
+    /// second.set([10], 1, 6)?;
+    /// assert_eq!(1, first.commit()?);
+    /// assert!(matches!(second.commit(), Err(CommitError::Conflict(1))));
+    /// # Ok::<(), Error>(())
+    /// ```
+    pub fn commit(self) -> Result<u64, CommitError<'s>> {
+        let open = ManuallyDrop::new(self);
+        let mut number = 0;
+        // SAFETY: the transaction is open; unless the answer is NOMEM it is over, and nothing uses it any more.
+        match unsafe { ffi::pdt_commit(open.raw(), &mut number) } {
+            ffi::OK => Ok(number),
+            ffi::CONFLICT => Err(CommitError::Conflict(number)),
+            ffi::TOO_OLD => Err(CommitError::TooOld(number)),
+            ffi::FULL => Err(CommitError::Full(number)),
+            ffi::NOMEM => Err(CommitError::NoMemory(ManuallyDrop::into_inner(open))),
+            code => unreachable!("no commit answers {code}"),
+        }
+    }
+
+    /// Ends the transaction and leaves no record of it, as a drop does.
+    pub fn abort(self) {}
+
+    /// Inserts a row. [`Error::Duplicate`], [`Error::Full`], [`Error::Shape`], [`Error::NoMemory`].
+    pub fn insert<'c, C: Into<CellRef<'c>>>(&mut self, row: impl IntoIterator<Item = C>) -> Result<(), Error> {
+        let row = Passed::of(row, self.store.columns())?;
+        // SAFETY: the transaction is open; there are as many numbers as columns, and as many bytes as is said.
+        done(unsafe { ffi::pdt_insert(self.raw(), row.numbers(), row.texts(), row.bytes()) })
+    }
+
+    /// Deletes the row of a key. [`Error::Missing`], [`Error::Shape`], [`Error::NoMemory`].
+    pub fn delete<'c, C: Into<CellRef<'c>>>(&mut self, key: impl IntoIterator<Item = C>) -> Result<(), Error> {
+        let key = self.key(key)?;
+        // SAFETY: the transaction is open; there are as many numbers as key columns, and as many bytes as is said.
+        done(unsafe { ffi::pdt_delete(self.raw(), key.numbers(), key.texts(), key.bytes()) })
+    }
+
+    /// Sets one cell of the row of a key, in a column that is none of the key's. [`Error::Missing`], [`Error::Shape`],
+    /// [`Error::NoMemory`].
+    pub fn set<'c, 'd, C: Into<CellRef<'c>>>(
+        &mut self,
+        key: impl IntoIterator<Item = C>,
+        column: usize,
+        cell: impl Into<CellRef<'d>>,
+    ) -> Result<(), Error> {
+        let key = self.key(key)?;
+        let cell = cell.into();
+        cell.check(self.store.columns().get(column).ok_or(Error::Shape)?)?;
+        let (number, text) = (cell.number(), cell.bytes().as_ptr().cast());
+        // SAFETY: the transaction is open; there are as many numbers as key columns, and as many bytes as is said; of a
+        // text column the cell is a text, whose number is how many bytes it has.
+        done(unsafe { ffi::pdt_set(self.raw(), key.numbers(), key.texts(), key.bytes(), column, number, text) })
+    }
+
+    /// How many rows there are.
+    pub fn rows(&self) -> u64 {
+        let mut rows = 0;
+        // SAFETY: the transaction is open.
+        let code = unsafe { ffi::pdt_rows(self.raw(), &mut rows) };
+        debug_assert_eq!(ffi::OK, code);
+        rows
+    }
+
+    /// Where a key stands: a range of keys is the positions between two ranks. In logarithmic time. [`Error::Shape`],
+    /// [`Error::NoMemory`].
+    pub fn rank<'c, C: Into<CellRef<'c>>>(&self, key: impl IntoIterator<Item = C>) -> Result<Rank, Error> {
+        let key = self.key(key)?;
+        let mut rank = Rank { below: 0, there: false };
+        let (below, there) = (&mut rank.below, &mut rank.there);
+        // SAFETY: the transaction is open; there are as many numbers as key columns, and as many bytes as is said.
+        done(unsafe { ffi::pdt_rank(self.raw(), key.numbers(), key.texts(), key.bytes(), below, there) })?;
+        Ok(rank)
+    }
+
+    /// The row of a key, or none. [`Error::Shape`], [`Error::NoMemory`].
+    pub fn get<'c, C: Into<CellRef<'c>>>(&self, key: impl IntoIterator<Item = C>) -> Result<Option<Row>, Error> {
+        let key = self.key(key)?;
+        self.read_row(|numbers, out, room, needed| {
+            // SAFETY: the transaction is open; the key is as many numbers as key columns, and as many bytes as is said;
+            // `read_row` hands in room for a row.
+            unsafe { ffi::pdt_get(self.raw(), key.numbers(), key.texts(), key.bytes(), numbers, out, room, needed) }
+        })
+    }
+
+    /// The row at a position, or none past the end. [`Error::NoMemory`].
+    pub fn row_at(&self, position: u64) -> Result<Option<Row>, Error> {
+        self.read_row(|numbers, out, room, needed| {
+            // SAFETY: the transaction is open; `read_row` hands in room for a row.
+            unsafe { ffi::pdt_row_at(self.raw(), position, numbers, out, room, needed) }
+        })
+    }
+
+    /// The cells of chosen columns between two positions, cut to the end of the table: see [`Batch`]. [`Error::Shape`]
+    /// of a column that isn't there, [`Error::NoMemory`].
+    pub fn batch(&self, columns: &[usize], positions: impl RangeBounds<u64>) -> Result<Batch<'_>, Error> {
+        let (from, to) = self.within(positions);
+        Batch::read(self, columns, from, to)
+    }
+
+    /// The same, in batches of so many rows, one at least; the last one has what is left. [`Error::Shape`] of a column
+    /// that isn't there, [`Error::NoMemory`]; and each batch of its own [`Error::NoMemory`], after which none comes.
+    ///
+    /// ```
+    /// use narthexmace::{Error, Options, Store};
+    /// let store = Store::open("id:int:key,qty:int\n10,7\n20,2\n30,4\n", &Options::default())?;
+    /// let txn = store.begin(1)?;
+    /// let mut sums = Vec::new();
+    /// for batch in txn.batches(&[1], .., 2)? {
+    ///     sums.push(batch?.ints(0).unwrap().iter().sum::<i64>());
+    /// }
+    /// assert_eq!(vec![9, 4], sums);
+    /// # Ok::<(), Error>(())
+    /// ```
+    pub fn batches(
+        &self,
+        columns: &[usize],
+        positions: impl RangeBounds<u64>,
+        rows: usize,
+    ) -> Result<Batches<'_>, Error> {
+        let (from, to) = self.within(positions);
+        Batches::over(self, columns, from, to, rows)
+    }
+
+    fn key<'c, C: Into<CellRef<'c>>>(&self, key: impl IntoIterator<Item = C>) -> Result<Passed, Error> {
+        Passed::of(key, &self.store.columns()[..self.store.key_columns()])
+    }
+
+    /// The positions from the first up to but without the second, both cut to the length of the table.
+    fn within(&self, positions: impl RangeBounds<u64>) -> (u64, u64) {
+        let rows = self.rows();
+        let from = match positions.start_bound() {
+            Bound::Included(from) => *from,
+            Bound::Excluded(before) => before.saturating_add(1),
+            Bound::Unbounded => 0,
+        };
+        let to = match positions.end_bound() {
+            Bound::Included(last) => last.saturating_add(1),
+            Bound::Excluded(to) => *to,
+            Bound::Unbounded => rows,
+        };
+        let to = to.min(rows);
+        (from.min(to), to)
+    }
+
+    /// Reads a row by a call of the library, which is handed room for as many numbers as columns, and for texts: first
+    /// what does for most rows, then what the library asked for.
+    fn read_row(&self, call: impl Fn(*mut i64, *mut c_void, usize, *mut usize) -> c_int) -> Result<Option<Row>, Error> {
+        let mut numbers = [0; ffi::MAX_COLUMNS];
+        let mut first = [0u8; TEXT_ROOM];
+        let mut more;
+        let mut room = &mut first[..];
+        loop {
+            let mut needed = 0;
+            match call(numbers.as_mut_ptr(), room.as_mut_ptr().cast(), room.len(), &mut needed) {
+                ffi::MISSING => return Ok(None),
+                ffi::TOO_SMALL => {
+                    more = filled(needed, 0u8)?;
+                    room = &mut more;
+                }
+                code => {
+                    done(code)?;
+                    let texts = std::str::from_utf8(&room[..needed]).expect("the texts of a row are UTF-8");
+                    return row_of(self.store.columns(), &numbers, texts).map(Some);
+                }
+            }
+        }
+    }
+}
+
+impl Drop for Transaction<'_> {
+    fn drop(&mut self) {
+        // SAFETY: the transaction is open, and nothing uses it any more; its store is borrowed, and so is open.
+        unsafe { ffi::pdt_abort(self.raw()) };
+    }
+}
+
+impl fmt::Debug for Transaction<'_> {
+    fn fmt(&self, f: &mut fmt::Formatter<'_>) -> fmt::Result {
+        f.debug_struct("Transaction").field("store", self.store).finish_non_exhaustive()
+    }
+}

@@ -1,0 +1,154 @@
+//! A table under snapshot isolation as a map that each transaction copies.
+use narthexmace::{Cell, Error};
+use std::collections::BTreeMap;
+
+pub type Cells = Vec<Cell>;
+pub type Table = BTreeMap<Cells, Cells>;
+
+/// What a transaction does to the row of a key.
+#[derive(Clone)]
+enum Effect {
+    Insert,
+    Delete,
+    Change(BTreeMap<usize, Cell>),
+    Replace,
+}
+
+impl Effect {
+    fn clashes(&self, other: &Effect, by_row: bool) -> bool {
+        match (self, other) {
+            (Effect::Insert, Effect::Insert) => true,
+            (Effect::Insert, _) | (_, Effect::Insert) => false,
+            (Effect::Change(one), Effect::Change(two)) => by_row || one.keys().any(|column| two.contains_key(column)),
+            _ => true,
+        }
+    }
+}
+
+/// A transaction: the commits before it, the table as it sees it, and what it did to each key.
+pub struct Open {
+    begun: usize,
+    pub table: Table,
+    effects: BTreeMap<Cells, Effect>,
+}
+
+impl Open {
+    /// The keys to which something was done, and not undone.
+    pub fn changed(&self) -> impl Iterator<Item = &Cells> {
+        self.effects.keys()
+    }
+}
+
+/// Why a commit is refused.
+#[derive(Clone, Copy, Debug, PartialEq, Eq)]
+pub enum Refusal {
+    Conflict,
+    TooOld,
+    Full,
+}
+
+/// What a table is opened with.
+#[derive(Clone, Copy, Debug)]
+pub struct Rules {
+    pub key_columns: usize,
+    pub recent: usize,
+    pub row_limit: usize,
+    pub by_row: bool,
+}
+
+pub struct Model {
+    pub rules: Rules,
+    pub newest: Table,
+    commits: Vec<BTreeMap<Cells, Effect>>,
+    cut_at: usize,
+}
+
+impl Model {
+    pub fn new(rules: Rules, rows: impl IntoIterator<Item = Cells>) -> Model {
+        let newest = rows.into_iter().map(|row| (row[..rules.key_columns].to_vec(), row)).collect();
+        Model { rules, newest, commits: Vec::new(), cut_at: 0 }
+    }
+
+    pub fn begin(&self) -> Open {
+        Open { begun: self.commits.len(), table: self.newest.clone(), effects: BTreeMap::new() }
+    }
+
+    pub fn number(&self) -> u64 {
+        self.commits.len() as u64
+    }
+
+    pub fn cut(&mut self) {
+        self.cut_at = self.commits.len();
+    }
+
+    pub fn insert(&self, open: &mut Open, row: &Cells) -> Result<(), Error> {
+        let key = row[..self.rules.key_columns].to_vec();
+        if open.table.contains_key(&key) {
+            return Err(Error::Duplicate);
+        }
+        if open.table.len() >= self.rules.row_limit {
+            return Err(Error::Full);
+        }
+        let effect = if open.effects.contains_key(&key) { Effect::Replace } else { Effect::Insert };
+        open.effects.insert(key.clone(), effect);
+        open.table.insert(key, row.clone());
+        Ok(())
+    }
+
+    pub fn delete(&self, open: &mut Open, key: &Cells) -> Result<(), Error> {
+        open.table.remove(key).ok_or(Error::Missing)?;
+        match open.effects.get(key) {
+            Some(Effect::Insert) => open.effects.remove(key),
+            _ => open.effects.insert(key.clone(), Effect::Delete),
+        };
+        Ok(())
+    }
+
+    pub fn set(&self, open: &mut Open, key: &Cells, column: usize, cell: &Cell) -> Result<(), Error> {
+        open.table.get_mut(key).ok_or(Error::Missing)?[column] = cell.clone();
+        let effect = open.effects.entry(key.clone()).or_insert_with(|| Effect::Change(BTreeMap::new()));
+        if let Effect::Change(cells) = effect {
+            cells.insert(column, cell.clone());
+        }
+        Ok(())
+    }
+
+    /// The number of the new table, or why there is none.
+    pub fn commit(&mut self, open: Open) -> Result<u64, Refusal> {
+        let since = self.commits.len() - open.begun;
+        if open.begun < self.cut_at || since > self.rules.recent {
+            return Err(Refusal::TooOld);
+        }
+        if self.commits[open.begun..].iter().any(|commit| self.clash(commit, &open.effects)) {
+            return Err(Refusal::Conflict);
+        }
+        let table = self.table_with(&open);
+        if table.len() > self.rules.row_limit {
+            return Err(Refusal::Full);
+        }
+        self.newest = table;
+        self.commits.push(open.effects);
+        Ok(self.number())
+    }
+
+    fn clash(&self, one: &BTreeMap<Cells, Effect>, other: &BTreeMap<Cells, Effect>) -> bool {
+        let by_row = self.rules.by_row;
+        one.iter().any(|(key, effect)| other.get(key).is_some_and(|second| effect.clashes(second, by_row)))
+    }
+
+    /// The newest table with what a transaction did.
+    fn table_with(&self, open: &Open) -> Table {
+        let mut table = self.newest.clone();
+        for (key, effect) in &open.effects {
+            match effect {
+                Effect::Delete => drop(table.remove(key)),
+                Effect::Insert | Effect::Replace => drop(table.insert(key.clone(), open.table[key].clone())),
+                Effect::Change(cells) => {
+                    let row = table.get_mut(key).expect("a change of a row that is gone conflicts");
+                    cells.iter().for_each(|(column, cell)| row[*column] = cell.clone());
+                }
+            }
+        }
+        table
+    }
+}

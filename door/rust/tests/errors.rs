@@ -1,0 +1,138 @@
+//! Each error once, by its cause.
+use narthexmace::{CommitError, ConflictRule, Error, Options, Store, Transaction, cells};
+use std::ffi::OsStr;
+use std::os::unix::ffi::OsStrExt;
+
+const TABLE: &str = "id:int:key,name:text,ok:bool,qty:int\n10,Ann,false,1\n20,Bob,true,2\n30,Cid,true,3\n";
+
+fn opened(options: &Options) -> Store {
+    Store::open(TABLE, options).unwrap()
+}
+
+fn refused(csv: &str, options: &Options) -> Error {
+    Store::open(csv, options).unwrap_err()
+}
+
+#[test]
+fn openings_are_refused() {
+    let all = Options::default();
+    assert_eq!(Error::BadTable, refused("", &all));
+    assert_eq!(Error::BadTable, refused("id:int:key\nx\n", &all));
+    assert_eq!(Error::BadTable, refused("id:int:key\n1\n1\n", &all));
+    assert_eq!(Error::TooManyRows, refused(TABLE, &Options { row_limit: 2, ..all }));
+    assert_eq!(Error::BadLimit, refused(TABLE, &Options { recent: 0, ..all }));
+    assert_eq!(Error::BadLimit, refused(TABLE, &Options { recent: 65_537, ..all }));
+    assert_eq!(Error::BadLimit, refused(TABLE, &Options { row_limit: 0, ..all }));
+    assert_eq!(Error::BadLimit, refused(TABLE, &Options { row_limit: 2_147_483_648, ..all }));
+}
+
+#[test]
+fn writes_are_refused() {
+    let store = opened(&Options { row_limit: 4, ..Options::default() });
+    let mut txn = store.begin(1).unwrap();
+    assert_eq!(Err(Error::Duplicate), txn.insert(cells![20, "Bob", true, 2]));
+    assert_eq!(Err(Error::Missing), txn.delete([25]));
+    assert_eq!(Err(Error::Missing), txn.set([25], 3, 1));
+    assert_eq!(Ok(()), txn.insert(cells![40, "Dee", true, 4]));
+    assert_eq!(Err(Error::Full), txn.insert(cells![50, "Eve", true, 5]));
+    assert_eq!(4, txn.rows());
+}
+
+/// What each call answers to cells that don't fit the columns.
+fn shapes(txn: &mut Transaction<'_>, long: &str) -> Vec<Result<(), Error>> {
+    vec![
+        txn.insert(cells![40, "Dee", true]),
+        txn.insert(cells![40, "Dee", true, 4, 5]),
+        txn.insert(cells![40, 4, true, 4]),
+        txn.insert(cells![40, "Dee", 1, 4]),
+        txn.insert(cells![40, long, true, 4]),
+        txn.delete::<i64>([]),
+        txn.delete([10, 20]),
+        txn.delete(["Ann"]),
+        txn.set([10], 0, 11),
+        txn.set([10], 4, 11),
+        txn.set([10], 3, "Ann"),
+        txn.set([10], 1, long),
+        txn.set(["Ann"], 3, 1),
+        txn.get([true]).map(|_| ()),
+        txn.rank([10, 20]).map(|_| ()),
+        txn.batch(&[4], ..).map(|_| ()),
+        txn.batches(&[0, 4], .., 10).map(|_| ()),
+    ]
+}
+
+#[test]
+fn cells_that_do_not_fit_are_refused() {
+    let store = opened(&Options::default());
+    let mut txn = store.begin(1).unwrap();
+    let longest = "é".repeat(2048);
+    for (index, answer) in shapes(&mut txn, &(longest.clone() + "e")).into_iter().enumerate() {
+        assert_eq!(Err(Error::Shape), answer, "case {index}");
+    }
+    assert_eq!(Ok(()), txn.set([10], 1, &longest));
+    assert_eq!(Some(longest.as_str()), txn.row_at(0).unwrap().unwrap()[1].as_text());
+    assert_eq!(3, txn.rows());
+}
+
+#[test]
+fn commits_are_refused() {
+    let store = opened(&Options { recent: 1, row_limit: 4, conflicts: ConflictRule::ByRow });
+    let begin = || store.begin(1).unwrap();
+    let (mut first, mut second, third) = (begin(), begin(), begin());
+    first.set([10], 1, "Eve").unwrap();
+    second.set([10], 3, 7).unwrap();
+    assert_eq!(1, first.commit().unwrap());
+    assert!(matches!(second.commit(), Err(CommitError::Conflict(1))));
+    let (mut one, mut other) = (begin(), begin());
+    one.insert(cells![40, "Dee", true, 4]).unwrap();
+    other.insert(cells![50, "Flo", true, 5]).unwrap();
+    assert_eq!(2, one.commit().unwrap());
+    assert!(matches!(other.commit(), Err(CommitError::Full(2))));
+    assert!(matches!(third.commit(), Err(CommitError::TooOld(2))));
+    assert_eq!(0, store.sizes().open_transactions);
+}
+
+#[test]
+fn by_column_changes_of_two_columns_do_not_conflict() {
+    let store = opened(&Options::default());
+    let (mut first, mut second) = (store.begin(1).unwrap(), store.begin(2).unwrap());
+    first.set([10], 1, "Eve").unwrap();
+    second.set([10], 3, 7).unwrap();
+    assert_eq!(1, first.commit().unwrap());
+    assert_eq!(2, second.commit().unwrap());
+}
+
+#[test]
+fn a_cut_makes_open_transactions_too_old() {
+    let store = opened(&Options::default());
+    let mut old = store.begin(1).unwrap();
+    let mut txn = store.begin(2).unwrap();
+    txn.set([10], 3, 5).unwrap();
+    txn.commit().unwrap();
+    store.cut();
+    old.set([20], 3, 5).unwrap();
+    assert_eq!(Some(1), old.get([10]).unwrap().unwrap()[3].as_int());
+    assert_eq!(Error::TooOld, Error::from(old.commit().unwrap_err()));
+}
+
+#[test]
+fn paths_that_no_file_can_have_are_refused() {
+    let store = opened(&Options::default());
+    let long = "x".repeat(5000);
+    for path in [OsStr::from_bytes(b"a\0b"), OsStr::new(&long)] {
+        assert_eq!(Err(Error::Misuse), store.checkpoint(path));
+        assert_eq!(Some(Error::Misuse), Store::recover(path, &Options::default()).err());
+    }
+}
+
+#[test]
+fn a_transaction_that_is_dropped_is_aborted() {
+    let store = opened(&Options::default());
+    let mut txn = store.begin(1).unwrap();
+    txn.delete([10]).unwrap();
+    assert_eq!(1, store.sizes().open_transactions);
+    drop(txn);
+    store.begin(1).unwrap().abort();
+    assert_eq!(0, store.sizes().open_transactions);
+    assert_eq!(3, store.begin(1).unwrap().rows());
+}

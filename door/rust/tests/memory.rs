@@ -1,0 +1,223 @@
+//! Each allocation of a run is refused in turn, this crate's own among them: the call answers `NoMemory`, or did
+//! without, made again it does its work, and the table at the end is as wanted.
+use narthexmace::{CommitError, Error, Options, Row, Store, Transaction, cells};
+use std::cell::Cell;
+use std::collections::BTreeSet;
+use std::ffi::c_void;
+use std::path::Path;
+use std::ptr::null_mut;
+use std::{env, fs, process};
+
+thread_local! {
+    /// How many allocations of this thread it has not freed.
+    static LIVE: Cell<isize> = const { Cell::new(0) };
+    /// How many allocations of this thread are granted before one is refused; none is where there is no number.
+    static GRANTED: Cell<Option<usize>> = const { Cell::new(None) };
+}
+
+// glibc's own, under the names that stand below
+unsafe extern "C" {
+    fn __libc_malloc(size: usize) -> *mut c_void;
+    fn __libc_calloc(count: usize, size: usize) -> *mut c_void;
+    fn __libc_realloc(at: *mut c_void, size: usize) -> *mut c_void;
+    fn __libc_free(at: *mut c_void);
+}
+
+/// Whether this allocation is the one to be refused.
+fn is_refused() -> bool {
+    let granted = GRANTED.get();
+    GRANTED.set(granted.and_then(|count| count.checked_sub(1)));
+    granted == Some(0)
+}
+
+/// Makes an allocation, unless it is the one to be refused.
+fn allocated(allocation: impl FnOnce() -> *mut c_void) -> *mut c_void {
+    if is_refused() {
+        return null_mut();
+    }
+    LIVE.set(LIVE.get() + 1);
+    allocation()
+}
+
+#[unsafe(no_mangle)]
+extern "C" fn malloc(size: usize) -> *mut c_void {
+    // SAFETY: as malloc is called.
+    allocated(|| unsafe { __libc_malloc(size) })
+}
+
+#[unsafe(no_mangle)]
+extern "C" fn calloc(count: usize, size: usize) -> *mut c_void {
+    // SAFETY: as calloc is called.
+    allocated(|| unsafe { __libc_calloc(count, size) })
+}
+
+/// # Safety
+/// As free's.
+#[unsafe(no_mangle)]
+unsafe extern "C" fn free(at: *mut c_void) {
+    LIVE.set(LIVE.get() - isize::from(!at.is_null()));
+    // SAFETY: as free is called.
+    unsafe { __libc_free(at) }
+}
+
+/// # Safety
+/// As realloc's.
+#[unsafe(no_mangle)]
+unsafe extern "C" fn realloc(at: *mut c_void, size: usize) -> *mut c_void {
+    if at.is_null() {
+        return malloc(size);
+    }
+    // SAFETY: as realloc is called.
+    if is_refused() { null_mut() } else { unsafe { __libc_realloc(at, size) } }
+}
+
+/// A run in which one allocation is refused.
+struct Run {
+    /// How many allocations are granted before that one, or none after it.
+    granted: Option<usize>,
+    /// The calls that were told of it.
+    told: BTreeSet<&'static str>,
+}
+
+impl Run {
+    /// Makes a call, its allocations counted.
+    fn counted<T>(&mut self, call: impl FnOnce() -> T) -> T {
+        GRANTED.set(self.granted);
+        let answer = call();
+        self.granted = GRANTED.replace(None);
+        answer
+    }
+
+    /// Makes a call, and again where it was refused.
+    fn made<T>(&mut self, name: &'static str, mut call: impl FnMut() -> Result<T, Error>) -> T {
+        match self.counted(&mut call) {
+            Err(Error::NoMemory) => {
+                self.told.insert(name);
+                call().unwrap()
+            }
+            answer => answer.unwrap(),
+        }
+    }
+
+    /// Commits a transaction, and again where it was refused and given back.
+    fn committed(&mut self, txn: Transaction<'_>) -> u64 {
+        match self.counted(|| txn.commit()) {
+            Err(CommitError::NoMemory(again)) => {
+                self.told.insert("commit");
+                again.commit().unwrap()
+            }
+            answer => answer.unwrap(),
+        }
+    }
+}
+
+const TABLE: &str = "id:int:key,name:text,ok:bool,qty:int\n10,Ann,false,1\n20,Bob,true,2\n30,Cid,true,3\n";
+const CALLS: [&str; 13] = [
+    "open",
+    "begin",
+    "insert",
+    "set",
+    "delete",
+    "get",
+    "row_at",
+    "batch",
+    "batches",
+    "commit",
+    "fold",
+    "checkpoint",
+    "recover",
+];
+
+fn rows_of(store: &Store) -> Vec<Row> {
+    let txn = store.begin(9).unwrap();
+    (0..txn.rows()).map(|position| txn.row_at(position).unwrap().unwrap()).collect()
+}
+
+fn write(run: &mut Run, txn: &mut Transaction<'_>, long: &str) {
+    run.made("insert", || txn.insert(cells![15, long, true, 5]));
+    run.made("set", || txn.set([10], 1, long));
+    run.made("delete", || txn.delete([20]));
+}
+
+fn read(run: &mut Run, txn: &Transaction<'_>, long: &str) {
+    let row = run.made("get", || txn.get([10])).unwrap();
+    assert_eq!(Some(long), row[1].as_text());
+    assert_eq!(row, run.made("row_at", || txn.row_at(0)).unwrap());
+    let batch = run.made("batch", || txn.batch(&[0, 1, 2], ..));
+    assert_eq!(vec![10, 15, 30], batch.ints(0).unwrap().iter().collect::<Vec<i64>>());
+    assert_eq!(vec![long, long, "Cid"], batch.texts(1).unwrap().iter().collect::<Vec<&str>>());
+    assert_eq!(Some(&[false, true, true][..]), batch.bools(2));
+    assert_eq!(2, run.made("batches", || txn.batches(&[0], .., 2)).count());
+}
+
+/// Each call once, with an allocation refused after so many. Answers which were told, or none where none was refused.
+fn run(granted: usize, folder: &Path) -> Option<BTreeSet<&'static str>> {
+    let mut run = Run { granted: Some(granted), told: BTreeSet::new() };
+    let long = "x".repeat(1000);
+    let store = run.made("open", || Store::open(TABLE, &Options::default()));
+    let mut txn = run.made("begin", || store.begin(1));
+    write(&mut run, &mut txn, &long);
+    read(&mut run, &txn, &long);
+    assert_eq!(1, run.committed(txn));
+    run.made("fold", || store.fold());
+    let rows = rows_of(&store);
+    let qty: Vec<_> = rows.iter().map(|row| (row[0].as_int(), row[3].as_int())).collect();
+    assert_eq!(vec![(Some(10), Some(1)), (Some(15), Some(5)), (Some(30), Some(3))], qty);
+    if run.granted.is_some() {
+        run.made("checkpoint", || store.checkpoint(folder));
+        let again = run.made("recover", || Store::recover(folder, &Options::default()));
+        assert_eq!(rows, rows_of(&again));
+        assert_eq!(rows, rows_of(&store));
+    }
+    assert_eq!(0, store.sizes().open_transactions);
+    if run.granted.is_some() { None } else { Some(run.told) }
+}
+
+#[test]
+fn each_refused_allocation_is_told_and_changes_nothing() {
+    let folder = env::temp_dir().join(format!("narthexmace-{}-memory", process::id()));
+    let (mut told, mut refused) = (BTreeSet::new(), 0);
+    loop {
+        fs::create_dir(&folder).unwrap();
+        let answer = run(refused, &folder);
+        fs::remove_dir_all(&folder).unwrap();
+        let Some(calls) = answer else { break };
+        assert!(calls.len() <= 1, "one allocation was refused, and told {calls:?}");
+        told.extend(calls);
+        refused += 1;
+    }
+    assert_eq!(BTreeSet::from(CALLS), told);
+    println!("{refused} allocations, each refused once");
+}
+
+#[test]
+fn after_a_batch_that_was_refused_none_comes() {
+    let store = Store::open(TABLE, &Options::default()).unwrap();
+    let txn = store.begin(1).unwrap();
+    let mut batches = txn.batches(&[1], .., 1).unwrap();
+    assert_eq!(Some("Ann"), batches.next().unwrap().unwrap().texts(0).unwrap().get(0));
+    GRANTED.set(Some(0));
+    let refused = batches.next();
+    GRANTED.set(None);
+    assert_eq!(Some(Error::NoMemory), refused.unwrap().err());
+    assert!(batches.next().is_none());
+}
+
+#[test]
+fn what_is_dropped_is_freed() {
+    let before = LIVE.get();
+    let store = Store::open(TABLE, &Options::default()).unwrap();
+    let opened = LIVE.get();
+    assert!(opened > before);
+    let mut txn = store.begin(1).unwrap();
+    txn.insert(cells![15, "Dee", true, 5]).unwrap();
+    assert_eq!(4, txn.batch(&[0, 1, 2, 3], ..).unwrap().rows());
+    assert_eq!(4, txn.batches(&[0, 1], .., 3).unwrap().map(|batch| batch.unwrap().rows()).sum::<usize>());
+    drop(txn);
+    assert_eq!(opened, LIVE.get());
+    let mut txn = store.begin(1).unwrap();
+    txn.delete([10]).unwrap();
+    txn.commit().unwrap();
+    drop(store);
+    assert_eq!(before, LIVE.get());
+}

@@ -1,0 +1,96 @@
+//! Eight threads add to the same rows, and try again where a commit is refused: the sums are those of all that was
+//! added.
+use narthexmace::{CommitError, Error, Options, Store};
+use std::sync::atomic::{AtomicUsize, Ordering};
+use std::thread;
+
+const THREADS: i64 = 8;
+const ROWS: i64 = 10;
+const FOLD_EVERY: u64 = 1000;
+
+/// The row that a thread's addition of this number goes to, and how much is added.
+fn addition(thread: i64, number: i64) -> (i64, i64) {
+    ((number * 7 + thread) % ROWS, number % 5 + 1)
+}
+
+/// Adds to a row in a transaction of its own, until it is committed. Answers the commit, and how often one was refused.
+fn add(store: &Store, thread: i64, row: i64, amount: i64) -> Result<(u64, usize), Error> {
+    let mut refused = 0;
+    loop {
+        let mut txn = store.begin(thread as u32)?;
+        let sum = txn.get([row])?.and_then(|row| row[1].as_int()).ok_or(Error::Missing)?;
+        txn.set([row], 1, sum + amount)?;
+        match txn.commit() {
+            Ok(commit) => return Ok((commit, refused)),
+            Err(CommitError::Conflict(_) | CommitError::TooOld(_)) => refused += 1,
+            Err(other) => return Err(other.error()),
+        }
+    }
+}
+
+#[test]
+fn additions_of_eight_threads_are_all_there() {
+    let commits = std::env::var("PDT_COMMITS").map_or(100_000, |count| count.parse::<i64>().unwrap());
+    let each = commits / THREADS;
+    let table: String = (0..ROWS).map(|row| format!("{row},0\n")).collect();
+    let store = Store::open(format!("id:int:key,sum:int\n{table}"), &Options::default()).unwrap();
+    let refused = AtomicUsize::new(0);
+    thread::scope(|threads| {
+        for thread in 0..THREADS {
+            let (store, refused) = (&store, &refused);
+            threads.spawn(move || {
+                for number in 0..each {
+                    let (row, amount) = addition(thread, number);
+                    let (commit, conflicts) = add(store, thread, row, amount).unwrap();
+                    refused.fetch_add(conflicts, Ordering::Relaxed);
+                    if commit % FOLD_EVERY == 0 {
+                        store.fold().unwrap();
+                        store.cut();
+                    }
+                }
+            });
+        }
+    });
+    let mut wanted = vec![0; ROWS as usize];
+    for (row, amount) in (0..THREADS).flat_map(|thread| (0..each).map(move |number| addition(thread, number))) {
+        wanted[row as usize] += amount;
+    }
+    let txn = store.begin(0).unwrap();
+    let sums: Vec<i64> = txn.batch(&[1], ..).unwrap().ints(0).unwrap().iter().collect();
+    assert_eq!(wanted, sums);
+    assert_eq!((each * THREADS) as u64, store.sizes().commits);
+    println!("{} commits, {} refused", each * THREADS, refused.into_inner());
+}
+
+#[test]
+fn a_transaction_ends_on_another_thread() {
+    let store = Store::open("id:int:key\n", &Options::default()).unwrap();
+    let (mut first, mut second) = (store.begin(1).unwrap(), store.begin(2).unwrap());
+    thread::scope(|threads| {
+        threads.spawn(move || first.insert([1]).and_then(|()| Ok(first.commit()?)).unwrap());
+        threads.spawn(move || second.insert([2]).unwrap()); // dropped there, and so aborted
+    });
+    assert_eq!(0, store.sizes().open_transactions);
+    assert_eq!(1, store.begin(3).unwrap().rows());
+}
+
+#[test]
+fn threads_read_what_a_batch_lends_while_others_commit() {
+    let table: String = (0..3000).map(|row| format!("{row},{row}\n")).collect();
+    let store = Store::open(format!("id:int:key,qty:int\n{table}"), &Options::default()).unwrap();
+    let txn = store.begin(1).unwrap();
+    let batch = txn.batch(&[1], ..).unwrap();
+    thread::scope(|threads| {
+        let reader = threads.spawn(|| (0..50).map(|_| batch.ints(0).unwrap().iter().sum::<i64>()).collect::<Vec<_>>());
+        for row in 0..200 {
+            let mut other = store.begin(2).unwrap();
+            other.set([row], 1, -1).unwrap();
+            other.commit().unwrap();
+            assert_eq!(Some(row), txn.row_at(row as u64).unwrap().unwrap()[1].as_int());
+        }
+        store.fold().unwrap();
+        store.cut();
+        assert_eq!(vec![2999 * 3000 / 2; 50], reader.join().unwrap());
+    });
+    assert_eq!(2999 * 3000 / 2, batch.ints(0).unwrap().iter().sum::<i64>());
+}

@@ -1,0 +1,93 @@
+/* Keys, as the door takes them. */
+#include "vtab.h"
+
+#include <string.h>
+
+SQLITE_EXTENSION_INIT3
+
+/* How many bytes the character at the start of a text has; 0 where there is none in UTF-8. */
+static size_t character(const unsigned char *at, size_t left) {
+  unsigned char lead = at[0], low = lead == 0xe0 ? 0xa0 : lead == 0xf0 ? 0x90 : 0x80;
+  unsigned char high = lead == 0xed ? 0x9f : lead == 0xf4 ? 0x8f : 0xbf;
+  if (lead < 0x80) return 1;
+  size_t len = lead < 0xc2 ? 0 : lead < 0xe0 ? 2 : lead < 0xf0 ? 3 : lead < 0xf5 ? 4 : 0;
+  if (!len || len > left || at[1] < low || at[1] > high) return 0;
+  for (size_t i = 2; i < len; i++)
+    if (at[i] < 0x80 || at[i] > 0xbf) return 0;
+  return len;
+}
+
+bool is_cell_text(const void *text, size_t len) {
+  if (len > PDT_MAX_TEXT) return false;
+  for (size_t at = 0, count; at < len; at += count) {
+    count = character((const unsigned char *)text + at, len - at);
+    if (!count) return false;
+  }
+  return true;
+}
+
+void key_start(key *k) { k->columns = k->bytes = 0; }
+
+void key_put_number(key *k, int64_t number) { k->numbers[k->columns++] = number; }
+
+void key_put_text(key *k, const void *text, size_t len) {
+  memcpy(k->texts + k->bytes, text, len);
+  k->bytes += len;
+  key_put_number(k, (int64_t)len);
+}
+
+/* The greatest text is all of the greatest character, which is four bytes long. */
+static void key_put_greatest_text(key *k) {
+  char text[PDT_MAX_TEXT];
+  for (size_t i = 0; i < PDT_MAX_TEXT; i += 4) memcpy(text + i, "\xf4\x8f\xbf\xbf", 4);
+  key_put_text(k, text, PDT_MAX_TEXT);
+}
+
+void key_fill(const session *s, key *k, bool greatest) {
+  while (k->columns < s->keys) {
+    int type = type_of(s, k->columns);
+    if (type == PDT_TEXT && greatest) key_put_greatest_text(k);
+    else if (type == PDT_BOOL) key_put_number(k, greatest);
+    else if (type == PDT_INT) key_put_number(k, greatest ? INT64_MAX : INT64_MIN);
+    else key_put_text(k, "", 0);
+  }
+}
+
+void key_of_row(const session *s, const int64_t *numbers, const char *texts, key *k) {
+  key_start(k);
+  for (size_t column = 0; column < s->keys; column++) {
+    if (type_of(s, column) == PDT_TEXT) key_put_text(k, texts + k->bytes, (size_t)numbers[column]);
+    else key_put_number(k, numbers[column]);
+  }
+}
+
+bool key_is(const key *a, const key *b) {
+  return a->bytes == b->bytes && !memcmp(a->numbers, b->numbers, a->columns * sizeof *a->numbers) &&
+         !memcmp(a->texts, b->texts, a->bytes);
+}
+
+/* The key of the hidden column: its numbers and then its texts. */
+static bool key_of_blob(const session *s, sqlite3_value *value, key *k) {
+  size_t bytes = (size_t)sqlite3_value_bytes(value), head = s->keys * sizeof *k->numbers;
+  if (sqlite3_value_type(value) != SQLITE_BLOB || bytes < head || bytes - head > sizeof k->texts) return false;
+  const char *blob = sqlite3_value_blob(value);
+  memcpy(k->numbers, blob, head);
+  memcpy(k->texts, blob + head, bytes - head);
+  k->columns = s->keys;
+  k->bytes = bytes - head;
+  return true;
+}
+
+bool key_of_value(const session *s, sqlite3_value *value, key *k) {
+  if (s->keys > 1) return key_of_blob(s, value, k);
+  key_start(k);
+  if (type_of(s, 0) != PDT_TEXT) {
+    key_put_number(k, sqlite3_value_int64(value));
+    return sqlite3_value_type(value) == SQLITE_INTEGER;
+  }
+  const void *text = sqlite3_value_text(value);
+  int len = sqlite3_value_bytes(value);
+  if (!text || len > PDT_MAX_TEXT) return false;
+  key_put_text(k, text, (size_t)len);
+  return true;
+}

@@ -1,0 +1,215 @@
+/* Plans, and the ranges of keys that they stand for. */
+#include "vtab.h"
+
+#include <string.h>
+
+SQLITE_EXTENSION_INIT3
+
+/* ---- plans: idxNum has how many leading key columns have one value, what bounds the next one, and the direction */
+
+typedef struct planning {
+  const session *session;
+  sqlite3_index_info *info;
+  sqlite3_str *words; /* the plan as EXPLAIN QUERY PLAN shows it */
+  int arguments;
+  bool exact; /* whether the bounds so far are just what they say for any value, so that SQLite needn't compare again */
+} planning;
+
+/* A comparison of a column that may be used, with one of two operators; -1 where there is none. */
+static int find_constraint(const planning *p, size_t column, int op, int other) {
+  for (int i = 0; i < p->info->nConstraint; i++) {
+    const struct sqlite3_index_constraint *c = &p->info->aConstraint[i];
+    if (!c->usable || c->iColumn != (int)column || (c->op != op && c->op != other)) continue;
+    if (type_of(p->session, column) != PDT_TEXT || !sqlite3_stricmp(sqlite3_vtab_collation(p->info, i), "BINARY"))
+      return i;
+  }
+  return -1;
+}
+
+static void take_constraint(planning *p, int i, size_t column, const char *op) {
+  p->info->aConstraintUsage[i].argvIndex = ++p->arguments;
+  p->info->aConstraintUsage[i].omit = p->exact;
+  sqlite3_str_appendf(p->words, "%s%s%s?", p->arguments > 1 ? " AND " : "", pdt_column_name(p->session->store, column),
+                      op);
+}
+
+/* Takes what bounds a column at both sides; the bits for it. */
+static int take_range(planning *p, size_t column) {
+  int bits = 0;
+  int low = find_constraint(p, column, SQLITE_INDEX_CONSTRAINT_GT, SQLITE_INDEX_CONSTRAINT_GE);
+  int high = find_constraint(p, column, SQLITE_INDEX_CONSTRAINT_LT, SQLITE_INDEX_CONSTRAINT_LE);
+  if (low >= 0) {
+    bool past = p->info->aConstraint[low].op == SQLITE_INDEX_CONSTRAINT_GT;
+    take_constraint(p, low, column, past ? ">" : ">=");
+    bits |= LOW | (past ? LOW_PAST : 0);
+  }
+  if (high >= 0) {
+    bool past = p->info->aConstraint[high].op == SQLITE_INDEX_CONSTRAINT_LE;
+    take_constraint(p, high, column, past ? "<=" : "<");
+    bits |= HIGH | (past ? HIGH_PAST : 0);
+  }
+  return bits;
+}
+
+/* Whether the order that is asked for is that of the keys, up or down. The first `fixed` columns have one value; a
+   whole key is one row's, so what comes after it orders nothing. */
+static bool is_key_order(const planning *p, size_t fixed, bool *down) {
+  size_t next = fixed;
+  bool known = false;
+  for (int i = 0; i < p->info->nOrderBy && next < p->session->keys; i++) {
+    int column = p->info->aOrderBy[i].iColumn;
+    bool desc = p->info->aOrderBy[i].desc;
+    if (column >= 0 && (size_t)column < fixed) continue;
+    if (column != (int)next || (known && desc != *down)) return false;
+    *down = desc;
+    known = true;
+    next++;
+  }
+  return true;
+}
+
+/* Fewer rows and fewer columns cost less; a search costs as much as some rows. */
+static void put_cost(planning *p, size_t equal, int bits) {
+  double rows = (double)p->session->rows;
+  if (equal == p->session->keys) rows = 1;
+  else
+    for (size_t i = 0; i < equal; i++) rows /= 10;
+  if (bits & LOW) rows /= 4;
+  if (bits & HIGH) rows /= 4;
+  if (rows < 1) rows = 1;
+  double columns = 1;
+  for (uint64_t used = p->info->colUsed; used; used &= used - 1) columns++;
+  p->info->estimatedRows = (sqlite3_int64)rows;
+  p->info->estimatedCost = 20 + rows * columns;
+}
+
+int x_best_index(sqlite3_vtab *base, sqlite3_index_info *info) {
+  planning p = {session_of(base), info, sqlite3_str_new(NULL), 0, true};
+  size_t equal = 0, fixed = 0; /* fixed: those of the equal columns that are exact */
+  for (; equal < p.session->keys; equal++) {
+    int i = find_constraint(&p, equal, SQLITE_INDEX_CONSTRAINT_EQ, SQLITE_INDEX_CONSTRAINT_EQ);
+    p.exact = p.exact && type_of(p.session, equal) != PDT_TEXT;
+    if (i < 0) break;
+    take_constraint(&p, i, equal, "=");
+    fixed += p.exact;
+  }
+  int bits = equal < p.session->keys ? take_range(&p, equal) : 0;
+  if (fixed == p.session->keys) info->idxFlags = SQLITE_INDEX_SCAN_UNIQUE;
+  bool down = false;
+  if (info->nOrderBy && is_key_order(&p, fixed, &down)) {
+    info->orderByConsumed = 1;
+    bits |= down ? DOWN : 0;
+    sqlite3_str_appendf(p.words, "%sORDER BY KEY%s", p.arguments ? " " : "", down ? " DESC" : "");
+  }
+  put_cost(&p, equal, bits);
+  info->idxNum = (int)equal | bits;
+  int code = sqlite3_str_errcode(p.words);
+  info->idxStr = sqlite3_str_finish(p.words);
+  info->needToFreeIdxStr = 1;
+  return code;
+}
+
+/* ---- ranges */
+
+/* Narrows the numbers that a column may have by a comparison with a whole number. */
+static bool narrow_by_int(int op, int64_t number, int64_t *least, int64_t *most) {
+  if (op == SQLITE_INDEX_CONSTRAINT_GT && number == INT64_MAX) return false;
+  if (op == SQLITE_INDEX_CONSTRAINT_LT && number == INT64_MIN) return false;
+  int64_t from = op == SQLITE_INDEX_CONSTRAINT_GT ? number + 1 : number;
+  int64_t to = op == SQLITE_INDEX_CONSTRAINT_LT ? number - 1 : number;
+  bool below = op == SQLITE_INDEX_CONSTRAINT_LT || op == SQLITE_INDEX_CONSTRAINT_LE;
+  bool above = op == SQLITE_INDEX_CONSTRAINT_GT || op == SQLITE_INDEX_CONSTRAINT_GE;
+  if (!below && from > *least) *least = from;
+  if (!above && to < *most) *most = to;
+  return *least <= *most;
+}
+
+/* The same by a number with a fraction, or one past all whole numbers. */
+static bool narrow_by_real(int op, double number, int64_t *least, int64_t *most) {
+  bool below = op == SQLITE_INDEX_CONSTRAINT_LT || op == SQLITE_INDEX_CONSTRAINT_LE;
+  bool above = op == SQLITE_INDEX_CONSTRAINT_GT || op == SQLITE_INDEX_CONSTRAINT_GE;
+  if (number >= 9223372036854775808.0) return below;
+  if (number < -9223372036854775808.0) return above;
+  int64_t whole = (int64_t)number;
+  if ((double)whole == number) return narrow_by_int(op, whole, least, most);
+  if ((double)whole > number) whole--;
+  if (below) return narrow_by_int(SQLITE_INDEX_CONSTRAINT_LE, whole, least, most);
+  return above && narrow_by_int(SQLITE_INDEX_CONSTRAINT_GT, whole, least, most);
+}
+
+/* The same by any value, as SQLite compares it with a column of numbers: a text that looks like a number is one, any
+   other text and a blob are above all numbers. It isn't NULL. False where no number is left. */
+static bool narrow(int op, sqlite3_value *value, int64_t *least, int64_t *most) {
+  switch (sqlite3_value_numeric_type(value)) {
+  case SQLITE_INTEGER: return narrow_by_int(op, sqlite3_value_int64(value), least, most);
+  case SQLITE_FLOAT: return narrow_by_real(op, sqlite3_value_double(value), least, most);
+  default: return op == SQLITE_INDEX_CONSTRAINT_LT || op == SQLITE_INDEX_CONSTRAINT_LE;
+  }
+}
+
+/* A text that bounds a column of texts; null where the value is none, and then it bounds nothing: SQLite compares
+   again. */
+static const void *text_of(sqlite3_value *value, size_t *len) {
+  if (sqlite3_value_type(value) != SQLITE_TEXT) return NULL;
+  const void *text = sqlite3_value_text(value);
+  *len = (size_t)sqlite3_value_bytes(value);
+  return text && is_cell_text(text, *len) ? text : NULL;
+}
+
+/* Puts a column's one value into both keys. False where it bounds nothing. */
+static bool put_equal(const session *s, range *r, sqlite3_value *value) {
+  size_t column = r->low.columns, len = 0;
+  if (type_of(s, column) == PDT_TEXT) {
+    const void *text = text_of(value, &len);
+    if (!text) return false;
+    key_put_text(&r->low, text, len);
+    key_put_text(&r->high, text, len);
+    return true;
+  }
+  int64_t least = type_of(s, column) == PDT_BOOL ? 0 : INT64_MIN, most = type_of(s, column) == PDT_BOOL ? 1 : INT64_MAX;
+  if (!narrow(SQLITE_INDEX_CONSTRAINT_EQ, value, &least, &most)) r->empty = true;
+  key_put_number(&r->low, least);
+  key_put_number(&r->high, most);
+  return true;
+}
+
+/* Puts the numbers between two bounds, of which each may be missing. */
+static void put_numbers(const session *s, range *r, int plan, sqlite3_value *low, sqlite3_value *high) {
+  int type = type_of(s, r->low.columns);
+  int64_t least = type == PDT_BOOL ? 0 : INT64_MIN, most = type == PDT_BOOL ? 1 : INT64_MAX;
+  int from = plan & LOW_PAST ? SQLITE_INDEX_CONSTRAINT_GT : SQLITE_INDEX_CONSTRAINT_GE;
+  int to = plan & HIGH_PAST ? SQLITE_INDEX_CONSTRAINT_LE : SQLITE_INDEX_CONSTRAINT_LT;
+  if (low && !narrow(from, low, &least, &most)) r->empty = true;
+  if (high && !narrow(to, high, &least, &most)) r->empty = true;
+  key_put_number(&r->low, least);
+  key_put_number(&r->high, most);
+}
+
+/* Puts a text into a key; whether it was one. */
+static bool put_text(key *k, sqlite3_value *value) {
+  size_t len = 0;
+  const void *text = value ? text_of(value, &len) : NULL;
+  if (text) key_put_text(k, text, len);
+  return text;
+}
+
+void range_of(const session *s, range *r, int plan, sqlite3_value **values) {
+  int at = 0, equal = plan & EQUAL, count = equal + !!(plan & LOW) + !!(plan & HIGH);
+  key_start(&r->low);
+  key_start(&r->high);
+  r->past_low = false;
+  r->past_high = true;
+  r->empty = false; /* nothing compares with NULL */
+  for (int i = 0; i < count; i++) r->empty = r->empty || sqlite3_value_type(values[i]) == SQLITE_NULL;
+  while (at < equal && put_equal(s, r, values[at])) at++;
+  if (at == equal && count > equal) {
+    sqlite3_value *low = plan & LOW ? values[equal] : NULL, *high = plan & HIGH ? values[count - 1] : NULL;
+    if (type_of(s, r->low.columns) != PDT_TEXT) put_numbers(s, r, plan, low, high);
+    else {
+      if (put_text(&r->low, low)) r->past_low = plan & LOW_PAST;
+      if (put_text(&r->high, high)) r->past_high = plan & HIGH_PAST;
+    }
+  }
+  key_fill(s, &r->low, r->past_low);
+  key_fill(s, &r->high, r->past_high);
+}

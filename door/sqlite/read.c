@@ -1,0 +1,188 @@
+/* Cursors. */
+#include "vtab.h"
+
+#include <string.h>
+
+SQLITE_EXTENSION_INIT3
+
+enum { LEAST_BATCH = 32, BATCH = 1024, BATCH_TEXT = 1 << 16 };
+
+/* ---- cursors of a view */
+
+/* After a row was inserted at a position, or the one there was deleted. A new row at an end of the range stays
+   outside. */
+void cursors_shift(view *v, uint64_t position, bool inserted) {
+  for (cursor *c = v->cursors; c; c = c->next) {
+    uint64_t current = cursor_position(c);
+    if (c->low >= c->high) continue;
+    if (inserted) {
+      if (position < c->high) c->high++;
+      if (position <= c->low) c->low++;
+    } else if (position < c->high) {
+      if (position == current) c->gone = true;
+      if (position < c->low) c->low--;
+      c->high--;
+    }
+  }
+}
+
+bool cursors_are_open(const view *v) {
+  for (const cursor *c = v->cursors; c; c = c->next)
+    if (c->low < c->high) return true;
+  return false;
+}
+
+/* ---- reading */
+
+int x_open(sqlite3_vtab *base, sqlite3_vtab_cursor **out) {
+  session *s = session_of(base);
+  int code = view_enter(base, false);
+  if (code) return code;
+  size_t bytes = sizeof(cursor) + s->width * sizeof(batch);
+  cursor *c = sqlite3_malloc((int)bytes);
+  if (!c) return SQLITE_NOMEM;
+  memset(c, 0, bytes);
+  c->view = s->view;
+  c->next = s->view->cursors;
+  s->view->cursors = c;
+  *out = &c->base;
+  return SQLITE_OK;
+}
+
+int x_close(sqlite3_vtab_cursor *base) {
+  cursor *c = (cursor *)base;
+  session *s = session_of(base->pVtab);
+  view *v = c->view;
+  cursor **at = &v->cursors;
+  while (*at != c) at = &(*at)->next;
+  *at = c->next;
+  for (size_t column = 0; column < s->width; column++) {
+    sqlite3_free(c->batches[column].numbers);
+    sqlite3_free(c->batches[column].ends);
+    sqlite3_free(c->batches[column].texts);
+  }
+  sqlite3_free(c);
+  if (v != s->view && !v->cursors) view_free(v);
+  else if (view_is_stale(s)) view_leave(s);
+  return SQLITE_OK;
+}
+
+static int is_over(sqlite3_vtab *base) {
+  return say(base, SQLITE_ABORT, "pdt: the transaction that this statement read in is over");
+}
+
+int x_filter(sqlite3_vtab_cursor *base, int plan, const char *words, int argc, sqlite3_value **argv) {
+  (void)words, (void)argc;
+  cursor *c = (cursor *)base;
+  const session *s = session_of(base->pVtab);
+  range r;
+  if (s->doomed) return refuse_doomed(base->pVtab);
+  if (!c->view->txn) return is_over(base->pVtab);
+  range_of(s, &r, plan, argv);
+  c->down = plan & DOWN;
+  c->gone = false;
+  c->low = c->high = 0;
+  if (r.empty) return SQLITE_OK;
+  int code = pdt_rows(c->view->txn, &c->high);
+  if (!(plan & (EQUAL | LOW | HIGH))) return fail(base->pVtab, code);
+  if (!code) code = view_position(c->view, &r.low, r.past_low, &c->low);
+  if (!code) code = view_position(c->view, &r.high, r.past_high, &c->high);
+  for (size_t column = 0; column < s->width; column++) c->batches[column].want = LEAST_BATCH;
+  return fail(base->pVtab, code);
+}
+
+int x_next(sqlite3_vtab_cursor *base) {
+  cursor *c = (cursor *)base;
+  if (!c->view->txn) return is_over(base->pVtab);
+  if (c->gone) c->gone = false;
+  else if (c->down) c->high--;
+  else c->low++;
+  return SQLITE_OK;
+}
+
+int x_eof(sqlite3_vtab_cursor *base) {
+  const cursor *c = (const cursor *)base;
+  return c->low >= c->high;
+}
+
+/* Room for a batch, which a cursor keeps. */
+static bool batch_make(batch *b, bool is_text) {
+  if (!b->numbers) b->numbers = sqlite3_malloc(BATCH * sizeof *b->numbers);
+  if (is_text && !b->ends) b->ends = sqlite3_malloc(BATCH * sizeof *b->ends);
+  if (is_text && !b->texts) b->texts = sqlite3_malloc(BATCH_TEXT);
+  return b->numbers && (!is_text || (b->ends && b->texts));
+}
+
+/* Reads up to count cells from a position on. At least one comes: the room for texts has more than one of the
+   longest. */
+static int batch_read(const session *s, view *v, batch *b, size_t column, uint64_t from, size_t count) {
+  b->from = from;
+  b->edits = v->edits;
+  b->count = count;
+  if (type_of(s, column) == PDT_INT) return pdt_ints(v->txn, column, from, b->numbers, &b->count);
+  int code = pdt_cells(v->txn, column, from, b->numbers, &b->count, b->texts, b->texts ? BATCH_TEXT : 0, NULL);
+  for (size_t i = 0, end = 0; b->texts && !code && i < b->count; i++) b->ends[i] = end += (size_t)b->numbers[i];
+  return code;
+}
+
+static bool batch_has(const batch *b, const view *v, uint64_t position) {
+  return b->count && b->edits == v->edits && position >= b->from && position - b->from < b->count;
+}
+
+/* The batch of a column that has the current row: the cells from it on, or those up to it where the cursor goes down.
+   Only columns that are asked for are read. */
+static int batch_load(cursor *c, size_t column, batch **out) {
+  const session *s = session_of(c->base.pVtab);
+  batch *b = &c->batches[column];
+  uint64_t current = cursor_position(c);
+  *out = b;
+  if (batch_has(b, c->view, current)) return PDT_OK;
+  if (!batch_make(b, type_of(s, column) == PDT_TEXT)) return PDT_NOMEM;
+  size_t count = b->want ? b->want : LEAST_BATCH;
+  b->want = count < BATCH ? 2 * count : BATCH;
+  if (count > c->high - c->low) count = (size_t)(c->high - c->low);
+  for (;; count = (count + 1) / 2) {
+    int code = batch_read(s, c->view, b, column, c->down ? c->high - count : current, count);
+    if (code || batch_has(b, c->view, current)) return code;
+    if (count == 1) return PDT_MISSING;
+  }
+}
+
+static const char *batch_text(const batch *b, size_t i) { return b->texts + b->ends[i] - b->numbers[i]; }
+
+/* The hidden column: the key as one blob. */
+static int put_key(cursor *c, sqlite3_context *to) {
+  const session *s = session_of(c->base.pVtab);
+  uint64_t current = cursor_position(c);
+  char blob[sizeof(int64_t) * KEY_COLUMNS + KEY_COLUMNS * PDT_MAX_TEXT];
+  size_t bytes = s->keys * sizeof(int64_t);
+  for (size_t column = 0; column < s->keys; column++) {
+    batch *b;
+    int code = batch_load(c, column, &b);
+    if (code) return code;
+    size_t i = (size_t)(current - b->from);
+    memcpy(blob + column * sizeof(int64_t), &b->numbers[i], sizeof(int64_t));
+    if (!b->texts) continue;
+    memcpy(blob + bytes, batch_text(b, i), (size_t)b->numbers[i]);
+    bytes += (size_t)b->numbers[i];
+  }
+  sqlite3_result_blob(to, blob, (int)bytes, SQLITE_TRANSIENT);
+  return PDT_OK;
+}
+
+/* A cell of the current row. Nothing where an UPDATE leaves it as it is, and NULL where the row was deleted
+   meanwhile. */
+int x_column(sqlite3_vtab_cursor *base, sqlite3_context *to, int column) {
+  cursor *c = (cursor *)base;
+  const session *s = session_of(base->pVtab);
+  batch *b;
+  if (c->gone || sqlite3_vtab_nochange(to)) return SQLITE_OK;
+  if (!c->view->txn) return is_over(base->pVtab);
+  if ((size_t)column == s->width) return fail(base->pVtab, put_key(c, to));
+  int code = batch_load(c, (size_t)column, &b);
+  if (code) return fail(base->pVtab, code);
+  size_t i = (size_t)(cursor_position(c) - b->from);
+  if (b->texts) sqlite3_result_text(to, batch_text(b, i), (int)b->numbers[i], SQLITE_TRANSIENT);
+  else sqlite3_result_int64(to, b->numbers[i]);
+  return SQLITE_OK;
+}

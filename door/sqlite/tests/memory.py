@@ -1,0 +1,84 @@
+"""Each allocation of a session refused in turn: a statement answers NOMEM or does its work, and nothing is half done.
+
+    memory.py EXTENSION     which is linked with refusing.c
+"""
+import ctypes
+import sys
+import tempfile
+from pathlib import Path
+
+from sql import Connection, Error, memory_used
+
+NOMEM = 7
+CSV = "id:int:key,slot:text:key,name:text,qty:int\n" + "".join(f"{i},s,name {i},{i}\n" for i in range(0, 90, 3))
+PLAIN = "CREATE TABLE t (id INTEGER, slot TEXT, name TEXT, qty INTEGER, PRIMARY KEY (id, slot)) WITHOUT ROWID"
+BLOCKS = [  # each as one: all of its statements, or none
+    ["INSERT INTO t VALUES (1, 's', 'one', 1), (2, 's', 'two', 2)"],
+    ["REPLACE INTO t VALUES (3, 's', 'three', 3)"],
+    ["UPDATE t SET qty = qty + 1, name = name || 'x' WHERE id BETWEEN 10 AND 40"],
+    ["UPDATE t SET id = id + 1000, slot = 'moved' WHERE id = 12"],
+    ["UPDATE OR REPLACE t SET id = 15 WHERE id = 18"],
+    ["DELETE FROM t WHERE id > 60 AND id < 1000"],
+    ["BEGIN", "DELETE FROM t WHERE id = 21", "INSERT INTO t VALUES (21, 't', '', 0)", "UPDATE t SET qty = 7", "COMMIT"],
+]
+READS = ["SELECT * FROM t ORDER BY id DESC, slot DESC", "SELECT sum(qty) FROM t WHERE id > 20", "SELECT pdt_fold('t')"]
+
+
+def is_done(connection, block):
+    """Whether all of a block was done; if not, memory was refused, and none was."""
+    try:
+        for sql in block:
+            connection.run(sql)
+        return True
+    except Error as error:
+        assert error.code == NOMEM, error
+    try:
+        connection.run("ROLLBACK")
+    except Error:
+        pass  # SQLite has rolled back itself
+    return False
+
+
+def session(extension, folder, refuse, n):
+    """A session in which the n-th allocation is refused; whether there were so many."""
+    virtual, plain = Connection(extension=extension), Connection(extension=None)
+    refuse(n)
+    create = f"CREATE VIRTUAL TABLE t USING pdt('{folder}/t.csv')"
+    try:
+        virtual.run(create)
+    except Error as error:
+        assert error.code == NOMEM or error.text.endswith("memory was refused"), error
+        virtual.run(create)
+    plain.run(PLAIN)
+    for line in CSV.splitlines()[1:]:
+        number, slot, name, qty = line.split(",")
+        plain.run(f"INSERT INTO t VALUES ({number}, '{slot}', '{name}', {qty})")
+    for block in BLOCKS:
+        if is_done(virtual, block):
+            assert is_done(plain, block), block
+        for read in READS:
+            is_done(virtual, [read])
+    left = refuse(0)
+    found, wanted = virtual.run("SELECT * FROM t"), plain.run("SELECT * FROM t")
+    assert found == wanted, f"allocation {n}: found {found}, wanted {wanted}"
+    virtual.close()
+    plain.close()
+    assert memory_used() == 0, f"allocation {n} leaves {memory_used()} bytes"
+    return left == 0
+
+
+def main():
+    extension = Path(sys.argv[1]).resolve()
+    refuse = ctypes.CDLL(str(extension)).refuse
+    refuse.argtypes, refuse.restype = [ctypes.c_long], ctypes.c_long
+    n = 1
+    with tempfile.TemporaryDirectory() as folder:
+        Path(folder, "t.csv").write_text(CSV)
+        while session(extension, folder, refuse, n):
+            n += 1
+    assert n > 100, f"only {n} allocations"
+    print(f"{n - 1} allocations refused in turn")
+
+
+if __name__ == "__main__":
+    main()

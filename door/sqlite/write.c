@@ -1,0 +1,218 @@
+/* Writes. */
+#include "vtab.h"
+
+#include <string.h>
+
+SQLITE_EXTENSION_INIT3
+
+static int mismatch(sqlite3_vtab *base, size_t column, sqlite3_value *value) {
+  static const char *const wanted[] = {"", "a whole number", "a text in UTF-8 of at most 4096 bytes", "0 or 1"};
+  static const char *const found[] = {"", "an integer", "a real", "a text", "a blob", "NULL"};
+  const session *s = session_of(base);
+  return say(base, SQLITE_MISMATCH, "pdt: column %s takes %s, not %s", pdt_column_name(s->store, column),
+             wanted[type_of(s, column)], found[sqlite3_value_type(value)]);
+}
+
+/* A value as a whole number, by the affinity of such columns: 5.0 and '5' are 5. */
+static bool number_of(sqlite3_value *value, int64_t *number) {
+  int type = sqlite3_value_numeric_type(value);
+  if (type == SQLITE_INTEGER) *number = sqlite3_value_int64(value);
+  if (type != SQLITE_FLOAT) return type == SQLITE_INTEGER;
+  double real = sqlite3_value_double(value);
+  if (!(real >= -9223372036854775808.0 && real < 9223372036854775808.0)) return false;
+  *number = (int64_t)real;
+  return (double)*number == real;
+}
+
+/* Puts the cell of a value into a row, its text after the others. A number in a text column is its text, by its
+   affinity. */
+static int put_cell(sqlite3_vtab *base, size_t column, sqlite3_value *value, int64_t *numbers, char *texts,
+                    size_t *bytes) {
+  int type = type_of(session_of(base), column), found = sqlite3_value_type(value);
+  if (type != PDT_TEXT) {
+    bool fits = number_of(value, &numbers[column]) && (type == PDT_INT || numbers[column] == 0 || numbers[column] == 1);
+    return fits ? SQLITE_OK : mismatch(base, column, value);
+  }
+  if (found == SQLITE_NULL || found == SQLITE_BLOB) return mismatch(base, column, value);
+  const void *text = sqlite3_value_text(value);
+  int len = sqlite3_value_bytes(value);
+  if (!text) return SQLITE_NOMEM;
+  if (!is_cell_text(text, (size_t)len)) return mismatch(base, column, value);
+  memcpy(texts + *bytes, text, (size_t)len);
+  numbers[column] = len;
+  *bytes += (size_t)len;
+  return SQLITE_OK;
+}
+
+/* After a write of the door: what it means for the other cursors, the savepoints and the commit. */
+static void wrote(session *s) {
+  s->wrote = true;
+  s->owner->writer = s;
+  s->view->edits++;
+  if (s->depth > s->deepest) s->deepest = s->depth;
+}
+
+static int insert_row(session *s, size_t bytes) {
+  key k;
+  uint64_t position = 0;
+  bool read = cursors_are_open(s->view);
+  key_of_row(s, s->row, s->row_texts, &k);
+  int code = read ? view_position(s->view, &k, false, &position) : PDT_OK;
+  if (!code) code = pdt_insert(s->view->txn, s->row, s->row_texts, bytes);
+  if (code) return code;
+  wrote(s);
+  if (read) cursors_shift(s->view, position, true);
+  return PDT_OK;
+}
+
+static int delete_row(session *s, const key *k) {
+  uint64_t position = 0;
+  bool read = cursors_are_open(s->view);
+  int code = read ? view_position(s->view, k, false, &position) : PDT_OK;
+  if (!code) code = pdt_delete(s->view->txn, k->numbers, k->texts, k->bytes);
+  if (code) return code;
+  wrote(s);
+  if (read) cursors_shift(s->view, position, false);
+  return PDT_OK;
+}
+
+/* Deletes rows and inserts the one in s->row. Memory may be refused half-way: only ROLLBACK is left then. */
+static int replace_row(session *s, const key *const *olds, size_t count, size_t bytes) {
+  int code = PDT_OK;
+  size_t done = 0;
+  for (; done < count && !code; done++) code = delete_row(s, olds[done]);
+  if (!code) code = insert_row(s, bytes);
+  if (code && done) s->doomed = s->wrote;
+  return code;
+}
+
+static int hidden(sqlite3_vtab *base) {
+  return say(base, SQLITE_MISMATCH, "pdt: the hidden column of the key can't be written");
+}
+
+static int insert(sqlite3_vtab *base, sqlite3_value **values) {
+  session *s = session_of(base);
+  size_t bytes = 0;
+  for (size_t column = 0; column < s->width; column++) {
+    int code = put_cell(base, column, values[column], s->row, s->row_texts, &bytes);
+    if (code) return code;
+  }
+  if (s->keys > 1 && sqlite3_value_type(values[s->width]) != SQLITE_NULL) return hidden(base);
+  int code = insert_row(s, bytes);
+  if (code != PDT_DUPLICATE || sqlite3_vtab_on_conflict(s->owner->db) != SQLITE_REPLACE) return fail(base, code);
+  key k;
+  const key *old = &k;
+  key_of_row(s, s->row, s->row_texts, &k);
+  return fail(base, replace_row(s, &old, 1, bytes));
+}
+
+/* Sets the cells that an UPDATE names; their numbers and texts stand in s->row, in their order. */
+static int set_cells(session *s, const key *k, sqlite3_value **values) {
+  int code = PDT_OK;
+  bool some = false;
+  const char *text = s->row_texts;
+  for (size_t column = 0; column < s->width && !code; column++) {
+    if (sqlite3_value_nochange(values[column])) continue;
+    if (column >= s->keys) {
+      code = pdt_set(s->view->txn, k->numbers, k->texts, k->bytes, column, s->row[column], text);
+      if (!code) wrote(s);
+      if (code && some) s->doomed = true;
+      some = true;
+    }
+    if (type_of(s, column) == PDT_TEXT) text += s->row[column];
+  }
+  return code;
+}
+
+/* Puts the whole new row into s->row: cells that an UPDATE doesn't name are those of the old one, in s->old. */
+static int merge_row(sqlite3_vtab *base, sqlite3_value **values, size_t *bytes) {
+  session *s = session_of(base);
+  const char *old = s->old_texts;
+  *bytes = 0;
+  for (size_t column = 0; column < s->width; column++) {
+    bool is_text = type_of(s, column) == PDT_TEXT;
+    size_t len = is_text ? (size_t)s->old[column] : 0;
+    if (sqlite3_value_nochange(values[column])) {
+      s->row[column] = s->old[column];
+      memcpy(s->row_texts + *bytes, old, len);
+      *bytes += len;
+    } else {
+      int code = put_cell(base, column, values[column], s->row, s->row_texts, bytes);
+      if (code) return code;
+    }
+    old += len;
+  }
+  return SQLITE_OK;
+}
+
+/* Moves the row in s->old to another key. The new row is inserted first, so that nothing has changed where it is
+   refused; but after the deletes where the table is full, and where a row of the new key is replaced. */
+static int move_row(sqlite3_vtab *base, const key *from, const key *to, size_t bytes) {
+  session *s = session_of(base);
+  const key *olds[] = {from, to};
+  int code = insert_row(s, bytes);
+  if (code == PDT_FULL) return replace_row(s, olds, 1, bytes);
+  if (code == PDT_DUPLICATE && sqlite3_vtab_on_conflict(s->owner->db) == SQLITE_REPLACE)
+    return replace_row(s, olds, 2, bytes);
+  if (code) return code;
+  code = delete_row(s, from);
+  if (code) s->doomed = true;
+  return code;
+}
+
+static bool names_key(const session *s, sqlite3_value **values) {
+  for (size_t column = 0; column < s->keys; column++)
+    if (!sqlite3_value_nochange(values[column])) return true;
+  return false;
+}
+
+/* Puts the cells that are named into s->row, and nothing of the others. */
+static int named_cells(sqlite3_vtab *base, sqlite3_value **values) {
+  size_t bytes = 0;
+  for (size_t column = 0; column < session_of(base)->width; column++) {
+    if (sqlite3_value_nochange(values[column])) continue;
+    int code = put_cell(base, column, values[column], session_of(base)->row, session_of(base)->row_texts, &bytes);
+    if (code) return code;
+  }
+  return SQLITE_OK;
+}
+
+static int set_row(sqlite3_vtab *base, const key *k, sqlite3_value **values) {
+  int code = named_cells(base, values);
+  if (code) return code;
+  code = set_cells(session_of(base), k, values);
+  return code == PDT_MISSING ? SQLITE_OK : fail(base, code);
+}
+
+static int update(sqlite3_vtab *base, const key *from, sqlite3_value **values) {
+  session *s = session_of(base);
+  key to;
+  size_t bytes = 0;
+  if (s->keys > 1 && !sqlite3_value_nochange(values[s->width]) &&
+      (!key_of_value(s, values[s->width], &to) || !key_is(from, &to)))
+    return hidden(base);
+  if (!names_key(s, values)) return set_row(base, from, values);
+  int code = pdt_get(s->view->txn, from->numbers, from->texts, from->bytes, s->old, s->old_texts, s->text_room, NULL);
+  if (code) return code == PDT_MISSING ? SQLITE_OK : fail(base, code);
+  code = merge_row(base, values, &bytes);
+  if (code) return code;
+  key_of_row(s, s->row, s->row_texts, &to);
+  return key_is(from, &to) ? set_row(base, from, values) : fail(base, move_row(base, from, &to, bytes));
+}
+
+/* A row is written: deleted where there is one value, inserted where the first is NULL, and changed otherwise. One
+   that the same statement has taken away already is passed over, as in SQLite's own tables. */
+int x_update(sqlite3_vtab *base, int argc, sqlite3_value **argv, sqlite3_int64 *rowid) {
+  (void)rowid;
+  session *s = session_of(base);
+  key k;
+  if (s->doomed) return refuse_doomed(base);
+  if (s->owner->writer && s->owner->writer != s)
+    return say(base, SQLITE_ERROR, "pdt: a transaction writes one table of pdt, and this one has written %s",
+               s->owner->writer->name);
+  if (argc > 1 && sqlite3_value_type(argv[0]) == SQLITE_NULL) return insert(base, argv + 2);
+  if (!key_of_value(s, argv[0], &k)) return fail(base, PDT_SHAPE);
+  if (argc > 1) return update(base, &k, argv + 2);
+  int code = delete_row(s, &k);
+  return code == PDT_MISSING ? SQLITE_OK : fail(base, code);
+}
