@@ -369,7 +369,7 @@ static int write_column(handle *image, const char *folder, size_t column, uint8_
   size_t len = pdtr_image_len(image, column);
   for (size_t at = 0; at < len && !code;) {
     size_t count = pdtr_image_read(image, column, at, chunk, CHUNK);
-    code = write_all(file, chunk, count);
+    code = count ? write_all(file, chunk, count) : PDT_IO; /* no clause says that bytes come */
     at += count;
   }
   return end_file(file, code);
