@@ -287,12 +287,15 @@ static void stores(const char *room) {
   pdt_close(store);
 }
 
-/* A failed checkpoint says why, and not how the taking away of its files went: no file can be made in /sys. */
+/* A failed checkpoint says why, and not how the taking away of its files went: as a rule no file can be made in /sys. */
 static void causes(void) {
   if (access("/sys/kernel", F_OK)) return;
   pdt_store *store = opened(NULL);
-  is("a checkpoint in /sys", PDT_IO, pdt_checkpoint(store, "/sys"));
-  is("its cause", 1, errno == EACCES || errno == EROFS || errno == EPERM);
+  int code = pdt_checkpoint(store, "/sys"), cause = errno;
+  if (code != PDT_OK) { /* some machine may let a file be made there */
+    is("a checkpoint in /sys", PDT_IO, code);
+    is("its cause", 1, cause == EACCES || cause == EROFS || cause == EPERM);
+  }
   pdt_close(store);
 }
 
