@@ -20,10 +20,10 @@ use Rattle.counted.specs.contracts.node.Node.TheKnot.{frame, step, sizes, type-N
 use Rattle.counted.specs.contracts.node.Node.TheKnot.{at-Node, view-Node, hole-Node}
 
 entry_send : IsSend SharedEntry.the_row
-entry_send = search (sendable, crosses) depth 60
+entry_send = search (sendable, crosses) depth 60 fits 20000
 
 entry_sync : IsSync SharedEntry.the_row
-entry_sync = search (sendable, crosses) depth 60
+entry_sync = search (sendable, crosses) depth 60 fits 20000
 
 head_send : IsSend (Head.the_field).row
 head_send = search (sendable, crosses) depth 60

@@ -1,3 +1,4 @@
+pub mod Changes
 pub mod Descents
 pub mod Edits
 pub mod Gaps

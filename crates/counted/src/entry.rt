@@ -1,5 +1,6 @@
 //! The entries of a tree, and what each adds to the rows below it.
 ghost use Rattle.std.specs.Prelude.{◌≡◌, IfOk};
+ghost use Rattle.counted.specs.Changes.{change_of, kept_change, IsWeighed};
 ghost use Rattle.counted.specs.Heads.{head_of};
 ghost use Rattle.counted.specs.Sums.{weight_of};
 
@@ -7,14 +8,36 @@ use model::{Change, Entry};
 use std::alloc::{AllocError, Global};
 use std::marker::Model;
 use std::sync::Arc;
+use values::{Key, Row, Value, ValueRef};
 
-/// An entry whose change is shared: its copies, and those of it at other SIDs, own one change together.
+/// An entry. A number or a truth that it sets stands in it; any other change is shared: its copies, and those of it at other
+/// SIDs, own one change together.
 #[derive(Drop)]
 pub struct SharedEntry {
     sid: u64,
-    /// What the change adds to the rows below it, so that a search reads only the changes that it compares.
-    weight: i64,
-    change: Arc<Change, Global>,
+    kept: Kept,
+}
+
+/// How a change is kept.
+#[derive(Drop)]
+pub(crate) enum Kept {
+    /// A modify of the column by a number.
+    Number(usize, i64),
+    /// A modify of the column by a truth.
+    Truth(usize, bool),
+    /// Any other one, with what it adds to the rows below it, so that a search reads only the changes that it compares.
+    Shared(i64, Arc<Change, Global>),
+}
+
+/// What an entry does, lent.
+#[derive(Clone, Copy)]
+pub enum ChangeRef<'a> {
+    /// The row stands before the base row of the place.
+    Ins(&'a Row),
+    /// The base row of the place, which has this key, is gone.
+    Del(&'a Key),
+    /// The cell of this column of the base row of the place has this value.
+    Mod(usize, ValueRef<'a>),
 }
 
 /// What is kept of an entry where it is the first of a child: enough to place it by its SID, with no look at its change.
@@ -29,12 +52,11 @@ impl Model for SharedEntry {
 
     ghost Value = { Entry };
 
-    ghost view = { λ e. record { sid = e.sid; change = e.change.value } };
+    ghost use Rattle.counted.specs.Changes.{kept_change, IsWeighed};
 
-    ghost use Rattle.std.specs.Prelude.{◌≡◌};
-    ghost use Rattle.counted.specs.Sums.{weight_of};
+    ghost view = { λ e. record { sid = e.sid; change = kept_change e.kept } };
 
-    ghost invariant = { λ e. e.weight ≡ weight_of e.change.value };
+    ghost invariant = { λ e. IsWeighed e.kept };
 }
 
 impl SharedEntry {
@@ -48,8 +70,7 @@ impl SharedEntry {
     {
         Ok(SharedEntry {
             sid: entry.sid,
-            weight: change_weight(&entry.change),
-            change: Arc::new(alloc, entry.change)?,
+            kept: keep(alloc, entry.change)?,
         })
     }
 
@@ -61,17 +82,24 @@ impl SharedEntry {
     }
 
     /// What it does there.
-    pub fn change(&self) -> &Change
-        ensures { result.now ≡ self.now.change }
+    pub fn change(&self) -> ChangeRef<'_>
+        ensures { change_of result ≡ self.now.change }
     {
-        &self.change
+        match &self.kept {
+            Kept::Number(col, number) => ChangeRef::Mod(*col, ValueRef::Int(*number)),
+            Kept::Truth(col, truth) => ChangeRef::Mod(*col, ValueRef::Bool(*truth)),
+            Kept::Shared(_, change) => lent(change),
+        }
     }
 
     /// One for an insert, minus one for a delete, and nothing for a modify. It reads no change.
     pub(crate) fn weight(&self) -> i64
         ensures { result ≡ weight_of self.now.change }
     {
-        self.weight
+        match &self.kept {
+            Kept::Number(..) | Kept::Truth(..) => 0,
+            Kept::Shared(weight, _) => *weight,
+        }
     }
 
     /// What places it by its SID, and tells what its change adds. It reads no change.
@@ -80,7 +108,7 @@ impl SharedEntry {
     {
         Head {
             sid: self.sid,
-            weight: self.weight,
+            weight: self.weight(),
         }
     }
 
@@ -103,11 +131,35 @@ impl SharedEntry {
     pub fn with_sid(&self, sid: u64) -> Result<SharedEntry, AllocError>
         ensures { IfOk result (λ moved. moved ≡ record self.now { sid = sid }) }
     {
-        Ok(SharedEntry {
-            sid,
-            weight: self.weight,
-            change: Arc::try_clone(&self.change)?,
-        })
+        let kept = match &self.kept {
+            Kept::Number(col, number) => Kept::Number(*col, *number),
+            Kept::Truth(col, truth) => Kept::Truth(*col, *truth),
+            Kept::Shared(weight, change) => Kept::Shared(*weight, Arc::try_clone(change)?),
+        };
+        Ok(SharedEntry { sid, kept })
+    }
+}
+
+/// How a change that nobody shares yet is kept.
+fn keep(alloc: Global, change: Change) -> Result<Kept, AllocError>
+    ensures change { IfOk result (λ kept. kept_change kept ≡ change) }
+    ensures weighed { IfOk result IsWeighed }
+{
+    match change {
+        Change::Mod(col, Value::Int(number)) => Ok(Kept::Number(col, number)),
+        Change::Mod(col, Value::Bool(truth)) => Ok(Kept::Truth(col, truth)),
+        other => Ok(Kept::Shared(change_weight(&other), Arc::new(alloc, other)?)),
+    }
+}
+
+/// A change, lent.
+pub fn lent(change: &Change) -> ChangeRef<'_>
+    ensures { change_of result ≡ change.now }
+{
+    match change {
+        Change::Ins(row) => ChangeRef::Ins(row),
+        Change::Del(key) => ChangeRef::Del(key),
+        Change::Mod(col, value) => ChangeRef::Mod(*col, value.as_ref()),
     }
 }
 

@@ -4,6 +4,7 @@ ghost use Rattle.std.specs.Prelude.{length, slice_get, slice_index_or, take, dro
 ghost use Rattle.model.specs.declared.entry.Change.{Change};
 ghost use Rattle.model.specs.declared.entry.Entry.{Entry};
 ghost use Rattle.counted.specs.declared.node.Child.{Child};
+ghost use Rattle.counted.specs.Changes.{change_of};
 ghost use Rattle.counted.specs.Descents.{IsAt};
 ghost use Rattle.counted.specs.Gaps.{Leads, Follows, IsGap, ArePlaced};
 ghost use Rattle.counted.specs.Heads.{head_of};
@@ -12,8 +13,7 @@ ghost use Rattle.counted.specs.Sums.{total, weight_of};
 
 use crate::node::{Body, Child, Node};
 use crate::spot::{Above, Spot};
-use crate::{SharedEntry, Steps};
-use model::Change;
+use crate::{ChangeRef, SharedEntry, Steps};
 use std::sync::ledger::Ledger;
 
 /// What comes to stand at a position.
@@ -24,8 +24,8 @@ pub trait Gap {
     /// The same by what the change adds alone, where that tells.
     ghost by_weight: { Self → ℤ → Option Bool };
 
-    fn is_after(&self, change: &Change) -> bool
-        ensures { result ≡ after self.now change.now };
+    fn is_after(&self, change: ChangeRef<'_>) -> bool
+        ensures { result ≡ after self.now (change_of change.entry) };
 
     /// Whether it comes after a change that adds so much, so that a search seldom reads a change.
     fn is_after_weight(&self, weight: i64) -> Option<bool>

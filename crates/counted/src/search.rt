@@ -5,6 +5,7 @@ ghost use Rattle.model.specs.declared.entry.Change.{Change};
 ghost use Rattle.model.specs.declared.entry.Entry.{Entry};
 ghost use Rattle.std.proofs.Common.{Ordering, Less};
 ghost use Rattle.counted.specs.declared.node.Child.{Child};
+ghost use Rattle.counted.specs.Changes.{change_of};
 ghost use Rattle.counted.specs.Descents.{IsAt};
 ghost use Rattle.counted.specs.Heads.{head_of};
 ghost use Rattle.counted.specs.Search.{stands_before, IsBoundary};
@@ -13,8 +14,7 @@ ghost use Rattle.counted.specs.Sums.{weight_of};
 
 use crate::node::{Body, Child, Node};
 use crate::spot::{Above, Spot};
-use crate::{SharedEntry, Steps};
-use model::Change;
+use crate::{ChangeRef, SharedEntry, Steps};
 use std::cmp::Ordering;
 use std::sync::ledger::Ledger;
 
@@ -26,8 +26,8 @@ pub trait Probe {
     /// The same by what the change adds alone, where that tells.
     ghost by_weight: { Self → ℤ → Option Ordering };
 
-    fn compare(&self, change: &Change) -> Ordering
-        ensures { result ≡ stand self.now change.now };
+    fn compare(&self, change: ChangeRef<'_>) -> Ordering
+        ensures { result ≡ stand self.now (change_of change.entry) };
 
     /// How it stands to a change that adds so much, so that a search seldom reads a change.
     fn compare_weight(&self, weight: i64) -> Option<Ordering>
@@ -44,7 +44,7 @@ impl Probe for First {
 
     ghost by_weight = { λ p w. Some Less };
 
-    fn compare(&self, _change: &Change) -> Ordering {
+    fn compare(&self, _change: ChangeRef<'_>) -> Ordering {
         Ordering::Less
     }
 

@@ -26,6 +26,7 @@ use Rattle.model.specs.Entries.{IsLawful, entry_at, entries_of, canonical_entrie
 use Rattle.model.proofs.CallerLemmas.{both, first, second, find_below, find_past, below_less, turn_less, turn_greater, rank-lt}
 use Rattle.model.proofs.CallerLemmas.{canonical_entries-at_key}
 use Rattle.delta.specs.Search.{insert_cmp, past_cmp, stands_before, IsSplit}
+use Rattle.counted.specs.Changes.{change_of}
 use Rattle.model.specs.Places.{delete_count}
 use Rattle.model.specs.Entries.{are_ordered}
 use Rattle.delta.specs.BySid.{made_of_base, base_change, effect_on_base, stand_of}
@@ -44,7 +45,7 @@ pub deletes-before-sought : (key_cols sid : ℕ) (sought : Sought) (es : List En
 deletes-before-sought key_cols sid (sought.Insert key) es n ordered split = deletes-before-insert key_cols sid key.now es n ordered split
 deletes-before-sought key_cols sid sought.Base es n ordered split = deletes-before-base key_cols sid es n ordered split
 deletes-before-sought key_cols sid (sought.Change change) es n ordered split =
-    deletes-before-change key_cols sid change.now es n ordered split
+    deletes-before-change key_cols sid (change_of change) es n ordered split
 
 -- a base row with modifies stands below 2^32, as its entries do
 pub modified_below : (key_cols sid : ℕ) (es : List Entry) (n : ℕ) → IsLawful key_cols es → base_change sid (slice_get es n) ≡ Modified

@@ -6,6 +6,7 @@ use Rattle.model.specs.declared.entry.Entry.{Entry}
 use Rattle.model.specs.declared.entry.Change.{Change}
 use Rattle.model.specs.declared.entry.Change.TheVariants.{Ins, Del, Mod}
 use Rattle.model.specs.Entries.{change_cmp}
+use Rattle.counted.specs.Changes.{change_of}
 use Rattle.model.specs.declared.effect.Effect.{Effect}
 use Rattle.model.specs.declared.effect.Effect.TheVariants as effect
 use Rattle.delta.specs.declared.by_sid.BaseChange.{BaseChange}
@@ -19,7 +20,7 @@ use Rattle.delta.specs.Search.{insert_cmp, base_cmp}
 abbrev pub stand_of : ℕ → Sought → Change → Ordering
 stand_of key_cols (Insert key) = insert_cmp key_cols key.now
 stand_of key_cols Base = base_cmp
-stand_of key_cols (Stands change) = change_cmp key_cols change.now
+stand_of key_cols (Stands change) = change_cmp key_cols (change_of change)
 
 -- the row that is inserted with the key that is looked for, if there is one
 abbrev pub row_sought : ℕ → ℕ → Sought → List Entry → Option Row

@@ -9,3 +9,4 @@ pub mod BySid
 pub mod Starts
 pub mod Folds
 pub mod Ahead
+pub mod Lent

@@ -11,8 +11,7 @@ ghost use Rattle.delta.specs.declared.by_sid.BaseChange.TheVariants.{Modified};
 
 use crate::places::row_behind;
 use crate::tree::DeltaTree;
-use counted::{Iter, SharedEntry, Start};
-use model::Change;
+use counted::{ChangeRef, Iter, SharedEntry, Start};
 use values::{Row, Value};
 
 /// What is looked for at a SID.
@@ -23,7 +22,7 @@ pub enum Sought<'a> {
     /// What becomes of the base row: its delete, or its modifies.
     Base,
     /// A change.
-    Change(&'a Change),
+    Change(ChangeRef<'a>),
 }
 
 /// What becomes of the base row at a SID.
@@ -124,9 +123,9 @@ fn base_change(there: Option<&SharedEntry>, sid: u64) -> BaseChange
 {
     match there {
         Some(entry) if entry.sid() == sid => match entry.change() {
-            Change::Ins(_) => BaseChange::Kept,
-            Change::Del(_) => BaseChange::Deleted,
-            Change::Mod(..) => BaseChange::Modified,
+            ChangeRef::Ins(_) => BaseChange::Kept,
+            ChangeRef::Del(_) => BaseChange::Deleted,
+            ChangeRef::Mod(..) => BaseChange::Modified,
         },
         _ => BaseChange::Kept,
     }

@@ -12,8 +12,9 @@ ghost use Rattle.delta.specs.Search.{base_cmp, past_cmp, stands_before, IsSplit}
 ghost use Rattle.delta.specs.Changes.{is_modify_at, modify_count, has_cell, entries_with, MayBePut, MayBePutAt, IsRun};
 
 use crate::tree::{DeltaTree, copy_entry};
-use counted::{SharedEntry, Start};
+use counted::{ChangeRef, SharedEntry, Start};
 use model::{Change, Entry};
+use std::alloc::Global;
 use values::{Key, NoMemory, Row, Value};
 
 impl DeltaTree {
@@ -109,19 +110,19 @@ impl DeltaTree {
     {
         let sid = entry.sid();
         match entry.change() {
-            Change::Ins(row) => {
+            ChangeRef::Ins(row) => {
                 let index = self.index_of_insert(sid, row.key(self.key_cols));
                 (index, index)
             }
-            Change::Del(_) => {
+            ChangeRef::Del(_) => {
                 let place = self.place_of_base(sid);
                 (place.index, self.end_of_row(&place, sid))
             }
-            Change::Mod(col, _) => {
-                let place = self.place_of_modify(sid, *col);
+            ChangeRef::Mod(col, _) => {
+                let place = self.place_of_modify(sid, col);
                 (
                     place.index,
-                    place.index + modify_worth(place.entry(), sid, *col),
+                    place.index + modify_worth(place.entry(), sid, col),
                 )
             }
         }
@@ -172,7 +173,7 @@ impl DeltaTree {
             ≡ record self.old { entries = set self.old.entries at (entry_at e.sid (change_with_cell col value e.change)) }) }
         ensures err { OnErr result (self.new ≡ self.old) }
     {
-        let entry = with_cell(self.tree.get(at), col, value)?;
+        let entry = with_cell(self.alloc, self.tree.get(at), col, value)?;
         self.tree.replace_run(self.alloc, at, at + 1, entry)?;
         Ok(())
     }
@@ -191,7 +192,7 @@ impl DeltaTree {
         ensures err { OnErr result (self.new ≡ self.old) }
     {
         let index = self.index_of_insert(sid, key.cells());
-        let entry = with_cell(self.tree.get(index), col, value)?;
+        let entry = with_cell(self.alloc, self.tree.get(index), col, value)?;
         self.tree.replace_run(self.alloc, index, index + 1, entry)?;
         Ok(())
     }
@@ -230,17 +231,22 @@ fn worth_of(entry: &SharedEntry, sid: u64, col: usize) -> usize
     ensures { result ≡ cond (is_modify_at sid col entry.now) 1 0 }
 {
     match entry.change() {
-        Change::Mod(other, _) if entry.sid() == sid && *other == col => 1,
+        ChangeRef::Mod(other, _) if entry.sid() == sid && other == col => 1,
         _ => 0,
     }
 }
 
 /// The entry with another value in a cell of the row that it inserts.
-fn with_cell(entry: &SharedEntry, col: usize, value: Value) -> Result<Entry, NoMemory>
+fn with_cell(
+    alloc: Global,
+    entry: &SharedEntry,
+    col: usize,
+    value: Value,
+) -> Result<Entry, NoMemory>
     requires { has_cell col entry.now.change }
     ensures { IfOk result (λ e. e ≡ entry_at entry.now.sid (change_with_cell col value entry.now.change)) }
 {
-    let mut changed = copy_entry(entry)?;
+    let mut changed = copy_entry(alloc, entry)?;
     set_cell(&mut changed, col, value);
     Ok(changed)
 }

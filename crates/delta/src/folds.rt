@@ -1,6 +1,7 @@
 //! Where an entry over the image is folded in, found by one search.
 ghost use Rattle.std.specs.Prelude.{◌≡◌, ◌<◌, ◌^◌, IsTrue};
 ghost use Rattle.values.specs.Shape.{key_of};
+ghost use Rattle.counted.specs.Changes.{change_of};
 ghost use Rattle.model.specs.Entries.{IsLawful};
 ghost use Rattle.model.specs.declared.entry.Change.TheVariants.{Ins};
 ghost use Rattle.delta.specs.declared.places.Place.{Place};
@@ -14,8 +15,7 @@ use crate::changes::modify_worth;
 use crate::places::{Place, Start, next_row, row_at};
 use crate::sorted::Ahead;
 use crate::tree::DeltaTree;
-use counted::Gap;
-use model::Change;
+use counted::{ChangeRef, Gap};
 use values::{Row, Value};
 
 /// Where an entry over the image is folded in.
@@ -38,7 +38,7 @@ impl<'a> Gap for RowOf<'a> {
 
     ghost by_weight = { λ p. after_some_deletes };
 
-    fn is_after(&self, change: &Change) -> bool {
+    fn is_after(&self, change: ChangeRef<'_>) -> bool {
         deletes_below(self.key, change)
     }
 
@@ -51,18 +51,18 @@ impl DeltaTree {
     /// Where the change of a row at a position of the image is folded in: an insert, whose row comes to the position, past
     /// the deletes, among those just before the row that stands there, of smaller keys; another change where that row
     /// stands. One descent, and from there on past the modifies of the row; it takes no memory.
-    pub fn find_fold(&self, rid: u64, change: &Change) -> Fold
+    pub fn find_fold(&self, rid: u64, change: ChangeRef<'_>) -> Fold
         requires rid { rid < 2 ^ 63 }
 
         // So that those of smaller keys stand first among the deletes just before a row.
         requires ascending { IsTrue (deletes_ascend self.now.entries) }
-        ensures fold { IsFold self.now.key_cols self.now.entries rid change.now result }
-        ensures only { IsOnlyFold self.now.key_cols self.now.entries rid change.now result }
+        ensures fold { IsFold self.now.key_cols self.now.entries rid (change_of change.entry) result }
+        ensures only { IsOnlyFold self.now.key_cols self.now.entries rid (change_of change.entry) result }
     {
         match change {
-            Change::Ins(row) => self.find_gap(rid, row),
-            Change::Del(_) => self.find_row(rid, change),
-            Change::Mod(_, _) => self.find_row(rid, change),
+            ChangeRef::Ins(row) => self.find_gap(rid, row),
+            ChangeRef::Del(_) => self.find_row(rid, change),
+            ChangeRef::Mod(_, _) => self.find_row(rid, change),
         }
     }
 
@@ -82,11 +82,11 @@ impl DeltaTree {
     }
 
     /// Where the row at a position stands, and the entries in whose place a change of it is put, if it is a base row.
-    fn find_row(&self, rid: u64, change: &Change) -> Fold
+    fn find_row(&self, rid: u64, change: ChangeRef<'_>) -> Fold
         requires rid { rid < 2 ^ 63 }
         ensures at { IsAtRid self.now.entries rid (row_of_fold result) }
         ensures only { (place : Place) → IsAtRid self.now.entries rid place → place ≡ row_of_fold result }
-        ensures run { IsRunOf self.now.key_cols self.now.entries change.now result }
+        ensures run { IsRunOf self.now.key_cols self.now.entries (change_of change.entry) result }
     {
         let Start {
             index,
@@ -101,33 +101,33 @@ impl DeltaTree {
     }
 
     /// The entries in whose place a change of a base row is put, from where they stand on.
-    fn run_from(&self, ahead: Ahead<'_>, sid: u64, change: &Change) -> Fold
+    fn run_from(&self, ahead: Ahead<'_>, sid: u64, change: ChangeRef<'_>) -> Fold
         requires lawful { IsLawful self.now.key_cols self.now.entries }
         requires ahead { IsAhead self.now.entries ahead }
         requires split { IsSplit (stands_before base_cmp sid) self.now.entries ahead.index }
         ensures row { row_of_fold result ≡ Base sid }
-        ensures run { IsRunOf self.now.key_cols self.now.entries change.now result }
+        ensures run { IsRunOf self.now.key_cols self.now.entries (change_of change.entry) result }
     {
         match change {
-            Change::Ins(_) => Fold::Put(sid, ahead.index, ahead.index),
-            Change::Del(_) => {
+            ChangeRef::Ins(_) => Fold::Put(sid, ahead.index, ahead.index),
+            ChangeRef::Del(_) => {
                 let start = ahead.index;
                 Fold::Put(sid, start, self.end_of(ahead, sid))
             }
-            Change::Mod(col, _) => {
-                let (start, entry) = self.modify_from(ahead, sid, *col);
-                Fold::Put(sid, start, start + modify_worth(entry, sid, *col))
+            ChangeRef::Mod(col, _) => {
+                let (start, entry) = self.modify_from(ahead, sid, col);
+                Fold::Put(sid, start, start + modify_worth(entry, sid, col))
             }
         }
     }
 }
 
 /// Whether the change deletes a row of a smaller key.
-fn deletes_below(key: &[Value], change: &Change) -> bool
-    ensures { result ≡ deletes_below key.now change.now }
+fn deletes_below(key: &[Value], change: ChangeRef<'_>) -> bool
+    ensures { result ≡ deletes_below key.now (change_of change.entry) }
 {
     match change {
-        Change::Del(gone) => gone.cells().cmp(key).is_lt(),
+        ChangeRef::Del(gone) => gone.cells().cmp(key).is_lt(),
         _ => false,
     }
 }

@@ -7,8 +7,7 @@ ghost use Rattle.delta.specs.Search.{insert_cmp, stands_before, IsSplit};
 
 use crate::sorted::compare_insert;
 use crate::tree::DeltaTree;
-use counted::{SharedEntry, Start};
-use model::Change;
+use counted::{ChangeRef, SharedEntry, Start};
 use values::{Row, Value};
 
 impl DeltaTree {
@@ -40,7 +39,7 @@ fn inserted_at<'a>(
     ensures { option_copied result ≡ row_at key_cols sid key.now entry.now }
 {
     match entry.change() {
-        Change::Ins(row)
+        ChangeRef::Ins(row)
             if entry.sid() == sid && compare_insert(key_cols, key, entry.change()).is_eq() => Some(
             row,
         ),

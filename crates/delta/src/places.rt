@@ -2,6 +2,7 @@
 ghost use Rattle.std.specs.Prelude.{◌≡◌, false, ◌<◌, ◌≤◌, ◌^◌, ◌+ℤ◌, ◌≤ℤ◌, Option, drop, length, pos, take};
 ghost use Rattle.std.specs.Option.{option_copied, option_map};
 ghost use Rattle.values.specs.declared.row.Row.{Row};
+ghost use Rattle.counted.specs.Changes.{change_of};
 ghost use Rattle.counted.specs.Gaps.{IsGap};
 ghost use Rattle.counted.specs.Heads.{head_of};
 ghost use Rattle.counted.specs.Sums.{total};
@@ -14,8 +15,7 @@ ghost use Rattle.delta.specs.Depth.{CountsEachLevel};
 ghost use Rattle.delta.specs.Starts.{IsStart, place_at};
 
 use crate::tree::DeltaTree;
-use counted::{CountedTree, Gap, Head, Iter, SharedEntry, Steps};
-use model::Change;
+use counted::{ChangeRef, CountedTree, Gap, Head, Iter, SharedEntry, Steps};
 use std::sync::ledger::Ledger;
 
 /// Where the row at a position of the image comes from.
@@ -46,7 +46,7 @@ impl Gap for RowThere {
 
     ghost by_weight = { λ p. after_deletes };
 
-    fn is_after(&self, change: &Change) -> bool {
+    fn is_after(&self, change: ChangeRef<'_>) -> bool {
         is_delete(change)
     }
 
@@ -150,12 +150,12 @@ fn row_of(head: Option<Head>, index: usize, sid: u64) -> Place
 }
 
 /// Whether the change is a delete.
-fn is_delete(change: &Change) -> bool
-    ensures { result ≡ is_delete change.now }
+fn is_delete(change: ChangeRef<'_>) -> bool
+    ensures { result ≡ is_delete (change_of change.entry) }
 {
     match change {
-        Change::Del(_) => true,
-        Change::Ins(_) | Change::Mod(..) => false,
+        ChangeRef::Del(_) => true,
+        ChangeRef::Ins(_) | ChangeRef::Mod(..) => false,
     }
 }
 

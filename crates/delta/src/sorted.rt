@@ -3,6 +3,7 @@ ghost use Rattle.std.specs.Prelude.{◌≡◌, T, drop, slice_get, take};
 ghost use Rattle.std.specs.Option.{option_copied};
 ghost use Rattle.std.specs.List.{list_all};
 ghost use Rattle.model.specs.Entries.{change_cmp, IsLawful};
+ghost use Rattle.counted.specs.Changes.{change_of};
 ghost use Rattle.counted.specs.Sums.{total};
 ghost use Rattle.delta.specs.Ahead.{IsAhead};
 ghost use Rattle.delta.specs.BySid.{stand_of};
@@ -11,8 +12,7 @@ ghost use Rattle.delta.specs.Search.{insert_by_weight, base_by_weight, modify_by
 
 use crate::by_sid::Sought;
 use crate::tree::DeltaTree;
-use counted::{First, Iter, Probe, SharedEntry, Start};
-use model::Change;
+use counted::{ChangeRef, First, Iter, Probe, SharedEntry, Start};
 use std::cmp::Ordering;
 use values::Value;
 
@@ -49,7 +49,7 @@ impl<'a> Probe for InsertOf<'a> {
 
     ghost by_weight = { λ p. insert_by_weight };
 
-    fn compare(&self, change: &Change) -> Ordering {
+    fn compare(&self, change: ChangeRef<'_>) -> Ordering {
         compare_insert(self.key_cols, self.key, change)
     }
 
@@ -67,7 +67,7 @@ impl Probe for BaseRow {
 
     ghost by_weight = { λ p. base_by_weight };
 
-    fn compare(&self, change: &Change) -> Ordering {
+    fn compare(&self, change: ChangeRef<'_>) -> Ordering {
         compare_base(change)
     }
 
@@ -85,7 +85,7 @@ impl Probe for ModifyOf {
 
     ghost by_weight = { λ p. modify_by_weight };
 
-    fn compare(&self, change: &Change) -> Ordering {
+    fn compare(&self, change: ChangeRef<'_>) -> Ordering {
         compare_modify(self.col, change)
     }
 
@@ -105,7 +105,7 @@ impl Probe for Past {
 
     ghost by_weight = { λ p. past_by_weight };
 
-    fn compare(&self, _change: &Change) -> Ordering {
+    fn compare(&self, _change: ChangeRef<'_>) -> Ordering {
         Ordering::Greater
     }
 
@@ -254,47 +254,47 @@ impl DeltaTree {
     }
 
     /// Where a change stands at the SID, or would stand.
-    fn place_of_change(&self, sid: u64, change: &Change) -> Start<'_>
-        ensures split { IsSplit (stands_before (change_cmp self.now.key_cols change.now) sid) self.now.entries result.index }
+    fn place_of_change(&self, sid: u64, change: ChangeRef<'_>) -> Start<'_>
+        ensures split { IsSplit (stands_before (change_cmp self.now.key_cols (change_of change.entry)) sid) self.now.entries result.index }
         ensures shift { result.shift ≡ total (take result.index self.now.entries) }
         ensures rest { result.entries ≡ drop result.index self.now.entries }
         ensures lawful { IsLawful self.now.key_cols self.now.entries }
     {
         match change {
-            Change::Ins(row) => self.place_of_insert(sid, row.key(self.key_cols)),
-            Change::Del(_) => self.place_of_base(sid),
-            Change::Mod(col, _) => self.place_of_modify(sid, *col),
+            ChangeRef::Ins(row) => self.place_of_insert(sid, row.key(self.key_cols)),
+            ChangeRef::Del(_) => self.place_of_base(sid),
+            ChangeRef::Mod(col, _) => self.place_of_modify(sid, col),
         }
     }
 }
 
 /// How an insert of the key stands to a change at its SID.
-pub(crate) fn compare_insert(key_cols: usize, key: &[Value], change: &Change) -> Ordering
-    ensures { result ≡ insert_cmp key_cols key.now change.now }
+pub(crate) fn compare_insert(key_cols: usize, key: &[Value], change: ChangeRef<'_>) -> Ordering
+    ensures { result ≡ insert_cmp key_cols key.now (change_of change.entry) }
 {
     match change {
-        Change::Ins(row) => key.cmp(row.key(key_cols)),
+        ChangeRef::Ins(row) => key.cmp(row.key(key_cols)),
         _ => Ordering::Less,
     }
 }
 
 /// How what becomes of the base row stands to a change at its SID.
-fn compare_base(change: &Change) -> Ordering
-    ensures { result ≡ base_cmp change.now }
+fn compare_base(change: ChangeRef<'_>) -> Ordering
+    ensures { result ≡ base_cmp (change_of change.entry) }
 {
     match change {
-        Change::Ins(_) => Ordering::Greater,
+        ChangeRef::Ins(_) => Ordering::Greater,
         _ => Ordering::Equal,
     }
 }
 
 /// How a modify of the column stands to a change at its SID.
-fn compare_modify(col: usize, change: &Change) -> Ordering
-    ensures { result ≡ modify_cmp col change.now }
+fn compare_modify(col: usize, change: ChangeRef<'_>) -> Ordering
+    ensures { result ≡ modify_cmp col (change_of change.entry) }
 {
     match change {
-        Change::Ins(_) => Ordering::Greater,
-        Change::Del(_) => Ordering::Equal,
-        Change::Mod(other, _) => col.cmp(other),
+        ChangeRef::Ins(_) => Ordering::Greater,
+        ChangeRef::Del(_) => Ordering::Equal,
+        ChangeRef::Mod(other, _) => col.cmp(&other),
     }
 }

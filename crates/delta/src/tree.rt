@@ -3,7 +3,7 @@ ghost use Rattle.std.specs.Prelude.{◌≡◌, IfOk, length, []};
 ghost use Rattle.counted.specs.Trees.{IsDepth};
 ghost use Rattle.delta.specs.Lookups.{total_of};
 
-use counted::{CountedTree, SharedEntry};
+use counted::{ChangeRef, CountedTree, SharedEntry};
 use model::{Change, Entry};
 use std::alloc::Global;
 use std::marker::Model;
@@ -133,13 +133,13 @@ impl DeltaTree {
 }
 
 /// The entry, with its change copied.
-pub(crate) fn copy_entry(entry: &SharedEntry) -> Result<Entry, NoMemory>
+pub(crate) fn copy_entry(alloc: Global, entry: &SharedEntry) -> Result<Entry, NoMemory>
     ensures { IfOk result (λ copied. copied ≡ entry.now) }
 {
     let change = match entry.change() {
-        Change::Ins(row) => Change::Ins(row.copy()?),
-        Change::Del(key) => Change::Del(key.copy()?),
-        Change::Mod(col, value) => Change::Mod(*col, value.copy()?),
+        ChangeRef::Ins(row) => Change::Ins(row.copy()?),
+        ChangeRef::Del(key) => Change::Del(key.copy()?),
+        ChangeRef::Mod(col, value) => Change::Mod(col, value.copy(alloc)?),
     };
     Ok(Entry {
         sid: entry.sid(),

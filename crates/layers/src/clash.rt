@@ -4,13 +4,14 @@ ghost use Rattle.std.specs.Option.{option_copied};
 ghost use Rattle.std.specs.Ordering.{eq_by_cmp};
 ghost use Rattle.values.specs.Orders.{key_cmp};
 ghost use Rattle.values.specs.Shape.{key_of};
+ghost use Rattle.delta.specs.Lent.{change_of};
 ghost use Rattle.delta.specs.Search.{base_cmp, stands_before, IsSplit};
 ghost use Rattle.model.specs.Entries.{change_cmp};
 ghost use Rattle.model.specs.Rebasing.{clash_of_entries, clash_of_changes, columns_clash, or_clash};
 ghost use Rattle.model.specs.declared.entry.Entry.{Entry};
 ghost use Rattle.layers.specs.Serialization.{clash_cmp, clash_with_head, turned_clash, IsClashBeside};
 
-use delta::{Change, DeltaTree, SharedEntry, SidPlace, Sought};
+use delta::{ChangeRef, DeltaTree, SharedEntry, SidPlace, Sought};
 use model::{Clash, ClashKind, ConflictRule};
 use std::cmp::Ordering;
 use values::Row;
@@ -32,39 +33,44 @@ pub(crate) fn stands_before(
 }
 
 /// How a change stands to one at its SID, so that it ties with none but those that it can clash with.
-fn compare(rule: ConflictRule, key_cols: usize, change: &Change, there: &Change) -> Ordering
-    ensures { result ≡ clash_cmp key_cols rule change.now there.now }
+fn compare(
+    rule: ConflictRule,
+    key_cols: usize,
+    change: ChangeRef<'_>,
+    there: ChangeRef<'_>,
+) -> Ordering
+    ensures { result ≡ clash_cmp key_cols rule (change_of change.entry) (change_of there.entry) }
 {
     match (rule, change) {
-        (ConflictRule::ByRow, Change::Mod(_, _)) => compare_base(there),
+        (ConflictRule::ByRow, ChangeRef::Mod(_, _)) => compare_base(there),
         _ => compare_changes(key_cols, change, there),
     }
 }
 
 /// How what becomes of a base row stands to a change at its SID.
-fn compare_base(there: &Change) -> Ordering
-    ensures { result ≡ base_cmp there.now }
+fn compare_base(there: ChangeRef<'_>) -> Ordering
+    ensures { result ≡ base_cmp (change_of there.entry) }
 {
     match there {
-        Change::Ins(_) => Ordering::Greater,
+        ChangeRef::Ins(_) => Ordering::Greater,
         _ => Ordering::Equal,
     }
 }
 
 /// How two changes at one SID stand.
-fn compare_changes(key_cols: usize, change: &Change, there: &Change) -> Ordering
-    ensures { result ≡ change_cmp key_cols change.now there.now }
+fn compare_changes(key_cols: usize, change: ChangeRef<'_>, there: ChangeRef<'_>) -> Ordering
+    ensures { result ≡ change_cmp key_cols (change_of change.entry) (change_of there.entry) }
 {
     match change {
-        Change::Ins(row) => match there {
-            Change::Ins(other) => row.key(key_cols).cmp(other.key(key_cols)),
+        ChangeRef::Ins(row) => match there {
+            ChangeRef::Ins(other) => row.key(key_cols).cmp(other.key(key_cols)),
             _ => Ordering::Less,
         },
-        Change::Del(_) => compare_base(there),
-        Change::Mod(col, _) => match there {
-            Change::Ins(_) => Ordering::Greater,
-            Change::Del(_) => Ordering::Equal,
-            Change::Mod(other, _) => col.cmp(other),
+        ChangeRef::Del(_) => compare_base(there),
+        ChangeRef::Mod(col, _) => match there {
+            ChangeRef::Ins(_) => Ordering::Greater,
+            ChangeRef::Del(_) => Ordering::Equal,
+            ChangeRef::Mod(other, _) => col.cmp(&other),
         },
     }
 }
@@ -86,7 +92,7 @@ pub(crate) fn clash_beside(
 {
     let key_cols = other.key_cols();
     match (rule, entry.change()) {
-        (ConflictRule::ByRow, Change::Mod(_, _)) => {
+        (ConflictRule::ByRow, ChangeRef::Mod(_, _)) => {
             let first = other.find(entry.sid(), Sought::Base);
             clash_at(rule, key_cols, i, entry, first.index, first.entry())
         }
@@ -150,27 +156,27 @@ fn clash_of_changes(
     rule: ConflictRule,
     key_cols: usize,
     here: bool,
-    x: &Change,
-    y: &Change,
+    x: ChangeRef<'_>,
+    y: ChangeRef<'_>,
 ) -> Option<ClashKind>
-    ensures { result ≡ clash_of_changes rule key_cols here x.now y.now }
+    ensures { result ≡ clash_of_changes rule key_cols here (change_of x.entry) (change_of y.entry) }
 {
     match x {
-        Change::Ins(row) => match y {
-            Change::Ins(other) => have_one_key(key_cols, row, other).then_some(
+        ChangeRef::Ins(row) => match y {
+            ChangeRef::Ins(other) => have_one_key(key_cols, row, other).then_some(
                 ClashKind::InsertInsert,
             ),
             _ => None,
         },
-        Change::Del(_) => match y {
-            Change::Ins(_) => None,
-            Change::Del(_) => here.then_some(ClashKind::DeleteDelete),
-            Change::Mod(_, _) => here.then_some(ClashKind::DeleteModify),
+        ChangeRef::Del(_) => match y {
+            ChangeRef::Ins(_) => None,
+            ChangeRef::Del(_) => here.then_some(ClashKind::DeleteDelete),
+            ChangeRef::Mod(_, _) => here.then_some(ClashKind::DeleteModify),
         },
-        Change::Mod(col, _) => match y {
-            Change::Ins(_) => None,
-            Change::Del(_) => here.then_some(ClashKind::DeleteModify),
-            Change::Mod(other, _) => (here && columns_clash(rule, *col, *other)).then_some(
+        ChangeRef::Mod(col, _) => match y {
+            ChangeRef::Ins(_) => None,
+            ChangeRef::Del(_) => here.then_some(ClashKind::DeleteModify),
+            ChangeRef::Mod(other, _) => (here && columns_clash(rule, col, other)).then_some(
                 ClashKind::ModifyModify,
             ),
         },

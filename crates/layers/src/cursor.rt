@@ -8,7 +8,7 @@ ghost use Rattle.layers.specs.Serialization.{IsClashBeside, clash_cmp};
 use crate::ahead::Ahead;
 use crate::beside::Beside;
 use crate::clash::{clash_at, stands_before};
-use delta::{Change, DeltaTree, SharedEntry};
+use delta::{ChangeRef, DeltaTree, SharedEntry};
 use model::ConflictRule;
 
 /// So many of a tree's entries are passed, and the others are ahead.
@@ -92,9 +92,9 @@ impl<'a> Cursor<'a> {
         self.ahead.pass();
         self.passed += 1;
         match there.change() {
-            Change::Ins(_) => self.added += 1,
-            Change::Del(_) => self.gone += 1,
-            Change::Mod(_, _) => {}
+            ChangeRef::Ins(_) => self.added += 1,
+            ChangeRef::Del(_) => self.gone += 1,
+            ChangeRef::Mod(_, _) => {}
         }
     }
 }

@@ -1,13 +1,14 @@
 //! What comes of a lower and an upper entry that are next in a walk over both trees.
 ghost use Rattle.std.specs.Prelude.{◌≡◌, ◌<◌, ◌^◌, IfOk};
 ghost use Rattle.std.specs.Ordering.{is_gt, nat_cmp};
+ghost use Rattle.delta.specs.Lent.{change_of};
 ghost use Rattle.values.specs.Orders.{key_cmp};
 ghost use Rattle.values.specs.Shape.{key_of};
 ghost use Rattle.model.specs.Entries.{entry_at};
 ghost use Rattle.model.specs.Folding.{changes_meet, columns_meet, meet};
 ghost use Rattle.layers.specs.Walk.{kind_of, changed_by};
 
-use delta::{Change, Entry, SharedEntry};
+use delta::{Change, ChangeRef, Entry, SharedEntry};
 use std::alloc::Global;
 use std::cmp::Ordering;
 use values::{Key, NoMemory, Row};
@@ -47,27 +48,27 @@ pub(crate) fn meet(
 }
 
 /// How two changes at one position meet.
-fn changes_meet(key_cols: usize, lower: &Change, upper: &Change) -> Meeting
-    ensures { result ≡ kind_of (changes_meet key_cols lower.now upper.now) }
+fn changes_meet(key_cols: usize, lower: ChangeRef<'_>, upper: ChangeRef<'_>) -> Meeting
+    ensures { result ≡ kind_of (changes_meet key_cols (change_of lower.entry) (change_of upper.entry)) }
 {
     match lower {
-        Change::Ins(_) => match upper {
-            Change::Ins(_) => Meeting::Upper,
-            Change::Del(_) => Meeting::Neither,
-            Change::Mod(_, _) => Meeting::Into,
+        ChangeRef::Ins(_) => match upper {
+            ChangeRef::Ins(_) => Meeting::Upper,
+            ChangeRef::Del(_) => Meeting::Neither,
+            ChangeRef::Mod(_, _) => Meeting::Into,
         },
-        Change::Del(key) => match upper {
-            Change::Ins(row) => if is_past(key_cols, row, key) {
+        ChangeRef::Del(key) => match upper {
+            ChangeRef::Ins(row) => if is_past(key_cols, row, key) {
                 Meeting::Lower
             } else {
                 Meeting::Upper
             },
             _ => Meeting::Lower,
         },
-        Change::Mod(col, _) => match upper {
-            Change::Ins(_) => Meeting::Upper,
-            Change::Del(_) => Meeting::Over,
-            Change::Mod(other, _) => columns_meet(*other, *col),
+        ChangeRef::Mod(col, _) => match upper {
+            ChangeRef::Ins(_) => Meeting::Upper,
+            ChangeRef::Del(_) => Meeting::Over,
+            ChangeRef::Mod(other, _) => columns_meet(other, col),
         },
     }
 }
@@ -99,9 +100,9 @@ pub(crate) fn changed(
     ensures { IfOk result (λ entry. entry ≡ entry_at lower.now.sid (changed_by lower.now.change upper.now.change)) }
 {
     match (lower.change(), upper.change()) {
-        (Change::Ins(row), Change::Mod(col, value)) if *col < row.cells().len() => {
+        (ChangeRef::Ins(row), ChangeRef::Mod(col, value)) if col < row.cells().len() => {
             let mut row = row.copy()?;
-            row.set(*col, value.copy()?);
+            row.set(col, value.copy(alloc)?);
             let change = Change::Ins(row);
             Ok(SharedEntry::new(
                 alloc,

@@ -5,7 +5,7 @@ ghost use Rattle.layers.specs.Over.{AreConsecutive};
 ghost use Rattle.layers.specs.Propagation.{IsNext, next_tree, composed_tree};
 
 use crate::walk::fold_all;
-use delta::{Change, DeltaTree, Fold, SharedEntry};
+use delta::{ChangeRef, DeltaTree, Fold, SharedEntry};
 use smallvec::SmallVec;
 use std::alloc::Global;
 use values::NoMemory;
@@ -45,7 +45,7 @@ fn fold_each(alloc: Global, lower: &DeltaTree, upper: &DeltaTree) -> Result<Delt
     // From the last entry to the first: an edit moves no position below its own.
     while let Some(last) = uppers.pop() {
         let Some(upper) = last else { unreachable!() };
-        fold_entry(&mut tree, upper)?;
+        fold_entry(alloc, &mut tree, upper)?;
     }
     Ok(tree)
 }
@@ -62,7 +62,7 @@ fn entries_of(alloc: Global, tree: &DeltaTree) -> Result<Uppers<'_>, NoMemory>
 }
 
 /// Folds one upper entry into the tree: above it all upper entries of greater keys are folded in already.
-fn fold_entry(tree: &mut DeltaTree, entry: &SharedEntry) -> Result<(), NoMemory>
+fn fold_entry(alloc: Global, tree: &mut DeltaTree, entry: &SharedEntry) -> Result<(), NoMemory>
     requires { IsNext tree.old entry.now }
     ensures ok { OnOk result ((w : IsNext tree.old entry.now) → tree.new ≡ next_tree tree.old entry.now w) }
 {
@@ -70,9 +70,9 @@ fn fold_entry(tree: &mut DeltaTree, entry: &SharedEntry) -> Result<(), NoMemory>
     match tree.find_fold(entry.sid(), change) {
         Fold::Put(sid, start, end) => tree.put_run(start, end, entry.with_sid(sid)?),
         Fold::Into(index) => match change {
-            Change::Ins(_) => unreachable!(),
-            Change::Del(_) => tree.take_at(index),
-            Change::Mod(col, value) => tree.set_at(index, *col, value.copy()?),
+            ChangeRef::Ins(_) => unreachable!(),
+            ChangeRef::Del(_) => tree.take_at(index),
+            ChangeRef::Mod(col, value) => tree.set_at(index, col, value.copy(alloc)?),
         },
     }
 }

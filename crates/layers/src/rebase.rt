@@ -1,5 +1,6 @@
 //! A tree made consecutive to another one over the same image.
 ghost use Rattle.std.specs.Prelude.{◌≡◌, ◌+◌, ◌≤◌, true, ◌∷◌, [], ◌++◌, Some, IfOk, OnOk, length, slice_get, take};
+ghost use Rattle.delta.specs.Lent.{change_of};
 ghost use Rattle.model.specs.Entries.{entry_at, is_modify};
 ghost use Rattle.model.specs.Rebasing.{rebased_entries};
 ghost use Rattle.layers.specs.Over.{AreAligned};
@@ -8,7 +9,7 @@ ghost use Rattle.layers.specs.Serialization.{IsSerialized};
 
 use crate::beside::{FEW, Search, first_clash};
 use crate::clash::turned;
-use delta::{Change, DeltaTree, SharedEntry, Sought};
+use delta::{ChangeRef, DeltaTree, SharedEntry, Sought};
 use model::{Clash, ConflictRule};
 use std::alloc::Global;
 use values::NoMemory;
@@ -74,12 +75,12 @@ fn moves_none(x: &DeltaTree, y: &DeltaTree) -> bool
 }
 
 /// Whether the change is a modify.
-fn is_modify(change: &Change) -> bool
-    ensures { result ≡ is_modify change.now }
+fn is_modify(change: ChangeRef<'_>) -> bool
+    ensures { result ≡ is_modify (change_of change.entry) }
 {
     match change {
-        Change::Ins(_) | Change::Del(_) => false,
-        Change::Mod(_, _) => true,
+        ChangeRef::Ins(_) | ChangeRef::Del(_) => false,
+        ChangeRef::Mod(_, _) => true,
     }
 }
 

@@ -1,6 +1,7 @@
 //! A tree folded into the tree below it by one walk over both.
 ghost use Rattle.std.specs.Prelude.{◌≡◌, ◌+◌, ◌≤◌, ◌<◌, ◌^◌, ◌∷◌, [], ◌++◌, List, IfOk, OnOk, drop, length, slice_get};
 ghost use Rattle.std.specs.List.{All};
+ghost use Rattle.delta.specs.Lent.{change_of};
 ghost use Rattle.model.specs.declared.entry.Entry.{Entry};
 ghost use Rattle.model.specs.Folding.{added_by, gone_by, fold_from, lowered_entry};
 ghost use Rattle.layers.specs.Over.{AreConsecutive};
@@ -8,7 +9,7 @@ ghost use Rattle.layers.specs.Propagation.{composed_tree};
 
 use crate::ahead::Ahead;
 use crate::meeting::{Meeting, changed, meet};
-use delta::{Change, DeltaTree, SharedEntry};
+use delta::{ChangeRef, DeltaTree, SharedEntry};
 use model::folds_to_composed;
 use std::alloc::Global;
 use values::NoMemory;
@@ -96,18 +97,18 @@ impl<'a> Walk<'a> {
     }
 
     /// Counts a lower change that is passed.
-    fn count(&mut self, lower: &Change)
+    fn count(&mut self, lower: ChangeRef<'_>)
         requires few { self.old.added + self.old.gone < 2 ^ 40 }
-        ensures added { self.new.added ≡ self.old.added + added_by lower.now }
-        ensures gone { self.new.gone ≡ self.old.gone + gone_by lower.now }
+        ensures added { self.new.added ≡ self.old.added + added_by (change_of lower.entry) }
+        ensures gone { self.new.gone ≡ self.old.gone + gone_by (change_of lower.entry) }
         ensures out { self.new.out ≡ self.old.out }
         ensures uppers { self.new.uppers ≡ self.old.uppers }
         ensures key_cols { self.new.key_cols ≡ self.old.key_cols }
     {
         match lower {
-            Change::Ins(_) => self.added += 1,
-            Change::Del(_) => self.gone += 1,
-            Change::Mod(_, _) => {}
+            ChangeRef::Ins(_) => self.added += 1,
+            ChangeRef::Del(_) => self.gone += 1,
+            ChangeRef::Mod(_, _) => {}
         }
     }
 }

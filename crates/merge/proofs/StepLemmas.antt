@@ -1,5 +1,5 @@
 -- The steps of a cursor past modifies, and over rows as they are.
-use Rattle.std.proofs.Common.{◌≡◌, ◌⊎◌, inl, inr, ℕ, suc, ◌+◌, ◌-◌, ◌<◌, ◌≤◌, Bool, true, false, cond, not, T, Some, None, List}
+use Rattle.std.proofs.Common.{Bor, ◌≡◌, ◌⊎◌, inl, inr, ℕ, suc, ◌+◌, ◌-◌, ◌<◌, ◌≤◌, Bool, true, false, cond, not, T, Some, None, List}
 use Rattle.std.proofs.Common.{[], ◌∷◌, ◌++◌, map, length, filter, take, drop, is_lt, nat_cmp, refl, sym, ap, ◌∙◌, zero, subst}
 use Rattle.std.proofs.Common.{arith, length-append, length-drop}
 use Rattle.std.specs.Prelude.{◌==◌, nat_lt, nat_le, ◌||◌, slice_get, slice_set, min}
@@ -12,6 +12,10 @@ use Rattle.values.specs.declared.row.Row.{Row}
 use Rattle.values.specs.declared.row.Key.{Key}
 use Rattle.values.specs.declared.value.Value.{Value}
 use Rattle.model.specs.declared.entry.Entry.{Entry}
+use Rattle.values.specs.declared.value.ValueRef.{ValueRef}
+use Rattle.delta.specs.declared.ChangeRef.{ChangeRef}
+use Rattle.delta.specs.declared.ChangeRef.TheVariants as lent
+use Rattle.delta.specs.Lent.{change_of}
 use Rattle.model.specs.declared.entry.Change.{Change}
 use Rattle.model.specs.declared.entry.Change.TheVariants.{Ins, Del, Mod}
 use Rattle.model.specs.Effects.{set_cells}
@@ -174,9 +178,10 @@ changes_at-passed sid (suc n) (e ∷ es) is far = by (changes_at-passed sid n es
         absurd (omega (arith, long, length-drop n es))
 
 -- a delete or a modify is no insert
-pub no_insert : (d : Change) → ((key : Key) × (d ≡ Del key)) ⊎ ((col : ℕ) × (value : Value) × (d ≡ Mod col value)) → is_insert d ≡ false
-no_insert d (inl k) = ap is_insert k.1
-no_insert d (inr k) = ap is_insert k.2
+pub no_insert : (d : ChangeRef) → ((key : Bor Key) × (d ≡ lent.Del key)) ⊎ ((col : ℕ) × (value : ValueRef) × (d ≡ lent.Mod col value))
+    → is_insert (change_of d) ≡ false
+no_insert d (inl k) = ap (λ x. is_insert (change_of x)) k.1
+no_insert d (inr k) = ap (λ x. is_insert (change_of x)) k.2
 
 module _ (c : TreeCursor) where
   abbrev es : List Entry

@@ -1,6 +1,7 @@
 //! How far a walk over the image of one tree has come.
 ghost use Rattle.std.specs.Prelude.{◌≡◌, ℕ, List, suc, ◌+◌, ◌<◌, ◌≤◌, ◌^◌, T, true, false, drop, length, slice_get, take};
 ghost use Rattle.std.specs.Option.{option_copied};
+ghost use Rattle.delta.specs.Lent.{change_of};
 ghost use Rattle.model.specs.Merging.{merged_rows};
 ghost use Rattle.model.specs.declared.entry.Entry.{Entry};
 ghost use Rattle.model.specs.Entries.{IsLawful, is_delete};
@@ -12,7 +13,7 @@ ghost use Rattle.merge.specs.Cursor.{ChangesNext, DeletesNext, DeletesNone, IsCu
 ghost use Rattle.merge.specs.Cursor.{entries_left, entries_past, is_past, moved, starts_with_delete};
 
 use crate::view::Modifies;
-use delta::{Change, DeltaTree, Iter, SharedEntry, Start};
+use delta::{ChangeRef, DeltaTree, Iter, SharedEntry, Start};
 use std::marker::Model;
 use values::Row;
 
@@ -154,11 +155,13 @@ impl<'a> Cursor<'a> {
                     return Step::Kept(most.min(at - sid));
                 }
                 match entry.change() {
-                    Change::Ins(row) => {
+                    ChangeRef::Ins(row) => {
                         self.advance();
                         Step::Inserted(row)
                     }
-                    Change::Del(_) | Change::Mod(..) => Step::Modified(self.pass_modifies(entry)),
+                    ChangeRef::Del(_) | ChangeRef::Mod(..) => Step::Modified(self.pass_modifies(
+                        entry,
+                    )),
                 }
             }
         }
@@ -244,11 +247,11 @@ impl<'a> Cursor<'a> {
 
 /// Whether the change is a delete.
 #[inline(always)]
-fn is_delete(change: &Change) -> bool
-    ensures { result ≡ is_delete change.now }
+fn is_delete(change: ChangeRef<'_>) -> bool
+    ensures { result ≡ is_delete (change_of change.entry) }
 {
     match change {
-        Change::Del(_) => true,
-        Change::Ins(_) | Change::Mod(..) => false,
+        ChangeRef::Del(_) => true,
+        ChangeRef::Ins(_) | ChangeRef::Mod(..) => false,
     }
 }

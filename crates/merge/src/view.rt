@@ -5,7 +5,7 @@ ghost use Rattle.values.specs.Lent.{value_of};
 ghost use Rattle.model.specs.Effects.{set_cells};
 ghost use Rattle.merge.specs.View.{IsBare, cells_at, layer_cells, last_cell, layer_number, modified_cells, row_of, source_row};
 
-use delta::{Change, DeltaTree, SharedEntry, Sought};
+use delta::{ChangeRef, DeltaTree, SharedEntry, Sought};
 use stable::StableTable;
 use std::alloc::Global;
 use values::{NoMemory, Row, ValueRef};
@@ -70,8 +70,8 @@ fn given<'a>(entry: &'a SharedEntry, col: usize) -> Option<ValueRef<'a>>
     ensures { option_map value_of result ≡ last_cell col None (modified_cells (entry.now.change ∷ [])) }
 {
     match entry.change() {
-        Change::Mod(other, value) if *other == col => Some(value.as_ref()),
-        Change::Ins(_) | Change::Del(_) | Change::Mod(..) => None,
+        ChangeRef::Mod(other, value) if other == col => Some(value),
+        ChangeRef::Ins(_) | ChangeRef::Del(_) | ChangeRef::Mod(..) => None,
     }
 }
 

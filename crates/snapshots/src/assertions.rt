@@ -1,6 +1,6 @@
 //! What a test looks at, each in a function of its own, so that a test stays short: its proof costs more than in proportion
 //! to its length.
-use delta::SharedEntry;
+use delta::{ChangeRef, SharedEntry};
 use model::{Change, Entry};
 use std::process::Abort;
 
@@ -23,9 +23,10 @@ pub(crate) fn assert_holds(rt: &impl Abort, holds: bool, at: &str) {
 pub(crate) fn is_same(one: &SharedEntry, other: &Entry) -> bool {
     one.sid() == other.sid
         && match (one.change(), &other.change) {
-            (Change::Ins(row), Change::Ins(found)) => row.cells() == found.cells(),
-            (Change::Del(key), Change::Del(found)) => key == found,
-            (Change::Mod(col, value), Change::Mod(at, found)) => col == at && value == found,
+            (ChangeRef::Ins(row), Change::Ins(found)) => row.cells() == found.cells(),
+            (ChangeRef::Del(key), Change::Del(found)) => key == found,
+            (ChangeRef::Mod(col, value), Change::Mod(at, found)) => col == *at
+                && value == found.as_ref(),
             _ => false,
         }
 }

@@ -18,7 +18,7 @@ mod removals;
 mod steps;
 
 use crate::assertions::{assert_holds_at, assert_text};
-use delta::{Change, DeltaTree, Sought};
+use delta::{ChangeRef, DeltaTree, Sought};
 use fixtures::{Step, entries_text, item, key};
 use std::alloc::Global;
 use std::process::Abort;
@@ -30,7 +30,7 @@ fn is_deleted(tree: &DeltaTree, sid: u64) -> bool
     ensures { result ≡ has_delete sid tree.now.entries }
 {
     for entry in tree.entries_at(sid) {
-        if matches!(entry.change(), Change::Del(_)) {
+        if matches!(entry.change(), ChangeRef::Del(_)) {
             return true;
         }
     }

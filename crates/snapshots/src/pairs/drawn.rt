@@ -6,10 +6,10 @@ ghost use Rattle.merge.specs.Image.{IsLayer};
 
 use super::{Leavings, folded, passed, table_of, written_over};
 use crate::assertions::is_same;
-use delta::{DeltaTree, SharedEntry};
+use delta::{ChangeRef, DeltaTree, SharedEntry};
 use fixtures::{Draws, ItemWrite, copy_rows, item, writes_of};
 use layers::{Clash, ClashKind, ConflictRule, Serialized};
-use model::{Change, Entry, Write};
+use model::{Entry, Write};
 use oracle::{Effects, OrderedTable, canonical_entries};
 use stable::StableTable;
 use std::alloc::Global;
@@ -100,13 +100,13 @@ fn has_entries(tree: &DeltaTree, entries: &[Entry]) -> bool {
 /// How two entries over one table clash.
 fn kind_of(rule: ConflictRule, x: &SharedEntry, y: &SharedEntry) -> Option<ClashKind> {
     match (x.change(), y.change()) {
-        (Change::Ins(row), Change::Ins(other)) => {
+        (ChangeRef::Ins(row), ChangeRef::Ins(other)) => {
             (row.key(1) == other.key(1)).then_some(ClashKind::InsertInsert)
         }
-        (Change::Ins(_), _) | (_, Change::Ins(_)) => None,
+        (ChangeRef::Ins(_), _) | (_, ChangeRef::Ins(_)) => None,
         _ if x.sid() != y.sid() => None,
-        (Change::Del(_), Change::Del(_)) => Some(ClashKind::DeleteDelete),
-        (Change::Mod(col, _), Change::Mod(other, _)) => {
+        (ChangeRef::Del(_), ChangeRef::Del(_)) => Some(ClashKind::DeleteDelete),
+        (ChangeRef::Mod(col, _), ChangeRef::Mod(other, _)) => {
             (rule == ConflictRule::ByRow || col == other).then_some(ClashKind::ModifyModify)
         }
         _ => Some(ClashKind::DeleteModify),

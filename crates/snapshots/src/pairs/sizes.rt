@@ -5,7 +5,7 @@ ghost use Rattle.stable.specs.Stable.{table_in};
 ghost use Rattle.merge.specs.Image.{IsLayer};
 
 use super::{folded, passed, table_of, written_over};
-use delta::{Change, DeltaTree, SharedEntry};
+use delta::{ChangeRef, DeltaTree, SharedEntry};
 use fixtures::{ItemWrite, writes_of};
 use layers::{ConflictRule, Serialized};
 use model::Write;
@@ -42,7 +42,7 @@ fn deletes(alloc: Global, count: u16) -> Result<Vec<Write>, Fail> {
 /// Where an entry stands, and its number where it is an insert.
 fn spot_of(entry: &SharedEntry) -> Spot {
     match entry.change() {
-        Change::Ins(row) => match row.cells().first() {
+        ChangeRef::Ins(row) => match row.cells().first() {
             Some(Value::Int(id)) => (entry.sid(), *id),
             _ => (entry.sid(), -2),
         },

@@ -6,8 +6,9 @@
 //! shows is compared cell by cell and takes no memory.
 use super::{answer, opened};
 use crate::assertions::assert_holds;
+use delta::ChangeRef;
 use fixtures::{Item, base_table, item, key};
-use model::{Change, Write};
+use model::Write;
 use std::alloc::Global;
 use std::process::Abort;
 use std::test::Fail;
@@ -126,14 +127,14 @@ fn are_cells(cells: &[Value], row: Item) -> bool {
         && cells[2].as_ref() == ValueRef::Int(row.2)
 }
 
-fn is_change(change: &Change, kind: Kind) -> bool {
+fn is_change(change: ChangeRef<'_>, kind: Kind) -> bool {
     match (change, kind) {
-        (Change::Ins(row), Kind::Inserts(named)) => are_cells(row.cells(), named),
-        (Change::Del(key), Kind::Deletes(id)) => {
+        (ChangeRef::Ins(row), Kind::Inserts(named)) => are_cells(row.cells(), named),
+        (ChangeRef::Del(key), Kind::Deletes(id)) => {
             key.cells().len() == 1 && key.cells()[0].as_ref() == ValueRef::Int(id)
         }
-        (Change::Mod(col, value), Kind::Modifies(other, wanted)) => {
-            *col == other && value.as_ref() == wanted
+        (ChangeRef::Mod(col, value), Kind::Modifies(other, wanted)) => {
+            col == other && value == wanted
         }
         _ => false,
     }

@@ -4,7 +4,7 @@ ghost use Rattle.std.specs.Prelude.{◌≡◌, ◌≤◌, IfOk, length};
 
 use super::places::{assert_key, made_again};
 use super::{change, put_ins};
-use delta::{Change, DeltaTree, SharedEntry};
+use delta::{ChangeRef, DeltaTree, SharedEntry};
 use fixtures::{Draws, Step, item};
 use std::alloc::Global;
 use std::process::Abort;
@@ -95,12 +95,12 @@ fn is_number(cell: Option<&Value>, number: i64) -> bool {
 fn is_kept(entry: &SharedEntry, kept: &Kept) -> bool {
     entry.sid() == kept.sid
         && match (entry.change(), kept.spot) {
-            (Change::Ins(row), Spot::Insert(id)) => {
+            (ChangeRef::Ins(row), Spot::Insert(id)) => {
                 is_number(row.cells().first(), id) && is_number(row.cells().last(), kept.number)
             }
-            (Change::Del(key), Spot::Delete) => is_number(key.cells().first(), kept.number),
-            (Change::Mod(col, value), Spot::Modify(other)) => {
-                *col == other && is_number(Some(value), kept.number)
+            (ChangeRef::Del(key), Spot::Delete) => is_number(key.cells().first(), kept.number),
+            (ChangeRef::Mod(col, value), Spot::Modify(other)) => {
+                col == other && value == ValueRef::Int(kept.number)
             }
             _ => false,
         }

@@ -60,7 +60,7 @@ pub(super) fn made_again(alloc: Global, tree: &DeltaTree) -> Result<DeltaTree, N
 {
     let mut entries = Vec::with_capacity(alloc, tree.len())?;
     for entry in tree.iter() {
-        entries.push(copy_entry(entry)?)?;
+        entries.push(copy_entry(alloc, entry)?)?;
     }
     DeltaTree::from_sorted(alloc, 1, entries)
 }

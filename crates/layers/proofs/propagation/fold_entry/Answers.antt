@@ -1,3 +1,5 @@
+use Rattle.values.specs.Lent.{value_of}
+use Rattle.delta.specs.Lent.{change_of}
 use Rattle.std.proofs.Common.{◌≡◌, ℕ, ◌<◌, ◌^◌, sym, ap, ◌∙◌, subst}
 use Rattle.std.proofs.lemmas.Result.{on_ok_weaker}
 use Rattle.std.specs.Prelude.{set}
@@ -59,20 +61,20 @@ pub take_at-requires : goal.take_at-requires
 take_at-requires c =
     let t = c.args.tree.now in
     let e = c.args.entry.now in
-    let change = sym c.change-change.ensures ∙ c.in-Del.is in
+    let change = sym c.change-change.ensures ∙ ap change_of c.in-Del.is in
     let only =
-    subst (λ (p : ℕ × Change × Fold). IsOnlyFold t.key_cols t.entries p.0 p.1 p.2) (λ i. (c.sid.ensures i, c.in-Del.is i, c.in-Into.is i))
+    subst (λ (p : ℕ × Change × Fold). IsOnlyFold t.key_cols t.entries p.0 p.1 p.2) (λ i. (c.sid.ensures i, ap change_of c.in-Del.is i, c.in-Into.is i))
     c.find_fold.ensures.only in
-    take_within t e.sid c.in-Del.field-0 (with_change t e (Del c.in-Del.field-0) change c.requires) c.in-Into.index only
+    take_within t e.sid c.in-Del.field-0.now (with_change t e (Del c.in-Del.field-0.now) change c.requires) c.in-Into.index only
 
 pub returns-in-Del : goal.returns-in-Del
 returns-in-Del c =
     let t = c.args.tree.now in
     let e = c.args.entry.now in
-    let key = c.in-Del.field-0 in
-    let change = sym c.change-change.ensures ∙ c.in-Del.is in
+    let key = c.in-Del.field-0.now in
+    let change = sym c.change-change.ensures ∙ ap change_of c.in-Del.is in
     let only =
-    subst (λ (p : ℕ × Change × Fold). IsOnlyFold t.key_cols t.entries p.0 p.1 p.2) (λ i. (c.sid.ensures i, c.in-Del.is i, c.in-Into.is i))
+    subst (λ (p : ℕ × Change × Fold). IsOnlyFold t.key_cols t.entries p.0 p.1 p.2) (λ i. (c.sid.ensures i, ap change_of c.in-Del.is i, c.in-Into.is i))
     c.find_fold.ensures.only in
     let new = c.take_at.new.self in
     let after = λ (d : Change) (v : IsNext t (entry_at e.sid d)). new ≡ next_tree t (entry_at e.sid d) v in
@@ -87,11 +89,11 @@ set_at-requires c =
     let t = c.args.tree.now in
     let e = c.args.entry.now in
     let col = c.in-Mod.col in
-    let value = c.in-Mod.value in
-    let change = sym c.change-change.ensures ∙ c.in-Mod.is in
+    let value = value_of c.in-Mod.value in
+    let change = sym c.change-change.ensures ∙ ap change_of c.in-Mod.is in
     let w = with_change t e (Mod col value) change c.requires in
     let only =
-    subst (λ (p : ℕ × Change × Fold). IsOnlyFold t.key_cols t.entries p.0 p.1 p.2) (λ i. (c.sid.ensures i, c.in-Mod.is i, c.in-Into.is i))
+    subst (λ (p : ℕ × Change × Fold). IsOnlyFold t.key_cols t.entries p.0 p.1 p.2) (λ i. (c.sid.ensures i, ap change_of c.in-Mod.is i, c.in-Into.is i))
     c.find_fold.ensures.only in
     record {
       within = set_within t e.sid col value w c.in-Into.index only;
@@ -104,10 +106,10 @@ returns-in_ok-copy-in-Mod c =
     let t = c.args.tree.now in
     let e = c.args.entry.now in
     let col = c.in-Mod.col in
-    let value = c.in-Mod.value in
-    let change = sym c.change-change.ensures ∙ c.in-Mod.is in
+    let value = value_of c.in-Mod.value in
+    let change = sym c.change-change.ensures ∙ ap change_of c.in-Mod.is in
     let only =
-    subst (λ (p : ℕ × Change × Fold). IsOnlyFold t.key_cols t.entries p.0 p.1 p.2) (λ i. (c.sid.ensures i, c.in-Mod.is i, c.in-Into.is i))
+    subst (λ (p : ℕ × Change × Fold). IsOnlyFold t.key_cols t.entries p.0 p.1 p.2) (λ i. (c.sid.ensures i, ap change_of c.in-Mod.is i, c.in-Into.is i))
     c.find_fold.ensures.only in
     let n = c.in-Into.index in
     let new = c.set_at.new.self in

@@ -1,3 +1,4 @@
+use Rattle.delta.specs.Lent.{change_of}
 use Rattle.std.proofs.Common.{◌≡◌, ℕ, ◌<◌, ◌^◌, T, List, length, take, is_lt, sym, ap, ◌∙◌, subst, arith}
 use Rattle.std.specs.List.{list_all, All}
 use Rattle.std.proofs.lemmas.Bool.{eqb-true}
@@ -23,7 +24,7 @@ returns-then-not-is_modify c =
     let steps = c.in-Some.ensures.steps in
     let found = c.find.ensures.split.before in
     let change = c.change-then-not-is_modify in
-    let at_sid = subst (λ (s : ℕ). T (list_all (stands_before (change_cmp c.args.x.now.key_cols change.result.now) s) (take n xs))) c.sid.ensures found in
+    let at_sid = subst (λ (s : ℕ). T (list_all (stands_before (change_cmp c.args.x.now.key_cols (change_of change.result)) s) (take n xs))) c.sid.ensures found in
     let at_entry = subst (λ (d : Change). T (list_all (stands_before (change_cmp c.args.x.now.key_cols d) e.sid) (take n xs))) change.ensures at_sid in
     let before = subst (λ (m : ℕ). T (list_all (stands_before (change_cmp m e.change) e.sid) (take n xs))) c.requires at_entry in
     let ordered = subst (λ (es : List Entry). T (are_ordered k es)) steps c.loop-entry.invariant.ordered in

@@ -3,6 +3,7 @@ use Rattle.std.proofs.lemmas.Float.{T_from_true}
 use Rattle.model.specs.declared.entry.Entry.{Entry}
 use Rattle.model.specs.declared.entry.Change.{Change}
 use Rattle.model.specs.declared.entry.Change.TheVariants.{Ins, Del, Mod}
+use Rattle.counted.specs.Changes.{change_of}
 use Rattle.delta.specs.Folds.{IsRunOf}
 use Rattle.delta.specs.declared.folds.Fold.TheVariants.{Into}
 use Rattle.delta.specs.declared.places.Place.{Place}
@@ -58,7 +59,7 @@ returns-in-Inserted c =
     record {
       at = at;
       only = λ place there. row_only t.key_cols t.entries ordered c.args.rid place _ there at;
-      run = run_none t.key_cols t.entries c.args.change.now c.in-Inserted.at;
+      run = run_none t.key_cols t.entries (change_of c.args.change) c.in-Inserted.at;
     }
 
 pub returns-in-Base : goal.returns-in-Base

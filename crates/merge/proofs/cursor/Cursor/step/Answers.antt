@@ -2,6 +2,7 @@ use Rattle.std.proofs.Common.{◌≡◌, ◌∙◌, ◌-◌, ◌<◌, Some, min,
 use Rattle.std.specs.Option.{option_copied}
 use Rattle.std.proofs.lemmas.Option.{slice_get_within}
 use Rattle.model.specs.Entries.{entry_at, is_insert}
+use Rattle.delta.specs.Lent.{change_of}
 use Rattle.merge.specs.Cursor.{KeepsNext}
 use Rattle.merge.proofs.CursorLemmas.{inserts_next, cursor-le}
 use Rattle.merge.proofs.StepLemmas.{no_insert, keeps_all, keeps_some}
@@ -31,8 +32,8 @@ returns-in-Ins-clause-step c =
     let at = sym c.next_entry.ensures ∙ ap option_copied c.in-Some.is in
     let low = cursor-le old c.requires.is.0 x c.requires.is.1 at in
     let here : x.sid ≡ old.sid = omega (arith, c.if-at-sid.false, c.sid-sid.ensures, c.sid-at.ensures, low) in
-    let change = sym c.change.ensures ∙ c.in-Ins.is in
-    inserts_next old c.in-Ins.row c.advance.new.self (at ∙ (λ i. Some (entry_at (here i) (change i)))) c.advance.ensures
+    let change = sym c.change.ensures ∙ ap change_of c.in-Ins.is in
+    inserts_next old c.in-Ins.row.now c.advance.new.self (at ∙ (λ i. Some (entry_at (here i) (change i)))) c.advance.ensures
 
 pub pass_modifies-requires-clause-next : goal.pass_modifies-requires-clause-next
 pass_modifies-requires-clause-next c =
@@ -41,5 +42,5 @@ pass_modifies-requires-clause-next c =
     record {
       next = at;
       here = omega (arith, c.if-at-sid.false, c.sid-sid.ensures, c.sid-at.ensures, low);
-      other = sym (ap is_insert c.change.ensures) ∙ no_insert c.change.result.now c.in-Del.is;
+      other = sym (ap is_insert c.change.ensures) ∙ no_insert c.change.result c.in-Del.is;
     }
