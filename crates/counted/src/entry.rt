@@ -138,6 +138,13 @@ impl SharedEntry {
         };
         Ok(SharedEntry { sid, kept })
     }
+
+    /// Moves it to another SID.
+    pub fn move_to(&mut self, sid: u64)
+        ensures { self.new ≡ record self.old { sid = sid } }
+    {
+        self.sid = sid;
+    }
 }
 
 /// How a change that nobody shares yet is kept.

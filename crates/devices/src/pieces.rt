@@ -13,8 +13,8 @@ use std::alloc::Global;
 use values::limits::MAX_BLOCK_VALUES;
 use values::{ColumnType, NoMemory};
 
-/// What stands before the payload of a block.
-const HEAD_BYTES: usize = 16;
+/// What a frame has beside the numbers: its head, and the byte that names the encoding.
+const FRAME_BYTES: usize = 17;
 
 /// The most that a number's payload takes.
 const INT_BYTES: usize = 8;
@@ -55,7 +55,7 @@ fn reserve_numbers(column: &Column, out: &mut Vec<u8>) -> Result<(), NoMemory>
 {
     if column.column_type() == ColumnType::Int {
         let count = column.len();
-        out.reserve(HEAD_BYTES * count.div_ceil(MAX_BLOCK_VALUES) + INT_BYTES * count)?;
+        out.reserve(FRAME_BYTES * count.div_ceil(MAX_BLOCK_VALUES) + INT_BYTES * count)?;
     }
     Ok(())
 }

@@ -1,5 +1,7 @@
 -- One entry against a tree over the same image: its place in the tree's image, and where it clashes.
-use Rattle.std.proofs.Common.{◌≡◌, ℕ, zero, suc, ◌+◌, ◌-◌, Bool, true, false, cond, not, ◌&&◌, ◌||◌, T, Option, Some, None, is_some, List, [], ◌∷◌, ◌++◌, map, length, filter, take, drop, nat_cmp, Ordering, Less, Equal, Greater, is_lt, is_eq, is_gt, refl, sym, ap, ◌∙◌, subst, arith, take-append-drop, length-take}
+use Rattle.std.proofs.Common.{◌≡◌, ℕ, zero, suc, ◌+◌, ◌-◌, Bool, true, false, cond, not, ◌&&◌, ◌||◌, T, Option, Some, None, is_some, List}
+use Rattle.std.proofs.Common.{[], ◌∷◌, ◌++◌, map, length, filter, take, drop, nat_cmp, Ordering, Less, Equal, Greater, is_lt, is_eq}
+use Rattle.std.proofs.Common.{is_gt, refl, sym, ap, ◌∙◌, subst, arith, take-append-drop, length-take}
 use Rattle.std.specs.Prelude.{◌==◌, nat_lt, slice_get}
 use Rattle.std.specs.List.{list_all}
 use Rattle.std.specs.Ordering.{eq_by_cmp, ordering_then}
@@ -23,10 +25,12 @@ use Rattle.model.specs.Table.{Table, rank}
 use Rattle.model.specs.Effects.{Cells, Effects, is_keyed_effect}
 use Rattle.model.specs.Entries.{entry_at, entries_of, canonical_entries, change_cmp, entry_cmp, are_ordered}
 use Rattle.model.specs.Places.{insert_count, delete_count, rid_of_insert}
-use Rattle.model.specs.Rebasing.{or_clash, clash_of_changes, clash_of_entries, clash_with, stands_first, inserts_before, deletes_before, rebased_entry}
+use Rattle.model.specs.Rebasing.{or_clash, clash_of_changes, clash_of_entries, clash_with, stands_first, inserts_before, deletes_before}
+use Rattle.model.specs.Rebasing.{rebased_entry}
 use Rattle.model.proofs.CallerLemmas.{first, second, both, less, turn_less, turn_greater}
 use Rattle.delta.specs.Search.{base_cmp, stands_before, IsSplit}
-use Rattle.delta.proofs.CallerLemmas.{insert_count-cons, delete_count-cons, insert_worth, delete_worth, entry_cmp-trans, ordered_right, split_is}
+use Rattle.delta.proofs.CallerLemmas.{insert_count-cons, delete_count-cons, insert_worth, delete_worth, entry_cmp-trans, ordered_right}
+use Rattle.delta.proofs.CallerLemmas.{split_is}
 use Rattle.layers.specs.Serialization.{row_cmp, clash_cmp, clash_with_head}
 
 -- ---- the first entry that is left
@@ -57,11 +61,13 @@ cond_length : (b : Bool) (e : Entry) (es : List Entry) → length (cond b (e ∷
 cond_length true e es = omega arith
 cond_length false e es = omega arith
 
-inserts_cond : (b : Bool) (e : Entry) (es : List Entry) → insert_count (cond b (e ∷ es) es) ≡ cond b (insert_worth e.change) 0 + insert_count es
+inserts_cond : (b : Bool) (e : Entry) (es : List Entry)
+    → insert_count (cond b (e ∷ es) es) ≡ cond b (insert_worth e.change) 0 + insert_count es
 inserts_cond true e es = insert_count-cons e es
 inserts_cond false e es = omega arith
 
-deletes_cond : (b : Bool) (e : Entry) (es : List Entry) → delete_count (cond b (e ∷ es) es) ≡ cond b (delete_worth e.change) 0 + delete_count es
+deletes_cond : (b : Bool) (e : Entry) (es : List Entry)
+    → delete_count (cond b (e ∷ es) es) ≡ cond b (delete_worth e.change) 0 + delete_count es
 deletes_cond true e es = delete_count-cons e es
 deletes_cond false e es = omega arith
 
@@ -109,11 +115,14 @@ module _ (rule : ConflictRule) (key_cols : ℕ) (x : Entry) where
       to_insert ByRow (Mod col value) = refl
 
   one_insert : (c : Change) (n : ℕ) → cond (inserts_before key_cols x (entry_at n c)) 1 0 ≡ cond (before (entry_at n c)) (insert_worth c) 0
-  one_insert (Ins other) n = ap (λ b. cond b 1 0) (ap (λ b. nat_lt n x.sid || ((n == x.sid) && b)) (first_is other x.change) ∙ test_is n x.sid (clash_cmp key_cols rule x.change (Ins other)))
+  one_insert (Ins other) n = ap (λ b. cond b 1 0)
+      (ap (λ b. nat_lt n x.sid || ((n == x.sid) && b)) (first_is other x.change)
+      ∙ test_is n x.sid (clash_cmp key_cols rule x.change (Ins other)))
   one_insert (Del gone) n = zero_if (before (entry_at n (Del gone)))
   one_insert (Mod col value) n = zero_if (before (entry_at n (Mod col value)))
 
-  deleted_is : (r : ConflictRule) (c : Change) (gone : Key) (n : ℕ) → nat_lt n x.sid ≡ is_gt (ordering_then (nat_cmp x.sid n) (clash_cmp key_cols r c (Del gone)))
+  deleted_is : (r : ConflictRule) (c : Change) (gone : Key) (n : ℕ)
+      → nat_lt n x.sid ≡ is_gt (ordering_then (nat_cmp x.sid n) (clash_cmp key_cols r c (Del gone)))
   deleted_is ByColumn (Ins row) gone n = below_is n x.sid
   deleted_is ByRow (Ins row) gone n = below_is n x.sid
   deleted_is ByColumn (Del key) gone n = level_is n x.sid
@@ -129,12 +138,26 @@ module _ (rule : ConflictRule) (key_cols : ℕ) (x : Entry) where
   inserts_are : (es : List Entry) → length (filter (inserts_before key_cols x) es) ≡ insert_count (filter before es)
   inserts_are [] = refl
   inserts_are (e ∷ es) =
-      omega (arith, cond_length (inserts_before key_cols x e) e (filter (inserts_before key_cols x) es), inserts_cond (before e) e (filter before es), one_insert e.change e.sid, inserts_are es)
+      omega (
+        arith,
+        cond_length (inserts_before key_cols x e) e (filter (inserts_before key_cols x) es),
+        inserts_cond (before e) e
+            (filter before es),
+        one_insert e.change e.sid,
+        inserts_are es,
+      )
 
   deletes_are : (es : List Entry) → length (filter (deletes_before key_cols x) es) ≡ delete_count (filter before es)
   deletes_are [] = refl
   deletes_are (e ∷ es) =
-      omega (arith, cond_length (deletes_before key_cols x e) e (filter (deletes_before key_cols x) es), deletes_cond (before e) e (filter before es), one_delete e.change e.sid, deletes_are es)
+      omega (
+        arith,
+        cond_length (deletes_before key_cols x e) e (filter (deletes_before key_cols x) es),
+        deletes_cond (before e) e
+            (filter before es),
+        one_delete e.change e.sid,
+        deletes_are es,
+      )
 
   -- the place of a change gives its position in the image of the tree
   pub rebased_place : (es : List Entry) (n : ℕ) → IsSplit before es n → rid_of_insert (take n es) x.sid ≡ (rebased_entry key_cols es x).sid
@@ -177,7 +200,8 @@ module _ (key_cols : ℕ) where
         clash_of_changes rule key_cols here c d ≡ None
     unclashed here (Ins row) (Ins other) a f = by (eq_by_cmp key_cmp (key_of key_cols row) (key_of key_cols other)) refl a
       where
-        ties : (r : ConflictRule) → key_cmp (key_of key_cols row) (key_of key_cols other) ≡ Equal → clash_cmp key_cols r (Ins row) (Ins other) ≡ Equal
+        ties : (r : ConflictRule) → key_cmp (key_of key_cols row) (key_of key_cols other) ≡ Equal
+            → clash_cmp key_cols r (Ins row) (Ins other) ≡ Equal
         ties ByColumn e = e
         ties ByRow e = e
 
@@ -220,7 +244,8 @@ module _ (key_cols : ℕ) where
         by ByRow g = absurd (g refl refl)
 
     -- and those that do, at one SID, clash
-    tied_clash : (r : ConflictRule) (c d : Change) → clash_cmp key_cols r c d ≡ Equal → is_some (clash_of_changes r key_cols true c d) ≡ true
+    tied_clash : (r : ConflictRule) (c d : Change) → clash_cmp key_cols r c d ≡ Equal
+        → is_some (clash_of_changes r key_cols true c d) ≡ true
     tied_clash ByColumn (Ins row) (Ins other) e = ap (λ r. is_some (cond (is_eq r) (Some InsertInsert) None)) e
     tied_clash ByRow (Ins row) (Ins other) e = ap (λ r. is_some (cond (is_eq r) (Some InsertInsert) None)) e
     tied_clash ByColumn (Ins row) (Del key) e = cc
@@ -277,7 +302,8 @@ module _ (key_cols : ℕ) where
           unclashed (x.sid == y.sid) x.change y.change a
           (λ here tie.
           let cmp = clash_cmp key_cols rule x.change y.change in
-          f (ap (λ n. ordering_then (nat_cmp x.sid n) cmp) (sym (eqb-true x.sid y.sid here)) ∙ ap (λ r. ordering_then r cmp) (tied_itself nat_cmp_total x.sid) ∙ tie))
+          f (ap (λ n. ordering_then (nat_cmp x.sid n) cmp) (sym (eqb-true x.sid y.sid here))
+          ∙ ap (λ r. ordering_then r cmp) (tied_itself nat_cmp_total x.sid) ∙ tie))
 
       pub tied_entry : (y : Entry) → clash_order x y ≡ Equal → is_some (clash_of_entries rule key_cols x y) ≡ true
       tied_entry y e = by (nat_cmp x.sid y.sid) refl e
@@ -287,7 +313,8 @@ module _ (key_cols : ℕ) where
           by Less q g = cc
           by Equal q g =
               let same : x.sid ≡ y.sid = ranked x.sid y.sid Equal (sym q) in
-              ap (λ b. is_some (clash_of_changes rule key_cols b x.change y.change)) (number_is x.sid y.sid same) ∙ tied_clash rule x.change y.change g
+              ap (λ b. is_some (clash_of_changes rule key_cols b x.change y.change)) (number_is x.sid y.sid same)
+              ∙ tied_clash rule x.change y.change g
           by Greater q g = cc
 
       -- an entry that isn't before it, and doesn't clash, is past it
@@ -357,7 +384,8 @@ module _ (key_cols : ℕ) where
           clash_with rule key_cols i x 0 es ≡ clash_with_head rule key_cols i x n (drop n es)
       clash_place es n i o split a =
           let count : 0 + length (take n es) ≡ n = omega (arith, length-take n es, split.within) in
-          let order = ordered_right key_cols (take n es) (drop n es) (subst (λ zs. T (are_ordered key_cols zs)) (sym (take-append-drop n es)) o) in
+          let order = ordered_right key_cols (take n es) (drop n es)
+          (subst (λ zs. T (are_ordered key_cols zs)) (sym (take-append-drop n es)) o) in
           ap (clash_with rule key_cols i x 0) (sym (take-append-drop n es))
           ∙ skips (take n es) (drop n es) i 0 split.before (all_first (agrees x) n es a)
           ∙ ap (λ m. clash_with rule key_cols i x m (drop n es)) count
@@ -386,7 +414,8 @@ module _ (key_cols : ℕ) where
         by true e =
             let one : n ≡ rank (key_of key_cols row) t = eqb-true n (rank (key_of key_cols row) t) (is_true _ p) in
             let two : m ≡ rank (key_of key_cols other) t = eqb-true m (rank (key_of key_cols other) t) (is_true _ q) in
-            let keys = ap (λ k. rank k t) (key_cmp-IsAntisymmetric (key_of key_cols row) (key_of key_cols other) (equal (key_cmp (key_of key_cols row) (key_of key_cols other)) e)) in
+            let keys = ap (λ k. rank k t) (key_cmp-IsAntisymmetric (key_of key_cols row) (key_of key_cols other)
+            (equal (key_cmp (key_of key_cols row) (key_of key_cols other)) e)) in
             from_eq (n == m) (number_is n m (one ∙ keys ∙ sym two))
         by false e = tt
     agree_ranked n m (Ins row) (Del key) p q = tt
@@ -400,7 +429,8 @@ module _ (key_cols : ℕ) where
 
     pub agree_all : (x : Entry) (ys : List Entry) → T (is_ranked x) → T (list_all is_ranked ys) → T (list_all (agrees x) ys)
     agree_all x [] p q = tt
-    agree_all x (y ∷ ys) p q = both (agrees x y) _ (agree_ranked x.sid y.sid x.change y.change p (first (is_ranked y) _ q)) (agree_all x ys p (second (is_ranked y) _ q))
+    agree_all x (y ∷ ys) p q = both (agrees x y) _ (agree_ranked x.sid y.sid x.change y.change p (first (is_ranked y) _ q))
+        (agree_all x ys p (second (is_ranked y) _ q))
 
     all_append : (xs ys : List Entry) → T (list_all is_ranked xs) → T (list_all is_ranked ys) → T (list_all is_ranked (xs ++ ys))
     all_append [] ys h k = k
@@ -411,7 +441,8 @@ module _ (key_cols : ℕ) where
     ranked_cells n (c ∷ cells) = ranked_cells n cells
 
     own_rank : (k : Key) (row : Row) → T (eq_by_cmp key_cmp k (key_of key_cols row)) → T (rank k t == rank (key_of key_cols row) t)
-    own_rank k row h = from_eq _ (number_is _ _ (ap (λ j. rank j t) (key_cmp-IsAntisymmetric k (key_of key_cols row) (equal (key_cmp k (key_of key_cols row)) (is_true _ h)))))
+    own_rank k row h = from_eq _ (number_is _ _
+        (ap (λ j. rank j t) (key_cmp-IsAntisymmetric k (key_of key_cols row) (equal (key_cmp k (key_of key_cols row)) (is_true _ h)))))
 
     ranked_effect : (k : Key) (f : Effect) → T (is_keyed_effect key_cols k f) → T (list_all is_ranked (entries_of (rank k t) k f))
     ranked_effect k (effect.Ins row) h = both (rank k t == rank (key_of key_cols row) t) true (own_rank k row h) tt
@@ -419,7 +450,10 @@ module _ (key_cols : ℕ) where
     ranked_effect k (effect.Mod cells) h = ranked_cells (rank k t) cells
     ranked_effect k (effect.Rep row) h = both (rank k t == rank (key_of key_cols row) t) true (own_rank k row h) tt
 
-    pub ranked-canonical_entries : (x : Effects) → T (list_all (λ e. is_keyed_effect key_cols e.0 e.1) x) → T (list_all is_ranked (canonical_entries t x))
+    pub ranked-canonical_entries : (x : Effects) → T (list_all (λ e. is_keyed_effect key_cols e.0 e.1) x)
+        → T (list_all is_ranked (canonical_entries t x))
     ranked-canonical_entries [] h = tt
     ranked-canonical_entries (e ∷ x) h =
-        all_append (entries_of (rank e.0 t) e.0 e.1) (canonical_entries t x) (ranked_effect e.0 e.1 (first (is_keyed_effect key_cols e.0 e.1) _ h)) (ranked-canonical_entries x (second (is_keyed_effect key_cols e.0 e.1) _ h))
+        all_append (entries_of (rank e.0 t) e.0 e.1) (canonical_entries t x)
+        (ranked_effect e.0 e.1 (first (is_keyed_effect key_cols e.0 e.1) _ h))
+        (ranked-canonical_entries x (second (is_keyed_effect key_cols e.0 e.1) _ h))

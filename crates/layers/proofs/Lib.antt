@@ -8,3 +8,4 @@ pub mod PassLemmas
 pub mod WalkLemmas
 pub mod TurnedLemmas
 pub mod StillLemmas
+pub mod ListLemmas

@@ -1,5 +1,7 @@
 -- A walk past entries in order, as those of another tree come in order.
-use Rattle.std.proofs.Common.{◌≡◌, ℕ, zero, suc, ◌+◌, ◌<◌, ◌≤◌, ◌^◌, ◌⊎◌, inl, inr, Bool, true, false, not, T, Some, None, List, [], ◌∷◌, ◌++◌, length, take, drop, nat_cmp, Ordering, Less, Equal, Greater, is_lt, is_gt, refl, sym, ap, ◌∙◌, subst, arith, length-take, take-append-drop}
+use Rattle.std.proofs.Common.{◌≡◌, ℕ, zero, suc, ◌+◌, ◌<◌, ◌≤◌, ◌^◌, ◌⊎◌, inl, inr, Bool, true, false, not, T, Some, None, List, [], ◌∷◌}
+use Rattle.std.proofs.Common.{◌++◌, length, take, drop, nat_cmp, Ordering, Less, Equal, Greater, is_lt, is_gt, refl, sym, ap, ◌∙◌, subst}
+use Rattle.std.proofs.Common.{arith, length-take, take-append-drop}
 use Rattle.std.specs.Prelude.{slice_get}
 use Rattle.std.specs.Bool.{passes}
 use Rattle.std.specs.List.{list_all}
@@ -20,7 +22,8 @@ use Rattle.model.specs.Entries.{change_cmp, entry_cmp, are_ordered}
 use Rattle.model.specs.Places.{insert_count, delete_count}
 use Rattle.model.proofs.CallerLemmas.{both, first, second, less, turn_less, turn_greater}
 use Rattle.delta.specs.Search.{base_cmp, stands_before, IsSplit}
-use Rattle.delta.proofs.CallerLemmas.{insert_worth, delete_worth, insert_count-cons, delete_count-cons, insert_count-append, delete_count-append, counts-le, ordered_right}
+use Rattle.delta.proofs.CallerLemmas.{insert_worth, delete_worth, insert_count-cons, delete_count-cons, insert_count-append}
+use Rattle.delta.proofs.CallerLemmas.{delete_count-append, counts-le, ordered_right}
 use Rattle.layers.specs.declared.cursor.Cursor.{Cursor}
 use Rattle.layers.specs.declared.beside.Search.{Search}
 use Rattle.layers.specs.declared.beside.Search.TheVariants.{Descents, Walk}
@@ -65,7 +68,7 @@ module _ (c : Cursor) (here : IsCursor c) where
 
 -- ---- SIDs in order
 
-greater_sid : (a b : ℕ) (o : Ordering) → b < a → ordering_then (nat_cmp a b) o ≡ Greater
+pub greater_sid : (a b : ℕ) (o : Ordering) → b < a → ordering_then (nat_cmp a b) o ≡ Greater
 greater_sid a b o h = by (nat_cmp a b) refl
   where
     by : (r : Ordering) → nat_cmp a b ≡ r → ordering_then r o ≡ Greater
@@ -84,7 +87,7 @@ sids_greater a b o h = by (nat_cmp a b) refl h
     by Equal e g = let same : a ≡ b = ranked a b Equal (sym e) in inr (same, g)
     by Greater e g = let lt : b < a = ranked a b Greater (sym e) in inl lt
 
-sids_less : (a b : ℕ) (o : Ordering) → ordering_then (nat_cmp a b) o ≡ Less → (a < b) ⊎ ((a ≡ b) × (o ≡ Less))
+pub sids_less : (a b : ℕ) (o : Ordering) → ordering_then (nat_cmp a b) o ≡ Less → (a < b) ⊎ ((a ≡ b) × (o ≡ Less))
 sids_less a b o h = by (nat_cmp a b) refl h
   where
     by : (r : Ordering) → nat_cmp a b ≡ r → ordering_then r o ≡ Less → (a < b) ⊎ ((a ≡ b) × (o ≡ Less))
@@ -124,7 +127,8 @@ module _ (key_cols : ℕ) where
   delete_is key (Del k) = refl
   delete_is key (Mod c v) = refl
 
-  modify_closed : (col : ℕ) (value : Value) (y z : Change) → change_cmp key_cols y z ≡ Less → change_cmp key_cols (Mod col value) z ≡ Greater
+  modify_closed : (col : ℕ) (value : Value) (y z : Change) → change_cmp key_cols y z ≡ Less
+      → change_cmp key_cols (Mod col value) z ≡ Greater
       → change_cmp key_cols (Mod col value) y ≡ Greater
   modify_closed col value (Ins a) z p q = refl
   modify_closed col value (Del k) (Ins b) p q = cc
@@ -154,7 +158,8 @@ module _ (key_cols : ℕ) where
   insert_later a b (Del k) p q = cc
   insert_later a b (Mod c v) p q = cc
 
-  past_insert : (rule : ConflictRule) (a : Row) (d y : Change) → change_cmp key_cols (Ins a) d ≡ Less → change_cmp key_cols (Ins a) y ≡ Greater
+  past_insert : (rule : ConflictRule) (a : Row) (d y : Change) → change_cmp key_cols (Ins a) d ≡ Less
+      → change_cmp key_cols (Ins a) y ≡ Greater
       → clash_cmp key_cols rule d y ≡ Greater
   past_insert ByColumn a (Ins b) y p q = insert_later a b y p q
   past_insert ByRow a (Ins b) y p q = insert_later a b y p q
@@ -255,7 +260,8 @@ module _ (key_cols : ℕ) (rule : ConflictRule) where
   all_past e y [] off h = tt
   all_past e y (z ∷ zs) off h =
       let below = less _ (first (is_lt (entry_cmp key_cols y z)) _ h) in
-      both (not (is_before e z)) _ (by (is_before e z) (earlier e y z below)) (all_past e y zs off (second (is_lt (entry_cmp key_cols y z)) _ h))
+      both (not (is_before e z)) _ (by (is_before e z) (earlier e y z below))
+      (all_past e y zs off (second (is_lt (entry_cmp key_cols y z)) _ h))
     where
       never : T (is_before e y) → ⊥
       never h = subst T off h

@@ -1,5 +1,6 @@
 -- The walk over a tree beside another one over the same image.
-use Rattle.std.proofs.Common.{◌≡◌, ℕ, zero, suc, ◌+◌, ◌<◌, ◌≤◌, ◌^◌, Bool, true, false, T, Option, Some, None, is_some, List, [], ◌∷◌, ◌++◌, map, length, take, drop, Less, is_lt, refl, sym, ap, ◌∙◌, subst, arith}
+use Rattle.std.proofs.Common.{◌≡◌, ℕ, zero, suc, ◌+◌, ◌<◌, ◌≤◌, ◌^◌, Bool, true, false, T, Option, Some, None, is_some, List, [], ◌∷◌}
+use Rattle.std.proofs.Common.{◌++◌, map, length, take, drop, Less, is_lt, refl, sym, ap, ◌∙◌, subst, arith}
 use Rattle.std.specs.Prelude.{◌==◌, IfSome, slice_get}
 use Rattle.std.specs.Bool.{passes}
 use Rattle.std.specs.List.{list_all}
@@ -26,9 +27,9 @@ use Rattle.layers.specs.Over.{IsTreeOf, AreAligned}
 use Rattle.layers.specs.Passing.{put_entries}
 use Rattle.layers.specs.Serialization.{clash_cmp, clash_with_head, rebased_tree}
 use Rattle.delta.proofs.CallerLemmas.{counted, few}
-use Rattle.layers.proofs.ClashLemmas.{is_ranked, agree_all, ranked-canonical_entries, clash_place}
+use Rattle.layers.proofs.ClashLemmas.{agrees, is_ranked, agree_all, ranked-canonical_entries, clash_place}
 
-head_drop : (n : ℕ) (es : List Entry) (e : Entry) → slice_get es n ≡ Some e → drop n es ≡ e ∷ drop (n + 1) es
+pub head_drop : (n : ℕ) (es : List Entry) (e : Entry) → slice_get es n ≡ Some e → drop n es ≡ e ∷ drop (n + 1) es
 head_drop n [] e is = cc
 head_drop zero (z ∷ es) e is =
     let same : z ≡ e = cc in
@@ -72,7 +73,8 @@ holds_at p n [] e h is = cc
 holds_at p zero (z ∷ es) e h is = let same : z ≡ e = cc in subst (λ y. T (p y)) same (first (p z) _ h)
 holds_at p (suc n) (z ∷ es) e h is = holds_at p n es e (second (p z) _ h) is
 
-adjacent : (key_cols n : ℕ) (es : List Entry) (e z : Entry) → T (are_ordered key_cols es) → slice_get es n ≡ Some e → slice_get es (suc n) ≡ Some z → entry_cmp key_cols e z ≡ Less
+adjacent : (key_cols n : ℕ) (es : List Entry) (e z : Entry) → T (are_ordered key_cols es) → slice_get es n ≡ Some e
+    → slice_get es (suc n) ≡ Some z → entry_cmp key_cols e z ≡ Less
 adjacent key_cols n [] e z o p q = cc
 adjacent key_cols zero (a ∷ []) e z o p q = cc
 adjacent key_cols zero (a ∷ (b ∷ es)) e z o p q =
@@ -86,7 +88,9 @@ adjacent key_cols (suc n) (a ∷ es) e z o p q =
 -- ---- one entry more
 
 -- an entry that clashes with none leaves the clash to the next ones
-pub clear_next : (rule : ConflictRule) (key_cols n : ℕ) (xs ys : List Entry) (e : Entry) → slice_get xs n ≡ Some e → clash_with rule key_cols n e 0 ys ≡ None → first_clash_from rule key_cols n (drop n xs) ys ≡ first_clash_from rule key_cols (n + 1) (drop (n + 1) xs) ys
+pub clear_next : (rule : ConflictRule) (key_cols n : ℕ) (xs ys : List Entry) (e : Entry) → slice_get xs n ≡ Some e
+    → clash_with rule key_cols n e 0 ys ≡ None
+    → first_clash_from rule key_cols n (drop n xs) ys ≡ first_clash_from rule key_cols (n + 1) (drop (n + 1) xs) ys
 clear_next rule key_cols n xs ys e at none =
     let next : suc n ≡ n + 1 = omega arith in
     ap (λ zs. first_clash_from rule key_cols n zs ys) (head_drop n xs e at)
@@ -94,13 +98,15 @@ clear_next rule key_cols n xs ys e at none =
     ∙ ap (λ m. first_clash_from rule key_cols m (drop (n + 1) xs) ys) next
 
 -- and one that clashes is the first
-pub clash_here : (rule : ConflictRule) (key_cols n : ℕ) (xs ys : List Entry) (e : Entry) (clash : Clash) → slice_get xs n ≡ Some e → clash_with rule key_cols n e 0 ys ≡ Some clash → first_clash_from rule key_cols n (drop n xs) ys ≡ Some clash
+pub clash_here : (rule : ConflictRule) (key_cols n : ℕ) (xs ys : List Entry) (e : Entry) (clash : Clash) → slice_get xs n ≡ Some e
+    → clash_with rule key_cols n e 0 ys ≡ Some clash → first_clash_from rule key_cols n (drop n xs) ys ≡ Some clash
 clash_here rule key_cols n xs ys e clash at some =
     ap (λ zs. first_clash_from rule key_cols n zs ys) (head_drop n xs e at)
     ∙ ap (λ c. or_else c (first_clash_from rule key_cols (suc n) (drop (n + 1) xs) ys)) some
 
 -- the entries so far with one more, made consecutive
-pub moved_next : (key_cols n sid : ℕ) (xs ys out : List Entry) (e : Entry) → slice_get xs n ≡ Some e → sid ≡ (rebased_entry key_cols ys e).sid
+pub moved_next : (key_cols n sid : ℕ) (xs ys out : List Entry) (e : Entry) → slice_get xs n ≡ Some e
+    → sid ≡ (rebased_entry key_cols ys e).sid
     → out ≡ map (rebased_entry key_cols ys) (take n xs)
     → out ++ entry_at sid e.change ∷ [] ≡ map (rebased_entry key_cols ys) (take (n + 1) xs)
 moved_next key_cols n sid xs ys out e at sid_is is =
@@ -124,7 +130,8 @@ put_none n sid xs [] e at stays none = next_take n xs e at ∙ ap (λ (s : ℕ).
 put_none n sid xs (o ∷ out) e at stays none = cc
 
 -- where one has moved, the entries are those that are put
-pub put_first : (n : ℕ) (xs out : List Entry) (m : Entry) → out ≡ [] → put_entries (n + 1) xs (take n xs ++ m ∷ []) ≡ put_entries n xs out ++ m ∷ []
+pub put_first : (n : ℕ) (xs out : List Entry) (m : Entry) → out ≡ []
+    → put_entries (n + 1) xs (take n xs ++ m ∷ []) ≡ put_entries n xs out ++ m ∷ []
 put_first n xs [] m none = by (take n xs)
   where
     by : (es : List Entry) → put_entries (n + 1) xs (es ++ m ∷ []) ≡ es ++ m ∷ []
@@ -132,7 +139,8 @@ put_first n xs [] m none = by (take n xs)
     by (e ∷ es) = refl
 put_first n xs (o ∷ out) m none = cc
 
-pub put_more : (n : ℕ) (xs out : List Entry) (m : Entry) → (out ≡ [] → ⊥) → put_entries (n + 1) xs (out ++ m ∷ []) ≡ put_entries n xs out ++ m ∷ []
+pub put_more : (n : ℕ) (xs out : List Entry) (m : Entry) → (out ≡ [] → ⊥)
+    → put_entries (n + 1) xs (out ++ m ∷ []) ≡ put_entries n xs out ++ m ∷ []
 put_more n xs [] m some = absurd (some refl)
 put_more n xs (o ∷ out) m some = refl
 
@@ -198,7 +206,8 @@ module _ (rule : ConflictRule) (x y : Tree) (w : AreAligned x y) where
       omega (arith, bound, w.small.rows)
 
   -- an entry stands before the next one
-  pub in_order : (n : ℕ) (e z : Entry) → slice_get x.entries n ≡ Some e → slice_get x.entries (n + 1) ≡ Some z → entry_cmp y.key_cols e z ≡ Less
+  pub in_order : (n : ℕ) (e z : Entry) → slice_get x.entries n ≡ Some e → slice_get x.entries (n + 1) ≡ Some z
+      → entry_cmp y.key_cols e z ≡ Less
   in_order n e z at next =
       let kc = w.schema.key_cols in
       let order = passes (are_ordered kc (canonical_entries w.t w.x)) (ordered w.schema w.t w.x w.x_is.over).ordered in
@@ -207,40 +216,68 @@ module _ (rule : ConflictRule) (x y : Tree) (w : AreAligned x y) where
       let there = sym (ap (λ (es : List Entry). slice_get es (suc n)) list_x) ∙ sym (ap (slice_get x.entries) one) ∙ next in
       ap (λ (k : ℕ). entry_cmp k e z) cols_y ∙ adjacent kc n (canonical_entries w.t w.x) e z order here there
 
-  -- the first clash of an entry is that at its place
-  pub clash_is : (n : ℕ) (e : Entry) (p : ℕ) → slice_get x.entries n ≡ Some e → IsSplit (stands_before (clash_cmp y.key_cols rule e.change) e.sid) y.entries p → clash_with rule y.key_cols n e 0 y.entries ≡ clash_with_head rule y.key_cols n e p (drop p y.entries)
-  clash_is n e p at split =
+  -- it agrees with those of the other tree
+  agree_own : (n : ℕ) (e : Entry) → slice_get x.entries n ≡ Some e → T (list_all (agrees w.schema.key_cols e) (canonical_entries w.t w.y))
+  agree_own n e at =
       let here = sym (ap (λ (es : List Entry). slice_get es n) list_x) ∙ at in
       let kc = w.schema.key_cols in
       let x_ranked = ranked-canonical_entries kc w.t w.x (each w.schema w.t w.x x w.x_is w.small.rows) in
       let y_ranked = ranked-canonical_entries kc w.t w.y (each w.schema w.t w.y y w.y_is w.small.rows) in
-      let agree = agree_all kc w.t e (canonical_entries w.t w.y) (holds_at (is_ranked kc w.t) n (canonical_entries w.t w.x) e x_ranked here) y_ranked in
-      let order = passes (are_ordered kc (canonical_entries w.t w.y)) (ordered w.schema w.t w.y w.y_is.over).ordered in
-      let P = λ (r : Tree). IsSplit (stands_before (clash_cmp r.key_cols rule e.change) e.sid) r.entries p → clash_with rule r.key_cols n e 0 r.entries ≡ clash_with_head rule r.key_cols n e p (drop p r.entries) in
-      subst P (sym w.y_is.tree_is) (λ s. clash_place kc rule e (canonical_entries w.t w.y) p n order s agree) split
+      let own = holds_at (is_ranked kc w.t) n (canonical_entries w.t w.x) e x_ranked here in
+      agree_all kc w.t e (canonical_entries w.t w.y) own y_ranked
+
+  pub agree : (n : ℕ) (e : Entry) → slice_get x.entries n ≡ Some e → T (list_all (agrees y.key_cols e) y.entries)
+  agree n e at = subst (λ (r : Tree). T (list_all (agrees r.key_cols e) r.entries)) (sym w.y_is.tree_is) (agree_own n e at)
+
+  pub order_y : T (are_ordered y.key_cols y.entries)
+  order_y =
+      let order = passes (are_ordered w.schema.key_cols (canonical_entries w.t w.y)) (ordered w.schema w.t w.y w.y_is.over).ordered in
+      subst (λ (r : Tree). T (are_ordered r.key_cols r.entries)) (sym w.y_is.tree_is) order
+
+  pub order_x : T (are_ordered y.key_cols x.entries)
+  order_x =
+      let order = passes (are_ordered w.schema.key_cols (canonical_entries w.t w.x)) (ordered w.schema w.t w.x w.x_is.over).ordered in
+      subst (λ (k : ℕ). T (are_ordered k x.entries)) (sym cols_y)
+      (subst (λ (es : List Entry). T (are_ordered w.schema.key_cols es)) (sym list_x) order)
+
+  -- the first clash of an entry is that at its place
+  pub clash_is : (n : ℕ) (e : Entry) (p : ℕ) → slice_get x.entries n ≡ Some e
+      → IsSplit (stands_before (clash_cmp y.key_cols rule e.change) e.sid) y.entries p
+      → clash_with rule y.key_cols n e 0 y.entries ≡ clash_with_head rule y.key_cols n e p (drop p y.entries)
+  clash_is n e p at split = clash_place y.key_cols rule e y.entries p n order_y split (agree n e at)
 
   -- the first clash of all, in the words of the effects
-  found_is : first_clash rule y.key_cols x.entries y.entries ≡ first_clash rule w.schema.key_cols (canonical_entries w.t w.x) (canonical_entries w.t w.y)
+  found_is : first_clash rule y.key_cols x.entries y.entries ≡ first_clash rule w.schema.key_cols (canonical_entries w.t w.x)
+      (canonical_entries w.t w.y)
   found_is i = first_clash rule (cols_y i) (list_x i) (list_y i)
 
-  pub conflicting : (clash : Clash) → first_clash rule y.key_cols x.entries y.entries ≡ Some clash → Conflicts rule w.x w.y × IsLeastClash rule w.schema.key_cols x.entries y.entries clash
+  pub conflicting : (clash : Clash) → first_clash rule y.key_cols x.entries y.entries ≡ Some clash
+      → Conflicts rule w.x w.y × IsLeastClash rule w.schema.key_cols x.entries y.entries clash
   conflicting clash found =
       let some = sym (finds w.schema rule w.t w.x w.y w.x_is.over w.y_is.over) ∙ ap is_some (sym found_is ∙ found) in
-      let here : first_clash rule w.schema.key_cols x.entries y.entries ≡ Some clash = ap (λ (k : ℕ). first_clash rule k x.entries y.entries) (sym cols_y) ∙ found in
-      (some, subst (λ (o : Option Clash). IfSome o (IsLeastClash rule w.schema.key_cols x.entries y.entries)) here (first_clash-least w.schema.key_cols rule x.entries y.entries).least)
+      let here : first_clash rule w.schema.key_cols x.entries y.entries ≡ Some
+      clash = ap (λ (k : ℕ). first_clash rule k x.entries y.entries) (sym cols_y) ∙ found in (
+        some,
+        subst (λ (o : Option Clash). IfSome o (IsLeastClash rule w.schema.key_cols x.entries y.entries)) here
+            (first_clash-least w.schema.key_cols rule x.entries y.entries).least,
+      )
 
   pub unconflicting : first_clash rule y.key_cols x.entries y.entries ≡ None → conflicts rule w.x w.y ≡ false
   unconflicting none = sym (finds w.schema rule w.t w.x w.y w.x_is.over w.y_is.over) ∙ ap is_some (sym found_is ∙ none)
 
-  pub rebased_list : first_clash rule y.key_cols x.entries y.entries ≡ None → rebased_entries y.key_cols y.entries x.entries ≡ canonical_entries (table_with w.t w.y) w.x
+  pub rebased_list : first_clash rule y.key_cols x.entries y.entries ≡ None
+      → rebased_entries y.key_cols y.entries x.entries ≡ canonical_entries (table_with w.t w.y) w.x
   rebased_list none =
       (λ i. rebased_entries (cols_y i) (list_y i) (list_x i))
       ∙ (rebases w.schema rule w.t w.x w.y w.x_is.over w.y_is.over (unconflicting none)).1
 
-  pub rebased_is : (tree : Tree) (out : List Entry) → first_clash rule y.key_cols x.entries y.entries ≡ None → out ≡ rebased_entries y.key_cols y.entries x.entries → tree ≡ record { key_cols = x.key_cols; entries = out } → tree ≡ rebased_tree x y w
+  pub rebased_is : (tree : Tree) (out : List Entry) → first_clash rule y.key_cols x.entries y.entries ≡ None
+      → out ≡ rebased_entries y.key_cols y.entries x.entries → tree ≡ record { key_cols = x.key_cols; entries = out }
+      → tree ≡ rebased_tree x y w
   rebased_is tree out none is tree_is = tree_is ∙ (λ i. record { key_cols = cols_x i; entries = (is ∙ rebased_list none) i })
 
-  pub lawful : (out : List Entry) → first_clash rule y.key_cols x.entries y.entries ≡ None → out ≡ rebased_entries y.key_cols y.entries x.entries → IsLawful x.key_cols out
+  pub lawful : (out : List Entry) → first_clash rule y.key_cols x.entries y.entries ≡ None
+      → out ≡ rebased_entries y.key_cols y.entries x.entries → IsLawful x.key_cols out
   lawful out none is =
       let over = (rebases w.schema rule w.t w.x w.y w.x_is.over w.y_is.over (unconflicting none)).0 in
       let after = table_with w.t w.y in
@@ -248,10 +285,13 @@ module _ (rule : ConflictRule) (x y : Tree) (w : AreAligned x y) where
       let rows = rows_after w.schema w.t w.y y w.y_is w.small.rows in
       let short = few w.schema w.t w.x w.small.lawful w.x_is.over in
       let same : length (rebased_entries y.key_cols y.entries x.entries) ≡ length x.entries = length-map _ _ in
-      let moved : length (canonical_entries after w.x) ≡ length (canonical_entries w.t w.x) = ap length (sym (rebased_list none)) ∙ same ∙ ap length list_x in
+      let moved : length (canonical_entries after w.x) ≡ length (canonical_entries w.t w.x) = ap length (sym (rebased_list none)) ∙ same
+      ∙ ap length list_x in
       let law : IsLawful w.schema.key_cols (canonical_entries after w.x) = record {
         ordered = entries.ordered;
-        placed = All-weaker (λ e. e.sid ≤ length after) (λ e. e.sid < 2 ^ 32) (λ e le. omega (arith, le, rows)) (canonical_entries after w.x) entries.placed;
+        placed = All-weaker (λ e. e.sid ≤ length after) (λ e. e.sid < 2 ^ 32) (λ e le. omega (arith, le, rows))
+            (canonical_entries after w.x) entries.placed;
         counted = omega (arith, short, moved, rows_after w.schema w.t w.x x w.x_is w.small.rows, w.small.rows);
       } in
-      subst (λ (r : Tree). IsLawful r.key_cols r.entries) (λ i. record { key_cols = sym cols_x i; entries = sym (is ∙ rebased_list none) i }) law
+      subst (λ (r : Tree). IsLawful r.key_cols r.entries)
+      (λ i. record { key_cols = sym cols_x i; entries = sym (is ∙ rebased_list none) i }) law

@@ -1,5 +1,6 @@
 -- A tree whose entries stand before all that another one inserts or deletes.
-use Rattle.std.proofs.Common.{◌≡◌, ℕ, ◌+◌, ◌-◌, ◌<◌, ◌≤◌, ◌⊎◌, inl, inr, Bool, true, false, cond, ◌&&◌, ◌||◌, T, List, [], ◌∷◌, length, filter, Greater, is_lt, refl, ap, ◌∙◌, arith}
+use Rattle.std.proofs.Common.{◌≡◌, ℕ, ◌+◌, ◌-◌, ◌<◌, ◌≤◌, ◌⊎◌, inl, inr, Bool, true, false, cond, ◌&&◌, ◌||◌, T, List, [], ◌∷◌, length}
+use Rattle.std.proofs.Common.{filter, Greater, is_lt, refl, ap, ◌∙◌, arith}
 use Rattle.std.specs.Prelude.{◌==◌, nat_lt}
 use Rattle.std.specs.List.{list_all}
 use Rattle.std.proofs.lemmas.Bool.Decides.{nat_tests}
@@ -26,12 +27,15 @@ not_delete (Mod col value) h = refl
 
 module _ (key_cols : ℕ) where
   -- a modify before the others moves none
-  pub past_modify : (y : Entry) (ys : List Entry) (x : Entry) → is_modify y.change ≡ true → rebased_entry key_cols (y ∷ ys) x ≡ rebased_entry key_cols ys x
+  pub past_modify : (y : Entry) (ys : List Entry) (x : Entry) → is_modify y.change ≡ true
+      → rebased_entry key_cols (y ∷ ys) x ≡ rebased_entry key_cols ys x
   past_modify y ys x h =
       let inserts = filter (inserts_before key_cols x) ys in
       let deletes = filter (deletes_before key_cols x) ys in
       λ i. entry_at
-      ((x.sid + length (cond (not_insert y.change h i && (nat_lt y.sid x.sid || ((y.sid == x.sid) && stands_first key_cols y.change x.change))) (y ∷ inserts) inserts))
+      ((x.sid + length (cond
+      (not_insert y.change h i && (nat_lt y.sid x.sid || ((y.sid == x.sid) && stands_first key_cols y.change x.change))) (y ∷ inserts)
+      inserts))
       - length (cond (not_delete y.change h i && nat_lt y.sid x.sid) (y ∷ deletes) deletes))
       x.change
 
@@ -78,17 +82,21 @@ module _ (key_cols : ℕ) where
       let stays : (x.sid + 0) - 0 ≡ x.sid = omega arith in
       (λ i. entry_at ((x.sid + inserts ys h i) - deletes ys h i) x.change) ∙ ap (λ s. entry_at s x.change) stays
     where
-      places : (y : Entry) → T (is_before key_cols ByColumn y x) → (x.sid < y.sid) ⊎ ((y.sid ≡ x.sid) × (change_cmp key_cols y.change x.change ≡ Greater))
+      places : (y : Entry) → T (is_before key_cols ByColumn y x)
+          → (x.sid < y.sid) ⊎ ((y.sid ≡ x.sid) × (change_cmp key_cols y.change x.change ≡ Greater))
       places y b = sids_greater y.sid x.sid (change_cmp key_cols y.change x.change) (yields _ b)
 
-      inserts : (zs : List Entry) → T (list_all (λ y. is_before key_cols ByColumn y x) zs) → length (filter (inserts_before key_cols x) zs) ≡ 0
+      inserts : (zs : List Entry) → T (list_all (λ y. is_before key_cols ByColumn y x) zs)
+          → length (filter (inserts_before key_cols x) zs) ≡ 0
       inserts [] g = refl
       inserts (y ∷ zs) g =
           let rest = filter (inserts_before key_cols x) zs in
-          ap (λ b. length (cond b (y ∷ rest) rest)) (first_not y.sid x.sid y.change x.change (places y (first (is_before key_cols ByColumn y x) _ g)))
+          ap (λ b. length (cond b (y ∷ rest) rest))
+          (first_not y.sid x.sid y.change x.change (places y (first (is_before key_cols ByColumn y x) _ g)))
           ∙ inserts zs (second (is_before key_cols ByColumn y x) _ g)
 
-      deletes : (zs : List Entry) → T (list_all (λ y. is_before key_cols ByColumn y x) zs) → length (filter (deletes_before key_cols x) zs) ≡ 0
+      deletes : (zs : List Entry) → T (list_all (λ y. is_before key_cols ByColumn y x) zs)
+          → length (filter (deletes_before key_cols x) zs) ≡ 0
       deletes [] g = refl
       deletes (y ∷ zs) g =
           let rest = filter (deletes_before key_cols x) zs in
@@ -103,7 +111,8 @@ module _ (key_cols : ℕ) where
   stand_still e ys (x ∷ xs) o h =
       let here = first (is_before key_cols ByColumn e x) _ h in
       let all = first (list_all (λ y. is_lt (entry_cmp key_cols e y)) ys) (are_ordered key_cols ys) o in
-      λ i. stood x (e ∷ ys) (both (is_before key_cols ByColumn e x) _ here (before_all e x ys all here)) i ∷ stand_still e ys xs o (second (is_before key_cols ByColumn e x) _ h) i
+      λ i. stood x (e ∷ ys) (both (is_before key_cols ByColumn e x) _ here (before_all e x ys all here)) i ∷ stand_still e ys xs o
+      (second (is_before key_cols ByColumn e x) _ h) i
 
   -- what moves each alike moves all alike
   pub moved_alike : (ys zs xs : List Entry) → ((x : Entry) → rebased_entry key_cols ys x ≡ rebased_entry key_cols zs x)

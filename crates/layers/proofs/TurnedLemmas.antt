@@ -1,5 +1,6 @@
 -- The first clash of two trees over one image, as it is found from the other one.
-use Rattle.std.proofs.Common.{◌≡◌, ◌⊎◌, inl, inr, ℕ, zero, suc, ◌<◌, ◌≤◌, Bool, cond, ◌&&◌, T, Option, Some, None, is_some, List, [], ◌∷◌, nat_cmp, Ordering, Less, Equal, Greater, is_lt, is_eq, refl, sym, ap, ◌∙◌, subst, arith}
+use Rattle.std.proofs.Common.{◌≡◌, ◌⊎◌, inl, inr, ℕ, zero, suc, ◌<◌, ◌≤◌, Bool, cond, ◌&&◌, T, Option, Some, None, is_some, List, [], ◌∷◌}
+use Rattle.std.proofs.Common.{nat_cmp, Ordering, Less, Equal, Greater, is_lt, is_eq, refl, sym, ap, ◌∙◌, subst, arith}
 use Rattle.std.specs.Prelude.{◌==◌, IfSome, IsNone, slice_get}
 use Rattle.std.specs.Bool.{passes}
 use Rattle.std.specs.List.{list_all}
@@ -24,7 +25,8 @@ use Rattle.model.proofs.CallerLemmas.{first, second, less, turn_less, turn_great
 use Rattle.delta.specs.Tree.{Tree}
 use Rattle.layers.specs.Over.{AreAligned}
 use Rattle.layers.specs.Serialization.{turned_clash}
-use Rattle.layers.proofs.ClashLemmas.{agrees, is_ranked, agree_all, ranked-canonical_entries, clash_order, clash_order-trans, unclashed_entry, tied_entry}
+use Rattle.layers.proofs.ClashLemmas.{agrees, is_ranked, agree_all, ranked-canonical_entries, clash_order, clash_order-trans}
+use Rattle.layers.proofs.ClashLemmas.{unclashed_entry, tied_entry}
 use Rattle.layers.proofs.PassLemmas.{yields, tested, still}
 use Rattle.layers.proofs.SerialLemmas.{holds_at, each, cols_x, cols_y, list_x, list_y, conflicting}
 
@@ -46,7 +48,8 @@ columns_turn ByColumn col other = numbers_turn col other
 columns_turn ByRow col other = refl
 
 -- entries in order, by their indices
-ordered_at : (key_cols n m : ℕ) (es : List Entry) (e z : Entry) → T (are_ordered key_cols es) → slice_get es n ≡ Some e → slice_get es m ≡ Some z
+ordered_at : (key_cols n m : ℕ) (es : List Entry) (e z : Entry) → T (are_ordered key_cols es) → slice_get es n ≡ Some e
+    → slice_get es m ≡ Some z
     → n < m → entry_cmp key_cols e z ≡ Less
 ordered_at key_cols n m [] e z o p q lt = cc
 ordered_at key_cols n zero (a ∷ es) e z o p q lt = absurd (omega (arith, lt))
@@ -55,11 +58,13 @@ ordered_at key_cols zero (suc m) (a ∷ es) e z o p q lt =
     let all = first (list_all (λ y. is_lt (entry_cmp key_cols a y)) es) (are_ordered key_cols es) o in
     ap (λ b. entry_cmp key_cols b z) (sym here) ∙ less _ (holds_at (λ y. is_lt (entry_cmp key_cols a y)) m es z all q)
 ordered_at key_cols (suc n) (suc m) (a ∷ es) e z o p q lt =
-    ordered_at key_cols n m es e z (second (list_all (λ y. is_lt (entry_cmp key_cols a y)) es) (are_ordered key_cols es) o) p q (omega (arith, lt))
+    ordered_at key_cols n m es e z (second (list_all (λ y. is_lt (entry_cmp key_cols a y)) es) (are_ordered key_cols es) o) p q
+    (omega (arith, lt))
 
 module _ (rule : ConflictRule) (key_cols : ℕ) where
   changes_turn : (here : Bool) (c d : Change) → clash_of_changes rule key_cols here c d ≡ clash_of_changes rule key_cols here d c
-  changes_turn here (Ins row) (Ins other) = ap (λ b. cond b (Some InsertInsert) None) (keys_turn (key_of key_cols row) (key_of key_cols other))
+  changes_turn here (Ins row) (Ins other) = ap (λ b. cond b (Some InsertInsert) None)
+      (keys_turn (key_of key_cols row) (key_of key_cols other))
   changes_turn here (Ins row) (Del key) = refl
   changes_turn here (Ins row) (Mod col value) = refl
   changes_turn here (Del key) (Ins row) = refl
@@ -88,7 +93,8 @@ module _ (rule : ConflictRule) (key_cols : ℕ) where
   -- unless it clashes with the third
   uncrossed : (a b p q : Entry) (k l : ClashKind) → entry_cmp key_cols a b ≡ Less → entry_cmp key_cols p q ≡ Less
       → T (agrees key_cols a q) → T (agrees key_cols b p)
-      → clash_of_entries rule key_cols a q ≡ Some k → clash_of_entries rule key_cols b p ≡ Some l → clash_of_entries rule key_cols a p ≡ None → ⊥
+      → clash_of_entries rule key_cols a q ≡ Some k → clash_of_entries rule key_cols b p ≡ Some l
+      → clash_of_entries rule key_cols a p ≡ None → ⊥
   uncrossed a b p q k l ab pq aq bp last middle none = by (clash_order key_cols rule a p) refl
     where
       by : (r : Ordering) → clash_order key_cols rule a p ≡ r → ⊥
@@ -105,7 +111,8 @@ module _ (rule : ConflictRule) (key_cols : ℕ) where
   -- the least clash of one list with another is the least of the other with the one
   module _ (xs ys : List Entry) (x_ordered : T (are_ordered key_cols xs)) (y_ordered : T (are_ordered key_cols ys))
       (agree : (j : ℕ) (y : Entry) → slice_get ys j ≡ Some y → T (list_all (agrees key_cols y) xs)) where
-    unless : (clash : Clash) → IsLeastClash rule key_cols ys xs clash → (i j : ℕ) (kind : ClashKind) → AreClashing rule key_cols ys xs j i kind
+    unless : (clash : Clash) → IsLeastClash rule key_cols ys xs clash → (i j : ℕ) (kind : ClashKind)
+        → AreClashing rule key_cols ys xs j i kind
         → clash.x < j → i < clash.y → ⊥
     unless clash h i j kind other lt gt = by (clash_of_entries rule key_cols h.clashing.x other.y) refl
       where
@@ -118,7 +125,8 @@ module _ (rule : ConflictRule) (key_cols : ℕ) where
             (holds_at (agrees key_cols other.x) i xs other.y (agree j other.x other.x_at) other.y_at)
             h.clashing.kind_is other.kind_is none
         by (Some k) some =
-            let two : AreClashing rule key_cols ys xs clash.x i k = record { x = h.clashing.x; y = other.y; x_at = h.clashing.x_at; y_at = other.y_at; kind_is = some } in
+            let two : AreClashing rule key_cols ys xs clash.x i
+            k = record { x = h.clashing.x; y = other.y; x_at = h.clashing.x_at; y_at = other.y_at; kind_is = some } in
             elim (h.least clash.x i k two) [
               | inl below ↦ absurd (omega (arith, below))
               | inr s ↦ let le = s.1 in absurd (omega (arith, le, gt))
@@ -186,14 +194,17 @@ module _ (rule : ConflictRule) (x y : Tree) (w : AreAligned x y) where
       least : IsLeastClash rule kc x.entries y.entries (turned_clash clash)
       least =
           least_turns rule kc x.entries y.entries x_ordered y_ordered all_agree clash
-          (subst (λ (o : Option Clash). IfSome o (IsLeastClash rule kc y.entries x.entries)) here (first_clash-least kc rule y.entries x.entries).least)
+          (subst (λ (o : Option Clash). IfSome o (IsLeastClash rule kc y.entries x.entries)) here
+          (first_clash-least kc rule y.entries x.entries).least)
 
       by : (o : Option Clash) → first_clash rule y.key_cols x.entries y.entries ≡ o →
           Conflicts rule w.x w.y × IsLeastClash rule kc x.entries y.entries (turned_clash clash)
       by (Some other) e = ((conflicting rule x y w other e).0, least)
       by None e =
-          let none : first_clash rule kc x.entries y.entries ≡ None = ap (λ (k : ℕ). first_clash rule k x.entries y.entries) (sym (cols_y rule x y w)) ∙ e in
-          absurd ((first_clash-least kc rule x.entries y.entries).none (subst (λ (o : Option Clash). IsNone o) (sym none) refl) clash.y clash.x clash.kind least.clashing)
+          let none : first_clash rule kc x.entries y.entries ≡ None = ap (λ (k : ℕ). first_clash rule k x.entries y.entries)
+          (sym (cols_y rule x y w)) ∙ e in
+          absurd ((first_clash-least kc rule x.entries y.entries).none (subst (λ (o : Option Clash). IsNone o) (sym none) refl) clash.y
+          clash.x clash.kind least.clashing)
 
   -- where none is found there is none
   pub no_clash-turns : first_clash rule x.key_cols y.entries x.entries ≡ None → first_clash rule y.key_cols x.entries y.entries ≡ None
@@ -205,6 +216,9 @@ module _ (rule : ConflictRule) (x y : Tree) (w : AreAligned x y) where
       by : (o : Option Clash) → first_clash rule y.key_cols x.entries y.entries ≡ o → o ≡ None
       by None e = refl
       by (Some other) e =
-          let some : first_clash rule kc x.entries y.entries ≡ Some other = ap (λ (k : ℕ). first_clash rule k x.entries y.entries) (sym (cols_y rule x y w)) ∙ e in
-          let least = subst (λ (o : Option Clash). IfSome o (IsLeastClash rule kc x.entries y.entries)) some (first_clash-least kc rule x.entries y.entries).least in
-          absurd ((first_clash-least kc rule y.entries x.entries).none (subst (λ (o : Option Clash). IsNone o) (sym none) refl) other.y other.x other.kind (clashing_turns rule kc x.entries y.entries other.x other.y other.kind least.clashing))
+          let some : first_clash rule kc x.entries y.entries ≡ Some other = ap (λ (k : ℕ). first_clash rule k x.entries y.entries)
+          (sym (cols_y rule x y w)) ∙ e in
+          let least = subst (λ (o : Option Clash). IfSome o (IsLeastClash rule kc x.entries y.entries)) some
+          (first_clash-least kc rule x.entries y.entries).least in
+          absurd ((first_clash-least kc rule y.entries x.entries).none (subst (λ (o : Option Clash). IsNone o) (sym none) refl) other.y
+          other.x other.kind (clashing_turns rule kc x.entries y.entries other.x other.y other.kind least.clashing))

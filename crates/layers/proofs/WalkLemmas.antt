@@ -1,5 +1,6 @@
 -- Steps of the walk that folds one tree into another.
-use Rattle.std.proofs.Common.{◌≡◌, ℕ, ◌+◌, ◌<◌, ◌≤◌, ◌^◌, Bool, true, false, cond, Some, None, List, [], ◌∷◌, ◌++◌, length, drop, nat_cmp, Ordering, Less, Equal, Greater, refl, sym, ap, ◌∙◌, subst, arith}
+use Rattle.std.proofs.Common.{◌≡◌, ℕ, ◌+◌, ◌<◌, ◌≤◌, ◌^◌, Bool, true, false, cond, Some, None, List, [], ◌∷◌, ◌++◌, length, drop, nat_cmp}
+use Rattle.std.proofs.Common.{Ordering, Less, Equal, Greater, refl, sym, ap, ◌∙◌, subst, arith}
 use Rattle.std.specs.Prelude.{slice_get}
 use Rattle.std.specs.List.{All}
 use Rattle.std.specs.Ordering.{is_gt}
@@ -16,7 +17,8 @@ use Rattle.model.specs.Composition.{composed_effects}
 use Rattle.model.specs.Laws.{FoldsToComposed}
 use Rattle.model.proofs.CallerLemmas.{composes, ordered}
 use Rattle.delta.specs.Tree.{Tree}
-use Rattle.model.specs.Folding.{Meeting, Upper, Lower, Over, Neither, Into, columns_meet, changes_meet, positions_meet, meet, added_by, gone_by, lowered_entry, fold_one, fold_from, folded_entries}
+use Rattle.model.specs.Folding.{Meeting, Upper, Lower, Over, Neither, Into, columns_meet, changes_meet, positions_meet, meet, added_by}
+use Rattle.model.specs.Folding.{gone_by, lowered_entry, fold_one, fold_from, folded_entries}
 use Rattle.layers.specs.Over.{AreConsecutive}
 use Rattle.layers.specs.Propagation.{composed_tree}
 use Rattle.layers.proofs.RestLemmas.{entries_few}

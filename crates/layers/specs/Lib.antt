@@ -3,3 +3,5 @@ pub mod Passing
 pub mod Propagation
 pub mod Serialization
 pub mod Walk
+pub mod Held
+pub mod Passage

@@ -54,4 +54,5 @@ clash_with_head rule key_cols i x j (y ∷ ys) = or_clash i j (clash_of_entries 
 -- the clash of the entry at place i, if there is one, is that with the first entry that it can clash with
 abbrev pub IsClashBeside : ConflictRule → ℕ → ℕ → Entry → List Entry → Option Clash → Type 0
 IsClashBeside rule key_cols i x ys clash =
-    (j : ℕ) × IsSplit (stands_before (clash_cmp key_cols rule x.change) x.sid) ys j × (clash ≡ clash_with_head rule key_cols i x j (drop j ys))
+    (j : ℕ) × IsSplit (stands_before (clash_cmp key_cols rule x.change) x.sid) ys j
+    × (clash ≡ clash_with_head rule key_cols i x j (drop j ys))

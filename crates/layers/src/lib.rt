@@ -11,11 +11,14 @@ mod ahead;
 mod beside;
 mod clash;
 mod cursor;
+mod list;
 mod meeting;
+mod passage;
 mod propagation;
 mod rebase;
 mod walk;
 
 pub use model::{Clash, ClashKind, ConflictRule};
+pub use passage::{Passage, Passed};
 pub use propagation::propagate;
 pub use rebase::{Serialized, serialize};

@@ -1,7 +1,7 @@
 //! A tree made consecutive to another one over the same image.
 ghost use Rattle.std.specs.Prelude.{◌≡◌, ◌+◌, ◌≤◌, true, ◌∷◌, [], ◌++◌, Some, IfOk, OnOk, length, slice_get, take};
 ghost use Rattle.delta.specs.Lent.{change_of};
-ghost use Rattle.model.specs.Entries.{entry_at, is_modify};
+ghost use Rattle.model.specs.Entries.{entry_at, is_modify, IsLawful};
 ghost use Rattle.model.specs.Rebasing.{rebased_entries};
 ghost use Rattle.layers.specs.Over.{AreAligned};
 ghost use Rattle.layers.specs.Passing.{put_entries};
@@ -62,7 +62,7 @@ pub fn serialize(
 }
 
 /// Whether no entry of `x` moves past `y`: all stand before its first insert or delete.
-fn moves_none(x: &DeltaTree, y: &DeltaTree) -> bool
+pub(crate) fn moves_none(x: &DeltaTree, y: &DeltaTree) -> bool
     requires { x.now.key_cols ≡ y.now.key_cols }
     ensures { result ≡ true → x.now.entries ≡ rebased_entries y.now.key_cols y.now.entries x.now.entries }
 {
@@ -120,13 +120,14 @@ fn put(
 }
 
 /// So many of the first entries of a tree, with room for all.
-fn first_entries(
+pub(crate) fn first_entries(
     alloc: Global,
     tree: &DeltaTree,
     count: usize,
 ) -> Result<Vec<SharedEntry>, NoMemory>
     requires { count ≤ length tree.now.entries }
-    ensures { IfOk result (λ entries. entries.items ≡ take count tree.now.entries) }
+    ensures entries { IfOk result (λ entries. entries.items ≡ take count tree.now.entries) }
+    ensures lawful { OnOk result (IsLawful tree.now.key_cols tree.now.entries) }
 {
     let mut entries = Vec::with_capacity(alloc, tree.len())?;
     for entry in tree.iter() {

@@ -4,7 +4,7 @@ ghost use Rattle.manager.specs.Passing.{MayPass, IsThrough};
 
 use circular_buffer::HeapCircularBuffer;
 use delta::DeltaTree;
-use layers::{ConflictRule, Serialized, serialize};
+use layers::{ConflictRule, Passage, Passed};
 use std::alloc::Global;
 use values::NoMemory;
 
@@ -21,13 +21,13 @@ pub(crate) fn passed_through(
     ensures { IfOk result (λ passed. (w : MayPass conflicts (drop first kept.now.items) tree)
         → IsThrough conflicts (drop first kept.now.items) tree w passed) }
 {
-    let mut tree = tree;
+    let mut passage = Passage::of(tree);
     for index in first..kept.len() {
         let other = kept.get(index).unwrap();
-        match serialize(alloc, &tree, other, conflicts)? {
-            Serialized::Tree(next) => tree = next,
-            Serialized::Conflict(_) => return Ok(None),
+        match passage.pass(alloc, other, conflicts)? {
+            Passed::On(next) => passage = next,
+            Passed::Conflict(_) => return Ok(None),
         }
     }
-    Ok(Some(tree))
+    Ok(Some(passage.into_tree(alloc)?))
 }

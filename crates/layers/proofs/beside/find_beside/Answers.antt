@@ -14,6 +14,7 @@ returns-clause-rid c =
     let e = c.args.entry.now in
     let i = c.find-place.result.index in
     let found = c.find-place.ensures.split in
-    let here = subst (λ (s : ℕ). IsSplit (stands_before (change_cmp y.key_cols (change_of c.change.result)) s) y.entries i) c.sid.ensures found in
+    let here = subst (λ (s : ℕ). IsSplit (stands_before (change_cmp y.key_cols (change_of c.change.result)) s) y.entries i) c.sid.ensures
+    found in
     let split = subst (λ (d : Change). IsSplit (stands_before (change_cmp y.key_cols d) e.sid) y.entries i) c.change.ensures here in
     c.find-place.ensures.rid ∙ ap (rid_of_insert (take i y.entries)) c.sid.ensures ∙ rebased_place ByColumn y.key_cols e y.entries i split

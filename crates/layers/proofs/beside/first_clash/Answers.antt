@@ -5,7 +5,8 @@ use Rattle.layers.proofs.beside.first_clash.Goals as goal
 pub find_beside-found-requires : goal.find_beside-found-requires
 find_beside-found-requires c =
     let e = c.in-Some.entry.now in
-    let here = is_at c.loop-entry.index c.args.x.now.entries c.next.new.self e (sym c.loop-entry.invariant.left ∙ c.in-Some.ensures.steps) in
+    let here = is_at c.loop-entry.index c.args.x.now.entries c.next.new.self e
+    (sym c.loop-entry.invariant.left ∙ c.in-Some.ensures.steps) in
     small_sid c.args.rule c.args.x.now c.args.y.now c.requires c.loop-entry.index e here.at
 
 pub returns-in-Some-clash : goal.returns-in-Some-clash

@@ -63,7 +63,8 @@ take_at-requires c =
     let e = c.args.entry.now in
     let change = sym c.change-change.ensures ∙ ap change_of c.in-Del.is in
     let only =
-    subst (λ (p : ℕ × Change × Fold). IsOnlyFold t.key_cols t.entries p.0 p.1 p.2) (λ i. (c.sid.ensures i, ap change_of c.in-Del.is i, c.in-Into.is i))
+    subst (λ (p : ℕ × Change × Fold). IsOnlyFold t.key_cols t.entries p.0 p.1 p.2)
+    (λ i. (c.sid.ensures i, ap change_of c.in-Del.is i, c.in-Into.is i))
     c.find_fold.ensures.only in
     take_within t e.sid c.in-Del.field-0.now (with_change t e (Del c.in-Del.field-0.now) change c.requires) c.in-Into.index only
 
@@ -74,7 +75,8 @@ returns-in-Del c =
     let key = c.in-Del.field-0.now in
     let change = sym c.change-change.ensures ∙ ap change_of c.in-Del.is in
     let only =
-    subst (λ (p : ℕ × Change × Fold). IsOnlyFold t.key_cols t.entries p.0 p.1 p.2) (λ i. (c.sid.ensures i, ap change_of c.in-Del.is i, c.in-Into.is i))
+    subst (λ (p : ℕ × Change × Fold). IsOnlyFold t.key_cols t.entries p.0 p.1 p.2)
+    (λ i. (c.sid.ensures i, ap change_of c.in-Del.is i, c.in-Into.is i))
     c.find_fold.ensures.only in
     let new = c.take_at.new.self in
     let after = λ (d : Change) (v : IsNext t (entry_at e.sid d)). new ≡ next_tree t (entry_at e.sid d) v in
@@ -93,7 +95,8 @@ set_at-requires c =
     let change = sym c.change-change.ensures ∙ ap change_of c.in-Mod.is in
     let w = with_change t e (Mod col value) change c.requires in
     let only =
-    subst (λ (p : ℕ × Change × Fold). IsOnlyFold t.key_cols t.entries p.0 p.1 p.2) (λ i. (c.sid.ensures i, ap change_of c.in-Mod.is i, c.in-Into.is i))
+    subst (λ (p : ℕ × Change × Fold). IsOnlyFold t.key_cols t.entries p.0 p.1 p.2)
+    (λ i. (c.sid.ensures i, ap change_of c.in-Mod.is i, c.in-Into.is i))
     c.find_fold.ensures.only in
     record {
       within = set_within t e.sid col value w c.in-Into.index only;
@@ -109,7 +112,8 @@ returns-in_ok-copy-in-Mod c =
     let value = value_of c.in-Mod.value in
     let change = sym c.change-change.ensures ∙ ap change_of c.in-Mod.is in
     let only =
-    subst (λ (p : ℕ × Change × Fold). IsOnlyFold t.key_cols t.entries p.0 p.1 p.2) (λ i. (c.sid.ensures i, ap change_of c.in-Mod.is i, c.in-Into.is i))
+    subst (λ (p : ℕ × Change × Fold). IsOnlyFold t.key_cols t.entries p.0 p.1 p.2)
+    (λ i. (c.sid.ensures i, ap change_of c.in-Mod.is i, c.in-Into.is i))
     c.find_fold.ensures.only in
     let n = c.in-Into.index in
     let new = c.set_at.new.self in

@@ -21,5 +21,8 @@ returns-in_ok-copy-in-None c =
     let y = c.args.y.now in
     let found = sym c.first_clash.ensures ∙ c.in-None.is in
     λ (w : AreAligned x y).
-    let none = no_clash-turns c.args.rule x y w found in
-    (unconflicting c.args.rule x y w none, rebased_is c.args.rule x y w c.in_ok-copy-in-None.field-0 x.entries none c.requires.still c.in_ok-copy-in-None.ensures)
+    let none = no_clash-turns c.args.rule x y w found in (
+      unconflicting c.args.rule x y w none,
+      rebased_is c.args.rule x y w c.in_ok-copy-in-None.field-0 x.entries none c.requires.still
+          c.in_ok-copy-in-None.ensures,
+    )

@@ -24,13 +24,16 @@ returns-then-not-is_modify c =
     let steps = c.in-Some.ensures.steps in
     let found = c.find.ensures.split.before in
     let change = c.change-then-not-is_modify in
-    let at_sid = subst (λ (s : ℕ). T (list_all (stands_before (change_cmp c.args.x.now.key_cols (change_of change.result)) s) (take n xs))) c.sid.ensures found in
-    let at_entry = subst (λ (d : Change). T (list_all (stands_before (change_cmp c.args.x.now.key_cols d) e.sid) (take n xs))) change.ensures at_sid in
+    let at_sid = subst (λ (s : ℕ). T
+    (list_all (stands_before (change_cmp c.args.x.now.key_cols (change_of change.result)) s) (take n xs))) c.sid.ensures found in
+    let at_entry = subst (λ (d : Change). T (list_all (stands_before (change_cmp c.args.x.now.key_cols d) e.sid) (take n xs)))
+    change.ensures at_sid in
     let before = subst (λ (m : ℕ). T (list_all (stands_before (change_cmp m e.change) e.sid) (take n xs))) c.requires at_entry in
     let ordered = subst (λ (es : List Entry). T (are_ordered k es)) steps c.loop-entry.invariant.ordered in
     λ test.
     let size : n ≡ length xs = eqb-true n c.len.result test ∙ c.len.ensures in
-    let all = subst (λ (es : List Entry). T (list_all (stands_before (change_cmp k e.change) e.sid) es)) (all_taken n xs (omega (arith, size))) before in
+    let all = subst (λ (es : List Entry). T (list_all (stands_before (change_cmp k e.change) e.sid) es))
+    (all_taken n xs (omega (arith, size))) before in
     sym (moved_alike k y.entries c.loop-entry.entry-iterator xs c.loop-entry.invariant.alike
     ∙ ap (λ (es : List Entry). rebased_entries k es xs) steps
     ∙ stand_still k e rest xs ordered all)
@@ -45,7 +48,8 @@ loop-entry-preserved c =
     let modifies = ap is_modify (sym c.change.ensures) ∙ sym c.is_modify.ensures ∙ c.if-not-is_modify.false in
     let P = λ (z : Entry). z.sid < 2 ^ 32 in
     record {
-      ordered = second (list_all (λ z. is_lt (entry_cmp k e z)) rest) (are_ordered k rest) (subst (λ (es : List Entry). T (are_ordered k es)) steps inv.ordered);
+      ordered = second (list_all (λ z. is_lt (entry_cmp k e z)) rest) (are_ordered k rest)
+          (subst (λ (es : List Entry). T (are_ordered k es)) steps inv.ordered);
       placed = All-tail P e rest (subst (All P) steps inv.placed);
       alike = λ (z : Entry). inv.alike z ∙ ap (λ (es : List Entry). rebased_entry k es z) steps ∙ past_modify k e rest z modifies;
     }

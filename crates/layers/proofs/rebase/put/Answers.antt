@@ -30,7 +30,7 @@ returns c =
     ∙ elim c.if-is_empty.branch [
       | then-is_empty+else-sid+in_ok-entries w ↦
           let none = none_if c.args.entries.now.len out c.args.entries.now.ok.0 (sym c.is_empty.ensures ∙ w.if-is_empty.true) in
-          let first = ap (λ v. v.items) w.entries-is ∙ w.in_ok-entries.ensures in
+          let first = ap (λ v. v.items) w.entries-is ∙ w.in_ok-entries.ensures.entries in
           ap (λ (es : List Entry). put_entries (n + 1) own (es ++ moved ∷ [])) first ∙ put_first n own out moved none
       | else-is_empty w ↦
           let some = some_if c.args.entries.now.len out c.args.entries.now.ok.0 (sym c.is_empty.ensures ∙ w.if-is_empty.false) in

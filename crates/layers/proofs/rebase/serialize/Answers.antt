@@ -7,7 +7,8 @@ use Rattle.layers.specs.Over.{AreAligned}
 use Rattle.layers.specs.Passing.{put_entries}
 use Rattle.layers.specs.Serialization.{IsClashBeside}
 use Rattle.layers.proofs.PassLemmas.{ready_next}
-use Rattle.layers.proofs.SerialLemmas.{is_at, none_dropped, clear_next, clash_here, moved_next, none_left, all_taken, small_sid, clash_is, in_order}
+use Rattle.layers.proofs.SerialLemmas.{is_at, none_dropped, clear_next, clash_here, moved_next, none_left, all_taken, small_sid, clash_is}
+use Rattle.layers.proofs.SerialLemmas.{in_order}
 use Rattle.layers.proofs.SerialLemmas.{none_if, some_if, put_all, conflicting, unconflicting, rebased_is, lawful}
 use Rattle.layers.proofs.rebase.serialize.Goals as goal
 
@@ -83,7 +84,8 @@ returns-then-is_empty c =
     let rest = ap (λ (es : List Entry). first_clash_from c.args.rule y.key_cols n es y.entries) (none_left n x.entries end) in
     let none = inv.clear ∙ rest in
     let whole = all_taken n x.entries end in
-    let still = none_if c.loop-entry.entries.len c.loop-entry.entries.items c.loop-entry.entries.ok.0 (sym c.is_empty.ensures ∙ c.if-is_empty.true) in
+    let still = none_if c.loop-entry.entries.len c.loop-entry.entries.items c.loop-entry.entries.ok.0
+    (sym c.is_empty.ensures ∙ c.if-is_empty.true) in
     let all = sym whole ∙ ap (put_entries n x.entries) (sym still) ∙ inv.moved ∙ ap (map (rebased_entry y.key_cols y.entries)) whole in
     λ (w : AreAligned x y).
     (unconflicting c.args.rule x y w none, rebased_is c.args.rule x y w c.in_ok-copy.field-0 x.entries none all c.in_ok-copy.ensures)
@@ -98,7 +100,8 @@ from_shared-requires c =
     let end : length x.entries ≤ n = none_dropped n x.entries (sym inv.left ∙ c.in-None.ensures.steps.0) in
     let rest = ap (λ (es : List Entry). first_clash_from c.args.rule y.key_cols n es y.entries) (none_left n x.entries end) in
     let none = inv.clear ∙ rest in
-    let moved = put_all n x.entries out (some_if c.loop-entry.entries.len out c.loop-entry.entries.ok.0 (sym c.is_empty.ensures ∙ c.if-is_empty.false)) in
+    let moved = put_all n x.entries out
+    (some_if c.loop-entry.entries.len out c.loop-entry.entries.ok.0 (sym c.is_empty.ensures ∙ c.if-is_empty.false)) in
     let all = moved ∙ inv.moved ∙ ap (map (rebased_entry y.key_cols y.entries)) (all_taken n x.entries end) in
     let law = lawful c.args.rule x y c.requires out none all in
     subst (λ (k : ℕ). IsLawful k out) (sym c.key_cols.ensures) law
@@ -113,7 +116,8 @@ returns c =
     let end : length x.entries ≤ n = none_dropped n x.entries (sym inv.left ∙ c.in-None.ensures.steps.0) in
     let rest = ap (λ (es : List Entry). first_clash_from c.args.rule y.key_cols n es y.entries) (none_left n x.entries end) in
     let none = inv.clear ∙ rest in
-    let moved = put_all n x.entries out (some_if c.loop-entry.entries.len out c.loop-entry.entries.ok.0 (sym c.is_empty.ensures ∙ c.if-is_empty.false)) in
+    let moved = put_all n x.entries out
+    (some_if c.loop-entry.entries.len out c.loop-entry.entries.ok.0 (sym c.is_empty.ensures ∙ c.if-is_empty.false)) in
     let all = moved ∙ inv.moved ∙ ap (map (rebased_entry y.key_cols y.entries)) (all_taken n x.entries end) in
     let tree = c.in_ok-from_shared.field-0 in
     let tree_is : tree ≡ record { key_cols = x.key_cols; entries = out } =

@@ -8,4 +8,4 @@ use Rattle.manager.proofs.passing.passed_through.Given as goal
 abbrev pub invariant-loop-index : goal.invariant-loop-index
 invariant-loop-index l =
     (w : MayPass l.conflicts (drop l.first l.kept.items) l.fn.tree) →
-    IsOnItsWay l.conflicts w.schema w.x w.rest (table_with_all w.now w.rest) (drop l.index l.kept.items) l.tree
+    IsOnItsWay l.conflicts w.schema w.x w.rest (table_with_all w.now w.rest) (drop l.index l.kept.items) l.passage

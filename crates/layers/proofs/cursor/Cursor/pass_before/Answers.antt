@@ -19,7 +19,8 @@ loop-there-preserved c =
     let y = c.in-Some.there.now in
     let at = ahead_at here inv.cursor ∙ sym c.first.ensures ∙ ap option_copied c.in-Some.is in
     let tree = c.pass.ensures.tree in
-    let passes = ap (λ (k : ℕ). is_before k c.args.rule e y) (sym inv.key_cols) ∙ sym c.stands_before.ensures ∙ c.if-not-stands_before.false in
+    let passes = ap (λ (k : ℕ). is_before k c.args.rule e y) (sym inv.key_cols) ∙ sym c.stands_before.ensures
+    ∙ c.if-not-stands_before.false in
     let more = before_more here.tree.now.key_cols c.args.rule e y here.tree.now.entries here.passed at passes inv.before in
     record {
       cursor = c.pass.ensures.cursor;
