@@ -2,8 +2,10 @@ mod ExtendLemmas
 mod BelowLemmas
 mod FaultLemmas
 mod GatherLemmas
+mod HalvingLemmas
 mod ColumnLemmas
 mod ColumnsLemmas
+mod NumberLemmas
 mod PushLemmas
 mod RankLemmas
 mod RowsLemmas

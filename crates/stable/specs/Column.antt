@@ -1,9 +1,12 @@
 -- A column's values in blocks.
-use Rattle.std.specs.Prelude.{◌≡◌, ℕ, ◌+◌, ◌-◌, ◌*◌, ◌/◌, List, length, take, drop, map, Bool, not, ◌&&◌, IsTrue}
+use Rattle.std.specs.Prelude.{◌≡◌, ℕ, ℤ, ◌+◌, ◌-◌, ◌*◌, ◌/◌, List, length, take, drop, map, Bool, not, ◌&&◌, IsTrue}
 use Rattle.std.specs.List.{flat_map, list_all, range_with_len}
+use Rattle.std.specs.Ordering.{is_lt}
+use Rattle.values.specs.Orders.{value_cmp}
 use Rattle.values.specs.Shape.{has_type, is_too_long}
 use Rattle.values.specs.declared.value.ColumnType.{ColumnType}
 use Rattle.values.specs.declared.value.Value.{Value}
+use Rattle.values.specs.declared.value.Value.TheVariants.{Int}
 use Rattle.values.specs.declared.limits.TheConstants.{MAX_BLOCK_VALUES}
 use Rattle.blocks.specs.Column.{Column}
 
@@ -45,3 +48,9 @@ all_may_stand ty values = IsTrue (list_all (may_stand ty) values)
 pub record IsColumn (ty : ColumnType) (count : ℕ) (blocks : List Column) : Type 0 where
   pub blocked : IsInBlocks ty count blocks
   pub fit : all_may_stand ty (joined blocks)
+
+-- ---- numbers
+
+-- whether a value is below a number
+abbrev pub is_below : ℤ → Value → Bool
+is_below number v = is_lt (value_cmp v (Int number))

@@ -1,5 +1,5 @@
 -- A table in key order, as its schema and its rows.
-use Rattle.std.specs.Prelude.{ℕ, suc, ◌≤◌, nat_lt, Bool, true, false, cond, Option, Some, None, List, [], ◌∷◌, length}
+use Rattle.std.specs.Prelude.{◌≡◌, ℕ, ℤ, suc, ◌≤◌, nat_lt, Bool, true, false, cond, Option, Some, None, List, [], ◌∷◌, length, get_or}
 use Rattle.std.specs.Ordering.{is_lt, eq_by_cmp}
 use Rattle.values.specs.Orders.{key_cmp}
 use Rattle.values.specs.Shape.{Columns, key_of, row_fault}
@@ -7,6 +7,8 @@ use Rattle.values.specs.declared.limits.TheConstants.{MAX_ROWS}
 use Rattle.values.specs.declared.fault.ShapeFault.{ShapeFault}
 use Rattle.values.specs.declared.row.Row.{Row}
 use Rattle.values.specs.declared.row.Key.{Key}
+use Rattle.values.specs.declared.value.ColumnType.TheVariants as column
+use Rattle.values.specs.declared.value.Value.TheVariants.{Int}
 use Rattle.model.specs.Table.{Table, table_of, IsTable}
 use Rattle.stable.specs.declared.fault.BuildFault.{BuildFault}
 use Rattle.stable.specs.declared.fault.BuildFault.TheVariants.{TooManyRows, Shape, NotAscending}
@@ -29,6 +31,13 @@ pub record IsStable (s : Stable) : Type 0 where
 abbrev pub holds_key : ℕ → Key → Option Row → Bool
 holds_key key_cols key None = false
 holds_key key_cols key (Some row) = eq_by_cmp key_cmp (key_of key_cols row) key
+
+-- whether a key is this number, in a table whose key is one column of numbers
+pub record IsNumberKey (schema : Columns) (key : Key) (number : ℤ) : Type 0 where
+  pub one : schema.key_cols ≡ 1
+  pub there : 1 ≤ length schema.types
+  pub typed : get_or schema.types 0 column.Int ≡ column.Int
+  pub is : key ≡ Int number ∷ []
 
 -- ---- the first fault of rows as a table
 

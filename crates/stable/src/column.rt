@@ -1,12 +1,15 @@
 //! One column of a table, in blocks of 1,024 values.
-ghost use Rattle.std.specs.Prelude.{◌≡◌, ℕ, ◌<◌, ◌≤◌, ◌+◌, ◌*◌, ◌%◌, ◌^◌, ◌++◌, ◌∷◌, [], length, take, drop, Some, slice_get, IfOk, OnOk, OnErr, IsTrue, IsFalse};
+ghost use Rattle.std.specs.Prelude.{◌≡◌, ℕ, true, false, ◌<◌, ◌≤◌, ◌+◌, ◌*◌, ◌%◌, ◌^◌, ◌++◌, ◌∷◌, [], length, take, drop, Some, slice_get, IfOk, OnOk, OnErr, IsTrue, IsFalse};
 ghost use Rattle.std.specs.List.{All};
+ghost use Rattle.std.specs.List.Sorted.{IsPartitionedBy, IsPartitionPoint};
 ghost use Rattle.values.specs.declared.limits.TheConstants.{MAX_BLOCK_VALUES};
 ghost use Rattle.values.specs.Lent.{value_of};
 ghost use Rattle.values.specs.Shape.{has_type, is_too_long};
-ghost use Rattle.stable.specs.Column.{IsInBlocks, all_blocks, all_may_stand, block_at, joined};
+ghost use Rattle.values.specs.declared.value.ColumnType.TheVariants as column;
+ghost use Rattle.stable.specs.Column.{IsInBlocks, all_blocks, all_may_stand, block_at, is_below, joined};
 ghost use Rattle.stable.specs.Rows.{gathered};
 
+use crate::halving::count_below;
 use blocks::Block;
 use std::alloc::Global;
 use std::marker::Model;
@@ -203,6 +206,18 @@ impl Column {
         ensures { result.now ≡ block_at self.now.ty self.now.values i }
     {
         &self.blocks[i]
+    }
+
+    /// How many of the values, which are numbers and ascend, are below this one. Found by halving, the block first.
+    pub(crate) fn count_below(&self, number: i64) -> usize
+        requires typed { self.now.ty ≡ column.Int }
+        requires parted { IsPartitionedBy (is_below number) self.now.values }
+        ensures few { result ≤ length self.now.values }
+        ensures point { IsPartitionPoint (λ v. is_below number v ≡ true) (λ v. is_below number v ≡ false) self.now.values result }
+    {
+        // A column tells with its length that each place is a usize.
+        let _length = self.len();
+        count_below(self.blocks.as_slice(), number)
     }
 }
 

@@ -10,6 +10,7 @@
 mod column;
 mod columns;
 mod fault;
+mod halving;
 mod order;
 mod table;
 

@@ -7,7 +7,7 @@ ghost use Rattle.values.specs.Shape.{key_of, list_fault};
 ghost use Rattle.values.specs.declared.limits.TheConstants.{MAX_ROWS};
 ghost use Rattle.model.specs.Table.{rank, row_at};
 ghost use Rattle.stable.specs.Rows.{AreEven, cell_of, column_at, first_columns, row_count, rows_of};
-ghost use Rattle.stable.specs.Stable.{IsStable, build_fault, holds_key, table_in};
+ghost use Rattle.stable.specs.Stable.{IsNumberKey, IsStable, build_fault, holds_key, table_in};
 
 use crate::column::Column;
 use crate::columns::{first_fault_of, row_count};
@@ -184,6 +184,31 @@ impl StableTable {
 
     /// How many rows have a key below that of these cells.
     fn rank_of(&self, key: &[Value]) -> u64
+        ensures rank { result ≡ rank key.now (table_in self.now) }
+        ensures few { result ≤ MAX_ROWS }
+        ensures lawful { IsStable self.now }
+    {
+        match self.number_of(key) {
+            Some(number) => self.columns[0].count_below(number) as u64,
+            None => self.rank_of_cells(key),
+        }
+    }
+
+    /// The number that these cells are, where the table's key is one column of numbers.
+    fn number_of(&self, key: &[Value]) -> Option<i64>
+        ensures { MatchOption result (Unit {0}) (IsNumberKey self.now.schema key.now) }
+    {
+        if self.schema.key_cols() != 1 || key.len() != 1 {
+            return None;
+        }
+        match (&key[0], self.columns[0].column_type()) {
+            (Value::Int(number), ColumnType::Int) => Some(*number),
+            _ => None,
+        }
+    }
+
+    /// How many rows have a key below that of these cells, of whatever types.
+    fn rank_of_cells(&self, key: &[Value]) -> u64
         ensures rank { result ≡ rank key.now (table_in self.now) }
         ensures few { result ≤ MAX_ROWS }
         ensures lawful { IsStable self.now }

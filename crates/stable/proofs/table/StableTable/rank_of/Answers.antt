@@ -1,36 +1,71 @@
-use Rattle.std.proofs.Common.{◌≡◌, ◌-◌, ◌+◌, ◌/◌, ◌<◌, length, is_lt, sym, ap, ◌∙◌, arith}
+use Rattle.std.proofs.Common.{◌≡◌, ◌<◌, ◌≤◌, T, true, false, length, get_or, sym, ap, ◌∙◌, subst, w64, FitsSigned, List, arith, rules}
+use Rattle.std.specs.List.Sorted.{IsPartitionedBy, IsPartitionPoint}
+use Rattle.std.proofs.lemmas.Int.{to_z-of_z}
+use Rattle.values.specs.declared.row.Key.{Key}
+use Rattle.values.specs.declared.value.ColumnType.TheVariants as column
+use Rattle.values.specs.declared.value.Value.{Value}
+use Rattle.values.specs.Orders.{key_cmp}
+use Rattle.blocks.specs.Column.{Column}
+use Rattle.model.specs.Maps.{is_sorted}
+use Rattle.model.specs.Table.{rank, table_of}
+use Rattle.stable.specs.Column.{is_below}
+use Rattle.stable.specs.Rows.{rows_of}
+use Rattle.stable.specs.Stable.{Stable, table_in}
+use Rattle.stable.proofs.NumberLemmas.{as_many, column_parted, rank-column, rows_filled}
+use Rattle.stable.proofs.RowsLemmas.{finds_column, length_rows, width}
 use Rattle.stable.proofs.StableLemmas.{stable_sorted}
-use Rattle.stable.proofs.RankLemmas.{rank-point}
-use Rattle.stable.proofs.BelowLemmas.{low_part, high_part}
 use Rattle.stable.proofs.table.StableTable.rank_of.Goals as goal
 
-pub loop-low-preserved-then-is_lt : goal.loop-low-preserved-then-is_lt
-loop-low-preserved-then-is_lt c =
-    let s = c.args.self.now in
-    let middle = c.loop-low.low + (c.loop-low.high - c.loop-low.low) / 2 in
-    let within : middle < length s.rows = omega (arith, c.loop-low.invariant.within, c.loop-low-test.true) in
-    record {
-      ordered = omega (arith, c.loop-low-test.true);
-      within = c.loop-low.invariant.within;
-      below = λ k d lt. low_part s.schema.key_cols c.args.key.now s.rows (stable_sorted s c.len-high.ensures.lawful) middle within (ap is_lt (sym c.compare_key.ensures) ∙ sym c.is_lt.ensures ∙ c.if-is_lt.true) k d (omega (arith, lt));
-      above = c.loop-low.invariant.above;
-    }
+pub index-requires : goal.index-requires
+index-requires c =
+    let inside = c.self.inside in
+    omega (arith, c.in-Some.ensures.there, ap (λ (s : Stable). length s.schema.types) c.self.view_is, width inside.schema inside.count inside.columns.items c.self.invariant, inside.columns.ok.0)
 
-pub loop-low-preserved : goal.loop-low-preserved
-loop-low-preserved c =
-    let s = c.args.self.now in
-    let middle = c.loop-low.low + (c.loop-low.high - c.loop-low.low) / 2 in
-    let within : middle < length s.rows = omega (arith, c.loop-low.invariant.within, c.loop-low-test.true) in
-    record {
-      ordered = omega (arith, c.loop-low-test.true);
-      within = omega (arith, within);
-      below = c.loop-low.invariant.below;
-      above = λ k d le lt. high_part s.schema.key_cols c.args.key.now s.rows (stable_sorted s c.len-high.ensures.lawful) middle within (ap is_lt (sym c.compare_key.ensures) ∙ sym c.is_lt.ensures ∙ c.if-is_lt.false) k d le lt;
-    }
+pub count_below-requires-clause-typed : goal.count_below-requires-clause-typed
+count_below-requires-clause-typed c =
+    let inside = c.self.inside in
+    let some : 0 < length inside.schema.types = omega (arith, c.in-Some.ensures.there, ap (λ (s : Stable). length s.schema.types) c.self.view_is) in
+    ap (λ (x : Column). x.ty) (finds_column inside.schema inside.count inside.columns.items c.self.invariant 0 c.index.result.now c.index.ensures some)
+    ∙ ap (λ (s : Stable). get_or s.schema.types 0 column.Int) c.self.view_is
+    ∙ c.in-Some.ensures.typed
 
-pub returns-clause-rank : goal.returns-clause-rank
-returns-clause-rank c =
-    let s = c.args.self.now in
-    let met : c.loop-low.low ≡ c.loop-low.high = omega (arith, c.loop-low.invariant.ordered, c.loop-low-test.false) in
-    rank-point s.schema.key_cols c.args.key.now s.rows c.loop-low.low (omega (arith, c.loop-low.invariant.within, met))
-    ((λ k d low lt. c.loop-low.invariant.below k d lt), (λ k d le lt. c.loop-low.invariant.above k d (omega (arith, le, met)) lt))
+pub count_below-requires-clause-parted : goal.count_below-requires-clause-parted
+count_below-requires-clause-parted c =
+    let inside = c.self.inside in
+    let rows = rows_of inside.count inside.columns.items in
+    let number = c.in-Some.number in
+    let fits : FitsSigned w64 number = search rules in
+    let some : 0 < length inside.schema.types = omega (arith, c.in-Some.ensures.there, ap (λ (s : Stable). length s.schema.types) c.self.view_is) in
+    let found = ap (λ (x : Column). x.values) (finds_column inside.schema inside.count inside.columns.items c.self.invariant 0 c.index.result.now c.index.ensures some) in
+    let filled = rows_filled inside.schema inside.count inside.columns.items c.self.invariant some in
+    let one : inside.schema.key_cols ≡ 1 = ap (λ (s : Stable). s.schema.key_cols) c.self.view_is ∙ c.in-Some.ensures.one in
+    let sorted = subst (λ n. T (is_sorted key_cmp (table_of n rows))) one (stable_sorted (record { schema = inside.schema; rows = rows }) c.self.invariant.stable) in
+    subst (λ n. IsPartitionedBy (is_below n) c.index.result.now.values) (sym (to_z-of_z w64 number fits))
+    (subst (λ vs. IsPartitionedBy (is_below number) vs) (sym found) (column_parted number rows filled sorted))
+
+pub returns-in-Some-clause-rank : goal.returns-in-Some-clause-rank
+returns-in-Some-clause-rank c =
+    let inside = c.self.inside in
+    let rows = rows_of inside.count inside.columns.items in
+    let number = c.in-Some.number in
+    let fits : FitsSigned w64 number = search rules in
+    let r = c.count_below.result in
+    let some : 0 < length inside.schema.types = omega (arith, c.in-Some.ensures.there, ap (λ (s : Stable). length s.schema.types) c.self.view_is) in
+    let found = ap (λ (x : Column). x.values) (finds_column inside.schema inside.count inside.columns.items c.self.invariant 0 c.index.result.now c.index.ensures some) in
+    let filled = rows_filled inside.schema inside.count inside.columns.items c.self.invariant some in
+    let point = subst (λ n. IsPartitionPoint (λ v. is_below n v ≡ true) (λ v. is_below n v ≡ false) c.index.result.now.values r) (to_z-of_z w64 number fits) c.count_below.ensures.point in
+    let there = subst (λ vs. IsPartitionPoint (λ v. is_below number v ≡ true) (λ v. is_below number v ≡ false) vs r) found point in
+    let few : r ≤ length rows = omega (arith, c.count_below.ensures.few, ap (λ (vs : List Value). length vs) found, as_many number rows filled) in
+    let one : inside.schema.key_cols ≡ 1 = ap (λ (s : Stable). s.schema.key_cols) c.self.view_is ∙ c.in-Some.ensures.one in
+    rank-column number rows filled r few there
+    ∙ ap (λ (key : Key). rank key (table_of 1 rows)) (sym c.in-Some.ensures.is)
+    ∙ ap (λ n. rank c.args.key.now (table_of n rows)) (sym one)
+    ∙ ap (λ s. rank c.args.key.now (table_in s)) c.self.view_is
+
+pub returns-in-Some-clause-few : goal.returns-in-Some-clause-few
+returns-in-Some-clause-few c =
+    let inside = c.self.inside in
+    let few = c.self.invariant.stable.few in
+    let some : 0 < length inside.schema.types = omega (arith, c.in-Some.ensures.there, ap (λ (s : Stable). length s.schema.types) c.self.view_is) in
+    let filled = c.self.invariant.filled 0 c.index.result.now (omega (arith, some, width inside.schema inside.count inside.columns.items c.self.invariant)) in
+    omega (arith, c.count_below.ensures.few, filled, ap (λ (x : Column). length x.values) c.index.ensures, few, length_rows inside.count inside.columns.items)

@@ -1,7 +1,7 @@
 use Rattle.std.proofs.Common.{◌≡◌, ℕ, ◌-◌, ◌<◌, ◌≤◌, true, false, length, get_or}
 use Rattle.values.specs.declared.row.Row.{Row}
 use Rattle.stable.proofs.RankLemmas.{is_below_key}
-use Rattle.stable.proofs.table.StableTable.rank_of.Given as goal
+use Rattle.stable.proofs.table.StableTable.rank_of_cells.Given as goal
 
 -- the rows before `low` are below the key, and those from `high` on are not
 abbrev pub invariant-loop-low : goal.invariant-loop-low
