@@ -165,7 +165,7 @@ fn left_over(alloc: Global, opened: Opened, store: Store) -> Result<Left, Fail>
     requires store { store.schema ≡ opened.manager.schema }
 {
     let Opened { manager, script } = opened;
-    let outcome = run_serial(alloc, manager, store, &script)?;
+    let outcome = run_serial(alloc, manager, store, script)?;
     Ok(outcome.left)
 }
 

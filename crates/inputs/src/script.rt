@@ -60,6 +60,20 @@ impl Script {
     {
         self.calls.as_slice()
     }
+
+    /// The clients' names and the calls, for a run that keeps what they hold. Takes no memory.
+    pub fn into_parts(self) -> (Vec<Text>, Vec<ClientCall>)
+        ensures clients { result.0.items ≡ self.clients }
+        ensures calls { result.1.items ≡ self.calls }
+        ensures lawful { IsTyped self }
+    {
+        let Script {
+            schema: _schema,
+            clients,
+            calls,
+        } = self;
+        (clients, calls)
+    }
 }
 
 /// The clients and the calls of a script's text over a table of this schema, in the text's order.

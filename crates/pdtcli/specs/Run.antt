@@ -179,6 +179,10 @@ line_of asked reply = record { client = asked.client; verb = verb_of_call asked.
 abbrev pub shown_lines : ClientCall → List Row → List ReplyLine
 shown_lines asked rows = map (λ row. line_of asked (Shown row)) rows
 
+-- those of a scan
+abbrev pub scan_lines : ℕ → List Row → List ReplyLine
+scan_lines client rows = map (λ row. record { client = client; verb = verb.Scan; reply = Shown row }) rows
+
 -- the lines of a call: those rows, and its reply
 abbrev pub lines_of : ClientCall → List Row → Reply → List ReplyLine
 lines_of asked rows reply = shown_lines asked rows ++ line_of asked reply ∷ []

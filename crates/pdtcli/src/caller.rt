@@ -5,6 +5,7 @@ ghost use Rattle.values.specs.declared.row.Row.{Row};
 ghost use Rattle.model.specs.Writes.{write_fits_schema};
 ghost use Rattle.pdtcli.specs.Reads.{ReadStep};
 ghost use Rattle.pdtcli.specs.declared.reply.Reply.TheVariants as reply;
+ghost use Rattle.inputs.specs.declared.call.Call.TheVariants as call;
 ghost use Rattle.inputs.specs.Typed.{is_typed_call, is_typed_read, is_typed_write};
 ghost use Rattle.txn.specs.Txn.{IsAnswered, Transaction};
 ghost use Rattle.manager.specs.Managed.{Managed, IsOwn};
@@ -12,11 +13,11 @@ ghost use Rattle.pdtcli.specs.Run.{IsServed, shown_lines, BeginStep, WriteStep, 
 
 use crate::reads::read_in;
 use crate::reply::{Reply, ReplyLine};
-use crate::shape::{copy_of, refused_shape};
+use crate::shape::refused_shape;
 use devices::{ColumnDevice, Store};
 use inputs::{Call, ClientCall, Read};
 use manager::{CheckpointFault, Manager};
-use model::{Write, WriteReply};
+use model::Write;
 use std::marker::Model;
 use txn::Txn;
 use values::NoMemory;
@@ -56,28 +57,29 @@ impl Caller {
     /// so many lines after those.
     pub(crate) fn serve(
         &mut self,
-        asked: &ClientCall,
+        asked: ClientCall,
         manager: &mut Manager,
         store: &mut Store,
         lines: &mut Vec<ReplyLine>,
         left: usize,
     ) -> Reply
         requires own { IfSome self.old (IsOwn manager.old) }
-        requires typed { IfSome self.old (λ txn. IsTrue (is_typed_call txn.schema asked.now.call)) }
+        requires typed { IfSome self.old (λ txn. IsTrue (is_typed_call txn.schema asked.call)) }
         requires schema { store.old.schema ≡ manager.old.schema }
         requires room { vec_len lines.old + left ≤ vec_capacity lines.old }
-        ensures step { IsServed asked.now (record { manager = manager.old; own = self.old }) lines.old.items result lines.new.items
+        ensures step { IsServed asked (record { manager = manager.old; own = self.old }) lines.old.items result lines.new.items
             (record { manager = manager.new; own = self.new }) }
         ensures stored { let taken = taken_by (λ b. contents (b.vtable, b.value)) (λ b. failures (b.vtable, b.value)) in
-            StoreStep asked.now.call manager.old (taken store.old.devices.items store.old.next) result
+            StoreStep asked.call manager.old (taken store.old.devices.items store.old.next) result
             (taken store.new.devices.items store.new.next) }
         ensures schema { store.new.schema ≡ store.old.schema }
         ensures room { vec_len lines.new + left ≤ vec_capacity lines.new }
     {
-        match &asked.call {
-            Call::Begin => self.begin(asked.client, manager),
+        let ClientCall { client, call } = asked;
+        match call {
+            Call::Begin => self.begin(client, manager),
             Call::Write(write) => self.write(write),
-            Call::Read(read) => self.read(asked, read, lines, left),
+            Call::Read(read) => self.read(client, &read, lines, left),
             Call::Commit => self.commit(manager),
             Call::Abort => self.abort(),
             Call::Fold => fold(manager),
@@ -112,10 +114,10 @@ impl Caller {
         }
     }
 
-    /// Writes in the open transaction.
-    fn write(&mut self, write: &Write) -> Reply
-        requires typed { IfSome self.old (λ txn. IsTrue (is_typed_write txn.schema write.now)) }
-        ensures { (manager : Managed) → WriteStep self.old write.now (record { manager = manager; own = self.old }) result
+    /// Writes in the open transaction, which keeps the row, the key or the value.
+    fn write(&mut self, write: Write) -> Reply
+        requires typed { IfSome self.old (λ txn. IsTrue (is_typed_write txn.schema write)) }
+        ensures { (manager : Managed) → WriteStep self.old write (record { manager = manager; own = self.old }) result
             (record { manager = manager; own = self.new }) }
     {
         match &mut self.own {
@@ -125,21 +127,15 @@ impl Caller {
     }
 
     /// Reads in the open transaction.
-    fn read(
-        &self,
-        asked: &ClientCall,
-        read: &Read,
-        lines: &mut Vec<ReplyLine>,
-        left: usize,
-    ) -> Reply
+    fn read(&self, client: u32, read: &Read, lines: &mut Vec<ReplyLine>, left: usize) -> Reply
         requires typed { IfSome self.now (λ txn. IsTrue (is_typed_read txn.schema read.now)) }
         requires room { vec_len lines.old + left ≤ vec_capacity lines.old }
-        ensures step { (rows : List Row) × ReadStep self.now read.now rows result × (lines.new.items ≡ lines.old.items ++ shown_lines asked.now rows) }
+        ensures step { (rows : List Row) × ReadStep self.now read.now rows result × (lines.new.items ≡ lines.old.items ++ shown_lines (record { client = client; call = call.Read read.now }) rows) }
         ensures room { vec_len lines.new + left ≤ vec_capacity lines.new }
     {
         match &self.own {
             None => Reply::NotOpen,
-            Some(txn) => read_in(txn, asked, read, lines, left),
+            Some(txn) => read_in(txn, client, read, lines, left),
         }
     }
 
@@ -215,26 +211,17 @@ fn cut(manager: &mut Manager) -> Reply
     Reply::Cut(manager.cut().records().len() as u64)
 }
 
-/// The reply to a write in a transaction. A row or a value that doesn't fit is refused before it is copied.
-fn write_in(txn: &mut Txn, write: &Write) -> Reply
-    requires typed { IsTrue (is_typed_write txn.old.schema write.now) }
-    ensures { (manager : Managed) → OpenWriteStep txn.old write.now (record { manager = manager; own = Some txn.old }) result
+/// The reply to a write in a transaction. A row or a value that doesn't fit is refused before memory is wanted.
+fn write_in(txn: &mut Txn, write: Write) -> Reply
+    requires typed { IsTrue (is_typed_write txn.old.schema write) }
+    ensures { (manager : Managed) → OpenWriteStep txn.old write (record { manager = manager; own = Some txn.old }) result
         (record { manager = manager; own = Some txn.new }) }
 {
-    if let Some(refused) = refused_shape(txn.schema(), write) {
+    if let Some(refused) = refused_shape(txn.schema(), &write) {
         return refused;
     }
-    match answer(txn, write) {
+    match txn.write(write) {
         Ok(reply) => Reply::Wrote(reply),
         Err(NoMemory) => Reply::NoMemory,
     }
-}
-
-/// What the transaction answers to a write that fits.
-fn answer(txn: &mut Txn, write: &Write) -> Result<WriteReply, NoMemory>
-    requires fits { IsTrue (write_fits_schema txn.old.schema write.now) }
-    ensures ok { IfOk result (λ reply. IsAnswered txn.old write.now reply txn.new) }
-    ensures err { OnErr result (txn.new ≡ txn.old) }
-{
-    txn.write(copy_of(write)?)
 }

@@ -119,7 +119,7 @@ pub fn run_opened<W: Write>(
     ensures silent { IfErr result (λ refusal. is_output refusal ≡ false → out.new ≡ out.old) }
 {
     let Opened { manager, script } = opened;
-    let outcome = match run_serial(alloc, manager, store, &script) {
+    let outcome = match run_serial(alloc, manager, store, script) {
         Ok(outcome) => outcome,
         Err(fault) => return Err(Refusal::Run(fault)),
     };

@@ -4,16 +4,16 @@ ghost use Rattle.std.specs.Option.{option_map};
 ghost use Rattle.values.specs.Shape.{key_fault};
 ghost use Rattle.values.specs.declared.fault.ShapeFault.TheVariants as shape;
 ghost use Rattle.values.specs.declared.row.Row.{Row as Cells};
+ghost use Rattle.inputs.specs.declared.call.Call.TheVariants as call;
 ghost use Rattle.inputs.specs.Typed.{is_typed_read, are_of_types};
 ghost use Rattle.inputs.specs.Calls.{key_types};
 ghost use Rattle.merge.specs.View.{row_of};
 ghost use Rattle.pdtcli.specs.Reads.{IsFoundRow, IsScan, OpenReadStep, read_fault, rows_between};
-ghost use Rattle.pdtcli.specs.Run.{shown_lines};
+ghost use Rattle.pdtcli.specs.Run.{scan_lines, shown_lines};
 
 use crate::reply::{Reply, ReplyLine};
-use crate::serial::line_of;
 use crate::shown::ShownRow;
-use inputs::{ClientCall, Read};
+use inputs::{Read, Verb};
 use merge::RowView;
 use stable::StableTable;
 use std::alloc::Global;
@@ -25,7 +25,7 @@ use values::{Key, NoMemory, Schema, ShapeFault};
 /// after those.
 pub(crate) fn read_in(
     txn: &Txn,
-    asked: &ClientCall,
+    client: u32,
     read: &Read,
     lines: &mut Vec<ReplyLine>,
     left: usize,
@@ -33,7 +33,7 @@ pub(crate) fn read_in(
     requires typed { IsTrue (is_typed_read txn.now.schema read.now) }
     requires room { vec_len lines.old + left ≤ vec_capacity lines.old }
     ensures step { (rows : List Cells) × OpenReadStep (read_fault txn.now.schema read.now) txn.now read.now rows result
-        × (lines.new.items ≡ lines.old.items ++ shown_lines asked.now rows) }
+        × (lines.new.items ≡ lines.old.items ++ shown_lines (record { client = client; call = call.Read read.now }) rows) }
     ensures room { vec_len lines.new + left ≤ vec_capacity lines.new }
 {
     if let Some(cell) = long_text_in(txn.schema(), read) {
@@ -48,7 +48,7 @@ pub(crate) fn read_in(
             Reply::Place(below, there)
         }
         Read::Len => Reply::Rows(txn.len()),
-        Read::Scan(from, to) => show_rows(txn, *from, *to, asked, lines, left),
+        Read::Scan(from, to) => show_rows(txn, *from, *to, client, lines, left),
     }
 }
 
@@ -98,20 +98,20 @@ fn show_rows(
     txn: &Txn,
     from: u64,
     to: u64,
-    asked: &ClientCall,
+    client: u32,
     lines: &mut Vec<ReplyLine>,
     left: usize,
 ) -> Reply
     requires room { vec_len lines.old + left ≤ vec_capacity lines.old }
     ensures step { (rows : List Cells) × IsScan (rows_between txn.now from to) rows result
-        × (lines.new.items ≡ lines.old.items ++ shown_lines asked.now rows) }
+        × (lines.new.items ≡ lines.old.items ++ scan_lines client rows) }
     ensures room { vec_len lines.new + left ≤ vec_capacity lines.new }
 {
     if txn.stretches(from, to).rows_left() == 0 {
         return Reply::End(0);
     }
     match rows_of(*lines.allocator(), txn, from, to) {
-        Ok(rows) => add_lines(&rows, asked, lines, left),
+        Ok(rows) => add_lines(&rows, client, lines, left),
         Err(NoMemory) => Reply::NoMemory,
     }
 }
@@ -125,14 +125,9 @@ fn rows_of(alloc: Global, txn: &Txn, from: u64, to: u64) -> Result<Arc<StableTab
 }
 
 /// Adds a line for each of the rows, and answers their number; on want of memory the rows so far stand.
-fn add_lines(
-    rows: &Arc<StableTable>,
-    asked: &ClientCall,
-    lines: &mut Vec<ReplyLine>,
-    left: usize,
-) -> Reply
+fn add_lines(rows: &Arc<StableTable>, client: u32, lines: &mut Vec<ReplyLine>, left: usize) -> Reply
     requires room { vec_len lines.old + left ≤ vec_capacity lines.old }
-    ensures step { (shown : List Cells) × IsScan rows.now.value.rows shown result × (lines.new.items ≡ lines.old.items ++ shown_lines asked.now shown) }
+    ensures step { (shown : List Cells) × IsScan rows.now.value.rows shown result × (lines.new.items ≡ lines.old.items ++ scan_lines client shown) }
     ensures room { vec_len lines.new + left ≤ vec_capacity lines.new }
 {
     let count = rows.len();
@@ -144,7 +139,11 @@ fn add_lines(
             return Reply::NoMemory;
         }
         let row = ShownRow::among(shared, sid);
-        lines.push_reserved(line_of(asked, Reply::Row(row)));
+        lines.push_reserved(ReplyLine {
+            client,
+            verb: Verb::Scan,
+            reply: Reply::Row(row),
+        });
     }
     Reply::End(count)
 }

@@ -40,7 +40,7 @@ pub(crate) fn serve<O: Opening, S: ImageStore, R: Wait>(
     match &asked.call {
         Call::Begin => begin(session),
         Call::Write(write) => write_down(session, write),
-        Call::Read(read) => look(session, asked, read, lines, left),
+        Call::Read(read) => look(session, asked.client, read, lines, left),
         Call::Commit => commit(rt, shared, session),
         Call::Abort => abort(session),
         Call::Fold => fold(rt, shared),
@@ -90,7 +90,7 @@ fn answer<O: Opening>(session: &mut Session<O>, write: &Write) -> Result<WriteRe
 /// Reads in the open transaction.
 fn look<O: Opening>(
     session: &Session<O>,
-    asked: &ClientCall,
+    client: u32,
     read: &Read,
     lines: &mut Vec<ReplyLine>,
     left: usize,
@@ -98,11 +98,11 @@ fn look<O: Opening>(
     requires typed { IsTrue (is_typed_read O.opened.manager.schema read.now) }
     requires room { vec_len lines.old + left ≤ vec_capacity lines.old }
     ensures step { (rows : List Row) × SeatStep O.opened.manager (call.Read read.now) session.now rows result session.now
-        × (lines.new.items ≡ lines.old.items ++ shown_lines asked.now rows) }
+        × (lines.new.items ≡ lines.old.items ++ shown_lines (record { client = client; call = call.Read read.now }) rows) }
     ensures room { vec_len lines.new + left ≤ vec_capacity lines.new }
 {
     match session.txn() {
-        Ok(txn) => read_in(txn, asked, read, lines, left),
+        Ok(txn) => read_in(txn, client, read, lines, left),
         Err(_) => Reply::NotOpen,
     }
 }

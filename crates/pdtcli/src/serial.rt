@@ -13,7 +13,7 @@ use inputs::{Call, ClientCall, Read, Script, Verb};
 use manager::Manager;
 use model::Write;
 use std::alloc::Global;
-use values::{NoMemory, Text, copy_texts};
+use values::NoMemory;
 
 /// Makes a script's calls in order, from a manager with no transaction open; its checkpoints go to the store. Transactions
 /// that are open at the end are ended without a line.
@@ -25,46 +25,51 @@ pub fn run_serial(
     alloc: Global,
     manager: Manager,
     store: Store,
-    script: &Script,
+    script: Script,
 ) -> Result<Outcome<Store>, NoMemory>
     // The calls were read under the manager's schema, which is the store's.
-    requires script { script.now.schema ≡ manager.schema }
+    requires script { script.schema ≡ manager.schema }
     requires store { store.schema ≡ manager.schema }
     ensures run { let taken = taken_by (λ b. contents (b.vtable, b.value)) (λ b. failures (b.vtable, b.value)) in
         IfOk result (λ outcome. (transactions : List (Option Transaction)) × IsRun
-        (record { manager = manager; transactions = replicate (length script.now.clients) None; store = taken store.devices.items store.next })
-        script.now.calls outcome.left.lines
+        (record { manager = manager; transactions = replicate (length script.clients) None; store = taken store.devices.items store.next })
+        script.calls outcome.left.lines
         (record {
           manager = outcome.left.manager;
           transactions = transactions;
           store = taken outcome.store.devices.items outcome.store.next;
         })) }
     ensures schema { IfOk result (λ outcome. outcome.store.schema ≡ store.schema) }
-    ensures clients { IfOk result (λ outcome. outcome.left.clients ≡ script.now.clients) }
-    ensures counts { IfOk result (λ outcome. outcome.left.counts ≡ map (decided_count outcome.left.lines) (range_with_len 0 (length script.now.clients))) }
+    ensures clients { IfOk result (λ outcome. outcome.left.clients ≡ script.clients) }
+    ensures counts { IfOk result (λ outcome. outcome.left.counts ≡ map (decided_count outcome.left.lines) (range_with_len 0 (length script.clients))) }
     ensures handed { IfOk result (λ outcome. AreHanded manager outcome.left.manager outcome.left.handed) }
 {
     let mut manager = manager;
     let mut store = store;
     let handed_before = handed_out(&manager);
+    let (names, calls) = script.into_parts();
+    let mut left = calls.len();
     let Places {
-        names,
         mut callers,
         mut counts,
         mut lines,
-    } = places_for(alloc, script)?;
-    let calls = script.calls();
-    let mut left = calls.len();
+    } = places_for(alloc, names.len(), left)?;
     for asked in calls {
-        let reply = callers[asked.client as usize].serve(
+        let client = asked.client;
+        let verb = verb_of_call(&asked.call);
+        let reply = callers[client as usize].serve(
             asked,
             &mut manager,
             &mut store,
             &mut lines,
             left,
         );
-        count_reply(&mut counts, asked.client as usize, &reply);
-        lines.push_reserved(line_of(asked, reply));
+        count_reply(&mut counts, client as usize, &reply);
+        lines.push_reserved(ReplyLine {
+            client,
+            verb,
+            reply,
+        });
         left -= 1;
     }
     let handed = handed_out(&manager) - handed_before;
@@ -74,26 +79,22 @@ pub fn run_serial(
 
 /// The places of a run, made before its first call.
 struct Places {
-    names: Vec<Text>,
     callers: Vec<Caller>,
     counts: Vec<u64>,
     lines: Vec<ReplyLine>,
 }
 
-/// A place for each client, and for each line that ends a call.
-fn places_for(alloc: Global, script: &Script) -> Result<Places, NoMemory>
-    ensures names { IfOk result (λ places. places.names.items ≡ script.now.clients) }
-    ensures callers { IfOk result (λ places. places.callers.items ≡ replicate (length script.now.clients) None) }
-    ensures counts { IfOk result (λ places. places.counts.items ≡ map (decided_count []) (range_with_len 0 (length script.now.clients))) }
+/// A place for each of so many clients, and for the line that ends each of so many calls.
+fn places_for(alloc: Global, clients: usize, calls: usize) -> Result<Places, NoMemory>
+    ensures callers { IfOk result (λ places. places.callers.items ≡ replicate clients None) }
+    ensures counts { IfOk result (λ places. places.counts.items ≡ map (decided_count []) (range_with_len 0 clients)) }
     ensures lines { IfOk result (λ places. (places.lines.items ≡ []) × (vec_len places.lines ≡ 0)) }
-    ensures room { IfOk result (λ places. length script.now.calls ≤ vec_capacity places.lines) }
+    ensures room { IfOk result (λ places. calls ≤ vec_capacity places.lines) }
 {
-    let count = script.clients().len();
     Ok(Places {
-        names: copy_texts(alloc, script.clients())?,
-        callers: new_callers(alloc, count)?,
-        counts: no_counts(alloc, count)?,
-        lines: Vec::with_capacity(alloc, script.calls().len())?,
+        callers: new_callers(alloc, clients)?,
+        counts: no_counts(alloc, clients)?,
+        lines: Vec::with_capacity(alloc, calls)?,
     })
 }
 

@@ -66,5 +66,5 @@ fn left_over(alloc: Global, devices: Devices, script: &[u8]) -> Result<Left, Ref
     }
     let opened = open_texts(alloc, Ok(BASE_TEXT), Ok(script), USUAL)?;
     let store = Store::new(alloc, devices, opened.schema(), 1)?;
-    Ok(run_serial(alloc, opened.manager, store, &opened.script)?.left)
+    Ok(run_serial(alloc, opened.manager, store, opened.script)?.left)
 }

@@ -1,7 +1,8 @@
-use Rattle.std.proofs.Common.{◌≡◌, ◌+◌, ◌++◌, ◌∷◌, ◌<◌, ℕ, None, Option, List, [], length, take, get_or, set, replicate, refl, ap, sym, ◌∙◌, subst, append_assoc, arith}
+use Rattle.std.proofs.Common.{◌≡◌, ◌++◌, ◌∷◌, ◌<◌, ℕ, None, Option, List, [], length, get_or, set, replicate, refl, ap, sym, ◌∙◌, subst, append_assoc, arith}
 use Rattle.std.specs.Prelude.{IfSome, slice_get}
 use Rattle.std.specs.List.{All}
-use Rattle.std.proofs.lemmas.List.{take_more}
+use Rattle.std.proofs.Math.Seq.{get_or-append_seam}
+use Rattle.std.proofs.lemmas.List.{length-append}
 use Rattle.std.proofs.lemmas.Option.{slice_get-get_or}
 use Rattle.values.specs.declared.row.Row.{Row}
 use Rattle.inputs.specs.declared.call.ClientCall.{ClientCall}
@@ -15,33 +16,36 @@ use Rattle.pdtcli.proofs.CountLemmas.{counts_of, counts_after-call, length-count
 use Rattle.pdtcli.proofs.serial.run_serial.Goals as goal
 
 -- a call's client is one of so many
-client_bound : (calls given : List ClientCall) (clients i : ℕ) (asked : ClientCall)
-    → All (λ (a : ClientCall). a.client < clients) calls → given ≡ calls → asked ≡ get_or given i asked → i < length given
+client_bound : (calls before rest : List ClientCall) (clients : ℕ) (asked : ClientCall)
+    → All (λ (a : ClientCall). a.client < clients) calls → before ++ asked ∷ rest ≡ calls
     → asked.client < clients
-client_bound calls given clients i asked numbered list is inside =
-    subst (λ (a : ClientCall). a.client < clients) (sym (is ∙ ap (λ (xs : List ClientCall). get_or xs i asked) list))
-    (numbered i asked (omega (arith, inside, ap (λ (xs : List ClientCall). length xs) list)))
+client_bound calls before rest clients asked numbered split =
+    let here : get_or calls (length before) asked ≡ asked = ap (λ (xs : List ClientCall). get_or xs (length before) asked) (sym split) ∙ get_or-append_seam before asked rest asked in
+    subst (λ (a : ClientCall). a.client < clients) here
+    (numbered (length before) asked (omega (arith, length-append before (asked ∷ rest), ap (λ (xs : List ClientCall). length xs) split)))
 
 pub count_reply-requires-clause-there : goal.count_reply-requires-clause-there
 count_reply-requires-clause-there g c =
-    let clients = length c.args.script.now.clients in
-    let asked = c.asked-item.result in
-    let given = c.calls-calls.result.now in
-    let bound = client_bound c.args.script.now.calls given clients c.loop-asked.asked-index asked c.calls-calls.ensures.lawful.numbered
-    c.calls-calls.ensures.calls c.asked-item.is c.loop-asked-test.true in
+    let clients = length c.args.script.clients in
+    let asked = c.in-Some.asked in
+    let rest = c.next.new.self.rest.items in
+    let split : c.loop-asked.yielded ++ asked ∷ rest ≡ c.args.script.calls =
+    ap (λ (xs : List ClientCall). c.loop-asked.yielded ++ xs) (sym c.in-Some.ensures.steps.0) ∙ c.loop-asked.invariant.split in
+    let bound = client_bound c.args.script.calls c.loop-asked.yielded rest clients asked c.into_parts-names.ensures.lawful.numbered split in
     omega (arith, bound, ap (λ (ns : List ℕ). length ns) c.loop-asked.invariant.counts, length-counts_of c.loop-asked.lines.items clients)
 
 pub count_reply-requires-clause-few : goal.count_reply-requires-clause-few
 count_reply-requires-clause-few g c =
-    let clients = length c.args.script.now.clients in
-    let asked = c.asked-item.result in
-    let given = c.calls-calls.result.now in
+    let clients = length c.args.script.clients in
+    let asked = c.in-Some.asked in
+    let rest = c.next.new.self.rest.items in
     let lines = c.loop-asked.lines in
-    let bound = client_bound c.args.script.now.calls given clients c.loop-asked.asked-index asked c.calls-calls.ensures.lawful.numbered
-    c.calls-calls.ensures.calls c.asked-item.is c.loop-asked-test.true in
+    let split : c.loop-asked.yielded ++ asked ∷ rest ≡ c.args.script.calls =
+    ap (λ (xs : List ClientCall). c.loop-asked.yielded ++ xs) (sym c.in-Some.ensures.steps.0) ∙ c.loop-asked.invariant.split in
+    let bound = client_bound c.args.script.calls c.loop-asked.yielded rest clients asked c.into_parts-names.ensures.lawful.numbered split in
     let counted : get_or c.loop-asked.counts.items asked.client 0 ≡ decided_count lines.items asked.client =
     ap (λ (ns : List ℕ). get_or ns asked.client 0) c.loop-asked.invariant.counts ∙ get_or-counts_of lines.items clients asked.client bound in
-    let list = ap (λ (xs : List ClientCall). length xs) c.calls-calls.ensures.calls in
+    let left = ap (λ (xs : List ClientCall). length xs) c.in-Some.ensures.steps.0 in
     omega (
       arith,
       counted,
@@ -50,24 +54,23 @@ count_reply-requires-clause-few g c =
       lines.small,
       c.loop-asked.invariant.room,
       c.loop-asked.invariant.left,
-      c.loop-asked-test.true,
-      list,
+      left,
     )
 
 pub loop-asked-preserved : goal.loop-asked-preserved
 loop-asked-preserved g c =
-    let calls = c.args.script.now.calls in
-    let i = c.loop-asked.asked-index in
-    let asked = c.asked-item.result in
+    let calls = c.args.script.calls in
+    let clients = length c.args.script.clients in
+    let asked = c.in-Some.asked in
+    let done = c.loop-asked.yielded in
+    let rest = c.next.new.self.rest.items in
     let m = c.loop-asked.manager in
     let callers = c.loop-asked.callers.items in
     let mine = c.index_mut.result.now in
     let after : Side = record { manager = c.serve-reply.new.manager; own = c.serve-reply.new.self } in
     let reply = c.serve-reply.result in
-    let list : c.calls-calls.result.now ≡ calls = c.calls-calls.ensures.calls in
-    let inside : i < length calls = omega (arith, c.loop-asked-test.true, ap (λ (xs : List ClientCall). length xs) list) in
-    let here : asked ≡ get_or calls i asked = c.asked-item.is ∙ ap (λ (xs : List ClientCall). get_or xs i asked) list in
-    let bound : asked.client < length c.args.script.now.clients = subst (λ (a : ClientCall). a.client < length c.args.script.now.clients) (sym here) (c.calls-calls.ensures.lawful.numbered i asked inside) in
+    let split : done ++ asked ∷ rest ≡ calls = ap (λ (xs : List ClientCall). done ++ xs) (sym c.in-Some.ensures.steps.0) ∙ c.loop-asked.invariant.split in
+    let bound = client_bound calls done rest clients asked c.into_parts-names.ensures.lawful.numbered split in
     let client : asked.client < length callers = omega (arith, bound, c.loop-asked.invariant.ready.many) in
     let found : mine ≡ get_or callers asked.client mine = c.index_mut.ensures.value in
     let own : IfSome mine (IsOwn m) = subst (λ (o : Option Transaction). IfSome o (IsOwn m)) (sym found) (c.loop-asked.invariant.ready.own asked.client mine client) in
@@ -91,23 +94,26 @@ loop-asked-preserved g c =
       left = refl;
     } in
     let before : List ReplyLine = c.loop-asked.lines.items in
+    let line : ReplyLine = record { client = asked.client; verb = c.verb_of_call-verb.result; reply = reply } in
+    let same : line ≡ line_of asked reply = ap (λ v. record { client = asked.client; verb = v; reply = reply }) c.verb_of_call-verb.ensures in
     let told : c.push_reserved.new.self.items ≡ before ++ these =
     c.push_reserved.ensures.items
-    ∙ (λ j. served.2 j ++ c.line_of.ensures j ∷ [])
+    ∙ (λ j. served.2 j ++ same j ∷ [])
     ∙ append_assoc before (shown_lines asked rows) (line_of asked reply ∷ []) in
-    let start : State = record { manager = c.args.manager; transactions = replicate (length c.args.script.now.clients) None; store = at_first } in
+    let start : State = record { manager = c.args.manager; transactions = replicate clients None; store = at_first } in
     let next : State = record { manager = after.manager; transactions = set callers asked.client after.own; store = after_it } in
-    let more = IsRun-more start (record { manager = m; transactions = callers; store = before_it }) next (take i calls) before asked these c.loop-asked.invariant.run taken in
-    let longer : take i calls ++ asked ∷ [] ≡ take (i + 1) calls = ap (λ (a : ClientCall). take i calls ++ a ∷ []) here ∙ sym (take_more calls i asked inside) in
+    let more = IsRun-more start (record { manager = m; transactions = callers; store = before_it }) next done before asked these c.loop-asked.invariant.run taken in
+    let left = ap (λ (xs : List ClientCall). length xs) c.in-Some.ensures.steps.0 in
     record {
-      run = subst (λ (e : List ClientCall × List ReplyLine). IsRun start e.0 e.1 next) (λ j. (longer j, (sym told) j)) more;
+      split = append_assoc done (asked ∷ []) rest ∙ split;
+      run = subst (λ (ls : List ReplyLine). IsRun start (done ++ asked ∷ []) ls next) (sym told) more;
       schema = c.serve-reply.ensures.schema ∙ c.loop-asked.invariant.schema;
-      ready = ready_again c.args.manager.schema (length c.args.script.now.clients) m callers c.loop-asked.invariant.ready asked.client asked.call mine after rows reply own step;
-      left = omega (arith, c.loop-asked.invariant.left, inside);
-      room = omega (arith, c.push_reserved.ensures.len, c.push_reserved.ensures.capacity, c.serve-reply.ensures.room, c.loop-asked.invariant.left, inside);
+      ready = ready_again c.args.manager.schema clients m callers c.loop-asked.invariant.ready asked.client asked.call mine after rows reply own step;
+      left = omega (arith, c.loop-asked.invariant.left, left);
+      room = omega (arith, c.push_reserved.ensures.len, c.push_reserved.ensures.capacity, c.serve-reply.ensures.room, c.loop-asked.invariant.left, left);
       made = made_again c.args.manager m asked.client asked.call mine after rows reply own c.loop-asked.invariant.made step;
       counts = c.count_reply.ensures
           ∙ ap (counts_after asked.client reply) c.loop-asked.invariant.counts
-          ∙ counts_after-call before (length c.args.script.now.clients) asked rows reply bound
-          ∙ ap (λ (ls : List ReplyLine). counts_of ls (length c.args.script.now.clients)) (sym told);
+          ∙ counts_after-call before clients asked rows reply bound
+          ∙ ap (λ (ls : List ReplyLine). counts_of ls clients) (sym told);
     }

@@ -1,4 +1,4 @@
-use Rattle.std.proofs.Common.{◌≡◌, ◌≤◌, ◌+◌, None, length, take, replicate}
+use Rattle.std.proofs.Common.{◌≡◌, ◌≤◌, ◌+◌, ◌++◌, None, length, replicate}
 use Rattle.std.specs.Prelude.{vec_capacity, vec_len}
 use Rattle.devices.specs.Appending.{taken_by}
 use Rattle.pdtcli.specs.Run.{IsRun}
@@ -10,14 +10,15 @@ use Rattle.pdtcli.proofs.serial.run_serial.Given as goal
 abbrev pub invariant-loop-asked : goal.invariant-loop-asked
 invariant-loop-asked g l =
     let taken = taken_by (λ b. (goal.ColumnDevice-dyn g (b.vtable, b.value)).contents b.value) (λ b. (goal.ColumnDevice-dyn g (b.vtable, b.value)).failures b.value) in record {
+      split : l.yielded ++ l.asked-iterator.rest.items ≡ l.fn.script.calls;
       run : IsRun
-          (record { manager = l.fn.manager; transactions = replicate (length l.script.clients) None; store = taken l.fn.store.devices.items l.fn.store.next })
-          (take l.asked-index l.script.calls) l.lines.items
+          (record { manager = l.fn.manager; transactions = replicate (length l.fn.script.clients) None; store = taken l.fn.store.devices.items l.fn.store.next })
+          l.yielded l.lines.items
           (record { manager = l.manager; transactions = l.callers.items; store = taken l.store.devices.items l.store.next });
       schema : l.store.schema ≡ l.fn.manager.schema;
-      ready : IsReady l.fn.manager.schema (length l.script.clients) l.manager l.callers.items;
-      left : l.asked-index + l.left ≡ length l.script.calls;
+      ready : IsReady l.fn.manager.schema (length l.fn.script.clients) l.manager l.callers.items;
+      left : l.left ≡ length l.asked-iterator.rest.items;
       room : vec_len l.lines + l.left ≤ vec_capacity l.lines;
       made : l.fn.manager.made + length l.manager.history ≤ length l.fn.manager.history + l.manager.made;
-      counts : l.counts.items ≡ counts_of l.lines.items (length l.script.clients);
+      counts : l.counts.items ≡ counts_of l.lines.items (length l.fn.script.clients);
     }
