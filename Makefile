@@ -1,5 +1,5 @@
 # Each target is one line; the work is done by the toolchain's command rt.
-.PHONY: try run test examples fmt check door install
+.PHONY: try run test examples fmt check door install bench
 
 # how many checks the gate does at a time: each takes up to 6 GB
 RT_JOBS ?= 2
@@ -36,3 +36,7 @@ door:
 # installs the header, both libraries and pdt.pc: make install PREFIX=/usr/local
 install: door
 	$(MAKE) -C door/c install
+
+# measures the library through the door for C, beside plain Rust and SQLite, into bench/out: make bench BENCH="--only scans"
+bench: door
+	cd bench && cargo run --release --locked --offline -- --csv out $(BENCH) && ./plots

@@ -1,0 +1,85 @@
+//! The cases: each asks one question, and answers it by a table.
+mod begins;
+mod commits;
+mod files;
+mod folds;
+mod keys;
+mod loads;
+mod lookups;
+mod scans;
+mod transactions;
+mod writes;
+
+use crate::table::Table;
+
+/// How large the tables are, and how often things are done.
+pub struct Size {
+    pub word: &'static str,
+    /// The rows of a table.
+    pub rows: usize,
+    /// The rows of tables of several sizes.
+    pub tables: &'static [usize],
+    /// The entries of a Write-PDT.
+    pub entries: &'static [usize],
+    /// The entries that are folded, and the entries of the Read-PDT into which they go.
+    pub folds: &'static [(usize, usize)],
+    /// The calls of a turn.
+    pub calls: usize,
+    /// The calls of a turn where threads make them.
+    pub thread_calls: usize,
+    /// The turns of each way.
+    pub rounds: usize,
+}
+
+impl Size {
+    /// As a person waits for: some minutes.
+    pub const FULL: Size = Size {
+        word: "full",
+        rows: 1_000_000,
+        tables: &[1_000, 10_000, 100_000, 1_000_000],
+        entries: &[100, 1_000, 10_000, 100_000, 300_000],
+        folds: &[(10, 100_000), (1_000, 100_000), (10_000, 100_000), (100_000, 100_000), (100_000, 10)],
+        calls: 10_000,
+        thread_calls: 200_000,
+        rounds: 7,
+    };
+
+    /// As a check takes: some seconds, in which each answer is looked at and no time says much.
+    pub const SMALL: Size = Size {
+        word: "small",
+        rows: 20_000,
+        tables: &[100, 5_000],
+        entries: &[100, 2_000],
+        folds: &[(10, 1_000), (500, 1_000), (1_000, 10)],
+        calls: 200,
+        thread_calls: 2_000,
+        rounds: 2,
+    };
+}
+
+/// The shares of the rows of a table that are updated.
+const SHARES: [f64; 3] = [0.1, 1.0, 10.0];
+
+/// So many percent of a number of rows.
+fn percent(share: f64, rows: usize) -> usize {
+    (rows as f64 * share / 100.0).round() as usize
+}
+
+/// A case by its name.
+pub struct Case {
+    pub name: &'static str,
+    pub run: fn(&Size) -> Table,
+}
+
+pub const CASES: [Case; 10] = [
+    Case { name: scans::NAME, run: scans::run },
+    Case { name: keys::NAME, run: keys::run },
+    Case { name: lookups::NAME, run: lookups::run },
+    Case { name: writes::NAME, run: writes::run },
+    Case { name: commits::NAME, run: commits::run },
+    Case { name: begins::NAME, run: begins::run },
+    Case { name: transactions::NAME, run: transactions::run },
+    Case { name: folds::NAME, run: folds::run },
+    Case { name: files::NAME, run: files::run },
+    Case { name: loads::NAME, run: loads::run },
+];

@@ -1,0 +1,118 @@
+//! The tables that are measured. A row is known by a number, from which its cells follow: those of a table are even, so
+//! that a row can come to stand between any two.
+use crate::drawn::scattered;
+use narthexmace::{CellRef, Options, Store};
+use std::fmt::Write;
+
+/// What a key is made of.
+#[derive(Clone, Copy, PartialEq, Eq)]
+pub enum KeyKind {
+    Int,
+    FourInts,
+    Text,
+}
+
+impl KeyKind {
+    pub const ALL: [KeyKind; 3] = [KeyKind::Int, KeyKind::FourInts, KeyKind::Text];
+
+    pub fn word(self) -> &'static str {
+        match self {
+            KeyKind::Int => "one int",
+            KeyKind::FourInts => "four ints",
+            KeyKind::Text => "a text of 21 bytes",
+        }
+    }
+
+    fn head(self) -> &'static str {
+        match self {
+            KeyKind::Int => "id:int:key",
+            KeyKind::FourInts => "region:int:key,customer:int:key,order:int:key,line:int:key",
+            KeyKind::Text => "id:text:key",
+        }
+    }
+
+    /// The column of the names, the first after the key.
+    pub fn name_column(self) -> usize {
+        if self == KeyKind::FourInts { 4 } else { 1 }
+    }
+
+    /// The column of the quantities, the last one.
+    pub fn qty_column(self) -> usize {
+        self.name_column() + 1
+    }
+}
+
+/// The four ints of the key of a row.
+pub fn parts_of(number: i64) -> [i64; 4] {
+    [number >> 18, number >> 12 & 63, number >> 6 & 63, number & 63]
+}
+
+/// The text of the key of a row.
+pub fn text_of(number: i64) -> String {
+    format!("customer-{number:012}")
+}
+
+/// The name of a row, of 8 bytes.
+pub fn name_of(number: i64) -> String {
+    format!("name{:04}", number % 10_000)
+}
+
+/// The quantity of a row, as long as it isn't set.
+pub fn qty_of(number: i64) -> i64 {
+    (scattered(number as u64) % 1000) as i64
+}
+
+/// The key of a row, in room of its own.
+pub struct Key {
+    kind: KeyKind,
+    parts: [i64; 4],
+    text: String,
+}
+
+impl Key {
+    pub fn of(kind: KeyKind, number: i64) -> Key {
+        let text = if kind == KeyKind::Text { text_of(number) } else { String::new() };
+        let parts = if kind == KeyKind::Int { [number, 0, 0, 0] } else { parts_of(number) };
+        Key { kind, parts, text }
+    }
+
+    pub fn cells(&self) -> Vec<CellRef<'_>> {
+        match self.kind {
+            KeyKind::Int => vec![CellRef::Int(self.parts[0])],
+            KeyKind::FourInts => self.parts.iter().map(|part| CellRef::Int(*part)).collect(),
+            KeyKind::Text => vec![CellRef::Text(&self.text)],
+        }
+    }
+}
+
+/// The numbers of the rows of a table.
+pub fn numbers(rows: usize) -> impl Iterator<Item = i64> + Clone {
+    (0..rows as i64).map(|row| 2 * row)
+}
+
+/// The CSV text of rows: their keys, names and quantities.
+pub fn csv(kind: KeyKind, numbers: impl Iterator<Item = i64>) -> String {
+    let mut text = format!("{},name:text,qty:int\n", kind.head());
+    for number in numbers {
+        let key = Key::of(kind, number);
+        for cell in key.cells() {
+            match cell {
+                CellRef::Text(part) => write!(text, "{part},"),
+                cell => write!(text, "{},", cell.as_int().unwrap_or(0)),
+            }
+            .expect("a string takes what is written");
+        }
+        writeln!(text, "{},{}", name_of(number), qty_of(number)).expect("a string takes what is written");
+    }
+    text
+}
+
+/// A store over a table of so many rows.
+pub fn store(kind: KeyKind, rows: usize) -> Store {
+    opened(&csv(kind, numbers(rows)))
+}
+
+/// A store over the table of a text.
+pub fn opened(csv: &str) -> Store {
+    Store::open(csv, &Options::default()).expect("the text is a table")
+}
