@@ -57,9 +57,14 @@ pub fn name_of(number: i64) -> String {
     format!("name{:04}", number % 10_000)
 }
 
-/// The quantity of a row, as long as it isn't set.
+/// The quantity of a row, as long as it isn't set: at least 1, so that a row that is missed is missed in a sum.
 pub fn qty_of(number: i64) -> i64 {
-    (scattered(number as u64) % 1000) as i64
+    1 + (scattered(number as u64) % 1000) as i64
+}
+
+/// The last byte of a text: the names of rows beside each other have another one each.
+pub fn last_byte(text: &str) -> i64 {
+    text.bytes().next_back().map_or(0, i64::from)
 }
 
 /// The key of a row, in room of its own.

@@ -60,7 +60,7 @@ pub fn updates(rows: usize, count: usize, mix: Mix) -> Vec<Update> {
         .map(|place| {
             let (from, to) = (place * rows / count, (place + 1) * rows / count);
             let number = 2 * (from + drawn.below(to - from)) as i64;
-            let qty = drawn.below(1000) as i64;
+            let qty = 1 + drawn.below(1000) as i64;
             match (mix, place % 3) {
                 (Mix::Mixed, 0) => Update { number: number + 1, change: Change::Insert(qty) },
                 (Mix::Mixed, 1) => Update { number, change: Change::Delete },
@@ -127,11 +127,11 @@ const BATCH: usize = 16_384;
 
 /// The sum of a column of numbers, by its pieces where they lie.
 pub fn sum(txn: &Transaction<'_>, column: usize) -> i64 {
-    let mut sum = 0;
+    let mut sum = 0i64;
     for batch in txn.batches(&[column], .., BATCH).expect("there is such a column") {
         let batch = batch.expect("there is memory");
         for piece in batch.ints(0).expect("it is a column of numbers").pieces() {
-            sum += piece.as_slice().iter().sum::<i64>();
+            sum = piece.as_slice().iter().fold(sum, |sum, number| sum.wrapping_add(*number));
         }
     }
     sum

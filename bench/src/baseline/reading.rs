@@ -24,12 +24,8 @@ impl Texts {
         self.ends.push(self.bytes.len());
     }
 
-    fn get(&self, place: usize) -> &str {
+    pub fn get(&self, place: usize) -> &str {
         &self.bytes[self.ends[place]..self.ends[place + 1]]
-    }
-
-    pub fn len(&self) -> usize {
-        self.ends.len() - 1
     }
 }
 

@@ -1,14 +1,14 @@
 //! Checkpoints and recoveries, beside a plain write and a plain read of as many bytes.
 use super::{Size, percent};
 use crate::baseline::files;
-use crate::data::{KeyKind, csv, numbers, opened, qty_of};
+use crate::data::{KeyKind, csv, last_byte, numbers, opened, qty_of};
 use crate::drawn::scattered;
 use crate::table::{Line, Table, Unit, grouped};
 use crate::timing::{Turn, clocked, least, way};
-use crate::updates::{begun, state};
-use narthexmace::{Options, Store};
+use crate::updates::{begun, sum};
+use narthexmace::{Column, ColumnType, Options, Store};
 use std::fmt::Write;
-use std::path::PathBuf;
+use std::path::{Path, PathBuf};
 use std::{env, fs, process};
 
 pub const NAME: &str = "files";
@@ -72,21 +72,17 @@ impl Drop for Room {
 }
 
 fn two_lines(size: &Size, room: &Room, word: &str, csv: &str) -> [Line; 2] {
+    let due = due(size, csv);
     let store = opened(csv);
-    let column = store.columns().len() - 1;
-    set(&store, size, 0);
-    let due = state(&begun(&store), column);
+    set(&store, size);
     let kept = room.empty("kept");
     store.checkpoint(&kept).expect("a store can be written");
     let files = files::read(&kept).expect("a store can be read");
     let bytes = files::bytes(&files);
-    let mut turns = 0;
     let checkpoints = vec![
         way(1, due, || {
-            turns += 1;
-            set(&store, size, turns % 2);
-            set(&store, size, 0);
-            checkpoint(&store, room.empty("ours"), column)
+            set(&store, size);
+            checkpoint(&store, room.empty("ours"))
         }),
         way(1, bytes as i64, || {
             let folder = room.empty("plain");
@@ -94,38 +90,66 @@ fn two_lines(size: &Size, room: &Room, word: &str, csv: &str) -> [Line; 2] {
             Turn { time, answer: files::bytes(&files::read(&folder).expect("files can be read")) as i64 }
         }),
     ];
-    let checkpoints = least(NAME, size.rounds, checkpoints);
     let recoveries = vec![
         way(1, due, || {
-            let recover = || Store::recover(&kept, &Options::default()).expect("a store can be read");
-            let (time, recovered) = clocked(recover);
-            Turn { time, answer: state(&begun(&recovered), column) }
+            let (time, recovered) = clocked(|| recover(&kept));
+            Turn { time, answer: answer_of(&recovered) }
         }),
         way(1, bytes as i64, || {
             let (time, files) = clocked(|| files::read(&kept).expect("files can be read"));
             Turn { time, answer: files::bytes(&files) as i64 }
         }),
     ];
-    let recoveries = least(NAME, size.rounds, recoveries);
-    [("checkpoint", checkpoints), ("recovery", recoveries)].map(|(call, times)| {
+    [("checkpoint", checkpoints), ("recovery", recoveries)].map(|(call, ways)| {
+        let times = least(NAME, size.rounds, ways);
         let megabytes = times.into_iter().map(|time| bytes as f64 * 1e3 / time).collect();
         Line::new(&[&call, &word, &grouped(bytes)], megabytes)
     })
 }
 
-/// Sets one row in a hundred, so that there are updates to merge.
-fn set(store: &Store, size: &Size, qty: i64) {
-    let mut txn = begun(store);
-    let column = store.columns().len() - 1;
-    let step = size.rows / percent(1.0, size.rows);
-    for number in numbers(size.rows).step_by(step) {
-        txn.set([number], column, qty).expect("there is such a row");
-    }
-    txn.commit().expect("nobody else commits");
+/// The quantity to which one row in a hundred is set.
+const QTY: i64 = 1_000_000;
+
+/// The rows that are set.
+fn rows_set(size: &Size) -> impl Iterator<Item = i64> {
+    numbers(size.rows).step_by(size.rows / percent(1.0, size.rows))
 }
 
-fn checkpoint(store: &Store, folder: PathBuf, column: usize) -> Turn {
+/// What all cells of a table add up to after that: numbers, the last byte of each text, and one for each row.
+fn due(size: &Size, csv: &str) -> i64 {
+    let cells = csv.lines().skip(1).flat_map(|row| row.split(','));
+    let before = cells.fold(size.rows as i64, |sum, cell| sum.wrapping_add(cell.parse().unwrap_or(last_byte(cell))));
+    rows_set(size).fold(before, |sum, number| sum.wrapping_add(QTY - qty_of(number)))
+}
+
+/// Sets the rows anew, so that a checkpoint has updates to merge.
+fn set(store: &Store, size: &Size) {
+    let mut txn = begun(store);
+    for number in rows_set(size) {
+        txn.set([number], store.columns().len() - 1, QTY).expect("there is such a row");
+    }
+    txn.commit().expect("nobody else commits");
+    assert_eq!(rows_set(size).count(), store.sizes().write_entries, "{NAME}: an entry for each set");
+}
+
+fn checkpoint(store: &Store, folder: PathBuf) -> Turn {
     let (time, ()) = clocked(|| store.checkpoint(&folder).expect("a store can be written"));
-    let recovered = Store::recover(&folder, &Options::default()).expect("a store can be read");
-    Turn { time, answer: state(&begun(&recovered), column) }
+    Turn { time, answer: answer_of(&recover(&folder)) }
+}
+
+fn recover(folder: &Path) -> Store {
+    Store::recover(folder, &Options::default()).expect("a store can be read")
+}
+
+/// What all cells of a store's table add up to.
+fn answer_of(store: &Store) -> i64 {
+    let txn = begun(store);
+    let sum_of = |(column, it): (usize, &Column)| match it.column_type {
+        ColumnType::Text => {
+            let batch = txn.batch(&[column], ..).expect("there is memory");
+            batch.texts(0).expect("texts").iter().map(last_byte).sum()
+        }
+        _ => sum(&txn, column),
+    };
+    store.columns().iter().enumerate().map(sum_of).fold(txn.rows() as i64, i64::wrapping_add)
 }

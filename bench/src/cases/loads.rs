@@ -1,12 +1,12 @@
 //! The reading of a table from CSV.
 use super::Size;
 use crate::baseline::reading::{columns, rows};
-use crate::data::{KeyKind, csv, numbers, opened, qty_of};
+use crate::data::{KeyKind, csv, name_of, numbers, opened, qty_of};
 use crate::drawn::Drawn;
 use crate::sqlite::{self, Bound};
 use crate::table::{Line, Table, Unit, grouped};
 use crate::timing::{Turn, clocked, least, way};
-use crate::updates::{begun, state};
+use crate::updates::begun;
 use std::hint::black_box;
 
 pub const NAME: &str = "loads";
@@ -36,13 +36,18 @@ pub fn run(size: &Size) -> Table {
 
 fn ours(text: &str) -> Turn {
     let (time, store) = clocked(|| opened(text));
-    Turn { time, answer: state(&begun(&store), KeyKind::Int.qty_column()) }
+    let txn = begun(&store);
+    let batch = txn.batch(&[0, 1, 2], ..).expect("there is memory");
+    let (ids, qtys) = (batch.ints(0).expect("numbers"), batch.ints(2).expect("numbers"));
+    let names = batch.texts(1).expect("texts");
+    let rows = ids.iter().zip(names.iter()).zip(qtys.iter());
+    Turn { time, answer: state_of_table(rows.map(|((id, name), qty)| (id, name, qty))) }
 }
 
 fn plain(text: &str) -> Turn {
     let (time, columns) = clocked(|| black_box(columns(text)));
-    assert!(columns.ids.is_sorted() && columns.ids.len() == columns.names.len(), "{NAME}: the columns stand in order");
-    Turn { time, answer: columns.qtys.iter().sum::<i64>() + columns.ids.len() as i64 }
+    let rows = (0..columns.ids.len()).map(|row| (columns.ids[row], columns.names.get(row), columns.qtys[row]));
+    Turn { time, answer: state_of_table(rows) }
 }
 
 fn in_sqlite(text: &str) -> Turn {
@@ -56,5 +61,18 @@ fn in_sqlite(text: &str) -> Turn {
         drop(insert);
         database.run("COMMIT");
     });
-    Turn { time, answer: database.number(sqlite::STATE) }
+    let mut rows = Vec::new();
+    let mut all = database.statement("SELECT id, name, qty FROM items ORDER BY id");
+    all.each(&[], |row| rows.push((row.int(0), row.text(1), row.int(2))));
+    Turn { time, answer: state_of_table(rows.iter().map(|(id, name, qty)| (*id, name.as_str(), *qty))) }
+}
+
+/// The sum of the quantities, and how many rows there are. Ends the program where a row isn't the table's of its place.
+fn state_of_table<'r>(rows: impl Iterator<Item = (i64, &'r str, i64)>) -> i64 {
+    let mut state = 0;
+    for ((id, name, qty), number) in rows.zip(numbers(usize::MAX >> 2)) {
+        assert!(id == number && name == name_of(number) && qty == qty_of(number), "{NAME}: another row of {number}");
+        state += qty + 1;
+    }
+    state
 }

@@ -1,7 +1,7 @@
 //! Look-ups by key and by position, and the rank of a key, by the size of the table and by updates.
 use super::{Size, percent};
 use crate::baseline::map::{Record, Sorted};
-use crate::data::{KeyKind, store};
+use crate::data::{KeyKind, last_byte, store};
 use crate::drawn::Drawn;
 use crate::sqlite::{self, Bound, Database, Statement};
 use crate::table::{Line, Table, Unit, grouped};
@@ -142,11 +142,11 @@ fn selected(query: &mut Statement<'_>, number: i64) -> i64 {
     weight(&found.expect("there is such a row"))
 }
 
-/// What a row adds to an answer: each way has to have its text in hand, too.
+/// What a row adds to an answer: its quantity, and the last byte of its name, so that each way has its text in hand.
 fn weight(record: &Record) -> i64 {
-    record.qty + record.name.len() as i64
+    record.qty + last_byte(&record.name)
 }
 
 fn weight_of(row: &Row) -> i64 {
-    row[2].as_int().expect("a number") + row[1].as_text().expect("a text").len() as i64
+    row[2].as_int().expect("a number") + last_byte(row[1].as_text().expect("a text"))
 }
