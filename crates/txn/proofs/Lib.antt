@@ -1,5 +1,6 @@
 mod ReadsLemmas
 mod TxnLemmas
 mod EditLemmas
+mod MarkLemmas
 mod VersionLemmas
 pub mod CallerLemmas

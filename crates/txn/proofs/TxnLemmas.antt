@@ -29,7 +29,7 @@ use Rattle.delta.proofs.CallerLemmas.{finds_effect, may_call, few}
 use Rattle.txn.specs.Edit.{edited, MayBeEdited}
 use Rattle.txn.specs.Txn.{Transaction, asked_of, answers_of, effects_of, image_of, entries_of, tree_of, IsTransaction, IsFound, with_write, answer_to}
 
-is_true : (b : Bool) → T b → IsTrue b
+pub is_true : (b : Bool) → T b → IsTrue b
 is_true true h = refl
 is_true false h = absurd h
 

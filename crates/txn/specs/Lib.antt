@@ -1,3 +1,4 @@
 pub mod Edit
+pub mod Marks
 pub mod Txn
 pub mod Version

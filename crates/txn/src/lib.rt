@@ -11,6 +11,8 @@
 #![tactic(auto)]
 
 mod fault;
+mod laws;
+mod mark;
 mod parts;
 mod place;
 mod reads;
@@ -20,6 +22,8 @@ mod writes;
 
 pub use delta::DeltaTree;
 pub use fault::WriteFault;
+pub use laws::marks_stand;
+pub use mark::Mark;
 pub use merge::{MergeScan, RowView, StableStretch, Stretch, Stretches};
 pub use model::{Write, WriteReply};
 pub use parts::Parts;

@@ -12,6 +12,7 @@ ghost use Rattle.merge.specs.Image.{image_rows, image_table};
 ghost use Rattle.txn.specs.declared.fault.WriteFault.TheVariants as write_fault;
 
 use crate::fault::WriteFault;
+use crate::mark::Mark;
 use crate::parts::Parts;
 use crate::place::RecordPlace;
 use crate::version::Version;
@@ -53,6 +54,7 @@ impl Model for Txn {
 impl Txn {
     ghost use Rattle.txn.specs.Version.{lower_table, table_version};
     ghost use Rattle.txn.specs.Txn.{transaction_at, entries_of, tree_of, image_of, IsTransaction, IsAnswered, IsFound};
+    ghost use Rattle.txn.specs.Marks.{mark_of, with_first, IsMark};
 
     /// A transaction over the version, with no writes.
     ///
@@ -238,6 +240,31 @@ impl Txn {
             index: place.index,
             row: FoundRow::at(&place, in_base),
         }
+    }
+
+    /// The transaction as it stands, to go back to. The tree's nodes are shared, so that it takes no memory.
+    ///
+    /// # Errors
+    ///
+    /// `NoMemory` where the tree has 2^64 owners.
+    pub fn mark(&self) -> Result<Mark, NoMemory>
+        ensures { IfOk result (λ mark. mark ≡ mark_of self.now) }
+    {
+        Ok(Mark {
+            count: self.writes.len(),
+            tree: self.tree.copy()?,
+        })
+    }
+
+    /// Goes back to a mark that stands: the writes after it are undone, and no record is left of them. It can't fail, and
+    /// takes no memory. A mark stands through further writes, and through going back to it or to a later one.
+    pub fn back_to(&mut self, mark: Mark)
+        requires { IsMark mark self.old }
+        ensures { self.new ≡ with_first mark.count self.old }
+    {
+        let Mark { count, tree } = mark;
+        self.writes.truncate(count);
+        self.tree = tree;
     }
 
     /// How many rows the version's table has with its own writes. Takes no memory.

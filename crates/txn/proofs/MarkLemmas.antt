@@ -1,0 +1,89 @@
+-- A transaction with the first of its writes is one, and a mark stands as long as they are there.
+use Rattle.std.proofs.Common.{◌≡◌, ℕ, zero, suc, ◌≤◌, Bool, T, List, [], ◌∷◌, length, take, refl, sym, ap, ◌∙◌, subst, arith}
+use Rattle.std.specs.List.{list_all}
+use Rattle.std.proofs.lemmas.Float.{T_from_true}
+use Rattle.std.proofs.lemmas.List.{append-nil, length-take, take_all, take-take, take-map, take-append-le, length-append}
+use Rattle.model.specs.declared.write.Write.{Write}
+use Rattle.model.specs.declared.write.WriteReply.{WriteReply}
+use Rattle.model.specs.Table.{Table}
+use Rattle.model.specs.Effects.{Effects}
+use Rattle.model.specs.Writes.{write_fits_schema, effects_after, reply_to, replies_to}
+use Rattle.model.proofs.CallerLemmas.{both, first, second}
+use Rattle.txn.specs.Txn.{Transaction, asked_of, tree_of, IsTransaction, IsAnswered}
+use Rattle.txn.specs.Marks.{Marked, mark_of, with_first, IsMark, GoesOn, MarksStand}
+use Rattle.txn.proofs.TxnLemmas.{is_true}
+
+list_all-take : {A : Type 0} (p : A → Bool) (n : ℕ) (xs : List A) → T (list_all p xs) → T (list_all p (take n xs))
+list_all-take p zero xs h = tt
+list_all-take p (suc n) [] h = tt
+list_all-take p (suc n) (x ∷ xs) h = both (p x) _ (first (p x) _ h) (list_all-take p n xs (second (p x) _ h))
+
+-- the replies to the first writes are the first replies
+replies_to-take : (key_cols limit : ℕ) (t : Table) (n : ℕ) (x : Effects) (writes : List Write) → take n (replies_to key_cols limit t x writes) ≡ replies_to key_cols limit t x (take n writes)
+replies_to-take key_cols limit t zero x writes = refl
+replies_to-take key_cols limit t (suc n) x [] = refl
+replies_to-take key_cols limit t (suc n) x (w ∷ writes) = ap (λ rs. reply_to key_cols limit t x w ∷ rs) (replies_to-take key_cols limit t n (effects_after key_cols limit t x w) writes)
+
+module _ (txn : Transaction) (h : IsTransaction txn) (count : ℕ) where
+  abbrev asked-first : asked_of (with_first count txn) ≡ take count (asked_of txn)
+  asked-first = sym (take-map (λ (w : Write × WriteReply). w.0) count txn.writes)
+
+  pub first_IsTransaction : IsTransaction (with_first count txn)
+  first_IsTransaction = record {
+    lawful = h.lawful;
+    table = h.table;
+    within = h.within;
+    limited = h.limited;
+    fitting = ap (list_all (write_fits_schema txn.schema)) asked-first ∙ is_true _ (list_all-take (write_fits_schema txn.schema) count (asked_of txn) (T_from_true (list_all (write_fits_schema txn.schema) (asked_of txn)) h.fitting));
+    answered =
+        sym (take-map (λ (w : Write × WriteReply). w.1) count txn.writes)
+        ∙ ap (take count) h.answered
+        ∙ replies_to-take txn.schema.key_cols txn.limit txn.table count [] (asked_of txn)
+        ∙ ap (replies_to txn.schema.key_cols txn.limit txn.table []) (sym asked-first);
+  }
+
+-- ---- how long a mark stands
+
+abbrev with_writes : Transaction → List (Write × WriteReply) → Transaction
+with_writes txn writes = record txn { writes = writes }
+
+pub made_IsMark : (txn : Transaction) → IsMark (mark_of txn) txn
+made_IsMark txn = record {
+  within = omega arith;
+  tree_is = ap (λ ws. tree_of (with_writes txn ws)) (sym (take_all (length txn.writes) txn.writes (omega arith)));
+}
+
+pub written_IsMark : (mark : Marked) (old new : Transaction) → IsMark mark old → GoesOn old new → IsMark mark new
+written_IsMark mark old new m g = subst (IsMark mark) (sym g.new_is) (record {
+  within = omega (arith, m.within, length-append old.writes g.later);
+  tree_is = m.tree_is ∙ ap (λ ws. tree_of (with_writes old ws)) (sym (take-append-le mark.count old.writes g.later m.within));
+})
+
+pub gone_back_IsMark : (mark : Marked) (txn : Transaction) (count : ℕ) → IsMark mark txn → mark.count ≤ count → IsMark mark (with_first count txn)
+gone_back_IsMark mark txn count m le = record {
+  within = fits;
+  tree_is = m.tree_is ∙ ap (λ ws. tree_of (with_writes txn ws)) (sym (take-take mark.count count txn.writes le));
+} where
+  fits : mark.count ≤ length (take count txn.writes)
+  fits = omega (arith, m.within, le, length-take count txn.writes)
+
+-- an answered write goes on
+pub answered_GoesOn : (old new : Transaction) (write : Write) (reply : WriteReply) → IsAnswered old write reply new → GoesOn old new
+answered_GoesOn old new write reply a = record { later = (write, reply) ∷ []; new_is = a.kept }
+
+pub refused_GoesOn : (old new : Transaction) → new ≡ old → GoesOn old new
+refused_GoesOn old new same = record { later = []; new_is = same ∙ ap (with_writes old) (sym (append-nil old.writes)) }
+
+pub marks_stand : MarksStand
+marks_stand = record { made = made_IsMark; written = written_IsMark; gone_back = gone_back_IsMark }
+
+-- ---- the fields of a transaction that goes back
+
+-- they are kept where its writes are the first ones, and its tree is that of the mark
+pub back_kept : (txn self : Transaction) (view : txn ≡ self) (h : IsTransaction txn) (mark args : Marked) (same : mark ≡ args) → IsMark args self → (writes : List (Write × WriteReply)) → writes ≡ take mark.count txn.writes
+    → IsTransaction (with_writes txn writes) × (mark.tree ≡ tree_of (with_writes txn writes))
+back_kept txn self view h mark args same m writes items =
+    let tree : mark.tree ≡ tree_of (with_first mark.count txn) =
+    ap (λ (x : Marked). x.tree) same ∙ m.tree_is ∙ (λ i. tree_of (with_first ((sym same) i).count ((sym view) i))) in
+    subst (λ (ws : List (Write × WriteReply)). IsTransaction (with_writes txn ws) × (mark.tree ≡ tree_of (with_writes txn ws))) (sym items)
+    (first_IsTransaction txn h mark.count, tree)
