@@ -1,2 +1,3 @@
 mod WordSteps
 mod CellLemmas
+mod MarkLemmas

@@ -16,6 +16,7 @@ mod checkpoint;
 mod checkpoints;
 mod codes;
 mod held;
+mod marks;
 mod opening;
 mod reads;
 mod rows;

@@ -1,32 +1,54 @@
 //! C's handle of an open transaction.
 ghost use Rattle.std.specs.Prelude.{◌≡◌, IsSome, Some, None};
 ghost use Rattle.std.specs.declared.option.Option.{Option};
-ghost use Rattle.pdt_c.specs.declared.transaction.OpenTxn.{OpenTxn};
+ghost use Rattle.pdt_c.specs.Marks.{Opened, unmarked};
 
 use crate::held::Held;
 use std::alloc::Global;
 use std::marker::Model;
 use std::mem;
-use txn::Txn;
+use txn::{Mark, Txn};
 
-/// An open transaction, which is let go by an abort.
+/// An open transaction with its marks, which is let go by an abort.
 pub(crate) struct OpenTxn {
     pub(crate) txn: Txn,
+    /// The oldest first.
+    pub(crate) marks: Vec<Mark>,
+}
+
+impl Model for OpenTxn {
+    ghost use Rattle.pdt_c.specs.Marks.{AreMarks, Opened};
+
+    ghost Value = { Opened };
+
+    ghost view = { λ o. record { txn = o.txn; marks = o.marks.items } };
+
+    ghost invariant = { λ o. AreMarks o.txn o.marks.items };
 }
 
 impl OpenTxn {
+    /// A transaction that has just begun.
+    pub(crate) fn new(alloc: Global, txn: Txn) -> OpenTxn
+        ensures { result ≡ unmarked txn }
+    {
+        OpenTxn {
+            txn,
+            marks: Vec::new(alloc),
+        }
+    }
+
     /// The transaction, for its commit.
     pub(crate) fn into_txn(self) -> Txn
         ensures { result ≡ self.txn }
     {
-        let Self { txn } = self;
+        let Self { txn, marks: _marks } = self;
         txn
     }
 }
 
 impl Drop for OpenTxn {
     fn drop(self) {
-        let Self { txn } = self;
+        let Self { txn, marks: _marks } = self;
         txn.abort();
     }
 }
@@ -37,7 +59,7 @@ impl Drop for OpenTxn {
 pub struct Transaction {
     at: *mut u8,
     alloc: Global,
-    ghost value: { Option OpenTxn },
+    ghost value: { Option Opened },
 }
 
 impl Model for Transaction {

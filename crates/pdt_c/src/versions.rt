@@ -2,6 +2,7 @@
 ghost use Rattle.std.specs.Prelude.{◌≡◌, ◌≢◌, ℕ, IsSome, IfSome, Some, None, length, slice_get};
 ghost use Rattle.model.specs.declared.write.CommitReply.{CommitReply};
 ghost use Rattle.manager.specs.Managed.{begun_at, cut_of, newest_version, HasFolded, IsDecided, IsOwn};
+ghost use Rattle.pdt_c.specs.Marks.{unmarked};
 ghost use Rattle.pdt_c.specs.Told.{IsPut, number_of_type, told};
 ghost use Rattle.pdt_c.specs.declared.codes.TheConstants.{DONE, NO_MEMORY};
 
@@ -23,7 +24,7 @@ pub extern "C" fn pdtr_begin(
 ) -> u32
     requires { IsSome store.old.value }
     ensures store { store.new.value ≡ store.old.value }
-    ensures done { result ≡ DONE → IfSome store.old.value (λ m. txn.new.value ≡ Some (record { txn = begun_at m client })) }
+    ensures done { result ≡ DONE → IfSome store.old.value (λ m. txn.new.value ≡ Some (unmarked (begun_at m client))) }
     ensures refused { result ≢ DONE → txn.new.value ≡ txn.old.value }
 {
     let manager = store::take(alloc, store);
@@ -33,11 +34,11 @@ pub extern "C" fn pdtr_begin(
 }
 
 fn begin(alloc: Global, manager: &Manager, client: u32, txn: &mut Transaction) -> u32
-    ensures done { result ≡ DONE → txn.new.value ≡ Some (record { txn = begun_at manager.now client }) }
+    ensures done { result ≡ DONE → txn.new.value ≡ Some (unmarked (begun_at manager.now client)) }
     ensures refused { result ≢ DONE → txn.new.value ≡ txn.old.value }
 {
     match manager.begin(client) {
-        Ok(begun) => match Box::new(alloc, OpenTxn { txn: begun }) {
+        Ok(begun) => match Box::new(alloc, OpenTxn::new(alloc, begun)) {
             Ok(open) => {
                 transaction::put(txn, open);
                 DONE

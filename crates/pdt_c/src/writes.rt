@@ -23,6 +23,7 @@ pub extern "C" fn pdtr_insert(
     ensures held { IsSome txn.new.value }
     ensures told { result ≢ SHAPE → result ≢ NO_MEMORY → IfSome txn.old.value (λ t. IfSome txn.new.value (λ n.
         Inserts numbers.now texts.now t.txn result n.txn)) }
+    ensures marks { IfSome txn.old.value (λ t. IfSome txn.new.value (λ n. n.marks ≡ t.marks)) }
     ensures refused { (result ≡ SHAPE) ⊎ (result ≡ NO_MEMORY) → txn.new.value ≡ txn.old.value }
 {
     let mut open = take(alloc, txn);
@@ -73,6 +74,7 @@ pub extern "C" fn pdtr_delete(
     ensures held { IsSome txn.new.value }
     ensures told { result ≢ SHAPE → result ≢ NO_MEMORY → IfSome txn.old.value (λ t. IfSome txn.new.value (λ n.
         Deletes numbers.now texts.now t.txn result n.txn)) }
+    ensures marks { IfSome txn.old.value (λ t. IfSome txn.new.value (λ n. n.marks ≡ t.marks)) }
     ensures refused { (result ≡ SHAPE) ⊎ (result ≡ NO_MEMORY) → txn.new.value ≡ txn.old.value }
 {
     let mut open = take(alloc, txn);
@@ -110,6 +112,7 @@ pub extern "C" fn pdtr_set(
     ensures held { IsSome txn.new.value }
     ensures told { result ≢ SHAPE → result ≢ NO_MEMORY → IfSome txn.old.value (λ t. IfSome txn.new.value (λ n.
         Sets numbers.now texts.now col number text.now t.txn result n.txn)) }
+    ensures marks { IfSome txn.old.value (λ t. IfSome txn.new.value (λ n. n.marks ≡ t.marks)) }
     ensures refused { (result ≡ SHAPE) ⊎ (result ≡ NO_MEMORY) → txn.new.value ≡ txn.old.value }
 {
     let mut open = take(alloc, txn);

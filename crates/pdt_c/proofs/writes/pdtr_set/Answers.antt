@@ -1,0 +1,12 @@
+use Rattle.txn.proofs.CallerLemmas.{answered_GoesOn}
+use Rattle.pdt_c.proofs.MarkLemmas.{goes_on, told_GoesOn}
+use Rattle.pdt_c.proofs.writes.pdtr_set.Goals as goal
+
+pub invariant_of-behind-open : goal.invariant_of-behind-open
+invariant_of-behind-open c =
+    let inside = c.behind-open-in-Ok.inside in
+    let new = c.set-code.new.txn in
+    goes_on inside.txn new inside.marks.items c.behind-open-in-Ok.invariant
+    (told_GoesOn c.set-code.result inside.txn new
+    (λ fits had. let told = (c.set-code.ensures.told fits had).told in answered_GoesOn inside.txn new _ told.reply told.answered)
+    c.set-code.ensures.refused)
