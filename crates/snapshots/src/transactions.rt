@@ -3,7 +3,9 @@
 //! That a refused growth is answered shows under `rt try --test --fail-alloc N`, for N from 1 on: a case then ends with
 //! NoMemory in the place of its answer.
 ghost use Rattle.std.specs.Prelude.{◌≡◌};
+ghost use Rattle.txn.specs.Marks.{GoesOn};
 
+mod marks;
 mod random_writes;
 mod refusals;
 mod stacks;
@@ -26,6 +28,7 @@ const ROOM: u64 = 4;
 pub(crate) fn answer(txn: &mut Txn, write: Write) -> Result<WriteReply, WriteFault>
     ensures schema { txn.new.schema ≡ txn.old.schema }
     ensures table { txn.new.table ≡ txn.old.table }
+    ensures goes_on { GoesOn txn.old txn.new }
 {
     match write {
         Write::Insert(row) => txn.insert(row),

@@ -42,7 +42,7 @@ fn row(alloc: Global, id: i64, old: i64, new: i64) -> Result<Row, NoMemory> {
 }
 
 /// Thirty rows of the even keys from 0 on.
-fn base_rows(alloc: Global) -> Result<Vec<Row>, NoMemory> {
+pub(super) fn base_rows(alloc: Global) -> Result<Vec<Row>, NoMemory> {
     let mut rows = Vec::new(alloc);
     for place in 0..30_u16 {
         rows.push(row(alloc, i64::from(place) * 2, 1, 2)?)?;
@@ -51,7 +51,7 @@ fn base_rows(alloc: Global) -> Result<Vec<Row>, NoMemory> {
 }
 
 /// A write of one of the keys.
-fn drawn_write(alloc: Global, draws: &mut Draws) -> Result<Write, NoMemory> {
+pub(super) fn drawn_write(alloc: Global, draws: &mut Draws) -> Result<Write, NoMemory> {
     let id = draws.below(KEYS) as i64;
     let quantity = draws.below(100) as i64;
     match draws.below(4) {
@@ -109,7 +109,7 @@ fn has_keys(alloc: Global, txn: &Txn, table: &OrderedTable) -> Result<bool, Fail
 }
 
 /// Whether all reads are of the table with these effects.
-fn reads_as(
+pub(super) fn reads_as(
     alloc: Global,
     txn: &Txn,
     table: &OrderedTable,
@@ -124,6 +124,15 @@ fn reads_as(
     )
 }
 
+/// The reply that is due to a write after these effects, which then are those of the write too.
+pub(super) fn written(
+    table: &OrderedTable,
+    effects: &mut Effects,
+    write: &Write,
+) -> Result<WriteReply, NoMemory> {
+    table.write(1, ROW_LIMIT, effects, write)
+}
+
 /// The number of the first write whose two replies aren't the same, or after which the reads aren't, if there is one. The
 /// reads are compared after each hundredth write. The effects are those of all writes.
 fn first_difference(
@@ -135,7 +144,7 @@ fn first_difference(
     let mut draws = Draws::new(7);
     for number in 0..WRITES {
         let write = drawn_write(alloc, &mut draws)?;
-        let due = table.write(1, ROW_LIMIT, effects, &write)?;
+        let due = written(table, effects, &write)?;
         if answer(txn, write)? != due {
             return Ok(Some(number));
         }
@@ -146,12 +155,13 @@ fn first_difference(
     Ok(None)
 }
 
-/// That the entries are those of the tree, in order.
-fn assert_entries(rt: &impl Abort, tree: &DeltaTree, entries: &[Entry]) {
-    assert!(rt; tree.len() == entries.len());
-    for (place, (found, want)) in tree.iter().zip(entries.iter()).enumerate() {
-        assert!(rt; is_same(found, want));
-    }
+/// Whether the entries are those of the tree, in order.
+pub(super) fn has_entries(tree: &DeltaTree, entries: &[Entry]) -> bool {
+    tree.len() == entries.len()
+        && tree
+            .iter()
+            .zip(entries.iter())
+            .all(|(found, want)| is_same(found, want))
 }
 
 /// That each reply was answered now and then.
@@ -167,7 +177,7 @@ fn assert_replies(rt: &impl Abort, writes: &[(Write, WriteReply)]) {
 }
 
 /// A transaction of no writes over the base rows.
-fn opened(rt: &impl Abort, alloc: Global) -> Result<Txn, Fail> {
+pub(super) fn opened(rt: &impl Abort, alloc: Global) -> Result<Txn, Fail> {
     let base = StableTable::build(alloc, quantities(alloc)?, base_rows(alloc)?)?;
     let version = Version::new(alloc, Arc::new(alloc, base)?, 0)?;
     assert!(rt; version.len() <= ROW_LIMIT);
@@ -185,7 +195,7 @@ fn a_thousand_random_writes_answer_as_the_slow_program(rt: HostRuntime) -> Resul
     assert!(&rt; difference? == None);
     let entries = canonical_entries(alloc, &table, &effects)?;
     assert!(&rt; entries.len() > 10);
-    assert_entries(&rt, &parts.tree, entries.as_slice());
+    assert!(&rt; has_entries(&parts.tree, entries.as_slice()));
     assert_replies(&rt, parts.writes.as_slice());
     Ok(())
 }

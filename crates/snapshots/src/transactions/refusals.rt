@@ -4,6 +4,8 @@
 //! One growth of a run is refused under `rt try --test --fail-alloc N`, for N from 1 on. Where it is one of a write, the
 //! test ends well; where it is one of what the test makes for itself, the test ends with that error. What a transaction
 //! shows is compared cell by cell and takes no memory.
+ghost use Rattle.txn.specs.Marks.{GoesOn};
+
 use super::{answer, opened};
 use crate::assertions::assert_holds;
 use delta::ChangeRef;
@@ -199,13 +201,10 @@ fn is_shown(txn: &Txn, keys: &[Key], count: usize) -> bool {
 }
 
 /// Makes a write, and where a growth is refused makes it again: nothing has changed then. So many were made before it.
-fn make(
-    rt: &impl Abort,
-    txn: &mut Txn,
-    keys: &[Key],
-    count: usize,
-    (write, again): (Write, Write),
-) {
+fn make(rt: &impl Abort, txn: &mut Txn, keys: &[Key], count: usize, twice: (Write, Write))
+    ensures { GoesOn txn.old txn.new }
+{
+    let (write, again) = twice;
     let reply = match answer(txn, write) {
         Err(WriteFault::NoMemory) => {
             assert_holds(rt, is_shown(txn, keys, count), "a write that is refused");
@@ -247,10 +246,10 @@ fn planned(alloc: Global, number: usize) -> Result<Write, NoMemory> {
     }
 }
 
-/// Each of those writes twice.
-fn planned_twice(alloc: Global) -> Result<Vec<(Write, Write)>, NoMemory> {
+/// Each of those writes from a number on, twice.
+fn planned_twice(alloc: Global, from: usize) -> Result<Vec<(Write, Write)>, NoMemory> {
     let mut writes = Vec::new(alloc);
-    for number in 0..REPLIES.len() {
+    for number in from..REPLIES.len() {
         writes.push((planned(alloc, number)?, planned(alloc, number)?))?;
     }
     Ok(writes)
@@ -265,9 +264,17 @@ fn all_keys(alloc: Global) -> Result<Vec<Key>, NoMemory> {
     Ok(keys)
 }
 
-/// Makes the writes in turn, and looks at what is shown before and after each.
-fn make_all(rt: &impl Abort, txn: &mut Txn, keys: &[Key], writes: Vec<(Write, Write)>) {
-    let mut count = 0_usize;
+/// Makes the writes in turn, and looks at what is shown before and after each. So many were made before.
+fn make_all(
+    rt: &impl Abort,
+    txn: &mut Txn,
+    keys: &[Key],
+    before: usize,
+    writes: Vec<(Write, Write)>,
+)
+    ensures { GoesOn txn.old txn.new }
+{
+    let mut count = before;
     for made in writes {
         make(rt, txn, keys, count, made);
         count = count.wrapping_add(1);
@@ -280,11 +287,51 @@ fn a_refused_growth_changes_nothing_and_the_write_succeeds_again(
 ) -> Result<(), Fail> {
     let alloc = rt.alloc();
     let keys = all_keys(alloc)?;
-    let writes = planned_twice(alloc)?;
+    let writes = planned_twice(alloc, 0)?;
     let mut txn = opened(&rt, alloc, base_table(alloc)?)?;
-    make_all(&rt, &mut txn, keys.as_slice(), writes);
+    make_all(&rt, &mut txn, keys.as_slice(), 0, writes);
     let parts = txn.into_parts();
     assert!(&rt; parts.writes.len() == 8);
     assert!(&rt; parts.tree.len() == 3);
+    Ok(())
+}
+
+/// How many writes are made before the mark.
+const MARKED: usize = 2;
+
+/// Marks the transaction, makes the writes that are left, goes back, makes them once more, and goes back again. No call about
+/// the mark may want memory.
+fn back_and_again(
+    rt: &impl Abort,
+    txn: &mut Txn,
+    keys: &[Key],
+    (rest, again): (Vec<(Write, Write)>, Vec<(Write, Write)>),
+) {
+    let (Ok(mark), Ok(copied)) = (txn.mark(), txn.mark()) else {
+        return assert_holds(rt, false, "a mark that is refused");
+    };
+    make_all(rt, txn, keys, MARKED, rest);
+    txn.back_to(mark);
+    assert_holds(rt, is_shown(txn, keys, MARKED), "back at the mark");
+    make_all(rt, txn, keys, MARKED, again);
+    txn.back_to(copied);
+    assert_holds(rt, is_shown(txn, keys, MARKED), "back at the mark again");
+}
+
+#[test]
+fn going_back_takes_no_memory_and_undoes_what_followed(rt: HostRuntime) -> Result<(), Fail> {
+    let alloc = rt.alloc();
+    let keys = all_keys(alloc)?;
+    let first = vec![in alloc;
+        (planned(alloc, 0)?, planned(alloc, 0)?),
+        (planned(alloc, 1)?, planned(alloc, 1)?),
+    ]?;
+    let plans = (planned_twice(alloc, MARKED)?, planned_twice(alloc, MARKED)?);
+    let mut txn = opened(&rt, alloc, base_table(alloc)?)?;
+    make_all(&rt, &mut txn, keys.as_slice(), 0, first);
+    back_and_again(&rt, &mut txn, keys.as_slice(), plans);
+    let parts = txn.into_parts();
+    assert!(&rt; parts.writes.len() == MARKED);
+    assert!(&rt; parts.tree.len() == 1);
     Ok(())
 }
