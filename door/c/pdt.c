@@ -46,6 +46,9 @@ extern uint32_t pdtr_commit(handle *, handle *, uint64_t *);
 extern uint32_t pdtr_insert(handle *, const int64_t *, size_t, const uint8_t *, size_t);
 extern uint32_t pdtr_delete(handle *, const int64_t *, size_t, const uint8_t *, size_t);
 extern uint32_t pdtr_set(handle *, const int64_t *, size_t, const uint8_t *, size_t, size_t, int64_t, const uint8_t *, size_t);
+extern uint32_t pdtr_mark(handle *, size_t *);
+extern uint32_t pdtr_back_to(handle *, size_t);
+extern uint32_t pdtr_release(handle *, size_t);
 extern uint64_t pdtr_rows(handle *);
 extern uint32_t pdtr_rank(handle *, const int64_t *, size_t, const uint8_t *, size_t, uint64_t *, bool *);
 extern uint32_t pdtr_get(handle *, const int64_t *, size_t, const uint8_t *, size_t, int64_t *, size_t, uint8_t *, size_t, size_t *);
@@ -88,7 +91,7 @@ const char *pdt_text(int code) {
       "the transaction began before the commits that are kept",
       "the table has as many rows as its limit",
       "there is a row of the key",
-      "there is no such row",
+      "there is no such row or mark",
       "the cells don't fit the columns",
       "the text is no table",
       "a limit is outside its range",
@@ -251,6 +254,16 @@ int pdt_set(pdt_txn *txn, const int64_t *key, const void *texts, size_t bytes, s
   if (!text && len) return PDT_MISUSE;
   return (int)pdtr_set(&txn->raw, key, txn->store->key, bytes_at(texts, bytes), bytes, column, number, bytes_at(text, len), len);
 }
+
+/* ---- marks */
+
+int pdt_mark(pdt_txn *txn, size_t *level) {
+  if (!txn || !level) return PDT_MISUSE;
+  return (int)pdtr_mark(&txn->raw, level);
+}
+
+int pdt_back_to(pdt_txn *txn, size_t level) { return txn ? (int)pdtr_back_to(&txn->raw, level) : PDT_MISUSE; }
+int pdt_release(pdt_txn *txn, size_t level) { return txn ? (int)pdtr_release(&txn->raw, level) : PDT_MISUSE; }
 
 /* ---- reads */
 

@@ -32,6 +32,50 @@ bool cursors_are_open(const view *v) {
   return false;
 }
 
+/* The keys of the first and of the last row that a cursor has left. */
+typedef struct place {
+  key first, last;
+} place;
+
+static int key_at(session *s, uint64_t position, key *k) {
+  int code = pdt_row_at(s->view->txn, position, s->old, s->old_texts, s->text_room, NULL);
+  if (!code) key_of_row(s, s->old, s->old_texts, k);
+  return code;
+}
+
+static int place_read(session *s, const cursor *c, place *p) {
+  int code = key_at(s, c->low, &p->first);
+  return code ? code : key_at(s, c->high - 1, &p->last);
+}
+
+static int place_take(const view *v, cursor *c, const place *p) {
+  const key *low = &p->first, *high = &p->last;
+  bool has_first = false, has_last = false;
+  int code = pdt_rank(v->txn, low->numbers, low->texts, low->bytes, &c->low, &has_first);
+  if (!code) code = pdt_rank(v->txn, high->numbers, high->texts, high->bytes, &c->high, &has_last);
+  if (has_last) c->high++;
+  if (!(c->down ? has_last : has_first)) c->gone = true;
+  return code;
+}
+
+int cursors_go_back(session *s, size_t level) {
+  view *v = s->view;
+  size_t count = 0, i = 0;
+  int code = PDT_OK;
+  for (const cursor *c = v->cursors; c; c = c->next) count += c->low < c->high;
+  place *places = count ? sqlite3_malloc64(count * sizeof *places) : NULL;
+  if (count && !places) return PDT_NOMEM;
+  for (const cursor *c = v->cursors; c && !code; c = c->next)
+    if (c->low < c->high) code = place_read(s, c, &places[i++]);
+  if (!code) code = pdt_back_to(v->txn, level);
+  v->edits++;
+  i = 0;
+  for (cursor *c = v->cursors; c && !code; c = c->next)
+    if (c->low < c->high) code = place_take(v, c, &places[i++]);
+  sqlite3_free(places);
+  return code;
+}
+
 /* ---- reading */
 
 int x_open(sqlite3_vtab *base, sqlite3_vtab_cursor **out) {
@@ -93,6 +137,7 @@ int x_filter(sqlite3_vtab_cursor *base, int plan, const char *words, int argc, s
 
 int x_next(sqlite3_vtab_cursor *base) {
   cursor *c = (cursor *)base;
+  if (session_of(base->pVtab)->doomed) return refuse_doomed(base->pVtab);
   if (!c->view->txn) return is_over(base->pVtab);
   if (c->gone) c->gone = false;
   else if (c->down) c->high--;
@@ -176,6 +221,7 @@ int x_column(sqlite3_vtab_cursor *base, sqlite3_context *to, int column) {
   cursor *c = (cursor *)base;
   const session *s = session_of(base->pVtab);
   batch *b;
+  if (s->doomed) return refuse_doomed(base->pVtab);
   if (c->gone || sqlite3_vtab_nochange(to)) return SQLITE_OK;
   if (!c->view->txn) return is_over(base->pVtab);
   if ((size_t)column == s->width) return fail(base->pVtab, put_key(c, to));

@@ -43,10 +43,11 @@ struct session {
 
   view *view;         /* of the open transaction; null before its first read or write */
   uint64_t seen;      /* the connection's statements when the view was last entered */
-  bool writing;       /* between xBegin and xCommit or xRollback */
-  bool wrote;         /* whether the view has writes */
-  bool doomed;        /* whether SQLite wants some of them undone, and not all */
-  int depth, deepest; /* how many savepoints are open, and were at the deepest write that one of them may undo */
+  bool writing;  /* between xBegin and xCommit or xRollback */
+  bool wrote;    /* whether the view has writes */
+  bool doomed;   /* whether some of them had to be undone, and memory was refused for that */
+  size_t marks;  /* how many marks the view has: one for the begin, and one for each open savepoint */
+  size_t before; /* how many of these stand before the first write */
 
   int64_t row[PDT_MAX_COLUMNS], old[PDT_MAX_COLUMNS]; /* the row that is written, and the one in its place */
   char *row_texts, *old_texts;
@@ -89,6 +90,14 @@ void view_free(view *v);
 bool view_is_stale(const session *s);
 /* The position of a key, or the one past its row. One of the door's codes. */
 int view_position(view *v, const key *k, bool past, uint64_t *position);
+
+/* A mark of the view at this level, and at each lower one that has none. One of the door's codes. */
+int marks_make(session *s, size_t level);
+/* Forgets the mark of a level, and those after it. */
+void marks_release(session *s, size_t level);
+/* Goes back to the mark of a level, where there is one; cursors that are open keep their places. One of the door's
+   codes: where it is another than PDT_OK, only ROLLBACK is left. */
+int marks_back_to(session *s, size_t level);
 
 /* Told of each statement that begins: where no transaction is open, what an earlier one read is let go. */
 int statement_begins(unsigned what, void *context, void *statement, void *text);
@@ -171,6 +180,9 @@ int x_column(sqlite3_vtab_cursor *base, sqlite3_context *to, int column);
 bool cursors_are_open(const view *v);
 /* After a row was inserted at a position, or the one there was deleted. */
 void cursors_shift(view *v, uint64_t position, bool inserted);
+/* Goes back to a mark of the session's view. A cursor then has the rows between the first and the last that it had
+   left; where its current row is gone, the next one is current without a step. One of the door's codes. */
+int cursors_go_back(session *s, size_t level);
 
 /* ---- write.c */
 

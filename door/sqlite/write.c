@@ -44,12 +44,22 @@ static int put_cell(sqlite3_vtab *base, size_t column, sqlite3_value *value, int
   return SQLITE_OK;
 }
 
-/* After a write of the door: what it means for the other cursors, the savepoints and the commit. */
+/* After a write of the door: what it means for the other cursors and the commit. */
 static void wrote(session *s) {
   s->wrote = true;
   s->owner->writer = s;
   s->view->edits++;
-  if (s->depth > s->deepest) s->deepest = s->depth;
+}
+
+/* Several writes of one row are done all or none: they stand between these two. The second is handed their code, and
+   answers it. */
+static int whole_starts(session *s) { return marks_make(s, s->marks); }
+
+static int whole_ends(session *s, int code) {
+  size_t level = s->marks - 1;
+  if (code && marks_back_to(s, level)) code = PDT_NOMEM;
+  marks_release(s, level);
+  return code;
 }
 
 static int insert_row(session *s, size_t bytes) {
@@ -76,14 +86,13 @@ static int delete_row(session *s, const key *k) {
   return PDT_OK;
 }
 
-/* Deletes rows and inserts the one in s->row. Memory may be refused half-way: only ROLLBACK is left then. */
+/* Deletes rows and inserts the one in s->row. */
 static int replace_row(session *s, const key *const *olds, size_t count, size_t bytes) {
-  int code = PDT_OK;
-  size_t done = 0;
-  for (; done < count && !code; done++) code = delete_row(s, olds[done]);
+  int code = whole_starts(s);
+  if (code) return code;
+  for (size_t done = 0; done < count && !code; done++) code = delete_row(s, olds[done]);
   if (!code) code = insert_row(s, bytes);
-  if (code && done) s->doomed = s->wrote;
-  return code;
+  return whole_ends(s, code);
 }
 
 static int hidden(sqlite3_vtab *base) {
@@ -106,22 +115,28 @@ static int insert(sqlite3_vtab *base, sqlite3_value **values) {
   return fail(base, replace_row(s, &old, 1, bytes));
 }
 
+/* How many cells an UPDATE names, beside those of the key. */
+static size_t count_named(const session *s, sqlite3_value **values) {
+  size_t count = 0;
+  for (size_t column = s->keys; column < s->width; column++) count += !sqlite3_value_nochange(values[column]);
+  return count;
+}
+
 /* Sets the cells that an UPDATE names; their numbers and texts stand in s->row, in their order. */
 static int set_cells(session *s, const key *k, sqlite3_value **values) {
-  int code = PDT_OK;
-  bool some = false;
   const char *text = s->row_texts;
+  bool several = count_named(s, values) > 1;
+  int code = several ? whole_starts(s) : PDT_OK;
+  if (code) return code;
   for (size_t column = 0; column < s->width && !code; column++) {
     if (sqlite3_value_nochange(values[column])) continue;
     if (column >= s->keys) {
       code = pdt_set(s->view->txn, k->numbers, k->texts, k->bytes, column, s->row[column], text);
       if (!code) wrote(s);
-      if (code && some) s->doomed = true;
-      some = true;
     }
     if (type_of(s, column) == PDT_TEXT) text += s->row[column];
   }
-  return code;
+  return several ? whole_ends(s, code) : code;
 }
 
 /* Puts the whole new row into s->row: cells that an UPDATE doesn't name are those of the old one, in s->old. */
@@ -145,18 +160,19 @@ static int merge_row(sqlite3_vtab *base, sqlite3_value **values, size_t *bytes) 
   return SQLITE_OK;
 }
 
-/* Moves the row in s->old to another key. The new row is inserted first, so that nothing has changed where it is
-   refused; but after the deletes where the table is full, and where a row of the new key is replaced. */
+/* Moves the row in s->old to another key: inserts the new one, and deletes the old one. Where the table is full the old
+   one goes first, and so does a row of the new key that is replaced. */
 static int move_row(sqlite3_vtab *base, const key *from, const key *to, size_t bytes) {
   session *s = session_of(base);
   const key *olds[] = {from, to};
-  int code = insert_row(s, bytes);
+  int code = whole_starts(s);
+  if (code) return code;
+  code = insert_row(s, bytes);
+  if (!code) code = delete_row(s, from);
+  code = whole_ends(s, code);
   if (code == PDT_FULL) return replace_row(s, olds, 1, bytes);
   if (code == PDT_DUPLICATE && sqlite3_vtab_on_conflict(s->owner->db) == SQLITE_REPLACE)
     return replace_row(s, olds, 2, bytes);
-  if (code) return code;
-  code = delete_row(s, from);
-  if (code) s->doomed = true;
   return code;
 }
 

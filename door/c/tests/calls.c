@@ -124,6 +124,70 @@ static void writes(void) {
   pdt_close(store);
 }
 
+static long long qty_of(pdt_txn *txn, int64_t key) {
+  int64_t numbers[4];
+  char out[64];
+  is("get", PDT_OK, pdt_get(txn, &key, NULL, 0, numbers, out, sizeof out, NULL));
+  return (long long)numbers[3];
+}
+
+/* Marks nest; going back keeps the mark and drops those after it; a release keeps the writes; a commit has what is left. */
+static void marks(void) {
+  pdt_store *store = opened(NULL);
+  pdt_txn *txn = begun(store);
+  int64_t dee[] = {40, 3, 1, 4}, eve[] = {50, 3, 0, 5}, bob = 20, ann = 10;
+  size_t level = 9;
+  is("no mark", PDT_MISSING, pdt_back_to(txn, 0));
+  is("no mark", PDT_MISSING, pdt_release(txn, 0));
+  is("mark", PDT_OK, pdt_mark(txn, &level));
+  is("the first level", 0, (long long)level);
+  is("insert", PDT_OK, pdt_insert(txn, dee, "Dee", 3));
+  is("mark", PDT_OK, pdt_mark(txn, &level));
+  is("the second level", 1, (long long)level);
+  is("set", PDT_OK, pdt_set(txn, &bob, NULL, 0, 3, 22, NULL));
+  is("delete", PDT_OK, pdt_delete(txn, &ann, NULL, 0));
+  is("rows", 3, (long long)rows_of(txn));
+  is("back", PDT_OK, pdt_back_to(txn, 1));
+  is("rows", 4, (long long)rows_of(txn));
+  is("a set that is undone", 2, qty_of(txn, bob));
+  is("a delete that is undone", 1, qty_of(txn, ann));
+  is("insert", PDT_OK, pdt_insert(txn, eve, "Eve", 3));
+  is("back once more", PDT_OK, pdt_back_to(txn, 1));
+  is("rows", 4, (long long)rows_of(txn));
+  is("back where nothing was written", PDT_OK, pdt_back_to(txn, 1));
+  is("the older mark", PDT_OK, pdt_back_to(txn, 0));
+  is("rows", 3, (long long)rows_of(txn));
+  is("the younger one is gone", PDT_MISSING, pdt_back_to(txn, 1));
+  is("the younger one is gone", PDT_MISSING, pdt_release(txn, 1));
+  is("no such level", PDT_MISSING, pdt_back_to(txn, SIZE_MAX));
+  is("an insert that was undone", PDT_OK, pdt_insert(txn, dee, "Dee", 3));
+  is("mark", PDT_OK, pdt_mark(txn, &level));
+  is("its level", 1, (long long)level);
+  is("set", PDT_OK, pdt_set(txn, &bob, NULL, 0, 3, 7, NULL));
+  is("release", PDT_OK, pdt_release(txn, 0));
+  is("both are gone", PDT_MISSING, pdt_back_to(txn, 0));
+  is("the writes stay", 7, qty_of(txn, bob));
+  is("mark", PDT_OK, pdt_mark(txn, &level));
+  is("levels begin anew", 0, (long long)level);
+  is("delete", PDT_OK, pdt_delete(txn, &bob, NULL, 0));
+  is("back", PDT_OK, pdt_back_to(txn, 0));
+  is("mark of null", PDT_MISUSE, pdt_mark(NULL, &level));
+  is("mark to nowhere", PDT_MISUSE, pdt_mark(txn, NULL));
+  is("back of null", PDT_MISUSE, pdt_back_to(NULL, 0));
+  is("release of null", PDT_MISUSE, pdt_release(NULL, 0));
+  is("commit", PDT_OK, pdt_commit(txn, NULL));
+  pdt_sizes sizes;
+  is("size", PDT_OK, pdt_size(store, &sizes));
+  is("an insert and a set", 2, (long long)sizes.write_entries);
+  txn = begun(store);
+  is("rows", 4, (long long)rows_of(txn));
+  is("what was committed", 7, qty_of(txn, bob));
+  is("mark", PDT_OK, pdt_mark(txn, &level));
+  is("an end with a mark", PDT_OK, pdt_insert(txn, eve, "Eve", 3));
+  pdt_abort(txn);
+  pdt_close(store);
+}
+
 static void commits(void) {
   pdt_options one = {1, 0, false};
   pdt_store *store = opened(&one);
@@ -358,6 +422,7 @@ int main(int argc, char **argv) {
   texts();
   openings();
   writes();
+  marks();
   commits();
   reads();
   scans();

@@ -38,6 +38,14 @@ static int run(void) {
     CALL(pdt_insert(txn, (int64_t[]){2 * i + 100, 4, i}, "text", 4));
     CALL(pdt_set(txn, (int64_t[]){3}, NULL, 0, 2, i, NULL));
     CALL(pdt_set(txn, (int64_t[]){1}, NULL, 0, 1, 3, "new"));
+    size_t level;
+    CALL(pdt_mark(txn, &level));
+    CALL(pdt_insert(txn, (int64_t[]){2 * i + 101, 4, 1000}, "text", 4));
+    CALL(pdt_set(txn, (int64_t[]){3}, NULL, 0, 2, 1000, NULL));
+    CALL(pdt_back_to(txn, level));
+    CALL(pdt_delete(txn, (int64_t[]){1}, NULL, 0));
+    CALL(pdt_back_to(txn, level));
+    CALL(pdt_release(txn, level));
     if (i == 7) CALL(pdt_delete(txn, (int64_t[]){5}, NULL, 0));
     CALL(pdt_commit(txn, NULL));
     if (i % 4 == 3) CALL(pdt_fold(store));
@@ -61,5 +69,6 @@ int main(int argc, char **argv) {
     left = -1;
   }
   printf("%ld allocations refused, %ld answered\n", refused, answered);
-  return refused == most && answered > most * 9 / 10 ? 0 : 1;
+  /* a node that can't be grown in place is made anew, so that not each refusal is answered */
+  return refused == most && answered > most * 4 / 5 ? 0 : 1;
 }

@@ -20,6 +20,8 @@ BLOCKS = [  # each as one: all of its statements, or none
     ["UPDATE OR REPLACE t SET id = 15 WHERE id = 18"],
     ["DELETE FROM t WHERE id > 60 AND id < 1000"],
     ["BEGIN", "DELETE FROM t WHERE id = 21", "INSERT INTO t VALUES (21, 't', '', 0)", "UPDATE t SET qty = 7", "COMMIT"],
+    ["SAVEPOINT a", "UPDATE t SET qty = 8", "SAVEPOINT b", "REPLACE INTO t VALUES (3, 's', '', 3)",
+     "DELETE FROM t WHERE id > 9", "ROLLBACK TO b", "UPDATE t SET name = 'y', qty = 9 WHERE id > 30", "RELEASE a"],
 ]
 READS = ["SELECT * FROM t ORDER BY id DESC, slot DESC", "SELECT sum(qty) FROM t WHERE id > 20", "SELECT pdt_fold('t')"]
 
