@@ -96,6 +96,10 @@ unsafe extern "C" {
         text: *const c_void,
     ) -> c_int;
 
+    pub fn pdt_mark(txn: *mut Txn, level: *mut usize) -> c_int;
+    pub fn pdt_back_to(txn: *mut Txn, level: usize) -> c_int;
+    pub fn pdt_release(txn: *mut Txn, level: usize) -> c_int;
+
     pub fn pdt_rows(txn: *mut Txn, rows: *mut u64) -> c_int;
     pub fn pdt_rank(
         txn: *mut Txn,

@@ -106,11 +106,13 @@ mod batch;
 mod cells;
 mod error;
 mod ffi;
+mod marks;
 mod store;
 mod transaction;
 
 pub use batch::{Batch, Batches, Ints, Piece, Texts, Values};
 pub use cells::{Cell, CellRef, Row};
 pub use error::{CommitError, Error};
+pub use marks::Mark;
 pub use store::{Column, ColumnType, ConflictRule, Options, Sizes, Store};
 pub use transaction::{Rank, Transaction};

@@ -2,10 +2,11 @@
 use crate::batch::{Batch, Batches};
 use crate::cells::{Passed, filled, row_of};
 use crate::error::done;
+use crate::marks::{Mark, Marks};
 use crate::{CellRef, CommitError, Error, Row, Store, ffi};
 use std::ffi::{c_int, c_void};
 use std::fmt;
-use std::mem::ManuallyDrop;
+use std::mem::{ManuallyDrop, take};
 use std::ops::{Bound, RangeBounds};
 use std::ptr::NonNull;
 
@@ -30,6 +31,7 @@ pub struct Rank {
 pub struct Transaction<'s> {
     raw: NonNull<ffi::Txn>,
     store: &'s Store,
+    marks: Marks,
 }
 
 // SAFETY: a `pdt_txn` is used by one thread at a time, whichever that is: it isn't `Sync`, so no two threads have it.
@@ -41,7 +43,7 @@ impl<'s> Transaction<'s> {
     /// # Safety
     /// `raw` is open, a transaction over this store, and nobody else has it.
     pub(crate) unsafe fn adopt(raw: NonNull<ffi::Txn>, store: &'s Store) -> Transaction<'s> {
-        Transaction { raw, store }
+        Transaction { raw, store, marks: Marks::default() }
     }
 
     pub(crate) fn raw(&self) -> *mut ffi::Txn {
@@ -67,15 +69,19 @@ impl<'s> Transaction<'s> {
     /// # Ok::<(), Error>(())
     /// ```
     pub fn commit(self) -> Result<u64, CommitError<'s>> {
-        let open = ManuallyDrop::new(self);
+        let mut open = ManuallyDrop::new(self);
         let mut number = 0;
         // SAFETY: the transaction is open; unless the answer is NOMEM it is over, and nothing uses it any more.
-        match unsafe { ffi::pdt_commit(open.raw(), &mut number) } {
+        let code = unsafe { ffi::pdt_commit(open.raw(), &mut number) };
+        if code == ffi::NOMEM {
+            return Err(CommitError::NoMemory(ManuallyDrop::into_inner(open)));
+        }
+        drop(take(&mut open.marks));
+        match code {
             ffi::OK => Ok(number),
             ffi::CONFLICT => Err(CommitError::Conflict(number)),
             ffi::TOO_OLD => Err(CommitError::TooOld(number)),
             ffi::FULL => Err(CommitError::Full(number)),
-            ffi::NOMEM => Err(CommitError::NoMemory(ManuallyDrop::into_inner(open))),
             code => unreachable!("no commit answers {code}"),
         }
     }
@@ -112,6 +118,48 @@ impl<'s> Transaction<'s> {
         // SAFETY: the transaction is open; there are as many numbers as key columns, and as many bytes as is said; of a
         // text column the cell is a text, whose number is how many bytes it has.
         done(unsafe { ffi::pdt_set(self.raw(), key.numbers(), key.texts(), key.bytes(), column, number, text) })
+    }
+
+    /// Marks the transaction as it stands, to go back to. Marks nest: each is younger than those before it.
+    /// [`Error::NoMemory`].
+    ///
+    /// ```
+    /// use narthexmace::{Error, Options, Store};
+    /// let store = Store::open("id:int:key,qty:int\n10,7\n20,2\n", &Options::default())?;
+    /// let mut txn = store.begin(1)?;
+    /// txn.set([10], 1, 5)?;
+    /// let mark = txn.mark()?;
+    /// txn.delete([20])?;
+    /// txn.back_to(&mark)?; // the delete was never asked for
+    /// assert_eq!(2, txn.rows());
+    /// # Ok::<(), Error>(())
+    /// ```
+    pub fn mark(&mut self) -> Result<Mark, Error> {
+        self.marks.reserve()?;
+        let mut level = 0;
+        // SAFETY: the transaction is open.
+        done(unsafe { ffi::pdt_mark(self.raw(), &mut level) })?;
+        Ok(self.marks.push(level))
+    }
+
+    /// Undoes the writes since a mark, as if they had never been asked for. The mark stays, and those after it are gone.
+    /// It takes no memory. [`Error::Missing`] of a mark that is gone, or of another transaction: nothing changes.
+    pub fn back_to(&mut self, mark: &Mark) -> Result<(), Error> {
+        let level = self.marks.level(mark)?;
+        // SAFETY: the transaction is open.
+        done(unsafe { ffi::pdt_back_to(self.raw(), level) })?;
+        self.marks.truncate(level + 1);
+        Ok(())
+    }
+
+    /// Forgets a mark and those after it; the writes stay. It takes no memory. [`Error::Missing`] as of
+    /// [`back_to`](Transaction::back_to).
+    pub fn release(&mut self, mark: Mark) -> Result<(), Error> {
+        let level = self.marks.level(&mark)?;
+        // SAFETY: the transaction is open.
+        done(unsafe { ffi::pdt_release(self.raw(), level) })?;
+        self.marks.truncate(level);
+        Ok(())
     }
 
     /// How many rows there are.

@@ -75,6 +75,28 @@ fn cells_that_do_not_fit_are_refused() {
 }
 
 #[test]
+fn marks_that_are_gone_are_missing() {
+    let store = opened(&Options::default());
+    let (mut txn, mut other) = (store.begin(1).unwrap(), store.begin(2).unwrap());
+    let (older, younger, stranger) = (txn.mark().unwrap(), txn.mark().unwrap(), other.mark().unwrap());
+    txn.delete([10]).unwrap();
+    assert_eq!(Err(Error::Missing), txn.back_to(&stranger));
+    assert_eq!(Err(Error::Missing), other.back_to(&younger));
+    assert_eq!(Ok(()), txn.back_to(&older));
+    assert_eq!(3, txn.rows());
+    assert_eq!(Err(Error::Missing), txn.back_to(&younger));
+    let again = txn.mark().unwrap(); // at the level of the younger one
+    assert_eq!(Err(Error::Missing), txn.release(younger));
+    txn.delete([10]).unwrap();
+    assert_eq!(Ok(()), txn.release(older));
+    assert_eq!(Err(Error::Missing), txn.back_to(&again));
+    assert_eq!(2, txn.rows());
+    txn.mark().unwrap();
+    assert_eq!(1, txn.commit().unwrap());
+    assert_eq!(2, store.begin(1).unwrap().rows());
+}
+
+#[test]
 fn commits_are_refused() {
     let store = opened(&Options { recent: 1, row_limit: 4, conflicts: ConflictRule::ByRow });
     let begin = || store.begin(1).unwrap();

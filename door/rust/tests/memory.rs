@@ -112,9 +112,10 @@ impl Run {
 }
 
 const TABLE: &str = "id:int:key,name:text,ok:bool,qty:int\n10,Ann,false,1\n20,Bob,true,2\n30,Cid,true,3\n";
-const CALLS: [&str; 13] = [
+const CALLS: [&str; 14] = [
     "open",
     "begin",
+    "mark",
     "insert",
     "set",
     "delete",
@@ -134,6 +135,12 @@ fn rows_of(store: &Store) -> Vec<Row> {
 }
 
 fn write(run: &mut Run, txn: &mut Transaction<'_>, long: &str) {
+    run.made("delete", || txn.delete([10]));
+    run.made("insert", || txn.insert(cells![10, "Ann", false, 1]));
+    let mark = run.made("mark", || txn.mark());
+    run.made("insert", || txn.insert(cells![25, long, true, 5]));
+    run.made("set", || txn.set([30], 1, long));
+    run.counted(|| txn.back_to(&mark)).unwrap(); // takes no memory
     run.made("insert", || txn.insert(cells![15, long, true, 5]));
     run.made("set", || txn.set([10], 1, long));
     run.made("delete", || txn.delete([20]));
@@ -217,6 +224,10 @@ fn what_is_dropped_is_freed() {
     assert_eq!(opened, LIVE.get());
     let mut txn = store.begin(1).unwrap();
     txn.delete([10]).unwrap();
+    let mark = txn.mark().unwrap();
+    txn.insert(cells![15, "Dee", true, 5]).unwrap();
+    txn.back_to(&mark).unwrap();
+    txn.mark().unwrap();
     txn.commit().unwrap();
     drop(store);
     assert_eq!(before, LIVE.get());

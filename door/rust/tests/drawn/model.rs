@@ -26,6 +26,7 @@ impl Effect {
 }
 
 /// A transaction: the commits before it, the table as it sees it, and what it did to each key.
+#[derive(Clone)]
 pub struct Open {
     begun: usize,
     pub table: Table,

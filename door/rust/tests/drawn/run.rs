@@ -1,6 +1,6 @@
 //! A run: calls drawn from a seed, made of a store and of the model.
 use crate::model::{Cells, Model, Open, Refusal, Rules};
-use narthexmace::{Cell, CommitError, ConflictRule, Error, Options, Rank, Row, Store, Transaction, Values};
+use narthexmace::{Cell, CommitError, ConflictRule, Error, Mark, Options, Rank, Row, Store, Transaction, Values};
 use std::collections::BTreeMap;
 use std::{env, fs, process};
 
@@ -9,11 +9,14 @@ const CLIENTS: usize = 4;
 const NUMBERS: [usize; 2] = [3, 40];
 
 /// The replies that some call of many runs gets.
-pub const REPLIES: [&str; 12] = [
+pub const REPLIES: [&str; 15] = [
     "Done",
     "Duplicate",
     "Missing",
     "Full",
+    "Marked",
+    "WentBack",
+    "Released",
     "Committed",
     "Conflict",
     "TooOld",
@@ -92,10 +95,11 @@ fn csv_of<'a>(head: &str, rows: impl Iterator<Item = &'a Cells>) -> String {
     rows.fold(format!("{head}\n"), |text, row| text + &line(row))
 }
 
-/// A client's transaction, in the store and in the model.
+/// A client's transaction, in the store and in the model, and its marks, each with what the model had then.
 struct Client<'s> {
     txn: Transaction<'s>,
     open: Open,
+    marks: Vec<(Mark, Open)>,
 }
 
 /// Compares a reply with the model's, and names it.
@@ -155,7 +159,7 @@ impl<'s> Run<'s> {
     }
 
     fn begin(&self, client: usize) -> Client<'s> {
-        Client { txn: self.store.begin(client as u32).unwrap(), open: self.model.begin() }
+        Client { txn: self.store.begin(client as u32).unwrap(), open: self.model.begin(), marks: Vec::new() }
     }
 
     fn write(&mut self, client: &mut Client<'_>) -> &'static str {
@@ -176,6 +180,23 @@ impl<'s> Run<'s> {
                 written(wanted, client.txn.set(&key, column, &cell))
             }
         }
+    }
+
+    fn mark(&mut self, client: &mut Client<'_>) -> &'static str {
+        if client.marks.is_empty() || self.draw.below(3) == 0 {
+            client.marks.push((client.txn.mark().unwrap(), client.open.clone()));
+            return "Marked";
+        }
+        let level = self.draw.below(client.marks.len());
+        if self.draw.below(4) == 0 {
+            let released = client.marks.drain(level..).next().unwrap();
+            client.txn.release(released.0).unwrap();
+            return "Released";
+        }
+        client.txn.back_to(&client.marks[level].0).unwrap();
+        client.open = client.marks[level].1.clone();
+        client.marks.truncate(level + 1);
+        "WentBack"
     }
 
     fn read(&mut self, client: &Client<'_>) -> &'static str {
@@ -257,7 +278,8 @@ impl<'s> Run<'s> {
             }
             13..=39 => return "Aborted", // dropped
             40..=139 => return self.commit(client),
-            140..=599 => self.write(&mut client),
+            140..=559 => self.write(&mut client),
+            560..=639 => self.mark(&mut client),
             _ => self.read(&client),
         };
         clients[at] = Some(client);
