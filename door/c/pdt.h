@@ -39,7 +39,7 @@ enum pdt_code {
   PDT_TOO_OLD = 3,        /* more commits since it began than are kept, or a cut; the transaction is over */
   PDT_FULL = 4,           /* the table would have more rows than its limit */
   PDT_DUPLICATE = 5,      /* there is a row of the key */
-  PDT_MISSING = 6,        /* there is no row of the key, none at the position, or no mark of the level */
+  PDT_MISSING = 6,        /* there is no row of the key, none at the position, or no such mark */
   PDT_SHAPE = 7,          /* the cells don't fit the columns: their number, a type, UTF-8, a text above 4,096 bytes, a key
                              column that would be set, bytes left over */
   PDT_BAD_TABLE = 8,      /* the text is no table */
@@ -151,7 +151,7 @@ int pdt_set(pdt_txn *txn, const int64_t *key, const void *texts, size_t bytes, s
 int pdt_mark(pdt_txn *txn, size_t *level);
 
 /* Undoes the writes since the mark of a level, as if they had never been asked for: a commit records none of them. The mark
-   stays, and those after it are gone. It counts as a write for what pdt_pieces has handed out.
+   stays, and those after it are gone. What pdt_pieces has handed out may be read on.
    PDT_MISSING where there is no mark of the level, PDT_MISUSE: nothing changed.
    It takes no memory. PDT_NOMEM would say that one tree has 2^64 owners. */
 int pdt_back_to(pdt_txn *txn, size_t level);

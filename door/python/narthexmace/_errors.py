@@ -58,7 +58,7 @@ class Duplicate(Error):
 
 
 class Missing(Error, LookupError):
-    """There is no row of the key."""
+    """There is no row of the key, or no savepoint any more."""
 
     code = 6
 

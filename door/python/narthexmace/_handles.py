@@ -3,8 +3,9 @@ from __future__ import annotations
 
 import threading
 import weakref
+from contextlib import contextmanager
 from ctypes import byref, c_void_p
-from typing import Any, List, Optional, Tuple
+from typing import Any, Iterator, List, Optional, Tuple
 
 from ._errors import Lent, Misuse, check
 from ._library import library
@@ -118,6 +119,15 @@ class TransactionHandle:
 
     def __exit__(self, *_: object) -> None:
         self._lock.release()
+
+    @contextmanager
+    def keeping(self) -> Iterator[Optional[int]]:
+        """A call that moves nothing of what was lent, and leaves it alone. None where the transaction is over."""
+        self._take_lock()
+        try:
+            yield None if self._address is None else self._address.room.value
+        finally:
+            self._lock.release()
 
     def _take_lock(self) -> None:
         if not self._lock.acquire(blocking=False):

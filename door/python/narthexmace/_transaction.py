@@ -3,6 +3,7 @@ from __future__ import annotations
 
 import ctypes
 import operator
+from contextlib import contextmanager
 from ctypes import byref, c_bool, c_int64, c_size_t, c_uint64
 from types import TracebackType
 from typing import TYPE_CHECKING, Any, Callable, Iterator, List, Mapping, NamedTuple, Optional, Sequence, Tuple, Type
@@ -117,6 +118,32 @@ class Transaction:
         with self._handle as at:
             check(library.pdt_set(at, numbers, texts, count, place, number, text))
             self._writes += 1
+
+    @contextmanager
+    def savepoint(self) -> Iterator[None]:
+        """A block whose writes are undone where an exception leaves it. The exception goes on; the transaction is open.
+
+        Blocks nest. A scan that began before writes were undone ends with Misuse, as after a write. Where the block
+        itself commits or aborts the transaction, nothing is undone. NoMemory.
+        """
+        level = c_size_t()
+        with self._handle as at:
+            check(library.pdt_mark(at, byref(level)))
+        try:
+            yield
+        except BaseException:
+            self._end_savepoint(level.value, undo=True)
+            raise
+        self._end_savepoint(level.value, undo=False)
+
+    def _end_savepoint(self, level: int, undo: bool) -> None:
+        with self._handle.keeping() as at:
+            if at is None:
+                return
+            if undo:
+                check(library.pdt_back_to(at, level))
+                self._writes += 1
+            check(library.pdt_release(at, level))
 
     # ---- reads of rows
 

@@ -96,6 +96,14 @@ class Client:
         self.rows[key] = row
         return "Done"
 
+    # ---- going back
+
+    def saved(self) -> Tuple[Dict[Key, Row], Dict[Key, Effect]]:
+        return dict(self.rows), dict(self.effects)
+
+    def go_back(self, saved: Tuple[Dict[Key, Row], Dict[Key, Effect]]) -> None:
+        self.rows, self.effects = saved
+
     # ---- reads
 
     def keys(self) -> List[Key]:

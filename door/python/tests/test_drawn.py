@@ -87,8 +87,9 @@ class Run:
             return "begin", True, self.open[number][0].is_open
         txn, client = self.open[number]
         name = self.draw.choices(
-            ["insert", "delete", "set", "get", "rank", "at", "len", "slice", "scan", "pieces", "commit", "abort"],
-            [6, 5, 8, 4, 3, 2, 1, 2, 2, 2, 4, 1],
+            ["insert", "delete", "set", "get", "rank", "at", "len", "slice", "scan", "pieces", "savepoint"]
+            + ["commit", "abort"],
+            [6, 5, 8, 4, 3, 2, 1, 2, 2, 2, 4, 4, 1],
         )[0]
         if name in ("commit", "abort"):
             del self.open[number]
@@ -126,6 +127,22 @@ class Run:
         key, place = self.key(client), self.draw.randrange(self.key_columns, len(self.types))
         cell = self.cell(place)
         return reply(lambda: txn.set(key, self.names[place], cell)), client.set(key, place, cell)
+
+    def do_savepoint(self, txn: narthexmace.Transaction, client: model.Client) -> Tuple[Any, Any]:
+        """A block of writes, in which other blocks may be; an exception leaves each second one."""
+        saved, answers = client.saved(), []
+        try:
+            with txn.savepoint():
+                for _ in range(self.draw.randrange(4)):
+                    name = self.draw.choice(["insert", "insert", "delete", "set", "set", "savepoint"])
+                    answers.append(getattr(self, f"do_{name}")(txn, client))
+                if self.draw.random() < 0.5:
+                    raise Undone
+        except Undone:
+            client.go_back(saved)
+        rows = client.image()
+        answers.append((txn[:], rows) if len(rows) < 100 else (len(txn), len(rows)))
+        return [got for got, _ in answers], [due for _, due in answers]
 
     def do_get(self, txn: narthexmace.Transaction, client: model.Client) -> Tuple[Any, Any]:
         key = self.key(client)
@@ -181,6 +198,10 @@ class Run:
             txn.abort()
         with self.store, self.store.begin() as txn:
             return list(txn)
+
+
+class Undone(Exception):
+    """Leaves a block whose writes are undone."""
 
 
 def reply(call: Callable[[], None]) -> str:

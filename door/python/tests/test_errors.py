@@ -307,6 +307,75 @@ class Openings(Case):
         self.assertIn("/no/libpdt.so", told.stderr)
 
 
+class Savepoints(Case):
+    """Blocks of writes that are undone, or stay."""
+
+    def test_an_exception_undoes_its_block_and_goes_on(self) -> None:
+        with self.store.begin() as txn:
+            txn.set(10, "qty", 5)
+            with self.assertRaises(narthexmace.Duplicate), txn.savepoint():
+                txn.delete(20)
+                txn.insert((30, "Cid", 1, True))
+                txn.insert((10, "Ann", 1, True))
+            self.assertEqual([row[0] for row in txn], [10, 20])
+            self.assertEqual(txn.get(10)[2], 5)
+            with txn.savepoint():
+                txn.delete(20)
+        self.assertEqual(txn.is_open, False)
+        with self.store.begin() as txn:
+            self.assertEqual([row[0] for row in txn], [10])
+            self.assertEqual(self.store.sizes().write_entries, 2)  # what was undone left nothing
+
+    def test_blocks_nest(self) -> None:
+        with self.store.begin() as txn:
+            with self.assertRaises(ZeroDivisionError), txn.savepoint():
+                txn.delete(10)
+                with self.assertRaises(ZeroDivisionError), txn.savepoint():
+                    txn.delete(20)
+                    1 / 0
+                self.assertEqual(len(txn), 1)
+                with txn.savepoint():
+                    txn.delete(20)
+                self.assertEqual(len(txn), 0)
+                1 / 0
+            self.assertEqual(txn[:], ROWS)
+
+    def test_an_end_in_a_block(self) -> None:
+        for end in (narthexmace.Transaction.abort, narthexmace.Transaction.commit):
+            txn = self.store.begin()
+            with txn.savepoint():
+                end(txn)
+            txn = self.store.begin()
+            with self.assertRaises(ZeroDivisionError), txn.savepoint():
+                end(txn)
+                1 / 0
+        self.assertEqual(self.store.sizes().open_transactions, 0)
+
+    def test_what_is_lent_does_not_keep_writes(self) -> None:
+        with self.store.begin() as txn:
+            with self.assertRaises(ZeroDivisionError), txn.savepoint():
+                txn.delete(20)
+                lent = memoryview(txn.pieces("qty")[0])
+                1 / 0
+            self.assertEqual(lent.tolist(), [ROWS[0][2]])
+            lent.release()
+            self.assertEqual(txn[:], ROWS)
+
+    def test_a_scan_ends_where_writes_are_undone(self) -> None:
+        with self.store.begin() as txn:
+            with self.assertRaises(ZeroDivisionError), txn.savepoint():
+                txn.delete(10)
+                batches = txn.scan(batch=1)
+                1 / 0
+            self.refused(narthexmace.Misuse, next, batches)
+
+    def test_a_savepoint_that_is_refused(self) -> None:
+        with self.store.begin() as txn:
+            with mock.patch.object(_transaction.library, "pdt_mark", lambda *_: narthexmace.NoMemory.code):
+                self.refused(narthexmace.NoMemory, txn.savepoint().__enter__)
+            self.assertEqual(txn[:], ROWS)
+
+
 class Ends(Case):
     """What is over, closed, or in use by another thread."""
 
@@ -323,6 +392,7 @@ class Ends(Case):
             lambda: list(txn),
             lambda: txn.scan(),
             lambda: txn.pieces("qty"),
+            lambda: txn.savepoint().__enter__(),
             lambda: txn.commit(),
         ]
 
