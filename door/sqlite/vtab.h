@@ -47,7 +47,8 @@ struct session {
   bool wrote;    /* whether the view has writes */
   bool doomed;   /* whether some of them had to be undone, and memory was refused for that */
   size_t marks;  /* how many marks the view has: one for the begin, and one for each open savepoint */
-  size_t before; /* how many of these stand before the first write */
+  size_t first;  /* how many of these stand before the first write */
+  size_t last;   /* from this level on no mark has a write after it */
 
   int64_t row[PDT_MAX_COLUMNS], old[PDT_MAX_COLUMNS]; /* the row that is written, and the one in its place */
   char *row_texts, *old_texts;

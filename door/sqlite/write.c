@@ -49,6 +49,7 @@ static void wrote(session *s) {
   s->wrote = true;
   s->owner->writer = s;
   s->view->edits++;
+  s->last = s->marks;
 }
 
 /* Several writes of one row are done all or none: they stand between these two. The second is handed their code, and
