@@ -10,6 +10,7 @@ mod RangeLemmas
 mod StretchLemmas
 mod KeyLemmas
 mod TableLemmas
+mod RunLemmas
 mod ColumnsLemmas
 mod BetweenLemmas
 mod KeyRowLemmas

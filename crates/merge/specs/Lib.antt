@@ -7,3 +7,4 @@ pub mod Left
 pub mod Fitting
 pub mod KeyRow
 pub mod Columns
+pub mod Runs

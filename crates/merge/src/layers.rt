@@ -4,11 +4,13 @@ ghost use Rattle.std.specs.Option.{option_map};
 ghost use Rattle.model.specs.Table.{IsTable, rank, row_at};
 ghost use Rattle.merge.specs.Image.{image_rows, image_table};
 ghost use Rattle.merge.specs.View.{row_of};
+ghost use Rattle.stable.specs.Rows.{column_at};
 
 use crate::cursor::Cursor;
 use crate::image::{CommittedRows, Image};
 use crate::key_row::{find_in, find_over};
 use crate::level::{Level, StableRows, grown, locate_over};
+use crate::runs::ColumnRuns;
 use crate::scan::{MergeScan, Stretches};
 use crate::view::{Layer, RowView};
 use delta::DeltaTree;
@@ -154,6 +156,15 @@ impl<'a> Layers<'a> {
         ensures { result ≡ drop from (take to (image_rows self.now)) }
     {
         MergeScan::new(self.stable, self.stretches(from, to))
+    }
+
+    /// The values of a column in those rows, run by run: where stable rows stand together, each block's part of them as it
+    /// lies. No memory is taken.
+    pub fn column_runs(&self, col: usize, from: u64, to: u64) -> ColumnRuns<'a>
+        requires { col < length self.now.schema.types }
+        ensures { result ≡ column_at self.now.schema.types (drop from (take to (image_rows self.now))) col }
+    {
+        ColumnRuns::new(self.stable.column(col), col, self.stretches(from, to))
     }
 
     /// How many rows have a key below this one, and whether a row has the key: by halving in the stable table and one descent

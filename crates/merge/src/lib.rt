@@ -2,7 +2,8 @@
 //! (Héman et al. 2010, "MergeScan"). Everything is lent; no call but the copy of a row takes memory.
 //!
 //! *What a contract sees.* Layers are the schema, the stable rows and the entries of three trees; the image is what each
-//! tree in turn makes of the rows below it. A view is its row, a scan the rows that are left, and so are stretches.
+//! tree in turn makes of the rows below it. A view is its row, a scan the rows that are left, and so are stretches; the
+//! runs of a column are its type and the values that are left.
 //!
 //! *What it stands on.* `stable` for the rows, `delta` for the trees, `model` for what merged rows are.
 #![tactic(auto)]
@@ -12,6 +13,8 @@ mod image;
 mod key_row;
 mod layers;
 mod level;
+mod run;
+mod runs;
 mod scan;
 mod stretch;
 mod table;
@@ -19,6 +22,8 @@ mod view;
 
 pub use layers::Layers;
 pub use level::grown;
+pub use run::{Run, TextRun, TruthRun};
+pub use runs::ColumnRuns;
 pub use scan::{MergeScan, Stretches};
 pub use stretch::{StableStretch, Stretch};
 pub use view::RowView;

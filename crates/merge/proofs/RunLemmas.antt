@@ -1,0 +1,85 @@
+-- Runs of a column, and what is left past them.
+use Rattle.std.proofs.Common.{◌≡◌, ℕ, zero, suc, ◌+◌, ◌-◌, ◌*◌, ◌/◌, ◌%◌, ◌<◌, ◌≤◌, Bool, true, false, T, Option, Some, None, List, [], ◌∷◌, ◌++◌, length, map, take, drop, get_or, refl, sym, ap, ◌∙◌, arith}
+use Rattle.std.specs.Prelude.{is_none}
+use Rattle.std.specs.List.{All, list_all}
+use Rattle.std.proofs.Math.Seq.{take-add}
+use Rattle.std.proofs.lemmas.List.{drop-drop, drop-take, take-take, take-map, drop-map, map-append}
+use Rattle.values.specs.Shape.{Columns, row_fault, fits_schema}
+use Rattle.values.specs.declared.fault.ShapeFault.{ShapeFault}
+use Rattle.values.specs.declared.row.Row.{Row}
+use Rattle.values.specs.declared.value.ColumnType.TheVariants as column
+use Rattle.values.specs.declared.value.Value.{Value}
+use Rattle.values.specs.declared.value.Value.TheVariants.{Bool as Truth}
+use Rattle.model.specs.Table.{table_of, IsTable}
+use Rattle.model.proofs.CallerLemmas.{first, second}
+use Rattle.stable.specs.Rows.{column_values}
+use Rattle.stable.proofs.CallerLemmas.{fit_at, width_of}
+use Rattle.merge.specs.Fitting.{StandsAt}
+use Rattle.merge.specs.Runs.{part_values}
+use Rattle.merge.specs.declared.run.ColumnPart.{ColumnPart}
+
+-- a run of the block that has a place is a run of the values from there on
+pub run_in_block : (values : List Value) (at run : ℕ) → at % 1024 + run ≤ 1024 → take run (drop (at % 1024) (take 1024 (drop (1024 * (at / 1024)) values))) ≡ take run (drop at values)
+run_in_block values at run fits =
+    let q = at / 1024 in
+    let r = at % 1024 in
+    let left = 1024 - r in
+    let cut : 1024 ≡ r + left = omega arith in
+    let here : 1024 * q + r ≡ at = omega arith in
+    ap (λ n. take run (drop r (take n (drop (1024 * q) values)))) cut
+    ∙ ap (take run) (drop-take r left (drop (1024 * q) values))
+    ∙ take-take run left (drop r (drop (1024 * q) values)) (omega (arith, fits))
+    ∙ ap (take run) (drop-drop r (1024 * q) values ∙ ap (λ n. drop n values) here)
+
+-- the first of so many values, and the others
+pub part_next : (values : List Value) (first count n : ℕ) → n ≤ count
+    → take count (drop first values) ≡ take n (drop first values) ++ take (count - n) (drop (first + n) values)
+part_next values first count n le =
+    let is : count ≡ n + (count - n) = omega (arith, le) in
+    ap (λ m. take m (drop first values)) is
+    ∙ take-add n (count - n) (drop first values)
+    ∙ ap (λ rest. take n (drop first values) ++ take (count - n) rest) (drop-drop n first values)
+
+-- a run of items that stand for values is a run of these
+pub run_mapped : {X : Type 0} (f : X → Value) (xs : List X) (values : List Value) (first count n : ℕ) → map f xs ≡ values → n ≡ count
+    → map f (take n (drop first xs)) ≡ take count (drop first values)
+run_mapped f xs values first count n is same =
+    sym (ap (take n) (drop-map f first xs) ∙ take-map f n (drop first xs))
+    ∙ ap (λ m. take m (drop first (map f xs))) same
+    ∙ ap (λ vs. take count (drop first vs)) is
+
+-- ---- the next stretch, where nothing is left of the one before
+
+pub nothing_left : (part : ColumnPart) → part.count ≤ 0 → part_values part ≡ []
+nothing_left part none = let is : part.count ≡ 0 = omega (arith, none) in ap (λ n. take n (drop part.first part.column.now.values)) is
+
+pub values_next : (col : ℕ) (part : ColumnPart) (own rest all : List Row) (values : List Value) → part.count ≤ 0 → all ≡ own ++ rest
+    → values ≡ column_values col own → part_values part ++ column_values col all ≡ values ++ column_values col rest
+values_next col part own rest all values none is own_are =
+    ap (λ vs. vs ++ column_values col all) (nothing_left part none)
+    ∙ ap (column_values col) is
+    ∙ map-append (λ (row : Row). get_or row col (Truth false)) own rest
+    ∙ ap (λ vs. vs ++ column_values col rest) (sym own_are)
+
+-- ---- rows of a table
+
+no_fault : (fault : Option ShapeFault) → T (is_none fault) → fault ≡ None
+no_fault (Some fault) h = absurd h
+no_fault None h = refl
+
+all_fit : (schema : Columns) (rows : List Row) → T (list_all (λ e. fits_schema schema e.1) (table_of schema.key_cols rows)) → (k : ℕ) (d : Row) → k < length rows → row_fault schema (get_or rows k d) ≡ None
+all_fit schema [] h k d lt = absurd (omega arith)
+all_fit schema (row ∷ rows) h zero d lt = no_fault (row_fault schema row) (first (fits_schema schema row) _ h)
+all_fit schema (row ∷ rows) h (suc k) d lt = all_fit schema rows (second (fits_schema schema row) _ h) k d (omega arith)
+
+-- each row of a table may stand in each column
+pub table_stands : (schema : Columns) (rows : List Row) (col : ℕ) → IsTable schema (table_of schema.key_cols rows) → col < length schema.types → All (StandsAt (get_or schema.types col column.Int) col) rows
+table_stands schema rows col table lt =
+    λ k d within.
+    let shaped = all_fit schema rows (holds _ table.fitting) k d within in
+    let fit = fit_at schema.types (get_or rows k d) col lt shaped in
+    record { wide = omega (arith, lt, width_of schema.types (get_or rows k d) shaped); typed = fit.typed; short = fit.short }
+  where
+    holds : (b : Bool) → b ≡ true → T b
+    holds true h = tt
+    holds false h = cc h
