@@ -1,3 +1,4 @@
 mod WordSteps
 mod CellLemmas
 mod MarkLemmas
+mod NumberLemmas

@@ -5,4 +5,5 @@ pub mod Opening
 pub mod Writes
 pub mod Marks
 pub mod Reads
+pub mod Numbers
 pub mod Stored

@@ -1,12 +1,13 @@
 //! What a transaction reads: its version's table with its own writes. No read but those that give a table takes memory
 //! or copies a row.
-ghost use Rattle.std.specs.Prelude.{◌≡◌, IfOk, drop, is_some, slice_get, take};
+ghost use Rattle.std.specs.Prelude.{◌≡◌, ◌<◌, IfOk, drop, is_some, length, slice_get, take};
 ghost use Rattle.std.specs.Option.{option_map};
 ghost use Rattle.model.specs.Table.{rank, row_at, rows_of};
+ghost use Rattle.stable.specs.Rows.{column_at};
 ghost use Rattle.merge.specs.View.{row_of};
 
 use crate::transaction::Txn;
-use merge::{MergeScan, RowView, Stretches};
+use merge::{ColumnRuns, MergeScan, RowView, Stretches};
 use stable::StableTable;
 use std::alloc::Global;
 use values::{Key, NoMemory};
@@ -51,6 +52,15 @@ impl Txn {
         self.layers().stretches(from, to)
     }
 
+    /// The values of a column in those rows, run by run: where stable rows stand together, each block's part of them as it
+    /// lies.
+    pub fn column_runs(&self, col: usize, from: u64, to: u64) -> ColumnRuns<'_>
+        requires { col < length self.now.schema.types }
+        ensures { result ≡ column_at self.now.schema.types (drop from (take to (rows_of (image_of self.now)))) col }
+    {
+        self.layers().column_runs(col, from, to)
+    }
+
     /// All rows as a stable table, column by column.
     ///
     /// # Errors
@@ -61,6 +71,7 @@ impl Txn {
     {
         self.layers().to_table(alloc)
     }
+
     /// The rows from one position up to another, and without that, as a stable table, column by column; both are cut to the
     /// number of rows.
     ///
