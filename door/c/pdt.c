@@ -57,6 +57,13 @@ extern size_t pdtr_cells(handle *, size_t, uint64_t, int64_t *, size_t, uint8_t 
 extern size_t pdtr_ints(handle *, size_t, uint64_t, int64_t *, size_t);
 extern size_t pdtr_pieces(handle *, size_t, uint64_t, uint64_t, pdt_piece *, size_t, uint64_t *);
 
+extern uint32_t pdtr_read_layer(handle *, handle *);
+extern uint32_t pdtr_write_layer(handle *, handle *);
+extern uint32_t pdtr_own_layer(handle *, handle *);
+extern void pdtr_layer_close(handle *);
+extern size_t pdtr_layer_len(handle *);
+extern uint32_t pdtr_entry(handle *, size_t, pdt_entry *, int64_t *, size_t, uint8_t *, size_t);
+
 /* ---- the objects */
 
 struct pdt_store {
@@ -319,6 +326,69 @@ int pdt_pieces(pdt_txn *txn, size_t column, uint64_t from, uint64_t to, pdt_piec
   *count = pdtr_pieces(&txn->raw, column, from, to, *count ? pieces : no_pieces, *count, &in_them);
   if (rows) *rows = in_them;
   return PDT_OK;
+}
+
+/* ---- layers */
+
+struct pdt_layer {
+  handle raw;
+  size_t width; /* of its store, which may be closed */
+};
+
+static pdt_layer *new_layer(const pdt_store *store) {
+  pdt_layer *layer = calloc(1, sizeof *layer);
+  if (layer) layer->width = store->width;
+  return layer;
+}
+
+int pdt_layers(pdt_store *store, pdt_layer **read, pdt_layer **write) {
+  if (read) *read = NULL;
+  if (write) *write = NULL;
+  if (!store || !read || !write || read == write) return PDT_MISUSE;
+  pdt_layer *lower = new_layer(store), *upper = new_layer(store);
+  int code = lower && upper ? PDT_OK : PDT_NOMEM;
+  if (!code) {
+    pthread_mutex_lock(&store->lock);
+    code = (int)pdtr_read_layer(&store->raw, &lower->raw);
+    if (!code) code = (int)pdtr_write_layer(&store->raw, &upper->raw);
+    pthread_mutex_unlock(&store->lock);
+  }
+  if (code) {
+    pdt_layer_close(lower);
+    pdt_layer_close(upper);
+    return code;
+  }
+  *read = lower;
+  *write = upper;
+  return PDT_OK;
+}
+
+int pdt_own_layer(pdt_txn *txn, pdt_layer **out) {
+  if (!out) return PDT_MISUSE;
+  *out = NULL;
+  if (!txn) return PDT_MISUSE;
+  pdt_layer *layer = new_layer(txn->store);
+  if (!layer) return PDT_NOMEM;
+  int code = (int)pdtr_own_layer(&txn->raw, &layer->raw);
+  if (code) {
+    pdt_layer_close(layer);
+    return code;
+  }
+  *out = layer;
+  return PDT_OK;
+}
+
+void pdt_layer_close(pdt_layer *layer) {
+  if (!layer) return;
+  if (layer->raw.at) pdtr_layer_close(&layer->raw);
+  free(layer);
+}
+
+size_t pdt_layer_size(pdt_layer *layer) { return layer ? pdtr_layer_len(&layer->raw) : 0; }
+
+int pdt_entry_at(pdt_layer *layer, size_t index, pdt_entry *entry, int64_t *numbers, void *out, size_t room) {
+  if (!layer || !entry || !numbers || (!out && room)) return PDT_MISUSE;
+  return (int)pdtr_entry(&layer->raw, index, entry, numbers, layer->width, room_at(out, room), room);
 }
 
 /* ---- files: a folder has header.csv and column-0.pdt, column-1.pdt and so on */

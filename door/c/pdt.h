@@ -200,6 +200,44 @@ typedef struct pdt_piece {
 int pdt_pieces(pdt_txn *txn, size_t column, uint64_t from, uint64_t to, pdt_piece *pieces, size_t *count,
                uint64_t *rows);
 
+/* ---- layers: the entries that change the rows below them, by position. The Read-PDT stands over the stable table, the
+   Write-PDT over the Read-PDT, and a transaction's own entries over the table that it began on */
+
+/* The entries of a layer as they stood when it was asked for: nothing that is done later changes them. A pdt_layer is used
+   by one thread at a time. It is let go by pdt_layer_close, before or after its transaction and its store. */
+typedef struct pdt_layer pdt_layer;
+
+/* What an entry does: it inserts a row, deletes one, or sets a cell of one. */
+enum pdt_kind { PDT_INSERT = 1, PDT_DELETE = 2, PDT_MODIFY = 3 };
+
+/* An entry. Its cells are all of the row that it inserts, the key of the row that it deletes, or the cell that it sets. */
+typedef struct pdt_entry {
+  uint64_t sid;  /* where it stands among the rows below the layer */
+  uint64_t rid;  /* where its row is among those above; of a delete, where it would be */
+  size_t column; /* the column of a modify, and else 0 */
+  size_t cells;  /* how many cells it has */
+  size_t bytes;  /* how many bytes their texts have */
+  uint32_t kind;
+} pdt_entry;
+
+/* The Read-PDT and the Write-PDT of the newest table, both of one moment. PDT_NOMEM, PDT_MISUSE: both are null then.
+   Takes memory for each entry, and copies no row; begins and commits wait for it. */
+int pdt_layers(pdt_store *store, pdt_layer **read, pdt_layer **write);
+
+/* The entries of a transaction's own writes. PDT_NOMEM, PDT_MISUSE: *layer is null then. */
+int pdt_own_layer(pdt_txn *txn, pdt_layer **layer);
+
+/* Lets a layer go. A null pointer is no error. */
+void pdt_layer_close(pdt_layer *layer);
+
+/* How many entries there are: none of a null pointer. */
+size_t pdt_layer_size(pdt_layer *layer);
+
+/* The entry at an index, which counts from 0 in the order of the SIDs: its cells' numbers into numbers, which has room for
+   pdt_columns, and their texts into room bytes at out. PDT_MISSING past the end, PDT_TOO_SMALL (entry->bytes says what
+   would do), PDT_MISUSE. In logarithmic time. */
+int pdt_entry_at(pdt_layer *layer, size_t index, pdt_entry *entry, int64_t *numbers, void *out, size_t room);
+
 #ifdef __cplusplus
 }
 #endif

@@ -2,3 +2,4 @@ mod WordSteps
 mod CellLemmas
 mod MarkLemmas
 mod NumberLemmas
+mod EntryLemmas

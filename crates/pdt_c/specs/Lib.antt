@@ -7,3 +7,4 @@ pub mod Marks
 pub mod Reads
 pub mod Numbers
 pub mod Stored
+pub mod Entries

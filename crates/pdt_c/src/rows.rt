@@ -1,5 +1,5 @@
 //! Cells that C is handed: a number for each, and the bytes of the texts, one after the other.
-ghost use Rattle.std.specs.Prelude.{◌≡◌, ◌≤◌, ◌<◌, ◌+◌, ◌++◌, ◌⊎◌, ℕ, length, map, take};
+ghost use Rattle.std.specs.Prelude.{◌≡◌, ◌≤◌, ◌<◌, ◌+◌, ◌++◌, ◌⊎◌, ℕ, [], ◌∷◌, length, map, take};
 ghost use Rattle.merge.specs.View.{row_of};
 ghost use Rattle.values.specs.Lent.{value_of};
 ghost use Rattle.pdt_c.specs.Cells.{number_of, bytes_of, numbers_of, texts_of};
@@ -7,7 +7,7 @@ ghost use Rattle.pdt_c.specs.declared.codes.TheConstants.{DONE, TOO_SMALL};
 
 use crate::codes::{DONE, TOO_SMALL};
 use merge::RowView;
-use values::ValueRef;
+use values::{Value, ValueRef};
 
 /// Puts a row's cells where C has room for them, and `needed` says how many bytes its texts have. Answers `TOO_SMALL` where
 /// there is less room, and then some of them stand there.
@@ -36,6 +36,60 @@ pub(crate) fn put_row(
     }
     *needed = bytes;
     if bytes <= texts.len() {
+        DONE
+    } else {
+        TOO_SMALL
+    }
+}
+
+/// The same of cells that are given as values.
+pub(crate) fn put_cells(
+    cells: &[Value],
+    numbers: &mut [i64],
+    texts: &mut [u8],
+    needed: &mut usize,
+) -> u32
+    ensures code { (result ≡ DONE) ⊎ (result ≡ TOO_SMALL) }
+    ensures numbers { result ≡ DONE → take (length cells.now) numbers.new ≡ numbers_of cells.now }
+    ensures texts { result ≡ DONE → take needed.new texts.new ≡ texts_of cells.now }
+{
+    let mut bytes = 0usize;
+    let width = cells.len();
+    if width > numbers.len() {
+        return TOO_SMALL;
+    }
+    for col in 0..width {
+        let value = cells[col].as_ref();
+        let number = number_of(value);
+        let end = put_bytes(value, texts, bytes);
+        numbers[col] = number;
+        bytes = end;
+    }
+    *needed = bytes;
+    if bytes <= texts.len() {
+        DONE
+    } else {
+        TOO_SMALL
+    }
+}
+
+/// The same of one cell.
+pub(crate) fn put_cell(
+    value: ValueRef<'_>,
+    numbers: &mut [i64],
+    texts: &mut [u8],
+    needed: &mut usize,
+) -> u32
+    ensures code { (result ≡ DONE) ⊎ (result ≡ TOO_SMALL) }
+    ensures numbers { result ≡ DONE → take 1 numbers.new ≡ numbers_of (value_of value.entry ∷ []) }
+    ensures texts { result ≡ DONE → take needed.new texts.new ≡ texts_of (value_of value.entry ∷ []) }
+{
+    if numbers.is_empty() {
+        return TOO_SMALL;
+    }
+    numbers[0] = number_of(value);
+    *needed = put_bytes(value, texts, 0);
+    if *needed <= texts.len() {
         DONE
     } else {
         TOO_SMALL

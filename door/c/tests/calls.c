@@ -418,6 +418,114 @@ static void scans(void) {
   pdt_close(store);
 }
 
+/* An entry of a layer, worked out by hand. */
+typedef struct {
+  pdt_entry entry;
+  int64_t numbers[4];
+  const char *texts;
+} shown;
+
+static void layer_is(const char *what, pdt_layer *layer, const shown *wanted, size_t count) {
+  is(what, (long long)count, (long long)pdt_layer_size(layer));
+  for (size_t i = 0; i < count; i++) {
+    const pdt_entry *due = &wanted[i].entry;
+    pdt_entry entry;
+    int64_t numbers[4];
+    char texts[64];
+    is(what, PDT_OK, pdt_entry_at(layer, i, &entry, numbers, texts, sizeof texts));
+    is("sid", (long long)due->sid, (long long)entry.sid);
+    is("rid", (long long)due->rid, (long long)entry.rid);
+    is("kind", due->kind, entry.kind);
+    is("column", (long long)due->column, (long long)entry.column);
+    is("cells", (long long)due->cells, (long long)entry.cells);
+    is("bytes", (long long)due->bytes, (long long)entry.bytes);
+    same("numbers", wanted[i].numbers, numbers, due->cells * sizeof *numbers);
+    same("texts", wanted[i].texts, texts, due->bytes);
+  }
+}
+
+/* The stable rows are 10, 20 and 30. A first commit deletes 10 and inserts 15 and 25, and is folded; a second one sets two
+   cells of 20, and one of 25; an open transaction deletes 15 and inserts 40. */
+static const shown lower[] = {
+    {{0, 0, 0, 1, 0, PDT_DELETE}, {10}, ""},
+    {{1, 0, 0, 4, 3, PDT_INSERT}, {15, 3, 0, 5}, "Eve"},
+    {{2, 2, 0, 4, 3, PDT_INSERT}, {25, 3, 1, 4}, "Dee"},
+};
+static const shown upper[] = {
+    {{1, 1, 1, 1, 5, PDT_MODIFY}, {5}, "Robin"},
+    {{1, 1, 2, 1, 0, PDT_MODIFY}, {0}, ""},
+    {{2, 2, 3, 1, 0, PDT_MODIFY}, {-9}, ""},
+};
+static const shown own[] = {
+    {{0, 0, 0, 1, 0, PDT_DELETE}, {15}, ""},
+    {{4, 3, 0, 4, 0, PDT_INSERT}, {40, 0, 1, 0}, ""},
+};
+
+static void make_layers(pdt_store *store, pdt_txn **open) {
+  int64_t ten = 10, fifteen = 15, twenty = 20, more = 25;
+  int64_t eve[] = {15, 3, 0, 5}, dee[] = {25, 3, 1, 4}, last[] = {40, 0, 1, 0};
+  pdt_txn *txn = begun(store);
+  is("delete", PDT_OK, pdt_delete(txn, &ten, NULL, 0));
+  is("insert", PDT_OK, pdt_insert(txn, eve, "Eve", 3));
+  is("insert", PDT_OK, pdt_insert(txn, dee, "Dee", 3));
+  is("commit", PDT_OK, pdt_commit(txn, NULL));
+  is("fold", PDT_OK, pdt_fold(store));
+  txn = begun(store);
+  is("set", PDT_OK, pdt_set(txn, &more, NULL, 0, 3, -9, NULL));
+  is("set", PDT_OK, pdt_set(txn, &twenty, NULL, 0, 2, 0, NULL));
+  is("set", PDT_OK, pdt_set(txn, &twenty, NULL, 0, 1, 5, "Robin"));
+  is("commit", PDT_OK, pdt_commit(txn, NULL));
+  *open = begun(store);
+  is("delete", PDT_OK, pdt_delete(*open, &fifteen, NULL, 0));
+  is("insert", PDT_OK, pdt_insert(*open, last, NULL, 0));
+}
+
+static void layers(void) {
+  pdt_store *store = opened(NULL);
+  pdt_layer *read = (pdt_layer *)&store, *write = read, *txn_layer = read;
+  is("layers of null", PDT_MISUSE, pdt_layers(NULL, &read, &write));
+  is("both null then", 1, !read && !write);
+  is("layers to nowhere", PDT_MISUSE, pdt_layers(store, &read, NULL));
+  is("layers in one place", PDT_MISUSE, pdt_layers(store, &read, &read));
+  is("own layer of null", PDT_MISUSE, pdt_own_layer(NULL, &txn_layer));
+  is("null then", 1, txn_layer == NULL);
+  is("layers of a new store", PDT_OK, pdt_layers(store, &read, &write));
+  layer_is("no entries", read, NULL, 0);
+  layer_is("no entries", write, NULL, 0);
+  pdt_layer_close(read);
+  pdt_layer_close(write);
+  pdt_layer_close(NULL);
+  is("size of null", 0, (long long)pdt_layer_size(NULL));
+
+  pdt_txn *txn;
+  make_layers(store, &txn);
+  is("own layer to nowhere", PDT_MISUSE, pdt_own_layer(txn, NULL));
+  is("layers", PDT_OK, pdt_layers(store, &read, &write));
+  is("own layer", PDT_OK, pdt_own_layer(txn, &txn_layer));
+  pdt_entry entry;
+  int64_t numbers[4];
+  char few[2];
+  is("no room", PDT_TOO_SMALL, pdt_entry_at(read, 1, &entry, numbers, few, sizeof few));
+  is("the room that would do", 3, (long long)entry.bytes);
+  is("past the end", PDT_MISSING, pdt_entry_at(read, 3, &entry, numbers, few, sizeof few));
+  is("far past the end", PDT_MISSING, pdt_entry_at(read, SIZE_MAX, &entry, numbers, few, sizeof few));
+  is("an entry of null", PDT_MISUSE, pdt_entry_at(NULL, 0, &entry, numbers, few, sizeof few));
+  is("an entry to nowhere", PDT_MISUSE, pdt_entry_at(read, 0, NULL, numbers, few, sizeof few));
+  is("numbers to nowhere", PDT_MISUSE, pdt_entry_at(read, 0, &entry, NULL, few, sizeof few));
+  is("texts to nowhere", PDT_MISUSE, pdt_entry_at(read, 0, &entry, numbers, NULL, 1));
+
+  /* later calls leave them as they stood, and so does the end of their store */
+  is("commit", PDT_OK, pdt_commit(txn, NULL));
+  is("fold", PDT_OK, pdt_fold(store));
+  is("close", PDT_OK, pdt_close(store));
+  layer_is("the Read-PDT", read, lower, 3);
+  layer_is("the Write-PDT", write, upper, 3);
+  layer_is("its own", txn_layer, own, 2);
+  pdt_layer_close(read);
+  pdt_layer_close(write);
+  pdt_layer_close(txn_layer);
+}
+
 int main(int argc, char **argv) {
   texts();
   openings();
@@ -426,6 +534,7 @@ int main(int argc, char **argv) {
   commits();
   reads();
   scans();
+  layers();
   causes();
   if (argc > 1) stores(argv[1]), names(argv[1]);
   return failures ? 1 : 0;

@@ -51,12 +51,20 @@ static int run(void) {
     if (i % 4 == 3) CALL(pdt_fold(store));
   }
   CALL(pdt_begin(store, 1, &txn));
+  pdt_layer *read, *write, *own;
+  CALL(pdt_layers(store, &read, &write));
+  CALL(pdt_own_layer(txn, &own));
+  size_t entries = pdt_layer_size(read) + pdt_layer_size(write) + pdt_layer_size(own);
+  pdt_layer_close(read);
+  pdt_layer_close(write);
+  pdt_layer_close(own);
   int64_t qty[32], sum = 0;
   size_t count = 32;
   CALL(pdt_ints(txn, 2, 0, qty, &count));
   for (size_t i = 0; i < count; i++) sum += qty[i];
   pdt_abort(txn);
   if (count != 18 || sum != 120 + 15) return fprintf(stderr, "%zu rows, sum %lld\n", count, (long long)sum), 1;
+  if (entries != 16 + 3) return fprintf(stderr, "%zu entries\n", entries), 1;
   CALL(pdt_close(store));
   return 0;
 }

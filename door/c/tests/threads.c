@@ -1,4 +1,5 @@
-/* Eight threads add to the same ten rows, and try again at a conflict: the sum is that of all that was added. */
+/* Eight threads add to the same ten rows, and try again at a conflict: the sum is that of all that was added. In between
+   they look at the layers, which are folded: the sum by their entries never falls. */
 #include <pdt.h>
 #include <pthread.h>
 #include <stdio.h>
@@ -7,8 +8,29 @@
 enum { THREADS = 8, ADDS = 500, ROWS = 10 };
 static pdt_store *store;
 
+/* The sum by the entries of both layers: a row has what the upper one sets it to, or else the lower one. Less than 0 where
+   they aren't as they must be. */
+static int64_t sum_of_layers(void) {
+  pdt_layer *layers[2];
+  int64_t sums[ROWS] = {0}, sum = 0;
+  if (pdt_layers(store, &layers[0], &layers[1])) return -1;
+  for (int i = 0; i < 2; i++) {
+    for (size_t at = 0; at < pdt_layer_size(layers[i]); at++) {
+      pdt_entry entry;
+      int64_t numbers[2];
+      int code = pdt_entry_at(layers[i], at, &entry, numbers, NULL, 0);
+      if (code || entry.kind != PDT_MODIFY || entry.sid >= ROWS || entry.rid != entry.sid) return -1;
+      sums[entry.sid] = numbers[0];
+    }
+    pdt_layer_close(layers[i]);
+  }
+  for (int i = 0; i < ROWS; i++) sum += sums[i];
+  return sum;
+}
+
 static void *adds(void *arg) {
   uint32_t client = (uint32_t)(size_t)arg;
+  int64_t seen = 0;
   for (int i = 0; i < ADDS;) {
     pdt_txn *txn;
     int64_t key = (i * 7 + (int)client) % ROWS, row[2];
@@ -18,6 +40,11 @@ static void *adds(void *arg) {
     int code = pdt_commit(txn, NULL);
     if (code == PDT_OK) i++;
     else if (code != PDT_CONFLICT) return "commit";
+    if (code || i % 5) continue;
+    if (client < 2 && pdt_fold(store)) return "fold";
+    int64_t sum = sum_of_layers();
+    if (sum < seen || sum < i || sum > THREADS * ADDS) return "layers";
+    seen = sum;
   }
   return NULL;
 }
