@@ -40,6 +40,7 @@ from ._errors import (
     TooOld,
     TooSmall,
 )
+from ._layers import Entry
 from ._store import Sizes, Store, open, recover
 from ._transaction import Rank, Transaction
 
@@ -51,6 +52,7 @@ __all__ = [
     "Column",
     "Conflict",
     "Duplicate",
+    "Entry",
     "Error",
     "Exists",
     "FileFailed",

@@ -1,21 +1,27 @@
 """``python -m narthexmace show TABLE.csv [--script SCRIPT.csv]``: a table, and what a script's calls make of it.
 
-With a script it prints the replies, in the words of the program ``pdt``, and then the table and the image side by side:
-``+`` stands before a row that was inserted, ``-`` before one that was deleted, ``*`` before one that was changed.
-The trees of entries can't be seen from here: of them only the sizes are printed.
+With a script it prints the replies, in the words of the program ``pdt`` (but a ``cut`` has no count), and then, side by
+side, what stands after the last call: the stable table, the Read-PDT, the Write-PDT, the newest image, and the entries
+of each open transaction.
+``+25,Dee,4 at 2`` is an insert, ``-20 at 1`` a delete, ``qty=5 at 0`` a cell that is set; the number is the SID, the
+position among the rows below the layer. Each line has one key, or says how many lines more there are.
+
+A terminal gets colours, unless NO_COLOR is set, and lines that are cut to its width.
 """
 from __future__ import annotations
 
 import argparse
 import csv
 import sys
+from functools import partial
 from itertools import islice
 from pathlib import Path
-from typing import Dict, Iterable, Iterator, List, Optional, Sequence, TextIO, Tuple
+from typing import Dict, Iterable, Iterator, List, Optional, Sequence, TextIO
 
-from . import Conflict, Error, Full, Store, TooOld, Transaction, open
-from ._cells import BOOL, INT, LEAST, MOST, TEXT, Cell, Column, Row
+from . import Conflict, Entry, Error, Full, Store, TooOld, Transaction, open
+from ._cells import BOOL, INT, LEAST, MOST, TEXT, Cell, Row
 from ._library import MAX_ROWS, MAX_TEXT
+from ._pictures import Line, Terminal, laid, layers_beside, spelled, table_block
 
 Answer = List[Cell]
 
@@ -193,53 +199,24 @@ def newest(store: Store, most: Optional[int]) -> List[Row]:
         txn.abort()
 
 
-# ---- pictures
-
-
-def spelled(cell: Cell) -> str:
-    """A cell as it stands in a line of a terminal."""
-    if isinstance(cell, bool):
-        return "true" if cell else "false"
-    text = str(cell)
-    return "".join(it if it.isprintable() else it.encode("unicode_escape").decode() for it in text)
-
-
-def table_lines(columns: Sequence[Column], rows: Sequence[Optional[Row]]) -> List[str]:
-    """A table in lines of one width, the heading first; None is an empty line."""
-    cells = [[f"{column.name}{'*' if column.key else ''}" for column in columns]]
-    cells += [["" for _ in columns] if row is None else [spelled(cell) for cell in row] for row in rows]
-    widths = [max(len(line[place]) for line in cells) for place in range(len(columns))]
-    right = [column.type == INT for column in columns]
-    return [
-        "  ".join(cell.rjust(width) if at_right else cell.ljust(width) for cell, width, at_right in zip(*line))
-        for line in ((it, widths, right) for it in cells)
+def pictured(script: Script, stable: Sequence[Row]) -> List[Line]:
+    """The stable rows, the layers over them, the newest image, and what each open transaction has written."""
+    store, key = script.store, len(script.key)
+    image, entries = newest(store, None), list(store.layers())
+    layers = [
+        laid("Read-PDT", (it for it in entries if it.layer == "read"), lambda it: stable[it.sid], key),
+        laid("Write-PDT", (it for it in entries if it.layer == "write"), lambda it: image[it.rid], key),
     ]
+    own = [
+        laid(f"{spelled(client)}'s own", txn.layer(), partial(changed_row, txn), key)
+        for client, txn in script.open.items()
+    ]
+    return layers_beside(store.columns, stable, layers, image, own)
 
 
-def side_by_side(columns: Sequence[Column], before: Sequence[Row], after: Sequence[Row]) -> List[str]:
-    """Two tables beside each other, each row beside the one of its key, with a mark where they differ."""
-    pairs = list(paired(before, after, sum(column.key for column in columns)))
-    left = table_lines(columns, [one for one, _ in pairs])
-    right = table_lines(columns, [other for _, other in pairs])
-    marks = [" ", *(mark_of(*pair) for pair in pairs)]
-    title = f"{'table'.ljust(len(left[0]))}     image"
-    return [title, *(f"{one}   {mark} {other}".rstrip() for one, mark, other in zip(left, marks, right))]
-
-
-def paired(before: Sequence[Row], after: Sequence[Row], key: int) -> Iterator[Tuple[Optional[Row], Optional[Row]]]:
-    """The rows of both tables in ascending key, those of one key together."""
-    rows = {row[:key]: row for row in before}
-    others = {row[:key]: row for row in after}
-    for it in sorted(rows.keys() | others.keys()):
-        yield rows.get(it), others.get(it)
-
-
-def mark_of(before: Optional[Row], after: Optional[Row]) -> str:
-    if before is None:
-        return "+"
-    if after is None:
-        return "-"
-    return " " if before == after else "*"
+def changed_row(txn: Transaction, entry: Entry) -> Row:
+    """The row of a transaction that one of its own modifies changes."""
+    return txn[entry.rid]
 
 
 # ---- the command
@@ -250,21 +227,17 @@ def show(words: argparse.Namespace, out: TextIO) -> None:
     with open(words.table, recent=words.recent, row_limit=words.limit, conflicts=words.conflicts) as store:
         if words.script is None:
             rows = newest(store, words.rows)
-            left_out = newest_length(store) - len(rows)
-            print(*(line.rstrip() for line in table_lines(store.columns, rows)), sep="\n", file=out)
-            if left_out:
-                print(f".. {left_out:,} more", file=out)
+            Terminal(out).write(table_block(store.columns, rows), newest_length(store) - len(rows))
             return
-        before, script, records = newest(store, None), Script(store), read_script(words.script)
+        stable, script, records = newest(store, None), Script(store), read_script(words.script)
         script.check(records)
         write_lines(script.replies(records), out)
+        print(file=out)
+        lines = pictured(script, stable)
+        Terminal(out).write(lines[: words.rows + 2], len(lines) - words.rows - 2)
         script.end()
-        lines = side_by_side(store.columns, before, newest(store, None))
-        print("", *lines[: words.rows + 2], sep="\n", file=out)
-        if len(lines) > words.rows + 2:
-            print(f".. {len(lines) - words.rows - 2:,} more", file=out)
         commits, write_entries, read_entries, _ = store.sizes()
-        print("", f"commits {commits}, Write-PDT {write_entries}, Read-PDT {read_entries}", sep="\n", file=out)
+        print("", f"commits {commits}, Read-PDT {read_entries}, Write-PDT {write_entries}", sep="\n", file=out)
 
 
 def write_lines(lines: Iterable[Sequence[Cell]], out: TextIO) -> None:
@@ -283,9 +256,10 @@ def newest_length(store: Store) -> int:
 
 
 def main(arguments: Optional[Sequence[str]] = None) -> int:
-    parser = argparse.ArgumentParser(prog="python -m narthexmace", description="Narthexmace: a table, and its image")
+    about = "Narthexmace: a table, its layers and its image"
+    parser = argparse.ArgumentParser(prog="python -m narthexmace", description=about)
     commands = parser.add_subparsers(required=True, metavar="show")
-    command = commands.add_parser("show", help="prints a table, and what a script's calls make of it")
+    command = commands.add_parser("show", help="prints a table, and the layers that a script makes over it")
     command.add_argument("table", type=Path, help="a table as CSV")
     command.add_argument("--script", type=Path, help="a script of calls")
     command.add_argument("--recent", type=int, default=64, help="commits between a begin and its commit")

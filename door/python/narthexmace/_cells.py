@@ -119,9 +119,14 @@ class Shaping:
 
     def row_of(self, numbers: Iterable[int], texts: memoryview) -> Row:
         """The row whose cells C has put there."""
+        return self.cells_of(numbers, texts, self.types)
+
+    @staticmethod
+    def cells_of(numbers: Iterable[int], texts: memoryview, types: Sequence[str]) -> Row:
+        """The cells of these types that C has put there."""
         cells: List[Cell] = []
         at = 0
-        for number, type_ in zip(numbers, self.types):
+        for type_, number in zip(types, numbers):
             if type_ == INT:
                 cells.append(number)
             elif type_ == BOOL:

@@ -31,6 +31,19 @@ class SizesOf(ctypes.Structure):
     ]
 
 
+class EntryOf(ctypes.Structure):
+    """pdt_entry"""
+
+    _fields_ = [
+        ("sid", c_uint64),
+        ("rid", c_uint64),
+        ("column", c_size_t),
+        ("cells", c_size_t),
+        ("bytes", c_size_t),
+        ("kind", c_uint32),
+    ]
+
+
 class Piece(ctypes.Structure):
     """pdt_piece"""
 
@@ -69,6 +82,11 @@ _CALLS = {
     "cells": (c_int, [c_void_p, c_size_t, c_uint64, c_void_p, c_void_p, c_void_p, c_size_t, c_void_p]),
     "ints": (c_int, [c_void_p, c_size_t, c_uint64, c_void_p, c_void_p]),
     "pieces": (c_int, [c_void_p, c_size_t, c_uint64, c_uint64, c_void_p, c_void_p, c_void_p]),
+    "layers": (c_int, [c_void_p, c_void_p, c_void_p]),
+    "own_layer": (c_int, [c_void_p, c_void_p]),
+    "layer_close": (None, [c_void_p]),
+    "layer_size": (c_size_t, [c_void_p]),
+    "entry_at": (c_int, [c_void_p, c_size_t, c_void_p, c_void_p, c_void_p, c_size_t]),
 }
 
 

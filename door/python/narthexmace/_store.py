@@ -4,12 +4,14 @@ from __future__ import annotations
 import operator
 import os
 from ctypes import byref
+from itertools import chain
 from types import TracebackType
-from typing import Mapping, NamedTuple, Optional, Tuple, Type, Union
+from typing import Iterator, Mapping, NamedTuple, Optional, Tuple, Type, Union
 
 from ._cells import TYPES, Column, Shaping
 from ._errors import BadLimit, Misuse, check
 from ._handles import StoreHandle, TransactionHandle
+from ._layers import Entry, Layer
 from ._library import MAX_RECENT, MAX_ROWS, Options, SizesOf, library
 from ._tables import KeyNames, Table, text_of_table
 from ._transaction import Transaction
@@ -117,6 +119,16 @@ class Store:
         with self._handle as at:
             check(library.pdt_size(at, byref(sizes)))
         return Sizes(sizes.commits, sizes.write_entries, sizes.read_entries, sizes.open_transactions)
+
+    def layers(self) -> Iterator[Entry]:
+        """The entries of the newest table's Read-PDT, and then those of its Write-PDT, in order.
+
+        They are of the moment of the call, whatever is done while a loop goes over them. NoMemory.
+        """
+        read, write = Layer("read", self._shaping), Layer("write", self._shaping)
+        with self._handle as at:
+            check(library.pdt_layers(at, byref(read.room), byref(write.room)))
+        return chain(read, write)
 
     def close(self) -> None:
         """Closes the store. Misuse while a transaction is open, or another thread in a call: the store stays open then.

@@ -13,6 +13,7 @@ from ._batches import Batch, Pieces, Texts, truths_of
 from ._cells import BOOL, INT, TEXT, Cell, Key, Row, Shaping
 from ._errors import Error, Misuse, Missing, Shape, TooSmall, check, error_of
 from ._handles import TransactionHandle
+from ._layers import Entry, Layer
 from ._library import MAX_TEXT, Piece, library
 
 if TYPE_CHECKING:
@@ -279,6 +280,16 @@ class Transaction:
         first, end = self._range(start, stop)
         with self._handle as at:
             return Pieces(_lend(self._handle, _read_pieces(at, place, first, end)))
+
+    def layer(self) -> Iterator[Entry]:
+        """The entries of its own writes so far, in order, over the rows of the table that it began on.
+
+        They are of the moment of the call: later writes, and its end, change none of them. NoMemory.
+        """
+        own = Layer("own", self._shaping)
+        with self._handle as at:
+            check(library.pdt_own_layer(at, byref(own.room)))
+        return iter(own)
 
     def to_pandas(self, columns: Optional[Sequence[str]] = None) -> "DataFrame":
         """The table as a DataFrame, with these columns, or all. ImportError where pandas isn't there."""

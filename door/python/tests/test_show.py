@@ -1,18 +1,24 @@
 """``python -m narthexmace show``: replies and images are those that the program has, in the repository's examples."""
 import io
+import os
+import re
 import subprocess
 import sys
 import tempfile
 import unittest
 from argparse import Namespace
+from importlib.machinery import SourceFileLoader
+from importlib.util import module_from_spec, spec_from_loader
 from pathlib import Path
-from typing import Dict, List, Tuple
+from typing import Any, Dict, Iterator, List, Optional, Tuple
+from unittest import mock
 
 import narthexmace
 from narthexmace import __main__ as show
 
 EXAMPLES = Path(__file__).parents[3] / "examples"
-NAMES = ["four-clients", "limit", "many-rows", "orders", "refused-writes"]
+# calls that show has not, and a cut, whose count the door doesn't tell
+UNLIKE = re.compile(rb",(checkpoint|cut)\b")
 PICTURE = """\
 a,begin,Begun
 a,insert,Done
@@ -20,34 +26,122 @@ a,delete,Done
 a,set,Done
 a,commit,Committed,1
 
-table              image
-id*  name  qty     id*  name     qty
- 10  Ann     1   *  10  Ann, Jr    1
- 20  Bob     2   -
-                 +  25  Dee        4
- 30  Cid     3      30  Cid        3
+table            Read-PDT   Write-PDT           image
+id*  name  qty                                  id*  name     qty
+ 10  Ann     1              name=Ann, Jr at 0    10  Ann, Jr    1
+ 20  Bob     2              -20 at 1
+                            +25,Dee,4 at 2       25  Dee        4
+ 30  Cid     3                                   30  Cid        3
 
-commits 1, Write-PDT 3, Read-PDT 0
+commits 1, Read-PDT 0, Write-PDT 3
+"""
+# examples/layers/README.md has these layers in its last line
+OPEN = """\
+table            Read-PDT         Write-PDT    image            b's own
+id*  name  qty                                 id*  name  qty
+                                                                +5,Eve,0 at 0
+ 10  Ann     1                    -10 at 0
+ 20  Bob     2                                  20  Bob     2
+                 +25,Dee,4 at 2   qty=5 at 2    25  Dee     5
+ 30  Cid     3                                  30  Cid     3
+
+commits 2, Read-PDT 1, Write-PDT 2
+"""
+# a replaces a row and inserts one, which is folded; b changes the first and deletes the other; c and a are open, over
+# different tables. The stable rows are (10, x) and (20, x)
+SEVERAL = """\
+a,begin
+a,delete,20,x
+a,insert,20,x,true
+a,insert,30,"y,z",false
+a,commit
+a,fold
+c,begin
+c,set,10,x,ok,true
+b,begin
+b,set,20,x,ok,false
+b,delete,30,"y,z"
+b,commit
+a,begin
+a,insert,5,z,true
+a,set,20,x,ok,true
+"""
+LAYERS = """\
+table           Read-PDT                Write-PDT        image           c's own        a's own
+n*  k*  ok                                               n*  k*  ok
+                                                                                        +5,z,true at 0
+10  x   false                                            10  x   false   ok=true at 0
+20  x   false   +20,x,true -20,x at 1   ok=false at 1    20  x   false                  ok=true at 1
+                +30,"y,z",false at 2    -30,"y,z" at 2
+
+commits 2, Read-PDT 3, Write-PDT 2
+"""
+COLOURS = """\
+\x1b[1mtable\x1b[0m      \x1b[1mRead-PDT\x1b[0m   \x1b[1mWrite-PDT\x1b[0m    \x1b[1mimage\x1b[0m
+\x1b[1mid*  qty\x1b[0m                           \x1b[1mid*  qty\x1b[0m
+  1    5              \x1b[31m-1\x1b[0m at 0
+  2    6              \x1b[33mqty=8\x1b[0m at 1     2    8
+                      \x1b[32m+3,7\x1b[0m at 2      3    7
+
+commits 1, Read-PDT 0, Write-PDT 3
+"""
+NARROW = """\
+table      Read-PDT   Write-..
+id*  qty                    ..
+  1    5              -1 at 0
+  2    6              qty=8 ..
+                      +3,7 a..
+
+commits 1, Read-PDT 0, Write-PDT 3
 """
 
 
-def words_of(folder: Path) -> Dict[str, str]:
-    """The options of an example."""
-    words = (folder / "words").read_text().split()[3:] if (folder / "words").exists() else []
-    return dict(zip(words[::2], words[1::2]))
+class Screen(io.StringIO):
+    """A terminal."""
+
+    def isatty(self) -> bool:
+        return True
+
+
+def cases() -> Iterator[Any]:
+    """The examples and the cases that are one run of a script with no store, and are not refused."""
+    loader = SourceFileLoader("examples_check", str(EXAMPLES / "check"))
+    spec = spec_from_loader(loader.name, loader)
+    assert spec
+    check = module_from_spec(spec)
+    loader.exec_module(check)
+    for folder in sorted(it.parent for it in EXAMPLES.glob("*/replies.csv")):
+        yield check.example_of(folder)
+    for file in sorted(EXAMPLES.glob("cases/*.txt")):
+        yield from check.cases_of(file)
+
+
+def options_of(case: Any) -> Optional[Dict[str, Any]]:
+    """How a case opens its table; None where the program does there what show doesn't."""
+    words = [os.fsdecode(word) for word in case.lines[0]]
+    if case.shell or case.status or len(case.lines) > 1 or words[:3] != ["run", "table.csv", "script.csv"]:
+        return None
+    options = dict(zip(words[3::2], words[4::2]))
+    if set(words[3::2]) - {"--recent", "--limit", "--conflicts"} or UNLIKE.search(case.files["script.csv"]):
+        return None
+    limits = {"recent": int(options.get("--recent", 64)), "row_limit": int(options.get("--limit", 2_147_483_647))}
+    return {**limits, "conflicts": options.get("--conflicts", "column")}
 
 
 class Examples(unittest.TestCase):
     def test_replies_and_images(self) -> None:
-        for name in NAMES:
-            with self.subTest(example=name):
-                self.compare(EXAMPLES / name)
+        compared = 0
+        for case in cases():
+            options = options_of(case)
+            if options is not None:
+                compared += 1
+                with self.subTest(case=case.name), tempfile.TemporaryDirectory() as folder:
+                    self.compare(case, options, Path(folder))
+        self.assertGreater(compared, 60)
 
-    def compare(self, folder: Path) -> None:
-        words = words_of(folder)
-        self.assertLessEqual(set(words), {"--recent", "--limit", "--conflicts"})
-        options = {"recent": int(words.get("--recent", 64)), "conflicts": words.get("--conflicts", "column")}
-        options["row_limit"] = int(words.get("--limit", 2_147_483_647))
+    def compare(self, case: Any, options: Dict[str, Any], folder: Path) -> None:
+        for name in ("table.csv", "script.csv"):
+            (folder / name).write_bytes(case.files[name])
         out = io.StringIO()
         with narthexmace.open(folder / "table.csv", **options) as store:
             script, records = show.Script(store), show.read_script(folder / "script.csv")
@@ -57,8 +151,7 @@ class Examples(unittest.TestCase):
             out.write("\n")
             heading = [f"{it.name}:{it.type}{':key' if it.key else ''}" for it in store.columns]
             show.write_lines([heading, *show.newest(store, None)], out)
-        due = (folder / "replies.csv").read_text(encoding="utf-8")
-        self.assertEqual(out.getvalue().splitlines(), due.splitlines())
+        self.assertEqual(out.getvalue().splitlines(), case.replies.decode().splitlines())
 
 
 class Pictures(unittest.TestCase):
@@ -75,6 +168,39 @@ class Pictures(unittest.TestCase):
         data = Path(__file__).parents[3] / "crates/pdt/data"
         words = ["show", str(data / "table.csv"), "--script", str(data / "script.csv")]
         self.assertEqual(self.shown(*words), (0, PICTURE, ""))
+
+    def test_the_layers_of_open_transactions(self) -> None:
+        layers = EXAMPLES / "layers"
+        calls = (layers / "script.csv").read_text().splitlines()[:10]  # up to b's insert
+        with tempfile.TemporaryDirectory() as folder:
+            (script,) = self.files(folder, script="\n".join(calls))
+            status, out, told = self.shown("show", str(layers / "table.csv"), "--script", script)
+            self.assertEqual((status, out.partition("\n\n")[2], told), (0, OPEN, ""))
+            table, script = self.files(folder, table="n:int:key,k:text:key,ok:bool\n10,x,false\n20,x,false\n",
+                                       script=SEVERAL)  # fmt: skip
+            status, out, told = self.shown("show", table, "--script", script)
+            self.assertEqual((status, out.partition("\n\n")[2], told), (0, LAYERS, ""))
+
+    def screen(self, **environment: str) -> str:
+        """What a terminal shows of three changes, after the replies."""
+        calls = "a,begin\na,insert,3,7\na,delete,1\na,set,2,qty,8\na,commit\n"
+        with tempfile.TemporaryDirectory() as folder:
+            table, script = self.files(folder, table="id:int:key,qty:int\n1,5\n2,6\n", script=calls)
+            words = Namespace(table=Path(table), script=Path(script), recent=1, limit=9, conflicts="row", rows=40)
+            out = Screen()
+            with mock.patch.dict(os.environ, {"TERM": "xterm", "NO_COLOR": "", **environment}):
+                show.show(words, out)
+        return out.getvalue().partition("\n\n")[2]
+
+    def test_a_terminal_gets_colours(self) -> None:
+        self.assertEqual(self.screen(COLUMNS="80"), COLOURS)
+        plain = re.sub(r"\x1b\[\d+m", "", COLOURS)
+        self.assertEqual(self.screen(COLUMNS="80", NO_COLOR="1"), plain)
+        self.assertEqual(self.screen(COLUMNS="80", TERM="dumb"), plain)
+
+    def test_a_wide_table_is_cut_to_the_terminal(self) -> None:
+        self.assertEqual(self.screen(COLUMNS="30", NO_COLOR="1"), NARROW)
+        self.assertEqual(re.sub(r"\x1b\[\d+m", "", self.screen(COLUMNS="30")), NARROW)
 
     def test_a_table_alone(self) -> None:
         with tempfile.TemporaryDirectory() as folder:
@@ -108,7 +234,9 @@ class Pictures(unittest.TestCase):
             words = Namespace(table=Path(table), script=Path(script), recent=1, limit=9, conflicts="row", rows=2)
             show.show(words, out)
             lines = out.getvalue().splitlines()
-            self.assertEqual(lines[4:9], ["table     image", "id*     id*", "  1       1", "  2   -", ".. 1 more"])
+            due = ["table   Read-PDT   Write-PDT   image", "id*                            id*"]
+            due += ["  1                              1", f"  2{'':16}-2 at 1", ".. 1 more"]
+            self.assertEqual(lines[4:9], due)
 
 
 if __name__ == "__main__":

@@ -1,0 +1,60 @@
+"""Layers: the entries that change the rows below them, by position."""
+from __future__ import annotations
+
+import ctypes
+from ctypes import byref, c_void_p
+from typing import Iterator, NamedTuple, Optional, Sequence
+
+from ._cells import Row, Shaping
+from ._errors import TooSmall, check
+from ._library import EntryOf, library
+
+INSERT, DELETE, MODIFY = "insert", "delete", "modify"
+_KINDS = {1: INSERT, 2: DELETE, 3: MODIFY}
+
+
+class Entry(NamedTuple):
+    """An entry of a layer, which changes a row below it.
+
+    ``layer`` is "read" for the Read-PDT, "write" for the Write-PDT, or "own" for a transaction's. ``sid`` is where the
+    entry stands among the rows below the layer; ``rid`` where its row is among those above, or, of a delete, would be.
+    ``kind`` is "insert", "delete" or "modify", and ``column`` that of a modify. ``values`` are the row that is
+    inserted, the key of the row that is deleted, or the cell that is set.
+    """
+
+    layer: str
+    sid: int
+    rid: int
+    kind: str
+    column: Optional[str]
+    values: Row
+
+
+class Layer:
+    """The entries of a layer as they stood when C filled its address. A loop over them is for one thread."""
+
+    def __init__(self, name: str, shaping: Shaping) -> None:
+        self.room = c_void_p()
+        self._name = name
+        self._shaping = shaping
+
+    def __del__(self) -> None:
+        library.pdt_layer_close(self.room)  # null where there is none
+
+    def __iter__(self) -> Iterator[Entry]:
+        entry, numbers, texts = EntryOf(), self._shaping.numbers(), ctypes.create_string_buffer(1024)
+        for index in range(library.pdt_layer_size(self.room)):
+            code = library.pdt_entry_at(self.room, index, byref(entry), numbers, texts, len(texts))
+            if code == TooSmall.code:
+                texts = ctypes.create_string_buffer(entry.bytes)
+                code = library.pdt_entry_at(self.room, index, byref(entry), numbers, texts, len(texts))
+            check(code)
+            values = self._shaping.cells_of(numbers, memoryview(texts), self._types_of(entry))
+            column = self._shaping.names[entry.column] if _KINDS[entry.kind] == MODIFY else None
+            yield Entry(self._name, entry.sid, entry.rid, _KINDS[entry.kind], column, values)
+
+    def _types_of(self, entry: EntryOf) -> Sequence[str]:
+        """The types of an entry's cells."""
+        if _KINDS[entry.kind] == MODIFY:
+            return self._shaping.types[entry.column : entry.column + 1]
+        return self._shaping.types[: entry.cells]
