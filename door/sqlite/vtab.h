@@ -110,6 +110,9 @@ void transaction_end(session *s);
    back. */
 session *session_open(connection *c, const char *schema, const char *name, const declaration *declared, bool create,
                       char **error);
+/* The session of the one table of a name; null, and a sentence that says why, sqlite3_malloc's, where there is none or
+   several. */
+session *session_named(connection *c, const char *name, char **why);
 /* Takes a session from its connection. It goes when SQLite has no object for it. */
 void session_detach(session *s);
 void session_free(session *s);
@@ -188,5 +191,10 @@ int cursors_go_back(session *s, size_t level);
 /* ---- write.c */
 
 int x_update(sqlite3_vtab *base, int argc, sqlite3_value **argv, sqlite3_int64 *rowid);
+
+/* ---- layers.c */
+
+/* The table-valued function pdt_layers, whose context is the connection. */
+extern const sqlite3_module layers_module;
 
 #endif

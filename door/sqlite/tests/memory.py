@@ -24,6 +24,7 @@ BLOCKS = [  # each as one: all of its statements, or none
      "DELETE FROM t WHERE id > 9", "ROLLBACK TO b", "UPDATE t SET name = 'y', qty = 9 WHERE id > 30", "RELEASE a"],
 ]
 READS = ["SELECT * FROM t ORDER BY id DESC, slot DESC", "SELECT sum(qty) FROM t WHERE id > 20", "SELECT pdt_fold('t')"]
+READS += ["SELECT * FROM pdt_layers('t')"]
 
 
 def is_done(connection, block):
