@@ -6,6 +6,7 @@ mod Heads
 mod InPlace
 mod Leaves
 mod Paths
+mod PathStepsLemmas
 mod Placed
 mod Places
 mod Runs

@@ -31,7 +31,7 @@ pub power_some : (d : ℕ) → 1 ≤ 8 ^ d
 power_some zero = omega arith
 power_some (suc d) = let h = power_some d in grind arith
 
-power_suc : (d : ℕ) → 8 ^ suc d ≡ 8 * 8 ^ d
+pub power_suc : (d : ℕ) → 8 ^ suc d ≡ 8 * 8 ^ d
 power_suc d = grind arith
 
 -- from a bound on a product to one on a smaller product

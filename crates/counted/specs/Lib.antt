@@ -6,6 +6,7 @@ pub mod Grown
 pub mod Heads
 pub mod Falls
 pub mod Paths
+pub mod PathSteps
 pub mod Roots
 pub mod Search
 pub mod Shapes

@@ -11,6 +11,7 @@ pub(crate) mod bulk;
 mod edit;
 mod grown;
 mod in_place;
+mod path;
 
 use crate::children::{child_of, count_of, net_of};
 use crate::entry::Head;

@@ -8,7 +8,6 @@ ghost use Rattle.counted.specs.Shapes.{IsChild, AreChildren, all_items, depth_of
 ghost use Rattle.counted.specs.Trees.{IsRoot};
 
 use crate::SharedEntry;
-use crate::children::child_at;
 use crate::leaf::{both_leaves, edited_leaf};
 use crate::node::grown::{Grown, above, grown_inner, grown_leaf, push_children, with_grown};
 use crate::node::{Body, Child, Node};
@@ -31,33 +30,11 @@ impl Node {
         ensures root { IfOk result (λ a. IsRoot (arc_value a)) }
         ensures items { IfOk result (λ a. (arc_value a).items ≡ edited at gone (put_items put) self.now.items) }
     {
-        match self.edited(alloc, at, gone, put)? {
+        let path = self.path_to(alloc, at + gone);
+        let entries = edited_leaf(alloc, path.leaf, path.end - gone, gone, put)?;
+        match path.grown(alloc, grown_leaf(entries)?)? {
             Grown::One(node) => root_of(alloc, node),
             Grown::Two(left, right) => Ok(Arc::new(alloc, above(alloc, left, right)?)?),
-        }
-    }
-
-    /// The node with so many entries from an index on, one at most, replaced by another, if there is one.
-    fn edited(
-        &self,
-        alloc: Global,
-        at: usize,
-        gone: usize,
-        put: Option<SharedEntry>,
-    ) -> Result<Grown, AllocError>
-        requires root { IsRoot self.now }
-        requires one { gone ≤ 1 }
-        requires within { at + gone ≤ length self.now.items }
-        requires few { length self.now.items < 2 ^ 61 }
-        ensures { IfOk result (IsGrown self.now.depth (self.now.width - 1) (edited at gone (put_items put) self.now.items)) }
-    {
-        match &self.body {
-            Body::Leaf(entries) => grown_leaf(edited_leaf(alloc, entries, at, gone, put)?),
-            Body::Inner(children) => {
-                let (index, end) = child_at(children, at + gone);
-                let grown = children[index].node.edited(alloc, end - gone, gone, put)?;
-                grown_inner(replaced(alloc, children, index, grown)?)
-            }
         }
     }
 
@@ -118,7 +95,7 @@ fn root_of(alloc: Global, node: Node) -> Result<Arc<Node, Global>, AllocError>
 
 /// The children with one of them replaced by what it became; where that is too little for a child, it is joined with a
 /// neighbour.
-fn replaced(
+pub(crate) fn replaced(
     alloc: Global,
     children: &[Child],
     index: usize,

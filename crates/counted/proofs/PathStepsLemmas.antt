@@ -1,0 +1,308 @@
+-- Steps down to a leaf and up again, and what lies around what they lead to.
+use Rattle.std.proofs.Common.{◌≡◌, ℕ, zero, suc, ◌+◌, ◌-◌, ◌^◌, ◌<◌, ◌≤◌, inl, inr, List, [], ◌∷◌, ◌++◌, length, take, drop, get_or}
+use Rattle.std.proofs.Common.{refl, ap, sym, ◌∙◌, subst, arith, append_assoc, length-append}
+use Rattle.std.specs.List.{All}
+use Rattle.std.proofs.lemmas.Bool.{cases_lt}
+use Rattle.std.proofs.lemmas.List.{append-nil}
+use Rattle.model.specs.declared.entry.Entry.{Entry}
+use Rattle.counted.specs.declared.node.Child.{Child}
+use Rattle.counted.specs.declared.node.grown.Grown.{Grown}
+use Rattle.counted.specs.declared.node.path.Path.{Path}
+use Rattle.counted.specs.declared.node.path.Step.{Step}
+use Rattle.counted.specs.Edits.{edited}
+use Rattle.counted.specs.Grown.{IsGrown, grown_items}
+use Rattle.counted.specs.PathSteps.{AreSteps, IsPath, IsStep, around, before, behind, least_width}
+use Rattle.counted.specs.Shapes.{AreChildren, IsChild, all_items, depth_of, items_of}
+use Rattle.counted.specs.Trees.{IsDepth, IsRoot}
+use Rattle.counted.specs.Views.{View}
+use Rattle.counted.proofs.Places.{AtInner, AtLeaf, deep_children, depth_all, edited-between, grown_is, grown_same, items_from}
+use Rattle.counted.proofs.Places.{power_suc, split_items}
+
+-- ---- one step more
+
+before-push : (steps : List Step) (s : Step) → before (steps ++ s ∷ []) ≡ before steps ++ all_items (take s.index s.children.now)
+before-push [] s = append-nil (all_items (take s.index s.children.now))
+before-push (x ∷ steps) s =
+    let own = all_items (take x.index x.children.now) in
+    ap (λ es. own ++ es) (before-push steps s) ∙ sym (append_assoc own (before steps) (all_items (take s.index s.children.now)))
+
+behind-push : (steps : List Step) (s : Step)
+    → behind (steps ++ s ∷ []) ≡ all_items (drop (s.index + 1) s.children.now) ++ behind steps
+behind-push [] s = sym (append-nil (all_items (drop (s.index + 1) s.children.now)))
+behind-push (x ∷ steps) s =
+    let own = all_items (drop (x.index + 1) x.children.now) in
+    ap (λ es. es ++ own) (behind-push steps s) ∙ append_assoc (all_items (drop (s.index + 1) s.children.now)) (behind steps) own
+
+around-push : (steps : List Step) (s : Step) (inner : List Entry) → around (steps ++ s ∷ []) inner
+    ≡ around steps (all_items (take s.index s.children.now) ++ inner ++ all_items (drop (s.index + 1) s.children.now))
+around-push steps s inner =
+    let front = all_items (take s.index s.children.now) in
+    ap (λ es. es ++ (inner ++ behind (steps ++ s ∷ []))) (before-push steps s)
+    ∙ ap (λ es. (before steps ++ front) ++ (inner ++ es)) (behind-push steps s)
+    ∙ simp append_assoc
+
+around-length : (steps : List Step) (inner : List Entry)
+    → length (around steps inner) ≡ length (before steps) + (length inner + length (behind steps))
+around-length steps inner =
+    length-append (before steps) (inner ++ behind steps) ∙ ap (λ n. length (before steps) + n) (length-append inner (behind steps))
+
+-- how wide a node that the steps lead to is at least, where the first one is so wide
+abbrev width_at : ℕ → List Step → ℕ
+width_at least [] = least
+width_at least (s ∷ steps) = 8
+
+eight : (steps : List Step) → width_at 8 steps ≡ 8
+eight [] = refl
+eight (s ∷ steps) = refl
+
+longer : (depth : ℕ) (steps : List Step) (s : Step) → suc depth + length steps ≡ depth + length (steps ++ s ∷ [])
+longer depth steps s = omega (arith, length-append steps (s ∷ []))
+
+steps-push : (depth least : ℕ) (steps : List Step) (s : Step) → AreSteps (suc depth) least steps → IsStep depth (width_at least steps) s
+    → AreSteps depth least (steps ++ s ∷ [])
+steps-push depth least [] s h is = let e : depth ≡ depth + 0 = omega arith in (subst (λ n. IsStep n least s) e is, tt)
+steps-push depth least (x ∷ steps) s h is = (
+  subst (λ n. IsStep n least x) (longer depth steps s) h.0,
+  steps-push depth 8 steps s h.1 (subst (λ n. IsStep depth n s) (sym (eight steps)) is),
+)
+
+-- what is known of the last step, and of those before it
+record IsLast (depth least : ℕ) (steps : List Step) (s : Step) : Type 0 where
+  pub last : IsStep depth (width_at least steps) s
+  pub rest : AreSteps (suc depth) least steps
+
+steps-pop : (depth least : ℕ) (steps : List Step) (s : Step) → AreSteps depth least (steps ++ s ∷ []) → IsLast depth least steps s
+steps-pop depth least [] s h =
+    let e : depth + 0 ≡ depth = omega arith in record { last = subst (λ n. IsStep n least s) e h.0; rest = tt }
+steps-pop depth least (x ∷ steps) s h =
+    let more = steps-pop depth 8 steps s h.1 in
+    record {
+      last = subst (λ n. IsStep depth n s) (eight steps) more.last;
+      rest = (subst (λ n. IsStep n least x) (sym (longer depth steps s)) h.0, more.rest);
+    }
+
+-- ---- down
+
+-- the steps so far lead to a node, of whose entries so many come before the end that is looked for
+pub record IsAlong (v : View) (whole : ℕ) (node : View) (end : ℕ) (steps : List Step) : Type 0 where
+  pub levels : AreSteps node.depth 2 steps
+  pub root : IsRoot node
+  pub full : 1 ≤ length steps → 8 ≤ node.width
+  pub within : end ≤ length node.items
+  pub index : end + length (before steps) ≡ whole
+  pub some : 1 ≤ whole → 1 ≤ end
+  pub items : around steps node.items ≡ v.items
+  pub room : length steps + node.depth ≤ 21
+
+power_from : (m n : ℕ) → 8 ^ m ≤ 8 ^ (n + m)
+power_from m zero = let e = ap (λ k. 8 ^ k) (let f : 0 + m ≡ m = omega arith in f) in omega arith
+power_from m (suc n) =
+    let rest = power_from m n in
+    let more = power_suc (n + m) in
+    let e = ap (λ k. 8 ^ k) (let f : suc n + m ≡ suc (n + m) = omega arith in f) in
+    omega arith
+
+depth_few : (d n : ℕ) → IsDepth d n → n < 2 ^ 61 → d ≤ 21
+depth_few d n is few =
+    elim (cases_lt d 22) [
+      | inl lt ↦ omega arith
+      | inr le ↦
+          let least = power_from 21 (d - 22) in
+          let e = ap (λ k. 8 ^ k) (let f : (d - 22) + 21 ≡ d - 1 = omega arith in f) in
+          let h = is.many (omega arith) in
+          absurd (omega arith)
+    ]
+
+pub begun : (v : View) (end : ℕ) (steps : List Step) → steps ≡ [] → IsRoot v → (IsRoot v → IsDepth v.depth (length v.items))
+    → end ≤ length v.items → length v.items < 2 ^ 61 → IsAlong v end v end steps
+begun v end steps none root levels within few =
+    subst (IsAlong v end v end) (sym none) (record {
+      levels = tt;
+      root = root;
+      full = λ some. absurd (omega arith);
+      within = within;
+      index = omega arith;
+      some = λ some. some;
+      items = append-nil v.items;
+      room = let h = depth_few v.depth (length v.items) (levels root) few in omega arith;
+    })
+
+pub along_few : (v node : View) (whole end : ℕ) (steps : List Step) → IsAlong v whole node end steps
+    → length node.items ≤ length v.items
+along_few v node whole end steps h = omega (arith, ap length h.items, around-length steps node.items)
+
+-- a node that is gone on from is as wide as it has to be
+wide_here : (steps : List Step) (node : View) → IsRoot node → 2 ≤ node.depth → (1 ≤ length steps → 8 ≤ node.width)
+    → width_at 2 steps ≤ node.width
+wide_here [] node root deep full = root deep
+wide_here (s ∷ steps) node root deep full = full (omega arith)
+
+-- a step down from an inner node
+pub goes_down : (v node w : View) (children : List Child) (whole end rest : ℕ) (steps new : List Step) (s : Step) (d : Child)
+    → IsAlong v whole node end steps → length v.items < 2 ^ 61 → AtInner children node → s.children.now ≡ children
+    → s.index < length children → rest + length (all_items (take s.index children)) ≡ end
+    → rest ≤ length (items_of (get_or children s.index d))
+    → (1 ≤ end → 1 ≤ rest) → new ≡ steps ++ s ∷ [] → w ≡ (get_or children s.index d).node.value → IsAlong v whole w rest new
+goes_down v node w children whole end rest steps new s d h few at same lt past fits some pushed is =
+    let i = s.index in
+    let c = get_or children i d in
+    let child = at.each.each i d lt in
+    let front = all_items (take i children) in
+    let back = all_items (drop (i + 1) children) in
+    let front_same = ap (λ cs. all_items (take i cs)) same in
+    let back_same = ap (λ cs. all_items (drop (i + 1) cs)) same in
+    let count = ap length same in
+    let here : w.items ≡ items_of c = ap (λ (x : View). x.items) is in
+    let long = ap length here in
+    let deep : w.depth ≡ depth_of children = ap (λ (x : View). x.depth) is ∙ child.level in
+    let wide : 8 ≤ w.width = let e = ap (λ (x : View). x.width) is in omega (arith, child.full) in
+    let split : front ++ w.items ++ back ≡ node.items = ap (λ es. front ++ es ++ back) here ∙ append_assoc front (items_of c) back
+    ∙ sym (split_items i children ∙ ap (λ es. front ++ es) (items_from children i d lt)) ∙ sym at.items in
+    let last : IsStep (depth_of children) (width_at 2 steps) s = record {
+      children = subst AreChildren (sym same) at.each;
+      index = omega arith;
+      level = ap depth_of same;
+      wide = omega (arith, wide_here steps node h.root (omega (arith, at.depth, deep_children children at.each)) h.full, at.width);
+      few = omega (arith, ap (λ cs. length (all_items cs)) same, ap length at.items, along_few v node whole end steps h);
+    } in
+    let pushed_levels = steps-push (depth_of children) 2 steps s (subst (λ n. AreSteps n 2 steps) at.depth h.levels) last in
+    record {
+      levels = subst (AreSteps w.depth 2) (sym pushed) (subst (λ n. AreSteps n 2 (steps ++ s ∷ [])) (sym deep) pushed_levels);
+      root = λ _. omega arith;
+      full = λ _. wide;
+      within = omega arith;
+      index = omega (
+        arith,
+        h.index,
+        ap (λ xs. length (before xs)) pushed,
+        ap length (before-push steps s),
+        length-append (before steps) (all_items (take i s.children.now)),
+        ap length front_same,
+      );
+      some = λ more. some (h.some more);
+      items = ap (λ xs. around xs w.items) pushed ∙ around-push steps s w.items
+          ∙ ap (λ es. around steps (es ++ w.items ++ all_items (drop (i + 1) s.children.now))) front_same
+          ∙ ap (λ es. around steps (front ++ w.items ++ es)) back_same ∙ ap (around steps) split ∙ h.items;
+      room = omega (arith, h.room, at.depth, ap length pushed, length-append steps (s ∷ []));
+    }
+
+-- a leaf is where the steps end
+pub at_end : (v node : View) (whole end : ℕ) (path : Path) (entries : List Entry) → IsAlong v whole node end path.steps.items
+    → AtLeaf entries node → path.leaf.now ≡ entries → path.end ≡ end → IsPath v whole path
+at_end v node whole end path entries h at same here =
+    let long = ap length same in
+    let all = ap length at.items in
+    record {
+      steps = subst (λ n. AreSteps n 2 path.steps.items) at.depth h.levels;
+      full = λ some. omega (arith, h.full some, at.width);
+      room = omega (arith, at.room);
+      within = omega (arith, h.within);
+      index = ap (λ n. n + length (before path.steps.items)) here ∙ h.index;
+      some = λ some. omega (arith, h.some some);
+      items = ap (around path.steps.items) (same ∙ sym at.items) ∙ h.items;
+    }
+
+-- ---- up
+
+-- what the steps that are left lead to has grown to this, and all entries are those around it
+pub record IsClimbed (all : List Step) (leaf : List Entry) (left : List Step) (g : Grown) : Type 0 where
+  pub fewer : length left ≤ length all
+  pub levels : AreSteps (1 + (length all - length left)) 2 left
+  pub grown : IsGrown (1 + (length all - length left)) (least_width left) (grown_items g) g
+  pub items : around left (grown_items g) ≡ around all leaf
+
+pub climb_begun : (steps : List Step) (g : Grown) → AreSteps 1 2 steps → IsGrown 1 (least_width steps) (grown_items g) g
+    → IsClimbed steps (grown_items g) steps g
+climb_begun steps g h grown =
+    let e : 1 ≡ 1 + (length steps - length steps) = omega arith in
+    record {
+      fewer = omega arith;
+      levels = subst (λ n. AreSteps n 2 steps) e h;
+      grown = subst (λ n. IsGrown n (least_width steps) (grown_items g) g) e grown;
+      items = refl;
+    }
+
+-- what is known of the step that is gone up
+pub record IsUp (s : Step) (g : Grown) : Type 0 where
+  pub children : AreChildren s.children.now
+  pub index : s.index < length s.children.now
+  pub two : 2 ≤ length s.children.now
+  pub grown : IsGrown (depth_of s.children.now) 7 (grown_items g) g
+  pub few : length (all_items s.children.now) + length (grown_items g) < 2 ^ 62
+
+two_at : (steps : List Step) → 2 ≤ width_at 2 steps
+two_at [] = omega arith
+two_at (s ∷ steps) = omega arith
+
+seven : (steps : List Step) (s : Step) → least_width (steps ++ s ∷ []) ≡ 7
+seven [] s = refl
+seven (x ∷ steps) s = refl
+
+-- a node may lose one of what it holds
+less_by_one : (steps : List Step) → least_width steps + 1 ≤ width_at 2 steps
+less_by_one [] = omega arith
+less_by_one (s ∷ steps) = omega arith
+
+pub popped : (all : List Step) (leaf : List Entry) (left rest : List Step) (g : Grown) (s : Step) → left ≡ rest ++ s ∷ []
+    → length (around all leaf) ≤ 2 ^ 61 → IsClimbed all leaf left g → IsUp s g
+popped all leaf left rest g s split few h =
+    let depth = 1 + (length all - length left) in
+    let last = (steps-pop depth 2 rest s (subst (AreSteps depth 2) split h.levels)).last in
+    record {
+      children = last.children;
+      index = last.index;
+      two = omega (arith, last.wide, two_at rest);
+      grown = grown_same depth _ _ 7 _ _ g (sym last.level) (omega (arith, ap least_width split, seven rest s)) refl h.grown;
+      few = omega (arith, last.few, ap length h.items, around-length left (grown_items g));
+    }
+
+-- a node made anew over what the child became
+pub climbed : (all : List Step) (leaf : List Entry) (left rest : List Step) (g g' : Grown) (s : Step) (new : List Child)
+    → left ≡ rest ++ s ∷ [] → IsClimbed all leaf left g
+    → all_items new ≡ all_items (take s.index s.children.now) ++ grown_items g ++ all_items (drop (s.index + 1) s.children.now)
+    → length s.children.now ≤ length new + 1 → All (IsChild (depth_of s.children.now)) new
+    → IsGrown (1 + depth_of new) (length new) (all_items new) g' → IsClimbed all leaf rest g'
+climbed all leaf left rest g g' s new split h items not_fewer each grown =
+    let depth = 1 + (length all - length left) in
+    let own = steps-pop depth 2 rest s (subst (AreSteps depth 2) split h.levels) in
+    let wide = own.last.wide in
+    let two = two_at rest in
+    let one = less_by_one rest in
+    let count = ap length split ∙ length-append rest (s ∷ []) in
+    let fewer = h.fewer in
+    let up : suc depth ≡ 1 + (length all - length rest) = omega arith in
+    let deep : 1 + depth_of new ≡ 1 + (length all - length rest) =
+    let e = depth_all (depth_of s.children.now) new each (omega arith) in let f = own.last.level in omega arith in
+    let same = grown_is _ _ _ _ grown in
+    record {
+      fewer = omega arith;
+      levels = subst (λ n. AreSteps n 2 rest) up own.rest;
+      grown = grown_same _ _ _ _ _ _ g' deep (omega arith) (sym same) grown;
+      items = ap (around rest) (same ∙ items) ∙ sym (around-push rest s (grown_items g)) ∙ ap (λ xs. around xs (grown_items g)) (sym split)
+          ∙ h.items;
+    }
+
+pub climb_ended : (all : List Step) (leaf : List Entry) (left : List Step) (g : Grown) → length left ≡ 0 → IsClimbed all leaf left g
+    → IsGrown (1 + length all) 0 (around all leaf) g
+climb_ended all leaf [] g none h =
+    let e : 1 + (length all - 0) ≡ 1 + length all = omega arith in
+    grown_same _ _ _ _ _ _ g e (omega arith) (sym (append-nil (grown_items g)) ∙ h.items) h.grown
+climb_ended all leaf (s ∷ left) g none h = absurd (omega arith)
+
+-- ---- an edit of the leaf
+
+pub edited_around : (v : View) (at gone : ℕ) (put : List Entry) (path : Path) → IsPath v (at + gone) path → gone ≤ path.end
+    → around path.steps.items (edited (path.end - gone) gone put path.leaf.now) ≡ edited at gone put v.items
+edited_around v at gone put path h own =
+    let within = h.within in
+    let index = h.index in
+    edited-between (before path.steps.items) path.leaf.now (behind path.steps.items) put at gone (path.end - gone)
+    (omega arith) (omega arith)
+    ∙ ap (edited at gone put) h.items
+
+-- what the node at the head of the path grows to has that edit
+pub edited_along : (v : View) (at gone depth wide : ℕ) (put new : List Entry) (path : Path) (leaf g : Grown) → IsPath v (at + gone) path
+    → gone ≤ path.end → new ≡ edited (path.end - gone) gone put path.leaf.now → IsGrown 1 (length new) new leaf
+    → IsGrown depth wide (around path.steps.items (grown_items leaf)) g → grown_items g ≡ edited at gone put v.items
+edited_along v at gone depth wide put new path leaf g h own is grown made =
+    grown_is _ _ _ _ made ∙ ap (around path.steps.items) (grown_is _ _ _ _ grown ∙ is) ∙ edited_around v at gone put path h own
