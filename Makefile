@@ -37,6 +37,6 @@ door:
 install: door
 	$(MAKE) -C door/c install
 
-# measures the library through the door for C, beside plain Rust and SQLite, into bench/out: make bench BENCH="--only scans"
+# measures the library through its doors, beside plain Rust, SQLite and numpy, into bench/out: make bench BENCH="--only scans"
 bench: door
-	cd bench && cargo run --release --locked --offline -- --csv out $(BENCH) && ./plots
+	cd bench && ./extensions && cargo run --release --locked --offline -- --csv out $(BENCH) && ./batches --csv out && ./plots

@@ -7,6 +7,8 @@ mod keys;
 mod loads;
 mod lookups;
 mod scans;
+mod sql;
+mod sql_transactions;
 mod transactions;
 mod writes;
 
@@ -71,7 +73,7 @@ pub struct Case {
     pub run: fn(&Size) -> Table,
 }
 
-pub const CASES: [Case; 10] = [
+pub const CASES: [Case; 12] = [
     Case { name: scans::NAME, run: scans::run },
     Case { name: keys::NAME, run: keys::run },
     Case { name: lookups::NAME, run: lookups::run },
@@ -82,4 +84,6 @@ pub const CASES: [Case; 10] = [
     Case { name: folds::NAME, run: folds::run },
     Case { name: files::NAME, run: files::run },
     Case { name: loads::NAME, run: loads::run },
+    Case { name: sql::NAME, run: sql::run },
+    Case { name: sql_transactions::NAME, run: sql_transactions::run },
 ];

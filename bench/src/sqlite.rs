@@ -1,10 +1,13 @@
 //! SQLite in memory, by its C interface.
 mod ffi;
 
-use crate::data::{name_of, numbers, qty_of};
+use crate::data::{KeyKind, csv, name_of, numbers, qty_of};
 use crate::updates::{Change, Update};
+use std::env;
 use std::ffi::{CStr, CString, c_int};
+use std::fs;
 use std::marker::PhantomData;
+use std::process;
 use std::ptr::{self, NonNull};
 use std::slice;
 
@@ -33,6 +36,17 @@ impl Database {
         let code = unsafe { ffi::sqlite3_open_v2(c":memory:".as_ptr(), &mut raw, flags, ptr::null()) };
         assert_eq!(ffi::OK, code, "SQLite opens a database in memory");
         Database { raw: NonNull::new(raw).expect("an opened database") }
+    }
+
+    /// Loads an extension, from a file without its ending.
+    fn load(&self, file: &str) {
+        let text = CString::new(file).expect("no zero in a path");
+        // SAFETY: the database is open, the text ends with a zero, and no entry and no fault is asked for.
+        let code = unsafe {
+            ffi::sqlite3_enable_load_extension(self.raw.as_ptr(), 1);
+            ffi::sqlite3_load_extension(self.raw.as_ptr(), text.as_ptr(), ptr::null(), ptr::null_mut())
+        };
+        assert_eq!(ffi::OK, code, "{file}: {} (make -C door/sqlite)", self.said());
     }
 
     /// A statement, compiled.
@@ -184,6 +198,25 @@ pub fn table(rows: usize) -> Database {
     }
     drop(insert);
     database.run("COMMIT");
+    database
+}
+
+/// A database whose table of so many rows is a virtual one, of the extension `door/sqlite`.
+pub fn virtual_table(rows: usize) -> Database {
+    let database = Database::in_memory();
+    database.load(concat!(env!("CARGO_MANIFEST_DIR"), "/../door/sqlite/out/pdt"));
+    let file = env::temp_dir().join(format!("bench-{}.csv", process::id()));
+    fs::write(&file, csv(KeyKind::Int, numbers(rows))).expect("a file in the folder for such");
+    database.run(&format!("CREATE VIRTUAL TABLE items USING pdt('{}')", file.display()));
+    fs::remove_file(&file).expect("the file is there");
+    database
+}
+
+/// A database whose table of so many rows is a virtual one over a vector: `bench/vector.c`.
+pub fn vector(rows: usize) -> Database {
+    let database = Database::in_memory();
+    database.load(concat!(env!("CARGO_MANIFEST_DIR"), "/out/vector"));
+    database.run(&format!("CREATE VIRTUAL TABLE items USING vector({rows})"));
     database
 }
 

@@ -29,6 +29,13 @@ unsafe extern "C" {
     pub fn sqlite3_libversion() -> *const c_char;
     pub fn sqlite3_open_v2(name: *const c_char, db: *mut *mut Sqlite3, flags: c_int, vfs: *const c_char) -> c_int;
     pub fn sqlite3_close(db: *mut Sqlite3) -> c_int;
+    pub fn sqlite3_enable_load_extension(db: *mut Sqlite3, on: c_int) -> c_int;
+    pub fn sqlite3_load_extension(
+        db: *mut Sqlite3,
+        file: *const c_char,
+        entry: *const c_char,
+        fault: *mut *mut c_char,
+    ) -> c_int;
     pub fn sqlite3_errmsg(db: *mut Sqlite3) -> *const c_char;
     pub fn sqlite3_prepare_v2(
         db: *mut Sqlite3,
