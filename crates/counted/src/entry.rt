@@ -1,5 +1,6 @@
 //! The entries of a tree, and what each adds to the rows below it.
 ghost use Rattle.std.specs.Prelude.{◌≡◌, IfOk};
+ghost use Rattle.model.specs.Entries.{is_delete};
 ghost use Rattle.counted.specs.Changes.{change_of, kept_change, IsWeighed};
 ghost use Rattle.counted.specs.Heads.{head_of};
 ghost use Rattle.counted.specs.Sums.{weight_of};
@@ -100,6 +101,14 @@ impl SharedEntry {
             Kept::Number(..) | Kept::Truth(..) => 0,
             Kept::Shared(weight, _) => *weight,
         }
+    }
+
+    /// Whether it deletes the base row of its place. It reads no change.
+    #[inline(always)]
+    pub fn is_delete(&self) -> bool
+        ensures { result ≡ is_delete self.now.change }
+    {
+        self.weight() < 0
     }
 
     /// What places it by its SID, and tells what its change adds. It reads no change.

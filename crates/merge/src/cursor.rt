@@ -1,10 +1,9 @@
 //! How far a walk over the image of one tree has come.
 ghost use Rattle.std.specs.Prelude.{◌≡◌, ℕ, List, suc, ◌+◌, ◌<◌, ◌≤◌, ◌^◌, T, true, false, drop, length, slice_get, take};
 ghost use Rattle.std.specs.Option.{option_copied};
-ghost use Rattle.delta.specs.Lent.{change_of};
 ghost use Rattle.model.specs.Merging.{merged_rows};
 ghost use Rattle.model.specs.declared.entry.Entry.{Entry};
-ghost use Rattle.model.specs.Entries.{IsLawful, is_delete};
+ghost use Rattle.model.specs.Entries.{IsLawful};
 ghost use Rattle.std.specs.List.{list_all};
 ghost use Rattle.values.specs.declared.row.Row.{Row as Cells};
 ghost use Rattle.merge.specs.Level.{IsOver};
@@ -132,7 +131,7 @@ impl<'a> Cursor<'a> {
         ensures { result ≡ starts_with_delete self.now.sid (entries_left self.now) }
     {
         match self.next_entry() {
-            Some(entry) => entry.sid() == self.sid() && is_delete(entry.change()),
+            Some(entry) => entry.sid() == self.sid() && entry.is_delete(),
             None => false,
         }
     }
@@ -242,16 +241,5 @@ impl<'a> Cursor<'a> {
     {
         self.index += 1;
         self.next = self.rest.next();
-    }
-}
-
-/// Whether the change is a delete.
-#[inline(always)]
-fn is_delete(change: ChangeRef<'_>) -> bool
-    ensures { result ≡ is_delete (change_of change.entry) }
-{
-    match change {
-        ChangeRef::Del(_) => true,
-        ChangeRef::Ins(_) | ChangeRef::Mod(..) => false,
     }
 }

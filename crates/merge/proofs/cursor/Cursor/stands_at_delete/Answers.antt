@@ -1,6 +1,5 @@
 use Rattle.std.proofs.Common.{◌≡◌, ◌∙◌, sym, ap}
 use Rattle.std.specs.Option.{option_copied}
-use Rattle.model.specs.Entries.{is_delete}
 use Rattle.merge.proofs.CursorLemmas.{not_same, starts-none, starts-same, starts-other}
 use Rattle.merge.proofs.cursor.Cursor.stands_at_delete.Goals as goal
 
@@ -12,7 +11,7 @@ returns-in-None c =
 pub returns-then-sid : goal.returns-then-sid
 returns-then-sid c =
     let old = c.args.self.now in
-    c.is_delete.ensures ∙ ap is_delete c.change.ensures ∙ sym (starts-same old.sid old.tree.entries old.index c.in-Some.entry.now (sym c.next_entry.ensures ∙ ap option_copied c.in-Some.is) (sym c.sid.ensures ∙ c.if-sid.true ∙ c.sid-in-Some.ensures))
+    c.is_delete.ensures ∙ sym (starts-same old.sid old.tree.entries old.index c.in-Some.entry.now (sym c.next_entry.ensures ∙ ap option_copied c.in-Some.is) (sym c.sid.ensures ∙ c.if-sid.true ∙ c.sid-in-Some.ensures))
 
 pub returns-else-sid : goal.returns-else-sid
 returns-else-sid c =
