@@ -16,11 +16,11 @@ use Rattle.stable.specs.Rows.{column_at, first_columns, row_count, rows_of}
 use Rattle.stable.specs.Stable.{IsStable, Stable, build_fault}
 use Rattle.stable.specs.declared.fault.BuildFault.{BuildFault}
 use Rattle.stable.proofs.CallerLemmas.{all_even, all_rows, all_stable, all_typed, no_build_fault, whole}
-use Rattle.columns.specs.declared.fault.ReadFault.{ReadFault}
-use Rattle.columns.specs.declared.fault.ReadFault.TheVariants.{CountsDiffer, WrongCount}
-use Rattle.columns.specs.declared.frame.Part.{Part}
-use Rattle.columns.specs.Column.{column_bytes}
-use Rattle.columns.specs.Reading.{◌>>=◌, frames_of, parts_after}
+use Rattle.frames.specs.declared.fault.ReadFault.{ReadFault}
+use Rattle.frames.specs.declared.fault.ReadFault.TheVariants.{CountsDiffer, WrongCount}
+use Rattle.frames.specs.declared.frame.Part.{Part}
+use Rattle.frames.specs.Column.{column_bytes}
+use Rattle.frames.specs.Reading.{◌>>=◌, frames_of, parts_after}
 use Rattle.devices.specs.Image.{AllBlocks, image_frames, pieces_of}
 use Rattle.devices.specs.Ready.{AreReady, IsReadyColumn}
 use Rattle.devices.specs.Store.{StopsAt, appended}

@@ -5,13 +5,13 @@ use Rattle.std.proofs.lemmas.Bool.{and_from, cases_lt, le-ltb, lt-ltb}
 use Rattle.std.proofs.lemmas.List.{drop_at, length-append, length-take, take-append-le, take_at}
 use Rattle.values.specs.declared.value.ColumnType.{ColumnType}
 use Rattle.values.specs.declared.value.Value.{Value}
-use Rattle.columns.specs.declared.frame.Frame.TheVariants.{Block}
-use Rattle.columns.specs.declared.frame.Head.{Head}
-use Rattle.columns.specs.declared.frame.Part.{Part}
-use Rattle.columns.specs.declared.seam.Seam.{Seam}
-use Rattle.columns.specs.Column.{AreFramesAt, IsPartAt, column_bytes, frame_bytes, head_at, head_bytes, head_of, is_cut_block, is_rest, may_stand, part_payload, seam_after, seam_after_all}
-use Rattle.columns.proofs.AgainLemmas.{part_short}
-use Rattle.columns.proofs.FrameLemmas.{head_again}
+use Rattle.frames.specs.declared.frame.Frame.TheVariants.{Block}
+use Rattle.frames.specs.declared.frame.Head.{Head}
+use Rattle.frames.specs.declared.frame.Part.{Part}
+use Rattle.frames.specs.declared.seam.Seam.{Seam}
+use Rattle.frames.specs.Column.{AreFramesAt, IsPartAt, column_bytes, frame_bytes, head_at, head_bytes, head_of, is_cut_block, is_rest, may_stand, part_payload, seam_after, seam_after_all}
+use Rattle.frames.proofs.AgainLemmas.{part_short}
+use Rattle.frames.proofs.FrameLemmas.{head_again}
 use Rattle.devices.specs.Image.{image_frame}
 use Rattle.devices.proofs.ImageFramesLemmas.{frames_from}
 

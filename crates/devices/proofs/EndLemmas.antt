@@ -3,11 +3,11 @@ use Rattle.std.proofs.Common.{◌≡◌, ℕ, suc, ◌==◌, Some, List, [], ◌
 use Rattle.std.proofs.lemmas.List.{append-nil, length-append}
 use Rattle.values.specs.declared.value.ColumnType.{ColumnType}
 use Rattle.values.specs.declared.value.ColumnType.TheVariants as column
-use Rattle.columns.specs.declared.fault.ReadFault.{ReadFault}
-use Rattle.columns.specs.declared.fault.ReadFault.TheVariants.{WrongCount}
-use Rattle.columns.specs.declared.frame.Frame.TheVariants.{End}
-use Rattle.columns.specs.declared.frame.Part.{Part}
-use Rattle.columns.specs.Reading.{◌>>=◌, frames_of, parts_after}
+use Rattle.frames.specs.declared.fault.ReadFault.{ReadFault}
+use Rattle.frames.specs.declared.fault.ReadFault.TheVariants.{WrongCount}
+use Rattle.frames.specs.declared.frame.Frame.TheVariants.{End}
+use Rattle.frames.specs.declared.frame.Part.{Part}
+use Rattle.frames.specs.Reading.{◌>>=◌, frames_of, parts_after}
 use Rattle.devices.specs.Ready.{IsWholeColumn, StoresAs}
 use Rattle.devices.specs.Stored.{all_parts, image_at, newest_whole}
 use Rattle.devices.proofs.FramesLemmas.{AreWanted-append, column_after, parts_again, parts_of-append}

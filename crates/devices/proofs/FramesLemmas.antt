@@ -4,12 +4,12 @@ use Rattle.std.proofs.lemmas.Bool.{lt-ltb}
 use Rattle.std.proofs.lemmas.Grind.{flat_map-append}
 use Rattle.std.proofs.lemmas.List.{append-nil}
 use Rattle.values.specs.declared.value.ColumnType.{ColumnType}
-use Rattle.columns.specs.declared.frame.Frame.{Frame}
-use Rattle.columns.specs.declared.frame.Frame.TheVariants.{Header, Block, End}
-use Rattle.columns.specs.declared.seam.Seam.{Seam}
-use Rattle.columns.specs.Column.{AreFramesAt, IsColumn, column_bytes, frame_bytes, is_above, is_rest, seam_after, seam_after_all, start}
-use Rattle.columns.specs.Reading.{AreWanted, frames_of, parts_after, parts_of}
-use Rattle.columns.proofs.AgainLemmas.{column_again}
+use Rattle.frames.specs.declared.frame.Frame.{Frame}
+use Rattle.frames.specs.declared.frame.Frame.TheVariants.{Header, Block, End}
+use Rattle.frames.specs.declared.seam.Seam.{Seam}
+use Rattle.frames.specs.Column.{AreFramesAt, IsColumn, column_bytes, frame_bytes, is_above, is_rest, seam_after, seam_after_all, start}
+use Rattle.frames.specs.Reading.{AreWanted, frames_of, parts_after, parts_of}
+use Rattle.frames.proofs.AgainLemmas.{column_again}
 use Rattle.devices.specs.Ready.{AreBelow}
 
 pub seam_after_all-append : (seam : Seam) (frames more : List Frame)

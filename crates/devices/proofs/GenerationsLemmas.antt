@@ -4,7 +4,7 @@ use Rattle.std.specs.List.{AllByRecursion, list_all}
 use Rattle.std.proofs.lemmas.Bool.{and_cases, and_parts, and_right, eq-eqb, ne_eqb, or_cases, or_from, or_parts}
 use Rattle.values.specs.declared.value.ColumnType.{ColumnType}
 use Rattle.values.specs.declared.value.Value.{Value}
-use Rattle.columns.specs.declared.frame.Part.{Part}
+use Rattle.frames.specs.declared.frame.Part.{Part}
 use Rattle.devices.specs.Ready.{AreBelow}
 use Rattle.devices.specs.Stored.{columns_in, ends_image, is_whole, newest_of, newest_whole, values_in}
 

@@ -6,18 +6,18 @@ use Rattle.std.proofs.lemmas.Bool.{eqb-true, eq-eqb, ltb-true, and_parts, cases_
 use Rattle.values.specs.declared.value.ColumnType.{ColumnType}
 use Rattle.values.specs.declared.value.ColumnType.TheVariants as column
 use Rattle.blocks.specs.Payload.{AreBytes}
-use Rattle.columns.specs.declared.fault.ReadFault.{ReadFault}
-use Rattle.columns.specs.declared.frame.Frame.{Frame}
-use Rattle.columns.specs.declared.frame.Frame.TheVariants.{Header, Block, End}
-use Rattle.columns.specs.declared.frame.Head.{Head}
-use Rattle.columns.specs.declared.frame.Kind.{Kind}
-use Rattle.columns.specs.declared.frame.Part.{Part}
-use Rattle.columns.specs.declared.seam.Seam.{Seam}
-use Rattle.columns.specs.declared.seam.Unfinished.{Unfinished}
-use Rattle.columns.specs.Bytes.{type_byte}
-use Rattle.columns.specs.Column.{AreFramesAt, IsPartAt, head_of, kind_of, is_above, goes_on, is_in_turn, has_due_count, seam_after, start}
-use Rattle.columns.specs.Laws.{WhatReadsIsAColumn}
-use Rattle.columns.specs.Reading.{AreWanted, Gives, frames_of, parts_of, parts_after}
+use Rattle.frames.specs.declared.fault.ReadFault.{ReadFault}
+use Rattle.frames.specs.declared.frame.Frame.{Frame}
+use Rattle.frames.specs.declared.frame.Frame.TheVariants.{Header, Block, End}
+use Rattle.frames.specs.declared.frame.Head.{Head}
+use Rattle.frames.specs.declared.frame.Kind.{Kind}
+use Rattle.frames.specs.declared.frame.Part.{Part}
+use Rattle.frames.specs.declared.seam.Seam.{Seam}
+use Rattle.frames.specs.declared.seam.Unfinished.{Unfinished}
+use Rattle.frames.specs.Bytes.{type_byte}
+use Rattle.frames.specs.Column.{AreFramesAt, IsPartAt, head_of, kind_of, is_above, goes_on, is_in_turn, has_due_count, seam_after, start}
+use Rattle.frames.specs.Laws.{WhatReadsIsAColumn}
+use Rattle.frames.specs.Reading.{AreWanted, Gives, frames_of, parts_of, parts_after}
 use Rattle.devices.specs.Turns.{IsPartOf, IsNext, AreNext, AreInTurn}
 use Rattle.devices.proofs.WantedLemmas.{column_wanted}
 

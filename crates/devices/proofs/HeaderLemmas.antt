@@ -5,16 +5,16 @@ use Rattle.std.proofs.lemmas.List.{append-nil}
 use Rattle.std.proofs.lemmas.Slice.Zip.{AllZip-long}
 use Rattle.values.specs.Shape.{Columns}
 use Rattle.values.specs.declared.value.ColumnType.{ColumnType}
-use Rattle.columns.specs.Bytes.{type_byte}
-use Rattle.columns.specs.declared.fault.ReadFault.{ReadFault}
-use Rattle.columns.specs.declared.fault.ReadFault.TheVariants.{WrongCount}
-use Rattle.columns.specs.declared.frame.Format.TheVariants.{Second}
-use Rattle.columns.specs.declared.frame.Frame.{Frame}
-use Rattle.columns.specs.declared.frame.Frame.TheVariants.{Header}
-use Rattle.columns.specs.declared.frame.Part.{Part}
-use Rattle.columns.specs.declared.seam.Seam.{Seam}
-use Rattle.columns.specs.Column.{IsColumn, frame_bytes, start}
-use Rattle.columns.specs.Reading.{◌>>=◌, AreWanted, frames_of, parts_after, parts_of}
+use Rattle.frames.specs.Bytes.{type_byte}
+use Rattle.frames.specs.declared.fault.ReadFault.{ReadFault}
+use Rattle.frames.specs.declared.fault.ReadFault.TheVariants.{WrongCount}
+use Rattle.frames.specs.declared.frame.Format.TheVariants.{Second}
+use Rattle.frames.specs.declared.frame.Frame.{Frame}
+use Rattle.frames.specs.declared.frame.Frame.TheVariants.{Header}
+use Rattle.frames.specs.declared.frame.Part.{Part}
+use Rattle.frames.specs.declared.seam.Seam.{Seam}
+use Rattle.frames.specs.Column.{IsColumn, frame_bytes, start}
+use Rattle.frames.specs.Reading.{◌>>=◌, AreWanted, frames_of, parts_after, parts_of}
 use Rattle.devices.specs.Image.{headers_of}
 use Rattle.devices.specs.Ready.{AreBelow, AreReady, AreWhole, IsReadyColumn, IsWholeColumn}
 use Rattle.devices.specs.Store.{appended}

@@ -8,14 +8,14 @@ use Rattle.values.specs.declared.value.ColumnType.{ColumnType}
 use Rattle.values.specs.declared.value.Value.{Value}
 use Rattle.blocks.specs.Column.{IsBlock}
 use Rattle.stable.specs.Column.{block_at, block_count}
-use Rattle.columns.specs.declared.frame.Format.TheVariants.{Second}
-use Rattle.columns.specs.declared.frame.Frame.{Frame}
-use Rattle.columns.specs.declared.frame.Kind.{Kind}
-use Rattle.columns.specs.declared.frame.Part.{Part}
-use Rattle.columns.specs.declared.seam.Seam.{Seam}
-use Rattle.columns.specs.declared.seam.Unfinished.{Unfinished}
-use Rattle.columns.specs.Column.{AreFramesAt, IsPartAt, flag_byte, goes_on, has_due_count, head_of, is_above, is_in_turn, part_payload, seam_after, seam_after_all}
-use Rattle.columns.specs.Reading.{AreWanted, parts_of}
+use Rattle.frames.specs.declared.frame.Format.TheVariants.{Second}
+use Rattle.frames.specs.declared.frame.Frame.{Frame}
+use Rattle.frames.specs.declared.frame.Kind.{Kind}
+use Rattle.frames.specs.declared.frame.Part.{Part}
+use Rattle.frames.specs.declared.seam.Seam.{Seam}
+use Rattle.frames.specs.declared.seam.Unfinished.{Unfinished}
+use Rattle.frames.specs.Column.{AreFramesAt, IsPartAt, flag_byte, goes_on, has_due_count, head_of, is_above, is_in_turn, part_payload, seam_after, seam_after_all}
+use Rattle.frames.specs.Reading.{AreWanted, parts_of}
 use Rattle.devices.specs.Image.{image_frame, part_count}
 use Rattle.devices.specs.Stored.{is_whole, values_in}
 use Rattle.devices.proofs.GenerationsLemmas.{AreOf}

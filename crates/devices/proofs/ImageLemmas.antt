@@ -8,7 +8,7 @@ use Rattle.std.proofs.lemmas.List.Sums.{AllPass-from_list_all}
 use Rattle.values.specs.declared.value.ColumnType.{ColumnType}
 use Rattle.values.specs.declared.value.ColumnType.TheVariants as column
 use Rattle.blocks.specs.Column.{Column}
-use Rattle.columns.specs.declared.frame.Part.{Part}
+use Rattle.frames.specs.declared.frame.Part.{Part}
 use Rattle.stable.specs.Rows.{AreEven, row_count}
 use Rattle.devices.specs.Stored.{values_in, columns_in, are_even}
 use Rattle.devices.specs.Turns.{AreInTurn, AreAllInTurn, AreEachInTurn}

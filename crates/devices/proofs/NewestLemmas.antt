@@ -4,10 +4,10 @@ use Rattle.std.specs.List.{list_all}
 use Rattle.std.proofs.lemmas.Bool.{eqb-true, eq-eqb, and_parts, cases_Bool}
 use Rattle.std.proofs.lemmas.List.{take_more}
 use Rattle.values.specs.declared.value.ColumnType.{ColumnType}
-use Rattle.columns.specs.declared.fault.ReadFault.{ReadFault}
-use Rattle.columns.specs.declared.frame.Part.{Part}
-use Rattle.columns.specs.Laws.{WhatReadsIsAColumn}
-use Rattle.columns.specs.Reading.{◌>>=◌, frames_of, parts_after}
+use Rattle.frames.specs.declared.fault.ReadFault.{ReadFault}
+use Rattle.frames.specs.declared.frame.Part.{Part}
+use Rattle.frames.specs.Laws.{WhatReadsIsAColumn}
+use Rattle.frames.specs.Reading.{◌>>=◌, frames_of, parts_after}
 use Rattle.devices.specs.Laws.{IsWholeInAll, IsGreatest, NewestIsTheGreatest}
 use Rattle.devices.specs.Stored.{all_parts, ends_image, is_whole, newest_of, newest_whole}
 use Rattle.devices.specs.Turns.{IsNext, AreNext, AreInTurn}

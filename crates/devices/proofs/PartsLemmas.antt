@@ -2,10 +2,10 @@
 use Rattle.std.proofs.Common.{◌≡◌, ℕ, zero, suc, ◌+◌, ◌<◌, ◌≤◌, Some, List, [], ◌∷◌, ◌++◌, length, drop, get_or, Result, Ok, Err, refl, sym, ap, ◌∙◌, append_assoc, add-one, drop-cons, arith}
 use Rattle.std.proofs.lemmas.List.{append-nil}
 use Rattle.values.specs.declared.value.ColumnType.{ColumnType}
-use Rattle.columns.specs.declared.fault.ReadFault.{ReadFault}
-use Rattle.columns.specs.declared.fault.ReadFault.TheVariants.{WrongCount, BadFrame, TypesDiffer, BadBlock, NoImage, CountsDiffer, TooManyRows, NotAscending, NoMemory}
-use Rattle.columns.specs.declared.frame.Part.{Part}
-use Rattle.columns.specs.Reading.{◌>>=◌, frames_of, parts_after, Fails}
+use Rattle.frames.specs.declared.fault.ReadFault.{ReadFault}
+use Rattle.frames.specs.declared.fault.ReadFault.TheVariants.{WrongCount, BadFrame, TypesDiffer, BadBlock, NoImage, CountsDiffer, TooManyRows, NotAscending, NoMemory}
+use Rattle.frames.specs.declared.frame.Part.{Part}
+use Rattle.frames.specs.Reading.{◌>>=◌, frames_of, parts_after, Fails}
 use Rattle.devices.specs.Stored.{all_parts}
 
 -- columns that were read before, and those that are read now

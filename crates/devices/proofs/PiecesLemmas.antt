@@ -11,10 +11,10 @@ use Rattle.blocks.specs.Column.{AllFit, Column, IsBlock}
 use Rattle.stable.specs.Column.{block_at, block_count}
 use Rattle.stable.specs.Rows.{column_at}
 use Rattle.stable.specs.Stable.{Stable}
-use Rattle.columns.specs.declared.frame.Format.TheVariants.{Second}
-use Rattle.columns.specs.declared.frame.Frame.{Frame}
-use Rattle.columns.specs.declared.frame.Frame.TheVariants.{Block}
-use Rattle.columns.specs.Column.{frame_bytes, column_bytes}
+use Rattle.frames.specs.declared.frame.Format.TheVariants.{Second}
+use Rattle.frames.specs.declared.frame.Frame.{Frame}
+use Rattle.frames.specs.declared.frame.Frame.TheVariants.{Block}
+use Rattle.frames.specs.Column.{frame_bytes, column_bytes}
 use Rattle.devices.specs.Image.{AreBlocks, part_count, image_frame, first_frames, image_frames, piece_at, pieces_of, first_pieces}
 
 column_bytes_push : (frames : List Frame) (frame : Frame) → column_bytes (frames ++ frame ∷ []) ≡ column_bytes frames ++ frame_bytes frame

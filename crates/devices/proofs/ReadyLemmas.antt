@@ -4,11 +4,11 @@ use Rattle.std.proofs.lemmas.Bool.{cases_eq, cases_lt}
 use Rattle.std.proofs.lemmas.List.{append-nil}
 use Rattle.values.specs.declared.value.ColumnType.{ColumnType}
 use Rattle.blocks.specs.Column.{Column}
-use Rattle.columns.specs.declared.frame.Frame.{Frame}
-use Rattle.columns.specs.declared.frame.Part.{Part}
-use Rattle.columns.specs.declared.seam.Seam.{Seam}
-use Rattle.columns.specs.Column.{AreFramesAt, IsColumn, column_bytes, is_rest, seam_after_all, start}
-use Rattle.columns.specs.Reading.{frames_of, parts_after, parts_of}
+use Rattle.frames.specs.declared.frame.Frame.{Frame}
+use Rattle.frames.specs.declared.frame.Part.{Part}
+use Rattle.frames.specs.declared.seam.Seam.{Seam}
+use Rattle.frames.specs.Column.{AreFramesAt, IsColumn, column_bytes, is_rest, seam_after_all, start}
+use Rattle.frames.specs.Reading.{frames_of, parts_after, parts_of}
 use Rattle.devices.specs.Image.{AreBlocks, image_frames, part_count}
 use Rattle.devices.specs.Ready.{AreBelow, AreWhole, IsReadyColumn, IsWholeColumn}
 use Rattle.devices.specs.Stored.{is_whole, values_in}

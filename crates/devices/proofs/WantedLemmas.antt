@@ -4,16 +4,16 @@ use Rattle.std.proofs.lemmas.Bool.{cases_Bool}
 use Rattle.values.specs.declared.value.ColumnType.{ColumnType}
 use Rattle.values.specs.declared.value.Value.{Value}
 use Rattle.blocks.specs.declared.fault.BlockFault.{BlockFault}
-use Rattle.columns.specs.declared.fault.ReadFault.{ReadFault}
-use Rattle.columns.specs.declared.fault.ReadFault.TheVariants.{BadFrame, TypesDiffer}
-use Rattle.columns.specs.declared.frame.Format.{Format}
-use Rattle.columns.specs.declared.frame.Frame.{Frame}
-use Rattle.columns.specs.declared.frame.Frame.TheVariants.{Header, Block, End}
-use Rattle.columns.specs.declared.frame.Head.{Head}
-use Rattle.columns.specs.declared.frame.Kind.{Kind}
-use Rattle.columns.specs.declared.seam.Seam.{Seam}
-use Rattle.columns.specs.Column.{head_at, may_stand, seam_after, start}
-use Rattle.columns.specs.Reading.{◌>>=◌, Found, AreWanted, found_then, format_of, type_of, frame_at, frames_at, frames_of, header_at, header_of, is_wanted, part_at, part_of, part_with}
+use Rattle.frames.specs.declared.fault.ReadFault.{ReadFault}
+use Rattle.frames.specs.declared.fault.ReadFault.TheVariants.{BadFrame, TypesDiffer}
+use Rattle.frames.specs.declared.frame.Format.{Format}
+use Rattle.frames.specs.declared.frame.Frame.{Frame}
+use Rattle.frames.specs.declared.frame.Frame.TheVariants.{Header, Block, End}
+use Rattle.frames.specs.declared.frame.Head.{Head}
+use Rattle.frames.specs.declared.frame.Kind.{Kind}
+use Rattle.frames.specs.declared.seam.Seam.{Seam}
+use Rattle.frames.specs.Column.{head_at, may_stand, seam_after, start}
+use Rattle.frames.specs.Reading.{◌>>=◌, Found, AreWanted, found_then, format_of, type_of, frame_at, frames_at, frames_of, header_at, header_of, is_wanted, part_at, part_of, part_with}
 
 -- a frame and the bytes after it, as they are found
 abbrev found : Frame → List ℕ → Result Found ReadFault

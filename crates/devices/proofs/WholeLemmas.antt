@@ -3,7 +3,7 @@ use Rattle.std.proofs.Common.{◌≡◌, ℕ, zero, suc, ◌-◌, ◌<◌, ◌�
 use Rattle.std.specs.List.Sorted.{IsNonDecreasingBy, IsPartitionPoint}
 use Rattle.std.proofs.lemmas.Bool.{eqb-true, leb-true, leb-false, and_parts, cases_Bool}
 use Rattle.values.specs.declared.value.ColumnType.{ColumnType}
-use Rattle.columns.specs.declared.frame.Part.{Part}
+use Rattle.frames.specs.declared.frame.Part.{Part}
 use Rattle.devices.specs.Stored.{is_whole}
 use Rattle.devices.specs.Turns.{Follows, AreNext, IsInTurn}
 

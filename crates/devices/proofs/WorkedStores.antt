@@ -4,9 +4,9 @@ use Rattle.values.specs.Shape.{Columns}
 use Rattle.values.specs.declared.value.ColumnType.TheVariants as column
 use Rattle.values.specs.declared.value.Value.TheVariants.{Int}
 use Rattle.blocks.specs.Reading.{ints_at}
-use Rattle.columns.specs.declared.fault.ReadFault.TheVariants.{WrongCount, BadFrame, NoImage}
-use Rattle.columns.specs.Reading.{header_at, part_at, frame_at, frames_at}
-use Rattle.columns.specs.Vectors.{INT_HEADER_2, TEN_BLOCK_2, ONE_ROW_COLUMN, ONE_ROW_COLUMN_2}
+use Rattle.frames.specs.declared.fault.ReadFault.TheVariants.{WrongCount, BadFrame, NoImage}
+use Rattle.frames.specs.Reading.{header_at, part_at, frame_at, frames_at}
+use Rattle.frames.specs.Vectors.{INT_HEADER_2, TEN_BLOCK_2, ONE_ROW_COLUMN, ONE_ROW_COLUMN_2}
 use Rattle.devices.specs.Stored.{Image, stored_image}
 
 abbrev one_int : Columns

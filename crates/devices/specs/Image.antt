@@ -7,10 +7,10 @@ use Rattle.blocks.specs.Column.{Column, IsBlock}
 use Rattle.stable.specs.Column.{block_at, block_count}
 use Rattle.stable.specs.Rows.{column_at}
 use Rattle.stable.specs.Stable.{Stable}
-use Rattle.columns.specs.declared.frame.Format.TheVariants.{Second}
-use Rattle.columns.specs.declared.frame.Frame.{Frame}
-use Rattle.columns.specs.declared.frame.Frame.TheVariants.{Header, Block}
-use Rattle.columns.specs.Column.{frame_bytes, column_bytes}
+use Rattle.frames.specs.declared.frame.Format.TheVariants.{Second}
+use Rattle.frames.specs.declared.frame.Frame.{Frame}
+use Rattle.frames.specs.declared.frame.Frame.TheVariants.{Header, Block}
+use Rattle.frames.specs.Column.{frame_bytes, column_bytes}
 
 -- in how many blocks so many values are written: no value still takes one
 abbrev pub part_count : ℕ → ℕ

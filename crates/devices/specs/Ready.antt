@@ -4,11 +4,11 @@ use Rattle.std.specs.List.{AllByRecursion, AllZip}
 use Rattle.values.specs.Shape.{Columns}
 use Rattle.values.specs.declared.value.ColumnType.{ColumnType}
 use Rattle.values.specs.declared.value.ColumnType.TheVariants as column
-use Rattle.columns.specs.declared.frame.Format.TheVariants.{Second}
-use Rattle.columns.specs.declared.frame.Frame.{Frame}
-use Rattle.columns.specs.declared.frame.Part.{Part}
-use Rattle.columns.specs.Column.{IsColumn, seam_after_all, start}
-use Rattle.columns.specs.Reading.{AreWanted, parts_of}
+use Rattle.frames.specs.declared.frame.Format.TheVariants.{Second}
+use Rattle.frames.specs.declared.frame.Frame.{Frame}
+use Rattle.frames.specs.declared.frame.Part.{Part}
+use Rattle.frames.specs.Column.{IsColumn, seam_after_all, start}
+use Rattle.frames.specs.Reading.{AreWanted, parts_of}
 use Rattle.devices.specs.Stored.{stored_image}
 
 -- whether each of the blocks is of a generation below this one

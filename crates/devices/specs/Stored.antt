@@ -9,10 +9,10 @@ use Rattle.stable.specs.Rows.{row_count, rows_of}
 use Rattle.stable.specs.Stable.{Stable, build_fault}
 use Rattle.stable.specs.declared.fault.BuildFault.{BuildFault}
 use Rattle.stable.specs.declared.fault.BuildFault.TheVariants as build
-use Rattle.columns.specs.declared.fault.ReadFault.{ReadFault}
-use Rattle.columns.specs.declared.fault.ReadFault.TheVariants.{WrongCount, NoImage, CountsDiffer, TooManyRows, NotAscending, NoMemory}
-use Rattle.columns.specs.declared.frame.Part.{Part}
-use Rattle.columns.specs.Reading.{◌>>=◌, frames_of, parts_after}
+use Rattle.frames.specs.declared.fault.ReadFault.{ReadFault}
+use Rattle.frames.specs.declared.fault.ReadFault.TheVariants.{WrongCount, NoImage, CountsDiffer, TooManyRows, NotAscending, NoMemory}
+use Rattle.frames.specs.declared.frame.Part.{Part}
+use Rattle.frames.specs.Reading.{◌>>=◌, frames_of, parts_after}
 
 -- a generation, and the table that it stores
 pub record Image : Type 0 where

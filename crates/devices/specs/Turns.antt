@@ -3,7 +3,7 @@ use Rattle.std.specs.Prelude.{◌≡◌, ℕ, ◌+◌, ◌<◌, ◌≤◌, false
 use Rattle.values.specs.declared.value.ColumnType.{ColumnType}
 use Rattle.values.specs.declared.value.ColumnType.TheVariants as column
 use Rattle.values.specs.declared.limits.TheConstants.{MAX_BLOCK_VALUES}
-use Rattle.columns.specs.declared.frame.Part.{Part}
+use Rattle.frames.specs.declared.frame.Part.{Part}
 
 -- a block of the type, full unless it is the last of its generation
 pub record IsPartOf (ty : ColumnType) (part : Part) : Type 0 where

@@ -1,7 +1,7 @@
 //! The laws of stores, each the contract of a function that does nothing. A caller who needs one calls it.
 ghost use Rattle.devices.specs.Laws.{NewestIsTheGreatest};
 
-use columns::what_reads_is_a_column;
+use frames::what_reads_is_a_column;
 
 /// Of columns that can be read, the generation of the image is the greatest that is whole in each of them; there is none
 /// where none is whole in each.

@@ -2,7 +2,7 @@
 //!
 //! *What a contract sees.* A device is the bytes that it has taken and how often it has failed.
 //!
-//! *What it stands on.* `values`, `blocks`, `stable`, `columns` for the frames of a column, and `thiserror` for what a
+//! *What it stands on.* `values`, `blocks`, `stable`, `frames` for the frames of a column, and `thiserror` for what a
 //! fault shows.
 #![tactic(auto)]
 
@@ -17,11 +17,11 @@ mod pieces;
 mod reading;
 mod store;
 
-pub use columns::ReadFault;
 pub use device::{ColumnDevice, DeviceFault, ended};
 pub use fail_at::FailAt;
 pub use fault::StoreFault;
 pub use file::FileColumn;
+pub use frames::ReadFault;
 pub use laws::newest_is_the_greatest;
 pub use memory::MemColumn;
 pub use reading::{StoredImage, read_store};

@@ -1,13 +1,13 @@
 //! The pieces of a table's image, one for each column.
 ghost use Rattle.std.specs.Prelude.{◌≡◌, ◌≤◌, ◌++◌, IfOk, OnOk, length, map};
 ghost use Rattle.values.specs.declared.limits.TheConstants.{MAX_ROWS};
-ghost use Rattle.columns.specs.Column.{column_bytes};
+ghost use Rattle.frames.specs.Column.{column_bytes};
 ghost use Rattle.stable.specs.Stable.{IsStable};
 ghost use Rattle.values.specs.Shape.{IsSchema};
 ghost use Rattle.devices.specs.Image.{AllBlocks, AreBlocks, headers_of, image_frames, pieces_of};
 
 use blocks::Block;
-use columns::{write_header, write_part};
+use frames::{write_header, write_part};
 use stable::{Column, StableTable};
 use std::alloc::Global;
 use values::limits::MAX_BLOCK_VALUES;

@@ -1,11 +1,11 @@
 //! A store, read.
 ghost use Rattle.std.specs.Prelude.{◌≡◌, [], length, map, IfOk};
 ghost use Rattle.std.specs.List.{list_all};
-ghost use Rattle.columns.specs.Reading.{Gives, frames_of, parts_after};
+ghost use Rattle.frames.specs.Reading.{Gives, frames_of, parts_after};
 ghost use Rattle.devices.specs.Stored.{all_parts, are_even, columns_in, ends_image, fault_of, image_of, is_whole, newest_of, newest_whole, stored_image, values_in};
 ghost use Rattle.devices.specs.Turns.{AreAllInTurn, AreEachInTurn, AreInTurn, IsInTurn};
 
-use columns::{Part, ReadFault, read_column, what_reads_is_a_column};
+use frames::{Part, ReadFault, read_column, what_reads_is_a_column};
 use stable::{BuildFault, Column, StableTable};
 use std::alloc::Global;
 use values::{ColumnType, NoMemory, Schema};

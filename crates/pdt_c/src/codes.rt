@@ -5,8 +5,8 @@ ghost use Rattle.pdt_c.specs.declared.codes.TheConstants.{NO_MEMORY, SHAPE};
 ghost use Rattle.txn.specs.declared.fault.WriteFault.TheVariants as write_fault;
 
 use crate::cells::CellFault;
-use columns::ReadFault;
 use devices::StoreFault;
+use frames::ReadFault;
 use inputs::TableFault;
 use manager::{CheckpointFault, OpenFault};
 use model::{CommitReply, WriteReply};

@@ -2,7 +2,7 @@
 use Rattle.std.specs.Prelude.{◌≡◌, ◌≢◌, ◌⊎◌, ℕ, List, Ok, Err, IsOkAnd}
 use Rattle.values.specs.Shape.{Columns}
 use Rattle.values.specs.declared.row.Row.{Row}
-use Rattle.columns.specs.declared.fault.ReadFault.TheVariants as read_fault
+use Rattle.frames.specs.declared.fault.ReadFault.TheVariants as read_fault
 use Rattle.devices.specs.Stored.{Image, stored_image}
 use Rattle.devices.specs.declared.fault.StoreFault.TheVariants as store_fault
 use Rattle.inputs.specs.Input.{IsFaultOf, IsTableOf}

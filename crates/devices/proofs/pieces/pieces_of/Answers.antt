@@ -1,7 +1,7 @@
 use Rattle.std.proofs.Common.{◌≡◌, ℕ, List, [], ◌∷◌, ◌++◌, map, sym, ap, ◌∙◌, Vec, Global}
 use Rattle.std.proofs.lemmas.List.{map_push}
 use Rattle.blocks.specs.Column.{Column}
-use Rattle.columns.specs.Column.{column_bytes}
+use Rattle.frames.specs.Column.{column_bytes}
 use Rattle.devices.specs.Image.{image_frames, piece_at, first_pieces}
 use Rattle.devices.proofs.PiecesLemmas.{columns_more, pieces_more}
 use Rattle.devices.proofs.pieces.pieces_of.Goals as goal

@@ -1,8 +1,8 @@
 use Rattle.std.proofs.Common.{◌+◌, ◌++◌, eqb, ap, ◌∙◌, arith}
 use Rattle.blocks.specs.Column.{Column, IsBlock}
-use Rattle.columns.specs.declared.frame.Format.TheVariants.{Second}
-use Rattle.columns.specs.declared.frame.Frame.TheVariants.{Block}
-use Rattle.columns.specs.Column.{frame_bytes}
+use Rattle.frames.specs.declared.frame.Format.TheVariants.{Second}
+use Rattle.frames.specs.declared.frame.Frame.TheVariants.{Block}
+use Rattle.frames.specs.Column.{frame_bytes}
 use Rattle.devices.proofs.PiecesLemmas.{blocks_more, written_more}
 use Rattle.devices.proofs.pieces.write_column.Goals as goal
 

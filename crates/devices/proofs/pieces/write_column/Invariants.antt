@@ -1,7 +1,7 @@
 use Rattle.std.proofs.Common.{◌≡◌, ℕ, ◌<◌, ◌++◌}
 use Rattle.blocks.specs.Column.{IsBlock}
 use Rattle.stable.specs.Column.{block_at}
-use Rattle.columns.specs.Column.{column_bytes}
+use Rattle.frames.specs.Column.{column_bytes}
 use Rattle.devices.specs.Image.{first_frames}
 use Rattle.devices.proofs.pieces.write_column.Given as goal
 

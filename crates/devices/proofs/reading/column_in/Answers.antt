@@ -1,6 +1,6 @@
 use Rattle.std.proofs.Common.{◌≡◌, ◌++◌, ◌∷◌, [], List, length, sym, ap, ◌∙◌, arith}
 use Rattle.values.specs.declared.value.Value.{Value}
-use Rattle.columns.specs.declared.frame.Part.{Part}
+use Rattle.frames.specs.declared.frame.Part.{Part}
 use Rattle.blocks.specs.Column.{Column}
 use Rattle.devices.specs.Stored.{values_in}
 use Rattle.devices.proofs.TurnsLemmas.{stacked, values_more, values_other, values_none, taken_on, all_taken}

@@ -1,6 +1,6 @@
 use Rattle.std.proofs.Common.{◌≡◌, ℕ, ◌++◌, ◌∷◌, [], List, Vec, Global, length, get_or, sym, ap, subst, ◌∙◌, arith}
 use Rattle.values.specs.declared.value.ColumnType.TheVariants as column
-use Rattle.columns.specs.declared.frame.Part.{Part}
+use Rattle.frames.specs.declared.frame.Part.{Part}
 use Rattle.blocks.specs.Column.{Column}
 use Rattle.devices.specs.Turns.{AreInTurn}
 use Rattle.devices.proofs.ImageLemmas.{column_of, so_far_few, length-made, next_in_turn, made_on, columns_taken}

@@ -1,5 +1,5 @@
 use Rattle.std.proofs.Common.{◌-◌, Some, None, List, cond, map, take, sym, ap, ◌∙◌, arith}
-use Rattle.columns.specs.declared.frame.Part.{Part}
+use Rattle.frames.specs.declared.frame.Part.{Part}
 use Rattle.devices.specs.Stored.{newest_of}
 use Rattle.devices.proofs.NewestLemmas.{newest_of-take}
 use Rattle.devices.proofs.reading.newest_among.Goals as goal

@@ -1,6 +1,6 @@
 use Rattle.std.proofs.Common.{◌≡◌, ◌-◌, List, Vec, Global, length, take, drop, map, sym, subst, arith, length-drop}
 use Rattle.std.proofs.lemmas.List.{take_all}
-use Rattle.columns.specs.declared.frame.Part.{Part}
+use Rattle.frames.specs.declared.frame.Part.{Part}
 use Rattle.devices.specs.Turns.{AreEachInTurn}
 use Rattle.devices.proofs.ImageLemmas.{others_in_turn}
 use Rattle.devices.proofs.reading.newest_whole.Goals as goal

@@ -4,8 +4,8 @@ use Rattle.std.proofs.Math.ListN.{get_or-map}
 use Rattle.std.proofs.lemmas.List.{length-map, length_push, map_push}
 use Rattle.std.proofs.lemmas.Result.{err_from_is_err_and}
 use Rattle.values.specs.declared.value.ColumnType.TheVariants as column
-use Rattle.columns.specs.declared.frame.Part.{Part}
-use Rattle.columns.specs.Reading.{frames_of, parts_after, Fails}
+use Rattle.frames.specs.declared.frame.Part.{Part}
+use Rattle.frames.specs.Reading.{frames_of, parts_after, Fails}
 use Rattle.devices.specs.Stored.{all_parts}
 use Rattle.devices.specs.Turns.{AreInTurn, AreAllInTurn}
 use Rattle.devices.proofs.ImageLemmas.{all_in_turn_push}

@@ -2,7 +2,7 @@ use Rattle.std.proofs.Common.{◌≡◌, List, Vec, Global, length, map, sym, ap
 use Rattle.std.proofs.lemmas.List.{length-map}
 use Rattle.values.specs.declared.value.ColumnType.{ColumnType}
 use Rattle.blocks.specs.Column.{Column}
-use Rattle.columns.specs.declared.frame.Part.{Part}
+use Rattle.frames.specs.declared.frame.Part.{Part}
 use Rattle.devices.specs.Stored.{columns_in}
 use Rattle.devices.specs.Turns.{AreEachInTurn}
 use Rattle.devices.proofs.ImageLemmas.{types-columns_in, each_in_turn}

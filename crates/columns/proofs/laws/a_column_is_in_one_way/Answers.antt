@@ -1,5 +1,0 @@
-use Rattle.columns.proofs.AgainLemmas.{one_column}
-use Rattle.columns.proofs.laws.a_column_is_in_one_way.Goals as goal
-
-pub returns : goal.returns
-returns c = one_column

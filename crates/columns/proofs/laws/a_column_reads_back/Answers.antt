@@ -1,5 +1,0 @@
-use Rattle.columns.proofs.AgainLemmas.{column_again}
-use Rattle.columns.proofs.laws.a_column_reads_back.Goals as goal
-
-pub returns : goal.returns
-returns c = column_again

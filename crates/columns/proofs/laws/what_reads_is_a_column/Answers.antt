@@ -1,5 +1,0 @@
-use Rattle.columns.proofs.WholeLemmas.{column_taken}
-use Rattle.columns.proofs.laws.what_reads_is_a_column.Goals as goal
-
-pub returns : goal.returns
-returns c = column_taken

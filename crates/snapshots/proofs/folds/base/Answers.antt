@@ -1,5 +1,0 @@
-use Rattle.snapshots.proofs.FoldLemmas.{no_rows}
-use Rattle.snapshots.proofs.folds.base.Goals as goal
-
-pub make_tree-requires : goal.make_tree-requires
-make_tree-requires c = no_rows c.args.schema.now c.new-none.result c.new-none.ensures

@@ -1,5 +1,0 @@
-use Rattle.txn.specs.Marks.{GoesOn}
-use Rattle.snapshots.proofs.transactions.marks.write_some.Given as goal
-
-abbrev pub invariant-loop : goal.invariant-loop
-invariant-loop l = GoesOn l.fn.txn l.txn

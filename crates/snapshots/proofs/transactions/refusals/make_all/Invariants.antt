@@ -1,5 +1,0 @@
-use Rattle.txn.specs.Marks.{GoesOn}
-use Rattle.snapshots.proofs.transactions.refusals.make_all.Given as goal
-
-abbrev pub invariant-loop-made : goal.invariant-loop-made
-invariant-loop-made g l = GoesOn l.fn.txn l.txn
