@@ -2,11 +2,13 @@
 use Rattle.std.proofs.Common.{◌≡◌, ℕ, zero, suc, ◌<◌, ◌≤◌, Bool, true, false, cond, not, T, Option, Some, None, List, [], ◌∷◌}
 use Rattle.std.proofs.Common.{◌++◌, map, length, filter, take, drop, get_or, Ordering, Less, Equal, Greater, is_gt, nat_cmp, refl}
 use Rattle.std.proofs.Common.{sym, ap, ◌∙◌, subst, arith, take-append-drop, length-set}
-use Rattle.std.specs.Prelude.{◌==◌, slice_get, slice_set, is_none}
+use Rattle.std.specs.Prelude.{◌==◌, slice_get, slice_set, is_none, replicate}
+use Rattle.std.proofs.lemmas.Option.{slice_get_within, slice_get-get_or, slice_get-map}
+use Rattle.std.proofs.lemmas.List.{append-nil, drop_all, length-map, length-replicate, get_or-replicate, map-set, take_all}
 use Rattle.std.specs.Bool.{passes}
 use Rattle.std.specs.Ordering.{ordering_then}
 use Rattle.std.specs.Cmp.{ranked, tied_itself, nat_cmp_total}
-use Rattle.std.specs.List.{list_all}
+use Rattle.std.specs.List.{list_all, refill}
 use Rattle.std.specs.Option.{option_map, option_or}
 use Rattle.std.proofs.lemmas.Bool.Decides.{nat_tests}
 use Rattle.values.specs.Lent.{value_of}
@@ -25,11 +27,15 @@ use Rattle.model.specs.Table.{table_of}
 use Rattle.model.proofs.CallerLemmas.{first, second, changes_at_other, changes_at_after}
 use Rattle.delta.specs.Search.{base_cmp, stands_before, IsSplit}
 use Rattle.stable.specs.Stable.{Stable, table_in, IsStable}
-use Rattle.merge.specs.View.{modified_cells, cells_at, layer_cells, last_cell, source_row, read_row, write_row, row_of}
+use Rattle.merge.specs.View.{modified_cells, modified_values, cells_at, layer_cells, last_cell, source_row, read_row, write_row, row_of}
+use Rattle.merge.specs.View.{values_of, with_cells}
 use Rattle.merge.specs.declared.view.RowView.{RowView}
 use Rattle.merge.proofs.LevelLemmas.{all_from-ordered, all_after-from}
 
 -- ---- cells
+
+some_same : {X : Type 0} {x y : X} → Some x ≡ Some y → x ≡ y
+some_same e = cc
 
 pub length-set_cells : (cells : Cells) (row : Row) → length (set_cells cells row) ≡ length row
 length-set_cells [] row = refl
@@ -66,15 +72,15 @@ first_other j = grind (arith, nat_tests)
 other_first : (i : ℕ) → (suc i == 0) ≡ false
 other_first i = grind (arith, nat_tests)
 
-slice_get-slice_set : (row : Row) (i j : ℕ) (value : Value) → j < length row
-    → slice_get (slice_set row i value) j ≡ cond (i == j) (Some value) (slice_get row j)
-slice_get-slice_set [] i j value lt = absurd (omega arith)
-slice_get-slice_set (x ∷ row) zero zero value lt = refl
-slice_get-slice_set (x ∷ row) zero (suc j) value lt = ap (λ b. cond b (Some value) (slice_get row j)) (sym (first_other j))
-slice_get-slice_set (x ∷ row) (suc i) zero value lt = ap (λ b. cond b (Some value) (Some x)) (sym (other_first i))
-slice_get-slice_set (x ∷ row) (suc i) (suc j) value lt =
-    let shorter : j < length row = omega arith in
-    slice_get-slice_set row i j value shorter ∙ ap (λ b. cond b (Some value) (slice_get row j)) (same_next i j)
+slice_get-slice_set : {X : Type 0} (xs : List X) (i j : ℕ) (x : X) → j < length xs
+    → slice_get (slice_set xs i x) j ≡ cond (i == j) (Some x) (slice_get xs j)
+slice_get-slice_set [] i j x lt = absurd (omega arith)
+slice_get-slice_set (y ∷ xs) zero zero x lt = refl
+slice_get-slice_set (y ∷ xs) zero (suc j) x lt = ap (λ b. cond b (Some x) (slice_get xs j)) (sym (first_other j))
+slice_get-slice_set (y ∷ xs) (suc i) zero x lt = ap (λ b. cond b (Some x) (Some y)) (sym (other_first i))
+slice_get-slice_set (y ∷ xs) (suc i) (suc j) x lt =
+    let shorter : j < length xs = omega arith in
+    slice_get-slice_set xs i j x shorter ∙ ap (λ b. cond b (Some x) (slice_get xs j)) (same_next i j)
 
 -- the value of a column in a row with other cells
 pub slice_get-set_cells : (cells : Cells) (row : Row) (col : ℕ) → col < length row
@@ -87,6 +93,28 @@ slice_get-set_cells (c ∷ cells) row col lt =
     ∙ sym (or_else-cond (c.0 == col) c.1 (slice_get row col)))
     ∙ sym (or_else-twice (last_cell col None cells) (cond (c.0 == col) (Some c.1) None) (slice_get row col))
     ∙ ap (λ o. or_else o (slice_get row col)) (sym (last_cell-so_far col (cond (c.0 == col) (Some c.1) None) cells))
+
+length-with_cells : (cells : Cells) (values : List (Option Value)) → length (with_cells cells values) ≡ length values
+length-with_cells [] values = refl
+length-with_cells (c ∷ cells) values =
+    length-with_cells cells (slice_set values c.0 (Some c.1)) ∙ length-set values c.0 (Some c.1)
+
+pub values_of-replicate : (n : ℕ) → values_of (replicate n None) ≡ replicate n None
+values_of-replicate zero = refl
+values_of-replicate (suc n) = ap (λ values. None ∷ values) (values_of-replicate n)
+
+-- what is modified of a column with more cells
+pub slice_get-with_cells : (cells : Cells) (values : List (Option Value)) (col : ℕ) (so_far : Option Value)
+    → slice_get values col ≡ Some so_far → slice_get (with_cells cells values) col ≡ Some (or_else (last_cell col None cells) so_far)
+slice_get-with_cells [] values col so_far h = h
+slice_get-with_cells (c ∷ cells) values col so_far h =
+    slice_get-with_cells cells (slice_set values c.0 (Some c.1)) col (cond (c.0 == col) (Some c.1) so_far)
+    (slice_get-slice_set values c.0 col (Some c.1) (slice_get_within values col so_far h) ∙ given (c.0 == col))
+    ∙ ap Some (sym (last_cell-so_far col (cond (c.0 == col) (Some c.1) so_far) cells) ∙ last_cell-so_far col so_far (c ∷ cells))
+  where
+    given : (b : Bool) → cond b (Some (Some c.1)) (slice_get values col) ≡ Some (cond b (Some c.1) so_far)
+    given true = refl
+    given false = h
 
 -- ---- a view
 
@@ -112,6 +140,35 @@ module _ (v : RowView) where
       ∙ (λ i. or_else (in_trans i) (slice_get-set_cells (layer_cells v.write) (read_row v) col wide_read i))
       ∙ (λ i. or_else trans (or_else (in_write i) (slice_get-set_cells (layer_cells v.read) (source_row v.source) col wide_source i)))
       ∙ ap (λ o. or_else trans (or_else write (or_else o (slice_get (source_row v.source) col)))) in_read
+
+  pub length-modified : length (modified_values v) ≡ length (row_of v)
+  length-modified =
+      let no : Option Value = None in
+      length-with_cells (layer_cells v.trans) _ ∙ length-with_cells (layer_cells v.write) _ ∙ length-with_cells (layer_cells v.read) _
+      ∙ length-replicate (length (row_of v)) no
+
+  -- and so is what is modified of it, by column
+  pub slice_get-modified : (col : ℕ) (modified : Option Value) → col < length (row_of v) → slice_get (modified_values v) col ≡ Some modified
+      → slice_get (row_of v) col ≡ or_else modified (slice_get (source_row v.source) col)
+  slice_get-modified col modified lt h =
+      let no : Option Value = None in
+      let none = replicate (length (row_of v)) no in
+      let in_read = last_cell col None (layer_cells v.read) in
+      let in_write = last_cell col None (layer_cells v.write) in
+      let in_trans = last_cell col None (layer_cells v.trans) in
+      let long = length-replicate (length (row_of v)) no in
+      let first : slice_get none col ≡ Some None = slice_get-get_or none col no (omega arith)
+      ∙ ap Some (get_or-replicate (length (row_of v)) col no no lt) in
+      let one = slice_get-with_cells (layer_cells v.read) none col None first in
+      let two = slice_get-with_cells (layer_cells v.write) _ col _ one in
+      let three = slice_get-with_cells (layer_cells v.trans) _ col _ two in
+      let same : or_else in_trans (or_else in_write (or_else in_read None)) ≡ modified = some_same (sym three ∙ h) in
+      let source = slice_get (source_row v.source) col in
+      slice_get-row_of col in_trans in_write in_read lt refl refl refl
+      ∙ ap (λ o. or_else in_trans (or_else in_write o)) (sym (or_else-twice in_read None source))
+      ∙ ap (or_else in_trans) (sym (or_else-twice in_write (or_else in_read None) source))
+      ∙ sym (or_else-twice in_trans (or_else in_write (or_else in_read None)) source)
+      ∙ ap (λ o. or_else o source) same
 
 -- what a layer's cells give, from what was found there
 pub found_in : (col : ℕ) (cells : Cells) (found other : Option ValueRef) → option_map value_of found ≡ last_cell col None cells
@@ -197,6 +254,43 @@ last_cell-here col sid x es given found here is =
     past (Ins row) = refl
     past (Del key) = refl
     past (Mod other value) = ap (λ o. last_cell col o (cells_at sid es)) (or_else-cond (other == col) value (option_map value_of found))
+
+-- what is found in a column's place
+pub value_in_place : (values : List (Option ValueRef)) (modified : List (Option Value)) (col : ℕ) → values_of values ≡ modified
+    → col < length modified → (col < length values) × (slice_get modified col ≡ Some (option_map value_of (get_or values col None)))
+value_in_place values modified col same lt =
+    let within : col < length values = omega (arith, ap length same, length-map values (option_map value_of)) in (
+      within,
+      ap (λ xs. slice_get xs col) (sym same) ∙ slice_get-map (option_map value_of) values col
+          ∙ ap (option_map (option_map value_of)) (slice_get-get_or values col None within),
+    )
+
+-- one value more in its place, where the places were lent for writing
+pub values_of-set : (values : List (Option ValueRef)) (lent : List (Option ValueRef)) (col : ℕ) (value : ValueRef) → lent ≡ values
+    → values_of (refill (length values) values (slice_set lent col (Some value))) ≡ slice_set (values_of values) col (Some (value_of value))
+values_of-set values lent col value same =
+    let set : List (Option ValueRef) = slice_set values col (Some value) in
+    let long = length-set values col (Some value) in
+    let written : refill (length values) values set ≡ set =
+    ap (λ xs. take (length values) (set ++ xs)) (drop_all (length set) values (omega arith))
+    ∙ ap (take (length values)) (append-nil set) ∙ take_all (length values) set (omega arith) in
+    ap (λ xs. values_of (refill (length values) values (slice_set xs col (Some value)))) same ∙ ap values_of written
+    ∙ map-set (option_map value_of) values col (Some value)
+
+-- what is modified so far, past an entry at the SID
+pub with_cells-here : (sid : ℕ) (x : Entry) (es : List Entry) (values : List (Option Value)) → x.sid ≡ sid
+    → with_cells (cells_at sid es) (with_cells (modified_cells (x.change ∷ [])) values) ≡ with_cells (cells_at sid (x ∷ es)) values
+with_cells-here sid x es values here =
+    past x.change
+    ∙ ap (λ b. with_cells
+    (modified_cells (map (λ (e : Entry). e.change) (cond b (x ∷ filter (λ e. e.sid == sid) es) (filter (λ e. e.sid == sid) es)))) values)
+    (sym (ap (λ k. k == sid) here ∙ same_itself sid))
+  where
+    past : (c : Change) → with_cells (cells_at sid es) (with_cells (modified_cells (c ∷ [])) values)
+        ≡ with_cells (modified_cells (c ∷ changes_at sid es)) values
+    past (Ins row) = refl
+    past (Del key) = refl
+    past (Mod other value) = refl
 
 -- ---- rows of a stable table
 

@@ -1,5 +1,8 @@
 -- The row that a view shows.
-use Rattle.std.specs.Prelude.{◌≡◌, ℕ, ◌<◌, ◌==◌, cond, Option, Some, List, [], ◌∷◌, get_or}
+use Rattle.std.specs.Prelude.{◌≡◌, ℕ, ◌<◌, ◌==◌, Bool, true, false, cond, Option, Some, None, List, [], ◌∷◌, get_or, length, map, replicate, slice_set}
+use Rattle.std.specs.Option.{option_map}
+use Rattle.values.specs.Lent.{value_of}
+use Rattle.values.specs.declared.value.ValueRef.{ValueRef}
 use Rattle.values.specs.declared.row.Row.{Row}
 use Rattle.values.specs.declared.value.Value.{Value}
 use Rattle.model.specs.declared.entry.Entry.{Entry}
@@ -31,12 +34,28 @@ abbrev pub last_cell : ℕ → Option Value → Cells → Option Value
 last_cell col so_far [] = so_far
 last_cell col so_far (c ∷ cells) = last_cell col (cond (c.0 == col) (Some c.1) so_far) cells
 
+-- the values that are modified, by column, with these cells too
+abbrev pub with_cells : Cells → List (Option Value) → List (Option Value)
+with_cells [] values = values
+with_cells (c ∷ cells) values = with_cells cells (slice_set values c.0 (Some c.1))
+
+-- the values that are lent
+abbrev pub values_of : List (Option ValueRef) → List (Option Value)
+values_of values = map (option_map value_of) values
+
 -- the cells that a layer changes of a row
 abbrev pub layer_cells : Modifies → Cells
 layer_cells Nothing = []
 layer_cells (One entry) = modified_cells (entry.now.change ∷ [])
 layer_cells (Two entry other) = modified_cells (entry.now.change ∷ other.now.change ∷ [])
 layer_cells (InTree tree sid) = cells_at sid tree.now.entries
+
+-- whether they are searched in a tree
+abbrev pub is_in_tree : Modifies → Bool
+is_in_tree Nothing = false
+is_in_tree (One entry) = false
+is_in_tree (Two entry other) = false
+is_in_tree (InTree tree sid) = true
 
 -- the row before its modifies
 abbrev pub source_row : Source → Row
@@ -52,6 +71,12 @@ write_row v = set_cells (layer_cells v.write) (read_row v)
 
 abbrev pub row_of : RowView → Row
 row_of v = set_cells (layer_cells v.trans) (write_row v)
+
+-- what the layers modify of the row, by column: the value of the highest layer that gives one
+abbrev pub modified_values : RowView → List (Option Value)
+modified_values v =
+    with_cells (layer_cells v.trans)
+    (with_cells (layer_cells v.write) (with_cells (layer_cells v.read) (replicate (length (row_of v)) None)))
 
 -- no layer from that number on modifies the row: the Read-PDT has the number 0
 pub record IsBare (depth : ℕ) (v : RowView) : Type 0 where

@@ -3,9 +3,10 @@ ghost use Rattle.std.specs.Prelude.{◌≡◌, ◌<◌, ◌^◌, suc, IfOk, Some
 ghost use Rattle.std.specs.Option.{option_map};
 ghost use Rattle.values.specs.Lent.{value_of};
 ghost use Rattle.model.specs.Effects.{set_cells};
-ghost use Rattle.merge.specs.View.{IsBare, cells_at, layer_cells, last_cell, layer_number, modified_cells, row_of, source_row};
+ghost use Rattle.merge.specs.View.{IsBare, cells_at, is_in_tree, layer_cells, last_cell, layer_number, modified_cells, modified_values, row_of, source_row, values_of, with_cells};
 
 use delta::{ChangeRef, DeltaTree, SharedEntry, Sought};
+use smallvec::SmallVec;
 use stable::StableTable;
 use std::alloc::Global;
 use values::{NoMemory, Row, ValueRef};
@@ -41,6 +42,9 @@ pub struct RowView<'a> {
     trans: Modifies<'a>,
 }
 
+/// What is modified of one row, by column. A row has 32 columns at most, so that it takes no memory.
+type Modified<'a> = SmallVec<Option<ValueRef<'a>>, 32>;
+
 /// The layers, from the lowest.
 #[derive(Clone, Copy, Debug, PartialEq, Eq)]
 pub(crate) enum Layer {
@@ -60,6 +64,28 @@ impl<'a> Modifies<'a> {
             Modifies::One(entry) => given(entry, col),
             Modifies::Two(entry, other) => given(other, col).or(given(entry, col)),
             Modifies::InTree(tree, sid) => modified(tree, u64::from(sid), col),
+        }
+    }
+
+    /// Whether they are searched in a tree.
+    fn is_in_tree(&self) -> bool
+        ensures { result ≡ is_in_tree self.now }
+    {
+        matches!(self, Modifies::InTree(..))
+    }
+
+    /// Puts each value that they give in its column's place.
+    fn put_into(&self, values: &mut Modified<'a>)
+        ensures { values_of values.new.items ≡ with_cells (layer_cells self.now) (values_of values.old.items) }
+    {
+        match *self {
+            Modifies::Nothing => {}
+            Modifies::One(entry) => put_value(entry, values),
+            Modifies::Two(entry, other) => {
+                put_value(entry, values);
+                put_value(other, values);
+            }
+            Modifies::InTree(tree, sid) => put_values(tree, u64::from(sid), values),
         }
     }
 }
@@ -88,6 +114,29 @@ fn modified<'a>(tree: &'a DeltaTree, sid: u64, col: usize) -> Option<ValueRef<'a
         found = given(entry, col).or(found);
     }
     found
+}
+
+/// Puts the value that an entry gives a column of its row, if it gives one, in that column's place.
+fn put_value<'a>(entry: &'a SharedEntry, values: &mut Modified<'a>)
+    ensures { values_of values.new.items ≡ with_cells (modified_cells (entry.now.change ∷ [])) (values_of values.old.items) }
+{
+    match entry.change() {
+        ChangeRef::Mod(col, value) if col < values.len() => values[col] = Some(value),
+        ChangeRef::Ins(_) | ChangeRef::Del(_) | ChangeRef::Mod(..) => {}
+    }
+}
+
+/// Puts each value that a modify at the SID gives in its column's place, by one search.
+fn put_values<'a>(tree: &'a DeltaTree, sid: u64, values: &mut Modified<'a>)
+    requires { sid < 2 ^ 63 }
+    ensures { values_of values.new.items ≡ with_cells (cells_at sid tree.now.entries) (values_of values.old.items) }
+{
+    for entry in tree.find(sid, Sought::Base).entries {
+        if entry.sid() != sid {
+            break;
+        }
+        put_value(entry, values);
+    }
 }
 
 impl<'a> RowView<'a> {
@@ -139,12 +188,23 @@ impl<'a> RowView<'a> {
         }
     }
 
-    /// The row, in memory of its own.
+    /// The row, in memory of its own. What a layer modifies of it and isn't at hand is searched once, and not for each column.
     ///
     /// # Errors
     ///
     /// `NoMemory` where a growth is refused.
     pub fn copy(&self, alloc: Global) -> Result<Row, NoMemory>
+        ensures { IfOk result (λ row. row ≡ row_of self.now) }
+    {
+        if self.read.is_in_tree() || self.write.is_in_tree() || self.trans.is_in_tree() {
+            self.copy_gathered(alloc)
+        } else {
+            self.copy_at_hand(alloc)
+        }
+    }
+
+    /// The same, where all modifies are at hand: each column's value by itself.
+    fn copy_at_hand(&self, alloc: Global) -> Result<Row, NoMemory>
         ensures { IfOk result (λ row. row ≡ row_of self.now) }
     {
         let width = self.width();
@@ -153,6 +213,42 @@ impl<'a> RowView<'a> {
             cells.push(self.value(col).copy(alloc)?)?;
         }
         Ok(Row::new(cells))
+    }
+
+    /// The same by the modifies of all columns, gathered first.
+    fn copy_gathered(&self, alloc: Global) -> Result<Row, NoMemory>
+        ensures { IfOk result (λ row. row ≡ row_of self.now) }
+    {
+        let modified = self.modified_values(alloc)?;
+        let width = self.width();
+        let mut cells = Vec::with_capacity(alloc, width)?;
+        for col in 0..width {
+            cells.push(self.value_or(modified[col], col).copy(alloc)?)?;
+        }
+        Ok(Row::new(cells))
+    }
+
+    /// What the layers modify of the row: of each layer by one search at most.
+    fn modified_values(&self, alloc: Global) -> Result<Modified<'a>, NoMemory>
+        ensures { IfOk result (λ values. values_of values.items ≡ modified_values self.now) }
+    {
+        let mut values = SmallVec::from_elem(alloc, None, self.width())?;
+        self.read.put_into(&mut values);
+        self.write.put_into(&mut values);
+        self.trans.put_into(&mut values);
+        Ok(values)
+    }
+
+    /// The value of a column: the modified one, if there is one.
+    fn value_or(&self, modified: Option<ValueRef<'a>>, col: usize) -> ValueRef<'a>
+        requires within { col < length (row_of self.now) }
+        requires modified { slice_get (modified_values self.now) col ≡ Some (option_map value_of modified) }
+        ensures { slice_get (row_of self.now) col ≡ Some (value_of result) }
+    {
+        match modified {
+            Some(value) => value,
+            None => self.source_value(col),
+        }
     }
 
     /// A stable row that no layer modifies.

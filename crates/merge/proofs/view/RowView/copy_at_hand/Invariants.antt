@@ -1,6 +1,6 @@
 use Rattle.std.proofs.Common.{◌≡◌, take}
 use Rattle.merge.specs.View.{row_of}
-use Rattle.merge.proofs.view.RowView.copy.Given as goal
+use Rattle.merge.proofs.view.RowView.copy_at_hand.Given as goal
 
 -- the values so far are those of the first columns
 abbrev pub invariant-loop-col : goal.invariant-loop-col
