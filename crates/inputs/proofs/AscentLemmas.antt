@@ -19,7 +19,7 @@ use Rattle.stable.specs.Rows.{cell_at, gathered, row_at, rows_of}
 use Rattle.inputs.specs.Filling.{types_in, row_in, rows_in, place_cmp}
 use Rattle.inputs.specs.Input.{IsAscending}
 use Rattle.inputs.specs.Order.{AreNumbered, IsInOrder, IsLeastRepeat}
-use Rattle.inputs.specs.declared.order.Numbered.{Numbered}
+use Rattle.inputs.specs.Input.{Numbered}
 use Rattle.inputs.proofs.CellLemmas.{lt_true, lt_false}
 use Rattle.inputs.proofs.FillingLemmas.{AreLong, length-rows_in, rows_in-at}
 

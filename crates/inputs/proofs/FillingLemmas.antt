@@ -20,7 +20,7 @@ use Rattle.inputs.specs.declared.fault.TableFault.{TableFault}
 use Rattle.inputs.specs.declared.fault.TableFault.TheVariants.{BadCount, TooManyRows}
 use Rattle.inputs.proofs.CellLemmas.{lt_true, lt_false}
 use Rattle.inputs.specs.Filling.{types_in, empty_column, extended, row_in, rows_in}
-use Rattle.inputs.specs.declared.order.Numbered.{Numbered}
+use Rattle.inputs.specs.Input.{Numbered}
 
 -- each column has so many values
 abbrev pub AreLong : ℕ → List Column → Type 0

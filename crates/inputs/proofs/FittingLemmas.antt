@@ -24,7 +24,7 @@ use Rattle.inputs.specs.Header.{schema_of}
 use Rattle.inputs.specs.Input.{cell_of, cells_of, numbered, row_of, rows_of, first_repeat, unless_repeated, keyed, under, table_of, IsAscending}
 use Rattle.inputs.specs.Reading.{Fields}
 use Rattle.inputs.specs.declared.fault.TableFault.{TableFault}
-use Rattle.inputs.specs.declared.order.Numbered.{Numbered}
+use Rattle.inputs.specs.Input.{Numbered}
 use Rattle.inputs.proofs.ReadLemmas.{then_cons-parts, or_else-parts}
 
 -- ---- cells

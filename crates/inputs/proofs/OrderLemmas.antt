@@ -17,7 +17,7 @@ use Rattle.values.specs.Orders.{key_cmp, key_cmp_total}
 use Rattle.values.specs.Shape.{key_of}
 use Rattle.inputs.specs.Input.{same_key, is_repeat, first_repeat, IsAscending}
 use Rattle.inputs.specs.Order.{AreNumbered, numbered_cmp, IsInOrder, IsLeastRepeat, lower_repeat}
-use Rattle.inputs.specs.declared.order.Numbered.{Numbered}
+use Rattle.inputs.specs.Input.{Numbered}
 
 -- within a list the default says nothing
 get-same : {X : Type 0} (xs : List X) (i : ℕ) (d e : X) → i < length xs → get_or xs i d ≡ get_or xs i e

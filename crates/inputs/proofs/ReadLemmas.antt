@@ -48,10 +48,6 @@ pub then-ok : {T E : Type 0} (r : Result T E) (P Q : T → Type 0) → ((x : T) 
 then-ok (Ok x) P Q f h = f x h
 then-ok (Err e) P Q f h = tt
 
-pub if-ok : {T E : Type 0} (r : Result T E) (P : T → Type 0) → ((x : T) → P x) → IfOk r P
-if-ok (Ok x) P h = h x
-if-ok (Err e) P h = tt
-
 -- the field at a place, and those after it
 pub field-drop : (fields : Fields) (i : ℕ) (field : List ℕ) → Some field ≡ field_at fields i → drop i fields ≡ field ∷ drop (suc i) fields
 unfolding field_at

@@ -5,7 +5,7 @@ use Rattle.values.specs.declared.value.Value.{Value}
 use Rattle.inputs.specs.Cells.{prepend}
 use Rattle.inputs.specs.Input.{cell_of, cells_of, row_of, rows_of}
 use Rattle.inputs.specs.Reading.{Fields}
-use Rattle.inputs.specs.declared.order.Numbered.{Numbered}
+use Rattle.inputs.specs.Input.{Numbered}
 use Rattle.inputs.specs.declared.fault.TableFault.{TableFault}
 use Rattle.inputs.proofs.ReadLemmas.{prepend-then_cons}
 

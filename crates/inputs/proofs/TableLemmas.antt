@@ -1,17 +1,15 @@
 -- The table of a text, record by record.
-use Rattle.std.proofs.Common.{◌≡◌, ◌<◌, ◌+◌, ℕ, List, [], ◌∷◌, ◌++◌, length, get_or, map, Some, None, Ok, Err, Bor, refl, sym, arith, inl, inr}
-use Rattle.std.proofs.lemmas.Bool.{cases_lt}
-use Rattle.std.proofs.lemmas.List.{append-nil, length-append, get_or_append_left, get_or_push}
+use Rattle.std.proofs.Common.{◌≡◌, ℕ, List, [], ◌∷◌, ◌++◌, map, Some, None, Ok, Err, Bor, refl}
+use Rattle.std.proofs.lemmas.List.{append-nil}
 use Rattle.csv.specs.declared.reader.Reader.{Reader}
 use Rattle.values.specs.Shape.{Columns}
 use Rattle.inputs.specs.Cells.{prepend}
 use Rattle.inputs.specs.Header.{schema_of}
 use Rattle.inputs.specs.Input.{table_of, rows_of, row_of, first_repeat}
-use Rattle.inputs.specs.Order.{AreNumbered}
 use Rattle.inputs.specs.Reading.{Fields, AreRecordsOf, IsReading}
 use Rattle.inputs.specs.declared.fault.TableFault.{TableFault}
 use Rattle.inputs.specs.declared.fault.TableFault.TheVariants.{NoHeader, RepeatedKey}
-use Rattle.inputs.specs.declared.order.Numbered.{Numbered}
+use Rattle.inputs.specs.Input.{Numbered}
 use Rattle.inputs.proofs.ReadLemmas.{records-start, records-same}
 use Rattle.inputs.proofs.RowLemmas.{rows_of-fault}
 
@@ -52,18 +50,3 @@ pub table_of-ok : (header : Fields) (read : List Fields) (schema : Columns) (row
     → first_repeat schema.key_cols rows ≡ None
     → table_of (header ∷ read) ≡ Ok (schema, map (λ row. row.row) rows)
 table_of-ok header read schema rows number e so none = rw (e, all_rows schema read rows number so, none) refl
-
--- rows that are numbered from 2 on are numbered
-pub AreNumbered-from : (rows : List Numbered) → ((i : ℕ) (d : Numbered) → i < length rows → (get_or rows i d).number ≡ i + 2) → AreNumbered rows
-AreNumbered-from rows h i j d l m =
-    let a = h i d (omega (arith, l, m)) in
-    let b = h j d m in
-    omega (arith, a, b, l)
-
--- one more of them
-pub numbered-push : (rows : List Numbered) (row : Numbered) → ((i : ℕ) (d : Numbered) → i < length rows → (get_or rows i d).number ≡ i + 2)
-    → row.number ≡ length rows + 2 → (i : ℕ) (d : Numbered) → i < length (rows ++ row ∷ []) → (get_or (rows ++ row ∷ []) i d).number ≡ i + 2
-numbered-push rows row h e i d l = elim (cases_lt i (length rows)) [
-  | inl m ↦ rw (get_or_append_left rows (row ∷ []) d i m) (h i d m)
-  | inr m ↦ let at : i ≡ length rows = omega (arith, l, m, length-append rows (row ∷ [])) in rw (get_or_push rows row d i (sym at)) (rw at e)
-]

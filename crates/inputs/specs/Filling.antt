@@ -16,7 +16,7 @@ use Rattle.inputs.specs.Input.{row_of}
 use Rattle.inputs.specs.Order.{IsLeastRepeat}
 use Rattle.inputs.specs.Reading.{Fields}
 use Rattle.inputs.specs.declared.ascent.Keyed.{Keyed}
-use Rattle.inputs.specs.declared.order.Numbered.{Numbered}
+use Rattle.inputs.specs.Input.{Numbered}
 
 -- ---- columns
 

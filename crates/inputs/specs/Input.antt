@@ -18,9 +18,13 @@ use Rattle.inputs.specs.Header.{schema_of}
 use Rattle.inputs.specs.Reading.{Fields, AreRecordsOf}
 use Rattle.inputs.specs.declared.fault.TableFault.{TableFault}
 use Rattle.inputs.specs.declared.fault.TableFault.TheVariants.{NoHeader, BadCount, BadText, BadCell, TextTooLong, RepeatedKey, TooManyRows}
-use Rattle.inputs.specs.declared.order.Numbered.{Numbered}
 
 -- ---- rows
+
+-- a row, and the number of the record that says it
+pub record Numbered : Type 0 where
+  pub number : ℕ
+  pub row : Row
 
 -- the cell `at` of the record of this number
 abbrev pub cell_of : ColumnType → ℕ → ℕ → List ℕ → Result Value TableFault

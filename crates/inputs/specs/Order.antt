@@ -8,7 +8,7 @@ use Rattle.values.specs.Shape.{key_of}
 use Rattle.inputs.specs.Input.{first_repeat, same_key}
 use Rattle.inputs.specs.declared.fault.TableFault.{TableFault}
 use Rattle.inputs.specs.declared.fault.TableFault.TheVariants.{RepeatedKey}
-use Rattle.inputs.specs.declared.order.Numbered.{Numbered}
+use Rattle.inputs.specs.Input.{Numbered}
 
 -- each row is of a later record than those before it
 abbrev pub AreNumbered : List Numbered → Type 0

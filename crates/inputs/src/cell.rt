@@ -14,22 +14,7 @@ use values::{ColumnType, NoMemory, Text, Value, ValueRef};
 /// So many digits write a number of 64 bits with a sign, whichever they are.
 const MAX_FITTING_DIGITS: usize = 18;
 
-/// The cell `at` of the record of this number, as a value of its column's type.
-pub(crate) fn read_cell(
-    alloc: Global,
-    column: ColumnType,
-    number: u64,
-    at: usize,
-    bytes: &[u8],
-) -> Result<Value, TableFault>
-    ensures ok { IfOk result (λ value. cell_of column number at bytes.now ≡ Ok value) }
-    ensures err { IfErr result (λ fault. fault ≢ TableFault.NoMemory → cell_of column number at bytes.now ≡ Err fault) }
-{
-    let value = lent_cell(column, number, at, bytes)?;
-    Ok(value.copy(alloc)?)
-}
-
-/// The same, lent from the bytes.
+/// The cell `at` of the record of this number, as a value of its column's type, lent from the bytes.
 #[inline(always)]
 pub(crate) fn lent_cell(
     column: ColumnType,

@@ -10,7 +10,7 @@ use Rattle.inputs.specs.Input.{row_of}
 use Rattle.inputs.specs.Input as said
 use Rattle.inputs.specs.Reading.{Fields}
 use Rattle.inputs.specs.declared.fault.TableFault.TheVariants.{NoMemory}
-use Rattle.inputs.specs.declared.order.Numbered.{Numbered}
+use Rattle.inputs.specs.Input.{Numbered}
 use Rattle.inputs.proofs.ReadLemmas.{passed-up, prepend-nil}
 use Rattle.inputs.proofs.RowLemmas.{rows_of-step}
 use Rattle.inputs.proofs.TableLemmas.{table_of-bad_row, table_of-repeat}
