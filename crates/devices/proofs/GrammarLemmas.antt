@@ -15,7 +15,7 @@ use Rattle.frames.specs.declared.frame.Part.{Part}
 use Rattle.frames.specs.declared.seam.Seam.{Seam}
 use Rattle.frames.specs.declared.seam.Unfinished.{Unfinished}
 use Rattle.frames.specs.Bytes.{type_byte}
-use Rattle.frames.specs.Column.{AreFramesAt, IsPartAt, head_of, kind_of, is_above, goes_on, is_in_turn, has_due_count, seam_after, start}
+use Rattle.frames.specs.Column.{AreFramesAt, IsPartAt, head_of, part_kind, is_above, goes_on, is_in_turn, has_due_count, seam_after, start}
 use Rattle.frames.specs.Laws.{WhatReadsIsAColumn}
 use Rattle.frames.specs.Reading.{AreWanted, Gives, frames_of, parts_of, parts_after}
 use Rattle.devices.specs.Turns.{IsPartOf, IsNext, AreNext, AreInTurn}
@@ -104,7 +104,7 @@ part_here ty seam before part after at =
     let a = and_parts (is_some seam.kind && is_in_turn seam (head_of part)) (has_due_count (head_of part)) at.stands in
     let b = and_parts (is_some seam.kind) (is_in_turn seam (head_of part)) a.0 in
     let is : IsPartOf ty part = record {
-      typed = after.typed (kind_of part) at.typed;
+      typed = after.typed (part_kind part) at.typed;
       numbered = at.number;
       few = at.block.few;
       full = λ more. eqb-true _ _ (rw more at a.1);

@@ -19,7 +19,7 @@ use Rattle.frames.specs.declared.frame.Format.TheVariants.{First, Second}
 use Rattle.frames.specs.declared.frame.Kind.{Kind}
 use Rattle.frames.specs.declared.frame.Part.{Part}
 use Rattle.frames.specs.declared.seam.Seam.{Seam}
-use Rattle.frames.specs.Column.{flag_byte, payload_in, part_payload, kind_of, head_of, head_bytes, frame_bytes, column_bytes, may_stand, IsPartAt, IsFrameAt, AreFramesAt, IsColumn, start, seam_after, seam_after_all, head_at, is_cut_block, is_rest}
+use Rattle.frames.specs.Column.{flag_byte, payload_in, part_payload, part_kind, head_of, head_bytes, frame_bytes, column_bytes, may_stand, IsPartAt, IsFrameAt, AreFramesAt, IsColumn, start, seam_after, seam_after_all, head_at, is_cut_block, is_rest}
 use Rattle.frames.specs.Reading.{◌>>=◌, found_then, AreWanted, header_at, no_kind, part_of, payload_at, part_at, frame_at, frames_at, frames_of}
 use Rattle.frames.specs.Stored.{reading_in}
 use Rattle.frames.proofs.FrameLemmas.{ok_is, header_again, head_again, part_at-stands}
@@ -83,7 +83,7 @@ flag_again false = refl
 kind_again : (seam : Option Kind) (kind : Kind) → seam ≡ Some kind → kind ≡ unwrap_or seam no_kind
 kind_again seam kind e = sym (ap (λ o. unwrap_or o no_kind) e)
 
-payload_again : (col at : ℕ) (part : Part) (rest : List ℕ) → IsBlock part.block → payload_at col at (head_of part) (kind_of part) (part_payload part ++ rest) ≡ Ok (Some (Block part, rest))
+payload_again : (col at : ℕ) (part : Part) (rest : List ℕ) → IsBlock part.block → payload_at col at (head_of part) (part_kind part) (part_payload part ++ rest) ≡ Ok (Some (Block part, rest))
 payload_again col at part rest is =
     let ty = part.block.ty in
     let values = part.block.values in
@@ -92,7 +92,7 @@ payload_again col at part rest is =
     let enough : ltb (length (payload ++ rest)) (length payload) ≡ false = le-ltb _ _ (omega (arith, length-append payload rest)) in
     let front : take (length payload) (payload ++ rest) ≡ payload = take_at payload rest (length payload) refl in
     let back : drop (length payload) (payload ++ rest) ≡ rest = drop_at payload rest (length payload) refl in
-    let kind = kind_of part in
+    let kind = part_kind part in
     let read : reading_in part.format ty (length values) (take (length payload) (payload ++ rest)) ≡ Ok values =
     ap (reading_in part.format ty (length values)) front ∙ stored_again part.format ty values is.fit in
     let last : part_of col at h kind rest (Ok values) ≡ Ok (Some (Block part, rest)) =
@@ -109,7 +109,7 @@ part_again col at seam part rest is =
       count = omega (arith, is.block.few);
       size = part_short part is.block;
     }) in
-    sym (part_at-stands col at seam (head_bytes h ++ body) h (kind_of part) (omega arith) (sym again) is.stands (kind_again seam.kind (kind_of part) is.typed))
+    sym (part_at-stands col at seam (head_bytes h ++ body) h (part_kind part) (omega arith) (sym again) is.stands (kind_again seam.kind (part_kind part) is.typed))
     ∙ payload_again col at part rest is.block
 
 -- ---- a frame

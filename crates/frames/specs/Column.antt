@@ -86,13 +86,13 @@ abbrev pub may_stand : Seam → Head → Bool
 may_stand seam h = is_some seam.kind && is_in_turn seam h && has_due_count h
 
 -- the kind that a block is of
-abbrev pub kind_of : Part → Kind
-kind_of part = record { format = part.format; ty = part.block.ty }
+abbrev pub part_kind : Part → Kind
+part_kind part = record { format = part.format; ty = part.block.ty }
 
 -- a block that may stand at the seam
 pub record IsPartAt (seam : Seam) (part : Part) : Type 0 where
   pub stands : may_stand seam (head_of part) ≡ true
-  pub typed : seam.kind ≡ Some (kind_of part)
+  pub typed : seam.kind ≡ Some (part_kind part)
   pub block : IsBlock part.block
   pub generation : part.generation < 4294967296
   pub number : part.number < 4294967296

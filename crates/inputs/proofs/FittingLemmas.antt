@@ -21,7 +21,7 @@ use Rattle.model.specs.Table as model
 use Rattle.model.proofs.CallerLemmas.{both, first, below_less, is_keyed_table-table_of}
 use Rattle.inputs.specs.Cells.{int_of, truth_of}
 use Rattle.inputs.specs.Header.{schema_of}
-use Rattle.inputs.specs.Input.{cell_of, cells_of, numbered, row_of, rows_of, first_repeat, unless_repeated, keyed, under, table_of, IsAscending}
+use Rattle.inputs.specs.Input.{cell_of, cells_of, numbered, row_of, numbered_rows, first_repeat, unless_repeated, keyed, under, table_of, IsAscending}
 use Rattle.inputs.specs.Reading.{Fields}
 use Rattle.inputs.specs.declared.fault.TableFault.{TableFault}
 use Rattle.inputs.specs.Input.{Numbered}
@@ -75,13 +75,13 @@ row_of-fits types number fields row e = elim (cases_Bool (nat_lt (MAX_ROWS + 1) 
   ]
 ]
 
-rows_of-fit : (types : List ColumnType) (number : ℕ) (records : List Fields) (rows : List Numbered) → rows_of types number records ≡ Ok rows
+numbered_rows-fit : (types : List ColumnType) (number : ℕ) (records : List Fields) (rows : List Numbered) → numbered_rows types number records ≡ Ok rows
     → All (λ row. list_fault types row ≡ None) (map (λ row. row.row) rows)
-rows_of-fit types number [] rows e = let none : rows ≡ [] = cc e in rw none (λ k d l. absurd (omega (arith, l)))
-rows_of-fit types number (fields ∷ records) rows e =
-    let parts = then_cons-parts (row_of types number fields) (rows_of types (suc number) records) rows e in
+numbered_rows-fit types number [] rows e = let none : rows ≡ [] = cc e in rw none (λ k d l. absurd (omega (arith, l)))
+numbered_rows-fit types number (fields ∷ records) rows e =
+    let parts = then_cons-parts (row_of types number fields) (numbered_rows types (suc number) records) rows e in
     rw parts.4 (All-cons (λ (row : Row). list_fault types row ≡ None) parts.0.row (map (λ row. row.row) parts.1) (row_of-fits types number fields parts.0 parts.2)
-    (rows_of-fit types (suc number) records parts.1 parts.3))
+    (numbered_rows-fit types (suc number) records parts.1 parts.3))
 
 -- ---- tables
 
@@ -100,7 +100,7 @@ keyed-fits schema columns (Ok rows) read h e = unless_repeated-fits schema colum
 
 under-fits : (schema : Columns) (s : Result Columns TableFault) (records : List Fields) (read : List Row) → under s records ≡ Ok (schema, read) → All (λ row. list_fault schema.types row ≡ None) read
 under-fits schema (Err f) records read e = cc e
-under-fits schema (Ok columns) records read e = keyed-fits schema columns (rows_of columns.types 2 records) read (rows_of-fit columns.types 2 records) e
+under-fits schema (Ok columns) records read e = keyed-fits schema columns (numbered_rows columns.types 2 records) read (numbered_rows-fit columns.types 2 records) e
 
 -- each row that was read fits the schema
 table_of-fits : (records : List Fields) (schema : Columns) (read : List Row) → table_of records ≡ Ok (schema, read) → All (λ row. list_fault schema.types row ≡ None) read

@@ -33,7 +33,7 @@ module _ (schema : Columns) (lawful : IsSchema schema) (count : ℕ) (columns : 
 
 module _ (text : List ℕ) (header : Fields) (read : List Fields) (schema : Columns) (columns sorted : List Column) (number : ℕ)
     (whole : AreRecordsOf text (header ∷ read)) (named : schema_of header ≡ Ok schema)
-    (so : (more : List Fields) → said.rows_of schema.types 2 (read ++ more) ≡ prepend (rows_in (number - 2) columns) (said.rows_of schema.types number more))
+    (so : (more : List Fields) → said.numbered_rows schema.types 2 (read ++ more) ≡ prepend (rows_in (number - 2) columns) (said.numbered_rows schema.types number more))
     (distinct : first_repeat schema.key_cols (rows_in (number - 2) columns) ≡ None)
     (each_once : IsPermutation (rows_of (number - 2) columns) (rows_of (number - 2) sorted))
     (ascending : IsAscending schema.key_cols (rows_of (number - 2) sorted)) where

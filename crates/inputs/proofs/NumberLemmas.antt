@@ -20,7 +20,7 @@ use Rattle.blocks.specs.Column.{Column}
 use Rattle.stable.specs.Column.{all_may_stand}
 use Rattle.stable.specs.Rows.{cell_at, row_at}
 use Rattle.stable.proofs.CallerLemmas.{stands_at}
-use Rattle.inputs.specs.Filling.{keyed_at, keyed_cmp, key_number_cmp, number_cmp, number_in, place_cmp, row_in, AreApart, AreDistinct, AreKeysApart}
+use Rattle.inputs.specs.Filling.{keyed_at, keyed_cmp, key_number_cmp, number_cmp, number_or_zero, place_cmp, row_in, AreApart, AreDistinct, AreKeysApart}
 use Rattle.inputs.specs.Input.{same_key}
 use Rattle.inputs.specs.declared.ascent.Keyed.{Keyed}
 use Rattle.inputs.proofs.AscentLemmas.{rows_at-get}
@@ -57,7 +57,7 @@ apart-step keyed i e some within here so k d lt = elim (cases_eq (k + 1) i) [
 ]
 
 -- a value of a column of numbers is its number
-is_number : (v : Value) → has_type column.Int v ≡ true → v ≡ Int (number_in v)
+is_number : (v : Value) → has_type column.Int v ≡ true → v ≡ Int (number_or_zero v)
 is_number (Int n) h = refl
 is_number (Text t) h = cc h
 is_number (Truth b) h = cc h
@@ -68,7 +68,7 @@ then_Equal Equal = refl
 then_Equal Greater = refl
 
 module _ (c : Column) (count : ℕ) (int : c.ty ≡ column.Int) (filled : length c.values ≡ count) (fit : all_may_stand c.ty c.values) where
-  cell-number : (p : ℕ) → p < count → cell_at p c ≡ Int (number_in (cell_at p c))
+  cell-number : (p : ℕ) → p < count → cell_at p c ≡ Int (number_or_zero (cell_at p c))
   cell-number p lt =
       let v = cell_at p c in
       let there = slice_get-get_or c.values p (Truth false) (omega (arith, lt, filled)) in

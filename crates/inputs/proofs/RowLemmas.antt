@@ -3,7 +3,7 @@ use Rattle.std.proofs.Common.{◌≡◌, ◌∙◌, ◌+◌, ℕ, suc, List, [],
 use Rattle.values.specs.declared.value.ColumnType.{ColumnType}
 use Rattle.values.specs.declared.value.Value.{Value}
 use Rattle.inputs.specs.Cells.{prepend}
-use Rattle.inputs.specs.Input.{cell_of, cells_of, row_of, rows_of}
+use Rattle.inputs.specs.Input.{cell_of, cells_of, row_of, numbered_rows}
 use Rattle.inputs.specs.Reading.{Fields}
 use Rattle.inputs.specs.Input.{Numbered}
 use Rattle.inputs.specs.declared.fault.TableFault.{TableFault}
@@ -20,17 +20,17 @@ pub cells_of-fault : (number i : ℕ) (types : List ColumnType) (fields : Fields
 cells_of-fault number i types fields type field fault cells ht hf hv = rw (ht, hf, hv) refl
 
 -- one more record's row
-pub rows_of-step : (types : List ColumnType) (read : List Fields) (number : ℕ) (fields : Fields) (row : Numbered) (rows : List Numbered)
-    → ((more : List Fields) → rows_of types 2 (read ++ more) ≡ prepend rows (rows_of types number more))
+pub numbered_rows-step : (types : List ColumnType) (read : List Fields) (number : ℕ) (fields : Fields) (row : Numbered) (rows : List Numbered)
+    → ((more : List Fields) → numbered_rows types 2 (read ++ more) ≡ prepend rows (numbered_rows types number more))
     → row_of types number fields ≡ Ok row
-    → (more : List Fields) → rows_of types 2 ((read ++ fields ∷ []) ++ more) ≡ prepend (rows ++ row ∷ []) (rows_of types (number + 1) more)
-rows_of-step types read number fields row rows h hr more =
+    → (more : List Fields) → numbered_rows types 2 ((read ++ fields ∷ []) ++ more) ≡ prepend (rows ++ row ∷ []) (numbered_rows types (number + 1) more)
+numbered_rows-step types read number fields row rows h hr more =
     rw (append_assoc read (fields ∷ []) more) (h (fields ∷ more) ∙ rw (hr, add-one) (prepend-then_cons rows row _))
 
 -- a fault at a record, whatever comes after it
-pub rows_of-fault : (types : List ColumnType) (read rest : List Fields) (number : ℕ) (fields : Fields) (fault : TableFault) (rows : List Numbered)
-    → ((more : List Fields) → rows_of types 2 (read ++ more) ≡ prepend rows (rows_of types number more))
+pub numbered_rows-fault : (types : List ColumnType) (read rest : List Fields) (number : ℕ) (fields : Fields) (fault : TableFault) (rows : List Numbered)
+    → ((more : List Fields) → numbered_rows types 2 (read ++ more) ≡ prepend rows (numbered_rows types number more))
     → row_of types number fields ≡ Err fault
-    → rows_of types 2 ((read ++ fields ∷ []) ++ rest) ≡ Err fault
-rows_of-fault types read rest number fields fault rows h hr =
+    → numbered_rows types 2 ((read ++ fields ∷ []) ++ rest) ≡ Err fault
+numbered_rows-fault types read rest number fields fault rows h hr =
     rw (append_assoc read (fields ∷ []) rest) (h (fields ∷ rest) ∙ rw hr refl)

@@ -3,7 +3,7 @@ use Rattle.std.proofs.Common.{◌≡◌, Bool, true, false, Some, refl}
 use Rattle.values.specs.declared.value.ColumnType.{ColumnType}
 use Rattle.values.specs.declared.value.ColumnType.TheVariants as column
 use Rattle.inputs.specs.Calls.{verb_of, verb_word}
-use Rattle.inputs.specs.Header.{kind_of, kind_word}
+use Rattle.inputs.specs.Header.{heading_kind, kind_word}
 use Rattle.inputs.specs.declared.verb.Verb.{Verb}
 use Rattle.inputs.specs.declared.verb.Verb.TheVariants as verb
 
@@ -23,10 +23,10 @@ verb_of-verb_word verb.Fold = refl
 verb_of-verb_word verb.Checkpoint = refl
 verb_of-verb_word verb.Cut = refl
 
-kind_of-kind_word : (type : ColumnType) (is_key : Bool) → kind_of (kind_word type is_key) ≡ Some (type, is_key)
-kind_of-kind_word column.Int false = refl
-kind_of-kind_word column.Int true = refl
-kind_of-kind_word column.Text false = refl
-kind_of-kind_word column.Text true = refl
-kind_of-kind_word column.Bool false = refl
-kind_of-kind_word column.Bool true = refl
+heading_kind-kind_word : (type : ColumnType) (is_key : Bool) → heading_kind (kind_word type is_key) ≡ Some (type, is_key)
+heading_kind-kind_word column.Int false = refl
+heading_kind-kind_word column.Int true = refl
+heading_kind-kind_word column.Text false = refl
+heading_kind-kind_word column.Text true = refl
+heading_kind-kind_word column.Bool false = refl
+heading_kind-kind_word column.Bool true = refl

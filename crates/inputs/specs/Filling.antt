@@ -58,14 +58,14 @@ place_cmp key_cols columns a b =
 
 -- ---- keys that are one number
 
-abbrev pub number_in : Value → ℤ
-number_in (Int number) = number
-number_in (Text text) = pos 0
-number_in (Truth truth) = pos 0
+abbrev pub number_or_zero : Value → ℤ
+number_or_zero (Int number) = number
+number_or_zero (Text text) = pos 0
+number_or_zero (Truth truth) = pos 0
 
 -- a place, and the number that is its key in this column
 abbrev pub keyed_at : Column → ℕ → Keyed
-keyed_at c place = record { key = number_in (cell_at place c); place = place }
+keyed_at c place = record { key = number_or_zero (cell_at place c); place = place }
 
 abbrev pub keyed_cmp : Keyed → Keyed → Ordering
 keyed_cmp a b = ordering_then (int_cmp a.key b.key) (nat_cmp a.place b.place)

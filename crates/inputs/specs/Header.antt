@@ -26,8 +26,8 @@ kind_word column.Text true = codes "text:key"
 kind_word column.Bool true = codes "bool:key"
 
 -- the type that a header cell gives after the name, and whether the column is one of the key
-abbrev pub kind_of : List ℕ → Option (ColumnType × Bool)
-kind_of bytes = find (λ kind. bytes_eq (kind_word kind.0 kind.1) bytes) KINDS
+abbrev pub heading_kind : List ℕ → Option (ColumnType × Bool)
+heading_kind bytes = find (λ kind. bytes_eq (kind_word kind.0 kind.1) bytes) KINDS
 
 -- a column of this name, which is a text of 1 to 64 bytes
 abbrev pub named : List ℕ → Option (ColumnType × Bool) → Option Heading
@@ -40,7 +40,7 @@ named name (Some kind) =
 -- the column of the name before a colon and the type after it
 abbrev pub parted : List ℕ → Option ℕ → Option Heading
 parted bytes None = None
-parted bytes (Some colon) = named (take colon bytes) (kind_of (drop (colon + 1) bytes))
+parted bytes (Some colon) = named (take colon bytes) (heading_kind (drop (colon + 1) bytes))
 
 -- the column that a header cell names: a name, the first colon, a type, and `:key` for a key column
 abbrev pub heading_of : List ℕ → Option Heading

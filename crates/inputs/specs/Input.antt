@@ -49,9 +49,9 @@ row_of types number fields =
     cond (nat_lt (MAX_ROWS + 1) number) (Err TooManyRows)
     (cond (length fields == length types) (numbered number (cells_of number 0 types fields)) (Err (BadCount number)))
 
-abbrev pub rows_of : List ColumnType → ℕ → List Fields → Result (List Numbered) TableFault
-rows_of types number [] = Ok []
-rows_of types number (fields ∷ records) = then_cons (row_of types number fields) (rows_of types (suc number) records)
+abbrev pub numbered_rows : List ColumnType → ℕ → List Fields → Result (List Numbered) TableFault
+numbered_rows types number [] = Ok []
+numbered_rows types number (fields ∷ records) = then_cons (row_of types number fields) (numbered_rows types (suc number) records)
 
 -- ---- keys
 
@@ -84,7 +84,7 @@ IsAscending key_cols rows =
 
 abbrev pub under : Result Columns TableFault → List Fields → Result (Columns × List Row) TableFault
 under (Err fault) records = Err fault
-under (Ok schema) records = keyed schema (rows_of schema.types 2 records)
+under (Ok schema) records = keyed schema (numbered_rows schema.types 2 records)
 
 -- the schema and the rows, in the order of the records, or the first fault
 abbrev pub table_of : List Fields → Result (Columns × List Row) TableFault

@@ -3,7 +3,7 @@ ghost use Rattle.std.specs.Prelude.{◌≡◌, ◌≢◌, ◌<◌, ◌∷◌, �
 ghost use Rattle.csv.specs.Records.{fields_of};
 ghost use Rattle.inputs.specs.Input.{IsFaultOf};
 ghost use Rattle.inputs.specs.Reading.{Fields, IsReading};
-ghost use Rattle.inputs.specs.Header.{as_schema, headings_of, heading_of, is_colon, kind_of, kind_word, named, placed, schema_of};
+ghost use Rattle.inputs.specs.Header.{as_schema, headings_of, heading_of, is_colon, heading_kind, kind_word, named, placed, schema_of};
 
 use crate::fault::TableFault;
 use crate::reading::next_record;
@@ -162,7 +162,7 @@ pub fn kind_word(column: ColumnType, is_key: bool) -> &'static str
 
 /// The type and the key of this word.
 fn read_kind(bytes: &[u8]) -> Option<(ColumnType, bool)>
-    ensures { result ≡ kind_of bytes.now }
+    ensures { result ≡ heading_kind bytes.now }
 {
     KINDS
         .iter()

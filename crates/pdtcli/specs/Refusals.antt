@@ -41,13 +41,13 @@ fault_text (refusal.Run fault) = Some (codes "NoMemory")
 fault_text (refusal.Threads fault) = None
 fault_text (refusal.Output fault) = Some (show_fault_text fault)
 
-abbrev pub line_of : List ℕ → Option (List ℕ) → Option (List ℕ)
-line_of part None = None
-line_of part (Some fault) = Some (codes "pdt: " ++ (part ++ (codes ": " ++ fault)))
+abbrev pub fault_line : List ℕ → Option (List ℕ) → Option (List ℕ)
+fault_line part None = None
+fault_line part (Some fault) = Some (codes "pdt: " ++ (part ++ (codes ": " ++ fault)))
 
 -- `pdt: `, the part, `: ` and the fault
 abbrev pub refusal_text : Refusal → Option (List ℕ)
-refusal_text refusal = line_of (part_text refusal) (fault_text refusal)
+refusal_text refusal = fault_line (part_text refusal) (fault_text refusal)
 
 -- whether the output was refused, before which some of it may have gone out
 abbrev pub is_output : Refusal → Bool

@@ -73,7 +73,7 @@ pub fn show<W: Write>(alloc: Global, left: &Left, out: &mut W) -> Result<u8, Sho
     show_lines(alloc, left.clients(), left.lines(), out)?;
     show_header(alloc, newest.schema(), out)?;
     show_rows(alloc, &newest, out)?;
-    Ok(status_of(left.lines()))
+    Ok(lines_status(left.lines()))
 }
 
 /// Writes the image that a store has, with the header of these columns, as the crate `csv` writes records.
@@ -107,7 +107,7 @@ pub fn header_of(alloc: Global, schema: &Schema) -> Result<Vec<u8>, NoMemory>
 }
 
 /// The exit status of a run that was answered so.
-fn status_of(lines: &[ReplyLine]) -> u8
+fn lines_status(lines: &[ReplyLine]) -> u8
     ensures { result ≡ exit_status lines.now }
 {
     for line in lines {

@@ -110,14 +110,14 @@ fn show_rows(
     if txn.stretches(from, to).rows_left() == 0 {
         return Reply::End(0);
     }
-    match rows_of(*lines.allocator(), txn, from, to) {
+    match copied_rows(*lines.allocator(), txn, from, to) {
         Ok(rows) => add_lines(&rows, client, lines, left),
         Err(NoMemory) => Reply::NoMemory,
     }
 }
 
 /// The rows from one position up to another, for lines to share.
-fn rows_of(alloc: Global, txn: &Txn, from: u64, to: u64) -> Result<Arc<StableTable>, NoMemory>
+fn copied_rows(alloc: Global, txn: &Txn, from: u64, to: u64) -> Result<Arc<StableTable>, NoMemory>
     ensures { IfOk result (λ rows. rows.value.rows ≡ rows_between txn.now from to) }
 {
     let table = txn.table_between(alloc, from, to)?;

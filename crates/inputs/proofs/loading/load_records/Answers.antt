@@ -12,7 +12,7 @@ use Rattle.inputs.specs.Reading.{Fields}
 use Rattle.inputs.specs.declared.fault.TableFault.TheVariants.{NoMemory}
 use Rattle.inputs.specs.Input.{Numbered}
 use Rattle.inputs.proofs.ReadLemmas.{passed-up, prepend-nil}
-use Rattle.inputs.proofs.RowLemmas.{rows_of-step}
+use Rattle.inputs.proofs.RowLemmas.{numbered_rows-step}
 use Rattle.inputs.proofs.TableLemmas.{table_of-bad_row, table_of-repeat}
 use Rattle.inputs.proofs.FillingLemmas.{AreLong-empty, AreLong-extended, rows_in-extended, types_in-empty, types_in-extended}
 use Rattle.inputs.proofs.LoadLemmas.{columns-count, columns-even, loaded-stable, loaded-table}
@@ -76,8 +76,8 @@ loop-number-preserved c =
     ap (λ n. rows_in (number - 2) columns ++ record { number = n; row = added.cells } ∷ []) (sym back) ∙ sym rows ∙ ap (λ n. rows_in n made) next in
     let read = at.1 ++ fields_of c.next_record.new.fields ∷ [] in
     let types = c.loop-number.schema.types in
-    let step = subst (λ (rs : List Numbered). (more : List Fields) → said.rows_of types 2 (read ++ more) ≡ prepend rs (said.rows_of types (number + 1) more)) newer
-    (rows_of-step types at.1 number _ (record { number = number; row = added.cells }) (rows_in (number - 2) columns) at.4 told) in
+    let step = subst (λ (rs : List Numbered). (more : List Fields) → said.numbered_rows types 2 (read ++ more) ≡ prepend rs (said.numbered_rows types (number + 1) more)) newer
+    (numbered_rows-step types at.1 number _ (record { number = number; row = added.cells }) (rows_in (number - 2) columns) at.4 told) in
     rw added.filled (record {
       some = omega (arith, inv.some);
       few = omega (arith, added.few);

@@ -3,7 +3,7 @@ use Rattle.values.specs.declared.limits.TheConstants.{MAX_ROWS}
 use Rattle.inputs.specs.Cells.{prepend}
 use Rattle.inputs.specs.Filling.{rows_in, types_in}
 use Rattle.inputs.specs.Header.{schema_of}
-use Rattle.inputs.specs.Input.{rows_of}
+use Rattle.inputs.specs.Input.{numbered_rows}
 use Rattle.inputs.specs.Reading.{Fields, IsReading}
 use Rattle.inputs.proofs.FillingLemmas.{AreLong}
 use Rattle.inputs.proofs.loading.load_records.Given as goal
@@ -16,5 +16,5 @@ invariant-loop-number l = record {
   typed : types_in l.columns.items ≡ l.schema.types;
   long : AreLong (l.number - 2) l.columns.items;
   reading : (header : Fields) × (read : List Fields) × ((text : List ℕ) → IsReading text [] l.fn.reader → IsReading text (header ∷ read) l.reader) × (schema_of header ≡ Ok l.schema)
-      × ((more : List Fields) → rows_of l.schema.types 2 (read ++ more) ≡ prepend (rows_in (l.number - 2) l.columns.items) (rows_of l.schema.types l.number more));
+      × ((more : List Fields) → numbered_rows l.schema.types 2 (read ++ more) ≡ prepend (rows_in (l.number - 2) l.columns.items) (numbered_rows l.schema.types l.number more));
 }

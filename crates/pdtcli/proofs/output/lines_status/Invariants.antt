@@ -1,7 +1,7 @@
 use Rattle.std.proofs.Common.{◌≡◌, drop}
 use Rattle.std.specs.List.{list_any}
 use Rattle.pdtcli.specs.Output.{is_refused}
-use Rattle.pdtcli.proofs.output.status_of.Given as goal
+use Rattle.pdtcli.proofs.output.lines_status.Given as goal
 
 -- no line so far was refused
 abbrev pub invariant-loop-line : goal.invariant-loop-line
