@@ -6,5 +6,6 @@ mod FoldLemmas
 mod CutLemmas
 mod OwnLemmas
 mod CheckpointLemmas
+mod RestackLemmas
 mod CommitLemmas
 pub mod CallerLemmas

@@ -5,5 +5,6 @@ pub mod Kept
 pub mod Held
 pub mod Layered
 pub mod Checkpoint
+pub mod Restacked
 pub mod Passing
 pub mod Prepared

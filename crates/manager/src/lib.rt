@@ -18,6 +18,7 @@ mod fold;
 mod history;
 mod manager;
 mod passing;
+mod restack;
 
 pub use checkpoint::Rebuilt;
 pub use commit::Prepared;
@@ -25,3 +26,4 @@ pub use fault::{CheckpointFault, OpenFault};
 pub use fold::Folded;
 pub use history::History;
 pub use manager::Manager;
+pub use restack::Restacked;
