@@ -1,17 +1,18 @@
 //! Checkpoints: the newest image as bytes, which C writes to files.
-ghost use Rattle.std.specs.Prelude.{◌≡◌, ◌≢◌, ◌⊎◌, ◌≤◌, ◌<◌, take, drop, length, IsSome, IfSome, Some, None};
+ghost use Rattle.std.specs.Prelude.{◌≡◌, ◌≢◌, ◌≤◌, take, drop, length, IsSome, IfSome, Some, None};
 ghost use Rattle.manager.specs.Managed.{rebuilt_of};
 ghost use Rattle.pdt_c.specs.Stored.{bytes_at};
 ghost use Rattle.pdt_c.specs.declared.codes.TheConstants.{DONE};
 
 use crate::byte_column::{ByteColumn, Slot};
 use crate::checkpoint::{Checkpoint, Columns};
-use crate::codes::{BAD_STORE, DONE, NO_MEMORY, code_of_checkpoint, code_of_store};
+use crate::codes::{DONE, NO_MEMORY, code_of_store};
 use crate::store::Store as StoreHandle;
 use crate::{checkpoint, store};
-use devices::{ColumnDevice, Store, have_failed};
+use devices::{ColumnDevice, Store, StoreFault, have_failed};
 use manager::Manager;
 use once_cell::race::OnceBox;
+use stable::StableTable;
 use std::alloc::Global;
 use std::sync::Arc;
 use values::NoMemory;
@@ -30,10 +31,10 @@ pub extern "C" fn pdtr_checkpoint(
     requires { IsSome store.old.value }
     ensures held { IsSome store.new.value }
 
-    // The newest rows are the stable table then, or all is as it was; where it is done, they are.
+    // The newest rows are the stable table then, or all is as it was.
     ensures done { result ≡ DONE → IfSome store.old.value (λ m. store.new.value ≡ Some (rebuilt_of m)) }
     ensures image { result ≡ DONE → IsSome image.new.value }
-    ensures either { IfSome store.old.value (λ m. (store.new.value ≡ Some m) ⊎ (store.new.value ≡ Some (rebuilt_of m))) }
+    ensures refused { result ≢ DONE → (store.new.value ≡ store.old.value) × (image.new.value ≡ image.old.value) }
 {
     let mut manager = store::take(alloc, store);
     let code = checkpoint(alloc, &mut manager, image);
@@ -44,51 +45,45 @@ pub extern "C" fn pdtr_checkpoint(
 fn checkpoint(alloc: Global, manager: &mut Manager, image: &mut Checkpoint) -> u32
     ensures done { result ≡ DONE → manager.new ≡ rebuilt_of manager.old }
     ensures image { result ≡ DONE → IsSome image.new.value }
-    ensures either { (manager.new ≡ manager.old) ⊎ (manager.new ≡ rebuilt_of manager.old) }
+    ensures refused { result ≢ DONE → (manager.new ≡ manager.old) × (image.new.value ≡ image.old.value) }
 {
-    let width = manager.version().schema().width();
-    let Ok(slots) = empty_slots(alloc, width) else {
+    let Ok(rebuilt) = manager.prepare_checkpoint() else {
         return NO_MEMORY;
     };
-    let code = checkpoint_to(alloc, manager, &slots);
-    if code != DONE {
-        return code;
-    }
-    match columns_of(alloc, &slots) {
+    match stored_columns(alloc, rebuilt.table()) {
         Ok(columns) => {
+            manager.install_checkpoint(rebuilt);
             checkpoint::put(image, columns);
             DONE
         }
-        Err(NoMemory) => NO_MEMORY,
+        Err(fault) => code_of_store(fault),
     }
 }
 
-fn checkpoint_to(alloc: Global, manager: &mut Manager, slots: &[Slot]) -> u32
-    ensures done { result ≡ DONE → manager.new ≡ rebuilt_of manager.old }
-    ensures refused { result ≢ DONE → manager.new ≡ manager.old }
-{
+/// The bytes that store a table, those of each column for itself.
+pub(crate) fn stored_columns(
+    alloc: Global,
+    table: &StableTable,
+) -> Result<Box<Columns>, StoreFault> {
+    let slots = empty_slots(alloc, table.schema().width())?;
+    store_in(alloc, table, &slots)?;
+    Ok(columns_of(alloc, &slots)?)
+}
+
+/// Leaves the bytes of each column in its slot.
+fn store_in(alloc: Global, table: &StableTable, slots: &[Slot]) -> Result<(), StoreFault> {
     let mut devices: Vec<Box<dyn ColumnDevice + Send>> = Vec::new(alloc);
     for slot in slots {
-        let Ok(device) = device_over(alloc, slot) else {
-            return NO_MEMORY;
-        };
-        let Ok(()) = devices.push(device) else {
-            return NO_MEMORY;
+        let Ok(()) = devices.push(device_over(alloc, slot)?) else {
+            return Err(StoreFault::NoMemory);
         };
     }
     if have_failed(devices.as_slice()) {
-        return BAD_STORE;
+        return Err(StoreFault::StoreFailed);
     }
-    match Store::new(alloc, devices, manager.version().schema(), GENERATION) {
-        Ok(store) => {
-            let mut store = store;
-            match manager.checkpoint(&mut store) {
-                Ok(_) => DONE,
-                Err(fault) => code_of_checkpoint(fault),
-            }
-        }
-        Err(fault) => code_of_store(fault),
-    }
+    let mut store = Store::new(alloc, devices, table.schema(), GENERATION)?;
+    store.append_image(table)?;
+    Ok(())
 }
 
 /// A device over a slot.

@@ -8,7 +8,7 @@ use crate::cells::CellFault;
 use devices::StoreFault;
 use frames::ReadFault;
 use inputs::TableFault;
-use manager::{CheckpointFault, OpenFault};
+use manager::OpenFault;
 use model::{CommitReply, WriteReply};
 use txn::WriteFault;
 use values::SchemaFault;
@@ -122,15 +122,6 @@ pub(crate) fn code_of_store(fault: StoreFault) -> u32
     match fault {
         // A device in memory fails only where memory is refused.
         StoreFault::NoMemory | StoreFault::DeviceFailed(_) => NO_MEMORY,
-        _ => BAD_STORE,
-    }
-}
-
-pub(crate) fn code_of_checkpoint(fault: CheckpointFault) -> u32
-    ensures { 0 < result }
-{
-    match fault {
-        CheckpointFault::NoMemory | CheckpointFault::DeviceFailed(_) => NO_MEMORY,
         _ => BAD_STORE,
     }
 }

@@ -1,0 +1,65 @@
+//! C's handle of what a commit will do.
+ghost use Rattle.std.specs.Prelude.{◌≡◌, IsSome, Some, None};
+ghost use Rattle.std.specs.declared.option.Option.{Option};
+ghost use Rattle.manager.specs.Prepared.{Prepared as Deciding};
+
+use crate::held::Held;
+use manager::Prepared;
+use std::alloc::Global;
+use std::marker::Model;
+use std::mem;
+
+/// Nothing, or a prepared commit on the heap. C has it as a struct of one pointer, which is null before a call fills it.
+#[repr(C)]
+#[derive(Drop)]
+pub struct Decision {
+    at: *mut u8,
+    alloc: Global,
+    ghost value: { Option Deciding },
+}
+
+impl Model for Decision {
+    ghost use Rattle.pdt_c.specs.Held.{owns_at};
+    ghost use Rattle.manager.specs.contracts.commit.Prepared.{the_row};
+    ghost use Rattle.std.specs.contracts.impls.GlobalAllocator.TheImpl.{ghosts};
+
+    ghost also_owns = { λ h. owns_at (ghosts.dealloc_token h.alloc) the_row h.at h.value };
+}
+
+/// The handle that C keeps of what is held.
+fn handle_of(held: Held<Prepared, Global>) -> Decision
+    ensures { result.value ≡ held.value }
+{
+    let Held { at, alloc } = held;
+    Decision {
+        at: at as *mut u8,
+        alloc,
+    }
+}
+
+/// What a handle holds.
+fn held_by(handle: Decision) -> Held<Prepared, Global>
+    ensures { result.value ≡ handle.value }
+{
+    let Decision { at, alloc } = handle;
+    Held {
+        at: at as *mut Prepared,
+        alloc,
+    }
+}
+
+/// Fills a handle. What it held before is lost.
+pub(crate) fn put(handle: &mut Decision, value: Box<Prepared>)
+    ensures { handle.new.value ≡ Some value.value }
+{
+    *handle = handle_of(Held::of(value));
+}
+
+/// Takes what a handle holds, and leaves nothing.
+pub(crate) fn take(alloc: Global, handle: &mut Decision) -> Box<Prepared>
+    requires { IsSome handle.old.value }
+    ensures value { handle.old.value ≡ Some result.value }
+    ensures empty { handle.new.value ≡ None }
+{
+    held_by(mem::replace(handle, handle_of(Held::none(alloc)))).into_box()
+}
