@@ -24,7 +24,19 @@ typedef struct {
   size_t len;
 } slice;
 
+typedef struct {
+  const int64_t *at;
+  size_t len;
+} numbers;
+
+typedef struct {
+  const uint64_t *at;
+  size_t len;
+} offsets;
+
 extern uint32_t pdtr_open(const uint8_t *, size_t, size_t, uint64_t, bool, handle *);
+extern uint32_t pdtr_open_columns(const uint8_t *, size_t, size_t, const numbers *, size_t, const offsets *, size_t, const slice *,
+                                  size_t, size_t, uint64_t, bool, pdt_place *, handle *);
 extern uint32_t pdtr_recover(const uint8_t *, size_t, const slice *, size_t, size_t, uint64_t, bool, uint32_t *, handle *);
 extern void pdtr_close(handle *);
 extern size_t pdtr_width(handle *);
@@ -109,8 +121,34 @@ const char *pdt_text(int code) {
       "the call may not be made so, or not now",
       "a file failed",
       "a file of a store is there already",
+      [PDT_NOT_ASCENDING] = "a row's key isn't above that of the row before it",
+      [PDT_DEVICE_FAILED] = "the caller's write didn't take the bytes",
   };
-  return code >= 0 && (size_t)code < sizeof texts / sizeof *texts ? texts[code] : "no such code";
+  return code >= 0 && (size_t)code < sizeof texts / sizeof *texts && texts[code] ? texts[code] : "no such code";
+}
+
+/* ---- headers: a record that names the columns, each in quotes, since a name may have commas, quotes and ends of lines */
+
+enum { HEADER_BYTES = PDT_MAX_COLUMNS * (2 * PDT_MAX_NAME + 16) };
+
+/* Puts the cell of one more column after so many bytes, and answers where it ends. */
+static size_t add_heading(char *text, size_t len, const char *name, size_t bytes, int type, bool is_key) {
+  static const char *const words[] = {"", "int", "text", "bool"};
+  if (len) text[len++] = ',';
+  text[len++] = '"';
+  for (size_t i = 0; i < bytes; i++) {
+    if (name[i] == '"') text[len++] = '"';
+    text[len++] = name[i];
+  }
+  return len + (size_t)sprintf(text + len, ":%s%s\"", words[type], is_key ? ":key" : "");
+}
+
+static size_t header_of(const pdt_store *store, char *text) {
+  size_t len = 0;
+  for (size_t column = 0; column < store->width; column++)
+    len = add_heading(text, len, store->names[column], store->name_bytes[column], store->types[column], column < store->key);
+  text[len++] = '\n';
+  return len;
 }
 
 /* ---- stores */
@@ -426,21 +464,9 @@ static int make_file(const char *folder, int column) {
   return file >= 0 ? file : errno == EEXIST ? -PDT_EXISTS : -PDT_IO;
 }
 
-/* The header's record, each name in quotes, since it may have commas, quotes and ends of lines. */
 static int write_header(const pdt_store *store, const char *folder) {
-  static const char *const words[] = {"", "int", "text", "bool"};
-  char text[PDT_MAX_COLUMNS * (2 * PDT_MAX_NAME + 16)];
-  size_t len = 0;
-  for (size_t column = 0; column < store->width; column++) {
-    if (column) text[len++] = ',';
-    text[len++] = '"';
-    for (size_t i = 0; i < store->name_bytes[column]; i++) {
-      if (store->names[column][i] == '"') text[len++] = '"';
-      text[len++] = store->names[column][i];
-    }
-    len += (size_t)sprintf(text + len, ":%s%s\"", words[store->types[column]], column < store->key ? ":key" : "");
-  }
-  text[len++] = '\n';
+  char text[HEADER_BYTES];
+  size_t len = header_of(store, text);
   int file = make_file(folder, -1);
   return file < 0 ? -file : end_file(file, write_all(file, (const uint8_t *)text, len));
 }
@@ -575,4 +601,129 @@ int pdt_recover(const char *folder, const pdt_options *options, pdt_store **out)
     return code;
   }
   return adopt(store, out);
+}
+
+/* ---- columns that the caller hands over */
+
+/* What is passed of each column: nothing but what its type has. */
+typedef struct {
+  numbers numbers[PDT_MAX_COLUMNS];
+  offsets offsets[PDT_MAX_COLUMNS];
+  slice bytes[PDT_MAX_COLUMNS];
+} passed;
+
+static int pass_column(passed *all, size_t at, const pdt_column *column) {
+  static const uint64_t no_offsets[1];
+  size_t rows = (size_t)column->rows;
+  all->numbers[at] = (numbers){no_numbers, 0};
+  all->offsets[at] = (offsets){no_offsets, 0};
+  all->bytes[at] = (slice){no_bytes, 0};
+  if (column->rows > 2147483647) return PDT_TOO_MANY_ROWS;
+  if (!rows) return PDT_OK;
+  switch (column->type) {
+    case PDT_INT: all->numbers[at] = (numbers){column->numbers, rows}; return column->numbers ? PDT_OK : PDT_MISUSE;
+    case PDT_BOOL: all->bytes[at] = (slice){column->bytes, rows}; return column->bytes ? PDT_OK : PDT_MISUSE;
+    default:
+      all->offsets[at] = (offsets){column->offsets, rows + 1};
+      all->bytes[at] = (slice){bytes_at(column->bytes, column->len), column->len};
+      return column->offsets && (column->bytes || !column->len) ? PDT_OK : PDT_MISUSE;
+  }
+}
+
+/* Puts the header of columns, of whose names, types and number so much is tested as room for it wants. */
+static int head_columns(const pdt_column *columns, size_t count, size_t key, char *text, size_t *len) {
+  if (!count || count > PDT_MAX_COLUMNS || !key || key > count) return PDT_BAD_TABLE;
+  for (size_t column = 0; column < count; column++) {
+    const pdt_column *one = &columns[column];
+    if (!one->name) return PDT_MISUSE;
+    size_t bytes = strnlen(one->name, PDT_MAX_NAME + 1);
+    if (bytes > PDT_MAX_NAME || one->type < PDT_INT || one->type > PDT_BOOL) return PDT_BAD_TABLE;
+    *len = add_heading(text, *len, one->name, bytes, one->type, column < key);
+  }
+  text[(*len)++] = '\n';
+  return PDT_OK;
+}
+
+int pdt_open_columns(const pdt_column *columns, size_t count, size_t key, const pdt_options *options, pdt_place *place,
+                     pdt_store **out) {
+  if (!out) return PDT_MISUSE;
+  *out = NULL;
+  if (!columns && count) return PDT_MISUSE;
+  char header[HEADER_BYTES];
+  size_t len = 0;
+  pdt_place at = {0, 0};
+  int code = head_columns(columns, count, key, header, &len);
+  if (code) return code;
+  passed *all = malloc(sizeof *all);
+  pdt_store *store = calloc(1, sizeof *store);
+  if (!all || !store) code = PDT_NOMEM;
+  for (size_t column = 0; column < count && !code; column++) code = pass_column(all, column, &columns[column]);
+  if (!code)
+    code = (int)pdtr_open_columns((const uint8_t *)header, len, (size_t)columns[0].rows, all->numbers, count, all->offsets, count,
+                                  all->bytes, count, recent_of(options), limit_of(options), rule_of(options), &at, &store->raw);
+  free(all);
+  if (place) *place = at;
+  if (code) {
+    free(store);
+    return code;
+  }
+  return adopt(store, out);
+}
+
+/* ---- images as bytes */
+
+int pdt_recover_from(const void *header, size_t len, const pdt_bytes *columns, size_t count, const pdt_options *options,
+                     uint32_t *generation, pdt_store **out) {
+  if (!out) return PDT_MISUSE;
+  *out = NULL;
+  if ((!header && len) || (!columns && count)) return PDT_MISUSE;
+  if (count > PDT_MAX_COLUMNS) return PDT_BAD_STORE;
+  slice slices[PDT_MAX_COLUMNS] = {{no_bytes, 0}};
+  for (size_t column = 0; column < count; column++) {
+    if (!columns[column].at && columns[column].len) return PDT_MISUSE;
+    slices[column] = (slice){bytes_at(columns[column].at, columns[column].len), columns[column].len};
+  }
+  pdt_store *store = calloc(1, sizeof *store);
+  if (!store) return PDT_NOMEM;
+  uint32_t found = 0;
+  int code = (int)pdtr_recover(bytes_at(header, len), len, slices, count, recent_of(options), limit_of(options), rule_of(options),
+                               &found, &store->raw);
+  if (code) {
+    free(store);
+    return code;
+  }
+  if (generation) *generation = found;
+  return adopt(store, out);
+}
+
+static int hand_column(handle *image, size_t column, uint8_t *chunk, pdt_write write, void *context) {
+  size_t len = pdtr_image_len(image, column);
+  for (size_t at = 0; at < len;) {
+    size_t count = pdtr_image_read(image, column, at, chunk, CHUNK);
+    if (!count || write(context, column, chunk, count)) return PDT_DEVICE_FAILED; /* no clause says that bytes come */
+    at += count;
+  }
+  return PDT_OK;
+}
+
+int pdt_checkpoint_to(pdt_store *store, pdt_write write, void *context, size_t *column) {
+  if (!store || !write) return PDT_MISUSE;
+  uint8_t *chunk = malloc(CHUNK);
+  if (!chunk) return PDT_NOMEM;
+  handle image = {NULL};
+  int code = PDT_MISUSE;
+  if (!pthread_mutex_lock(&store->lock)) {
+    code = (int)pdtr_checkpoint(&store->raw, &image);
+    pthread_mutex_unlock(&store->lock);
+  }
+  if (!code) {
+    char header[HEADER_BYTES];
+    size_t at = PDT_HEADER, len = header_of(store, header);
+    if (write(context, at, (const uint8_t *)header, len)) code = PDT_DEVICE_FAILED;
+    while (!code && ++at < store->width) code = hand_column(&image, at, chunk, write, context);
+    if (code && column) *column = at;
+    pdtr_image_close(&image);
+  }
+  free(chunk);
+  return code;
 }

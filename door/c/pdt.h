@@ -50,7 +50,9 @@ enum pdt_code {
   PDT_NO_IMAGE = 13,      /* the files hold no whole image */
   PDT_MISUSE = 14,        /* the call isn't one that may be made now, or a pointer is null */
   PDT_IO = 15,            /* a file can't be made, written, synced or read; errno says why */
-  PDT_EXISTS = 16         /* a file of a store is there already */
+  PDT_EXISTS = 16,        /* a file of a store is there already */
+  PDT_NOT_ASCENDING = 18, /* a row's key isn't above that of the row before it */
+  PDT_DEVICE_FAILED = 19  /* the caller's write didn't take the bytes */
 };
 
 /* A sentence for a code, in English; never null. */
@@ -78,10 +80,49 @@ typedef struct pdt_options {
    The text may go after the call. */
 int pdt_open(const void *csv, size_t bytes, const pdt_options *options, pdt_store **store);
 
+/* A column that is handed over: its name, its type, and where the values of so many rows lie. */
+typedef struct pdt_column {
+  const char *name; /* 1 to 64 bytes, and a zero byte */
+  int type;
+  uint64_t rows;           /* how many values there are */
+  const int64_t *numbers;  /* of an int column: one for each row */
+  const uint64_t *offsets; /* of a text column: where the text of each row begins in bytes, and where the last one ends */
+  const uint8_t *bytes;    /* of a text column: those of all texts; of a bool column: one for each row, 0 or 1 */
+  size_t len;              /* of a text column: how many bytes there are */
+} pdt_column;
+
+/* The row and the column of a fault, which count from 0. */
+typedef struct pdt_place {
+  uint64_t row;
+  uint64_t column;
+} pdt_place;
+
+/* Opens a store over so many columns, the first key of which are the key; all have as many rows, in ascending key.
+   PDT_SHAPE: the value at *place is none of its type, or the column ends before that row, or goes on past the others; a text
+   has offsets that descend or pass the bytes, is no UTF-8, or has more than 4,096 bytes. PDT_NOT_ASCENDING: at place->row.
+   The columns are looked at one after the other, and the keys last. PDT_BAD_TABLE (a name, a type, a key), and
+   PDT_TOO_MANY_ROWS, PDT_BAD_LIMIT, PDT_NOMEM, PDT_MISUSE: *store is null then. place may be null.
+   The values are copied into the table, and may go after the call; no row is made. */
+int pdt_open_columns(const pdt_column *columns, size_t count, size_t key, const pdt_options *options, pdt_place *place,
+                     pdt_store **store);
+
 /* Opens a store over the image that pdt_checkpoint, or the program `pdt --store`, left in a folder.
    PDT_IO, PDT_BAD_TABLE (the header), PDT_BAD_STORE, PDT_NO_IMAGE, and those of pdt_open: *store is null then.
    The files are read whole, and not touched. */
 int pdt_recover(const char *folder, const pdt_options *options, pdt_store **store);
+
+/* Bytes that a caller has: those of a column of an image. */
+typedef struct pdt_bytes {
+  const void *at;
+  size_t len;
+} pdt_bytes;
+
+/* Opens a store over the image that pdt_checkpoint_to handed out, or that stands in files that the caller has read: the bytes
+   of the header, and of so many columns. *generation, if not null, is which image of theirs it is: the newest whole one.
+   PDT_BAD_TABLE (the header), PDT_BAD_STORE, PDT_NO_IMAGE, and those of pdt_open: *store is null then.
+   The bytes may go after the call. */
+int pdt_recover_from(const void *header, size_t len, const pdt_bytes *columns, size_t count, const pdt_options *options,
+                     uint32_t *generation, pdt_store **store);
 
 /* Closes a store. PDT_MISUSE while one of its transactions is open: the store stays then. A null pointer is no error.
    Called when no other thread uses the store any more. */
@@ -116,6 +157,20 @@ int pdt_cut(pdt_store *store);
    after them; in memory it is the stable table then. PDT_EXISTS, PDT_IO, PDT_NOMEM, PDT_MISUSE: what was written is
    removed. Once it answers PDT_OK the table is durable; begins and commits wait only while the bytes are made. */
 int pdt_checkpoint(pdt_store *store, const char *folder);
+
+/* What takes the bytes of a checkpoint: len of them, which come after those that it took of the column so far, and lie there
+   during the call. It answers 0 where it took all. It calls nothing of this store. */
+typedef int (*pdt_write)(void *context, size_t column, const uint8_t *bytes, size_t len);
+
+/* The column of the header's bytes. */
+#define PDT_HEADER ((size_t)-1)
+
+/* Hands the bytes that store the newest table to write, in order: those of the header, then of each column from the first on.
+   In memory it is the stable table then. PDT_DEVICE_FAILED where write answers other than 0: *column, if not null, is that of
+   the bytes; nothing is asked of write after it, and what it took is no store. PDT_NOMEM, PDT_MISUSE.
+   The caller makes the bytes durable. Begins and commits wait only while they are made, and write is called by this thread
+   without the lock. */
+int pdt_checkpoint_to(pdt_store *store, pdt_write write, void *context, size_t *column);
 
 /* ---- transactions */
 

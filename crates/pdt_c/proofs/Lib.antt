@@ -3,3 +3,4 @@ mod CellLemmas
 mod MarkLemmas
 mod NumberLemmas
 mod EntryLemmas
+mod FillingLemmas

@@ -8,3 +8,5 @@ pub mod Reads
 pub mod Numbers
 pub mod Stored
 pub mod Entries
+pub mod Filling
+pub mod Columns

@@ -1,7 +1,7 @@
 //! What a call answers C, as numbers. `pdt.h` has their names.
 ghost use Rattle.std.specs.Prelude.{◌≡◌, ◌≢◌, ◌<◌, ◌⊎◌, IfOk, IfErr, Ok, Err};
 ghost use Rattle.pdt_c.specs.Told.{told, code_of_reply};
-ghost use Rattle.pdt_c.specs.declared.codes.TheConstants.{NO_MEMORY, SHAPE};
+ghost use Rattle.pdt_c.specs.declared.codes.TheConstants.{NOT_ASCENDING, NO_MEMORY, SHAPE};
 ghost use Rattle.txn.specs.declared.fault.WriteFault.TheVariants as write_fault;
 
 use crate::cells::CellFault;
@@ -40,6 +40,8 @@ pub(crate) const TOO_SMALL: u32 = 11;
 pub(crate) const BAD_STORE: u32 = 12;
 
 pub(crate) const NO_IMAGE: u32 = 13;
+
+pub(crate) const NOT_ASCENDING: u32 = 18;
 
 /// The code of cells that aren't there.
 pub(crate) fn code_of_cells(fault: CellFault) -> u32
@@ -86,7 +88,8 @@ pub(crate) fn code_of_commit(reply: CommitReply) -> (u32, u64)
 }
 
 pub(crate) fn code_of_table(fault: TableFault) -> u32
-    ensures { 0 < result }
+    ensures some { 0 < result }
+    ensures other { (result ≢ SHAPE) × (result ≢ NOT_ASCENDING) }
 {
     match fault {
         TableFault::NoMemory => NO_MEMORY,
@@ -97,7 +100,8 @@ pub(crate) fn code_of_table(fault: TableFault) -> u32
 }
 
 pub(crate) fn code_of_opening(fault: OpenFault) -> u32
-    ensures { 0 < result }
+    ensures some { 0 < result }
+    ensures other { (result ≢ SHAPE) × (result ≢ NOT_ASCENDING) }
 {
     match fault {
         OpenFault::BadLimit => BAD_LIMIT,

@@ -7,7 +7,7 @@ ghost use Rattle.inputs.specs.Input.{IsTableOf};
 ghost use Rattle.devices.specs.Stored as stored;
 ghost use Rattle.manager.specs.Managed.{Managed, opened};
 ghost use Rattle.pdt_c.specs.Opening.{rule_of, IsOpenedOn, IsRecoveredOn};
-ghost use Rattle.pdt_c.specs.declared.codes.TheConstants.{DONE};
+ghost use Rattle.pdt_c.specs.declared.codes.TheConstants.{DONE, NOT_ASCENDING, SHAPE};
 
 use crate::codes::{DONE, NO_MEMORY, code_of_opening, code_of_reading, code_of_table};
 use crate::store::{Store, put, take};
@@ -83,7 +83,7 @@ pub extern "C" fn pdtr_recover(
 }
 
 /// Puts a manager over a table into a handle.
-fn open_over(
+pub(crate) fn open_over(
     alloc: Global,
     table: StableTable,
     recent: usize,
@@ -93,6 +93,7 @@ fn open_over(
 ) -> u32
     ensures done { result ≡ DONE → store.new.value ≡ Some (opened table row_limit recent (rule_of by_row)) }
     ensures refused { result ≢ DONE → store.new.value ≡ store.old.value }
+    ensures other { (result ≢ SHAPE) × (result ≢ NOT_ASCENDING) }
 {
     match Manager::open(alloc, table, recent, row_limit, rule_of(by_row)) {
         Ok(manager) => match Box::new(alloc, manager) {

@@ -131,6 +131,12 @@ class Exists(Error):
     code = 16
 
 
+class NotAscending(Error, ValueError):
+    """A row's key isn't above that of the row before it. ``open`` sorts such columns, and does not raise it."""
+
+    code = 18
+
+
 _KINDS: Tuple[Type[Error], ...] = (
     NoMemory,
     Conflict,
@@ -148,6 +154,7 @@ _KINDS: Tuple[Type[Error], ...] = (
     Misuse,
     FileFailed,
     Exists,
+    NotAscending,
 )
 _BY_CODE: Dict[int, Type[Error]] = {kind.code: kind for kind in _KINDS}
 

@@ -50,12 +50,33 @@ class Piece(ctypes.Structure):
     _fields_ = [("at", c_void_p), ("count", c_uint64), ("number", c_int64)]
 
 
+class ColumnOf(ctypes.Structure):
+    """pdt_column"""
+
+    _fields_ = [
+        ("name", c_char_p),
+        ("type", c_int),
+        ("rows", c_uint64),
+        ("numbers", c_void_p),
+        ("offsets", c_void_p),
+        ("bytes", c_void_p),
+        ("len", c_size_t),
+    ]
+
+
+class PlaceOf(ctypes.Structure):
+    """pdt_place"""
+
+    _fields_ = [("row", c_uint64), ("column", c_uint64)]
+
+
 # Each call's result, and its arguments. A pointer to what the call fills is a void pointer here, so that an array, a
 # part of one and a number by reference may all stand there.
 _CELLS = [c_void_p, c_char_p, c_size_t]  # numbers, texts, and how many bytes the texts have
 _CALLS = {
     "text": (c_char_p, [c_int]),
     "open": (c_int, [c_char_p, c_size_t, c_void_p, c_void_p]),
+    "open_columns": (c_int, [c_void_p, c_size_t, c_size_t, c_void_p, c_void_p, c_void_p]),
     "recover": (c_int, [c_char_p, c_void_p, c_void_p]),
     "close": (c_int, [c_void_p]),
     "columns": (c_size_t, [c_void_p]),

@@ -9,11 +9,12 @@ from types import TracebackType
 from typing import Iterator, Mapping, NamedTuple, Optional, Tuple, Type, Union
 
 from ._cells import TYPES, Column, Shaping
-from ._errors import BadLimit, Misuse, check
+from ._columns import PassedColumns
+from ._errors import BadLimit, Misuse, NotAscending, check
 from ._handles import StoreHandle, TransactionHandle
 from ._layers import Entry, Layer
-from ._library import MAX_RECENT, MAX_ROWS, Options, SizesOf, library
-from ._tables import KeyNames, Table, text_of_table
+from ._library import MAX_RECENT, MAX_ROWS, Options, PlaceOf, SizesOf, library
+from ._tables import Columns, KeyNames, Table, named_columns, text_of_columns, text_of_table
 from ._transaction import Transaction
 
 Folder = Union[str, bytes, "os.PathLike[str]"]
@@ -50,9 +51,34 @@ def open(
     BadTable, Shape (the columns), TooManyRows, BadLimit, NoMemory; OSError where the file can't be read.
     """
     options = _options(recent, row_limit, conflicts)
-    text = text_of_table(table, key, types)
+    if isinstance(table, Mapping):
+        return _over_columns(table, key, types, options)
+    if key is not None or types is not None:
+        raise TypeError("key and types go with columns; a CSV text names its own in its header")
+    return _over_text(text_of_table(table), options)
+
+
+def _over_text(text: bytes, options: Options) -> "Store":
     handle = StoreHandle()
     check(library.pdt_open(text, len(text), byref(options), byref(handle.room)))
+    return Store(handle)
+
+
+def _over_columns(
+    columns: Columns, key: Optional[KeyNames], types: Optional[Mapping[str, str]], options: Options
+) -> "Store":
+    """Columns in ascending key go into the table from where they lie; others are sorted, by way of a text."""
+    named = named_columns(columns, key, types)
+    passed, handle, place = PassedColumns(named), StoreHandle(), PlaceOf()
+    keys = sum(column.key for column in named)
+    try:
+        check(
+            library.pdt_open_columns(
+                byref(passed.columns), len(named), keys, byref(options), byref(place), byref(handle.room)
+            )
+        )
+    except NotAscending:
+        return _over_text(text_of_columns(named), options)
     return Store(handle)
 
 

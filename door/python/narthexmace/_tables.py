@@ -3,7 +3,7 @@ from __future__ import annotations
 
 import os
 from pathlib import Path
-from typing import Any, Callable, Dict, Iterable, List, Mapping, Optional, Sequence, Union
+from typing import Any, Callable, Dict, Iterable, List, Mapping, NamedTuple, Optional, Sequence, Union
 
 from ._cells import BOOL, INT, TEXT, bytes_of, is_truth, number_of, truth_of
 from ._errors import BadTable, Shape
@@ -13,12 +13,8 @@ Table = Union[str, bytes, "os.PathLike[str]", Columns]
 KeyNames = Union[str, Sequence[str]]
 
 
-def text_of_table(table: Table, key: Optional[KeyNames], types: Optional[Mapping[str, str]]) -> bytes:
-    """The CSV text of a table."""
-    if isinstance(table, Mapping):
-        return _text_of_columns(table, [key] if isinstance(key, str) else list(key or ()), types or {})
-    if key is not None or types is not None:
-        raise TypeError("key and types go with columns; a CSV text names its own in its header")
+def text_of_table(table: Union[str, bytes, "os.PathLike[str]"]) -> bytes:
+    """The CSV text of a table that isn't given as columns."""
     if isinstance(table, (bytes, bytearray, memoryview)):
         return bytes(table)
     if isinstance(table, str) and "\n" in table:
@@ -31,25 +27,66 @@ def text_of_table(table: Table, key: Optional[KeyNames], types: Optional[Mapping
     raise TypeError(f"a table is a CSV text, a path or columns, and no {type(table).__name__}")
 
 
-def _text_of_columns(columns: Columns, key: List[str], types: Mapping[str, str]) -> bytes:
-    """Columns as a CSV text, those of the key first, in the order in which the key names them."""
-    for name in (*key, *types):
+class Named(NamedTuple):
+    """A column that is handed over, with its name, its type and whether it belongs to the key."""
+
+    name: str
+    type: str
+    cells: Iterable[Any]
+    key: bool
+
+
+def named_columns(columns: Columns, key: Optional[KeyNames], types: Optional[Mapping[str, str]]) -> List[Named]:
+    """The columns, those of the key first, in the order in which the key names them."""
+    names, types = [key] if isinstance(key, str) else list(key or ()), types or {}
+    for name in (*names, *types):
         if name not in columns:
             raise Shape(f"there is no column {name!r}")
-    if not key or len(set(key)) < len(key):
+    if not names or len(set(names)) < len(names):
         raise Shape("the key names the columns that are the key, each once")
     if any("\0" in name for name in columns):
         raise Shape("the name of a column has no null character: C would cut it there")
-    headings, fields = [], []
-    for name in (*key, *(name for name in columns if name not in key)):
-        cells = _listed(columns[name])
+    listed = []
+    for name in (*names, *(name for name in columns if name not in names)):
+        cells = array_of(columns[name]) or _listed(columns[name])
         type_ = types[name] if name in types else _type_of(name, cells)
-        headings.append(_quoted(_encoded(f"{name}:{type_}{':key' if name in key else ''}")))
-        fields.append(_fields(name, type_, cells))
-    lengths = sorted({len(column) for column in fields})
+        if type_ not in _WRITERS:
+            raise Shape(f"column {name!r} has the type {type_!r}, and there are int, text and bool")
+        if isinstance(cells, memoryview) and type_of_array(cells) != type_:
+            cells = cells.tolist()
+        listed.append(Named(name, type_, cells, name in names))
+    lengths = sorted({len(column.cells) for column in listed})  # type: ignore[arg-type]
     if len(lengths) > 1:
         raise Shape(f"the columns have {' and '.join(map(str, lengths))} cells")
+    return listed
+
+
+def text_of_columns(columns: Iterable[Named]) -> bytes:
+    """Columns as a CSV text."""
+    headings, fields = [], []
+    for column in columns:
+        headings.append(_quoted(encoded(f"{column.name}:{column.type}{':key' if column.key else ''}")))
+        fields.append([written(column, _WRITERS[column.type], cell) for cell in column.cells])
     return b"\n".join([b",".join(headings), *map(b",".join, zip(*fields)), b""])
+
+
+def type_of_array(array: memoryview) -> Optional[str]:
+    """The type of an array whose values lie as C has them."""
+    if array.ndim == 1 and array.c_contiguous:
+        if array.format in ("q", "l") and array.itemsize == 8:
+            return INT
+        if array.format == "?":
+            return BOOL
+    return None
+
+
+def array_of(cells: Iterable[Any]) -> Optional[memoryview]:
+    """An array of numbers of 64 bits or of truths, where they lie; none of other cells."""
+    try:
+        array = memoryview(cells)  # type: ignore[arg-type]
+    except (TypeError, ValueError, BufferError):
+        return None
+    return array if type_of_array(array) and len(array) else None
 
 
 def _listed(cells: Iterable[Any]) -> List[Any]:
@@ -62,6 +99,8 @@ def _listed(cells: Iterable[Any]) -> List[Any]:
 
 def _type_of(name: str, cells: Sequence[Any]) -> str:
     """The type that all cells of a column have."""
+    if isinstance(cells, memoryview):
+        return str(type_of_array(cells))
     kinds = {_kind_of(cell) for cell in cells}
     if len(kinds) == 1 and None not in kinds:
         return str(kinds.pop())
@@ -78,17 +117,15 @@ def _kind_of(cell: object) -> Optional[str]:
     return INT if hasattr(cell, "__index__") else None
 
 
-def _fields(name: str, type_: str, cells: Sequence[Any]) -> List[bytes]:
-    """The fields of a column's cells."""
-    if type_ not in _WRITERS:
-        raise Shape(f"column {name!r} has the type {type_!r}, and there are int, text and bool")
+def written(column: Named, write: Callable[[Any], Any], cell: object) -> Any:
+    """What a cell is written as; a fault names the column."""
     try:
-        return [_WRITERS[type_](cell) for cell in cells]
+        return write(cell)
     except Shape as fault:
-        raise Shape(f"column {name!r}: {fault}") from None
+        raise Shape(f"column {column.name!r}: {fault}") from None
 
 
-def _encoded(text: str) -> bytes:
+def encoded(text: str) -> bytes:
     try:
         return text.encode()
     except UnicodeEncodeError:

@@ -41,6 +41,31 @@ class Case(unittest.TestCase):
         self.qty = [row[2] for row in self.rows]
 
 
+class Openings(unittest.TestCase):
+    def image(self, columns: dict, key: Any) -> List[tuple]:
+        with narthexmace.open(columns, key=key) as store, store.begin() as txn:
+            return txn[:]
+
+    def test_columns_from_where_they_lie(self) -> None:
+        ids, truths = array("q", range(ROWS)), memoryview(bytearray(i % 2 for i in range(ROWS))).cast("?")
+        wanted = [(i, f"é{i}", i % 2 == 1) for i in range(ROWS)]
+        names = [row[1] for row in wanted]
+        for id_ in (ids, memoryview(ids), memoryview(bytes(ids)).cast("q"), list(ids), range(ROWS)):
+            self.assertEqual(self.image({"id": id_, "name": names, "new": truths}, "id"), wanted)
+        self.assertEqual(self.image({"new": truths, "name": names, "id": ids}, ["id", "new"])[1], (1, True, "é1"))
+        self.assertEqual(ids.tolist(), list(range(ROWS)))
+        ids.append(0)  # nothing lends it any more
+
+    def test_rows_in_any_order(self) -> None:
+        numbers = array("q", [3, 1, 2])
+        self.assertEqual(self.image({"id": numbers, "n": ["c", "a", "b"]}, "id"), [(1, "a"), (2, "b"), (3, "c")])
+        self.assertEqual(self.image({"id": memoryview(numbers)[::-1]}, "id"), [(1,), (2,), (3,)])
+        with self.assertRaises(narthexmace.BadTable):
+            narthexmace.open({"id": array("q", [1, 1])}, key="id")
+        with self.assertRaises(narthexmace.TooManyRows):
+            narthexmace.open({"id": array("q", [1, 2])}, key="id", row_limit=1)
+
+
 class Scans(Case):
     def test_columns_as_buffers(self) -> None:
         batches = list(self.txn.scan(batch=3000))

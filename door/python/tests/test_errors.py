@@ -33,7 +33,7 @@ class Codes(unittest.TestCase):
             "PDT_DUPLICATE": "Duplicate", "PDT_MISSING": "Missing", "PDT_SHAPE": "Shape", "PDT_BAD_TABLE": "BadTable",
             "PDT_BAD_LIMIT": "BadLimit", "PDT_TOO_MANY_ROWS": "TooManyRows", "PDT_TOO_SMALL": "TooSmall",
             "PDT_BAD_STORE": "BadStore", "PDT_NO_IMAGE": "NoImage", "PDT_MISUSE": "Misuse", "PDT_IO": "FileFailed",
-            "PDT_EXISTS": "Exists",
+            "PDT_EXISTS": "Exists", "PDT_NOT_ASCENDING": "NotAscending",
         }  # fmt: skip
         there = {name: code for name, code in codes().items() if code and name in names or name == "PDT_OK"}
         self.assertEqual(set(there), {"PDT_OK", *names})

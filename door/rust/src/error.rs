@@ -46,6 +46,10 @@ pub enum Error {
     },
     /// A file of a store is there already.
     Exists,
+    /// A row's key isn't above that of the row before it.
+    NotAscending,
+    /// What took the bytes of a checkpoint failed.
+    DeviceFailed,
 }
 
 impl Error {
@@ -67,6 +71,8 @@ impl Error {
             Error::Misuse => ffi::MISUSE,
             Error::Io { .. } => ffi::IO,
             Error::Exists => ffi::EXISTS,
+            Error::NotAscending => ffi::NOT_ASCENDING,
+            Error::DeviceFailed => ffi::DEVICE_FAILED,
         }
     }
 
@@ -89,6 +95,8 @@ impl Error {
             ffi::MISUSE => Error::Misuse,
             ffi::IO => Error::Io { errno: io::Error::last_os_error().raw_os_error().unwrap_or(0) },
             ffi::EXISTS => Error::Exists,
+            ffi::NOT_ASCENDING => Error::NotAscending,
+            ffi::DEVICE_FAILED => Error::DeviceFailed,
             _ => unreachable!("pdt.h has no code {code}"),
         }
     }
@@ -166,7 +174,7 @@ mod tests {
 
     #[test]
     fn each_code_has_a_variant_and_a_sentence() {
-        for code in ffi::NOMEM..=ffi::EXISTS {
+        for code in (ffi::NOMEM..=ffi::EXISTS).chain(ffi::NOT_ASCENDING..=ffi::DEVICE_FAILED) {
             let error = Error::of(code);
             assert_eq!(code, error.code());
             assert_ne!("no such code", error.to_string());

@@ -40,6 +40,36 @@ pub struct Piece {
     pub number: i64,
 }
 
+#[repr(C)]
+pub struct Column {
+    pub name: *const c_char,
+    pub column_type: c_int,
+    pub rows: u64,
+    pub numbers: *const i64,
+    pub offsets: *const u64,
+    pub bytes: *const u8,
+    pub len: usize,
+}
+
+#[repr(C)]
+#[derive(Default)]
+pub struct Place {
+    pub row: u64,
+    pub column: u64,
+}
+
+#[repr(C)]
+pub struct Bytes {
+    pub at: *const c_void,
+    pub len: usize,
+}
+
+/// What takes the bytes of a checkpoint.
+pub type Write = unsafe extern "C" fn(*mut c_void, usize, *const u8, usize) -> c_int;
+
+/// The column of the header's bytes.
+pub const HEADER: usize = usize::MAX;
+
 pub const OK: c_int = 0;
 pub const NOMEM: c_int = 1;
 pub const CONFLICT: c_int = 2;
@@ -57,6 +87,8 @@ pub const NO_IMAGE: c_int = 13;
 pub const MISUSE: c_int = 14;
 pub const IO: c_int = 15;
 pub const EXISTS: c_int = 16;
+pub const NOT_ASCENDING: c_int = 18;
+pub const DEVICE_FAILED: c_int = 19;
 
 pub const INT: c_int = 1;
 pub const TEXT: c_int = 2;
@@ -69,7 +101,24 @@ unsafe extern "C" {
     pub fn pdt_text(code: c_int) -> *const c_char;
 
     pub fn pdt_open(csv: *const c_void, bytes: usize, options: *const Options, store: *mut *mut Store) -> c_int;
+    pub fn pdt_open_columns(
+        columns: *const Column,
+        count: usize,
+        key: usize,
+        options: *const Options,
+        place: *mut Place,
+        store: *mut *mut Store,
+    ) -> c_int;
     pub fn pdt_recover(folder: *const c_char, options: *const Options, store: *mut *mut Store) -> c_int;
+    pub fn pdt_recover_from(
+        header: *const c_void,
+        len: usize,
+        columns: *const Bytes,
+        count: usize,
+        options: *const Options,
+        generation: *mut u32,
+        store: *mut *mut Store,
+    ) -> c_int;
     pub fn pdt_close(store: *mut Store) -> c_int;
     pub fn pdt_columns(store: *const Store) -> usize;
     pub fn pdt_key_columns(store: *const Store) -> usize;
@@ -79,6 +128,7 @@ unsafe extern "C" {
     pub fn pdt_fold(store: *mut Store) -> c_int;
     pub fn pdt_cut(store: *mut Store) -> c_int;
     pub fn pdt_checkpoint(store: *mut Store, folder: *const c_char) -> c_int;
+    pub fn pdt_checkpoint_to(store: *mut Store, write: Write, context: *mut c_void, column: *mut usize) -> c_int;
 
     pub fn pdt_begin(store: *mut Store, client: u32, txn: *mut *mut Txn) -> c_int;
     pub fn pdt_abort(txn: *mut Txn);

@@ -104,6 +104,7 @@
 
 mod batch;
 mod cells;
+mod columns;
 mod error;
 mod ffi;
 mod marks;
@@ -112,6 +113,7 @@ mod transaction;
 
 pub use batch::{Batch, Batches, Ints, Piece, Texts, Values};
 pub use cells::{Cell, CellRef, Row};
+pub use columns::{CheckpointError, ColumnValues, ColumnsError, ImagePart};
 pub use error::{CommitError, Error};
 pub use marks::Mark;
 pub use store::{Column, ColumnType, ConflictRule, Options, Sizes, Store};

@@ -37,7 +37,7 @@ impl Default for Options {
 
 impl Options {
     /// For the library, to which a zero stands for the default: here it is a limit outside its range.
-    fn passed(&self) -> Result<ffi::Options, Error> {
+    pub(crate) fn passed(&self) -> Result<ffi::Options, Error> {
         if self.recent == 0 || self.row_limit == 0 {
             return Err(Error::BadLimit);
         }
@@ -137,7 +137,7 @@ impl Store {
     ///
     /// # Safety
     /// `raw` is a store that is open, which nobody else has.
-    unsafe fn adopt(raw: *mut ffi::Store) -> Result<Store, Error> {
+    pub(crate) unsafe fn adopt(raw: *mut ffi::Store) -> Result<Store, Error> {
         let raw = NonNull::new(raw).expect("an opening that is done hands out a store");
         let mut store = Store { raw, columns: Vec::new(), key_columns: 0 }; // closed again where a column is refused
         // SAFETY: the store is open.
@@ -155,6 +155,11 @@ impl Store {
             store.columns.push(Column { name, column_type: type_of(code) });
         }
         Ok(store)
+    }
+
+    /// The address by which the library knows the store.
+    pub(crate) fn as_raw(&self) -> *mut ffi::Store {
+        self.raw.as_ptr()
     }
 
     /// The columns, the key's first.

@@ -1,0 +1,236 @@
+/* Stores over columns that the caller has, each fault with its place, and images that the caller writes and reads itself;
+   and a checkpoint on a disk that is full. */
+#define _POSIX_C_SOURCE 200809L
+#include <errno.h>
+#include <pdt.h>
+#include <signal.h>
+#include <stdio.h>
+#include <stdlib.h>
+#include <string.h>
+#include <sys/resource.h>
+#include <unistd.h>
+
+static int failures;
+static void is(const char *what, long long wanted, long long found) {
+  if (wanted == found) return;
+  failures++;
+  fprintf(stderr, "%s: wanted %lld, found %lld\n", what, wanted, found);
+}
+
+enum { ROWS = 5000, ID = 0, NAME = 1, OK = 2, WIDTH = 3 };
+static int64_t ids[ROWS];
+static uint64_t offsets[ROWS + 1];
+static uint8_t texts[8 * ROWS], truths[ROWS];
+static pdt_column columns[WIDTH];
+
+/* Five thousand rows: in the name of each stands its number, and every third truth is true. */
+static void fill(void) {
+  for (int row = 0; row < ROWS; row++) {
+    ids[row] = 10 * row;
+    offsets[row + 1] = offsets[row] + (uint64_t)sprintf((char *)texts + offsets[row], "r%d", row);
+    truths[row] = row % 3 == 0;
+  }
+  columns[ID] = (pdt_column){"id", PDT_INT, ROWS, ids, NULL, NULL, 0};
+  columns[NAME] = (pdt_column){"na,\"me", PDT_TEXT, ROWS, NULL, offsets, texts, offsets[ROWS]};
+  columns[OK] = (pdt_column){"ok", PDT_BOOL, ROWS, NULL, NULL, truths, 0};
+}
+
+static pdt_store *opened(void) {
+  pdt_store *store = NULL;
+  is("open", PDT_OK, pdt_open_columns(columns, WIDTH, 1, NULL, NULL, &store));
+  return store;
+}
+
+/* Each row is as it was filled, but for one name. */
+static void all_there(pdt_store *store, int other, const char *name) {
+  pdt_txn *txn = NULL;
+  uint64_t rows = 0;
+  is("begin", PDT_OK, pdt_begin(store, 1, &txn));
+  is("rows", PDT_OK, pdt_rows(txn, &rows));
+  is("how many rows", ROWS, (long long)rows);
+  for (int row = 0; row < ROWS && !failures; row++) {
+    int64_t cells[WIDTH];
+    char text[16], wanted[16];
+    size_t len = 0;
+    sprintf(wanted, "r%d", row);
+    if (row == other) strcpy(wanted, name);
+    is("row", PDT_OK, pdt_row_at(txn, (uint64_t)row, cells, text, sizeof text, &len));
+    is("id", 10 * row, cells[ID]);
+    is("name", 0, len != strlen(wanted) || memcmp(wanted, text, len));
+    is("truth", row % 3 == 0, cells[OK]);
+  }
+  pdt_abort(txn);
+}
+
+static void rename_row(pdt_store *store, int row, const char *name) {
+  pdt_txn *txn = NULL;
+  int64_t key = 10 * row;
+  is("begin", PDT_OK, pdt_begin(store, 1, &txn));
+  is("set", PDT_OK, pdt_set(txn, &key, NULL, 0, NAME, (int64_t)strlen(name), name));
+  is("commit", PDT_OK, pdt_commit(txn, NULL));
+}
+
+static void refused(const char *what, int code, uint64_t row, uint64_t column) {
+  pdt_store *store = (pdt_store *)&store;
+  pdt_place place = {0, 0};
+  is(what, code, pdt_open_columns(columns, WIDTH, 1, NULL, &place, &store));
+  is("no store", 1, store == NULL);
+  is("row", (long long)row, (long long)place.row);
+  is("column", (long long)column, (long long)place.column);
+}
+
+static void faults(void) {
+  truths[4000] = 2;
+  refused("no truth", PDT_SHAPE, 4000, OK);
+  texts[offsets[1030]] = 0xff; /* the name comes before the truth */
+  refused("no UTF-8", PDT_SHAPE, 1030, NAME);
+  texts[offsets[1030]] = 'r';
+  truths[4000] = 0;
+  uint64_t end = offsets[7];
+  offsets[7] = offsets[6] - 1;
+  refused("offsets that descend", PDT_SHAPE, 6, NAME);
+  offsets[7] = UINT64_MAX;
+  refused("an offset past the bytes", PDT_SHAPE, 6, NAME);
+  offsets[7] = offsets[2] + 4097;
+  refused("a long text", PDT_SHAPE, 6, NAME);
+  offsets[7] = end;
+  columns[OK].rows = ROWS - 1;
+  refused("a value too few", PDT_SHAPE, ROWS - 1, OK);
+  columns[OK].rows = ROWS;
+  columns[ID].rows = ROWS - 1;
+  refused("a value too many", PDT_SHAPE, ROWS - 1, NAME);
+  columns[ID].rows = ROWS;
+  ids[3000] = ids[2999];
+  refused("a key twice", PDT_NOT_ASCENDING, 3000, 0);
+  ids[3000] = 30000;
+  columns[ID].rows = UINT64_MAX;
+  refused("more rows than there can be", PDT_TOO_MANY_ROWS, 0, 0);
+  columns[ID].rows = ROWS;
+  columns[OK].name = "id";
+  refused("a name twice", PDT_BAD_TABLE, 0, 0);
+  columns[OK].name = "";
+  refused("no name", PDT_BAD_TABLE, 0, 0);
+  columns[OK].name = NULL;
+  refused("a null name", PDT_MISUSE, 0, 0);
+  columns[OK].name = "ok";
+  columns[OK].type = 4;
+  refused("no type", PDT_BAD_TABLE, 0, 0);
+  columns[OK].type = PDT_BOOL;
+  columns[OK].bytes = NULL;
+  refused("no bytes", PDT_MISUSE, 0, 0);
+  columns[OK].bytes = truths;
+  pdt_store *store = NULL;
+  pdt_options few = {0, ROWS - 1, false};
+  is("a limit", PDT_TOO_MANY_ROWS, pdt_open_columns(columns, WIDTH, 1, &few, NULL, &store));
+  is("no key", PDT_BAD_TABLE, pdt_open_columns(columns, WIDTH, 0, NULL, NULL, &store));
+  is("a key past the columns", PDT_BAD_TABLE, pdt_open_columns(columns, WIDTH, 4, NULL, NULL, &store));
+  is("too many columns", PDT_BAD_TABLE, pdt_open_columns(columns, 33, 1, NULL, NULL, &store));
+  is("no columns", PDT_BAD_TABLE, pdt_open_columns(NULL, 0, 1, NULL, NULL, &store));
+  is("nowhere to", PDT_MISUSE, pdt_open_columns(columns, WIDTH, 1, NULL, NULL, NULL));
+}
+
+static void openings(void) {
+  pdt_store *store = opened();
+  is("columns", WIDTH, (long long)pdt_columns(store));
+  is("key columns", 1, (long long)pdt_key_columns(store));
+  is("a name with a comma and a quote", 0, strcmp(pdt_column_name(store, NAME), "na,\"me"));
+  all_there(store, -1, "");
+  is("close", PDT_OK, pdt_close(store));
+  pdt_column none[] = {{"id", PDT_INT, 0, NULL, NULL, NULL, 0}, {"name", PDT_TEXT, 0, NULL, NULL, NULL, 0}};
+  is("no rows", PDT_OK, pdt_open_columns(none, 2, 1, NULL, NULL, &store));
+  is("close", PDT_OK, pdt_close(store));
+}
+
+/* An image in memory: its header, and its columns. */
+typedef struct {
+  uint8_t *bytes[WIDTH + 1];
+  size_t len[WIDTH + 1];
+  size_t fails_at; /* which of them is not taken: the header is number 0 */
+  size_t last;
+} taken;
+
+static int take(void *context, size_t column, const uint8_t *bytes, size_t len) {
+  taken *image = context;
+  size_t at = column == PDT_HEADER ? 0 : column + 1;
+  if (at < image->last) failures++;
+  image->last = at;
+  if (at == image->fails_at) return -1;
+  image->bytes[at] = realloc(image->bytes[at], image->len[at] + len);
+  memcpy(image->bytes[at] + image->len[at], bytes, len);
+  image->len[at] += len;
+  return 0;
+}
+
+static void let_go(taken *image) {
+  for (size_t at = 0; at <= WIDTH; at++) free(image->bytes[at]);
+  memset(image, 0, sizeof *image);
+  image->fails_at = WIDTH + 1;
+}
+
+static void images(void) {
+  pdt_store *store = opened(), *again = NULL;
+  taken image = {{NULL}, {0}, 0, 0};
+  let_go(&image);
+  rename_row(store, 17, "seventeen");
+  for (size_t at = 0; at <= WIDTH; at++) {
+    size_t column = 99;
+    image.fails_at = at;
+    is("a write that fails", PDT_DEVICE_FAILED, pdt_checkpoint_to(store, take, &image, &column));
+    is("its column", (long long)(at ? at - 1 : PDT_HEADER), (long long)column);
+    let_go(&image);
+  }
+  rename_row(store, 18, "r18");
+  is("a checkpoint", PDT_OK, pdt_checkpoint_to(store, take, &image, NULL));
+  all_there(store, 17, "seventeen");
+  is("close", PDT_OK, pdt_close(store));
+  pdt_bytes parts[WIDTH];
+  for (size_t at = 0; at < WIDTH; at++) parts[at] = (pdt_bytes){image.bytes[at + 1], image.len[at + 1]};
+  uint32_t generation = 0;
+  is("recover", PDT_OK, pdt_recover_from(image.bytes[0], image.len[0], parts, WIDTH, NULL, &generation, &again));
+  is("generation", 1, generation);
+  all_there(again, 17, "seventeen");
+  is("close", PDT_OK, pdt_close(again));
+  is("a column too few", PDT_BAD_STORE, pdt_recover_from(image.bytes[0], image.len[0], parts, WIDTH - 1, NULL, NULL, &again));
+  is("no header", PDT_BAD_TABLE, pdt_recover_from(NULL, 0, parts, WIDTH, NULL, NULL, &again));
+  parts[OK].len--;
+  is("a column that is cut", PDT_NO_IMAGE, pdt_recover_from(image.bytes[0], image.len[0], parts, WIDTH, NULL, NULL, &again));
+  is("no store", 1, again == NULL);
+  parts[OK] = parts[NAME];
+  is("another's column", PDT_BAD_STORE, pdt_recover_from(image.bytes[0], image.len[0], parts, WIDTH, NULL, NULL, &again));
+  is("no write", PDT_MISUSE, pdt_checkpoint_to(NULL, take, &image, NULL));
+  let_go(&image);
+}
+
+/* No file may have more than 4,096 bytes: the checkpoint says so, takes its files away, and the store goes on. */
+static void full_disk(const char *folder) {
+  struct rlimit before, small;
+  pdt_store *store = opened(), *again = NULL;
+  rename_row(store, 20, "twenty");
+  signal(SIGXFSZ, SIG_IGN);
+  is("limit", 0, getrlimit(RLIMIT_FSIZE, &before));
+  small = before;
+  small.rlim_cur = 4096;
+  is("limit", 0, setrlimit(RLIMIT_FSIZE, &small));
+  int code = pdt_checkpoint(store, folder), cause = errno;
+  is("limit", 0, setrlimit(RLIMIT_FSIZE, &before));
+  is("a full disk", PDT_IO, code);
+  is("its cause", EFBIG, cause);
+  rename_row(store, 20, "twenty again");
+  all_there(store, 20, "twenty again");
+  is("another checkpoint", PDT_OK, pdt_checkpoint(store, folder));
+  is("close", PDT_OK, pdt_close(store));
+  is("recover", PDT_OK, pdt_recover(folder, NULL, &again));
+  all_there(again, 20, "twenty again");
+  is("close", PDT_OK, pdt_close(again));
+}
+
+int main(int argc, char **argv) {
+  if (argc != 2) return fprintf(stderr, "columns FOLDER: one that is empty\n"), 2;
+  fill();
+  openings();
+  faults();
+  images();
+  full_disk(argv[1]);
+  if (!failures) printf("columns: passed\n");
+  return failures != 0;
+}

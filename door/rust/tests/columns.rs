@@ -1,0 +1,102 @@
+//! Stores over slices, and images as bytes.
+use narthexmace::{CheckpointError, ColumnValues, ColumnsError, Error, ImagePart, Options, Store, cells};
+
+const IDS: [i64; 4] = [10, 20, 30, 40];
+const OFFSETS: [u64; 5] = [0, 3, 3, 9, 10];
+const TEXTS: &[u8] = "AnnBébé!".as_bytes();
+const TRUTHS: [bool; 4] = [true, false, false, true];
+
+fn columns() -> [(&'static str, ColumnValues<'static>); 3] {
+    [
+        ("id", ColumnValues::Ints(&IDS)),
+        ("name", ColumnValues::Texts { offsets: &OFFSETS, bytes: TEXTS }),
+        ("ok", ColumnValues::Bools(&TRUTHS)),
+    ]
+}
+
+fn refused(columns: &[(&str, ColumnValues<'_>)]) -> ColumnsError {
+    Store::from_columns(columns, 1, &Options::default()).unwrap_err()
+}
+
+#[test]
+fn each_value_stands_in_its_row() {
+    let store = Store::from_columns(&columns(), 1, &Options::default()).unwrap();
+    let txn = store.begin(1).unwrap();
+    assert_eq!(4, txn.rows());
+    let wanted = [("Ann", true), ("", false), ("Bébé", false), ("!", true)];
+    for (row, (name, ok)) in (0..).zip(wanted) {
+        let cells = txn.row_at(row).unwrap().unwrap();
+        assert_eq!(Some(IDS[row as usize]), cells[0].as_int());
+        assert_eq!(Some(name), cells[1].as_text());
+        assert_eq!(Some(ok), cells[2].as_bool());
+    }
+}
+
+#[test]
+fn the_first_fault_has_its_place() {
+    let texts = |offsets| ("name", ColumnValues::Texts { offsets, bytes: TEXTS });
+    let id = ("id", ColumnValues::Ints(&IDS));
+    let at = |row, column| ColumnsError::Value { row, column };
+    assert_eq!(at(2, 1), refused(&[id, texts(&[0, 3, 4, 3, 10])]));
+    assert_eq!(at(3, 1), refused(&[id, texts(&[0, 3, 3, 9, 11])]));
+    assert_eq!(at(1, 1), refused(&[id, texts(&[0, 3, 5, 9, 10])])); // cuts a character
+    assert_eq!(at(3, 1), refused(&[id, texts(&[0, 3, 3, 9])]));
+    assert_eq!(at(4, 1), refused(&[id, ("ok", ColumnValues::Bools(&[true; 5]))]));
+    assert_eq!(ColumnsError::NotAscending { row: 2 }, refused(&[("id", ColumnValues::Ints(&[1, 3, 3, 2]))]));
+    assert_eq!(ColumnsError::Other(Error::BadTable), refused(&[id, id]));
+    assert_eq!(ColumnsError::Other(Error::BadTable), refused(&[("i\0d", ColumnValues::Ints(&IDS))]));
+    assert_eq!(ColumnsError::Other(Error::BadTable), refused(&[]));
+    assert!(refused(&[id, texts(&[0])]).to_string().ends_with("row 0 of column 1"));
+}
+
+/// The parts of an image, the header first.
+fn image(store: &Store) -> Vec<Vec<u8>> {
+    let mut parts = vec![Vec::new(); 1 + store.columns().len()];
+    store
+        .checkpoint_to(|part, bytes| {
+            let at = match part {
+                ImagePart::Header => 0,
+                ImagePart::Column(column) => column + 1,
+            };
+            parts[at].extend_from_slice(bytes);
+            Ok::<(), ()>(())
+        })
+        .unwrap();
+    parts
+}
+
+#[test]
+fn an_image_in_memory_is_recovered() {
+    let store = Store::from_columns(&columns(), 1, &Options::default()).unwrap();
+    let mut txn = store.begin(1).unwrap();
+    txn.insert(cells![25, "Cid", true]).unwrap();
+    txn.commit().unwrap();
+    let parts = image(&store);
+    let bytes: Vec<&[u8]> = parts[1..].iter().map(Vec::as_slice).collect();
+    let again = Store::recover_from(&parts[0], &bytes, &Options::default()).unwrap();
+    let txn = again.begin(1).unwrap();
+    assert_eq!(5, txn.rows());
+    assert_eq!(Some("Cid"), txn.row_at(2).unwrap().unwrap()[1].as_text());
+    assert_eq!(Some(Error::BadStore), Store::recover_from(&parts[0], &bytes[1..], &Options::default()).err());
+    assert_eq!(Some(Error::BadTable), Store::recover_from(b"", &bytes, &Options::default()).err());
+}
+
+#[test]
+fn a_write_that_fails_says_so() {
+    let store = Store::from_columns(&columns(), 1, &Options::default()).unwrap();
+    let mut calls = 0;
+    let failed = store.checkpoint_to(|part, _| {
+        calls += 1;
+        if part == ImagePart::Column(1) { Err("no room") } else { Ok(()) }
+    });
+    assert!(matches!(failed, Err(CheckpointError::Write(ImagePart::Column(1), "no room"))));
+    assert_eq!(3, calls);
+    assert_eq!(4, store.begin(1).unwrap().rows());
+}
+
+#[test]
+#[should_panic(expected = "a writer's own")]
+fn a_panic_of_the_writer_goes_on() {
+    let store = Store::from_columns(&columns(), 1, &Options::default()).unwrap();
+    let _ = store.checkpoint_to(|_, _| -> Result<(), ()> { panic!("a writer's own") });
+}
