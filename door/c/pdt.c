@@ -1,6 +1,8 @@
 /* The layer between C and the exports of crates/pdt_c. Nothing there is checked against a C caller, so this file meets each
    `requires`: a handle is never copied and goes to one call at a time, one that is asked to hold something holds it, one
-   that is filled holds nothing, and a commit gets the store that its transaction began over. */
+   that is filled holds nothing, and a commit gets the store that its transaction began over. From a prepare to its install
+   the lock is kept, so that the store is as it was; a table is installed only where no fold and no checkpoint came since
+   its begin, so that it is what stands below the Write-PDT. */
 #define _POSIX_C_SOURCE 200809L
 #include "pdt.h"
 
@@ -76,12 +78,24 @@ extern void pdtr_layer_close(handle *);
 extern size_t pdtr_layer_len(handle *);
 extern uint32_t pdtr_entry(handle *, size_t, pdt_entry *, int64_t *, size_t, uint8_t *, size_t);
 
+extern uint32_t pdtr_prepare(handle *, handle *, uint64_t *, handle *);
+extern uint32_t pdtr_install(handle *, handle *, handle *, uint64_t *);
+extern void pdtr_give_up(handle *);
+extern uint32_t pdtr_checkpoint_begin(handle *, handle *);
+extern uint32_t pdtr_snapshot_table(handle *, handle *);
+extern uint32_t pdtr_table_image(handle *, handle *);
+extern uint32_t pdtr_restack(handle *, handle *);
+extern void pdtr_snapshot_close(handle *);
+extern void pdtr_table_close(handle *);
+
 /* ---- the objects */
 
 struct pdt_store {
   handle raw;
   pthread_mutex_t lock; /* held in each call on raw but the opening and the closing */
   size_t open;          /* how many transactions are open; under the lock */
+  size_t snapshots;     /* how many checkpoints have begun and not ended; under the lock */
+  uint64_t rebuilt;     /* how often what stands below the Write-PDT was made anew; under the lock */
   size_t width, key;    /* the columns never change, and are read without the lock */
   int types[PDT_MAX_COLUMNS];
   size_t name_bytes[PDT_MAX_COLUMNS]; /* a name may have a zero byte */
@@ -91,7 +105,13 @@ struct pdt_store {
 struct pdt_txn {
   handle raw;
   pdt_store *store;
+  handle decision; /* of a prepared commit: the store's lock is held then */
+  pthread_t by;    /* the thread that prepared it, and holds the lock */
 };
+
+/* Takes the store's lock. PDT_MISUSE where this thread has it, since a commit of its own is prepared. */
+static int enter(pdt_store *store) { return pthread_mutex_lock(&store->lock) ? PDT_MISUSE : PDT_OK; }
+static void leave(pdt_store *store) { pthread_mutex_unlock(&store->lock); }
 
 /* A slice of nothing still has an address that may be read. */
 static const uint8_t no_bytes[1];
@@ -121,6 +141,7 @@ const char *pdt_text(int code) {
       "the call may not be made so, or not now",
       "a file failed",
       "a file of a store is there already",
+      "a fold or another checkpoint came since the checkpoint began",
       [PDT_NOT_ASCENDING] = "a row's key isn't above that of the row before it",
       [PDT_DEVICE_FAILED] = "the caller's write didn't take the bytes",
   };
@@ -157,9 +178,18 @@ static size_t recent_of(const pdt_options *options) { return options && options-
 static uint64_t limit_of(const pdt_options *options) { return options && options->row_limit ? options->row_limit : 2147483647; }
 static bool rule_of(const pdt_options *options) { return options && options->by_row; }
 
+/* A lock that tells the thread which has it so, when it asks again. */
+static int make_lock(pthread_mutex_t *lock) {
+  pthread_mutexattr_t kind;
+  if (pthread_mutexattr_init(&kind)) return -1;
+  int bad = pthread_mutexattr_settype(&kind, PTHREAD_MUTEX_ERRORCHECK) || pthread_mutex_init(lock, &kind);
+  pthread_mutexattr_destroy(&kind);
+  return bad;
+}
+
 /* Keeps the columns of a store whose handle has just been filled, and hands it out. */
 static int adopt(pdt_store *store, pdt_store **out) {
-  if (pthread_mutex_init(&store->lock, NULL)) {
+  if (make_lock(&store->lock)) {
     pdtr_close(&store->raw);
     free(store);
     return PDT_NOMEM;
@@ -190,10 +220,10 @@ int pdt_open(const void *csv, size_t bytes, const pdt_options *options, pdt_stor
 
 int pdt_close(pdt_store *store) {
   if (!store) return PDT_OK;
-  pthread_mutex_lock(&store->lock);
-  size_t open = store->open;
-  pthread_mutex_unlock(&store->lock);
-  if (open) return PDT_MISUSE;
+  if (enter(store)) return PDT_MISUSE;
+  bool is_used = store->open || store->snapshots;
+  leave(store);
+  if (is_used) return PDT_MISUSE;
   pdtr_close(&store->raw);
   pthread_mutex_destroy(&store->lock);
   free(store);
@@ -207,28 +237,27 @@ const char *pdt_column_name(const pdt_store *store, size_t column) { return stor
 
 int pdt_size(pdt_store *store, pdt_sizes *sizes) {
   if (!store || !sizes) return PDT_MISUSE;
-  pthread_mutex_lock(&store->lock);
+  int held = enter(store); /* by this thread, where a commit of its own is prepared */
   sizes->commits = pdtr_commits(&store->raw);
   sizes->write_entries = pdtr_write_entries(&store->raw);
   sizes->read_entries = pdtr_read_entries(&store->raw);
   sizes->open_transactions = store->open;
-  pthread_mutex_unlock(&store->lock);
+  if (!held) leave(store);
   return PDT_OK;
 }
 
 int pdt_fold(pdt_store *store) {
-  if (!store) return PDT_MISUSE;
-  pthread_mutex_lock(&store->lock);
+  if (!store || enter(store)) return PDT_MISUSE;
   int code = (int)pdtr_fold(&store->raw);
-  pthread_mutex_unlock(&store->lock);
+  if (!code) store->rebuilt++;
+  leave(store);
   return code;
 }
 
 int pdt_cut(pdt_store *store) {
-  if (!store) return PDT_MISUSE;
-  pthread_mutex_lock(&store->lock);
+  if (!store || enter(store)) return PDT_MISUSE;
   pdtr_cut(&store->raw);
-  pthread_mutex_unlock(&store->lock);
+  leave(store);
   return PDT_OK;
 }
 
@@ -240,10 +269,12 @@ int pdt_begin(pdt_store *store, uint32_t client, pdt_txn **out) {
   if (!store) return PDT_MISUSE;
   pdt_txn *txn = calloc(1, sizeof *txn);
   if (!txn) return PDT_NOMEM;
-  pthread_mutex_lock(&store->lock);
-  int code = (int)pdtr_begin(&store->raw, client, &txn->raw);
-  if (!code) store->open++;
-  pthread_mutex_unlock(&store->lock);
+  int code = enter(store);
+  if (!code) {
+    code = (int)pdtr_begin(&store->raw, client, &txn->raw);
+    if (!code) store->open++;
+    leave(store);
+  }
   if (code) {
     free(txn);
     return code;
@@ -254,43 +285,86 @@ int pdt_begin(pdt_store *store, uint32_t client, pdt_txn **out) {
 }
 
 void pdt_abort(pdt_txn *txn) {
-  if (!txn) return;
+  if (!txn || (txn->decision.at && pdt_give_up(txn))) return; /* another thread has it prepared, and goes on with it */
   pdt_store *store = txn->store;
   pdtr_abort(&txn->raw);
   free(txn);
-  pthread_mutex_lock(&store->lock);
+  int held = enter(store); /* by this thread, where another transaction of its own is prepared */
   store->open--;
-  pthread_mutex_unlock(&store->lock);
+  if (!held) leave(store);
 }
 
 int pdt_commit(pdt_txn *txn, uint64_t *commits) {
-  if (!txn) return PDT_MISUSE;
+  if (!txn || txn->decision.at) return PDT_MISUSE;
   pdt_store *store = txn->store;
   uint64_t number = 0;
-  pthread_mutex_lock(&store->lock);
+  if (enter(store)) return PDT_MISUSE;
   int code = (int)pdtr_commit(&store->raw, &txn->raw, &number);
   if (code != PDT_NOMEM) store->open--;
-  pthread_mutex_unlock(&store->lock);
+  leave(store);
   if (code == PDT_NOMEM) return code;
   free(txn);
   if (commits) *commits = number;
   return code;
 }
 
-/* ---- writes */
+/* ---- a commit in two parts */
+
+int pdt_prepare(pdt_txn *txn, uint64_t *commits) {
+  if (!txn || txn->decision.at) return PDT_MISUSE;
+  pdt_store *store = txn->store;
+  uint64_t number = 0;
+  if (enter(store)) return PDT_MISUSE;
+  int code = (int)pdtr_prepare(&store->raw, &txn->raw, &number, &txn->decision);
+  if (code == PDT_OK) {
+    txn->by = pthread_self(); /* and keeps the lock */
+  } else if (code == PDT_NOMEM) {
+    leave(store);
+    return code;
+  } else { /* nothing is left to be written before it: it ends as a commit does */
+    pdtr_install(&store->raw, &txn->raw, &txn->decision, &number);
+    store->open--;
+    leave(store);
+    free(txn);
+  }
+  if (commits) *commits = number;
+  return code;
+}
+
+static bool is_prepared_here(const pdt_txn *txn) { return txn && txn->decision.at && pthread_equal(txn->by, pthread_self()); }
+
+int pdt_install(pdt_txn *txn) {
+  if (!is_prepared_here(txn)) return PDT_MISUSE;
+  pdt_store *store = txn->store;
+  uint64_t number = 0;
+  int code = (int)pdtr_install(&store->raw, &txn->raw, &txn->decision, &number);
+  store->open--;
+  leave(store);
+  free(txn);
+  return code;
+}
+
+int pdt_give_up(pdt_txn *txn) {
+  if (!is_prepared_here(txn)) return PDT_MISUSE;
+  pdtr_give_up(&txn->decision);
+  leave(txn->store);
+  return PDT_OK;
+}
+
+/* ---- writes: none while a commit of these writes is prepared */
 
 int pdt_insert(pdt_txn *txn, const int64_t *numbers, const void *texts, size_t bytes) {
-  if (!txn || !numbers || (!texts && bytes)) return PDT_MISUSE;
+  if (!txn || txn->decision.at || !numbers || (!texts && bytes)) return PDT_MISUSE;
   return (int)pdtr_insert(&txn->raw, numbers, txn->store->width, bytes_at(texts, bytes), bytes);
 }
 
 int pdt_delete(pdt_txn *txn, const int64_t *key, const void *texts, size_t bytes) {
-  if (!txn || !key || (!texts && bytes)) return PDT_MISUSE;
+  if (!txn || txn->decision.at || !key || (!texts && bytes)) return PDT_MISUSE;
   return (int)pdtr_delete(&txn->raw, key, txn->store->key, bytes_at(texts, bytes), bytes);
 }
 
 int pdt_set(pdt_txn *txn, const int64_t *key, const void *texts, size_t bytes, size_t column, int64_t number, const void *text) {
-  if (!txn || !key || (!texts && bytes)) return PDT_MISUSE;
+  if (!txn || txn->decision.at || !key || (!texts && bytes)) return PDT_MISUSE;
   size_t len = 0;
   if (pdt_column_type(txn->store, column) == PDT_TEXT) {
     if (number < 0 || number > PDT_MAX_TEXT) return PDT_SHAPE;
@@ -303,12 +377,19 @@ int pdt_set(pdt_txn *txn, const int64_t *key, const void *texts, size_t bytes, s
 /* ---- marks */
 
 int pdt_mark(pdt_txn *txn, size_t *level) {
-  if (!txn || !level) return PDT_MISUSE;
+  if (!txn || txn->decision.at || !level) return PDT_MISUSE;
   return (int)pdtr_mark(&txn->raw, level);
 }
 
-int pdt_back_to(pdt_txn *txn, size_t level) { return txn ? (int)pdtr_back_to(&txn->raw, level) : PDT_MISUSE; }
-int pdt_release(pdt_txn *txn, size_t level) { return txn ? (int)pdtr_release(&txn->raw, level) : PDT_MISUSE; }
+int pdt_back_to(pdt_txn *txn, size_t level) {
+  if (!txn || txn->decision.at) return PDT_MISUSE;
+  return (int)pdtr_back_to(&txn->raw, level);
+}
+
+int pdt_release(pdt_txn *txn, size_t level) {
+  if (!txn || txn->decision.at) return PDT_MISUSE;
+  return (int)pdtr_release(&txn->raw, level);
+}
 
 /* ---- reads */
 
@@ -385,11 +466,11 @@ int pdt_layers(pdt_store *store, pdt_layer **read, pdt_layer **write) {
   if (!store || !read || !write || read == write) return PDT_MISUSE;
   pdt_layer *lower = new_layer(store), *upper = new_layer(store);
   int code = lower && upper ? PDT_OK : PDT_NOMEM;
+  if (!code) code = enter(store);
   if (!code) {
-    pthread_mutex_lock(&store->lock);
     code = (int)pdtr_read_layer(&store->raw, &lower->raw);
     if (!code) code = (int)pdtr_write_layer(&store->raw, &upper->raw);
-    pthread_mutex_unlock(&store->lock);
+    leave(store);
   }
   if (code) {
     pdt_layer_close(lower);
@@ -510,6 +591,20 @@ static void remove_files(const char *folder, int end) {
   errno = why;
 }
 
+/* Writes the bytes of a checkpoint into a folder, and takes them away where that fails. */
+static int write_files(const pdt_store *store, handle *image, const char *folder, uint8_t *chunk) {
+  int made = -1; /* which file is made next: a file that was there is not ours to remove */
+  int code = write_header(store, folder);
+  if (code != PDT_EXISTS) made = 0;
+  for (size_t column = 0; column < store->width && !code; column++) {
+    code = write_column(image, folder, column, chunk);
+    if (code != PDT_EXISTS) made = (int)column + 1;
+  }
+  if (!code) code = sync_folder(folder);
+  if (code) remove_files(folder, made);
+  return code;
+}
+
 int pdt_checkpoint(pdt_store *store, const char *folder) {
   if (!store || !folder) return PDT_MISUSE;
   int code = has_store(store, folder);
@@ -517,23 +612,93 @@ int pdt_checkpoint(pdt_store *store, const char *folder) {
   uint8_t *chunk = malloc(CHUNK);
   if (!chunk) return PDT_NOMEM;
   handle image = {NULL};
-  pthread_mutex_lock(&store->lock);
-  code = (int)pdtr_checkpoint(&store->raw, &image);
-  pthread_mutex_unlock(&store->lock);
+  code = enter(store);
   if (!code) {
-    int made = -1; /* which file is made next: a file that was there is not ours to remove */
-    code = write_header(store, folder);
-    if (code != PDT_EXISTS) made = 0;
-    for (size_t column = 0; column < store->width && !code; column++) {
-      code = write_column(&image, folder, column, chunk);
-      if (code != PDT_EXISTS) made = (int)column + 1;
-    }
-    if (!code) code = sync_folder(folder);
-    if (code) remove_files(folder, made);
+    code = (int)pdtr_checkpoint(&store->raw, &image);
+    if (!code) store->rebuilt++;
+    leave(store);
+  }
+  if (!code) {
+    code = write_files(store, &image, folder, chunk);
     pdtr_image_close(&image);
   }
   free(chunk);
   return code;
+}
+
+/* ---- a checkpoint while others commit */
+
+struct pdt_snapshot {
+  pdt_store *store;
+  handle version;   /* the newest one when it began */
+  handle table;     /* made by the first write */
+  uint64_t rebuilt; /* that of the store when it began */
+  bool is_written, is_installed;
+};
+
+int pdt_checkpoint_begin(pdt_store *store, uint64_t *commits, pdt_snapshot **out) {
+  if (!out) return PDT_MISUSE;
+  *out = NULL;
+  if (!store) return PDT_MISUSE;
+  pdt_snapshot *snapshot = calloc(1, sizeof *snapshot);
+  if (!snapshot) return PDT_NOMEM;
+  int code = enter(store);
+  if (!code) {
+    code = (int)pdtr_checkpoint_begin(&store->raw, &snapshot->version);
+    if (!code) {
+      store->snapshots++;
+      snapshot->rebuilt = ++store->rebuilt;
+      if (commits) *commits = pdtr_commits(&store->raw);
+    }
+    leave(store);
+  }
+  if (code) {
+    free(snapshot);
+    return code;
+  }
+  snapshot->store = store;
+  *out = snapshot;
+  return PDT_OK;
+}
+
+int pdt_checkpoint_write(pdt_snapshot *snapshot, const char *folder) {
+  if (!snapshot || snapshot->is_written || !folder) return PDT_MISUSE;
+  int code = has_store(snapshot->store, folder);
+  if (code) return code;
+  uint8_t *chunk = malloc(CHUNK);
+  if (!chunk) return PDT_NOMEM;
+  handle image = {NULL};
+  if (!snapshot->table.at) code = (int)pdtr_snapshot_table(&snapshot->version, &snapshot->table);
+  if (!code) code = (int)pdtr_table_image(&snapshot->table, &image);
+  if (!code) {
+    code = write_files(snapshot->store, &image, folder, chunk);
+    pdtr_image_close(&image);
+  }
+  free(chunk);
+  snapshot->is_written = !code;
+  return code;
+}
+
+int pdt_checkpoint_install(pdt_snapshot *snapshot) {
+  if (!snapshot || !snapshot->is_written || snapshot->is_installed) return PDT_MISUSE;
+  pdt_store *store = snapshot->store;
+  if (enter(store)) return PDT_MISUSE;
+  int code = store->rebuilt == snapshot->rebuilt ? (int)pdtr_restack(&store->raw, &snapshot->table) : PDT_SUPERSEDED;
+  if (!code) store->rebuilt++;
+  leave(store);
+  snapshot->is_installed = !code;
+  return code;
+}
+
+void pdt_checkpoint_end(pdt_snapshot *snapshot) {
+  if (!snapshot) return;
+  pdt_store *store = snapshot->store;
+  if (snapshot->table.at) pdtr_table_close(&snapshot->table);
+  pdtr_snapshot_close(&snapshot->version); /* without the lock: what the new table replaced goes with it */
+  free(snapshot);
+  int held = enter(store); /* by this thread, where a commit of its own is prepared */
+  store->snapshots--;
+  if (!held) leave(store);
 }
 
 /* Reads a file whole into memory, which is the caller's to free. */

@@ -5,15 +5,16 @@
 
    Threads. Calls on one pdt_store may come from several threads: each takes the store's lock. A pdt_txn is used by one
    thread at a time; transactions of several threads read and write side by side and take no lock but to begin and to end.
-   No call is made in a signal handler.
+   A thread that has a commit prepared keeps the store's lock until it is installed or given up. No call is made in a signal
+   handler.
 
    Memory. Every call that can want memory answers PDT_NOMEM where malloc refuses it, and then the table, the transaction
    and the history are as they were. No call aborts. What a call writes goes into room that the caller owns; only what
    pdt_pieces hands out is the library's, and stays where it is until the next write on its transaction, or its end.
 
    Errors. A call that can fail returns a code; PDT_OK is 0. PDT_MISUSE is told of what can be seen: a null pointer where
-   none may be, a store that is closed while transactions are open. What stands in a caller's room after a code other than
-   PDT_OK is unspecified.
+   none may be, a store that is closed while transactions are open, a call on a store of which this thread has a commit
+   prepared. What stands in a caller's room after a code other than PDT_OK is unspecified.
 
    Cells. A row or a key is passed as one number for each column and the bytes of its texts, one after the other, in the
    order of the columns: a text's number is how many bytes it has, a truth's is 0 or 1. There are as many bytes as the
@@ -51,6 +52,7 @@ enum pdt_code {
   PDT_MISUSE = 14,        /* the call isn't one that may be made now, or a pointer is null */
   PDT_IO = 15,            /* a file can't be made, written, synced or read; errno says why */
   PDT_EXISTS = 16,        /* a file of a store is there already */
+  PDT_SUPERSEDED = 17,    /* since the checkpoint began something else has folded or checkpointed */
   PDT_NOT_ASCENDING = 18, /* a row's key isn't above that of the row before it */
   PDT_DEVICE_FAILED = 19  /* the caller's write didn't take the bytes */
 };
@@ -124,7 +126,7 @@ typedef struct pdt_bytes {
 int pdt_recover_from(const void *header, size_t len, const pdt_bytes *columns, size_t count, const pdt_options *options,
                      uint32_t *generation, pdt_store **store);
 
-/* Closes a store. PDT_MISUSE while one of its transactions is open: the store stays then. A null pointer is no error.
+/* Closes a store. PDT_MISUSE while a transaction is open or a checkpoint begun: the store stays then. Null is no error.
    Called when no other thread uses the store any more. */
 int pdt_close(pdt_store *store);
 
@@ -172,18 +174,60 @@ typedef int (*pdt_write)(void *context, size_t column, const uint8_t *bytes, siz
    without the lock. */
 int pdt_checkpoint_to(pdt_store *store, pdt_write write, void *context, size_t *column);
 
+/* ---- a checkpoint while others commit: it begins and is installed under the lock, and is written without it */
+
+/* A checkpoint that has begun: the table as it was then. It is used by one thread at a time, and ended before its store is
+   closed. */
+typedef struct pdt_snapshot pdt_snapshot;
+
+/* Begins a checkpoint of the newest table. *commits, if not null, is the number of that table: what an engine has logged of
+   later commits has to stay. PDT_NOMEM, PDT_MISUSE: *snapshot is null then.
+   It folds, and begins and commits wait for that. */
+int pdt_checkpoint_begin(pdt_store *store, uint64_t *commits, pdt_snapshot **snapshot);
+
+/* Writes that table into a folder as pdt_checkpoint does, and takes no lock. Once it answers PDT_OK the table is durable.
+   PDT_EXISTS, PDT_IO, PDT_NOMEM: what was written is removed, and it may be asked for again. PDT_MISUSE, also once it is
+   done. It takes the memory of the table and of its bytes. */
+int pdt_checkpoint_write(pdt_snapshot *snapshot, const char *folder);
+
+/* Makes what was written the stable table in memory: the commits since the begin stay in the Write-PDT, and no table changes.
+   PDT_SUPERSEDED where a fold, or the begin or the install of another checkpoint came since: nothing changes. What was
+   written stays good: it is the table of the begin. PDT_NOMEM: ask again. PDT_MISUSE before a write is done, and once it is.
+   Begins and commits wait for a handful of allocations. */
+int pdt_checkpoint_install(pdt_snapshot *snapshot);
+
+/* Lets a checkpoint go, whatever was done of it: what was written stays where it is. A null pointer is no error. */
+void pdt_checkpoint_end(pdt_snapshot *snapshot);
+
 /* ---- transactions */
 
 /* Begins a transaction of a client over the newest table; the number of the client goes into the history, and says nothing
    else. PDT_NOMEM, PDT_MISUSE: *txn is null then. In constant time. */
 int pdt_begin(pdt_store *store, uint32_t client, pdt_txn **txn);
 
-/* Ends a transaction and leaves no record of it. A null pointer is no error. */
+/* Ends a transaction and leaves no record of it, also one whose commit this thread has prepared. Null is no error. */
 void pdt_abort(pdt_txn *txn);
 
 /* Commits a transaction: PDT_OK, PDT_CONFLICT, PDT_TOO_OLD or PDT_FULL, and it is over; *commits, if not null, is the
    number of the newest table then. PDT_NOMEM: it stays open as it was, and may commit again. PDT_MISUSE. */
 int pdt_commit(pdt_txn *txn, uint64_t *commits);
+
+/* ---- a commit in two parts: in between an engine writes its own log */
+
+/* Decides a commit and makes all that it wants, so that it can't fail any more: PDT_OK, and *commits, if not null, is the
+   number that it will have. pdt_install, pdt_give_up or pdt_abort follows, on the same thread, and until then nothing has
+   changed. PDT_CONFLICT, PDT_TOO_OLD, PDT_FULL, PDT_NOMEM: as of pdt_commit. PDT_MISUSE.
+   From PDT_OK on the store's lock is kept: other threads' begins and commits wait. This thread's other calls on the store
+   are PDT_MISUSE but for pdt_size, and so are writes and marks of the transaction; reads of transactions are not. */
+int pdt_prepare(pdt_txn *txn, uint64_t *commits);
+
+/* Does what was prepared: the transaction is committed, and over. It takes no memory and can't be refused.
+   PDT_MISUSE where this thread hasn't prepared it: nothing changes. */
+int pdt_install(pdt_txn *txn);
+
+/* Lets go of what was prepared: the store is as if it had never been, and the transaction is open as before.
+   PDT_MISUSE where this thread hasn't prepared it. */
+int pdt_give_up(pdt_txn *txn);
 
 /* ---- writes: each is answered at once, and seen by the transaction's own reads */
 

@@ -47,7 +47,12 @@ static int run(void) {
     CALL(pdt_back_to(txn, level));
     CALL(pdt_release(txn, level));
     if (i == 7) CALL(pdt_delete(txn, (int64_t[]){5}, NULL, 0));
-    CALL(pdt_commit(txn, NULL));
+    if (i % 3 == 2) {
+      CALL(pdt_prepare(txn, NULL));
+      CALL(pdt_install(txn));
+    } else {
+      CALL(pdt_commit(txn, NULL));
+    }
     if (i % 4 == 3) CALL(pdt_fold(store));
   }
   CALL(pdt_begin(store, 1, &txn));

@@ -37,7 +37,8 @@ pub enum Error {
     BadStore,
     /// The files hold no whole image.
     NoImage,
-    /// A path has a zero byte, or more bytes than the library takes.
+    /// The call may not be made now: this thread has a commit of the store prepared, or the checkpoint is not written
+    /// yet, or written, or installed already. Or a path has a zero byte, or more bytes than the library takes.
     Misuse,
     /// A file can't be made, written, synced or read.
     Io {
@@ -46,6 +47,8 @@ pub enum Error {
     },
     /// A file of a store is there already.
     Exists,
+    /// A fold or another checkpoint came since the checkpoint began.
+    Superseded,
     /// A row's key isn't above that of the row before it.
     NotAscending,
     /// What took the bytes of a checkpoint failed.
@@ -71,6 +74,7 @@ impl Error {
             Error::Misuse => ffi::MISUSE,
             Error::Io { .. } => ffi::IO,
             Error::Exists => ffi::EXISTS,
+            Error::Superseded => ffi::SUPERSEDED,
             Error::NotAscending => ffi::NOT_ASCENDING,
             Error::DeviceFailed => ffi::DEVICE_FAILED,
         }
@@ -95,6 +99,7 @@ impl Error {
             ffi::MISUSE => Error::Misuse,
             ffi::IO => Error::Io { errno: io::Error::last_os_error().raw_os_error().unwrap_or(0) },
             ffi::EXISTS => Error::Exists,
+            ffi::SUPERSEDED => Error::Superseded,
             ffi::NOT_ASCENDING => Error::NotAscending,
             ffi::DEVICE_FAILED => Error::DeviceFailed,
             _ => unreachable!("pdt.h has no code {code}"),
@@ -127,8 +132,8 @@ impl From<std::collections::TryReserveError> for Error {
     }
 }
 
-/// Why a transaction isn't committed. Where memory was refused it is given back as it was, and may commit again; else
-/// it is over, and the number is that of the newest table.
+/// Why a transaction isn't committed. Where memory was refused, or the call may not be made now, it is given back as it
+/// was, and may commit again; else it is over, and the number is that of the newest table.
 #[derive(Debug)]
 pub enum CommitError<'s> {
     /// A commit since the transaction began changed what it changed.
@@ -139,6 +144,8 @@ pub enum CommitError<'s> {
     Full(u64),
     /// Memory was refused: the transaction, still open.
     NoMemory(Transaction<'s>),
+    /// This thread has another commit of the store prepared: the transaction, still open.
+    Misuse(Transaction<'s>),
 }
 
 impl fmt::Display for CommitError<'_> {
@@ -157,6 +164,7 @@ impl CommitError<'_> {
             CommitError::TooOld(_) => Error::TooOld,
             CommitError::Full(_) => Error::Full,
             CommitError::NoMemory(_) => Error::NoMemory,
+            CommitError::Misuse(_) => Error::Misuse,
         }
     }
 }
@@ -174,7 +182,7 @@ mod tests {
 
     #[test]
     fn each_code_has_a_variant_and_a_sentence() {
-        for code in (ffi::NOMEM..=ffi::EXISTS).chain(ffi::NOT_ASCENDING..=ffi::DEVICE_FAILED) {
+        for code in ffi::NOMEM..=ffi::DEVICE_FAILED {
             let error = Error::of(code);
             assert_eq!(code, error.code());
             assert_ne!("no such code", error.to_string());

@@ -16,6 +16,13 @@ pub struct Txn {
     pinned: PhantomData<(*mut u8, PhantomPinned)>,
 }
 
+/// A `pdt_snapshot`, known by its address.
+#[repr(C)]
+pub struct Snapshot {
+    private: [u8; 0],
+    pinned: PhantomData<(*mut u8, PhantomPinned)>,
+}
+
 #[repr(C)]
 pub struct Options {
     pub recent: usize,
@@ -87,6 +94,7 @@ pub const NO_IMAGE: c_int = 13;
 pub const MISUSE: c_int = 14;
 pub const IO: c_int = 15;
 pub const EXISTS: c_int = 16;
+pub const SUPERSEDED: c_int = 17;
 pub const NOT_ASCENDING: c_int = 18;
 pub const DEVICE_FAILED: c_int = 19;
 
@@ -130,9 +138,18 @@ unsafe extern "C" {
     pub fn pdt_checkpoint(store: *mut Store, folder: *const c_char) -> c_int;
     pub fn pdt_checkpoint_to(store: *mut Store, write: Write, context: *mut c_void, column: *mut usize) -> c_int;
 
+    pub fn pdt_checkpoint_begin(store: *mut Store, commits: *mut u64, snapshot: *mut *mut Snapshot) -> c_int;
+    pub fn pdt_checkpoint_write(snapshot: *mut Snapshot, folder: *const c_char) -> c_int;
+    pub fn pdt_checkpoint_install(snapshot: *mut Snapshot) -> c_int;
+    pub fn pdt_checkpoint_end(snapshot: *mut Snapshot);
+
     pub fn pdt_begin(store: *mut Store, client: u32, txn: *mut *mut Txn) -> c_int;
     pub fn pdt_abort(txn: *mut Txn);
     pub fn pdt_commit(txn: *mut Txn, commits: *mut u64) -> c_int;
+
+    pub fn pdt_prepare(txn: *mut Txn, commits: *mut u64) -> c_int;
+    pub fn pdt_install(txn: *mut Txn) -> c_int;
+    pub fn pdt_give_up(txn: *mut Txn) -> c_int;
 
     pub fn pdt_insert(txn: *mut Txn, numbers: *const i64, texts: *const c_void, bytes: usize) -> c_int;
     pub fn pdt_delete(txn: *mut Txn, key: *const i64, texts: *const c_void, bytes: usize) -> c_int;

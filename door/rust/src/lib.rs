@@ -88,6 +88,18 @@
 //! # Ok::<(), Error>(())
 //! ```
 //!
+//! A commit that is prepared has the store's lock, and stays on its thread:
+//!
+//! ```compile_fail,E0277
+//! # use narthexmace::{Error, Options, Store};
+//! # let store = Store::open("id:int:key\n10\n", &Options::default())?;
+//! let prepared = store.begin(1)?.prepare()?;
+//! std::thread::scope(|threads| {
+//!     threads.spawn(move || prepared.install());
+//! });
+//! # Ok::<(), Error>(())
+//! ```
+//!
 //! A transaction may be sent to a thread, but two threads can't share it:
 //!
 //! ```compile_fail,E0277
@@ -104,17 +116,21 @@
 
 mod batch;
 mod cells;
+mod checkpoint;
 mod columns;
 mod error;
 mod ffi;
 mod marks;
+mod prepared;
 mod store;
 mod transaction;
 
 pub use batch::{Batch, Batches, Ints, Piece, Texts, Values};
 pub use cells::{Cell, CellRef, Row};
+pub use checkpoint::Checkpoint;
 pub use columns::{CheckpointError, ColumnValues, ColumnsError, ImagePart};
 pub use error::{CommitError, Error};
 pub use marks::Mark;
+pub use prepared::Prepared;
 pub use store::{Column, ColumnType, ConflictRule, Options, Sizes, Store};
 pub use transaction::{Rank, Transaction};

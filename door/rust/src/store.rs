@@ -1,7 +1,7 @@
 //! A table with its history.
 use crate::cells::owned;
 use crate::error::done;
-use crate::{Error, Transaction, ffi};
+use crate::{Checkpoint, Error, Transaction, ffi};
 use std::ffi::{CStr, c_char, c_int};
 use std::fmt;
 use std::os::unix::ffi::OsStrExt;
@@ -207,10 +207,14 @@ impl Store {
 
     /// Lets the history so far go, so that it takes no memory. A transaction that began before the newest commit is
     /// [`TooOld`](crate::CommitError::TooOld) at its own; it reads on.
+    ///
+    /// # Panics
+    ///
+    /// Where this thread has a commit of the store prepared.
     pub fn cut(&self) {
         // SAFETY: the store is open while `self` is there.
         let code = unsafe { ffi::pdt_cut(self.raw.as_ptr()) };
-        debug_assert_eq!(ffi::OK, code);
+        assert_eq!(ffi::OK, code, "no cut is made while this thread has a commit prepared");
     }
 
     /// Writes the newest table into a folder that has no store, each file synced, and the folder after them; in memory
@@ -223,6 +227,17 @@ impl Store {
         let folder = path_of(folder.as_ref())?;
         // SAFETY: the store is open while `self` is there; the path ends with a zero, and is there during the call.
         done(unsafe { ffi::pdt_checkpoint(self.raw.as_ptr(), folder.as_ptr()) })
+    }
+
+    /// Begins a checkpoint of the newest table, which is written while others commit. It folds, and begins and commits
+    /// wait for that. [`Error::NoMemory`].
+    pub fn begin_checkpoint(&self) -> Result<Checkpoint<'_>, Error> {
+        let (mut number, mut raw) = (0, ptr::null_mut());
+        // SAFETY: the store is open while `self` is there.
+        done(unsafe { ffi::pdt_checkpoint_begin(self.raw.as_ptr(), &mut number, &mut raw) })?;
+        let raw = NonNull::new(raw).expect("a begin that is done hands out a checkpoint");
+        // SAFETY: the checkpoint has begun over this store, and nobody else has it.
+        Ok(unsafe { Checkpoint::adopt(raw, number, self) })
     }
 }
 
@@ -250,7 +265,7 @@ fn type_of(code: c_int) -> ColumnType {
 }
 
 /// The bytes of a path and a zero, or `Misuse` where there is one among them.
-fn path_of(path: &Path) -> Result<Vec<c_char>, Error> {
+pub(crate) fn path_of(path: &Path) -> Result<Vec<c_char>, Error> {
     let bytes = path.as_os_str().as_bytes();
     if bytes.contains(&0) {
         return Err(Error::Misuse);

@@ -3,7 +3,7 @@ use crate::batch::{Batch, Batches};
 use crate::cells::{Passed, filled, row_of};
 use crate::error::done;
 use crate::marks::{Mark, Marks};
-use crate::{CellRef, CommitError, Error, Row, Store, ffi};
+use crate::{CellRef, CommitError, Error, Prepared, Row, Store, ffi};
 use std::ffi::{c_int, c_void};
 use std::fmt;
 use std::mem::{ManuallyDrop, take};
@@ -69,21 +69,43 @@ impl<'s> Transaction<'s> {
     /// # Ok::<(), Error>(())
     /// ```
     pub fn commit(self) -> Result<u64, CommitError<'s>> {
-        let mut open = ManuallyDrop::new(self);
         let mut number = 0;
-        // SAFETY: the transaction is open; unless the answer is NOMEM it is over, and nothing uses it any more.
-        let code = unsafe { ffi::pdt_commit(open.raw(), &mut number) };
-        if code == ffi::NOMEM {
-            return Err(CommitError::NoMemory(ManuallyDrop::into_inner(open)));
+        // SAFETY: the transaction is open; unless the answer is NOMEM or MISUSE it is over.
+        let code = unsafe { ffi::pdt_commit(self.raw(), &mut number) };
+        if code != ffi::OK {
+            return Err(self.refused(code, number));
         }
-        drop(take(&mut open.marks));
-        match code {
-            ffi::OK => Ok(number),
-            ffi::CONFLICT => Err(CommitError::Conflict(number)),
-            ffi::TOO_OLD => Err(CommitError::TooOld(number)),
-            ffi::FULL => Err(CommitError::Full(number)),
+        self.forget();
+        Ok(number)
+    }
+
+    /// Decides the commit and makes all that it wants, so that it can't fail any more: then a program writes its own
+    /// log, and does it or gives it up. Refused as [`commit`](Transaction::commit).
+    pub fn prepare(self) -> Result<Prepared<'s>, CommitError<'s>> {
+        let mut number = 0;
+        // SAFETY: the transaction is open; unless the answer is OK, NOMEM or MISUSE it is over.
+        let code = unsafe { ffi::pdt_prepare(self.raw(), &mut number) };
+        if code == ffi::OK { Ok(Prepared::new(self, number)) } else { Err(self.refused(code, number)) }
+    }
+
+    /// The refusal of a commit, which has ended the transaction unless it gives it back.
+    fn refused(self, code: c_int, number: u64) -> CommitError<'s> {
+        let refusal = match code {
+            ffi::NOMEM => return CommitError::NoMemory(self),
+            ffi::MISUSE => return CommitError::Misuse(self),
+            ffi::CONFLICT => CommitError::Conflict(number),
+            ffi::TOO_OLD => CommitError::TooOld(number),
+            ffi::FULL => CommitError::Full(number),
             code => unreachable!("no commit answers {code}"),
-        }
+        };
+        self.forget();
+        refusal
+    }
+
+    /// Lets a transaction go that the library has ended.
+    pub(crate) fn forget(self) {
+        let mut over = ManuallyDrop::new(self);
+        drop(take(&mut over.marks));
     }
 
     /// Ends the transaction and leaves no record of it, as a drop does.

@@ -1,6 +1,6 @@
 //! Each allocation of a run is refused in turn, this crate's own among them: the call answers `NoMemory`, or did
 //! without, made again it does its work, and the table at the end is as wanted.
-use narthexmace::{CommitError, Error, Options, Row, Store, Transaction, cells};
+use narthexmace::{CommitError, Error, Options, Prepared, Row, Store, Transaction, cells};
 use std::cell::Cell;
 use std::collections::BTreeSet;
 use std::ffi::c_void;
@@ -109,10 +109,21 @@ impl Run {
             answer => answer.unwrap(),
         }
     }
+
+    /// Prepares the commit of a transaction, and again where it was refused and given back.
+    fn prepared<'s>(&mut self, txn: Transaction<'s>) -> Prepared<'s> {
+        match self.counted(|| txn.prepare()) {
+            Err(CommitError::NoMemory(again)) => {
+                self.told.insert("prepare");
+                again.prepare().unwrap()
+            }
+            answer => answer.unwrap(),
+        }
+    }
 }
 
 const TABLE: &str = "id:int:key,name:text,ok:bool,qty:int\n10,Ann,false,1\n20,Bob,true,2\n30,Cid,true,3\n";
-const CALLS: [&str; 14] = [
+const CALLS: [&str; 18] = [
     "open",
     "begin",
     "mark",
@@ -124,7 +135,11 @@ const CALLS: [&str; 14] = [
     "batch",
     "batches",
     "commit",
+    "prepare",
     "fold",
+    "begin_checkpoint",
+    "write",
+    "install",
     "checkpoint",
     "recover",
 ];
@@ -166,11 +181,21 @@ fn run(granted: usize, folder: &Path) -> Option<BTreeSet<&'static str>> {
     write(&mut run, &mut txn, &long);
     read(&mut run, &txn, &long);
     assert_eq!(1, run.committed(txn));
+    let mut txn = run.made("begin", || store.begin(1));
+    run.made("set", || txn.set([10], 2, false));
+    assert_eq!(2, run.prepared(txn).install());
     run.made("fold", || store.fold());
     let rows = rows_of(&store);
     let qty: Vec<_> = rows.iter().map(|row| (row[0].as_int(), row[3].as_int())).collect();
     assert_eq!(vec![(Some(10), Some(1)), (Some(15), Some(5)), (Some(30), Some(3))], qty);
     if run.granted.is_some() {
+        let parts = folder.join("parts");
+        fs::create_dir(&parts).unwrap();
+        let mut checkpoint = run.made("begin_checkpoint", || store.begin_checkpoint());
+        run.made("write", || checkpoint.write(&parts));
+        run.made("install", || checkpoint.install());
+        drop(checkpoint);
+        assert_eq!(rows, rows_of(&store));
         run.made("checkpoint", || store.checkpoint(folder));
         let again = run.made("recover", || Store::recover(folder, &Options::default()));
         assert_eq!(rows, rows_of(&again));

@@ -1,0 +1,327 @@
+/* A commit in two parts, with a log that an engine writes in between, and a checkpoint that is written while others commit. */
+#define _POSIX_C_SOURCE 200809L
+#include <pdt.h>
+#include <pthread.h>
+#include <signal.h>
+#include <stdio.h>
+#include <stdlib.h>
+#include <sys/wait.h>
+#include <time.h>
+#include <unistd.h>
+
+static int failures;
+static void is(const char *what, long long wanted, long long found) {
+  if (wanted == found) return;
+  failures++;
+  fprintf(stderr, "%s: wanted %lld, found %lld\n", what, wanted, found);
+}
+
+static const char csv[] = "id:int:key,qty:int\n10,1\n20,2\n30,3\n";
+
+static pdt_store *opened(void) {
+  pdt_store *store = NULL;
+  is("open", PDT_OK, pdt_open(csv, sizeof csv - 1, NULL, &store));
+  return store;
+}
+static pdt_txn *begun(pdt_store *store) {
+  pdt_txn *txn = NULL;
+  is("begin", PDT_OK, pdt_begin(store, 7, &txn));
+  return txn;
+}
+static pdt_txn *setting(pdt_store *store, int64_t key, int64_t qty) {
+  pdt_txn *txn = begun(store);
+  is("set", PDT_OK, pdt_set(txn, &key, NULL, 0, 1, qty, NULL));
+  return txn;
+}
+static long long qty_of(pdt_txn *txn, int64_t key) {
+  int64_t row[2] = {0, -1};
+  return pdt_get(txn, &key, NULL, 0, row, NULL, 0, NULL) ? -1 : row[1];
+}
+static void newest_is(const char *what, pdt_store *store, long long first, long long second, long long third) {
+  pdt_txn *txn = begun(store);
+  is(what, first, qty_of(txn, 10));
+  is(what, second, qty_of(txn, 20));
+  is(what, third, qty_of(txn, 30));
+  pdt_abort(txn);
+}
+static pdt_sizes sizes_of(pdt_store *store) {
+  pdt_sizes sizes = {0, 0, 0, 0};
+  is("size", PDT_OK, pdt_size(store, &sizes));
+  return sizes;
+}
+static void make_folder(char *folder, size_t len, const char *room, const char *name) {
+  char words[600];
+  snprintf(folder, len, "%s/%s", room, name);
+  snprintf(words, sizeof words, "mkdir -p '%s'", folder);
+  is("mkdir", 0, system(words));
+}
+
+/* ---- a commit in two parts */
+
+static void prepares(void) {
+  pdt_store *store = opened(), *other = opened();
+  pdt_txn *txn = setting(store, 10, 5), *late = setting(store, 10, 6), *third = setting(store, 20, 7);
+  pdt_txn *elsewhere = setting(other, 10, 9), *again;
+  pdt_layer *read, *write;
+  pdt_snapshot *snapshot;
+  uint64_t number = 77;
+  size_t level;
+  int64_t key = 20;
+  is("install what isn't prepared", PDT_MISUSE, pdt_install(txn));
+  is("give up what isn't prepared", PDT_MISUSE, pdt_give_up(txn));
+  is("prepare null", PDT_MISUSE, pdt_prepare(NULL, &number));
+  is("install null", PDT_MISUSE, pdt_install(NULL));
+  is("give up null", PDT_MISUSE, pdt_give_up(NULL));
+
+  is("prepare", PDT_OK, pdt_prepare(txn, &number));
+  is("its number", 1, (long long)number);
+  is("nothing has changed", 0, (long long)sizes_of(store).commits);
+  is("prepare again", PDT_MISUSE, pdt_prepare(txn, NULL));
+  is("prepare another", PDT_MISUSE, pdt_prepare(late, NULL));
+  is("commit it", PDT_MISUSE, pdt_commit(txn, NULL));
+  is("commit another", PDT_MISUSE, pdt_commit(late, NULL));
+  is("begin", PDT_MISUSE, pdt_begin(store, 1, &again));
+  is("null then", 1, again == NULL);
+  is("fold", PDT_MISUSE, pdt_fold(store));
+  is("cut", PDT_MISUSE, pdt_cut(store));
+  is("layers", PDT_MISUSE, pdt_layers(store, &read, &write));
+  is("checkpoint", PDT_MISUSE, pdt_checkpoint(store, "/nowhere"));
+  is("begin a checkpoint", PDT_MISUSE, pdt_checkpoint_begin(store, NULL, &snapshot));
+  is("close", PDT_MISUSE, pdt_close(store));
+  is("a write", PDT_MISUSE, pdt_set(txn, &key, NULL, 0, 1, 0, NULL));
+  is("an insert", PDT_MISUSE, pdt_insert(txn, (int64_t[]){40, 4}, NULL, 0));
+  is("a delete", PDT_MISUSE, pdt_delete(txn, &key, NULL, 0));
+  is("a mark", PDT_MISUSE, pdt_mark(txn, &level));
+  is("going back", PDT_MISUSE, pdt_back_to(txn, 0));
+  is("a release", PDT_MISUSE, pdt_release(txn, 0));
+  is("a read", 5, qty_of(txn, 10));
+  is("a write of another", PDT_OK, pdt_set(late, &key, NULL, 0, 1, 8, NULL));
+  is("another store", PDT_OK, pdt_commit(elsewhere, NULL));
+
+  is("give up", PDT_OK, pdt_give_up(txn));
+  is("once", PDT_MISUSE, pdt_give_up(txn));
+  newest_is("nothing was done", store, 1, 2, 3);
+  is("it goes on", PDT_OK, pdt_set(txn, &(int64_t){30}, NULL, 0, 1, 33, NULL));
+  is("prepare", PDT_OK, pdt_prepare(txn, NULL));
+  pdt_abort(third); /* while this thread has the lock */
+  is("install", PDT_OK, pdt_install(txn));
+  newest_is("all of it was done", store, 5, 2, 33);
+  is("what conflicts is over", PDT_CONFLICT, pdt_prepare(late, &number));
+  is("the newest number", 1, (long long)number);
+  is("none is open", 0, (long long)sizes_of(store).open_transactions);
+
+  txn = setting(store, 10, 99);
+  is("prepare", PDT_OK, pdt_prepare(txn, NULL));
+  pdt_abort(txn); /* gives up */
+  newest_is("an abort leaves nothing", store, 5, 2, 33);
+  is("close", PDT_OK, pdt_close(store));
+  is("close", PDT_OK, pdt_close(other));
+}
+
+typedef struct {
+  pdt_store *store;
+  pdt_txn *prepared; /* by another thread */
+  pthread_mutex_t lock;
+  int has_begun;
+  long long seen;
+} waiting;
+
+static void *ends_anothers(void *arg) {
+  waiting *w = arg;
+  is("install of another thread's", PDT_MISUSE, pdt_install(w->prepared));
+  is("give up of another thread's", PDT_MISUSE, pdt_give_up(w->prepared));
+  pdt_abort(w->prepared);
+  return NULL;
+}
+
+static void *waits(void *arg) {
+  waiting *w = arg;
+  pdt_txn *txn = begun(w->store);
+  pthread_mutex_lock(&w->lock);
+  w->has_begun = 1;
+  pthread_mutex_unlock(&w->lock);
+  w->seen = qty_of(txn, 10);
+  pdt_abort(txn);
+  return NULL;
+}
+
+/* Another thread can't end what is prepared; its begin waits, and sees the commit. */
+static void begins_wait(void) {
+  waiting w = {opened(), NULL, PTHREAD_MUTEX_INITIALIZER, 0, -1};
+  w.prepared = setting(w.store, 10, 5);
+  pthread_t thread;
+  is("prepare", PDT_OK, pdt_prepare(w.prepared, NULL));
+  if (pthread_create(&thread, NULL, ends_anothers, &w)) exit(1);
+  pthread_join(thread, NULL);
+  if (pthread_create(&thread, NULL, waits, &w)) exit(1);
+  nanosleep(&(struct timespec){0, 50000000}, NULL);
+  pthread_mutex_lock(&w.lock);
+  is("it waits", 0, w.has_begun);
+  pthread_mutex_unlock(&w.lock);
+  is("install", PDT_OK, pdt_install(w.prepared));
+  pthread_join(thread, NULL);
+  is("it sees the commit", 5, w.seen);
+  pdt_close(w.store);
+}
+
+/* ---- an engine with a log: a line for each commit, written between its parts */
+
+static void engine(const char *folder, FILE *log) {
+  pdt_store *store = opened();
+  uint64_t number;
+  if (pdt_checkpoint(store, folder)) _exit(2);
+  for (int64_t i = 1; i <= 3; i++) {
+    pdt_txn *txn = setting(store, 10 * i, 100 * i);
+    if (pdt_prepare(txn, &number)) _exit(3);
+    if (i == 3) raise(SIGKILL); /* it stops between the parts, before the line is written */
+    fprintf(log, "%llu %lld %lld\n", (unsigned long long)number, (long long)(10 * i), (long long)(100 * i));
+    fflush(log);
+    if (pdt_install(txn)) _exit(4);
+  }
+}
+
+static void recovers(const char *room) {
+  char folder[512], path[600];
+  make_folder(folder, sizeof folder, room, "logged");
+  snprintf(path, sizeof path, "%s/log", folder);
+  FILE *log = fopen(path, "w");
+  pid_t child = fork();
+  if (!child) engine(folder, log), _exit(5);
+  fclose(log);
+  int status = -1;
+  waitpid(child, &status, 0);
+  is("the engine stopped", SIGKILL, WIFSIGNALED(status) ? WTERMSIG(status) : -1);
+  pdt_store *store = NULL;
+  is("recover", PDT_OK, pdt_recover(folder, NULL, &store));
+  newest_is("the checkpoint", store, 1, 2, 3);
+  log = fopen(path, "r");
+  unsigned long long logged;
+  long long key, qty;
+  uint64_t number = 0;
+  while (log && fscanf(log, "%llu %lld %lld", &logged, &key, &qty) == 3) {
+    is("commit", PDT_OK, pdt_commit(setting(store, key, qty), &number));
+    is("the number that was logged", (long long)logged, (long long)number);
+  }
+  if (log) fclose(log);
+  newest_is("what was logged is there, and no more", store, 100, 200, 3);
+  pdt_close(store);
+}
+
+/* ---- a checkpoint in two parts */
+
+enum { COMMITS = 200 };
+
+static void *commits(void *arg) {
+  pdt_store *store = arg;
+  for (int64_t i = 1; i <= COMMITS; i++) is("commit", PDT_OK, pdt_commit(setting(store, 20, i), NULL));
+  return NULL;
+}
+
+static void checkpoints(const char *room) {
+  char folder[512], second[512];
+  make_folder(folder, sizeof folder, room, "begun");
+  make_folder(second, sizeof second, room, "second");
+  pdt_store *store = opened(), *again = NULL;
+  pdt_snapshot *snapshot = NULL;
+  pthread_t thread;
+  uint64_t number = 77;
+  is("commit", PDT_OK, pdt_commit(setting(store, 10, 5), NULL));
+  pdt_txn *open = setting(store, 30, 8);
+  is("begin of null", PDT_MISUSE, pdt_checkpoint_begin(NULL, NULL, &snapshot));
+  is("begin to nowhere", PDT_MISUSE, pdt_checkpoint_begin(store, NULL, NULL));
+  is("begin", PDT_OK, pdt_checkpoint_begin(store, &number, &snapshot));
+  is("its number", 1, (long long)number);
+  is("it folds", 0, (long long)sizes_of(store).write_entries);
+  is("install before it is written", PDT_MISUSE, pdt_checkpoint_install(snapshot));
+
+  if (pthread_create(&thread, NULL, commits, store)) exit(1);
+  is("no folder", PDT_IO, pdt_checkpoint_write(snapshot, "/nowhere/at/all"));
+  is("write", PDT_OK, pdt_checkpoint_write(snapshot, folder));
+  is("once", PDT_MISUSE, pdt_checkpoint_write(snapshot, second));
+  pthread_join(thread, NULL);
+  is("an open transaction commits", PDT_OK, pdt_commit(open, &number));
+  is("its number", COMMITS + 2, (long long)number);
+  open = setting(store, 20, -1);
+  is("commit", PDT_OK, pdt_commit(setting(store, 10, 6), NULL));
+
+  is("install", PDT_OK, pdt_checkpoint_install(snapshot));
+  is("once", PDT_MISUSE, pdt_checkpoint_install(snapshot));
+  is("close too soon", PDT_MISUSE, pdt_close(store));
+  pdt_sizes sizes = sizes_of(store);
+  is("nothing is left to move", 0, (long long)sizes.read_entries);
+  is("the commits since the begin stay", 3, (long long)sizes.write_entries);
+  is("commits", COMMITS + 3, (long long)sizes.commits);
+  newest_is("no table has changed", store, 6, COMMITS, 8);
+  is("what began before reads on", 5, qty_of(open, 10));
+  is("and commits", PDT_OK, pdt_commit(open, NULL));
+  newest_is("over the new stable table", store, 6, -1, 8);
+  pdt_checkpoint_end(snapshot);
+
+  is("recover", PDT_OK, pdt_recover(folder, NULL, &again));
+  newest_is("the table of the begin", again, 5, 2, 3);
+  is("close", PDT_OK, pdt_close(again));
+  is("a folder that has a store", PDT_OK, pdt_checkpoint_begin(store, NULL, &snapshot));
+  is("write", PDT_EXISTS, pdt_checkpoint_write(snapshot, folder));
+  pdt_checkpoint_end(snapshot);
+  pdt_checkpoint_end(NULL);
+  is("write null", PDT_MISUSE, pdt_checkpoint_write(NULL, folder));
+  is("install null", PDT_MISUSE, pdt_checkpoint_install(NULL));
+  is("close", PDT_OK, pdt_close(store));
+}
+
+/* What comes between a begin and its install. */
+static int fold(pdt_store *store, const char *folder) { return (void)folder, pdt_fold(store); }
+static int cut(pdt_store *store, const char *folder) { return (void)folder, pdt_cut(store); }
+static int commit(pdt_store *store, const char *folder) { return (void)folder, pdt_commit(setting(store, 20, 9), NULL); }
+static int begin(pdt_store *store, const char *folder) {
+  pdt_snapshot *snapshot;
+  int code = pdt_checkpoint_begin(store, NULL, &snapshot);
+  return (void)folder, pdt_checkpoint_end(code ? NULL : snapshot), code;
+}
+static int prepare(pdt_store *store, const char *folder) {
+  pdt_txn *txn = setting(store, 20, 9);
+  int code = pdt_prepare(txn, NULL);
+  pdt_abort(txn);
+  return (void)folder, code;
+}
+
+static void comes_between(const char *room) {
+  static const struct {
+    const char *name;
+    int (*call)(pdt_store *, const char *);
+    int code;
+    long long qty;
+  } cases[] = {
+      {"fold", fold, PDT_SUPERSEDED, 2},          {"checkpoint", pdt_checkpoint, PDT_SUPERSEDED, 2},
+      {"another begin", begin, PDT_SUPERSEDED, 2}, {"cut", cut, PDT_OK, 2},
+      {"commit", commit, PDT_OK, 9},              {"prepare", prepare, PDT_OK, 2},
+  };
+  for (size_t i = 0; i < sizeof cases / sizeof *cases; i++) {
+    char folder[512], other[512], name[64];
+    snprintf(name, sizeof name, "between-%zu", i);
+    make_folder(folder, sizeof folder, room, name);
+    snprintf(name, sizeof name, "beside-%zu", i);
+    make_folder(other, sizeof other, room, name);
+    pdt_store *store = opened(), *again = NULL;
+    pdt_snapshot *snapshot = NULL;
+    is("commit", PDT_OK, pdt_commit(setting(store, 10, 5), NULL));
+    is("begin", PDT_OK, pdt_checkpoint_begin(store, NULL, &snapshot));
+    is("write", PDT_OK, pdt_checkpoint_write(snapshot, folder));
+    is(cases[i].name, PDT_OK, cases[i].call(store, other));
+    is(cases[i].name, cases[i].code, pdt_checkpoint_install(snapshot));
+    newest_is(cases[i].name, store, 5, cases[i].qty, 3);
+    pdt_checkpoint_end(snapshot);
+    newest_is(cases[i].name, store, 5, cases[i].qty, 3);
+    is("recover", PDT_OK, pdt_recover(folder, NULL, &again));
+    newest_is(cases[i].name, again, 5, 2, 3);
+    pdt_close(again);
+    is("close", PDT_OK, pdt_close(store));
+  }
+}
+
+int main(int argc, char **argv) {
+  prepares();
+  begins_wait();
+  if (argc > 1) recovers(argv[1]), checkpoints(argv[1]), comes_between(argv[1]);
+  return failures ? 1 : 0;
+}

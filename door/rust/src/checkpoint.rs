@@ -1,0 +1,82 @@
+//! A checkpoint while others commit.
+use crate::error::done;
+use crate::store::path_of;
+use crate::{Error, Store, ffi};
+use std::fmt;
+use std::path::Path;
+use std::ptr::NonNull;
+
+/// A checkpoint that has begun: the table as it was then. Begins and commits wait neither for the making of its table
+/// nor for its files. It may be sent to another thread, and ends when it is dropped; what it wrote stays.
+///
+/// ```no_run
+/// use narthexmace::{Error, Options, Store};
+/// let store = Store::open("id:int:key,qty:int\n10,7\n", &Options::default())?;
+/// let mut checkpoint = store.begin_checkpoint()?;
+/// checkpoint.write("checkpoints/7")?; // others commit meanwhile
+/// println!("the log is needed from commit {} on", checkpoint.number() + 1);
+/// checkpoint.install()?;
+/// # Ok::<(), Error>(())
+/// ```
+pub struct Checkpoint<'s> {
+    raw: NonNull<ffi::Snapshot>,
+    number: u64,
+    store: &'s Store,
+}
+
+// SAFETY: a `pdt_snapshot` is used by one thread at a time, whichever that is: only a call with `&mut self` uses it.
+unsafe impl Send for Checkpoint<'_> {}
+
+impl<'s> Checkpoint<'s> {
+    /// A checkpoint that has just begun.
+    ///
+    /// # Safety
+    /// `raw` has begun over this store, at the commit of this number, and nobody else has it.
+    pub(crate) unsafe fn adopt(raw: NonNull<ffi::Snapshot>, number: u64, store: &'s Store) -> Checkpoint<'s> {
+        Checkpoint { raw, number, store }
+    }
+
+    /// The number of its table: what a program has logged of later commits has to stay.
+    pub fn number(&self) -> u64 {
+        self.number
+    }
+
+    /// The store that it is of.
+    pub fn store(&self) -> &'s Store {
+        self.store
+    }
+
+    /// Writes its table into a folder, as [`Store::checkpoint`] does. Once it answers `Ok` the table is durable.
+    ///
+    /// [`Error::Exists`], [`Error::Io`], [`Error::NoMemory`]: what was written is removed, and it may be called again;
+    /// [`Error::Misuse`] once it is done, and of a path that no file can have.
+    pub fn write(&mut self, folder: impl AsRef<Path>) -> Result<(), Error> {
+        let folder = path_of(folder.as_ref())?;
+        // SAFETY: the checkpoint has not ended; the path ends with a zero, and is there during the call.
+        done(unsafe { ffi::pdt_checkpoint_write(self.raw.as_ptr(), folder.as_ptr()) })
+    }
+
+    /// Makes what was written the stable table in memory. The commits since the begin stay in the Write-PDT, and no
+    /// table changes; begins and commits wait for a handful of allocations.
+    ///
+    /// [`Error::Superseded`] where a fold or another checkpoint came since the begin: what was written stays good.
+    /// [`Error::NoMemory`]: it may be called again. [`Error::Misuse`] before [`write`](Checkpoint::write) is done, and
+    /// once this is.
+    pub fn install(&mut self) -> Result<(), Error> {
+        // SAFETY: the checkpoint has not ended, and its store is open, since it is borrowed.
+        done(unsafe { ffi::pdt_checkpoint_install(self.raw.as_ptr()) })
+    }
+}
+
+impl Drop for Checkpoint<'_> {
+    fn drop(&mut self) {
+        // SAFETY: the checkpoint has not ended, and nothing uses it any more; its store is borrowed, and so is open.
+        unsafe { ffi::pdt_checkpoint_end(self.raw.as_ptr()) };
+    }
+}
+
+impl fmt::Debug for Checkpoint<'_> {
+    fn fmt(&self, f: &mut fmt::Formatter<'_>) -> fmt::Result {
+        f.debug_struct("Checkpoint").field("number", &self.number).finish_non_exhaustive()
+    }
+}

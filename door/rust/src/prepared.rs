@@ -1,0 +1,75 @@
+//! A commit in two parts.
+use crate::{Store, Transaction, ffi};
+use std::fmt;
+use std::marker::PhantomData;
+
+/// A transaction whose commit is decided and can't fail any more, and of which nothing is done yet: time for a program
+/// to write its own log. [`install`](Prepared::install) does it. One that is dropped is given up, and its transaction
+/// aborted.
+///
+/// It has the store's lock: begins and commits of other threads wait, so that it stays on its thread. Other calls of
+/// this thread on the store answer [`Error::Misuse`](crate::Error::Misuse), but for those that ask for the columns and
+/// [`Store::sizes`]. One that is forgotten ([`std::mem::forget`]) keeps the lock.
+///
+/// ```
+/// use narthexmace::{Error, Options, Store};
+/// let store = Store::open("id:int:key,qty:int\n10,7\n", &Options::default())?;
+/// let mut txn = store.begin(1)?;
+/// txn.set([10], 1, 5)?;
+/// let mut log = Vec::new();
+/// let prepared = txn.prepare()?;
+/// log.push((prepared.number(), "10,5"));
+/// assert_eq!(1, prepared.install());
+/// # Ok::<(), Error>(())
+/// ```
+pub struct Prepared<'s> {
+    txn: Transaction<'s>,
+    number: u64,
+    /// The lock is its thread's.
+    on_thread: PhantomData<*const ()>,
+}
+
+impl<'s> Prepared<'s> {
+    /// A commit that has just been prepared on this thread.
+    pub(crate) fn new(txn: Transaction<'s>, number: u64) -> Prepared<'s> {
+        Prepared { txn, number, on_thread: PhantomData }
+    }
+
+    /// The number that the commit will have.
+    pub fn number(&self) -> u64 {
+        self.number
+    }
+
+    /// The transaction, for reads.
+    pub fn transaction(&self) -> &Transaction<'s> {
+        &self.txn
+    }
+
+    /// The store that it is over.
+    pub fn store(&self) -> &'s Store {
+        self.txn.store()
+    }
+
+    /// Commits, and answers the number. It takes no memory, and can't be refused.
+    pub fn install(self) -> u64 {
+        // SAFETY: the transaction is open, and prepared on this thread; it is over then, and nothing uses it any more.
+        let code = unsafe { ffi::pdt_install(self.txn.raw()) };
+        debug_assert_eq!(ffi::OK, code);
+        self.txn.forget();
+        self.number
+    }
+
+    /// Gives the commit up: the store is as if it had never been asked, and the transaction open as before.
+    pub fn give_up(self) -> Transaction<'s> {
+        // SAFETY: the transaction is open, and prepared on this thread.
+        let code = unsafe { ffi::pdt_give_up(self.txn.raw()) };
+        debug_assert_eq!(ffi::OK, code);
+        self.txn
+    }
+}
+
+impl fmt::Debug for Prepared<'_> {
+    fn fmt(&self, f: &mut fmt::Formatter<'_>) -> fmt::Result {
+        f.debug_struct("Prepared").field("number", &self.number).finish_non_exhaustive()
+    }
+}

@@ -1,0 +1,180 @@
+//! A commit in two parts, with a log that a program writes in between, and a checkpoint that is written while others
+//! commit.
+use narthexmace::{CommitError, Error, Options, Store, Transaction};
+use std::fs;
+use std::path::PathBuf;
+use std::sync::mpsc;
+use std::thread;
+use std::time::Duration;
+
+const TABLE: &str = "id:int:key,qty:int\n10,1\n20,2\n30,3\n";
+
+/// An empty folder, which goes when it is dropped.
+struct Folder(PathBuf);
+
+impl Folder {
+    fn new(name: &str) -> Folder {
+        let path = std::env::temp_dir().join(format!("narthexmace-{}-parts-{name}", std::process::id()));
+        fs::create_dir(&path).unwrap();
+        Folder(path)
+    }
+}
+
+impl Drop for Folder {
+    fn drop(&mut self) {
+        fs::remove_dir_all(&self.0).unwrap();
+    }
+}
+
+fn opened() -> Store {
+    Store::open(TABLE, &Options::default()).unwrap()
+}
+
+fn setting(store: &Store, key: i64, qty: i64) -> Transaction<'_> {
+    let mut txn = store.begin(1).unwrap();
+    txn.set([key], 1, qty).unwrap();
+    txn
+}
+
+/// The quantities of the newest table.
+fn newest(store: &Store) -> Vec<i64> {
+    let txn = store.begin(9).unwrap();
+    txn.batch(&[1], ..).unwrap().ints(0).unwrap().iter().collect()
+}
+
+#[test]
+fn what_is_prepared_is_done_or_given_up() {
+    let store = opened();
+    let prepared = setting(&store, 10, 5).prepare().unwrap();
+    assert_eq!(1, prepared.number());
+    assert_eq!(Some(5), prepared.transaction().get([10]).unwrap().unwrap()[1].as_int());
+    assert_eq!(0, store.sizes().commits);
+    let mut again = prepared.give_up();
+    assert_eq!(vec![1, 2, 3], newest(&store));
+    again.set([20], 1, 7).unwrap();
+    assert_eq!(1, again.prepare().unwrap().install());
+    assert_eq!(vec![5, 7, 3], newest(&store));
+    drop(setting(&store, 30, 9).prepare().unwrap());
+    assert_eq!(vec![5, 7, 3], newest(&store));
+    assert_eq!((1, 0), (store.sizes().commits, store.sizes().open_transactions));
+}
+
+#[test]
+fn what_a_commit_refuses_a_prepare_refuses() {
+    let store = Store::open(TABLE, &Options { recent: 1, row_limit: 3, ..Options::default() }).unwrap();
+    let (late, older) = (setting(&store, 10, 6), setting(&store, 30, 6));
+    setting(&store, 10, 5).commit().unwrap();
+    assert!(matches!(late.prepare(), Err(CommitError::Conflict(1))));
+    let (mut one, mut two) = (store.begin(1).unwrap(), store.begin(2).unwrap());
+    one.delete([20]).unwrap();
+    one.insert([40, 4]).unwrap();
+    two.delete([30]).unwrap();
+    two.insert([50, 4]).unwrap();
+    one.commit().unwrap();
+    assert!(matches!(older.prepare(), Err(CommitError::TooOld(2))));
+    two.prepare().unwrap().install();
+    assert_eq!(0, store.sizes().open_transactions);
+}
+
+#[test]
+fn a_thread_prepares_one_commit_at_a_time() {
+    let store = opened();
+    let (other, folder) = (setting(&store, 20, 6), Folder::new("one"));
+    let prepared = setting(&store, 10, 5).prepare().unwrap();
+    let Err(CommitError::Misuse(other)) = other.prepare() else { panic!("two commits are prepared") };
+    let Err(CommitError::Misuse(other)) = other.commit() else { panic!("a commit came between") };
+    assert_eq!(Some(Error::Misuse), store.begin(1).err());
+    assert_eq!(Err(Error::Misuse), store.fold());
+    assert_eq!(Err(Error::Misuse), store.checkpoint(&folder.0));
+    assert_eq!(Some(Error::Misuse), store.begin_checkpoint().err());
+    prepared.install();
+    assert_eq!(2, other.commit().unwrap());
+    assert_eq!(vec![5, 6, 3], newest(&store));
+}
+
+#[test]
+fn a_begin_of_another_thread_waits_and_sees_the_commit() {
+    let store = opened();
+    let (tells, told) = mpsc::channel();
+    let prepared = setting(&store, 10, 5).prepare().unwrap();
+    thread::scope(|threads| {
+        threads.spawn(|| tells.send(newest(&store)).unwrap());
+        assert!(told.recv_timeout(Duration::from_millis(50)).is_err());
+        prepared.install();
+        assert_eq!(vec![5, 2, 3], told.recv().unwrap());
+    });
+}
+
+/// A log of commits: the number, and what was set.
+type Log = Vec<(u64, i64, i64)>;
+
+/// Commits with a line of the log for each, and stops between the parts of the last one, before its line or after it.
+fn run_until(store: &Store, log: &mut Log, is_logged: bool) {
+    for row in 1..=3 {
+        let prepared = setting(store, 10 * row, 100 * row).prepare().unwrap();
+        if row < 3 || is_logged {
+            log.push((prepared.number(), 10 * row, 100 * row));
+        }
+        if row < 3 {
+            prepared.install();
+        } // else the program stops here
+    }
+}
+
+#[test]
+fn a_program_that_stops_between_the_parts_has_what_it_logged() {
+    for (is_logged, wanted) in [(false, vec![100, 200, 3]), (true, vec![100, 200, 300])] {
+        let (store, folder, mut log) = (opened(), Folder::new(&format!("log-{is_logged}")), Log::new());
+        store.checkpoint(&folder.0).unwrap();
+        run_until(&store, &mut log, is_logged);
+        assert_eq!(vec![100, 200, 3], newest(&store)); // nothing of the last one was installed
+        drop(store);
+        let again = Store::recover(&folder.0, &Options::default()).unwrap();
+        for (number, key, qty) in log {
+            assert_eq!(number, setting(&again, key, qty).commit().unwrap());
+        }
+        assert_eq!(wanted, newest(&again));
+    }
+}
+
+#[test]
+fn others_commit_while_a_checkpoint_is_written() {
+    let (store, folder) = (opened(), Folder::new("written"));
+    setting(&store, 10, 5).commit().unwrap();
+    let open = setting(&store, 30, 8);
+    let mut checkpoint = store.begin_checkpoint().unwrap();
+    assert_eq!(1, checkpoint.number());
+    assert_eq!(Err(Error::Misuse), checkpoint.install());
+    thread::scope(|threads| {
+        threads.spawn(|| (1..=200).for_each(|qty| assert!(setting(&store, 20, qty).commit().is_ok())));
+        threads.spawn(|| checkpoint.write(&folder.0).unwrap());
+    });
+    assert_eq!(202, open.commit().unwrap());
+    checkpoint.install().unwrap();
+    assert_eq!((Err(Error::Misuse), Err(Error::Misuse)), (checkpoint.install(), checkpoint.write(&folder.0)));
+    drop(checkpoint);
+    let sizes = store.sizes();
+    assert_eq!((202, 2, 0), (sizes.commits, sizes.write_entries, sizes.read_entries));
+    assert_eq!(vec![5, 200, 8], newest(&store));
+    let again = Store::recover(&folder.0, &Options::default()).unwrap();
+    assert_eq!(vec![5, 2, 3], newest(&again));
+}
+
+#[test]
+fn a_fold_or_another_checkpoint_supersedes_a_checkpoint() {
+    let store = opened();
+    let (first, second) = (Folder::new("first"), Folder::new("second"));
+    setting(&store, 10, 5).commit().unwrap();
+    let mut old = store.begin_checkpoint().unwrap();
+    old.write(&first.0).unwrap();
+    let mut new = store.begin_checkpoint().unwrap();
+    assert_eq!(Err(Error::Superseded), old.install());
+    setting(&store, 20, 6).commit().unwrap();
+    new.write(&second.0).unwrap();
+    store.fold().unwrap();
+    assert_eq!(Err(Error::Superseded), new.install());
+    assert_eq!(vec![5, 6, 3], newest(&store));
+    for folder in [&first, &second] {
+        assert_eq!(vec![5, 2, 3], newest(&Store::recover(&folder.0, &Options::default()).unwrap()));
+    }
+}
