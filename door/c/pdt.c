@@ -876,10 +876,11 @@ int pdt_checkpoint_to(pdt_store *store, pdt_write write, void *context, size_t *
   uint8_t *chunk = malloc(CHUNK);
   if (!chunk) return PDT_NOMEM;
   handle image = {NULL};
-  int code = PDT_MISUSE;
-  if (!pthread_mutex_lock(&store->lock)) {
+  int code = enter(store);
+  if (!code) {
     code = (int)pdtr_checkpoint(&store->raw, &image);
-    pthread_mutex_unlock(&store->lock);
+    if (!code) store->rebuilt++;
+    leave(store);
   }
   if (!code) {
     char header[HEADER_BYTES];

@@ -285,6 +285,14 @@ static int prepare(pdt_store *store, const char *folder) {
   return (void)folder, code;
 }
 
+static int takes_all(void *context, size_t column, const uint8_t *bytes, size_t len) {
+  return (void)context, (void)column, (void)bytes, (void)len, 0;
+}
+
+static int checkpoint_to(pdt_store *store, const char *folder) {
+  return (void)folder, pdt_checkpoint_to(store, takes_all, NULL, NULL);
+}
+
 static void comes_between(const char *room) {
   static const struct {
     const char *name;
@@ -293,8 +301,9 @@ static void comes_between(const char *room) {
     long long qty;
   } cases[] = {
       {"fold", fold, PDT_SUPERSEDED, 2},          {"checkpoint", pdt_checkpoint, PDT_SUPERSEDED, 2},
-      {"another begin", begin, PDT_SUPERSEDED, 2}, {"cut", cut, PDT_OK, 2},
-      {"commit", commit, PDT_OK, 9},              {"prepare", prepare, PDT_OK, 2},
+      {"another begin", begin, PDT_SUPERSEDED, 2}, {"bytes", checkpoint_to, PDT_SUPERSEDED, 2},
+      {"cut", cut, PDT_OK, 2},                     {"commit", commit, PDT_OK, 9},
+      {"prepare", prepare, PDT_OK, 2},
   };
   for (size_t i = 0; i < sizeof cases / sizeof *cases; i++) {
     char folder[512], other[512], name[64];
