@@ -6,6 +6,8 @@ mod folds;
 mod keys;
 mod loads;
 mod lookups;
+mod marks;
+mod rebases;
 mod scans;
 mod sql;
 mod sql_transactions;
@@ -13,6 +15,7 @@ mod transactions;
 mod writes;
 
 use crate::table::Table;
+use rebases::Rebase;
 
 /// How large the tables are, and how often things are done.
 pub struct Size {
@@ -25,6 +28,8 @@ pub struct Size {
     pub entries: &'static [usize],
     /// The entries that are folded, and the entries of the Read-PDT into which they go.
     pub folds: &'static [(usize, usize)],
+    /// What stands between a transaction's begin and its commit.
+    pub rebases: &'static [Rebase],
     /// The calls of a turn.
     pub calls: usize,
     /// The calls of a turn where threads make them.
@@ -41,6 +46,13 @@ impl Size {
         tables: &[1_000, 10_000, 100_000, 1_000_000],
         entries: &[100, 1_000, 10_000, 100_000, 300_000],
         folds: &[(10, 100_000), (1_000, 100_000), (10_000, 100_000), (100_000, 100_000), (100_000, 10)],
+        rebases: &[
+            Rebase { own: 10, commits: 1, each: 1_000 },
+            Rebase { own: 10, commits: 1, each: 100_000 },
+            Rebase { own: 10_000, commits: 1, each: 100_000 },
+            Rebase { own: 100_000, commits: 1, each: 100_000 },
+            Rebase { own: 30_000, commits: 10_000, each: 1 },
+        ],
         calls: 10_000,
         thread_calls: 200_000,
         rounds: 7,
@@ -53,6 +65,7 @@ impl Size {
         tables: &[100, 5_000],
         entries: &[100, 2_000],
         folds: &[(10, 1_000), (500, 1_000), (1_000, 10)],
+        rebases: &[Rebase { own: 10, commits: 1, each: 1_000 }, Rebase { own: 300, commits: 100, each: 1 }],
         calls: 200,
         thread_calls: 2_000,
         rounds: 2,
@@ -73,15 +86,17 @@ pub struct Case {
     pub run: fn(&Size) -> Table,
 }
 
-pub const CASES: [Case; 12] = [
+pub const CASES: [Case; 14] = [
     Case { name: scans::NAME, run: scans::run },
     Case { name: keys::NAME, run: keys::run },
     Case { name: lookups::NAME, run: lookups::run },
     Case { name: writes::NAME, run: writes::run },
     Case { name: commits::NAME, run: commits::run },
+    Case { name: marks::NAME, run: marks::run },
     Case { name: begins::NAME, run: begins::run },
     Case { name: transactions::NAME, run: transactions::run },
     Case { name: folds::NAME, run: folds::run },
+    Case { name: rebases::NAME, run: rebases::run },
     Case { name: files::NAME, run: files::run },
     Case { name: loads::NAME, run: loads::run },
     Case { name: sql::NAME, run: sql::run },
