@@ -39,7 +39,7 @@ pub extern "C" fn pdtr_open_columns(
     place: &mut Place,
     store: &mut Store,
 ) -> u32
-    ensures { OpensColumns header.now
+    ensures opens { OpensColumns header.now
         (record { numbers = map (λ n. n.now) numbers.now; offsets = map (λ o. o.now) offsets.now; bytes = map (λ b. b.now) bytes.now })
         rows row_limit recent by_row result place.new store.old.value store.new.value }
 {

@@ -91,7 +91,7 @@ static void faults(void) {
   refused("offsets that descend", PDT_SHAPE, 6, NAME);
   offsets[7] = UINT64_MAX;
   refused("an offset past the bytes", PDT_SHAPE, 6, NAME);
-  offsets[7] = offsets[2] + 4097;
+  offsets[7] = offsets[6] + 4097;
   refused("a long text", PDT_SHAPE, 6, NAME);
   offsets[7] = end;
   columns[OK].rows = ROWS - 1;
