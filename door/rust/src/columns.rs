@@ -128,9 +128,12 @@ pub enum CheckpointError<E> {
     Other(Error),
 }
 
+/// What takes the bytes of a part of an image.
+type TakeBytes<'w, E> = dyn FnMut(ImagePart, &[u8]) -> Result<(), E> + 'w;
+
 /// A writer that is called from C, how it failed, and a panic that is not to pass through C.
 struct Writer<'w, E> {
-    write: &'w mut dyn FnMut(ImagePart, &[u8]) -> Result<(), E>,
+    write: &'w mut TakeBytes<'w, E>,
     failed: Option<(ImagePart, E)>,
     panic: Option<Box<dyn Any + Send>>,
 }
