@@ -615,7 +615,7 @@ int pdt_checkpoint(pdt_store *store, const char *folder) {
   code = enter(store);
   if (!code) {
     code = (int)pdtr_checkpoint(&store->raw, &image);
-    store->rebuilt++; /* whatever the code: the table may be the stable one although its bytes aren't made */
+    if (!code) store->rebuilt++;
     leave(store);
   }
   if (!code) {
@@ -879,7 +879,7 @@ int pdt_checkpoint_to(pdt_store *store, pdt_write write, void *context, size_t *
   int code = enter(store);
   if (!code) {
     code = (int)pdtr_checkpoint(&store->raw, &image);
-    store->rebuilt++; /* whatever the code: the table may be the stable one although its bytes aren't made */
+    if (!code) store->rebuilt++;
     leave(store);
   }
   if (!code) {

@@ -11,7 +11,7 @@ use crate::decision::Decision;
 use crate::store::Store;
 use crate::transaction::{OpenTxn, Transaction};
 use crate::{decision, store, transaction};
-use manager::Manager;
+use manager::{Manager, Prepared};
 use std::alloc::Global;
 use values::NoMemory;
 
@@ -99,8 +99,22 @@ pub extern "C" fn pdtr_install(
     let mut manager = store::take(alloc, store);
     let open = transaction::take(alloc, txn);
     let prepared = decision::take(alloc, decision);
-    let reply = manager.install(Box::into_inner(open).into_txn(), Box::into_inner(prepared));
+    let code = install(&mut manager, open, prepared, number);
     store::put(store, manager);
+    code
+}
+
+fn install(
+    manager: &mut Manager,
+    begun: Box<OpenTxn>,
+    prepared: Box<Prepared>,
+    number: &mut u64,
+) -> u32
+    requires own { IsOwn manager.old begun.value.txn }
+    requires prepared { IsPrepared manager.old begun.value.txn prepared.value }
+    ensures { (reply : CommitReply) × IsDecided manager.old begun.value.txn reply manager.new × (told reply ≡ (result, number.new)) }
+{
+    let reply = manager.install(Box::into_inner(begun).into_txn(), Box::into_inner(prepared));
     let (code, newest) = code_of_commit(reply);
     *number = newest;
     code
