@@ -54,6 +54,8 @@ use Rattle.publishing.proofs.seen.SeenList.TheSendSync as list
 use Rattle.shared.specs.declared.store.ImageStore as store
 use Rattle.shared.specs.contracts.locked.Locked as Locked
 use Rattle.shared.specs.contracts.locked.Locked.TheInside as locked
+use Rattle.shared.specs.contracts.publisher.Publisher as Publisher
+use Rattle.shared.specs.contracts.publisher.Publisher.TheInside as publisher
 use Rattle.shared.specs.contracts.session.Session as Session
 use Rattle.shared.specs.contracts.session.Session.TheInside as session
 use Rattle.shared.specs.contracts.shared.Shared as Shared
@@ -158,6 +160,12 @@ module _ (O : RattleType) (g : opening.Ghosts O.Denot) (h : ledger.Ghosts O.Deno
         ),
       ))
 
+  publisher_send : IsSend (Publisher.the_row O g h)
+  publisher_send = view_send _ _ _ _ _ (declared_send (publisher.the_type O g h) (
+    as_row_send (Head.the_field O g h) (head.the_send O g h),
+    (as_row_send SeenList.the_field list.the_send, (writer_place_send, tt)),
+  ))
+
 module _ (O S : RattleType) (g : opening.Ghosts O.Denot) (h : ledger.Ghosts O.Denot) (i : store.Ghosts S.Denot) (s : IsSend S) where
   locked_send : IsSend (Locked.the_row O S g h i)
   locked_send = view_send _ _ _ _ _ (declared_send (locked.the_type O S g h i) (
@@ -168,7 +176,7 @@ module _ (O S : RattleType) (g : opening.Ghosts O.Denot) (h : ledger.Ghosts O.De
         as_row_send (Book.the_field O h) (book.the_send O h),
         (
           as_row_send (Share.the_field O h) (share.the_send O h),
-          (as_row_send (Head.the_field O g h) (head.the_send O g h), (as_row_send SeenList.the_field list.the_send, (writer_place_send, tt))),
+          (as_row_send (Publisher.the_field O g h) (publisher_send O g h), tt),
         ),
       ),
     ),

@@ -12,7 +12,7 @@ use Rattle.txn.specs.Txn.{Transaction, effects_of}
 use Rattle.manager.specs.Managed.{Managed, IsOwn, commits_since, is_too_old, newest_number, newest_table, reply_due}
 use Rattle.publishing.specs.declared.item.Item.{Item}
 use Rattle.publishing.specs.Commits.{Commit, commit_of}
-use Rattle.publishing.specs.Lists.{Opened, Known, all_commits, number_in, IsBegun, IsListed}
+use Rattle.publishing.specs.Lists.{all_commits, number_in, IsBegun, IsListed}
 use Rattle.publishing.proofs.CallerLemmas.{begun_here, own_here, prefix_trans, prefix_length, prefix_get, all_commits-prefix, all_commits-push, begun_more, number_is, reply_here}
 use Rattle.shared.specs.Sessions.{HasNumber, IsReplied, StandsAt, number_of}
 use Rattle.shared.specs.Stands.{IsGrown}
@@ -104,24 +104,9 @@ module _ (o : Managed) where
       let more = number_prefix ys zs p in
       omega (arith, r.begun, r.caught_up, r.numbered, r.reached, more)
 
--- two numbers of lists of one opening
-pub numbers_held : (opening : Opened) (seen list : Known) → seen.opening ≡ opening → list.opening ≡ opening →
-    number_in seen.opening.manager seen.list ≤ number_in list.opening.manager list.list →
-    number_in opening.manager seen.list ≤ number_in opening.manager list.list
-numbers_held opening seen list of_seen of_list le =
-    let seen_number = ap (λ (k : Opened). number_in k.manager seen.list) of_seen in
-    let list_number = ap (λ (k : Opened). number_in k.manager list.list) of_list in
-    omega (arith, seen_number, list_number, le)
-
 -- who has seen more commits than the manager holds has seen more than were held at the opening
-pub more_than_held : (opening : Opened) (seen list : Known) → seen.opening ≡ opening → list.opening ≡ opening →
-    number_in list.opening.manager list.list < number_in seen.opening.manager seen.list →
-    number_in opening.manager [] < number_in opening.manager seen.list
-more_than_held opening seen list of_seen of_list lt =
-    let seen_number = ap (λ (k : Opened). number_in k.manager seen.list) of_seen in
-    let list_number = ap (λ (k : Opened). number_in k.manager list.list) of_list in
-    let le = number_prefix opening.manager [] list.list (list.list, refl) in
-    omega (arith, seen_number, list_number, le, lt)
+pub more_than_held : (o : Managed) (seen list : List Item) → number_in o list < number_in o seen → number_in o [] < number_in o seen
+more_than_held o seen list lt = let le = number_prefix o [] list (list, refl) in omega (arith, le, lt)
 
 -- a transaction that began in what was seen is the manager's, whose list is no shorter
 pub own_held : (o : Managed) (seen list both : List Item) (m : Managed) (txn : Transaction) → IsPrefix seen both → IsPrefix list both →

@@ -1,5 +1,8 @@
 //! What the contracts of sessions give together, as contracts of functions that do nothing.
+ghost use Rattle.manager.specs.Managed.{IsManaged};
 ghost use Rattle.shared.specs.Laws.{BeginsAfterItsCommits, KeepsWhatItHad};
+
+use manager::Manager;
 
 /// A client never begins twice at one number with a Committed between: it has seen its own commit.
 pub fn begins_after_its_commits()
@@ -11,3 +14,10 @@ pub fn begins_after_its_commits()
 pub fn keeps_what_it_had()
     ensures { KeepsWhatItHad }
 {}
+
+/// What a manager keeps at all times, for the proofs of its callers; it does nothing.
+pub(crate) fn kept(manager: &Manager)
+    ensures { IsManaged manager.now }
+{
+    let _ = manager.history();
+}

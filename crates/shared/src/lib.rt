@@ -12,6 +12,7 @@ mod calls;
 mod fault;
 mod laws;
 mod locked;
+mod publisher;
 mod session;
 mod shared;
 mod store;

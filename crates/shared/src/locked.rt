@@ -1,175 +1,26 @@
-//! What lies under the lock: the manager with its store, and the writer of what is published.
-ghost use Rattle.std.specs.Prelude.{◌≡◌, ◌+◌, ◌<◌, ◌≤◌, ◌^◌, ◌++◌, ◌∷◌, true, false, [], length, IfErr, IfOk, IfSome, IsSome, MatchResult, OnErr, OnOk, None, Some};
+//! What lies under the lock: the manager with its store, and what publishes its versions.
+ghost use Rattle.std.specs.Prelude.{◌≡◌, ◌+◌, ◌<◌, ◌≤◌, ◌^◌, [], IfErr, IfOk, MatchResult, OnErr, OnOk};
 ghost use mathlib.Core.List.{IsPrefix};
-ghost use Rattle.manager.specs.Managed.{HasFolded, IsDecided, IsManaged, IsOwn, cut_of, history_of, newest_number, newest_version, rebuilt_of, record_of, with_record};
+ghost use Rattle.manager.specs.Managed.{HasFolded, IsDecided, IsManaged, cut_of, history_of, newest_number, rebuilt_of};
 ghost use Rattle.txn.specs.Txn.{effects_of};
-ghost use Rattle.txn.specs.Version.{lower_table, table_version};
-ghost use Rattle.manager.specs.Prepared.{IsPrepared};
 ghost use Rattle.model.specs.History.{IsLegal};
-ghost use Rattle.publishing.specs.Lists.{IsBegun, IsCutAfter, IsListed, IsOfList, IsSame, IsShownAgain, layered_version, number_in, version_in, version_of_item, with_item};
-ghost use Rattle.publishing.specs.declared.item.Item.{Item};
+ghost use Rattle.publishing.specs.Lists.{IsBegun, IsCutAfter, IsListed, IsOfList, IsShownAgain, layered_version, number_in};
 ghost use Rattle.shared.specs.Endings.{GoesOn};
 ghost use Rattle.shared.specs.Generations.{IsAnswered};
 ghost use Rattle.shared.specs.Sessions.{IsReplied, number_of};
 ghost use Rattle.shared.specs.Stands.{IsGrown, IsShownAfter, IsShownBefore};
 
+use crate::laws::kept;
+use crate::publisher::Publisher;
 use crate::store::{ImageStore, exchange};
-use left_right::writer::Writer;
-use manager::{CheckpointFault, History, Manager, Prepared};
+use manager::{CheckpointFault, History, Manager};
 use model::CommitReply;
-use publishing::{Head, Item, Opening, Published, Publishing, SeenList, Sees, View};
+use publishing::{Opening, SeenList};
 use std::marker::Model;
-use std::snapshot::Snapshot;
 use std::sync::Wait;
 use std::sync::ledger::{Book, Share};
-use txn::{Txn, Version};
+use txn::Txn;
 use values::NoMemory;
-
-/// How many items are published at most.
-const MAX_ITEMS: u64 = (1 << 62) - 1;
-
-/// The writer of what is published.
-pub type VersionWriter = Writer<Published, Published, View, Publishing>;
-
-/// Publishes a version with one item more, which says so. At `Err` the same is published as before.
-fn publish<O: Opening, R: Wait>(
-    rt: &R,
-    head: &Head<O>,
-    list: &SeenList,
-    mut writer: VersionWriter,
-    version: Version,
-    item: Item,
-) -> (VersionWriter, Result<SeenList, NoMemory>)
-    requires shown { writer.desk.shown.value ≡ list.now }
-    requires opening { list.now.opening ≡ O.opened }
-    requires version { table_version version ≡ version_in O.opened.manager (list.now.list ++ item ∷ []) }
-    requires within { length (lower_table version.layers) ≤ O.opened.manager.start.limit }
-    requires room { length list.now.list < 2 ^ 62 }
-    requires item { version ≡ version_of_item item }
-    ensures { MatchResult result.1 (λ next. (next ≡ with_item list.now item) × (result.0.desk.shown.value ≡ next)) (λ _. result.0.desk.shown.value ≡ list.now) }
-{
-    let Some(next) = head.add(list, item, version.number()) else {
-        return (writer, Err(NoMemory));
-    };
-    let operation = Published::new(version, next.again());
-    let Ok(()) = writer.append(operation) else {
-        return (writer, Err(NoMemory));
-    };
-    match writer.publish_as::<Sees, R>(rt) {
-        (writer, Ok(())) => (writer, Ok(next)),
-        (writer, Err(_)) => (writer, Err(NoMemory)),
-    }
-}
-
-/// Puts the writer back.
-fn put_back(place: &mut Option<VersionWriter>, writer: VersionWriter)
-    requires { place.old ≡ None }
-    ensures { place.new ≡ Some writer }
-{
-    match place.replace(writer) {
-        None => {}
-        Some(_) => unreachable!(),
-    }
-}
-
-/// Publishes an item, and keeps the longer list. At `Err` nothing changes.
-fn show<O: Opening, R: Wait>(
-    rt: &R,
-    head: &Head<O>,
-    list: &mut SeenList,
-    place: &mut Option<VersionWriter>,
-    version: Version,
-    item: Item,
-) -> Result<(), NoMemory>
-    requires writer { IsSome place.old × IfSome place.old (λ w. w.desk.shown.value ≡ list.old) }
-    requires opening { list.old.opening ≡ O.opened }
-    requires version { table_version version ≡ version_in O.opened.manager (list.old.list ++ item ∷ []) }
-    requires within { length (lower_table version.layers) ≤ O.opened.manager.start.limit }
-    requires item { version ≡ version_of_item item }
-    ensures list { MatchResult result (λ _. list.new ≡ with_item list.old item) (λ _. list.new ≡ list.old) }
-    ensures writer { IsSome place.new × IfSome place.new (λ w. w.desk.shown.value ≡ list.new) }
-{
-    if list.len() >= MAX_ITEMS {
-        return Err(NoMemory);
-    }
-    let writer = place.take().unwrap();
-    match publish(rt, head, list, writer, version, item) {
-        (writer, Ok(next)) => {
-            put_back(place, writer);
-            *list = next;
-            Ok(())
-        }
-        (writer, Err(fault)) => {
-            put_back(place, writer);
-            Err(fault)
-        }
-    }
-}
-
-/// Publishes what a commit has prepared, where it is granted. At `Err` nothing changes.
-fn show_commit<O: Opening, R: Wait>(
-    rt: &R,
-    head: &Head<O>,
-    list: &mut SeenList,
-    place: &mut Option<VersionWriter>,
-    manager: &Manager,
-    txn: &Txn,
-    prepared: &Prepared,
-) -> Result<(), NoMemory>
-    requires writer { IsSome place.old × IfSome place.old (λ w. w.desk.shown.value ≡ list.old) }
-    requires opening { list.old.opening ≡ O.opened }
-    requires listed { IsListed O.opened.manager list.old.list manager.now }
-    requires own { IsOwn manager.now txn.now }
-    requires prepared { IsPrepared manager.now txn.now prepared.now }
-    ensures listed { OnOk result (IsListed O.opened.manager list.new.list (with_record manager.now (record_of txn.now prepared.now.reply))) }
-    ensures grown { OnOk result (IsGrown list.old.list list.new.list txn.now prepared.now.reply) }
-    ensures shown { OnOk result (IsShownAfter O.opened.manager manager.now.layers (effects_of txn.now) prepared.now.reply list.new.list) }
-    ensures opening { list.new.opening ≡ O.opened }
-    ensures err { OnErr result (list.new ≡ list.old) }
-    ensures writer { IsSome place.new × IfSome place.new (λ w. w.desk.shown.value ≡ list.new) }
-{
-    // What the two keep is wanted in the proof alone.
-    let (_, _) = (manager.history(), txn.begin());
-    let Some(version) = prepared.version() else {
-        return Ok(());
-    };
-    let copy = version.copy()?;
-    let shown = Snapshot::of(&copy);
-    let item = Item::Commits(Snapshot::of(txn), shown);
-    show(rt, head, list, place, copy, item)
-}
-
-/// Publishes this version, which is the newest one under other layers. At `Err` nothing changes.
-fn show_same<O: Opening, R: Wait>(
-    rt: &R,
-    head: &Head<O>,
-    list: &mut SeenList,
-    place: &mut Option<VersionWriter>,
-    manager: &Manager,
-    version: &Version,
-) -> Result<(), NoMemory>
-    requires writer { IsSome place.old × IfSome place.old (λ w. w.desk.shown.value ≡ list.old) }
-    requires opening { list.old.opening ≡ O.opened }
-    requires listed { IsListed O.opened.manager list.old.list manager.now }
-    requires version { table_version version.now ≡ newest_version manager.now }
-    ensures list { MatchResult result (λ _. (item : Item) × IsSame version.now item × (list.new ≡ with_item list.old item)) (λ _. list.new ≡ list.old) }
-    ensures listed { IsListed O.opened.manager list.new.list manager.now }
-    ensures writer { IsSome place.new × IfSome place.new (λ w. w.desk.shown.value ≡ list.new) }
-{
-    // What the manager keeps is wanted in the proof alone.
-    let _ = manager.history();
-    let copy = version.copy()?;
-    let shown = Snapshot::of(&copy);
-    show(rt, head, list, place, copy, Item::Same(shown))
-}
-
-/// Whether a session has seen more commits than the list has.
-fn has_seen_more(seen: &SeenList, list: &SeenList) -> bool
-    ensures yes { result ≡ true → number_in list.now.opening.manager list.now.list < number_in seen.now.opening.manager seen.now.list }
-    ensures no { result ≡ false → number_in seen.now.opening.manager seen.now.list ≤ number_in list.now.opening.manager list.now.list }
-{
-    seen.number() > list.number()
-}
 
 /// Counts a reply in the book and in the session's share, which is no greater than the book.
 fn count_reply<O: Opening>(book: &mut Book<O>, share: &mut Share<O>)
@@ -183,8 +34,8 @@ fn count_reply<O: Opening>(book: &mut Book<O>, share: &mut Share<O>)
     book.audit(share);
 }
 
-/// What lies under the lock: the manager, its store, and the writer of what is published. Contracts see the manager and
-/// the published list, whose commits, and whose start, are the manager's.
+/// What lies under the lock: the manager, its store, and what publishes. Contracts see the manager and the published list,
+/// whose commits, and whose start, are the manager's.
 pub struct Locked<O: Opening, S: ImageStore> {
     manager: Manager,
     store: S,
@@ -192,28 +43,23 @@ pub struct Locked<O: Opening, S: ImageStore> {
     book: Book<O>,
     /// What is left of the ledger once each session has its share.
     rest: Share<O>,
-    head: Head<O>,
-    list: SeenList,
-    /// Nothing only while it publishes.
-    writer: Option<VersionWriter>,
+    publisher: Publisher<O>,
 }
 
 impl<O: Opening, S: ImageStore> Model for Locked<O, S> {
-    ghost use Rattle.std.specs.Prelude.{◌≡◌, ◌+◌, IfSome, IsSome};
+    ghost use Rattle.std.specs.Prelude.{◌≡◌, ◌+◌};
     ghost use Rattle.publishing.specs.Lists.{IsListed};
     ghost use Rattle.shared.specs.Endings.{GoesOn};
     ghost use Rattle.shared.specs.Stands.{Stand};
 
     ghost Value = { Stand };
 
-    ghost view = { λ s. record { manager = s.manager; list = s.list.list; next = S.next s.store } };
+    ghost view = { λ s. record { manager = s.manager; list = s.publisher; next = S.next s.store } };
 
     ghost invariant = { λ s.
-        IsListed O.opened.manager s.list.list s.manager
-        × (s.list.opening ≡ O.opened)
+        IsListed O.opened.manager s.publisher s.manager
         × (s.manager.made ≡ O.opened.manager.made + s.book.total)
         × ((s.rest.parts ≡ 0) × (s.rest.amount ≡ 0))
-        × (IsSome s.writer × IfSome s.writer (λ w. w.desk.shown.value ≡ s.list))
         × (S.columns s.store ≡ s.manager.schema)
         × GoesOn O.opened.manager s.manager };
 }
@@ -234,12 +80,9 @@ impl<O: Opening, S: ImageStore> Locked<O, S> {
         store: S,
         book: Book<O>,
         rest: Share<O>,
-        head: Head<O>,
-        list: SeenList,
-        writer: VersionWriter,
+        publisher: Publisher<O>,
     ) -> Locked<O, S>
-        requires opening { (list.opening ≡ O.opened) × (list.list ≡ []) × (O.opened.manager ≡ manager) }
-        requires writer { writer.desk.shown.value ≡ list }
+        requires opening { (publisher ≡ []) × (O.opened.manager ≡ manager) }
         requires book { (book.total ≡ 0) × (rest.parts ≡ 0) × (rest.amount ≡ 0) }
         requires store { S.columns store ≡ manager.schema }
         ensures { (result.manager ≡ manager) × (result.list ≡ []) × (result.next ≡ S.next store) }
@@ -249,9 +92,7 @@ impl<O: Opening, S: ImageStore> Locked<O, S> {
             store,
             book,
             rest,
-            head,
-            list,
-            writer: Some(writer),
+            publisher,
         }
     }
 
@@ -294,24 +135,22 @@ impl<O: Opening, S: ImageStore> Locked<O, S> {
             store: _,
             book,
             rest: _,
-            head,
-            list,
-            writer,
+            publisher,
         } = self;
-        let both = seen.longer(list);
-        if has_seen_more(seen, list) {
+        let both = publisher.longer(seen);
+        if publisher.is_behind(seen) {
             return Err((txn, Refused::Stranger));
         }
         let Ok(prepared) = manager.prepare(&txn) else {
             return Err((txn, Refused::NoMemory));
         };
-        let Ok(()) = show_commit(rt, head, list, writer, manager, &txn, &prepared) else {
+        let Ok(()) = publisher.show_commit(rt, manager, &txn, &prepared) else {
             return Err((txn, Refused::NoMemory));
         };
         let reply = manager.install(txn, prepared);
         count_reply(book, share);
-        *seen = both.longer(list);
-        Ok((reply, list.again()))
+        *seen = publisher.longer(&both);
+        Ok((reply, publisher.list()))
     }
 
     /// Folds the Write-PDT into the Read-PDT, and publishes the same table under the manager's new layers.
@@ -329,12 +168,10 @@ impl<O: Opening, S: ImageStore> Locked<O, S> {
             store: _,
             book: _,
             rest: _,
-            head,
-            list,
-            writer,
+            publisher,
         } = self;
         let folded = manager.prepare_fold()?;
-        show_same(rt, head, list, writer, manager, folded.version())?;
+        publisher.show_same(rt, manager, folded.version())?;
         manager.install_fold(folded);
         Ok(())
     }
@@ -358,13 +195,11 @@ impl<O: Opening, S: ImageStore> Locked<O, S> {
             store,
             book: _,
             rest: _,
-            head,
-            list,
-            writer,
+            publisher,
         } = self;
         store.is_ready()?;
         let rebuilt = manager.prepare_checkpoint()?;
-        show_same(rt, head, list, writer, manager, rebuilt.version())?;
+        publisher.show_same(rt, manager, rebuilt.version())?;
         store.take(manager, rebuilt)
     }
 
@@ -386,15 +221,9 @@ impl<O: Opening, S: ImageStore> Locked<O, S> {
             store: _,
             book: _,
             rest: _,
-            head,
-            list,
-            writer,
+            publisher,
         } = self;
-        let version = manager.version().copy()?;
-        let _ = manager.history();
-        let base = version.number();
-        let shown = Snapshot::of(&version);
-        show(rt, head, list, writer, version, Item::Cuts(base, shown))?;
+        publisher.show_cut(rt, manager)?;
         let history = manager.cut();
         let _ = history.records();
         Ok(history)
@@ -416,9 +245,7 @@ impl<O: Opening, S: ImageStore> Locked<O, S> {
             store: held,
             book: _,
             rest: _,
-            head: _,
-            list: _,
-            writer: _,
+            publisher: _,
         } = self;
         exchange(held, store, manager.version().schema())
     }
@@ -441,12 +268,10 @@ impl<O: Opening, S: ImageStore> Locked<O, S> {
             store,
             book,
             rest,
-            head: _head,
-            list,
-            writer,
+            publisher,
         } = self;
-        let _ = manager.history();
-        writer.unwrap().take(rt);
+        kept(&manager);
+        let list = publisher.close(rt);
         (manager, store, book, rest, list)
     }
 }

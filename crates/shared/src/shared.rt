@@ -14,7 +14,9 @@ ghost use Rattle.shared.specs.declared.fault.CommitFault.TheVariants as commit_f
 ghost use Rattle.shared.specs.declared.fault.ShareFault.TheVariants as share_fault;
 
 use crate::fault::{CommitFault, ShareFault};
-use crate::locked::{Locked, VersionWriter};
+use crate::laws::kept;
+use crate::locked::Locked;
+use crate::publisher::{Publisher, VersionWriter};
 use crate::session::Session;
 use crate::store::ImageStore;
 use manager::{CheckpointFault, History, Manager};
@@ -73,7 +75,7 @@ fn published_at(manager: &Manager, list: &SeenList) -> Result<Published, NoMemor
     requires { (list.now.opening.manager ≡ manager.now) × (list.now.list ≡ []) }
     ensures { IfOk result (λ p. p ≡ list.now) }
 {
-    let _ = manager.history();
+    kept(manager);
     Ok(Published::new(manager.version().copy()?, list.again()))
 }
 
@@ -212,7 +214,8 @@ pub fn open<O: Opening, S: ImageStore, R: Wait>(
     let (book, mut rest) = blank.open::<O>();
     match sessions_of(alloc, clients, row_limit, &mut writer, &list, &mut rest) {
         Ok(sessions) => {
-            let state = Mutex::new(Locked::new(manager, store, book, rest, head, list, writer));
+            let publisher = Publisher::new(head, list, writer);
+            let state = Mutex::new(Locked::new(manager, store, book, rest, publisher));
             Ok((Shared { state, counts }, sessions))
         }
         Err(fault) => {

@@ -18,7 +18,7 @@ new-requires-clause-within c =
     let m = c.args.manager.now in
     let same = ap (λ (k : Known). k.opening.manager.start.limit) c.again.ensures ∙ ap (λ (o : Managed). o.start.limit) c.requires.0 in
     let rows = ap (λ (v : TableVersion). length v.table) (ap table_version c.in_ok-copy.ensures ∙ c.version.ensures.table) in
-    let within = newest_within m c.history.ensures.lawful in
+    let within = newest_within m c.kept.ensures in
     omega (arith, same, rows, within)
 
 pub new-requires-clause-shown : goal.new-requires-clause-shown

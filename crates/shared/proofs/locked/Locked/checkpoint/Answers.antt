@@ -2,7 +2,7 @@ use Rattle.std.proofs.Common.{◌≡◌, refl, sym, ap, ◌∙◌, subst}
 use Rattle.std.specs.Prelude.{MatchResult}
 use Rattle.txn.specs.Version.{LayeredVersion, Lower, alone, numbered}
 use Rattle.manager.specs.Managed.{Managed, newest_number, newest_stable, rebuilt_of}
-use Rattle.publishing.specs.Lists.{Known, IsListed, IsSame, layered_version}
+use Rattle.publishing.specs.Lists.{IsListed, IsShownAgain, layered_version}
 use Rattle.publishing.proofs.CallerLemmas.{listed_over}
 use Rattle.shared.specs.Endings.{GoesOn}
 use Rattle.shared.specs.Stands.{IsShownBefore, Stand}
@@ -16,18 +16,16 @@ invariant_of-self-2 g c =
     let i = c.self.invariant in
     let m = c.self.inside.manager in
     let shown = c.in_ok-show_same.ensures in
-    let list = c.show_same.new.list.list in
+    let list = c.show_same.new.self in
     let layers = alone (newest_stable m) in
     let Kept = λ (n : Managed). IsListed o list n × (n.made ≡ m.made) × (n.schema ≡ m.schema) × GoesOn o n in
     let kept = either_way _ _ (Kept c.take.new.manager) c.take.result c.take.ensures.manager
-    (λ (is : c.take.new.manager ≡ rebuilt_of m). subst Kept (sym is) (listed_over o list m layers shown.listed, refl, refl, goes_on-over o m i.6 layers))
-    (λ (is : c.take.new.manager ≡ m). subst Kept (sym is) (shown.listed, refl, refl, i.6)) in (
+    (λ (is : c.take.new.manager ≡ rebuilt_of m). subst Kept (sym is) (listed_over o list m layers shown.listed, refl, refl, goes_on-over o m i.4 layers))
+    (λ (is : c.take.new.manager ≡ m). subst Kept (sym is) (shown.listed, refl, refl, i.4)) in (
       kept.0,
-      ap (λ (k : Known). k.opening) shown.list.2 ∙ i.1,
-      kept.1 ∙ i.2,
-      i.3,
-      shown.writer,
-      c.take.ensures.columns ∙ i.5 ∙ sym kept.2,
+      kept.1 ∙ i.1,
+      i.2,
+      c.take.ensures.columns ∙ i.3 ∙ sym kept.2,
       kept.3,
     )
 
@@ -45,6 +43,6 @@ returns-clause-list g c =
     c.version.ensures
     ∙ rebuilt.layers_are
     ∙ ap (λ (l : Lower). numbered l (newest_number m)) rebuilt.emptied in
-    subst (λ (s : Stand). IsShownBefore s.list (layered_version (rebuilt_of s.manager)) c.take.result c.show_same.new.list.list) c.self.view_is
-    (shown_before c.self.inside.list.list c.show_same.new.list.list (layered_version (rebuilt_of m)) c.take.result
-    (shown.0, subst (λ (v : LayeredVersion). IsSame v shown.0) version shown.1, ap (λ (k : Known). k.list) shown.2))
+    subst (λ (s : Stand). IsShownBefore s.list (layered_version (rebuilt_of s.manager)) c.take.result c.show_same.new.self) c.self.view_is
+    (shown_before c.self.inside.publisher c.show_same.new.self (layered_version (rebuilt_of m)) c.take.result
+    (subst (λ (v : LayeredVersion). IsShownAgain c.self.inside.publisher v c.show_same.new.self) version shown))

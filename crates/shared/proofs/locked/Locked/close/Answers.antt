@@ -8,7 +8,7 @@ pub returns-clause-manager : goal.returns-clause-manager
 returns-clause-manager g c = ap (λ (s : Stand). s.manager) c.self.view_is
 
 pub returns-clause-lawful : goal.returns-clause-lawful
-returns-clause-lawful g c = c.history.ensures.lawful
+returns-clause-lawful g c = c.kept.ensures
 
 pub returns-clause-listed : goal.returns-clause-listed
 returns-clause-listed g c =
@@ -17,4 +17,4 @@ returns-clause-listed g c =
     subst (λ (l : List Item). IsListed o l m) (ap (λ (s : Stand). s.list) c.self.view_is) c.self.invariant.0
 
 pub returns-clause-goes_on : goal.returns-clause-goes_on
-returns-clause-goes_on g c = c.self.invariant.6
+returns-clause-goes_on g c = c.self.invariant.4

@@ -2,25 +2,24 @@ use Rattle.std.proofs.Common.{sym, ap, ◌∙◌, subst, arith}
 use Rattle.model.specs.declared.write.CommitReply.{CommitReply}
 use Rattle.manager.specs.Managed.{Managed, record_of, with_record}
 use Rattle.txn.specs.Txn.{effects_of}
-use Rattle.publishing.specs.Lists.{Known, IsListed, number_in}
+use Rattle.publishing.specs.Lists.{IsListed, number_in}
 use Rattle.publishing.proofs.CallerLemmas.{listed_over}
 use Rattle.shared.specs.Endings.{GoesOn}
 use Rattle.shared.specs.Stands.{IsGrown, IsShownAfter, Stand}
 use Rattle.shared.proofs.EndingLemmas.{goes_on-over, goes_on-record}
-use Rattle.shared.proofs.RepliesLemmas.{more_than_held, numbers_held, own_held, reached_by, replied}
+use Rattle.shared.proofs.RepliesLemmas.{more_than_held, own_held, reached_by, replied}
 use Rattle.shared.proofs.locked.Locked.commit.Goals as goal
 
-pub returns-then-has_seen_more-clause-stranger : goal.returns-then-has_seen_more-clause-stranger
-returns-then-has_seen_more-clause-stranger g c =
-    let more = c.has_seen_more.ensures.yes c.if-has_seen_more.true in
-    λ is. more_than_held g.O.Opening.opened c.args.seen.now c.self.inside.list c.requires.seen.0 c.self.invariant.1 more
+pub returns-then-is_behind-clause-stranger : goal.returns-then-is_behind-clause-stranger
+returns-then-is_behind-clause-stranger g c =
+    let more = c.is_behind.ensures.yes c.if-is_behind.true in
+    λ is. more_than_held g.O.Opening.opened.manager c.args.seen.now.list c.self.inside.publisher more
 
 pub prepare-requires : goal.prepare-requires
 prepare-requires g c =
     let i = c.self.invariant in
     let both = c.longer-both in
-    let no = c.has_seen_more.ensures.no c.if-has_seen_more.false in
-    let le = numbers_held g.O.Opening.opened c.args.seen.now c.self.inside.list c.requires.seen.0 i.1 no in
+    let le = c.is_behind.ensures.no c.if-is_behind.false in
     record {
       own = own_held g.O.Opening.opened.manager _ _ both.result.list c.self.inside.manager c.args.txn both.ensures.this both.ensures.that le i.0 c.requires.seen.1;
     }
@@ -29,27 +28,24 @@ pub show_commit-requires-clause-own : goal.show_commit-requires-clause-own
 show_commit-requires-clause-own g c =
     let i = c.self.invariant in
     let both = c.longer-both in
-    let no = c.has_seen_more.ensures.no c.if-has_seen_more.false in
-    let le = numbers_held g.O.Opening.opened c.args.seen.now c.self.inside.list c.requires.seen.0 i.1 no in
+    let le = c.is_behind.ensures.no c.if-is_behind.false in
     own_held g.O.Opening.opened.manager _ _ both.result.list c.self.inside.manager c.args.txn both.ensures.this both.ensures.that le i.0 c.requires.seen.1
 
 pub install-reply-requires-clause-own : goal.install-reply-requires-clause-own
 install-reply-requires-clause-own g c =
     let i = c.self.invariant in
     let both = c.longer-both in
-    let no = c.has_seen_more.ensures.no c.if-has_seen_more.false in
-    let le = numbers_held g.O.Opening.opened c.args.seen.now c.self.inside.list c.requires.seen.0 i.1 no in
+    let le = c.is_behind.ensures.no c.if-is_behind.false in
     own_held g.O.Opening.opened.manager _ _ both.result.list c.self.inside.manager c.args.txn both.ensures.this both.ensures.that le i.0 c.requires.seen.1
 
 pub returns-clause-replied : goal.returns-clause-replied
 returns-clause-replied g c =
     let o = g.O.Opening.opened.manager in
     let i = c.self.invariant in
-    let ys = c.self.inside.list.list in
-    let zs = c.show_commit.new.list.list in
+    let ys = c.self.inside.publisher in
+    let zs = c.show_commit.new.self in
     let reply = c.install-reply.result in
-    let no = c.has_seen_more.ensures.no c.if-has_seen_more.false in
-    let le = numbers_held g.O.Opening.opened c.args.seen.now c.self.inside.list c.requires.seen.0 i.1 no in
+    let le = c.is_behind.ensures.no c.if-is_behind.false in
     let due = c.install-reply.ensures.decided.due in
     let same = c.in-Ok.ensures.prepared.due ∙ sym due in
     let grown = subst (λ (r : CommitReply). IsGrown ys zs c.args.txn r) same c.in-Ok-show_commit.ensures.grown in
@@ -59,13 +55,13 @@ returns-clause-replied g c =
 pub returns-clause-reached : goal.returns-clause-reached
 returns-clause-reached g c =
     let o = g.O.Opening.opened.manager in
-    let ys = c.self.inside.list.list in
-    let zs = c.show_commit.new.list.list in
+    let ys = c.self.inside.publisher in
+    let zs = c.show_commit.new.self in
     let reply = c.install-reply.result in
     let due = c.install-reply.ensures.decided.due in
     let same = c.in-Ok.ensures.prepared.due ∙ sym due in
     let grown = subst (λ (r : CommitReply). IsGrown ys zs c.args.txn r) same c.in-Ok-show_commit.ensures.grown in
-    let told = ap (λ (k : Known). number_in o k.list) c.again.ensures in
+    let told = ap (number_in o) c.list.ensures.list in
     let reached = reached_by o ys zs c.self.inside.manager c.args.txn reply c.self.invariant.0 due grown in
     omega (arith, told, reached)
 
@@ -80,29 +76,27 @@ invariant_of-self-2 g c =
     let layers = c.install-reply.new.self.layers in
     let same = c.in-Ok.ensures.prepared.due ∙ sym c.install-reply.ensures.decided.due in
     let shown = c.in-Ok-show_commit.ensures in
-    let list = c.show_commit.new.list.list in
+    let list = c.show_commit.new.self in
     let listed = subst (λ (r : CommitReply). IsListed o list (with_record m (record_of txn r))) same shown.listed in
     let made = ap (λ (n : Managed). n.made) kept in (
       subst (λ (n : Managed). IsListed o list n) (sym kept) (listed_over o list (with_record m (record_of txn reply)) layers listed),
-      shown.opening,
-      omega (arith, made, i.2, c.count_reply.ensures.total),
-      i.3,
-      shown.writer,
-      i.5 ∙ sym (ap (λ (n : Managed). n.schema) kept),
-      subst (λ (n : Managed). GoesOn o n) (sym kept) (goes_on-over o (with_record m (record_of txn reply)) (goes_on-record o m i.6 (record_of txn reply)) layers),
+      omega (arith, made, i.1, c.count_reply.ensures.total),
+      i.2,
+      i.3 ∙ sym (ap (λ (n : Managed). n.schema) kept),
+      subst (λ (n : Managed). GoesOn o n) (sym kept) (goes_on-over o (with_record m (record_of txn reply)) (goes_on-record o m i.4 (record_of txn reply)) layers),
     )
 
 pub returns-clause-grown : goal.returns-clause-grown
 returns-clause-grown g c =
-    let zs = c.show_commit.new.list.list in
+    let zs = c.show_commit.new.self in
     let same = c.in-Ok.ensures.prepared.due ∙ sym c.install-reply.ensures.decided.due in
-    let grown = subst (λ (r : CommitReply). IsGrown c.self.inside.list.list zs c.args.txn r) same c.in-Ok-show_commit.ensures.grown in
+    let grown = subst (λ (r : CommitReply). IsGrown c.self.inside.publisher zs c.args.txn r) same c.in-Ok-show_commit.ensures.grown in
     subst (λ (s : Stand). IsGrown s.list zs c.args.txn c.install-reply.result) c.self.view_is grown
 
 pub returns-clause-shown : goal.returns-clause-shown
 returns-clause-shown g c =
     let o = g.O.Opening.opened.manager in
-    let zs = c.show_commit.new.list.list in
+    let zs = c.show_commit.new.self in
     let x = effects_of c.args.txn in
     let same = c.in-Ok.ensures.prepared.due ∙ sym c.install-reply.ensures.decided.due in
     let shown = subst (λ (r : CommitReply). IsShownAfter o c.self.inside.manager.layers x r zs) same c.in-Ok-show_commit.ensures.shown in

@@ -1,7 +1,7 @@
 use Rattle.std.proofs.Common.{◌≡◌, sym, ap, ◌∙◌, subst}
 use Rattle.manager.specs.Managed.{Managed, HasFolded}
 use Rattle.manager.proofs.CallerLemmas.{has_folded}
-use Rattle.publishing.specs.Lists.{Known, IsListed, IsSame, IsShownAgain, layered_version}
+use Rattle.publishing.specs.Lists.{IsListed, IsShownAgain, layered_version}
 use Rattle.txn.specs.Version.{LayeredVersion}
 use Rattle.publishing.proofs.CallerLemmas.{listed_over}
 use Rattle.shared.specs.Endings.{GoesOn}
@@ -16,15 +16,13 @@ invariant_of-self-2 g c =
     let m = c.self.inside.manager in
     let layers = c.in_ok-folded.folded.layers in
     let shown = c.in_ok-show_same.ensures in
-    let list = c.show_same.new.list.list in
+    let list = c.show_same.new.self in
     let next = c.install_fold.ensures in (
       subst (λ (n : Managed). IsListed o list n) (sym next) (listed_over o list m layers shown.listed),
-      ap (λ (k : Known). k.opening) shown.list.2 ∙ i.1,
-      ap (λ (n : Managed). n.made) next ∙ i.2,
-      i.3,
-      shown.writer,
-      i.5 ∙ sym (ap (λ (n : Managed). n.schema) next),
-      subst (λ (n : Managed). GoesOn o n) (sym next) (goes_on-over o m i.6 layers),
+      ap (λ (n : Managed). n.made) next ∙ i.1,
+      i.2,
+      i.3 ∙ sym (ap (λ (n : Managed). n.schema) next),
+      subst (λ (n : Managed). GoesOn o n) (sym next) (goes_on-over o m i.4 layers),
     )
 
 pub returns-clause-manager : goal.returns-clause-manager
@@ -37,5 +35,5 @@ returns-clause-list g c =
     let shown = c.in_ok-show_same.ensures.list in
     let new = c.install_fold.new.self in
     let version : c.version.result.now ≡ layered_version new = c.version.ensures ∙ c.in_ok-folded.ensures.layers_are ∙ sym (ap layered_version c.install_fold.ensures) in
-    subst (λ (s : Stand). IsShownAgain s.list (layered_version new) c.show_same.new.list.list) c.self.view_is
-    (shown.0, subst (λ (v : LayeredVersion). IsSame v shown.0) version shown.1, ap (λ (k : Known). k.list) shown.2)
+    subst (λ (s : Stand). IsShownAgain s.list (layered_version new) c.show_same.new.self) c.self.view_is
+    (subst (λ (v : LayeredVersion). IsShownAgain c.self.inside.publisher v c.show_same.new.self) version shown)

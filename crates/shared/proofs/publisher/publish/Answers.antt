@@ -1,7 +1,7 @@
 use Rattle.std.proofs.Common.{drop, sym, ap, ◌∙◌}
 use Rattle.publishing.specs.Lists.{Known, shown_in}
 use Rattle.publishing.proofs.CallerLemmas.{sees, grows, shown_in-push}
-use Rattle.shared.proofs.locked.publish.Goals as goal
+use Rattle.shared.proofs.publisher.publish.Goals as goal
 
 pub publish_as-requires : goal.publish_as-requires
 publish_as-requires g c next is =
