@@ -2,5 +2,6 @@ mod WordSteps
 mod CellLemmas
 mod MarkLemmas
 mod NumberLemmas
+mod TextLemmas
 mod EntryLemmas
 mod FillingLemmas

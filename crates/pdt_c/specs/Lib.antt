@@ -6,6 +6,7 @@ pub mod Writes
 pub mod Marks
 pub mod Reads
 pub mod Numbers
+pub mod Texts
 pub mod Stored
 pub mod Entries
 pub mod Filling

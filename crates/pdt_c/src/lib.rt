@@ -34,6 +34,7 @@ mod rows;
 mod scans;
 mod snapshot;
 mod store;
+mod texts;
 mod transaction;
 mod versions;
 mod writes;
