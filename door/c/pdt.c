@@ -69,6 +69,7 @@ extern uint32_t pdtr_get(handle *, const int64_t *, size_t, const uint8_t *, siz
 extern uint32_t pdtr_row_at(handle *, uint64_t, int64_t *, size_t, uint8_t *, size_t, size_t *);
 extern size_t pdtr_cells(handle *, size_t, uint64_t, int64_t *, size_t, uint8_t *, size_t, size_t *);
 extern size_t pdtr_ints(handle *, size_t, uint64_t, int64_t *, size_t);
+extern size_t pdtr_texts(handle *, size_t, uint64_t, const char **, size_t, int64_t *, size_t);
 extern size_t pdtr_pieces(handle *, size_t, uint64_t, uint64_t, pdt_piece *, size_t, uint64_t *);
 
 extern uint32_t pdtr_read_layer(handle *, handle *);
@@ -117,6 +118,7 @@ static void leave(pdt_store *store) { pthread_mutex_unlock(&store->lock); }
 static const uint8_t no_bytes[1];
 static uint8_t no_room[1];
 static int64_t no_numbers[1];
+static const char *no_texts[1];
 static pdt_piece no_pieces[1];
 
 static const uint8_t *bytes_at(const void *bytes, size_t len) { return len ? bytes : no_bytes; }
@@ -436,6 +438,12 @@ int pdt_cells(pdt_txn *txn, size_t column, uint64_t from, int64_t *numbers, size
 int pdt_ints(pdt_txn *txn, size_t column, uint64_t from, int64_t *numbers, size_t *count) {
   if (!txn || !count || (!numbers && *count)) return PDT_MISUSE;
   *count = pdtr_ints(&txn->raw, column, from, *count ? numbers : no_numbers, *count);
+  return PDT_OK;
+}
+
+int pdt_texts(pdt_txn *txn, size_t column, uint64_t from, const char **texts, int64_t *lens, size_t *count) {
+  if (!txn || !count || ((!texts || !lens) && *count)) return PDT_MISUSE;
+  *count = pdtr_texts(&txn->raw, column, from, *count ? texts : no_texts, *count, *count ? lens : no_numbers, *count);
   return PDT_OK;
 }
 

@@ -10,7 +10,7 @@
 
    Memory. Every call that can want memory answers PDT_NOMEM where malloc refuses it, and then the table, the transaction
    and the history are as they were. No call aborts. What a call writes goes into room that the caller owns; only what
-   pdt_pieces hands out is the library's, and stays where it is until the next write on its transaction, or its end.
+   pdt_pieces and pdt_texts hand out is the library's, and stays where it is for as long as each of them says.
 
    Errors. A call that can fail returns a code; PDT_OK is 0. PDT_MISUSE is told of what can be seen: a null pointer where
    none may be, a store that is closed while transactions are open, a call on a store of which this thread has a commit
@@ -250,7 +250,7 @@ int pdt_set(pdt_txn *txn, const int64_t *key, const void *texts, size_t bytes, s
 int pdt_mark(pdt_txn *txn, size_t *level);
 
 /* Undoes the writes since the mark of a level, as if they had never been asked for: a commit records none of them. The mark
-   stays, and those after it are gone. What pdt_pieces has handed out may be read on.
+   stays, and those after it are gone. What pdt_pieces has handed out may be read on, and what pdt_texts has may not.
    PDT_MISSING where there is no mark of the level, PDT_MISUSE: nothing changed.
    It takes no memory. PDT_NOMEM would say that one tree has 2^64 owners. */
 int pdt_back_to(pdt_txn *txn, size_t level);
@@ -285,6 +285,14 @@ int pdt_cells(pdt_txn *txn, size_t column, uint64_t from, int64_t *numbers, size
 /* The numbers of an int column from a position on, copied: up to *count of them. *count says how many came: none of a
    column of another type. PDT_MISUSE. */
 int pdt_ints(pdt_txn *txn, size_t column, uint64_t from, int64_t *numbers, size_t *count);
+
+/* The texts of a text column from a position on, where they lie: up to *count addresses into texts, and as many lengths in
+   bytes into lens. *count says how many came: none of a column of another type. No byte is copied. PDT_MISUSE.
+   A text has no zero byte at its end, and may have zero bytes inside. The address of an empty one isn't null, and nothing
+   is read there.
+   They lie in the stable table or, of a changed row, in an entry over it: any thread may read them until the next write,
+   pdt_back_to or pdt_commit on the transaction, or its end. */
+int pdt_texts(pdt_txn *txn, size_t column, uint64_t from, const char **texts, int64_t *lens, size_t *count);
 
 /* Numbers that stand together: count of them from at on, or the one in number where at is null. */
 typedef struct pdt_piece {

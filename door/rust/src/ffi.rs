@@ -204,6 +204,14 @@ unsafe extern "C" {
         room: usize,
         bytes: *mut usize,
     ) -> c_int;
+    pub fn pdt_texts(
+        txn: *mut Txn,
+        column: usize,
+        from: u64,
+        texts: *mut *const c_char,
+        lens: *mut i64,
+        count: *mut usize,
+    ) -> c_int;
     pub fn pdt_pieces(
         txn: *mut Txn,
         column: usize,

@@ -52,7 +52,19 @@
 //! # Ok::<(), Error>(())
 //! ```
 //!
-//! nor lend numbers for longer than it is there itself:
+//! and neither does a text that is lent:
+//!
+//! ```compile_fail,E0502
+//! # use narthexmace::{Error, Options, Store};
+//! # let store = Store::open("id:int:key,name:text\n10,Ann\n", &Options::default())?;
+//! let mut txn = store.begin(1)?;
+//! let names = txn.texts(1, ..)?;
+//! txn.set([10], 1, "Bob")?;
+//! println!("{}", names[0]);
+//! # Ok::<(), Error>(())
+//! ```
+//!
+//! A batch can't lend numbers for longer than it is there itself:
 //!
 //! ```compile_fail,E0597
 //! # use narthexmace::{Error, Options, Piece, Store};
@@ -123,6 +135,7 @@ mod ffi;
 mod marks;
 mod prepared;
 mod store;
+mod texts;
 mod transaction;
 
 pub use batch::{Batch, Batches, Ints, Piece, Texts, Values};

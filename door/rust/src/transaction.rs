@@ -3,7 +3,7 @@ use crate::batch::{Batch, Batches};
 use crate::cells::{Passed, filled, row_of};
 use crate::error::done;
 use crate::marks::{Mark, Marks};
-use crate::{CellRef, CommitError, Error, Prepared, Row, Store, ffi};
+use crate::{CellRef, CommitError, Error, Prepared, Row, Store, ffi, texts};
 use std::ffi::{c_int, c_void};
 use std::fmt;
 use std::mem::{ManuallyDrop, take};
@@ -25,7 +25,7 @@ pub struct Rank {
 /// An open transaction. It reads the table as it was when it began, with its own writes; positions count from 0. One
 /// that is dropped is aborted. It may be sent to another thread, and is used by one at a time.
 ///
-/// Writes want it for themselves (`&mut self`), so that what a [`Batch`] borrows stays where it is.
+/// Writes want it for themselves (`&mut self`), so that what a [`Batch`] or a text borrows stays where it is.
 ///
 /// A row and a key are given as anything that iterates over cells: `[10]`, [`cells!`](crate::cells), a `&Row`.
 pub struct Transaction<'s> {
@@ -251,6 +251,23 @@ impl<'s> Transaction<'s> {
     ) -> Result<Batches<'_>, Error> {
         let (from, to) = self.within(positions);
         Batches::over(self, columns, from, to, rows)
+    }
+
+    /// The texts of a text column between two positions, cut to the end of the table, each lent where it lies: no byte is
+    /// copied, and no write, commit or abort of the transaction compiles while one is there. [`Error::Shape`] of a column
+    /// that isn't there or isn't one of texts, [`Error::NoMemory`].
+    ///
+    /// ```
+    /// use narthexmace::{Error, Options, Store};
+    /// let store = Store::open("id:int:key,name:text\n10,Ann\n20,Bob\n30,\n", &Options::default())?;
+    /// let mut txn = store.begin(1)?;
+    /// txn.set([20], 1, "Rob")?;
+    /// assert_eq!(vec!["Rob", ""], txn.texts(1, 1..)?);
+    /// # Ok::<(), Error>(())
+    /// ```
+    pub fn texts(&self, column: usize, positions: impl RangeBounds<u64>) -> Result<Vec<&str>, Error> {
+        let (from, to) = self.within(positions);
+        texts::lent(self, column, from, to)
     }
 
     fn key<'c, C: Into<CellRef<'c>>>(&self, key: impl IntoIterator<Item = C>) -> Result<Passed, Error> {

@@ -123,7 +123,7 @@ impl Run {
 }
 
 const TABLE: &str = "id:int:key,name:text,ok:bool,qty:int\n10,Ann,false,1\n20,Bob,true,2\n30,Cid,true,3\n";
-const CALLS: [&str; 18] = [
+const CALLS: [&str; 19] = [
     "open",
     "begin",
     "mark",
@@ -134,6 +134,7 @@ const CALLS: [&str; 18] = [
     "row_at",
     "batch",
     "batches",
+    "texts",
     "commit",
     "prepare",
     "fold",
@@ -165,6 +166,7 @@ fn read(run: &mut Run, txn: &Transaction<'_>, long: &str) {
     let row = run.made("get", || txn.get([10])).unwrap();
     assert_eq!(Some(long), row[1].as_text());
     assert_eq!(row, run.made("row_at", || txn.row_at(0)).unwrap());
+    assert_eq!(vec![long, long, "Cid"], run.made("texts", || txn.texts(1, ..)));
     let batch = run.made("batch", || txn.batch(&[0, 1, 2], ..));
     assert_eq!(vec![10, 15, 30], batch.ints(0).unwrap().iter().collect::<Vec<i64>>());
     assert_eq!(vec![long, long, "Cid"], batch.texts(1).unwrap().iter().collect::<Vec<&str>>());

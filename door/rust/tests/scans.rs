@@ -1,5 +1,5 @@
 //! Batches over a table of several blocks in which rows were changed, inserted and deleted, beside the rows as a list.
-use narthexmace::{Options, Piece, Store, Transaction, cells};
+use narthexmace::{Error, Options, Piece, Store, Transaction, cells};
 use std::ops::{Bound, RangeBounds};
 
 const ROWS: i64 = 5000;
@@ -79,6 +79,32 @@ fn batches_have_the_rows_as_a_transaction_changed_them() {
     assert_eq!(wanted, read(&store.begin(1).unwrap(), .., 4096));
     store.fold().unwrap();
     assert_eq!(wanted, read(&store.begin(1).unwrap(), .., 4096));
+}
+
+#[test]
+fn texts_are_lent_as_a_transaction_changed_them() {
+    let store = opened();
+    let mut txn = store.begin(1).unwrap();
+    change(&mut txn);
+    let wanted: Vec<String> = wanted().into_iter().map(|line| line.2).collect();
+    assert_eq!(wanted, txn.texts(2, ..).unwrap());
+    assert_eq!(wanted[1000..1100], txn.texts(2, 1000..1100).unwrap());
+    txn.commit().unwrap();
+    let reader = store.begin(1).unwrap();
+    let texts = reader.texts(2, ..).unwrap();
+    store.fold().unwrap();
+    assert_eq!(wanted, texts);
+    assert!(reader.texts(2, reader.rows()..).unwrap().is_empty());
+    assert_eq!([Err(Error::Shape), Err(Error::Shape)], [reader.texts(1, ..), reader.texts(4, ..)]);
+}
+
+#[test]
+fn texts_of_rows_that_have_not_changed_lie_side_by_side() {
+    let store = opened();
+    let txn = store.begin(1).unwrap();
+    let texts = txn.texts(2, 1..4).unwrap();
+    assert_eq!(texts[0].as_bytes().as_ptr_range().end, texts[1].as_ptr());
+    assert_eq!(texts[1].as_ptr(), txn.texts(2, 2..).unwrap()[0].as_ptr());
 }
 
 #[test]
