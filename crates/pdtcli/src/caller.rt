@@ -78,8 +78,8 @@ impl Caller {
         let ClientCall { client, call } = asked;
         match call {
             Call::Begin => self.begin(client, manager),
-            Call::Write(write) => self.write(write),
-            Call::Read(read) => self.read(client, &read, lines, left),
+            Call::Write(wanted) => self.write(wanted),
+            Call::Read(wanted) => self.read(client, &wanted, lines, left),
             Call::Commit => self.commit(manager),
             Call::Abort => self.abort(),
             Call::Fold => fold(manager),

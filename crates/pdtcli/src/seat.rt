@@ -39,8 +39,8 @@ pub(crate) fn serve<O: Opening, S: ImageStore, R: Wait>(
 {
     match &asked.call {
         Call::Begin => begin(session),
-        Call::Write(write) => write_down(session, write),
-        Call::Read(read) => look(session, asked.client, read, lines, left),
+        Call::Write(wanted) => write(session, wanted),
+        Call::Read(wanted) => read(session, asked.client, wanted, lines, left),
         Call::Commit => commit(rt, shared, session),
         Call::Abort => abort(session),
         Call::Fold => fold(rt, shared),
@@ -62,7 +62,7 @@ fn begin<O: Opening>(session: &mut Session<O>) -> Reply
 }
 
 /// Writes in the open transaction.
-fn write_down<O: Opening>(session: &mut Session<O>, write: &Write) -> Reply
+fn write<O: Opening>(session: &mut Session<O>, write: &Write) -> Reply
     requires typed { IsTrue (is_typed_write O.opened.manager.schema write.now) }
     ensures { SeatStep O.opened.manager (call.Write write.now) session.old [] result session.new }
 {
@@ -72,14 +72,17 @@ fn write_down<O: Opening>(session: &mut Session<O>, write: &Write) -> Reply
     if let Some(refused) = refused_shape(txn.schema(), write) {
         return refused;
     }
-    match answer(session, write) {
+    match write_copy(session, write) {
         Ok(reply) => Reply::Wrote(reply),
         Err(_) => Reply::NoMemory,
     }
 }
 
-/// What the session answers to a write that fits.
-fn answer<O: Opening>(session: &mut Session<O>, write: &Write) -> Result<WriteReply, SessionFault>
+/// Writes a copy of a write that fits, which the script keeps.
+fn write_copy<O: Opening>(
+    session: &mut Session<O>,
+    write: &Write,
+) -> Result<WriteReply, SessionFault>
     requires fits { IfSome session.old.txn (λ txn. IsTrue (write_fits_schema txn.schema write.now)) }
     ensures ok { IfOk result (λ reply. HasWritten session.old write.now reply session.new) }
     ensures err { OnErr result (session.new ≡ session.old) }
@@ -88,7 +91,7 @@ fn answer<O: Opening>(session: &mut Session<O>, write: &Write) -> Result<WriteRe
 }
 
 /// Reads in the open transaction.
-fn look<O: Opening>(
+fn read<O: Opening>(
     session: &Session<O>,
     client: u32,
     read: &Read,
