@@ -30,6 +30,22 @@ const MISUSED: u8 = 2;
 /// The generation of a new store's first image.
 const FIRST_GENERATION: u32 = 1;
 
+/// The files that a run reads, by their paths.
+#[derive(Clone, Copy)]
+struct Inputs<'p> {
+    table: &'p str,
+    script: &'p str,
+}
+
+/// How the clients of a script make their calls.
+#[derive(Drop)]
+enum Turns<'t, T> {
+    /// One after the other, in the script's order.
+    InOrder,
+    /// Each client on a thread of its own, which this handle starts and waits for.
+    OnThreads(&'t T),
+}
+
 fn main(rt: HostRuntime) -> ExitCode {
     // Held until the end: a stream that was closed stays one that can't be written to.
     let streams = hold_streams(&rt);
@@ -127,46 +143,45 @@ fn done<T: Threads + Wait + Sync>(
                 limit,
                 conflicts,
             };
-            let starter = if threads { Some(starter) } else { None };
-            run(rt, starter, (table, script), store, options)
+            let turns = if threads {
+                Turns::OnThreads(starter)
+            } else {
+                Turns::InOrder
+            };
+            run(rt, turns, Inputs { table, script }, store, options)
         }
         Settings::Recover { dir } => recover_folder(rt, dir),
     }
 }
 
 /// Opens the table's file, and reads the script's. Their bytes are let go before a call is made.
-fn open_files(
-    rt: &HostRuntime,
-    files: (&str, &str),
-    options: OpenOptions,
-) -> Result<Opened, Refusal>
+fn open_files(rt: &HostRuntime, inputs: Inputs<'_>, options: OpenOptions) -> Result<Opened, Refusal>
     ensures { IfOk result (λ opened. opened.script.schema ≡ opened.manager.schema) }
 {
-    let table = fs::read(rt, files.0);
-    let script = fs::read(rt, files.1);
+    let table = fs::read(rt, inputs.table);
+    let script = fs::read(rt, inputs.script);
     open_texts(rt.alloc(), bytes_of(&table), bytes_of(&script), options)
 }
 
-/// Runs the script's file over the table's, its clients on threads of their own where these may be started, with a store in the
-/// folder, or in memory where none is named.
+/// Runs the script's file over the table's, with a store in the folder, or in memory where none is named.
 fn run<T: Threads + Wait + Sync>(
     rt: &HostRuntime,
-    starter: Option<&T>,
-    files: (&str, &str),
+    turns: Turns<'_, T>,
+    inputs: Inputs<'_>,
     folder: Option<&str>,
     options: OpenOptions,
 ) -> Result<u8, Refusal> {
-    let opened = open_files(rt, files, options)?;
+    let opened = open_files(rt, inputs, options)?;
     match folder {
-        Some(dir) => run_in_folder(rt, starter, dir, opened),
-        None => run_in_memory(rt, starter, opened),
+        Some(dir) => run_in_folder(rt, turns, dir, opened),
+        None => run_in_memory(rt, turns, opened),
     }
 }
 
 /// Runs what was opened over a store in the folder. Where the store isn't made, no file of it stays.
 fn run_in_folder<T: Threads + Wait + Sync>(
     rt: &HostRuntime,
-    starter: Option<&T>,
+    turns: Turns<'_, T>,
     dir: &str,
     opened: Opened,
 ) -> Result<u8, Refusal>
@@ -183,7 +198,7 @@ fn run_in_folder<T: Threads + Wait + Sync>(
     for column in make_store(rt, paths.as_slice(), header.as_slice())? {
         devices.push(column)?;
     }
-    let answer = run_over(rt, starter, opened, devices);
+    let answer = run_over(rt, turns, opened, devices);
     if let Err(Refusal::Store(_)) = &answer {
         remove_files(rt, paths.as_slice(), paths.len());
     }
@@ -193,7 +208,7 @@ fn run_in_folder<T: Threads + Wait + Sync>(
 /// Runs what was opened over a store in memory.
 fn run_in_memory<T: Threads + Wait + Sync>(
     rt: &HostRuntime,
-    starter: Option<&T>,
+    turns: Turns<'_, T>,
     opened: Opened,
 ) -> Result<u8, Refusal>
     requires { opened.script.schema ≡ opened.manager.schema }
@@ -202,13 +217,13 @@ fn run_in_memory<T: Threads + Wait + Sync>(
     for _ in 0..opened.schema().width() {
         devices.push(memory_column(rt.alloc())?)?;
     }
-    run_over(rt, starter, opened, devices)
+    run_over(rt, turns, opened, devices)
 }
 
 /// Runs what was opened, over a store of these devices.
 fn run_over<T: Threads + Wait + Sync>(
     rt: &HostRuntime,
-    starter: Option<&T>,
+    turns: Turns<'_, T>,
     opened: Opened,
     devices: Vec<Box<dyn ColumnDevice + Send>>,
 ) -> Result<u8, Refusal>
@@ -220,9 +235,9 @@ fn run_over<T: Threads + Wait + Sync>(
     let alloc = rt.alloc();
     let store = Store::new(alloc, devices, opened.schema(), FIRST_GENERATION)?;
     let mut out = io::writer(rt);
-    match starter {
-        Some(starter) => run_opened_on_threads(starter, alloc, opened, store, &mut out),
-        None => run_opened(alloc, opened, store, &mut out),
+    match turns {
+        Turns::OnThreads(starter) => run_opened_on_threads(starter, alloc, opened, store, &mut out),
+        Turns::InOrder => run_opened(alloc, opened, store, &mut out),
     }
 }
 
