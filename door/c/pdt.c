@@ -524,7 +524,8 @@ enum { PATH_BYTES = 4096, CHUNK = 1 << 20 };
 
 /* The path of a file of a store: the header's where column is negative. */
 static int path_of(char *path, const char *folder, int column) {
-  int len = column < 0 ? snprintf(path, PATH_BYTES, "%s/header.csv", folder) : snprintf(path, PATH_BYTES, "%s/column-%d.pdt", folder, column);
+  int len = column < 0 ? snprintf(path, PATH_BYTES, "%s/header.csv", folder)
+                       : snprintf(path, PATH_BYTES, "%s/column-%d.pdt", folder, column);
   return len >= 0 && len < PATH_BYTES ? PDT_OK : PDT_MISUSE;
 }
 
@@ -532,6 +533,7 @@ static int write_all(int file, const uint8_t *bytes, size_t len) {
   while (len) {
     ssize_t done = write(file, bytes, len);
     if (done < 0 && errno == EINTR) continue;
+    if (!done) errno = EIO;
     if (done <= 0) return PDT_IO;
     bytes += done;
     len -= (size_t)done;
@@ -546,31 +548,43 @@ static int end_file(int file, int code) {
   return code;
 }
 
-static int make_file(const char *folder, int column) {
+/* Makes a file that isn't there. *made is the column of the next one then: none is ours before it is open. */
+static int make_file(const char *folder, int column, int *made) {
   char path[PATH_BYTES];
   if (path_of(path, folder, column)) return -PDT_MISUSE;
   int file = open(path, O_WRONLY | O_CREAT | O_EXCL | O_CLOEXEC, 0666);
-  return file >= 0 ? file : errno == EEXIST ? -PDT_EXISTS : -PDT_IO;
+  if (file < 0) return errno == EEXIST ? -PDT_EXISTS : -PDT_IO;
+  *made = column + 1;
+  return file;
 }
 
-static int write_header(const pdt_store *store, const char *folder) {
+static int write_header(const pdt_store *store, const char *folder, int *made) {
   char text[HEADER_BYTES];
   size_t len = header_of(store, text);
-  int file = make_file(folder, -1);
+  int file = make_file(folder, -1, made);
   return file < 0 ? -file : end_file(file, write_all(file, (const uint8_t *)text, len));
 }
 
-static int write_column(handle *image, const char *folder, size_t column, uint8_t *chunk) {
-  int file = make_file(folder, (int)column);
-  if (file < 0) return -file;
-  int code = PDT_OK;
+/* Hands the bytes of a column to write, and says whether it took all. */
+static bool hand_column(handle *image, size_t column, uint8_t *chunk, pdt_write write, void *context) {
   size_t len = pdtr_image_len(image, column);
-  for (size_t at = 0; at < len && !code;) {
+  for (size_t at = 0; at < len;) {
     size_t count = pdtr_image_read(image, column, at, chunk, CHUNK);
-    code = count ? write_all(file, chunk, count) : PDT_IO; /* no clause says that bytes come */
+    if (!count) errno = EIO; /* no clause says that bytes come */
+    if (!count || write(context, column, chunk, count)) return false;
     at += count;
   }
-  return end_file(file, code);
+  return true;
+}
+
+static int append(void *file, size_t column, const uint8_t *bytes, size_t len) {
+  (void)column;
+  return write_all(*(const int *)file, bytes, len);
+}
+
+static int write_column(handle *image, const char *folder, size_t column, uint8_t *chunk, int *made) {
+  int file = make_file(folder, (int)column, made);
+  return file < 0 ? -file : end_file(file, hand_column(image, column, chunk, append, &file) ? PDT_OK : PDT_IO);
 }
 
 /* Syncs the folder, so that the names of the files in it last. */
@@ -601,15 +615,20 @@ static void remove_files(const char *folder, int end) {
 
 /* Writes the bytes of a checkpoint into a folder, and takes them away where that fails. */
 static int write_files(const pdt_store *store, handle *image, const char *folder, uint8_t *chunk) {
-  int made = -1; /* which file is made next: a file that was there is not ours to remove */
-  int code = write_header(store, folder);
-  if (code != PDT_EXISTS) made = 0;
-  for (size_t column = 0; column < store->width && !code; column++) {
-    code = write_column(image, folder, column, chunk);
-    if (code != PDT_EXISTS) made = (int)column + 1;
-  }
+  int made = -1;
+  int code = write_header(store, folder, &made);
+  for (size_t column = 0; column < store->width && !code; column++) code = write_column(image, folder, column, chunk, &made);
   if (!code) code = sync_folder(folder);
   if (code) remove_files(folder, made);
+  return code;
+}
+
+/* Makes the bytes of a checkpoint of the newest table. */
+static int make_image(pdt_store *store, handle *image) {
+  if (enter(store)) return PDT_MISUSE;
+  int code = (int)pdtr_checkpoint(&store->raw, image);
+  if (!code) store->rebuilt++;
+  leave(store);
   return code;
 }
 
@@ -620,12 +639,7 @@ int pdt_checkpoint(pdt_store *store, const char *folder) {
   uint8_t *chunk = malloc(CHUNK);
   if (!chunk) return PDT_NOMEM;
   handle image = {NULL};
-  code = enter(store);
-  if (!code) {
-    code = (int)pdtr_checkpoint(&store->raw, &image);
-    if (!code) store->rebuilt++;
-    leave(store);
-  }
+  code = make_image(store, &image);
   if (!code) {
     code = write_files(store, &image, folder, chunk);
     pdtr_image_close(&image);
@@ -752,28 +766,20 @@ int pdt_recover(const char *folder, const pdt_options *options, pdt_store **out)
   if (!folder) return PDT_MISUSE;
   char path[PATH_BYTES];
   uint8_t *header = NULL, *bytes[PDT_MAX_COLUMNS] = {NULL};
-  slice columns[PDT_MAX_COLUMNS];
-  size_t header_len = 0, width = 0;
-  uint32_t generation = 0;
-  pdt_store *store = calloc(1, sizeof *store);
-  int code = store ? path_of(path, folder, -1) : PDT_NOMEM;
-  if (!code) code = read_file(path, &header, &header_len);
-  if (!code) code = width_of(header, header_len, &width);
+  pdt_bytes columns[PDT_MAX_COLUMNS];
+  size_t len = 0, width = 0;
+  int code = path_of(path, folder, -1);
+  if (!code) code = read_file(path, &header, &len);
+  if (!code) code = width_of(header, len, &width);
   for (size_t column = 0; column < width && !code; column++) {
     code = path_of(path, folder, (int)column);
     if (!code) code = read_file(path, &bytes[column], &columns[column].len);
     columns[column].at = bytes[column];
   }
-  if (!code)
-    code = (int)pdtr_recover(bytes_at(header, header_len), header_len, columns, width, recent_of(options), limit_of(options),
-                             rule_of(options), &generation, &store->raw);
+  if (!code) code = pdt_recover_from(header, len, columns, width, options, NULL, out);
   free(header);
   for (size_t column = 0; column < width; column++) free(bytes[column]);
-  if (code) {
-    free(store);
-    return code;
-  }
-  return adopt(store, out);
+  return code;
 }
 
 /* ---- columns that the caller hands over */
@@ -869,32 +875,18 @@ int pdt_recover_from(const void *header, size_t len, const pdt_bytes *columns, s
   return adopt(store, out);
 }
 
-static int hand_column(handle *image, size_t column, uint8_t *chunk, pdt_write write, void *context) {
-  size_t len = pdtr_image_len(image, column);
-  for (size_t at = 0; at < len;) {
-    size_t count = pdtr_image_read(image, column, at, chunk, CHUNK);
-    if (!count || write(context, column, chunk, count)) return PDT_DEVICE_FAILED; /* no clause says that bytes come */
-    at += count;
-  }
-  return PDT_OK;
-}
-
 int pdt_checkpoint_to(pdt_store *store, pdt_write write, void *context, size_t *column) {
   if (!store || !write) return PDT_MISUSE;
   uint8_t *chunk = malloc(CHUNK);
   if (!chunk) return PDT_NOMEM;
   handle image = {NULL};
-  int code = enter(store);
-  if (!code) {
-    code = (int)pdtr_checkpoint(&store->raw, &image);
-    if (!code) store->rebuilt++;
-    leave(store);
-  }
+  int code = make_image(store, &image);
   if (!code) {
     char header[HEADER_BYTES];
     size_t at = PDT_HEADER, len = header_of(store, header);
     if (write(context, at, (const uint8_t *)header, len)) code = PDT_DEVICE_FAILED;
-    while (!code && ++at < store->width) code = hand_column(&image, at, chunk, write, context);
+    while (!code && ++at < store->width)
+      if (!hand_column(&image, at, chunk, write, context)) code = PDT_DEVICE_FAILED;
     if (code && column) *column = at;
     pdtr_image_close(&image);
   }

@@ -5,8 +5,9 @@
 
    Threads. Calls on one pdt_store may come from several threads: each takes the store's lock. A pdt_txn is used by one
    thread at a time; transactions of several threads read and write side by side and take no lock but to begin and to end.
-   A thread that has a commit prepared keeps the store's lock until it is installed or given up. No call is made in a signal
-   handler.
+   A thread that has a commit prepared keeps the store's lock until it is installed or given up, and doesn't end before.
+   Threads that then make calls on other stores do so in one order of the stores, or each may wait for the other for ever.
+   No call is made in a signal handler.
 
    Memory. Every call that can want memory answers PDT_NOMEM where malloc refuses it, and then the table, the transaction
    and the history are as they were. No call aborts. What a call writes goes into room that the caller owns; only what
@@ -84,7 +85,7 @@ int pdt_open(const void *csv, size_t bytes, const pdt_options *options, pdt_stor
 
 /* A column that is handed over: its name, its type, and where the values of so many rows lie. */
 typedef struct pdt_column {
-  const char *name; /* 1 to 64 bytes, and a zero byte */
+  const char *name; /* 1 to 64 bytes of UTF-8 with no colon, and a zero byte */
   int type;
   uint64_t rows;           /* how many values there are */
   const int64_t *numbers;  /* of an int column: one for each row */
@@ -161,7 +162,7 @@ int pdt_cut(pdt_store *store);
 int pdt_checkpoint(pdt_store *store, const char *folder);
 
 /* What takes the bytes of a checkpoint: len of them, which come after those that it took of the column so far, and lie there
-   during the call. It answers 0 where it took all. It calls nothing of this store. */
+   during the call. It answers 0 where it took all. It may make calls on this store, but for pdt_close. */
 typedef int (*pdt_write)(void *context, size_t column, const uint8_t *bytes, size_t len);
 
 /* The column of the header's bytes. */
@@ -187,7 +188,7 @@ int pdt_checkpoint_begin(pdt_store *store, uint64_t *commits, pdt_snapshot **sna
 
 /* Writes that table into a folder as pdt_checkpoint does, and takes no lock. Once it answers PDT_OK the table is durable.
    PDT_EXISTS, PDT_IO, PDT_NOMEM: what was written is removed, and it may be asked for again. PDT_MISUSE, also once it is
-   done. It takes the memory of the table and of its bytes. */
+   done. It takes the memory of the table, and twice that of its bytes. */
 int pdt_checkpoint_write(pdt_snapshot *snapshot, const char *folder);
 
 /* Makes what was written the stable table in memory: the commits since the begin stay in the Write-PDT, and no table changes.
@@ -205,7 +206,8 @@ void pdt_checkpoint_end(pdt_snapshot *snapshot);
    else. PDT_NOMEM, PDT_MISUSE: *txn is null then. In constant time. */
 int pdt_begin(pdt_store *store, uint32_t client, pdt_txn **txn);
 
-/* Ends a transaction and leaves no record of it, also one whose commit this thread has prepared. Null is no error. */
+/* Ends a transaction and leaves no record of it, also one whose commit this thread has prepared. One that another thread has
+   prepared stays as it is. Null is no error. */
 void pdt_abort(pdt_txn *txn);
 
 /* Commits a transaction: PDT_OK, PDT_CONFLICT, PDT_TOO_OLD or PDT_FULL, and it is over; *commits, if not null, is the
@@ -217,8 +219,9 @@ int pdt_commit(pdt_txn *txn, uint64_t *commits);
 /* Decides a commit and makes all that it wants, so that it can't fail any more: PDT_OK, and *commits, if not null, is the
    number that it will have. pdt_install, pdt_give_up or pdt_abort follows, on the same thread, and until then nothing has
    changed. PDT_CONFLICT, PDT_TOO_OLD, PDT_FULL, PDT_NOMEM: as of pdt_commit. PDT_MISUSE.
-   From PDT_OK on the store's lock is kept: other threads' begins and commits wait. This thread's other calls on the store
-   are PDT_MISUSE but for pdt_size, and so are writes and marks of the transaction; reads of transactions are not. */
+   From PDT_OK on the store's lock is kept: other threads' calls on the store wait, and their begins, commits and aborts.
+   This thread's are PDT_MISUSE but for pdt_size, pdt_abort and pdt_checkpoint_end, and so are writes and marks of the
+   transaction; reads of transactions are not. */
 int pdt_prepare(pdt_txn *txn, uint64_t *commits);
 
 /* Does what was prepared: the transaction is committed, and over. It takes no memory and can't be refused.

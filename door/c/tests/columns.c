@@ -110,6 +110,8 @@ static void faults(void) {
   refused("a name twice", PDT_BAD_TABLE, 0, 0);
   columns[OK].name = "";
   refused("no name", PDT_BAD_TABLE, 0, 0);
+  columns[OK].name = "ok:bool";
+  refused("a name with a colon", PDT_BAD_TABLE, 0, 0);
   columns[OK].name = NULL;
   refused("a null name", PDT_MISUSE, 0, 0);
   columns[OK].name = "ok";
@@ -201,6 +203,40 @@ static void images(void) {
   let_go(&image);
 }
 
+/* A write may make calls on the store: what it commits comes after the image. */
+static int commits(void *context, size_t column, const uint8_t *bytes, size_t len) {
+  (void)column, (void)bytes, (void)len;
+  rename_row(context, 17, "meanwhile");
+  is("fold", PDT_OK, pdt_fold(context));
+  return 0;
+}
+
+static void meanwhile(void) {
+  pdt_store *store = opened();
+  is("a write that commits", PDT_OK, pdt_checkpoint_to(store, commits, store, NULL));
+  all_there(store, 17, "meanwhile");
+  is("close", PDT_OK, pdt_close(store));
+}
+
+/* Where no file can be opened none is taken away: a link to nowhere isn't the checkpoint's. */
+static void no_files(const char *folder) {
+  char path[4200];
+  struct rlimit before, none;
+  pdt_store *store = opened();
+  snprintf(path, sizeof path, "%s/header.csv", folder);
+  is("link", 0, symlink("nowhere", path));
+  is("limit", 0, getrlimit(RLIMIT_NOFILE, &before));
+  none = before;
+  none.rlim_cur = 0;
+  is("limit", 0, setrlimit(RLIMIT_NOFILE, &none));
+  int code = pdt_checkpoint(store, folder), cause = errno;
+  is("limit", 0, setrlimit(RLIMIT_NOFILE, &before));
+  is("no file", PDT_IO, code);
+  is("its cause", EMFILE, cause);
+  is("the link is still there", 0, unlink(path));
+  is("close", PDT_OK, pdt_close(store));
+}
+
 /* No file may have more than 4,096 bytes: the checkpoint says so, takes its files away, and the store goes on. */
 static void full_disk(const char *folder) {
   struct rlimit before, small;
@@ -230,6 +266,8 @@ int main(int argc, char **argv) {
   openings();
   faults();
   images();
+  meanwhile();
+  no_files(argv[1]);
   full_disk(argv[1]);
   if (!failures) printf("columns: passed\n");
   return failures != 0;

@@ -1,5 +1,5 @@
-/* Each allocation of an opening over columns, of checkpoints and of recoveries is refused once, in turn: the call says so, and
-   made again it does its work. Linked with --wrap=malloc,--wrap=calloc,--wrap=realloc. */
+/* Each allocation of an opening over columns, of checkpoints and of recoveries is refused once, in turn: the call says so, made
+   again it does its work, and no memory stays. Linked with --wrap of malloc, calloc, realloc and free. */
 #define _POSIX_C_SOURCE 200809L
 #include <pdt.h>
 #include <stdio.h>
@@ -12,14 +12,24 @@ static bool refused;
 void *__real_malloc(size_t);
 void *__real_calloc(size_t, size_t);
 void *__real_realloc(void *, size_t);
+void __real_free(void *);
 static bool refuse(void) {
   if (left != 0) return left > 0 ? (left--, false) : false;
   left = -1;
   return refused = true;
 }
-void *__wrap_malloc(size_t len) { return refuse() ? NULL : __real_malloc(len); }
-void *__wrap_calloc(size_t count, size_t len) { return refuse() ? NULL : __real_calloc(count, len); }
-void *__wrap_realloc(void *at, size_t len) { return refuse() ? NULL : __real_realloc(at, len); }
+static long blocks; /* how many are there */
+static void *counted(void *at) { return blocks += at != NULL, at; }
+void *__wrap_malloc(size_t len) { return counted(refuse() ? NULL : __real_malloc(len)); }
+void *__wrap_calloc(size_t count, size_t len) { return counted(refuse() ? NULL : __real_calloc(count, len)); }
+void *__wrap_realloc(void *at, size_t len) {
+  void *now = refuse() ? NULL : __real_realloc(at, len);
+  return at ? now : counted(now);
+}
+void __wrap_free(void *at) {
+  blocks -= at != NULL;
+  __real_free(at);
+}
 
 /* Makes a call, and once more where memory was refused. */
 #define CALL(call)                                                                   \
@@ -112,6 +122,7 @@ int main(int argc, char **argv) {
     if (run(argv[1])) return fprintf(stderr, "with allocation %ld refused\n", n), 1;
     all = left >= 0; /* there was none to refuse any more */
     left = -1;
+    if (blocks) return fprintf(stderr, "with allocation %ld refused %ld blocks stay\n", n, blocks), 1;
     clear(argv[1]);
   }
   printf("%ld allocations refused, %ld answered\n", n - 1, answered);

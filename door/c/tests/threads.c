@@ -1,5 +1,5 @@
-/* Eight threads add to the same ten rows, and try again at a conflict: the sum is that of all that was added. In between
-   they look at the layers, which are folded: the sum by their entries never falls. */
+/* Eight threads add to the same ten rows, every other one by commits in two parts, and try again at a conflict: the sum is that
+   of all that was added. In between they look at the layers, which are folded: the sum by their entries never falls. */
 #include <pdt.h>
 #include <pthread.h>
 #include <stdio.h>
@@ -28,6 +28,12 @@ static int64_t sum_of_layers(void) {
   return sum;
 }
 
+static int commit(pdt_txn *txn, bool in_parts) {
+  if (!in_parts) return pdt_commit(txn, NULL);
+  int code = pdt_prepare(txn, NULL);
+  return code ? code : pdt_install(txn);
+}
+
 static void *adds(void *arg) {
   uint32_t client = (uint32_t)(size_t)arg;
   int64_t seen = 0;
@@ -37,7 +43,7 @@ static void *adds(void *arg) {
     if (pdt_begin(store, client, &txn)) return "begin";
     if (pdt_get(txn, &key, NULL, 0, row, NULL, 0, NULL)) return "get";
     if (pdt_set(txn, &key, NULL, 0, 1, row[1] + 1, NULL)) return "set";
-    int code = pdt_commit(txn, NULL);
+    int code = commit(txn, client % 2);
     if (code == PDT_OK) i++;
     else if (code != PDT_CONFLICT) return "commit";
     if (code || i % 5) continue;
@@ -66,7 +72,7 @@ int main(void) {
   if (pdt_begin(store, 0, &txn) || pdt_ints(txn, 1, 0, sums, &count)) return 1;
   for (size_t i = 0; i < count; i++) sum += sums[i];
   pdt_abort(txn);
-  pdt_close(store);
+  if (pdt_close(store)) return fprintf(stderr, "a transaction is still open\n"), 1;
   if (failed || sum != THREADS * ADDS) return fprintf(stderr, "sum %lld\n", (long long)sum), 1;
   return 0;
 }

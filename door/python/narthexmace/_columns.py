@@ -24,17 +24,18 @@ class PassedColumns:
             self._pass(self.columns[place], column)
 
     def _pass(self, passed: ColumnOf, column: Named) -> None:
+        """Hands a column over. Its rows are as many as are passed: what writes a cell may have changed the list."""
         passed.name, passed.type = encoded(column.name), _TYPES[column.type]
-        passed.rows = len(column.cells)  # type: ignore[arg-type]
         if column.type == INT:
             numbers = column.cells if isinstance(column.cells, memoryview) else array("q", self._cells(column, number_of))
-            passed.numbers = self._place_of(numbers)
+            passed.rows, passed.numbers = len(numbers), self._place_of(numbers)
         elif column.type == BOOL:
             truths = column.cells if isinstance(column.cells, memoryview) else bytes(self._cells(column, truth_of))
-            passed.bytes = self._place_of(truths)
+            passed.rows, passed.bytes = len(truths), self._place_of(truths)
         else:
             texts = self._cells(column, bytes_of)
             joined = b"".join(texts)
+            passed.rows = len(texts)
             passed.offsets = self._place_of(array("Q", accumulate(map(len, texts), initial=0)))
             passed.bytes, passed.len = self._place_of(joined), len(joined)
 

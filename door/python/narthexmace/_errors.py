@@ -131,10 +131,22 @@ class Exists(Error):
     code = 16
 
 
+class Superseded(Error):
+    """A fold or another checkpoint came since a checkpoint began. No call of this package begins one."""
+
+    code = 17
+
+
 class NotAscending(Error, ValueError):
     """A row's key isn't above that of the row before it. ``open`` sorts such columns, and does not raise it."""
 
     code = 18
+
+
+class DeviceFailed(Error):
+    """What takes the bytes of a checkpoint failed. No call of this package hands them out."""
+
+    code = 19
 
 
 _KINDS: Tuple[Type[Error], ...] = (
@@ -154,7 +166,9 @@ _KINDS: Tuple[Type[Error], ...] = (
     Misuse,
     FileFailed,
     Exists,
+    Superseded,
     NotAscending,
+    DeviceFailed,
 )
 _BY_CODE: Dict[int, Type[Error]] = {kind.code: kind for kind in _KINDS}
 

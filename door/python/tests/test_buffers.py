@@ -267,6 +267,21 @@ class Tables(unittest.TestCase):
             self.assertEqual(txn[:], [(False, "x", 2), (True, "y", 1)])
             self.assertEqual(txn.rank([True, "a"]), (1, False))
 
+    def test_a_list_that_shrinks_while_it_is_read(self) -> None:
+        cells: List[Any] = []
+
+        class First:
+            def __index__(self) -> int:
+                del cells[1:]
+                return 7
+
+        class Shrinking:
+            def tolist(self) -> List[Any]:
+                return cells
+
+        cells += [First(), 8, 9]
+        self.assertEqual(self.rows_of({"id": Shrinking()}, key="id"), [(7,)])
+
     def test_no_rows(self) -> None:
         self.assertEqual(self.rows_of({"id": [], "t": []}, key="id", types={"id": "int", "t": "text"}), [])
 

@@ -33,9 +33,10 @@ class Codes(unittest.TestCase):
             "PDT_DUPLICATE": "Duplicate", "PDT_MISSING": "Missing", "PDT_SHAPE": "Shape", "PDT_BAD_TABLE": "BadTable",
             "PDT_BAD_LIMIT": "BadLimit", "PDT_TOO_MANY_ROWS": "TooManyRows", "PDT_TOO_SMALL": "TooSmall",
             "PDT_BAD_STORE": "BadStore", "PDT_NO_IMAGE": "NoImage", "PDT_MISUSE": "Misuse", "PDT_IO": "FileFailed",
-            "PDT_EXISTS": "Exists", "PDT_NOT_ASCENDING": "NotAscending",
+            "PDT_EXISTS": "Exists", "PDT_SUPERSEDED": "Superseded", "PDT_NOT_ASCENDING": "NotAscending",
+            "PDT_DEVICE_FAILED": "DeviceFailed",
         }  # fmt: skip
-        there = {name: code for name, code in codes().items() if code and name in names or name == "PDT_OK"}
+        there = codes()
         self.assertEqual(set(there), {"PDT_OK", *names})
         for name, kind in names.items():
             fault = narthexmace._errors.error_of(there[name])

@@ -124,9 +124,24 @@ pub enum ImagePart {
 pub enum CheckpointError<E> {
     /// What took the bytes failed so at this part; nothing was asked of it after that.
     Write(ImagePart, E),
-    /// [`Error::NoMemory`], and nothing was handed out.
+    /// [`Error::NoMemory`], or [`Error::Misuse`] of a thread that has a commit of the store prepared: nothing was handed
+    /// out.
     Other(Error),
 }
+
+impl<E: fmt::Display> fmt::Display for CheckpointError<E> {
+    fn fmt(&self, f: &mut fmt::Formatter<'_>) -> fmt::Result {
+        match self {
+            CheckpointError::Write(ImagePart::Header, error) => write!(f, "{}: header: {error}", Error::DeviceFailed),
+            CheckpointError::Write(ImagePart::Column(column), error) => {
+                write!(f, "{}: column {column}: {error}", Error::DeviceFailed)
+            }
+            CheckpointError::Other(error) => error.fmt(f),
+        }
+    }
+}
+
+impl<E: std::error::Error> std::error::Error for CheckpointError<E> {}
 
 /// What takes the bytes of a part of an image.
 type TakeBytes<'w, E> = dyn FnMut(ImagePart, &[u8]) -> Result<(), E> + 'w;
@@ -227,7 +242,7 @@ impl Store {
 
     /// Hands the bytes that store the newest table to `write`, in order: those of the header, then of each column. In
     /// memory it is the stable table then. Who takes the bytes makes them durable. Begins and commits wait only while
-    /// they are made. A panic of `write` goes on from here.
+    /// they are made, and `write` may itself make calls on the store. A panic of `write` goes on from here.
     ///
     /// ```
     /// use narthexmace::{ImagePart, Options, Store};

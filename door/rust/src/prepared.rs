@@ -7,9 +7,12 @@ use std::marker::PhantomData;
 /// to write its own log. [`install`](Prepared::install) does it. One that is dropped is given up, and its transaction
 /// aborted.
 ///
-/// It has the store's lock: begins and commits of other threads wait, so that it stays on its thread. Other calls of
-/// this thread on the store answer [`Error::Misuse`](crate::Error::Misuse), but for those that ask for the columns and
-/// [`Store::sizes`]. One that is forgotten ([`std::mem::forget`]) keeps the lock.
+/// It has the store's lock, and so it stays on its thread. Begins and commits of other threads wait, and so do the ends
+/// of their transactions and checkpoints. Other calls of this thread on the store answer
+/// [`Error::Misuse`](crate::Error::Misuse), but for those that ask for the columns and [`Store::sizes`];
+/// [`Store::cut`] panics. Threads that then make calls on other stores do so in one order of the stores, or each may wait
+/// for the other for ever. One that is forgotten ([`std::mem::forget`]) keeps the lock: other threads' calls on the
+/// store, and its drop by one of them, never end.
 ///
 /// ```
 /// use narthexmace::{Error, Options, Store};

@@ -82,7 +82,8 @@ pub struct Sizes {
 /// A table with its history. Threads share it: each call takes the store's lock, but those that ask for the columns,
 /// which never change. It is closed when it is dropped.
 ///
-/// A transaction that is forgotten ([`std::mem::forget`]) stays open, and then the store's memory is never freed.
+/// A transaction that is forgotten ([`std::mem::forget`]) stays open, and so does a checkpoint: then the store's memory
+/// is never freed.
 pub struct Store {
     raw: NonNull<ffi::Store>,
     columns: Vec<Column>,
@@ -243,8 +244,8 @@ impl Store {
 
 impl Drop for Store {
     fn drop(&mut self) {
-        // SAFETY: nobody else uses the store, since each transaction borrows it. One that was forgotten is still open:
-        // the library answers MISUSE then, and the store stays.
+        // SAFETY: nobody else uses the store, since each transaction and checkpoint borrows it. One that was forgotten
+        // is still open: the library answers MISUSE then, and the store stays.
         unsafe { ffi::pdt_close(self.raw.as_ptr()) };
     }
 }

@@ -89,9 +89,35 @@ fn a_write_that_fails_says_so() {
         calls += 1;
         if part == ImagePart::Column(1) { Err("no room") } else { Ok(()) }
     });
-    assert!(matches!(failed, Err(CheckpointError::Write(ImagePart::Column(1), "no room"))));
+    let failed = failed.unwrap_err();
+    assert!(matches!(failed, CheckpointError::Write(ImagePart::Column(1), "no room")));
+    assert_eq!("the caller's write didn't take the bytes: column 1: no room", failed.to_string());
     assert_eq!(3, calls);
     assert_eq!(4, store.begin(1).unwrap().rows());
+}
+
+#[test]
+fn a_writer_may_make_calls_on_the_store() {
+    let store = Store::from_columns(&columns(), 1, &Options::default()).unwrap();
+    let written = store.checkpoint_to(|_, _| {
+        let mut txn = store.begin(1)?;
+        txn.set([10], 1, "Eve")?;
+        txn.commit()?;
+        store.fold()
+    });
+    assert!(written.is_ok());
+    assert_eq!(Some("Eve"), store.begin(1).unwrap().row_at(0).unwrap().unwrap()[1].as_text());
+}
+
+#[test]
+fn no_image_is_made_while_a_commit_is_prepared() {
+    let store = Store::from_columns(&columns(), 1, &Options::default()).unwrap();
+    let mut txn = store.begin(1).unwrap();
+    txn.set([10], 1, "Eve").unwrap();
+    let prepared = txn.prepare().unwrap();
+    let refused = store.checkpoint_to(|_, _| -> Result<(), Error> { unreachable!("nothing is handed out") });
+    assert!(matches!(refused, Err(CheckpointError::Other(Error::Misuse))));
+    assert_eq!(1, prepared.install());
 }
 
 #[test]
