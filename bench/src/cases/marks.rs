@@ -1,4 +1,4 @@
-//! Inserts of a transaction that makes marks, which SQL calls savepoints.
+//! Inserts of a transaction that makes marks, which SQL calls savepoints: each lets the one before it go.
 use super::Size;
 use crate::data::{KeyKind, name_of, store};
 use crate::drawn::Drawn;
@@ -53,10 +53,14 @@ impl Inserts {
 
     fn ours(&self, store: &Store, each: usize) -> Turn {
         let mut txn = begun(store);
+        let mut last = None;
         let (time, ()) = clocked(|| {
             for (place, (number, name)) in self.rows.iter().enumerate() {
                 if place % each == each - 1 {
-                    txn.mark().expect("there is memory");
+                    if let Some(mark) = last.take() {
+                        txn.release(mark).expect("the mark stands");
+                    }
+                    last = Some(txn.mark().expect("there is memory"));
                 }
                 txn.insert(cells![*number, name, QTY]).expect("there is no row of the key");
             }
@@ -66,16 +70,20 @@ impl Inserts {
 
     fn in_sqlite(&self, database: &Database, each: usize) -> Turn {
         database.run("BEGIN");
-        let (mut mark, mut insert) = (database.statement("SAVEPOINT s"), database.statement(sqlite::INSERT));
+        let [mut mark, mut release, mut insert] =
+            ["SAVEPOINT s", "RELEASE s", sqlite::INSERT].map(|sql| database.statement(sql));
         let (time, ()) = clocked(|| {
             for (place, (number, name)) in self.rows.iter().enumerate() {
                 if place % each == each - 1 {
+                    if place >= each {
+                        release.run(&[]);
+                    }
                     mark.run(&[]);
                 }
                 insert.run(&[Bound::Int(*number), Bound::Text(name), Bound::Int(QTY)]);
             }
         });
-        drop((mark, insert));
+        drop((mark, release, insert));
         let answer = database.number(sqlite::STATE);
         database.run("ROLLBACK");
         Turn { time, answer }
