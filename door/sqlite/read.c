@@ -115,6 +115,26 @@ static int is_over(sqlite3_vtab *base) {
   return say(base, SQLITE_ABORT, "pdt: the transaction that this statement read in is over");
 }
 
+/* Whether a range is that of one key. */
+static bool is_one_key(const session *s, const range *r) {
+  return !r->past_low && r->past_high && r->low.bytes == r->high.bytes &&
+         !memcmp(r->low.numbers, r->high.numbers, s->keys * sizeof *r->low.numbers) &&
+         !memcmp(r->low.texts, r->high.texts, r->low.bytes);
+}
+
+/* The positions of a range's first row and of the one behind its last: by one search where it is that of one key. One of
+   the door's codes. */
+static int positions_of(const session *s, view *v, const range *r, uint64_t *low, uint64_t *high) {
+  if (is_one_key(s, r)) {
+    bool there = false;
+    int code = pdt_rank(v->txn, r->low.numbers, r->low.texts, r->low.bytes, low, &there);
+    *high = *low + there;
+    return code;
+  }
+  int code = view_position(v, &r->low, r->past_low, low);
+  return code ? code : view_position(v, &r->high, r->past_high, high);
+}
+
 int x_filter(sqlite3_vtab_cursor *base, int plan, const char *words, int argc, sqlite3_value **argv) {
   (void)words, (void)argc;
   cursor *c = (cursor *)base;
@@ -127,10 +147,8 @@ int x_filter(sqlite3_vtab_cursor *base, int plan, const char *words, int argc, s
   c->gone = false;
   c->low = c->high = 0;
   if (r.empty) return SQLITE_OK;
-  int code = pdt_rows(c->view->txn, &c->high);
-  if (!(plan & (EQUAL | LOW | HIGH))) return fail(base->pVtab, code);
-  if (!code) code = view_position(c->view, &r.low, r.past_low, &c->low);
-  if (!code) code = view_position(c->view, &r.high, r.past_high, &c->high);
+  if (!(plan & (EQUAL | LOW | HIGH))) return fail(base->pVtab, pdt_rows(c->view->txn, &c->high));
+  int code = positions_of(s, c->view, &r, &c->low, &c->high);
   for (size_t column = 0; column < s->width; column++) c->batches[column].want = LEAST_BATCH;
   return fail(base->pVtab, code);
 }
@@ -220,14 +238,17 @@ static int put_key(cursor *c, sqlite3_context *to) {
 int x_column(sqlite3_vtab_cursor *base, sqlite3_context *to, int column) {
   cursor *c = (cursor *)base;
   const session *s = session_of(base->pVtab);
-  batch *b;
   if (s->doomed) return refuse_doomed(base->pVtab);
   if (c->gone || sqlite3_vtab_nochange(to)) return SQLITE_OK;
   if (!c->view->txn) return is_over(base->pVtab);
   if ((size_t)column == s->width) return fail(base->pVtab, put_key(c, to));
-  int code = batch_load(c, (size_t)column, &b);
-  if (code) return fail(base->pVtab, code);
-  size_t i = (size_t)(cursor_position(c) - b->from);
+  uint64_t current = cursor_position(c);
+  batch *b = &c->batches[column];
+  if (!batch_has(b, c->view, current)) {
+    int code = batch_load(c, (size_t)column, &b);
+    if (code) return fail(base->pVtab, code);
+  }
+  size_t i = (size_t)(current - b->from);
   if (b->texts) sqlite3_result_text(to, batch_text(b, i), (int)b->numbers[i], SQLITE_TRANSIENT);
   else sqlite3_result_int64(to, b->numbers[i]);
   return SQLITE_OK;
