@@ -24,12 +24,24 @@ truth_again true = refl
 truth_again false = refl
 
 -- a byte is the sum of its bits
-byte_by_bits : (byte : ℕ) → byte < 256 → 128 * bit_at byte 7 + 64 * bit_at byte 6 + 32 * bit_at byte 5 + 16 * bit_at byte 4 + 8 * bit_at byte 3 + 4 * bit_at byte 2 + 2 * bit_at byte 1 + bit_at byte 0 ≡ byte
+byte_by_bits : (byte : ℕ) → byte < 256
+    → 128 * bit_at byte 7 + 64 * bit_at byte 6 + 32 * bit_at byte 5 + 16 * bit_at byte 4 + 8 * bit_at byte 3 + 4 * bit_at byte 2
+    + 2 * bit_at byte 1 + bit_at byte 0
+    ≡ byte
 byte_by_bits byte lt = omega arith
 
 byte_of-bits_of : (byte : ℕ) (rest : List Bool) → byte < 256 → byte_of (bits_of byte ++ rest) ≡ byte
 byte_of-bits_of byte rest lt =
-    rw (bit_again _ (bit_at-lt byte 7), bit_again _ (bit_at-lt byte 6), bit_again _ (bit_at-lt byte 5), bit_again _ (bit_at-lt byte 4), bit_again _ (bit_at-lt byte 3), bit_again _ (bit_at-lt byte 2), bit_again _ (bit_at-lt byte 1), bit_again _ (bit_at-lt byte 0)) (byte_by_bits byte lt)
+    rw (
+      bit_again _ (bit_at-lt byte 7),
+      bit_again _ (bit_at-lt byte 6),
+      bit_again _ (bit_at-lt byte 5),
+      bit_again _ (bit_at-lt byte 4),
+      bit_again _ (bit_at-lt byte 3),
+      bit_again _ (bit_at-lt byte 2),
+      bit_again _ (bit_at-lt byte 1),
+      bit_again _ (bit_at-lt byte 0),
+    ) (byte_by_bits byte lt)
 
 -- the bits of a sum of bits, each at its weight
 module _ (a b c d e f g h : ℕ) (la : a < 2) (lb : b < 2) (lc : c < 2) (ld : d < 2) (le : e < 2) (lf : f < 2) (lg : g < 2) (lh : h < 2) where
@@ -66,14 +78,54 @@ bit_of-lt bs i = bounded (get_or bs i false)
 
 -- the truths of the byte of truths
 low_bits-byte_of : (bs : List Bool) (i : ℕ) → i < 8 → get_or (bits_of (byte_of bs)) i false ≡ get_or bs i false
-low_bits-byte_of bs zero lt = ap (λ bit. bit == 1) (bit_7 (bit_of bs 0) (bit_of bs 1) (bit_of bs 2) (bit_of bs 3) (bit_of bs 4) (bit_of bs 5) (bit_of bs 6) (bit_of bs 7) (bit_of-lt bs 0) (bit_of-lt bs 1) (bit_of-lt bs 2) (bit_of-lt bs 3) (bit_of-lt bs 4) (bit_of-lt bs 5) (bit_of-lt bs 6) (bit_of-lt bs 7)) ∙ truth_again (get_or bs 0 false)
-low_bits-byte_of bs (suc zero) lt = ap (λ bit. bit == 1) (bit_6 (bit_of bs 0) (bit_of bs 1) (bit_of bs 2) (bit_of bs 3) (bit_of bs 4) (bit_of bs 5) (bit_of bs 6) (bit_of bs 7) (bit_of-lt bs 0) (bit_of-lt bs 1) (bit_of-lt bs 2) (bit_of-lt bs 3) (bit_of-lt bs 4) (bit_of-lt bs 5) (bit_of-lt bs 6) (bit_of-lt bs 7)) ∙ truth_again (get_or bs 1 false)
-low_bits-byte_of bs (suc (suc zero)) lt = ap (λ bit. bit == 1) (bit_5 (bit_of bs 0) (bit_of bs 1) (bit_of bs 2) (bit_of bs 3) (bit_of bs 4) (bit_of bs 5) (bit_of bs 6) (bit_of bs 7) (bit_of-lt bs 0) (bit_of-lt bs 1) (bit_of-lt bs 2) (bit_of-lt bs 3) (bit_of-lt bs 4) (bit_of-lt bs 5) (bit_of-lt bs 6) (bit_of-lt bs 7)) ∙ truth_again (get_or bs 2 false)
-low_bits-byte_of bs (suc (suc (suc zero))) lt = ap (λ bit. bit == 1) (bit_4 (bit_of bs 0) (bit_of bs 1) (bit_of bs 2) (bit_of bs 3) (bit_of bs 4) (bit_of bs 5) (bit_of bs 6) (bit_of bs 7) (bit_of-lt bs 0) (bit_of-lt bs 1) (bit_of-lt bs 2) (bit_of-lt bs 3) (bit_of-lt bs 4) (bit_of-lt bs 5) (bit_of-lt bs 6) (bit_of-lt bs 7)) ∙ truth_again (get_or bs 3 false)
-low_bits-byte_of bs (suc (suc (suc (suc zero)))) lt = ap (λ bit. bit == 1) (bit_3 (bit_of bs 0) (bit_of bs 1) (bit_of bs 2) (bit_of bs 3) (bit_of bs 4) (bit_of bs 5) (bit_of bs 6) (bit_of bs 7) (bit_of-lt bs 0) (bit_of-lt bs 1) (bit_of-lt bs 2) (bit_of-lt bs 3) (bit_of-lt bs 4) (bit_of-lt bs 5) (bit_of-lt bs 6) (bit_of-lt bs 7)) ∙ truth_again (get_or bs 4 false)
-low_bits-byte_of bs (suc (suc (suc (suc (suc zero))))) lt = ap (λ bit. bit == 1) (bit_2 (bit_of bs 0) (bit_of bs 1) (bit_of bs 2) (bit_of bs 3) (bit_of bs 4) (bit_of bs 5) (bit_of bs 6) (bit_of bs 7) (bit_of-lt bs 0) (bit_of-lt bs 1) (bit_of-lt bs 2) (bit_of-lt bs 3) (bit_of-lt bs 4) (bit_of-lt bs 5) (bit_of-lt bs 6) (bit_of-lt bs 7)) ∙ truth_again (get_or bs 5 false)
-low_bits-byte_of bs (suc (suc (suc (suc (suc (suc zero)))))) lt = ap (λ bit. bit == 1) (bit_1 (bit_of bs 0) (bit_of bs 1) (bit_of bs 2) (bit_of bs 3) (bit_of bs 4) (bit_of bs 5) (bit_of bs 6) (bit_of bs 7) (bit_of-lt bs 0) (bit_of-lt bs 1) (bit_of-lt bs 2) (bit_of-lt bs 3) (bit_of-lt bs 4) (bit_of-lt bs 5) (bit_of-lt bs 6) (bit_of-lt bs 7)) ∙ truth_again (get_or bs 6 false)
-low_bits-byte_of bs (suc (suc (suc (suc (suc (suc (suc zero))))))) lt = ap (λ bit. bit == 1) (bit_0 (bit_of bs 0) (bit_of bs 1) (bit_of bs 2) (bit_of bs 3) (bit_of bs 4) (bit_of bs 5) (bit_of bs 6) (bit_of bs 7) (bit_of-lt bs 0) (bit_of-lt bs 1) (bit_of-lt bs 2) (bit_of-lt bs 3) (bit_of-lt bs 4) (bit_of-lt bs 5) (bit_of-lt bs 6) (bit_of-lt bs 7)) ∙ truth_again (get_or bs 7 false)
+low_bits-byte_of bs zero lt =
+    ap (λ bit. bit == 1)
+    (bit_7 (bit_of bs 0) (bit_of bs 1) (bit_of bs 2) (bit_of bs 3) (bit_of bs 4) (bit_of bs 5) (bit_of bs 6) (bit_of bs 7)
+    (bit_of-lt bs 0) (bit_of-lt bs 1) (bit_of-lt bs 2) (bit_of-lt bs 3) (bit_of-lt bs 4) (bit_of-lt bs 5) (bit_of-lt bs 6)
+    (bit_of-lt bs 7))
+    ∙ truth_again (get_or bs 0 false)
+low_bits-byte_of bs (suc zero) lt =
+    ap (λ bit. bit == 1)
+    (bit_6 (bit_of bs 0) (bit_of bs 1) (bit_of bs 2) (bit_of bs 3) (bit_of bs 4) (bit_of bs 5) (bit_of bs 6) (bit_of bs 7)
+    (bit_of-lt bs 0) (bit_of-lt bs 1) (bit_of-lt bs 2) (bit_of-lt bs 3) (bit_of-lt bs 4) (bit_of-lt bs 5) (bit_of-lt bs 6)
+    (bit_of-lt bs 7))
+    ∙ truth_again (get_or bs 1 false)
+low_bits-byte_of bs (suc (suc zero)) lt =
+    ap (λ bit. bit == 1)
+    (bit_5 (bit_of bs 0) (bit_of bs 1) (bit_of bs 2) (bit_of bs 3) (bit_of bs 4) (bit_of bs 5) (bit_of bs 6) (bit_of bs 7)
+    (bit_of-lt bs 0) (bit_of-lt bs 1) (bit_of-lt bs 2) (bit_of-lt bs 3) (bit_of-lt bs 4) (bit_of-lt bs 5) (bit_of-lt bs 6)
+    (bit_of-lt bs 7))
+    ∙ truth_again (get_or bs 2 false)
+low_bits-byte_of bs (suc (suc (suc zero))) lt =
+    ap (λ bit. bit == 1)
+    (bit_4 (bit_of bs 0) (bit_of bs 1) (bit_of bs 2) (bit_of bs 3) (bit_of bs 4) (bit_of bs 5) (bit_of bs 6) (bit_of bs 7)
+    (bit_of-lt bs 0) (bit_of-lt bs 1) (bit_of-lt bs 2) (bit_of-lt bs 3) (bit_of-lt bs 4) (bit_of-lt bs 5) (bit_of-lt bs 6)
+    (bit_of-lt bs 7))
+    ∙ truth_again (get_or bs 3 false)
+low_bits-byte_of bs (suc (suc (suc (suc zero)))) lt =
+    ap (λ bit. bit == 1)
+    (bit_3 (bit_of bs 0) (bit_of bs 1) (bit_of bs 2) (bit_of bs 3) (bit_of bs 4) (bit_of bs 5) (bit_of bs 6) (bit_of bs 7)
+    (bit_of-lt bs 0) (bit_of-lt bs 1) (bit_of-lt bs 2) (bit_of-lt bs 3) (bit_of-lt bs 4) (bit_of-lt bs 5) (bit_of-lt bs 6)
+    (bit_of-lt bs 7))
+    ∙ truth_again (get_or bs 4 false)
+low_bits-byte_of bs (suc (suc (suc (suc (suc zero))))) lt =
+    ap (λ bit. bit == 1)
+    (bit_2 (bit_of bs 0) (bit_of bs 1) (bit_of bs 2) (bit_of bs 3) (bit_of bs 4) (bit_of bs 5) (bit_of bs 6) (bit_of bs 7)
+    (bit_of-lt bs 0) (bit_of-lt bs 1) (bit_of-lt bs 2) (bit_of-lt bs 3) (bit_of-lt bs 4) (bit_of-lt bs 5) (bit_of-lt bs 6)
+    (bit_of-lt bs 7))
+    ∙ truth_again (get_or bs 5 false)
+low_bits-byte_of bs (suc (suc (suc (suc (suc (suc zero)))))) lt =
+    ap (λ bit. bit == 1)
+    (bit_1 (bit_of bs 0) (bit_of bs 1) (bit_of bs 2) (bit_of bs 3) (bit_of bs 4) (bit_of bs 5) (bit_of bs 6) (bit_of bs 7)
+    (bit_of-lt bs 0) (bit_of-lt bs 1) (bit_of-lt bs 2) (bit_of-lt bs 3) (bit_of-lt bs 4) (bit_of-lt bs 5) (bit_of-lt bs 6)
+    (bit_of-lt bs 7))
+    ∙ truth_again (get_or bs 6 false)
+low_bits-byte_of bs (suc (suc (suc (suc (suc (suc (suc zero))))))) lt =
+    ap (λ bit. bit == 1)
+    (bit_0 (bit_of bs 0) (bit_of bs 1) (bit_of bs 2) (bit_of bs 3) (bit_of bs 4) (bit_of bs 5) (bit_of bs 6) (bit_of bs 7)
+    (bit_of-lt bs 0) (bit_of-lt bs 1) (bit_of-lt bs 2) (bit_of-lt bs 3) (bit_of-lt bs 4) (bit_of-lt bs 5) (bit_of-lt bs 6)
+    (bit_of-lt bs 7))
+    ∙ truth_again (get_or bs 7 false)
 low_bits-byte_of bs (suc (suc (suc (suc (suc (suc (suc (suc j)))))))) lt = absurd (omega arith)
 
 -- ---- several bytes
@@ -99,7 +151,8 @@ packed-same : (n : ℕ) (xs ys : List Bool) → SameBits xs ys → packed n xs �
 packed-same zero xs ys same = refl
 packed-same (suc n) xs ys same =
     let first : byte_of xs ≡ byte_of ys = rw (same 0, same 1, same 2, same 3, same 4, same 5, same 6, same 7) refl in
-    let others : packed n (drop 8 xs) ≡ packed n (drop 8 ys) = packed-same n (drop 8 xs) (drop 8 ys) (λ i. get_or-drop 8 xs i false ∙ same (8 + i) ∙ sym (get_or-drop 8 ys i false)) in
+    let others : packed n (drop 8 xs) ≡ packed n (drop 8 ys) =
+    packed-same n (drop 8 xs) (drop 8 ys) (λ i. get_or-drop 8 xs i false ∙ same (8 + i) ∙ sym (get_or-drop 8 ys i false)) in
     rw (first, others) refl
 
 -- a place in the bits of packed truths
@@ -120,7 +173,18 @@ packed-place (suc n) bs (suc (suc (suc (suc (suc (suc (suc (suc j)))))))) le =
 
 -- truths make a byte
 pub byte_of-lt : (bs : List Bool) → byte_of bs < 256
-byte_of-lt bs = omega (arith, bit_of-lt bs 0, bit_of-lt bs 1, bit_of-lt bs 2, bit_of-lt bs 3, bit_of-lt bs 4, bit_of-lt bs 5, bit_of-lt bs 6, bit_of-lt bs 7)
+byte_of-lt bs =
+    omega (
+      arith,
+      bit_of-lt bs 0,
+      bit_of-lt bs 1,
+      bit_of-lt bs 2,
+      bit_of-lt bs 3,
+      bit_of-lt bs 4,
+      bit_of-lt bs 5,
+      bit_of-lt bs 6,
+      bit_of-lt bs 7,
+    )
 
 packed-AreBytes : (n : ℕ) (bs : List Bool) → AreBytes (packed n bs)
 packed-AreBytes zero bs i = omega arith
@@ -128,12 +192,14 @@ packed-AreBytes (suc n) bs zero = byte_of-lt bs
 packed-AreBytes (suc n) bs (suc i) = packed-AreBytes n (drop 8 bs) i
 
 -- one byte more
-pub pack_more : (n k : ℕ) (bs : List Bool) (front total : List ℕ) → k < n → front ++ packed (n - k) (drop (8 * k) bs) ≡ total → (front ++ byte_of (drop (8 * k) bs) ∷ []) ++ packed (n - (k + 1)) (drop (8 * (k + 1)) bs) ≡ total
+pub pack_more : (n k : ℕ) (bs : List Bool) (front total : List ℕ) → k < n → front ++ packed (n - k) (drop (8 * k) bs) ≡ total
+    → (front ++ byte_of (drop (8 * k) bs) ∷ []) ++ packed (n - (k + 1)) (drop (8 * (k + 1)) bs) ≡ total
 pack_more n k bs front total lt so_far =
     let left : n - k ≡ suc (n - (k + 1)) = omega arith in
     let next : 8 * (k + 1) ≡ 8 * k + 8 = omega arith in
     append_assoc front (byte_of (drop (8 * k) bs) ∷ []) (packed (n - (k + 1)) (drop (8 * (k + 1)) bs))
-    ∙ ap (λ rest. front ++ (byte_of (drop (8 * k) bs) ∷ packed (n - (k + 1)) rest)) (ap (λ i. drop i bs) next ∙ sym (drop-drop 8 (8 * k) bs))
+    ∙ ap (λ rest. front ++ (byte_of (drop (8 * k) bs) ∷ packed (n - (k + 1)) rest))
+    (ap (λ i. drop i bs) next ∙ sym (drop-drop 8 (8 * k) bs))
     ∙ ap (λ i. front ++ packed i (drop (8 * k) bs)) (sym left) ∙ so_far
 
 -- ---- no bit set
@@ -153,7 +219,8 @@ none_from_places (true ∷ xs) h = absurd (no (h 0))
 none_from_places (false ∷ xs) h = none_from_places xs (λ i. h (suc i))
 
 -- with no set padding, the bits are the truths and no more
-pub SameBits-take : (count : ℕ) (bytes : List ℕ) → has_set_padding count bytes ≡ false → SameBits (take count (all_bits bytes)) (all_bits bytes)
+pub SameBits-take : (count : ℕ) (bytes : List ℕ) → has_set_padding count bytes ≡ false
+    → SameBits (take count (all_bits bytes)) (all_bits bytes)
 SameBits-take count bytes unused i =
     elim (cases_lt i count) [
       | inl lt ↦ get_or-take count (all_bits bytes) i false lt
@@ -172,9 +239,12 @@ pub length-truths : (count : ℕ) (bytes : List ℕ) → length bytes ≡ byte_c
 length-truths count bytes whole = omega (arith, length-take count (all_bits bytes), length-all_bits bytes)
 
 -- and are these truths, packed
-pub packed-truths : (count : ℕ) (bytes : List ℕ) → AreBytes bytes → length bytes ≡ byte_count count → has_set_padding count bytes ≡ false → packed (byte_count count) (take count (all_bits bytes)) ≡ bytes
+pub packed-truths : (count : ℕ) (bytes : List ℕ) → AreBytes bytes → length bytes ≡ byte_count count
+    → has_set_padding count bytes ≡ false → packed (byte_count count) (take count (all_bits bytes)) ≡ bytes
 packed-truths count bytes small whole unused =
-    packed-same (byte_count count) (take count (all_bits bytes)) (all_bits bytes) (SameBits-take count bytes unused) ∙ ap (λ n. packed n (all_bits bytes)) (sym whole) ∙ packed-all_bits bytes small
+    packed-same (byte_count count) (take count (all_bits bytes)) (all_bits bytes) (SameBits-take count bytes unused)
+    ∙ ap (λ n. packed n (all_bits bytes)) (sym whole)
+    ∙ packed-all_bits bytes small
 
 -- packed truths are read back
 pub truths-packed : (bs : List Bool) → take (length bs) (all_bits (packed (byte_count (length bs)) bs)) ≡ bs
@@ -183,7 +253,8 @@ truths-packed bs =
     let room : length bs ≤ 8 * n = omega arith in
     let long : length (all_bits (packed n bs)) ≡ 8 * n = length-all_bits (packed n bs) ∙ ap (λ k. 8 * k) (length-packed n bs) in
     ext_get_or false (take (length bs) (all_bits (packed n bs))) bs (omega (arith, length-take (length bs) (all_bits (packed n bs)), long))
-    (λ i lt. get_or-take (length bs) (all_bits (packed n bs)) i false (omega (arith, length-take (length bs) (all_bits (packed n bs)))) ∙ packed-place n bs i room)
+    (λ i lt. get_or-take (length bs) (all_bits (packed n bs)) i false (omega (arith, length-take (length bs) (all_bits (packed n bs))))
+    ∙ packed-place n bs i room)
 
 -- and set no padding
 pub unused-packed : (bs : List Bool) → has_set_padding (length bs) (packed (byte_count (length bs)) bs) ≡ false
@@ -191,10 +262,18 @@ unused-packed bs =
     let n = byte_count (length bs) in
     let room : length bs ≤ 8 * n = omega arith in
     none_from_places (drop (length bs) (all_bits (packed n bs)))
-    (λ i. get_or-drop (length bs) (all_bits (packed n bs)) i false ∙ packed-place n bs (length bs + i) room ∙ get_or_past bs (length bs + i) false (omega arith))
+    (λ i. get_or-drop (length bs) (all_bits (packed n bs)) i false
+    ∙ packed-place n bs (length bs + i) room
+    ∙ get_or_past bs (length bs + i) false (omega arith))
 
 pub packed-IsPacked : (bs : List Bool) → length bs ≤ MAX_BLOCK_VALUES → IsPacked (length bs) (packed (byte_count (length bs)) bs)
-packed-IsPacked bs few = record { whole = length-packed (byte_count (length bs)) bs; unused = unused-packed bs; few = few; small = packed-AreBytes (byte_count (length bs)) bs }
+packed-IsPacked bs few =
+    record {
+      whole = length-packed (byte_count (length bs)) bs;
+      unused = unused-packed bs;
+      few = few;
+      small = packed-AreBytes (byte_count (length bs)) bs;
+    }
 
 -- ---- one truth
 
@@ -209,17 +288,25 @@ get_or-all_bits (byte ∷ bytes) (suc (suc (suc (suc (suc zero))))) = refl
 get_or-all_bits (byte ∷ bytes) (suc (suc (suc (suc (suc (suc zero)))))) = refl
 get_or-all_bits (byte ∷ bytes) (suc (suc (suc (suc (suc (suc (suc zero))))))) = refl
 get_or-all_bits (byte ∷ bytes) (suc (suc (suc (suc (suc (suc (suc (suc j)))))))) =
-    get_or-all_bits bytes j ∙ sym (by ((suc (suc (suc (suc (suc (suc (suc (suc j)))))))) / 8) ((suc (suc (suc (suc (suc (suc (suc (suc j)))))))) % 8) (omega arith) (omega arith))
+    get_or-all_bits bytes j
+    ∙ sym (by ((suc (suc (suc (suc (suc (suc (suc (suc j)))))))) / 8) ((suc (suc (suc (suc (suc (suc (suc (suc j)))))))) % 8)
+    (omega arith) (omega arith))
   where
-    by : (at place : ℕ) → at ≡ suc (j / 8) → place ≡ j % 8 → (bit_at (get_or (byte ∷ bytes) at 0) (7 - place) == 1) ≡ (bit_at (get_or bytes (j / 8) 0) (7 - j % 8) == 1)
+    by : (at place : ℕ) → at ≡ suc (j / 8) → place ≡ j % 8
+        → (bit_at (get_or (byte ∷ bytes) at 0) (7 - place) == 1) ≡ (bit_at (get_or bytes (j / 8) 0) (7 - j % 8) == 1)
     by at place e f = rw (e, f) refl
 
 -- the truth at a place, from the byte that holds it
-pub truth_at : (count : ℕ) (bytes : List ℕ) (i byte : ℕ) → length bytes ≡ byte_count count → i < count → byte ≡ get_or bytes (i / 8) byte → slice_get (take count (all_bits bytes)) i ≡ Some (bit_and (byte / 2 ^ (7 - i % 8)) 1 == 1)
+pub truth_at : (count : ℕ) (bytes : List ℕ) (i byte : ℕ) → length bytes ≡ byte_count count → i < count
+    → byte ≡ get_or bytes (i / 8) byte
+    → slice_get (take count (all_bits bytes)) i ≡ Some (bit_and (byte / 2 ^ (7 - i % 8)) 1 == 1)
 truth_at count bytes i byte whole lt is =
     let read : byte ≡ get_or bytes (i / 8) 0 = get_or_read bytes (i / 8) byte (omega arith) is 0 in
     slice_get-get_or (take count (all_bits bytes)) i false (omega (arith, length-truths count bytes whole))
-    ∙ ap (λ b. Some b) (get_or-take count (all_bits bytes) i false lt ∙ get_or-all_bits bytes i ∙ ap (λ b. bit_at b (7 - i % 8) == 1) (sym read) ∙ ap (λ b. b == 1) (sym (shr_and_one byte (7 - i % 8))))
+    ∙ ap (λ b. Some b) (get_or-take count (all_bits bytes) i false lt
+    ∙ get_or-all_bits bytes i
+    ∙ ap (λ b. bit_at b (7 - i % 8) == 1) (sym read)
+    ∙ ap (λ b. b == 1) (sym (shr_and_one byte (7 - i % 8))))
 
 -- ---- the padding of the last byte
 
@@ -232,7 +319,9 @@ low_bits-any (suc k) byte =
     let more : 1 + k ≡ suc k = omega arith in
     by (bit_at byte k) (bit_at-lt byte k) (rw more at (mod-pow-add byte 1 k)) (low_bits-any k byte)
   where
-    by : (bit : ℕ) → bit < 2 → byte % 2 ^ suc k ≡ bit * 2 ^ k + byte % 2 ^ k → list_any (λ b. b) (low_bits k byte) ≡ not (byte % 2 ^ k == 0) → ((bit == 1) || list_any (λ b. b) (low_bits k byte)) ≡ not (byte % 2 ^ suc k == 0)
+    by : (bit : ℕ) → bit < 2 → byte % 2 ^ suc k ≡ bit * 2 ^ k + byte % 2 ^ k
+        → list_any (λ b. b) (low_bits k byte) ≡ not (byte % 2 ^ k == 0)
+        → ((bit == 1) || list_any (λ b. b) (low_bits k byte)) ≡ not (byte % 2 ^ suc k == 0)
     by zero lt e ih =
         let same : byte % 2 ^ k ≡ byte % 2 ^ suc k = omega (arith, e) in
         ih ∙ ap (λ n. not (n == 0)) same
@@ -249,7 +338,8 @@ drop-all_bits (suc q) r (byte ∷ bytes) =
     ap (λ n. drop n (all_bits (byte ∷ bytes))) e ∙ drop-all_bits q r bytes
 
 -- the last byte holds the padding
-pub padding_of_last : (q r byte : ℕ) (bytes : List ℕ) → r < 8 → length bytes ≡ q + 1 → byte ≡ get_or bytes q byte → has_set_padding (8 * q + r) bytes ≡ not (byte % 2 ^ (8 - r) == 0)
+pub padding_of_last : (q r byte : ℕ) (bytes : List ℕ) → r < 8 → length bytes ≡ q + 1 → byte ≡ get_or bytes q byte
+    → has_set_padding (8 * q + r) bytes ≡ not (byte % 2 ^ (8 - r) == 0)
 padding_of_last q r byte bytes lt long is =
     let last : drop q bytes ≡ byte ∷ [] = drop_more bytes q byte (omega arith) ∙ rw (sym is, drop_all (q + 1) bytes (omega arith)) refl in
     ap (list_any (λ bit. bit)) (drop-all_bits q r bytes ∙ ap (λ rest. drop r (all_bits rest)) last) ∙ dropped r lt

@@ -76,7 +76,8 @@ text_within i at bytes fault e =
     let body = drop 2 bytes in
     let found : List ℕ × List ℕ = (take len body, drop len body) in
     let last = cond (is_utf8 (take len body)) (Ok found) (Err (BadText i)) in
-    elim (guard_err (ltb (length bytes) 2) (Short at) (cond (ltb MAX_TEXT_BYTES len) (Err (TextTooLong i)) (cond (ltb (length body) len) (Err (Short at)) last)) fault e) [
+    elim (guard_err (ltb (length bytes) 2) (Short at)
+    (cond (ltb MAX_TEXT_BYTES len) (Err (TextTooLong i)) (cond (ltb (length body) len) (Err (Short at)) last)) fault e) [
       | inl is ↦ subst (Within at) is (omega arith)
       | inr a ↦
           elim (guard_err (ltb MAX_TEXT_BYTES len) (TextTooLong i) (cond (ltb (length body) len) (Err (Short at)) last) fault a.1) [
@@ -89,15 +90,19 @@ text_within i at bytes fault e =
           ]
     ]
   where
-    bad_within : (b : Bool) (found : List ℕ × List ℕ) (i at : ℕ) (fault : BlockFault) → cond b (Ok found) (Err (BadText i)) ≡ Err fault → Within at fault
+    bad_within : (b : Bool) (found : List ℕ × List ℕ) (i at : ℕ) (fault : BlockFault)
+        → cond b (Ok found) (Err (BadText i)) ≡ Err fault → Within at fault
     bad_within true found i at fault e = absurd cc
     bad_within false found i at fault e = subst (Within at) (err_is (BadText i) fault e) (omega arith)
 
-texts_within : (i at count : ℕ) (bytes : List ℕ) (fault : BlockFault) → texts_at i at count bytes ≡ Err fault → Within (at + length bytes) fault
+texts_within : (i at count : ℕ) (bytes : List ℕ) (fault : BlockFault) → texts_at i at count bytes ≡ Err fault
+    → Within (at + length bytes) fault
 unfolding texts_at
 texts_within i at zero bytes fault e = end_within at bytes fault e
 texts_within i at (suc count) bytes fault e =
-    elim (bind_err (text_at i at bytes) (λ found. and_then (Text found.0) (texts_at (i + 1) (at + 2 + length found.0) count found.1)) fault e) [
+    elim
+    (bind_err (text_at i at bytes) (λ found. and_then (Text found.0) (texts_at (i + 1) (at + 2 + length found.0) count found.1))
+    fault e) [
       | inl here ↦ omega (arith, text_within i at bytes fault here)
       | inr first ↦
           let found = first.0 in
@@ -113,7 +118,8 @@ unfolding truths_of
 truths_within count bytes fault e =
     let found = map Truth (take count (all_bits bytes)) in
     let last = cond (has_set_padding count bytes) (Err BadPadding) (Ok found) in
-    elim (guard_err (ltb (length bytes) (byte_count count)) (Short 0) (cond (ltb (byte_count count) (length bytes)) (Err (Long (byte_count count))) last) fault e) [
+    elim (guard_err (ltb (length bytes) (byte_count count)) (Short 0)
+    (cond (ltb (byte_count count) (length bytes)) (Err (Long (byte_count count))) last) fault e) [
       | inl is ↦ subst (Within (length bytes)) is (omega arith)
       | inr a ↦
           elim (guard_err (ltb (byte_count count) (length bytes)) (Long (byte_count count)) last fault a.1) [
@@ -126,12 +132,14 @@ truths_within count bytes fault e =
           ]
     ]
 
-read_within : (ty : ColumnType) (count : ℕ) (bytes : List ℕ) (fault : BlockFault) → reading_of ty count bytes ≡ Err fault → Within (length bytes) fault
+read_within : (ty : ColumnType) (count : ℕ) (bytes : List ℕ) (fault : BlockFault) → reading_of ty count bytes ≡ Err fault
+    → Within (length bytes) fault
 read_within column.Int count bytes fault e = omega (arith, ints_within 0 count bytes fault e)
 read_within column.Text count bytes fault e = omega (arith, texts_within 0 0 count bytes fault e)
 read_within column.Bool count bytes fault e = truths_within count bytes fault e
 
-pub fault_within : (ty : ColumnType) (count : ℕ) (bytes : List ℕ) (fault : BlockFault) → Fails fault (reading_of ty count bytes) → Within (length bytes) fault
+pub fault_within : (ty : ColumnType) (count : ℕ) (bytes : List ℕ) (fault : BlockFault) → Fails fault (reading_of ty count bytes)
+    → Within (length bytes) fault
 fault_within ty count bytes NoMemory fails = omega arith
 fault_within ty count bytes (BadText i) fails = omega arith
 fault_within ty count bytes (TextTooLong i) fails = omega arith
@@ -141,7 +149,8 @@ fault_within ty count bytes (Short at) fails = read_within ty count bytes (Short
 fault_within ty count bytes (Long at) fails = read_within ty count bytes (Long at) fails
 
 -- the fault behind one more byte
-pub fails_behind : (fault : BlockFault) (reading : Result (List Value) BlockFault) → Fails fault reading → Fails (one_later fault) (behind reading)
+pub fails_behind : (fault : BlockFault) (reading : Result (List Value) BlockFault) → Fails fault reading
+    → Fails (one_later fault) (behind reading)
 fails_behind NoMemory reading fails = tt
 fails_behind (Short at) reading fails = ap behind fails
 fails_behind (Long at) reading fails = ap behind fails
@@ -216,58 +225,76 @@ behind_ok : (reading : Result (List Value) BlockFault) (values : List Value) →
 behind_ok (Ok found) values e = e
 behind_ok (Err fault) values e = absurd cc
 
-plain_takes : (ty : ColumnType) (count : ℕ) (bytes : List ℕ) (values : List Value) → AreBytes bytes → plain_of ty count bytes ≡ Ok values → IsEncoded ty count (PLAIN ∷ bytes) values
+plain_takes : (ty : ColumnType) (count : ℕ) (bytes : List ℕ) (values : List Value) → AreBytes bytes
+    → plain_of ty count bytes ≡ Ok values → IsEncoded ty count (PLAIN ∷ bytes) values
 plain_takes ty count bytes values small e =
     let b = bind_ok (behind (reading_of ty count bytes)) unless_constant values e in
     let g = guard_ok (is_constant b.0) BadEncoding (Ok b.0) values b.2 in
     let p = is_payload ty count bytes b.0 small (behind_ok (reading_of ty count bytes) b.0 b.1) in
-    let made : IsEncoded ty count (PLAIN ∷ bytes) b.0 = record { counted = p.counted; fit = p.fit; spelt = rw g.0 (ap (λ rest. PLAIN ∷ rest) p.spelt) } in
+    let made : IsEncoded ty count (PLAIN ∷ bytes) b.0 =
+    record { counted = p.counted; fit = p.fit; spelt = rw g.0 (ap (λ rest. PLAIN ∷ rest) p.spelt) } in
     subst (IsEncoded ty count (PLAIN ∷ bytes)) (ok_is b.0 values g.1) made
 
-copies_take : (ty : ColumnType) (count : ℕ) (bytes : List ℕ) (found : List Value) → 2 ≤ count → IsPayload ty 1 bytes found → IsEncoded ty count (CONSTANT ∷ bytes) (copies_of count found)
+copies_take : (ty : ColumnType) (count : ℕ) (bytes : List ℕ) (found : List Value) → 2 ≤ count → IsPayload ty 1 bytes found
+    → IsEncoded ty count (CONSTANT ∷ bytes) (copies_of count found)
 copies_take ty count bytes [] many p = absurd (omega (arith, p.counted))
 copies_take ty count bytes (value ∷ other ∷ values) many p = absurd (omega (arith, p.counted))
 copies_take ty count bytes (value ∷ []) many p = record {
   counted = length-replicate count value;
   fit = fit_again ty value count p.fit.0;
-  spelt = rw (constant_again value count many) (ap (λ rest. CONSTANT ∷ rest) (p.spelt ∙ ap (payload_of ty) (sym (take-replicate 1 count value (omega (arith, many))))));
+  spelt =
+      rw (constant_again value count many)
+      (ap (λ rest. CONSTANT ∷ rest) (p.spelt ∙ ap (payload_of ty) (sym (take-replicate 1 count value (omega (arith, many))))));
 }
 
-constant_takes : (ty : ColumnType) (count : ℕ) (bytes : List ℕ) (values : List Value) → AreBytes bytes → constant_of ty count bytes ≡ Ok values → IsEncoded ty count (CONSTANT ∷ bytes) values
+constant_takes : (ty : ColumnType) (count : ℕ) (bytes : List ℕ) (values : List Value) → AreBytes bytes
+    → constant_of ty count bytes ≡ Ok values → IsEncoded ty count (CONSTANT ∷ bytes) values
 constant_takes ty count bytes values small e =
     let g = guard_ok (ltb count 2) BadEncoding (behind (reading_of ty 1 bytes) >>= λ found. Ok (copies_of count found)) values e in
     let b = bind_ok (behind (reading_of ty 1 bytes)) (λ found. Ok (copies_of count found)) values g.1 in
     let p = is_payload ty 1 bytes b.0 small (behind_ok (reading_of ty 1 bytes) b.0 b.1) in
-    subst (IsEncoded ty count (CONSTANT ∷ bytes)) (ok_is (copies_of count b.0) values b.2) (copies_take ty count bytes b.0 (ltb-false _ _ g.0) p)
+    subst (IsEncoded ty count (CONSTANT ∷ bytes)) (ok_is (copies_of count b.0) values b.2)
+    (copies_take ty count bytes b.0 (ltb-false _ _ g.0) p)
 
 pub is_encoded : WhatDecodesIsAnEncoding
 is_encoded ty count [] values small e = absurd cc
 is_encoded ty count (encoding ∷ bytes) values small e =
     elim (eqb_tells encoding PLAIN) [
       | inl plain ↦
-          subst (λ n. IsEncoded ty count (n ∷ bytes) values) (sym plain.1) (plain_takes ty count bytes values (AreBytes-drop 1 (encoding ∷ bytes) small)
-          (sym (ap (λ b. cond b (plain_of ty count bytes) (cond (eqb encoding CONSTANT) (constant_of ty count bytes) (Err BadEncoding))) plain.0) ∙ e))
+          subst (λ n. IsEncoded ty count (n ∷ bytes) values) (sym plain.1)
+          (plain_takes ty count bytes values (AreBytes-drop 1 (encoding ∷ bytes) small)
+          (sym (ap
+          (λ b. cond b (plain_of ty count bytes) (cond (eqb encoding CONSTANT) (constant_of ty count bytes) (Err BadEncoding)))
+          plain.0)
+          ∙ e))
       | inr other ↦
-          let left = sym (ap (λ b. cond b (plain_of ty count bytes) (cond (eqb encoding CONSTANT) (constant_of ty count bytes) (Err BadEncoding))) other.0) ∙ e in
+          let left =
+          sym (ap (λ b. cond b (plain_of ty count bytes)
+          (cond (eqb encoding CONSTANT) (constant_of ty count bytes) (Err BadEncoding))) other.0)
+          ∙ e in
           elim (eqb_tells encoding CONSTANT) [
             | inl constant ↦
-                subst (λ n. IsEncoded ty count (n ∷ bytes) values) (sym constant.1) (constant_takes ty count bytes values (AreBytes-drop 1 (encoding ∷ bytes) small)
+                subst (λ n. IsEncoded ty count (n ∷ bytes) values) (sym constant.1)
+                (constant_takes ty count bytes values (AreBytes-drop 1 (encoding ∷ bytes) small)
                 (sym (ap (λ b. cond b (constant_of ty count bytes) (Err BadEncoding)) constant.0) ∙ left))
             | inr none ↦ absurd (cc (sym (ap (λ b. cond b (constant_of ty count bytes) (Err BadEncoding)) none.0) ∙ left))
           ]
     ]
 
-plain_again : (ty : ColumnType) (values : List Value) → AllFit ty values → is_constant values ≡ false → plain_of ty (length values) (payload_of ty values) ≡ Ok values
+plain_again : (ty : ColumnType) (values : List Value) → AllFit ty values → is_constant values ≡ false
+    → plain_of ty (length values) (payload_of ty values) ≡ Ok values
 plain_again ty values fit differ = rw (reads_back ty values fit, differ) refl
 
-constant_read : (ty : ColumnType) (value other : Value) (values : List Value) → AllFit ty (value ∷ other ∷ values) → list_all (same value) (other ∷ values) ≡ true
+constant_read : (ty : ColumnType) (value other : Value) (values : List Value) → AllFit ty (value ∷ other ∷ values)
+    → list_all (same value) (other ∷ values) ≡ true
     → constant_of ty (length (value ∷ other ∷ values)) (payload_of ty (value ∷ [])) ≡ Ok (value ∷ other ∷ values)
 constant_read ty value other values fit e =
     let many : ltb (length (value ∷ other ∷ values)) 2 ≡ false = le-ltb _ _ (omega arith) in
     let one : reading_of ty 1 (payload_of ty (value ∷ [])) ≡ Ok (value ∷ []) = reads_back ty (value ∷ []) (fit.0, tt) in
     rw (many, one) (ap (λ vs. Ok (value ∷ vs)) (all_equal value (other ∷ values) e))
 
-encoded_reads : (ty : ColumnType) (values : List Value) (constant : Bool) → is_constant values ≡ constant → AllFit ty values → decoding_of ty (length values) (encoded_of ty values) ≡ Ok values
+encoded_reads : (ty : ColumnType) (values : List Value) (constant : Bool) → is_constant values ≡ constant → AllFit ty values
+    → decoding_of ty (length values) (encoded_of ty values) ≡ Ok values
 encoded_reads ty values false is fit = rw is (plain_again ty values fit is)
 encoded_reads ty [] true is fit = absurd cc
 encoded_reads ty (value ∷ []) true is fit = absurd cc
@@ -277,12 +304,14 @@ pub encoding_reads_back : AnEncodingReadsBack
 encoding_reads_back ty values fit = encoded_reads ty values (is_constant values) refl fit
 
 -- the payload of values reads as these values
-pub encoding_reads : (ty : ColumnType) (count : ℕ) (bytes : List ℕ) (values : List Value) → IsEncoded ty count bytes values → decoding_of ty count bytes ≡ Ok values
+pub encoding_reads : (ty : ColumnType) (count : ℕ) (bytes : List ℕ) (values : List Value) → IsEncoded ty count bytes values
+    → decoding_of ty count bytes ≡ Ok values
 encoding_reads ty count bytes values p =
     ap (λ n. decoding_of ty n bytes) (sym p.counted) ∙ ap (decoding_of ty (length values)) p.spelt ∙ encoding_reads_back ty values p.fit
 
 pub encoding_of_one_list : AnEncodingIsOfOneList
-encoding_of_one_list ty count bytes values others p q = ok_is values others (sym (encoding_reads ty count bytes values p) ∙ encoding_reads ty count bytes others q)
+encoding_of_one_list ty count bytes values others p q =
+    ok_is values others (sym (encoding_reads ty count bytes values p) ∙ encoding_reads ty count bytes others q)
 
 -- ---- a value that fits may be pushed
 
@@ -304,9 +333,11 @@ some_is : (x y : Value) → there x ≡ there y → x ≡ y
 some_is x y e = cc
 
 -- the first of values that fit may be pushed
-pub first_typed : (ty : ColumnType) (values : List Value) (value : Value) → slice_get values 0 ≡ Some value → AllFit ty values → IsTrue (has_type ty value) × IsFalse (is_too_long value)
+pub first_typed : (ty : ColumnType) (values : List Value) (value : Value) → slice_get values 0 ≡ Some value → AllFit ty values
+    → IsTrue (has_type ty value) × IsFalse (is_too_long value)
 first_typed ty [] value is fit = absurd cc
-first_typed ty (first ∷ values) value is fit = subst (λ v. IsTrue (has_type ty v) × IsFalse (is_too_long v)) (some_is first value is) (fits_typed ty first fit.0)
+first_typed ty (first ∷ values) value is fit =
+    subst (λ v. IsTrue (has_type ty v) × IsFalse (is_too_long v)) (some_is first value is) (fits_typed ty first fit.0)
 
 -- the payload of the first truth
 pub first_truth : (bs : List Bool) (b : Bool) → slice_get bs 0 ≡ Some b → payload_of column.Bool (take 1 (map Truth bs)) ≡ cond b 128 0 ∷ []
@@ -318,11 +349,14 @@ first_truth (false ∷ bs) false is = refl
 
 -- ---- what a reader answered
 
-pub found_is : (ty : ColumnType) (count : ℕ) (bytes : List ℕ) (r : Result Column BlockFault) → AreBytes bytes → IfOk r (λ block. block.ty ≡ ty)
-    → Gives (λ block. block.values) r (decoding_of ty count bytes) → IfOk r (λ block. (block.ty ≡ ty) × IsEncoded ty count bytes block.values)
+pub found_is : (ty : ColumnType) (count : ℕ) (bytes : List ℕ) (r : Result Column BlockFault) → AreBytes bytes
+    → IfOk r (λ block. block.ty ≡ ty)
+    → Gives (λ block. block.values) r (decoding_of ty count bytes)
+    → IfOk r (λ block. (block.ty ≡ ty) × IsEncoded ty count bytes block.values)
 found_is ty count bytes (Ok block) small same gives = (same, is_encoded ty count bytes block.values small gives)
 found_is ty count bytes (Err fault) small same gives = tt
 
-pub only_is : (ty : ColumnType) (count : ℕ) (bytes : List ℕ) (r : Result Column BlockFault) → Gives (λ block. block.values) r (decoding_of ty count bytes)
+pub only_is : (ty : ColumnType) (count : ℕ) (bytes : List ℕ) (r : Result Column BlockFault)
+    → Gives (λ block. block.values) r (decoding_of ty count bytes)
     → (values : List Value) → IsEncoded ty count bytes values → Gives (λ block. block.values) r (Ok values)
 only_is ty count bytes r gives values p = subst (Gives (λ block. block.values) r) (encoding_reads ty count bytes values p) gives

@@ -31,12 +31,14 @@ AreBytes-take n bytes small i =
 -- ---- what a step answered
 
 -- the value of a step that did not fail
-pub bind_ok : {A B : Type 0} (r : Result A BlockFault) (next : A → Result B BlockFault) (y : B) → (r >>= next) ≡ Ok y → (x : A) × (r ≡ Ok x) × (next x ≡ Ok y)
+pub bind_ok : {A B : Type 0} (r : Result A BlockFault) (next : A → Result B BlockFault) (y : B) → (r >>= next) ≡ Ok y
+    → (x : A) × (r ≡ Ok x) × (next x ≡ Ok y)
 bind_ok (Ok x) next y e = (x, refl, e)
 bind_ok (Err fault) next y e = absurd cc
 
 -- a test that did not fail
-pub guard_ok : {A : Type 0} (b : Bool) (fault : BlockFault) (x : Result A BlockFault) (y : A) → cond b (Err fault) x ≡ Ok y → (b ≡ false) × (x ≡ Ok y)
+pub guard_ok : {A : Type 0} (b : Bool) (fault : BlockFault) (x : Result A BlockFault) (y : A) → cond b (Err fault) x ≡ Ok y
+    → (b ≡ false) × (x ≡ Ok y)
 guard_ok true fault x y e = absurd cc
 guard_ok false fault x y e = (refl, e)
 
@@ -73,28 +75,37 @@ unsigned_lt (negsuc n) fits = omega (arith, fits.sfits)
 
 -- the spelling of a number spells it
 int_again : (x : ℤ) → FitsSigned w64 x → int_of (spelling (Int x)) ≡ Int x
-int_again x fits = ap Int (ap (cast_signed w64) (from_be_bytes-to_be_bytes_8 (cast_unsigned w64 x) (unsigned_lt x fits)) ∙ to_z-of_z w64 x fits)
+int_again x fits =
+    ap Int (ap (cast_signed w64) (from_be_bytes-to_be_bytes_8 (cast_unsigned w64 x) (unsigned_lt x fits)) ∙ to_z-of_z w64 x fits)
 
 -- ---- numbers
 
 -- what was read is numbers, and bytes are their spelling
-pub ints_take : (at count : ℕ) (bytes : List ℕ) (values : List Value) → AreBytes bytes → ints_at at count bytes ≡ Ok values → (length values ≡ count) × AllFit column.Int values × (bytes ≡ flat_map spelling values)
+pub ints_take : (at count : ℕ) (bytes : List ℕ) (values : List Value) → AreBytes bytes → ints_at at count bytes ≡ Ok values
+    → (length values ≡ count) × AllFit column.Int values × (bytes ≡ flat_map spelling values)
 unfolding ints_at
 ints_take at zero bytes values small e =
     let nothing = end_ok at bytes values e in
     subst (λ vs. (length vs ≡ 0) × AllFit column.Int vs × (bytes ≡ flat_map spelling vs)) (sym nothing.1) (refl, tt, nothing.0)
 ints_take at (suc count) bytes values small e =
-    let g = guard_ok (ltb (length bytes) 8) (Short at) (and_then (int_of (take 8 bytes)) (ints_at (at + 8) count (drop 8 bytes))) values e in
+    let g =
+    guard_ok (ltb (length bytes) 8) (Short at) (and_then (int_of (take 8 bytes)) (ints_at (at + 8) count (drop 8 bytes)))
+    values e in
     let long : 8 ≤ length bytes = ltb-false _ _ g.0 in
     let b = bind_ok (ints_at (at + 8) count (drop 8 bytes)) (λ others. Ok (int_of (take 8 bytes) ∷ others)) values g.1 in
     let others = ints_take (at + 8) count (drop 8 bytes) b.0 (AreBytes-drop 8 bytes small) b.1 in
     let first = int_spelt (take 8 bytes) (omega (arith, length-take 8 bytes)) (AreBytes-take 8 bytes small) in
-    let whole : bytes ≡ flat_map spelling (int_of (take 8 bytes) ∷ b.0) = sym (take-append-drop 8 bytes) ∙ ap (λ front. front ++ drop 8 bytes) (sym first) ∙ ap (λ rest. spelling (int_of (take 8 bytes)) ++ rest) others.2 in
-    subst (λ vs. (length vs ≡ suc count) × AllFit column.Int vs × (bytes ≡ flat_map spelling vs)) (ok_is (int_of (take 8 bytes) ∷ b.0) values b.2)
+    let whole : bytes ≡ flat_map spelling (int_of (take 8 bytes) ∷ b.0) =
+    sym (take-append-drop 8 bytes)
+    ∙ ap (λ front. front ++ drop 8 bytes) (sym first)
+    ∙ ap (λ rest. spelling (int_of (take 8 bytes)) ++ rest) others.2 in
+    subst (λ vs. (length vs ≡ suc count) × AllFit column.Int vs × (bytes ≡ flat_map spelling vs))
+    (ok_is (int_of (take 8 bytes) ∷ b.0) values b.2)
     (ap suc others.0, (int_fits (take 8 bytes) (AreBytes-take 8 bytes small), others.1), whole)
 
 -- eight bytes are a number, and the rest the others
-ints_step : (at count : ℕ) (word rest : List ℕ) → length word ≡ 8 → ints_at at (suc count) (word ++ rest) ≡ and_then (int_of word) (ints_at (at + 8) count rest)
+ints_step : (at count : ℕ) (word rest : List ℕ) → length word ≡ 8
+    → ints_at at (suc count) (word ++ rest) ≡ and_then (int_of word) (ints_at (at + 8) count rest)
 unfolding ints_at
 ints_step at count word rest eight =
     let long : ltb (length (word ++ rest)) 8 ≡ false = le-ltb _ _ (omega (arith, length-append word rest)) in
@@ -106,7 +117,8 @@ unfolding ints_at
 ints_none at = refl
 
 -- the spelling of numbers is read as these numbers
-pub ints_again : (at : ℕ) (values : List Value) → AllFit column.Int values → ints_at at (length values) (flat_map spelling values) ≡ Ok values
+pub ints_again : (at : ℕ) (values : List Value) → AllFit column.Int values
+    → ints_at at (length values) (flat_map spelling values) ≡ Ok values
 ints_again at [] fit = ints_none at
 ints_again at (Int x ∷ values) fit =
     ints_step at (length values) (spelling (Int x)) (flat_map spelling values) refl
@@ -117,7 +129,8 @@ ints_again at (Truth b ∷ values) fit = absurd fit.0
 -- ---- the test of the length, once for all
 
 -- as many whole words as there are, and fewer than the numbers: the first fault is at their end
-pub ints_short : (at count : ℕ) (bytes : List ℕ) → length bytes / 8 < count → ints_at at count bytes ≡ Err (Short (at + 8 * (length bytes / 8)))
+pub ints_short : (at count : ℕ) (bytes : List ℕ) → length bytes / 8 < count
+    → ints_at at count bytes ≡ Err (Short (at + 8 * (length bytes / 8)))
 unfolding ints_at
 ints_short at zero bytes lt = absurd (omega arith)
 ints_short at (suc count) bytes lt =
@@ -149,7 +162,8 @@ map-int_of [] = refl
 map-int_of (word ∷ words) = ap (λ others. int_of word ∷ others) (map-int_of words)
 
 -- as many bytes as the numbers take
-pub ints_exact : (at count : ℕ) (bytes : List ℕ) → length bytes ≡ 8 * count → ints_at at count bytes ≡ Ok (map int_of (first_chunks 8 count bytes))
+pub ints_exact : (at count : ℕ) (bytes : List ℕ) → length bytes ≡ 8 * count
+    → ints_at at count bytes ≡ Ok (map int_of (first_chunks 8 count bytes))
 unfolding ints_at
 ints_exact at zero [] whole = refl
 ints_exact at zero (byte ∷ bytes) whole = absurd (omega arith)

@@ -42,10 +42,12 @@ pack_new (suc n) (a ∷ b ∷ c ∷ d ∷ []) t is = absurd (omega (arith, is))
 pack_new (suc n) (a ∷ b ∷ c ∷ d ∷ e ∷ []) t is = absurd (omega (arith, is))
 pack_new (suc n) (a ∷ b ∷ c ∷ d ∷ e ∷ f ∷ []) t is = absurd (omega (arith, is))
 pack_new (suc n) (a ∷ b ∷ c ∷ d ∷ e ∷ f ∷ g ∷ []) t is = absurd (omega (arith, is))
-pack_new (suc n) (a ∷ b ∷ c ∷ d ∷ e ∷ f ∷ g ∷ h ∷ bs) t is = ap (λ rest. byte_of (a ∷ b ∷ c ∷ d ∷ e ∷ f ∷ g ∷ h ∷ bs) ∷ rest) (pack_new n bs t (omega (arith, is)))
+pack_new (suc n) (a ∷ b ∷ c ∷ d ∷ e ∷ f ∷ g ∷ h ∷ bs) t is =
+    ap (λ rest. byte_of (a ∷ b ∷ c ∷ d ∷ e ∷ f ∷ g ∷ h ∷ bs) ∷ rest) (pack_new n bs t (omega (arith, is)))
 
 -- and where the last isn't
-pack_into : (q : ℕ) (bs : List Bool) (t : Bool) (r : ℕ) → length bs ≡ 8 * q + r → r < 8 → packed (suc q) (bs ++ t ∷ []) ≡ slice_set (packed (suc q) bs) q (get_or (packed (suc q) bs) q 0 + weight t r)
+pack_into : (q : ℕ) (bs : List Bool) (t : Bool) (r : ℕ) → length bs ≡ 8 * q + r → r < 8
+    → packed (suc q) (bs ++ t ∷ []) ≡ slice_set (packed (suc q) bs) q (get_or (packed (suc q) bs) q 0 + weight t r)
 pack_into zero bs t r is lt =
     let same : length bs ≡ r = omega (arith, is) in
     ap (λ byte. byte ∷ []) (byte_more bs t (omega (arith, same, lt)) ∙ ap (λ k. byte_of bs + weight t k) same)
@@ -57,7 +59,8 @@ pack_into (suc q) (a ∷ b ∷ c ∷ d ∷ []) t r is lt = absurd (omega (arith,
 pack_into (suc q) (a ∷ b ∷ c ∷ d ∷ e ∷ []) t r is lt = absurd (omega (arith, is))
 pack_into (suc q) (a ∷ b ∷ c ∷ d ∷ e ∷ f ∷ []) t r is lt = absurd (omega (arith, is))
 pack_into (suc q) (a ∷ b ∷ c ∷ d ∷ e ∷ f ∷ g ∷ []) t r is lt = absurd (omega (arith, is))
-pack_into (suc q) (a ∷ b ∷ c ∷ d ∷ e ∷ f ∷ g ∷ h ∷ bs) t r is lt = ap (λ rest. byte_of (a ∷ b ∷ c ∷ d ∷ e ∷ f ∷ g ∷ h ∷ bs) ∷ rest) (pack_into q bs t r (omega (arith, is)) lt)
+pack_into (suc q) (a ∷ b ∷ c ∷ d ∷ e ∷ f ∷ g ∷ h ∷ bs) t r is lt =
+    ap (λ rest. byte_of (a ∷ b ∷ c ∷ d ∷ e ∷ f ∷ g ∷ h ∷ bs) ∷ rest) (pack_into q bs t r (omega (arith, is)) lt)
 
 -- and the sum is a byte
 into_fits : (q : ℕ) (bs : List Bool) (t : Bool) (r : ℕ) → length bs ≡ 8 * q + r → r < 8 → get_or (packed (suc q) bs) q 0 + weight t r < 256
@@ -76,7 +79,8 @@ into_fits (suc q) (a ∷ b ∷ c ∷ d ∷ e ∷ f ∷ g ∷ h ∷ bs) t r is lt
 
 -- ---- so many truths, and one more
 
-module _ (count : ℕ) (bs : List Bool) (is : length bs ≡ count) (bytes : List ℕ) (packs : bytes ≡ packed (byte_count count) bs) (t : Bool) (bit : ℕ) (bit_is : bit ≡ weight t (count % 8)) where
+module _ (count : ℕ) (bs : List Bool) (is : length bs ≡ count) (bytes : List ℕ) (packs : bytes ≡ packed (byte_count count) bs)
+    (t : Bool) (bit : ℕ) (bit_is : bit ≡ weight t (count % 8)) where
   -- where the last byte is full, it stands in a byte of its own
   pub more_in_new : count % 8 ≡ 0 → bytes ++ bit ∷ [] ≡ packed (byte_count (count + 1)) (bs ++ t ∷ [])
   more_in_new full =
@@ -101,11 +105,13 @@ module _ (count : ℕ) (bs : List Bool) (is : length bs ≡ count) (bytes : List
     last_there = omega (arith, ap length bytes_are, length-packed (suc (count / 8)) bs)
 
     -- and else in the last byte
-    pub more_in_last : (byte : ℕ) → byte ≡ get_or bytes (count / 8) byte → slice_set bytes (count / 8) (byte + bit) ≡ packed (byte_count (count + 1)) (bs ++ t ∷ [])
+    pub more_in_last : (byte : ℕ) → byte ≡ get_or bytes (count / 8) byte
+        → slice_set bytes (count / 8) (byte + bit) ≡ packed (byte_count (count + 1)) (bs ++ t ∷ [])
     more_in_last byte read =
         let q = count / 8 in
         let next : suc q ≡ byte_count (count + 1) = omega (arith, part) in
-        let here : byte ≡ get_or (packed (suc q) bs) q 0 = read ∙ get_or_default bytes q byte 0 last_there ∙ ap (λ xs. get_or xs q 0) bytes_are in
+        let here : byte ≡ get_or (packed (suc q) bs) q 0 =
+        read ∙ get_or_default bytes q byte 0 last_there ∙ ap (λ xs. get_or xs q 0) bytes_are in
         (λ i. slice_set (bytes_are i) q (here i + bit_is i))
         ∙ sym (pack_into q bs t (count % 8) parted (omega arith))
         ∙ ap (λ k. packed k (bs ++ t ∷ [])) next
@@ -113,7 +119,8 @@ module _ (count : ℕ) (bs : List Bool) (is : length bs ≡ count) (bytes : List
     pub last_fits : (byte : ℕ) → byte ≡ get_or bytes (count / 8) byte → byte + bit < 256
     last_fits byte read =
         let q = count / 8 in
-        let here : byte ≡ get_or (packed (suc q) bs) q 0 = read ∙ get_or_default bytes q byte 0 last_there ∙ ap (λ xs. get_or xs q 0) bytes_are in
+        let here : byte ≡ get_or (packed (suc q) bs) q 0 =
+        read ∙ get_or_default bytes q byte 0 last_there ∙ ap (λ xs. get_or xs q 0) bytes_are in
         omega (arith, here, bit_is, into_fits q bs t (count % 8) parted (omega arith))
 
 -- ---- as a list of truths
@@ -132,7 +139,11 @@ module _ (count : ℕ) (bytes : List ℕ) (h : IsPacked count bytes) where
     pub longer_IsPacked : count + length ts ≤ MAX_BLOCK_VALUES → IsPacked (count + length ts) longer
     longer_IsPacked few =
         subst (IsPacked (count + length ts)) (sym is)
-        (subst (λ n. IsPacked n (packed (byte_count n) (truths ++ ts))) counted (packed-IsPacked (truths ++ ts) (omega (arith, counted, few))))
+        (subst (λ n. IsPacked n (packed (byte_count n) (truths ++ ts))) counted
+        (packed-IsPacked (truths ++ ts) (omega (arith, counted, few))))
 
     pub longer_truths : take (count + length ts) (all_bits longer) ≡ truths ++ ts
-    longer_truths = ap (λ xs. take (count + length ts) (all_bits xs)) is ∙ subst (λ n. take n (all_bits (packed (byte_count n) (truths ++ ts))) ≡ truths ++ ts) counted (truths-packed (truths ++ ts))
+    longer_truths =
+        ap (λ xs. take (count + length ts) (all_bits xs)) is
+        ∙ subst (λ n. take n (all_bits (packed (byte_count n) (truths ++ ts))) ≡ truths ++ ts) counted
+        (truths-packed (truths ++ ts))

@@ -6,7 +6,8 @@ use Rattle.std.proofs.lemmas.Option.{slice_get_within, get_or_from_slice_get}
 use Rattle.blocks.specs.Column.{Column, IsBlock}
 
 -- one more of the run
-pub run_more : {X : Type 0} (front xs : List X) (start i : ℕ) (x : X) → slice_get xs (start + i) ≡ Some x → (front ++ take i (drop start xs)) ++ x ∷ [] ≡ front ++ take (i + 1) (drop start xs)
+pub run_more : {X : Type 0} (front xs : List X) (start i : ℕ) (x : X) → slice_get xs (start + i) ≡ Some x
+    → (front ++ take i (drop start xs)) ++ x ∷ [] ≡ front ++ take (i + 1) (drop start xs)
 run_more front xs start i x e =
     let within : i < length (drop start xs) = omega (arith, slice_get_within xs (start + i) x e, length-drop start xs) in
     let there : get_or (drop start xs) i x ≡ x = get_or-drop start xs i x ∙ get_or_from_slice_get xs (start + i) x x e in
@@ -18,13 +19,16 @@ pub length-run : {X : Type 0} (xs : List X) (start i : ℕ) → start + i ≤ le
 length-run xs start i within = omega (arith, length-take i (drop start xs), length-drop start xs)
 
 -- how long a list is with a run after it
-pub length-with_run : {X : Type 0} (front xs : List X) (start i : ℕ) → start + i ≤ length xs → length (front ++ take i (drop start xs)) ≡ length front + i
+pub length-with_run : {X : Type 0} (front xs : List X) (start i : ℕ) → start + i ≤ length xs
+    → length (front ++ take i (drop start xs)) ≡ length front + i
 length-with_run front xs start i within = omega (arith, length-append front (take i (drop start xs)), length-run xs start i within)
 
 -- a list and a run of another, each with its elements changed
-pub map-with_run : {X Y : Type 0} (f : X → Y) (front xs : List X) (start i : ℕ) → map f (front ++ take i (drop start xs)) ≡ map f front ++ take i (drop start (map f xs))
+pub map-with_run : {X Y : Type 0} (f : X → Y) (front xs : List X) (start i : ℕ)
+    → map f (front ++ take i (drop start xs)) ≡ map f front ++ take i (drop start (map f xs))
 map-with_run f front xs start i =
-    map-append f front (take i (drop start xs)) ∙ ap (λ run. map f front ++ run) (sym (take-map f i (drop start xs)) ∙ ap (take i) (sym (drop-map f start xs)))
+    map-append f front (take i (drop start xs))
+    ∙ ap (λ run. map f front ++ run) (sym (take-map f i (drop start xs)) ∙ ap (take i) (sym (drop-map f start xs)))
 
 -- ---- what holds of each
 
@@ -42,7 +46,8 @@ all_drop P zero xs h = h
 all_drop P (suc i) [] h = tt
 all_drop P (suc i) (x ∷ xs) h = all_drop P i xs h.1
 
-pub all_with_run : {X : Type 0} (P : X → Type 0) (front xs : List X) (start i : ℕ) → AllByRecursion P front → AllByRecursion P xs → AllByRecursion P (front ++ take i (drop start xs))
+pub all_with_run : {X : Type 0} (P : X → Type 0) (front xs : List X) (start i : ℕ) → AllByRecursion P front → AllByRecursion P xs
+    → AllByRecursion P (front ++ take i (drop start xs))
 all_with_run P front xs start i h k = all_append P front (take i (drop start xs)) h (all_take P i (drop start xs) (all_drop P start xs k))
 
 -- a block that took values, or stayed as it was, is a block

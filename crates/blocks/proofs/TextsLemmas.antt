@@ -39,8 +39,14 @@ text_ok i at bytes t rest e =
     let len = length_of bytes in
     let body = drop 2 bytes in
     let found : List ℕ × List ℕ = (take len body, drop len body) in
-    let a = guard_ok (ltb (length bytes) 2) (Short at) (cond (ltb MAX_TEXT_BYTES len) (Err (TextTooLong i)) (cond (ltb (length body) len) (Err (Short at)) (cond (is_utf8 (take len body)) (Ok found) (Err (BadText i))))) (t, rest) e in
-    let b = guard_ok (ltb MAX_TEXT_BYTES len) (TextTooLong i) (cond (ltb (length body) len) (Err (Short at)) (cond (is_utf8 (take len body)) (Ok found) (Err (BadText i)))) (t, rest) a.1 in
+    let a =
+    guard_ok (ltb (length bytes) 2) (Short at) (cond (ltb MAX_TEXT_BYTES len) (Err (TextTooLong i))
+    (cond (ltb (length body) len) (Err (Short at)) (cond (is_utf8 (take len body)) (Ok found) (Err (BadText i))))) (t, rest)
+    e in
+    let b =
+    guard_ok (ltb MAX_TEXT_BYTES len) (TextTooLong i)
+    (cond (ltb (length body) len) (Err (Short at)) (cond (is_utf8 (take len body)) (Ok found) (Err (BadText i)))) (t, rest)
+    a.1 in
     let c = guard_ok (ltb (length body) len) (Short at) (cond (is_utf8 (take len body)) (Ok found) (Err (BadText i))) (t, rest) b.1 in
     let d = test_ok (is_utf8 (take len body)) (BadText i) found (t, rest) c.1 in
     record {
@@ -63,7 +69,10 @@ text_measured i at bytes t rest e =
     let len = length_of bytes in
     let body = drop 2 bytes in
     let t-long : length t ≡ len = omega (arith, ap length found.first, length-take len body, found.long) in
-    record { short = omega (arith, t-long, found.short); counted = omega (arith, t-long, ap length found.others, length-drop len body, length-drop 2 bytes, found.long, found.two) }
+    record {
+      short = omega (arith, t-long, found.short);
+      counted = omega (arith, t-long, ap length found.others, length-drop len body, length-drop 2 bytes, found.long, found.two);
+    }
 
 -- the front of the bytes is the spelling of a text
 record Taken (bytes t rest : List ℕ) : Type 0 where
@@ -77,10 +86,14 @@ text_takes i at bytes t rest small e =
     let len = length_of bytes in
     let body = drop 2 bytes in
     let counted : length (take len body) ≡ len = omega (arith, length-take len body, found.long) in
-    let front : to_be_bytes w16 len ≡ take 2 bytes = be_bytes_2 (take 2 bytes) len (omega (arith, length-take 2 bytes, found.two)) (AreBytes-take 2 bytes small) refl in
+    let front : to_be_bytes w16 len ≡ take 2 bytes =
+    be_bytes_2 (take 2 bytes) len (omega (arith, length-take 2 bytes, found.two)) (AreBytes-take 2 bytes small) refl in
     let whole : bytes ≡ spelling (Text (take len body)) ++ drop len body =
-    sym (take-append-drop 2 bytes) ∙ ap (λ xs. xs ++ body) (sym front) ∙ ap (λ xs. to_be_bytes w16 len ++ xs) (sym (take-append-drop len body))
-    ∙ sym (append_assoc (to_be_bytes w16 len) (take len body) (drop len body)) ∙ ap (λ n. (to_be_bytes w16 n ++ take len body) ++ drop len body) (sym counted) in
+    sym (take-append-drop 2 bytes)
+    ∙ ap (λ xs. xs ++ body) (sym front)
+    ∙ ap (λ xs. to_be_bytes w16 len ++ xs) (sym (take-append-drop len body))
+    ∙ sym (append_assoc (to_be_bytes w16 len) (take len body) (drop len body))
+    ∙ ap (λ n. (to_be_bytes w16 n ++ take len body) ++ drop len body) (sym counted) in
     let made : Taken bytes (take len body) (drop len body) = record {
       text = record { utf8 = found.utf8; short = omega (arith, counted, found.short) };
       spelt = whole;
@@ -89,39 +102,56 @@ text_takes i at bytes t rest small e =
     subst (λ xs. Taken bytes t xs) found.others (subst (λ xs. Taken bytes xs (drop len body)) found.first made)
 
 -- what was read is texts, and bytes are their spelling
-pub texts_take : (i at count : ℕ) (bytes : List ℕ) (values : List Value) → AreBytes bytes → texts_at i at count bytes ≡ Ok values → (length values ≡ count) × AllFit column.Text values × (bytes ≡ flat_map spelling values)
+pub texts_take : (i at count : ℕ) (bytes : List ℕ) (values : List Value) → AreBytes bytes → texts_at i at count bytes ≡ Ok values
+    → (length values ≡ count) × AllFit column.Text values × (bytes ≡ flat_map spelling values)
 unfolding texts_at
 texts_take i at zero bytes values small e =
     let nothing = end_ok at bytes values e in
     subst (λ vs. (length vs ≡ 0) × AllFit column.Text vs × (bytes ≡ flat_map spelling vs)) (sym nothing.1) (refl, tt, nothing.0)
 texts_take i at (suc count) bytes values small e =
-    let a = bind_ok (text_at i at bytes) (λ found. and_then (Text found.0) (texts_at (i + 1) (at + 2 + length found.0) count found.1)) values e in
+    let a =
+    bind_ok (text_at i at bytes) (λ found. and_then (Text found.0) (texts_at (i + 1) (at + 2 + length found.0) count found.1))
+    values e in
     let b = bind_ok (texts_at (i + 1) (at + 2 + length a.0.0) count a.0.1) (λ others. Ok (Text a.0.0 ∷ others)) values a.2 in
     let first = text_takes i at bytes a.0.0 a.0.1 small a.1 in
     let others = texts_take (i + 1) (at + 2 + length a.0.0) count a.0.1 b.0 first.small b.1 in
     let whole : bytes ≡ flat_map spelling (Text a.0.0 ∷ b.0) = first.spelt ∙ ap (λ rest. spelling (Text a.0.0) ++ rest) others.2 in
-    subst (λ vs. (length vs ≡ suc count) × AllFit column.Text vs × (bytes ≡ flat_map spelling vs)) (ok_is (Text a.0.0 ∷ b.0) values b.2) (ap suc others.0, (first.text, others.1), whole)
+    subst (λ vs. (length vs ≡ suc count) × AllFit column.Text vs × (bytes ≡ flat_map spelling vs))
+    (ok_is (Text a.0.0 ∷ b.0) values b.2) (ap suc others.0, (first.text, others.1), whole)
 
 -- the spelling of a text is read as the text
-text_again : (i at : ℕ) (front t rest : List ℕ) → length front ≡ 2 → from_be_bytes w16 front ≡ length t → IsText t → text_at i at (front ++ (t ++ rest)) ≡ Ok (t, rest)
+text_again : (i at : ℕ) (front t rest : List ℕ) → length front ≡ 2 → from_be_bytes w16 front ≡ length t → IsText t
+    → text_at i at (front ++ (t ++ rest)) ≡ Ok (t, rest)
 unfolding text_at
 text_again i at front t rest two spelt text =
     let bytes = front ++ (t ++ rest) in
     let first : ltb (length bytes) 2 ≡ false = le-ltb _ _ (omega (arith, length-append front (t ++ rest))) in
     let short : ltb MAX_TEXT_BYTES (length t) ≡ false = le-ltb _ _ text.short in
     let long : ltb (length (t ++ rest)) (length t) ≡ false = le-ltb _ _ (omega (arith, length-append t rest)) in
-    rw (first, take_at front (t ++ rest) 2 two, drop_at front (t ++ rest) 2 two, spelt, short, long, take_at t rest (length t) refl, drop_at t rest (length t) refl, is_utf8-from_IsUtf8 t text.utf8) refl
+    rw (
+      first,
+      take_at front (t ++ rest) 2 two,
+      drop_at front (t ++ rest) 2 two,
+      spelt,
+      short,
+      long,
+      take_at t rest (length t) refl,
+      drop_at t rest (length t) refl,
+      is_utf8-from_IsUtf8 t text.utf8,
+    ) refl
 
 texts_none : (i at : ℕ) → texts_at i at 0 [] ≡ Ok []
 unfolding texts_at
 texts_none i at = refl
 
-texts_step : (i at count : ℕ) (bytes t rest : List ℕ) → text_at i at bytes ≡ Ok (t, rest) → texts_at i at (suc count) bytes ≡ and_then (Text t) (texts_at (i + 1) (at + 2 + length t) count rest)
+texts_step : (i at count : ℕ) (bytes t rest : List ℕ) → text_at i at bytes ≡ Ok (t, rest)
+    → texts_at i at (suc count) bytes ≡ and_then (Text t) (texts_at (i + 1) (at + 2 + length t) count rest)
 unfolding texts_at
 texts_step i at count bytes t rest e = rw e refl
 
 -- the spelling of texts is read as these texts
-pub texts_again : (i at : ℕ) (values : List Value) → AllFit column.Text values → texts_at i at (length values) (flat_map spelling values) ≡ Ok values
+pub texts_again : (i at : ℕ) (values : List Value) → AllFit column.Text values
+    → texts_at i at (length values) (flat_map spelling values) ≡ Ok values
 texts_again i at [] fit = texts_none i at
 texts_again i at (Text t ∷ values) fit =
     let front = to_be_bytes w16 (length t) in
@@ -136,7 +166,9 @@ texts_again i at (Truth b ∷ values) fit = absurd fit.0
 -- ---- one text, from what the reader has found
 
 -- the text, and what follows it
-pub text_found : (i at : ℕ) (bytes : List ℕ) (len : ℕ) (body t rest : List ℕ) → 2 ≤ length bytes → body ≡ drop 2 bytes → len ≡ length_of bytes → len ≤ MAX_TEXT_BYTES → len ≤ length body → t ≡ take len body → rest ≡ drop len body → IsUtf8 t → text_at i at bytes ≡ Ok (t, rest)
+pub text_found : (i at : ℕ) (bytes : List ℕ) (len : ℕ) (body t rest : List ℕ) → 2 ≤ length bytes → body ≡ drop 2 bytes
+    → len ≡ length_of bytes → len ≤ MAX_TEXT_BYTES → len ≤ length body → t ≡ take len body → rest ≡ drop len body → IsUtf8 t
+    → text_at i at bytes ≡ Ok (t, rest)
 unfolding text_at
 text_found i at bytes len body t rest two body-is len-is short long t-is rest-is utf8 =
     let a : ltb (length bytes) 2 ≡ false = le-ltb _ _ two in
@@ -146,11 +178,15 @@ text_found i at bytes len body t rest two body-is len-is short long t-is rest-is
     rw (sym body-is, sym len-is, a, b, c, d, t-is, rest-is) refl
 
 -- bytes that are no text
-pub text_bad : (i at : ℕ) (bytes : List ℕ) (len : ℕ) (body t : List ℕ) → 2 ≤ length bytes → body ≡ drop 2 bytes → len ≡ length_of bytes → len ≤ MAX_TEXT_BYTES → len ≤ length body → t ≡ take len body → (IsUtf8 t → ⊥) → text_at i at bytes ≡ Err (BadText i)
+pub text_bad : (i at : ℕ) (bytes : List ℕ) (len : ℕ) (body t : List ℕ) → 2 ≤ length bytes → body ≡ drop 2 bytes
+    → len ≡ length_of bytes → len ≤ MAX_TEXT_BYTES → len ≤ length body → t ≡ take len body → (IsUtf8 t → ⊥)
+    → text_at i at bytes ≡ Err (BadText i)
 unfolding text_at
 text_bad i at bytes len body t two body-is len-is short long t-is bad =
     let a : ltb (length bytes) 2 ≡ false = le-ltb _ _ two in
     let b : ltb MAX_TEXT_BYTES len ≡ false = le-ltb _ _ short in
     let c : ltb (length body) len ≡ false = le-ltb _ _ long in
-    let d : is_utf8 (take len body) ≡ false = false_from_ne_true (is_utf8 (take len body)) (λ e. bad (subst IsUtf8 (sym t-is) (IsUtf8-from_is_utf8 (take len body) e))) in
+    let d : is_utf8 (take len body) ≡ false =
+    false_from_ne_true (is_utf8 (take len body)) (λ e. bad (subst IsUtf8 (sym t-is) (IsUtf8-from_is_utf8 (take len body) e)))
+    in
     rw (sym body-is, sym len-is, a, b, c, d) refl

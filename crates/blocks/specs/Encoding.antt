@@ -82,12 +82,17 @@ pub record IsEncoded (ty : ColumnType) (count : ℕ) (bytes : List ℕ) (values 
 
 -- the payload of values that fit the type reads as just these values
 abbrev pub AnEncodingReadsBack : Type 0
-AnEncodingReadsBack = (ty : ColumnType) (values : List Value) → AllFit ty values → decoding_of ty (length values) (encoded_of ty values) ≡ Ok values
+AnEncodingReadsBack =
+    (ty : ColumnType) (values : List Value) → AllFit ty values → decoding_of ty (length values) (encoded_of ty values) ≡ Ok values
 
 -- bytes that read as values are their payload
 abbrev pub WhatDecodesIsAnEncoding : Type 0
-WhatDecodesIsAnEncoding = (ty : ColumnType) (count : ℕ) (bytes : List ℕ) (values : List Value) → AreBytes bytes → decoding_of ty count bytes ≡ Ok values → IsEncoded ty count bytes values
+WhatDecodesIsAnEncoding =
+    (ty : ColumnType) (count : ℕ) (bytes : List ℕ) (values : List Value) → AreBytes bytes → decoding_of ty count bytes ≡ Ok values
+    → IsEncoded ty count bytes values
 
 -- bytes are the payload of one list of so many values at most
 abbrev pub AnEncodingIsOfOneList : Type 0
-AnEncodingIsOfOneList = (ty : ColumnType) (count : ℕ) (bytes : List ℕ) (values others : List Value) → IsEncoded ty count bytes values → IsEncoded ty count bytes others → values ≡ others
+AnEncodingIsOfOneList =
+    (ty : ColumnType) (count : ℕ) (bytes : List ℕ) (values others : List Value) → IsEncoded ty count bytes values
+    → IsEncoded ty count bytes others → values ≡ others

@@ -24,7 +24,9 @@ bit_of bs i = cond (get_or bs i false) 1 0
 
 -- the first eight truths as a byte, the first as its highest bit
 abbrev pub byte_of : List Bool → ℕ
-byte_of bs = 128 * bit_of bs 0 + 64 * bit_of bs 1 + 32 * bit_of bs 2 + 16 * bit_of bs 3 + 8 * bit_of bs 4 + 4 * bit_of bs 5 + 2 * bit_of bs 6 + bit_of bs 7
+byte_of bs =
+    128 * bit_of bs 0 + 64 * bit_of bs 1 + 32 * bit_of bs 2 + 16 * bit_of bs 3 + 8 * bit_of bs 4 + 4 * bit_of bs 5 + 2
+    * bit_of bs 6 + bit_of bs 7
 
 -- so many bytes of truths
 abbrev pub packed : ℕ → List Bool → List ℕ

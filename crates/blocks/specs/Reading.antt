@@ -51,13 +51,15 @@ text_at i at bytes =
     if nat_lt (length bytes) 2 then Err (Short at)
     else if nat_lt MAX_TEXT_BYTES (length_of bytes) then Err (TextTooLong i)
     else if nat_lt (length (drop 2 bytes)) (length_of bytes) then Err (Short at)
-    else if is_utf8 (take (length_of bytes) (drop 2 bytes)) then Ok (take (length_of bytes) (drop 2 bytes), drop (length_of bytes) (drop 2 bytes))
+    else if is_utf8 (take (length_of bytes) (drop 2 bytes)) then Ok
+    (take (length_of bytes) (drop 2 bytes), drop (length_of bytes) (drop 2 bytes))
     else Err (BadText i)
 
 -- so many texts, the first of them number i and at this offset
 unfoldable pub texts_at : ℕ → ℕ → ℕ → List ℕ → Result (List Value) BlockFault
 texts_at i at zero bytes = end_at at bytes
-texts_at i at (suc count) bytes = text_at i at bytes >>= λ found. and_then (Text found.0) (texts_at (i + 1) (at + 2 + length found.0) count found.1)
+texts_at i at (suc count) bytes =
+    text_at i at bytes >>= λ found. and_then (Text found.0) (texts_at (i + 1) (at + 2 + length found.0) count found.1)
 
 -- so many truths
 unfoldable pub truths_of : ℕ → List ℕ → Result (List Value) BlockFault

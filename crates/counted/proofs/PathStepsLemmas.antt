@@ -282,13 +282,6 @@ climbed all leaf left rest g g' s new split h items not_fewer each grown =
           ∙ h.items;
     }
 
-pub climb_ended : (all : List Step) (leaf : List Entry) (left : List Step) (g : Grown) → length left ≡ 0 → IsClimbed all leaf left g
-    → IsGrown (1 + length all) 0 (around all leaf) g
-climb_ended all leaf [] g none h =
-    let e : 1 + (length all - 0) ≡ 1 + length all = omega arith in
-    grown_same _ _ _ _ _ _ g e (omega arith) (sym (append-nil (grown_items g)) ∙ h.items) h.grown
-climb_ended all leaf (s ∷ left) g none h = absurd (omega arith)
-
 -- ---- an edit of the leaf
 
 pub edited_around : (v : View) (at gone : ℕ) (put : List Entry) (path : Path) → IsPath v (at + gone) path → gone ≤ path.end

@@ -4,7 +4,7 @@ use Rattle.model.specs.declared.entry.Entry.{Entry}
 use Rattle.counted.specs.declared.node.Child.{Child}
 use Rattle.counted.specs.Gaps.{ArePlaced}
 use Rattle.counted.specs.Shapes.{items_of, all_items, AreChildren}
-use Rattle.counted.specs.Sums.{first_sid}
+use Rattle.counted.proofs.Totals.{first_sid}
 use Rattle.counted.proofs.Places.{split_items, items_from, first_from}
 
 pub placed-right : (xs ys : List Entry) → ArePlaced (xs ++ ys) → ArePlaced ys

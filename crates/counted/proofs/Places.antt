@@ -14,7 +14,7 @@ use Rattle.counted.specs.Edits.{edited}
 use Rattle.counted.specs.declared.entry.Head.{Head}
 use Rattle.counted.specs.Heads.{head_of}
 use Rattle.counted.specs.declared.node.Child.{Child}
-use Rattle.counted.specs.Sums.{total, first_sid}
+use Rattle.counted.specs.Sums.{total}
 use Rattle.counted.specs.Shapes.{items_of, all_items, depth_of, view_of, IsChild, AreChildren, IsBalanced}
 use Rattle.counted.specs.Trees.{IsDepth, IsRoot}
 use Rattle.counted.specs.Views.{View}
@@ -25,7 +25,7 @@ use Rattle.std.proofs.lemmas.List.Elements.{All-head, All-tail, All-drop}
 use Rattle.std.proofs.lemmas.List.{take-append-le, drop-append-le}
 use Rattle.counted.specs.declared.node.Body.{Body}
 use Rattle.counted.specs.declared.node.Body.TheVariants.{Leaf, Inner}
-use Rattle.counted.proofs.Totals.{IsWithin, total_within, total-append}
+use Rattle.counted.proofs.Totals.{IsWithin, first_sid, total_within, total-append}
 
 pub power_some : (d : ℕ) → 1 ≤ 8 ^ d
 power_some zero = omega arith

@@ -11,7 +11,7 @@ use Rattle.model.specs.declared.entry.Change.TheVariants.{Ins, Del, Mod}
 use Rattle.std.proofs.lemmas.Bool.{cases_lt}
 use Rattle.counted.specs.Search.{stands_before, IsBoundary}
 use Rattle.counted.proofs.Boundaries.{true_false, before_lt, before_gt, before_eq}
-use Rattle.counted.specs.Sums.{weight_of, total, shift_before, first_sid, next_sid, IsOrdered}
+use Rattle.counted.specs.Sums.{weight_of, total, shift_before, next_sid, IsOrdered}
 
 -- a sum lies between the number of entries and its negation
 pub record IsWithin (z : ℤ) (n : ℕ) : Type 0 where
@@ -101,6 +101,11 @@ all_weaker low high (e ∷ entries) le h = (omega (arith, h.0), all_weaker low h
 all-right : (low : ℕ) (xs ys : List Entry) → AllByRecursion (λ x. low ≤ x.sid) (xs ++ ys) → AllByRecursion (λ x. low ≤ x.sid) ys
 all-right low [] ys h = h
 all-right low (x ∷ xs) ys h = all-right low xs ys h.1
+
+-- where the first of a run of entries stands
+abbrev pub first_sid : List Entry → ℕ
+first_sid [] = 0
+first_sid (e ∷ entries) = e.sid
 
 -- where the first of a run of entries stands at or past the place, none of them counts
 pub past_first : (sid : ℕ) (entries : List Entry) → IsOrdered entries → sid ≤ first_sid entries → shift_before sid entries ≡ pos 0

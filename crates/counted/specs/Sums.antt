@@ -20,10 +20,6 @@ abbrev pub shift_before : ℕ → List Entry → ℤ
 shift_before sid [] = pos 0
 shift_before sid (e ∷ entries) = cond (ltb e.sid sid) (weight_of e.change) (pos 0) +ℤ shift_before sid entries
 
-abbrev pub first_sid : List Entry → ℕ
-first_sid [] = 0
-first_sid (e ∷ entries) = e.sid
-
 -- the first place that an entry may stand at after a change at this one
 abbrev pub next_sid : ℕ → Change → ℕ
 next_sid sid (Ins row) = sid

@@ -29,7 +29,7 @@ use Rattle.delta.specs.Search.{insert_cmp, past_cmp, stands_before, IsSplit}
 use Rattle.counted.specs.Changes.{change_of}
 use Rattle.model.specs.Places.{delete_count}
 use Rattle.model.specs.Entries.{are_ordered}
-use Rattle.delta.specs.BySid.{made_of_base, base_change, effect_on_base, stand_of}
+use Rattle.delta.specs.BySid.{made_of_base, base_change, stand_of}
 use Rattle.delta.specs.declared.by_sid.Sought.{Sought}
 use Rattle.delta.specs.declared.by_sid.Sought.TheVariants as sought
 use Rattle.delta.proofs.PositionsLemmas.{deletes-before-insert, deletes-before-base, deletes-before-change}
@@ -38,6 +38,7 @@ use Rattle.delta.specs.declared.by_sid.BaseChange.TheVariants.{Kept, Modified, D
 use Rattle.delta.proofs.ChangesLemmas.{all_from}
 use Rattle.delta.proofs.PutLemmas.{by_insert}
 use Rattle.delta.proofs.KeyPlaceLemmas.{high, own, sorted_effects, before_key}
+use Rattle.delta.proofs.Words.{effect_on_base}
 
 -- no more deletes stand before what is looked for than base rows
 pub deletes-before-sought : (key_cols sid : ℕ) (sought : Sought) (es : List Entry) (n : ℕ) → T (are_ordered key_cols es)

@@ -11,9 +11,10 @@ use Rattle.model.specs.Entries.{entry_at, is_modify}
 use Rattle.model.specs.Edits.{is_insert_of, change_with_cell}
 use Rattle.model.specs.Places.{insert_count, delete_count}
 use Rattle.delta.specs.Lookups.{is_insert_at}
-use Rattle.delta.specs.Changes.{modifies_column, modify_count, with_run}
+use Rattle.delta.specs.Changes.{modifies_column, modify_count}
 use Rattle.delta.proofs.CountLemmas.{insert_worth, delete_worth, insert_count-cons, delete_count-cons, insert_count-append, delete_count-append}
 use Rattle.delta.proofs.ChangesLemmas.{is_kept, nothing, set-split}
+use Rattle.delta.proofs.Words.{with_run}
 
 -- a count of entries: of the inserts, or of the deletes
 pub record IsCount (count : List Entry → ℕ) (worth : Change → ℕ) : Type 0 where
@@ -34,17 +35,32 @@ delete_worth-changed col value (Del key) = refl
 delete_worth-changed col value (Mod other w) = refl
 
 pub counts_inserts : IsCount insert_count insert_worth
-counts_inserts = record { none = refl; cons = insert_count-cons; append = insert_count-append; modify = λ col value. refl; changed = insert_worth-changed }
+counts_inserts =
+    record {
+      none = refl;
+      cons = insert_count-cons;
+      append = insert_count-append;
+      modify = λ col value. refl;
+      changed = insert_worth-changed;
+    }
 
 pub counts_deletes : IsCount delete_count delete_worth
-counts_deletes = record { none = refl; cons = delete_count-cons; append = delete_count-append; modify = λ col value. refl; changed = delete_worth-changed }
+counts_deletes =
+    record {
+      none = refl;
+      cons = delete_count-cons;
+      append = delete_count-append;
+      modify = λ col value. refl;
+      changed = delete_worth-changed;
+    }
 
 module _ (count : List Entry → ℕ) (worth : Change → ℕ) (is : IsCount count worth) where
   at : (es : List Entry) (n : ℕ) → count (take n es) + count (drop n es) ≡ count es
   at es n = sym (is.append (take n es) (drop n es)) ∙ ap count (take-append-drop n es)
 
   -- an entry in the place of a run
-  pub count-with_run : (es : List Entry) (n m : ℕ) (e : Entry) → count (with_run es n m e) ≡ count (take n es) + (worth e.change + count (drop m es))
+  pub count-with_run : (es : List Entry) (n m : ℕ) (e : Entry)
+      → count (with_run es n m e) ≡ count (take n es) + (worth e.change + count (drop m es))
   count-with_run es n m e = is.append (take n es) (e ∷ drop m es) ∙ ap (λ k. count (take n es) + k) (is.cons e (drop m es))
 
   -- in the place of none
@@ -53,27 +69,34 @@ module _ (count : List Entry → ℕ) (worth : Change → ℕ) (is : IsCount cou
 
   -- in the place of modifies that go
   module _ (sid : ℕ) where
-    filtered : (e : Entry) (here : Bool) (c : Change) (es : List Entry) → e.change ≡ c → count (cond (not (here && is_modify c)) (e ∷ filter (is_kept sid) es) (filter (is_kept sid) es)) ≡ worth c + count (filter (is_kept sid) es)
+    filtered : (e : Entry) (here : Bool) (c : Change) (es : List Entry) → e.change ≡ c
+        → count (cond (not (here && is_modify c)) (e ∷ filter (is_kept sid) es) (filter (is_kept sid) es))
+        ≡ worth c + count (filter (is_kept sid) es)
     filtered e here (Ins row) es same = kept_one here
       where
-        kept_one : (here : Bool) → count (cond (not (here && false)) (e ∷ filter (is_kept sid) es) (filter (is_kept sid) es)) ≡ worth (Ins row) + count (filter (is_kept sid) es)
+        kept_one : (here : Bool) → count (cond (not (here && false)) (e ∷ filter (is_kept sid) es) (filter (is_kept sid) es))
+            ≡ worth (Ins row) + count (filter (is_kept sid) es)
         kept_one true = is.cons e (filter (is_kept sid) es) ∙ ap (λ c. worth c + count (filter (is_kept sid) es)) same
         kept_one false = is.cons e (filter (is_kept sid) es) ∙ ap (λ c. worth c + count (filter (is_kept sid) es)) same
     filtered e here (Del key) es same = kept_one here
       where
-        kept_one : (here : Bool) → count (cond (not (here && false)) (e ∷ filter (is_kept sid) es) (filter (is_kept sid) es)) ≡ worth (Del key) + count (filter (is_kept sid) es)
+        kept_one : (here : Bool) → count (cond (not (here && false)) (e ∷ filter (is_kept sid) es) (filter (is_kept sid) es))
+            ≡ worth (Del key) + count (filter (is_kept sid) es)
         kept_one true = is.cons e (filter (is_kept sid) es) ∙ ap (λ c. worth c + count (filter (is_kept sid) es)) same
         kept_one false = is.cons e (filter (is_kept sid) es) ∙ ap (λ c. worth c + count (filter (is_kept sid) es)) same
     filtered e true (Mod col value) es same = omega (arith, is.modify col value)
-    filtered e false (Mod col value) es same = is.cons e (filter (is_kept sid) es) ∙ ap (λ c. worth c + count (filter (is_kept sid) es)) same
+    filtered e false (Mod col value) es same =
+        is.cons e (filter (is_kept sid) es) ∙ ap (λ c. worth c + count (filter (is_kept sid) es)) same
 
     pub count-kept : (es : List Entry) → count (filter (is_kept sid) es) ≡ count es
     count-kept [] = refl
     count-kept (e ∷ es) = filtered e (e.sid == sid) e.change es refl ∙ ap (λ n. worth e.change + n) (count-kept es) ∙ sym (is.cons e es)
 
-  pub count-delete : (es : List Entry) (n m : ℕ) (e : Entry) (sid : ℕ) → filter (is_kept sid) es ≡ take n es ++ drop m es → count (with_run es n m e) ≡ count es + worth e.change
+  pub count-delete : (es : List Entry) (n m : ℕ) (e : Entry) (sid : ℕ) → filter (is_kept sid) es ≡ take n es ++ drop m es
+      → count (with_run es n m e) ≡ count es + worth e.change
   count-delete es n m e sid split =
-      let parts : count es ≡ count (take n es) + count (drop m es) = sym (count-kept sid es) ∙ ap count split ∙ is.append (take n es) (drop m es) in
+      let parts : count es ≡ count (take n es) + count (drop m es) =
+      sym (count-kept sid es) ∙ ap count split ∙ is.append (take n es) (drop m es) in
       omega (arith, count-with_run es n m e)
 
   -- a modify, in the place of one that may be there
@@ -91,7 +114,8 @@ module _ (count : List Entry → ℕ) (worth : Change → ℕ) (is : IsCount cou
       by true (Del key) same = refl
       by true (Mod other value) same = one_gone other value (other == col) same
 
-  pub count-modify : (es : List Entry) (n sid col : ℕ) (value : Value) → count (with_run es n (n + modify_count sid col (drop n es)) (entry_at sid (Mod col value))) ≡ count es
+  pub count-modify : (es : List Entry) (n sid col : ℕ) (value : Value)
+      → count (with_run es n (n + modify_count sid col (drop n es)) (entry_at sid (Mod col value))) ≡ count es
   count-modify es n sid col value =
       let rest = ap count (sym (drop-drop (modify_count sid col (drop n es)) n es)) ∙ modify_gone sid col (drop n es) in
       let whole = at es n in
@@ -105,7 +129,8 @@ module _ (count : List Entry → ℕ) (worth : Change → ℕ) (is : IsCount cou
       omega (arith, is.append (take n es) (drop (suc n) es))
 
   -- an entry that changes a cell
-  pub count-set : (es : List Entry) (n col : ℕ) (value : Value) → n < length es → count (set es n (entry_at (get_or es n nothing).sid (change_with_cell col value (get_or es n nothing).change))) ≡ count es
+  pub count-set : (es : List Entry) (n col : ℕ) (value : Value) → n < length es
+      → count (set es n (entry_at (get_or es n nothing).sid (change_with_cell col value (get_or es n nothing).change))) ≡ count es
   count-set es n col value short =
       let y = get_or es n nothing in
       let e = entry_at y.sid (change_with_cell col value y.change) in

@@ -22,9 +22,10 @@ use Rattle.model.specs.Edits.{put_entry, is_insert_of, change_with_cell, put_ins
 use Rattle.model.proofs.CallerLemmas.{both, first, second, less, turn_less}
 use Rattle.delta.specs.Search.{insert_cmp, base_cmp, modify_cmp, past_cmp, stands_before, IsSplit}
 use Rattle.delta.specs.Lookups.{has_delete, row_of, is_insert_at, inserted_row}
-use Rattle.delta.specs.Changes.{modifies_column, modify_count, has_cell, with_run}
+use Rattle.delta.specs.Changes.{modifies_column, modify_count, has_cell}
 use Rattle.delta.specs.Tree.{Tree}
 use Rattle.delta.proofs.SearchLemmas.{is_true, greater, nat_cmp-greater, at_index}
+use Rattle.delta.proofs.Words.{with_run}
 
 -- ---- tests of lists
 
@@ -78,7 +79,9 @@ filter_none p (x ∷ xs) h =
 module _ (es : List Entry) (n m k : ℕ) (sum : n + k ≡ m) where
   pub three_parts : take n es ++ (take k (drop n es) ++ drop m es) ≡ es
   three_parts =
-      let behind : take k (drop n es) ++ drop m es ≡ drop n es = ap (λ ys. take k (drop n es) ++ ys) (ap (λ i. drop i es) (sym sum) ∙ sym (drop-drop k n es)) ∙ take-append-drop k (drop n es) in
+      let behind : take k (drop n es) ++ drop m es ≡ drop n es =
+      ap (λ ys. take k (drop n es) ++ ys) (ap (λ i. drop i es) (sym sum) ∙ sym (drop-drop k n es))
+      ∙ take-append-drop k (drop n es) in
       ap (λ ys. take n es ++ ys) behind ∙ take-append-drop n es
 
   pub middle_part : drop n (take m es) ≡ take k (drop n es)
@@ -91,7 +94,8 @@ module _ (key_cols sid : ℕ) (change : Change) (cmp : Change → Ordering) (sam
   order_is : (x : Entry) → ordering_then (nat_cmp sid x.sid) (cmp x.change) ≡ entry_cmp key_cols put x
   order_is x = ap (ordering_then (nat_cmp sid x.sid)) (same x.change)
 
-  put_entry-past : (xs ys : List Entry) → T (list_all (stands_before cmp sid) xs) → put_entry key_cols put (xs ++ ys) ≡ xs ++ put_entry key_cols put ys
+  put_entry-past : (xs ys : List Entry) → T (list_all (stands_before cmp sid) xs)
+      → put_entry key_cols put (xs ++ ys) ≡ xs ++ put_entry key_cols put ys
   put_entry-past [] ys h = refl
   put_entry-past (x ∷ xs) ys h =
       let after : entry_cmp key_cols put x ≡ Greater = sym (order_is x) ∙ greater _ (first (stands_before cmp sid x) _ h) in
@@ -103,16 +107,20 @@ module _ (key_cols sid : ℕ) (change : Change) (cmp : Change → Ordering) (sam
   tie_count [] = 0
   tie_count (y ∷ ys) = cond (is_eq (entry_cmp key_cols put y)) 1 0
 
-  put_entry-before : (ys : List Entry) → T (list_all (λ y. not (stands_before cmp sid y)) ys) → put_entry key_cols put ys ≡ put ∷ drop (tie_count ys) ys
+  put_entry-before : (ys : List Entry) → T (list_all (λ y. not (stands_before cmp sid y)) ys)
+      → put_entry key_cols put ys ≡ put ∷ drop (tie_count ys) ys
   put_entry-before [] h = refl
   put_entry-before (y ∷ ys) h =
-      elim (entry_cmp key_cols put y) as (λ r. entry_cmp key_cols put y ≡ r → match_ordering r (put ∷ y ∷ ys) (put ∷ ys) (y ∷ put_entry key_cols put ys) ≡ put ∷ drop (cond (is_eq r) 1 0) (y ∷ ys)) [
+      elim (entry_cmp key_cols put y) as
+      (λ r. entry_cmp key_cols put y ≡ r → match_ordering r (put ∷ y ∷ ys) (put ∷ ys) (y ∷ put_entry key_cols put ys)
+      ≡ put ∷ drop (cond (is_eq r) 1 0) (y ∷ ys)) [
         | Less ↦ λ e. refl
         | Equal ↦ λ e. refl
         | Greater ↦ λ e. absurd (subst (λ r. T (not (is_gt r))) (order_is y ∙ e) (first (not (stands_before cmp sid y)) _ h))
       ] refl
 
-  pub put_entry-split : (es : List Entry) (n : ℕ) → IsSplit (stands_before cmp sid) es n → put_entry key_cols put es ≡ with_run es n (n + tie_count (drop n es)) put
+  pub put_entry-split : (es : List Entry) (n : ℕ) → IsSplit (stands_before cmp sid) es n
+      → put_entry key_cols put es ≡ with_run es n (n + tie_count (drop n es)) put
   put_entry-split es n h =
       ap (put_entry key_cols put) (sym (take-append-drop n es))
       ∙ put_entry-past (take n es) (drop n es) h.before
@@ -168,12 +176,17 @@ module _ (key_cols sid : ℕ) where
   modify_cmp-same col value (Mod other w) = refl
 
   -- an entry ties where it stands at the SID and its change ties
-  pub tie_is : (change : Change) (y : Entry) → is_eq (entry_cmp key_cols (entry_at sid change) y) ≡ (y.sid == sid) && is_eq (change_cmp key_cols change y.change)
-  tie_is change y = and_eq (nat_cmp sid y.sid) (change_cmp key_cols change y.change) ∙ ap (λ b. b && is_eq (change_cmp key_cols change y.change)) (is_eq-nat_cmp sid y.sid)
+  pub tie_is : (change : Change) (y : Entry)
+      → is_eq (entry_cmp key_cols (entry_at sid change) y) ≡ (y.sid == sid) && is_eq (change_cmp key_cols change y.change)
+  tie_is change y =
+      and_eq (nat_cmp sid y.sid) (change_cmp key_cols change y.change)
+      ∙ ap (λ b. b && is_eq (change_cmp key_cols change y.change)) (is_eq-nat_cmp sid y.sid)
 
   -- ---- inserts
 
-  not_inserted_here : (key : Key) (here : Bool) (c : Change) (other : Option Row) (rest : Bool) → (is_some other ≡ false → T rest) → is_some (cond (here && is_insert_of key_cols key c) (row_of c) other) ≡ false → T (not (here && is_insert_of key_cols key c) && rest)
+  not_inserted_here : (key : Key) (here : Bool) (c : Change) (other : Option Row) (rest : Bool) → (is_some other ≡ false → T rest)
+      → is_some (cond (here && is_insert_of key_cols key c) (row_of c) other) ≡ false
+      → T (not (here && is_insert_of key_cols key c) && rest)
   not_inserted_here key false c other rest f h = both true rest tt (f h)
   not_inserted_here key true (Ins row) other rest f h =
       elim (eq_by_cmp key_cmp key (key_of key_cols row)) as (λ b. is_some (cond b (Some row) other) ≡ false → T (not b && rest)) [
@@ -183,7 +196,8 @@ module _ (key_cols sid : ℕ) where
   not_inserted_here key true (Del k) other rest f h = both true rest tt (f h)
   not_inserted_here key true (Mod col value) other rest f h = both true rest tt (f h)
 
-  pub not_inserted : (key : Key) (es : List Entry) → is_some (inserted_row key_cols sid key es) ≡ false → T (list_all (λ e. not (is_insert_at key_cols sid key e)) es)
+  pub not_inserted : (key : Key) (es : List Entry) → is_some (inserted_row key_cols sid key es) ≡ false
+      → T (list_all (λ e. not (is_insert_at key_cols sid key e)) es)
   not_inserted key [] h = tt
   not_inserted key (e ∷ es) h = not_inserted_here key (e.sid == sid) e.change (inserted_row key_cols sid key es) _ (not_inserted key es) h
 
@@ -196,41 +210,58 @@ module _ (key_cols sid : ℕ) where
   false_of true h = absurd h
   false_of false h = refl
 
-  no_insert_ties : (row : Row) (n : ℕ) (ys : List Entry) → T (list_all (λ e. not (is_insert_at key_cols sid (key_of key_cols row) e)) ys) → n + tie_count key_cols sid (Ins row) (insert_cmp key_cols (key_of key_cols row)) (insert_cmp-same row) ys ≡ n
+  no_insert_ties : (row : Row) (n : ℕ) (ys : List Entry)
+      → T (list_all (λ e. not (is_insert_at key_cols sid (key_of key_cols row) e)) ys)
+      → n + tie_count key_cols sid (Ins row) (insert_cmp key_cols (key_of key_cols row)) (insert_cmp-same row) ys ≡ n
   no_insert_ties row n [] h = omega arith
   no_insert_ties row n (y ∷ ys) h =
       let key = key_of key_cols row in
-      let tie = tie_is (Ins row) y ∙ ap (λ b. (y.sid == sid) && b) (insert_tie row y.change) ∙ false_of (is_insert_at key_cols sid key y) (first (not (is_insert_at key_cols sid key y)) _ h) in
+      let tie =
+      tie_is (Ins row) y
+      ∙ ap (λ b. (y.sid == sid) && b) (insert_tie row y.change)
+      ∙ false_of (is_insert_at key_cols sid key y) (first (not (is_insert_at key_cols sid key y)) _ h) in
       let none : n + 0 ≡ n = omega arith in
       ap (λ b. n + cond b 1 0) tie ∙ none
 
   -- an insert of a key that isn't there
-  pub put_ins-split : (row : Row) (es : List Entry) (n : ℕ) → IsSplit (stands_before (insert_cmp key_cols (key_of key_cols row)) sid) es n → is_some (inserted_row key_cols sid (key_of key_cols row) es) ≡ false → put_ins key_cols sid row es ≡ with_run es n n (entry_at sid (Ins row))
+  pub put_ins-split : (row : Row) (es : List Entry) (n : ℕ)
+      → IsSplit (stands_before (insert_cmp key_cols (key_of key_cols row)) sid) es n
+      → is_some (inserted_row key_cols sid (key_of key_cols row) es) ≡ false
+      → put_ins key_cols sid row es ≡ with_run es n n (entry_at sid (Ins row))
   put_ins-split row es n h free =
       put_entry-split key_cols sid (Ins row) (insert_cmp key_cols (key_of key_cols row)) (insert_cmp-same row) es n h
-      ∙ ap (λ m. with_run es n m (entry_at sid (Ins row))) (no_insert_ties row n (drop n es) (all_drop (λ e. not (is_insert_at key_cols sid (key_of key_cols row) e)) n es (not_inserted (key_of key_cols row) es free)))
+      ∙ ap (λ m. with_run es n m (entry_at sid (Ins row)))
+      (no_insert_ties row n (drop n es) (all_drop (λ e. not (is_insert_at key_cols sid (key_of key_cols row) e)) n es
+      (not_inserted (key_of key_cols row) es free)))
 
   -- ---- modifies
 
   pub not_deleted : (es : List Entry) → has_delete sid es ≡ false → T (list_all (λ e. not ((e.sid == sid) && is_delete e.change)) es)
   not_deleted es h = none_any (λ e. (e.sid == sid) && is_delete e.change) es h
 
-  pub modify_tie : (col : ℕ) (value : Value) (here : Bool) (c : Change) → T (not (here && is_delete c)) → here && is_eq (change_cmp key_cols (Mod col value) c) ≡ here && modifies_column col c
+  pub modify_tie : (col : ℕ) (value : Value) (here : Bool) (c : Change) → T (not (here && is_delete c))
+      → here && is_eq (change_cmp key_cols (Mod col value) c) ≡ here && modifies_column col c
   modify_tie col value true (Ins other) h = refl
   modify_tie col value true (Del key) h = absurd h
   modify_tie col value true (Mod other w) h = is_eq-nat_cmp col other
   modify_tie col value false c h = refl
 
-  modify_ties : (col : ℕ) (value : Value) (ys : List Entry) → T (list_all (λ e. not ((e.sid == sid) && is_delete e.change)) ys) → tie_count key_cols sid (Mod col value) (modify_cmp col) (modify_cmp-same col value) ys ≡ modify_count sid col ys
+  modify_ties : (col : ℕ) (value : Value) (ys : List Entry) → T (list_all (λ e. not ((e.sid == sid) && is_delete e.change)) ys)
+      → tie_count key_cols sid (Mod col value) (modify_cmp col) (modify_cmp-same col value) ys ≡ modify_count sid col ys
   modify_ties col value [] h = refl
   modify_ties col value (y ∷ ys) h =
-      ap (λ b. cond b 1 0) (tie_is (Mod col value) y ∙ modify_tie col value (y.sid == sid) y.change (first (not ((y.sid == sid) && is_delete y.change)) _ h))
+      ap (λ b. cond b 1 0) (tie_is (Mod col value) y
+      ∙ modify_tie col value (y.sid == sid) y.change (first (not ((y.sid == sid) && is_delete y.change)) _ h))
 
   -- a modify, where no delete stands
-  pub put_mod-split : (col : ℕ) (value : Value) (es : List Entry) (n : ℕ) → IsSplit (stands_before (modify_cmp col) sid) es n → has_delete sid es ≡ false → put_mod key_cols sid col value es ≡ with_run es n (n + modify_count sid col (drop n es)) (entry_at sid (Mod col value))
+  pub put_mod-split : (col : ℕ) (value : Value) (es : List Entry) (n : ℕ) → IsSplit (stands_before (modify_cmp col) sid) es n
+      → has_delete sid es ≡ false
+      → put_mod key_cols sid col value es ≡ with_run es n (n + modify_count sid col (drop n es)) (entry_at sid (Mod col value))
   put_mod-split col value es n h free =
       put_entry-split key_cols sid (Mod col value) (modify_cmp col) (modify_cmp-same col value) es n h
-      ∙ ap (λ m. with_run es n (n + m) (entry_at sid (Mod col value))) (modify_ties col value (drop n es) (all_drop (λ e. not ((e.sid == sid) && is_delete e.change)) n es (not_deleted es free)))
+      ∙ ap (λ m. with_run es n (n + m) (entry_at sid (Mod col value)))
+      (modify_ties col value (drop n es)
+      (all_drop (λ e. not ((e.sid == sid) && is_delete e.change)) n es (not_deleted es free)))
 
   -- ---- deletes
 
@@ -269,11 +300,15 @@ module _ (key_cols sid : ℕ) where
       ] refl h
 
   -- what stands at the SID, is no insert and no delete, is a modify
-  not_kept : (y : Entry) → T (stands_before past_cmp sid y) → T (not (stands_before base_cmp sid y)) → T (not ((y.sid == sid) && is_delete y.change)) → T (not (kept y))
+  not_kept : (y : Entry) → T (stands_before past_cmp sid y) → T (not (stands_before base_cmp sid y))
+      → T (not ((y.sid == sid) && is_delete y.change)) → T (not (kept y))
   not_kept y p b d =
-      elim (nat_cmp sid y.sid) as (λ r. nat_cmp sid y.sid ≡ r → T (is_gt (ordering_then r Greater)) → T (not (is_gt (ordering_then r (base_cmp y.change)))) → T (not (kept y))) [
+      elim (nat_cmp sid y.sid) as
+      (λ r. nat_cmp sid y.sid ≡ r → T (is_gt (ordering_then r Greater)) → T (not (is_gt (ordering_then r (base_cmp y.change))))
+      → T (not (kept y))) [
         | Less ↦ λ e g f. absurd g
-        | Equal ↦ λ e g f. subst (λ here. T (not (here && is_delete y.change)) → T (not (not (here && is_modify y.change)))) (sym (at_sid y.sid e)) (modify_goes y.change f) d
+        | Equal ↦ λ e g f. subst (λ here. T (not (here && is_delete y.change)) → T (not (not (here && is_modify y.change))))
+            (sym (at_sid y.sid e)) (modify_goes y.change f) d
         | Greater ↦ λ e g f. absurd f
       ] refl p b
     where
@@ -308,15 +343,19 @@ module _ (key_cols sid : ℕ) where
       ] refl h
 
   -- the base row's changes don't start past the SID
-  pub base-le-past : (es : List Entry) (n m : ℕ) → IsSplit (stands_before base_cmp sid) es n → IsSplit (stands_before past_cmp sid) es m → n ≤ m
+  pub base-le-past : (es : List Entry) (n m : ℕ) → IsSplit (stands_before base_cmp sid) es n
+      → IsSplit (stands_before past_cmp sid) es m → n ≤ m
   base-le-past es n m h g =
       elim (cases_lt m n) [
         | inl lt ↦
             let short : m < length es = omega (arith, h.within) in
             let inside : m < length (take n es) = omega (arith, length-take n es, h.within) in
             let y = get_or es m nothing in
-            let base : T (stands_before base_cmp sid y) = subst (λ x. T (stands_before base_cmp sid x)) (get_or-take n es m nothing lt) (at_index (stands_before base_cmp sid) (take n es) h.before m nothing inside) in
-            let cut : T (list_all (λ e. not (stands_before past_cmp sid e)) (y ∷ drop (suc m) es)) = subst (λ ys. T (list_all (λ e. not (stands_before past_cmp sid e)) ys)) (drop-cons es m nothing short) g.after in
+            let base : T (stands_before base_cmp sid y) =
+            subst (λ x. T (stands_before base_cmp sid x)) (get_or-take n es m nothing lt)
+            (at_index (stands_before base_cmp sid) (take n es) h.before m nothing inside) in
+            let cut : T (list_all (λ e. not (stands_before past_cmp sid e)) (y ∷ drop (suc m) es)) =
+            subst (λ ys. T (list_all (λ e. not (stands_before past_cmp sid e)) ys)) (drop-cons es m nothing short) g.after in
             absurd (clash (stands_before past_cmp sid y) (base_is_past y base) (first (not (stands_before past_cmp sid y)) _ cut))
         | inr le ↦ le
       ]
@@ -325,14 +364,19 @@ module _ (key_cols sid : ℕ) where
       clash true h g = g
       clash false h g = h
 
-  no_base_ties : (key : Key) (zs : List Entry) → T (list_all (λ e. not (stands_before past_cmp sid e)) zs) → drop (tie_count key_cols sid (Del key) base_cmp (base_cmp-same key) zs) zs ≡ zs
+  no_base_ties : (key : Key) (zs : List Entry) → T (list_all (λ e. not (stands_before past_cmp sid e)) zs)
+      → drop (tie_count key_cols sid (Del key) base_cmp (base_cmp-same key) zs) zs ≡ zs
   no_base_ties key [] h = refl
   no_base_ties key (z ∷ zs) h =
-      let tie = tie_is (Del key) z ∙ ap (λ b. b && is_eq (change_cmp key_cols (Del key) z.change)) (past_sid z (first (not (stands_before past_cmp sid z)) _ h)) in
+      let tie =
+      tie_is (Del key) z
+      ∙ ap (λ b. b && is_eq (change_cmp key_cols (Del key) z.change))
+      (past_sid z (first (not (stands_before past_cmp sid z)) _ h)) in
       ap (λ b. drop (cond b 1 0) (z ∷ zs)) tie
 
   -- without the modifies of the base row
-  pub filter-kept : (es : List Entry) (n m : ℕ) → IsSplit (stands_before base_cmp sid) es n → IsSplit (stands_before past_cmp sid) es m → has_delete sid es ≡ false → filter (is_kept sid) es ≡ take n es ++ drop m es
+  pub filter-kept : (es : List Entry) (n m : ℕ) → IsSplit (stands_before base_cmp sid) es n
+      → IsSplit (stands_before past_cmp sid) es m → has_delete sid es ≡ false → filter (is_kept sid) es ≡ take n es ++ drop m es
   filter-kept es n m h g free =
       let k = m - n in
       let le = base-le-past es n m h g in
@@ -340,30 +384,45 @@ module _ (key_cols sid : ℕ) where
       let xs = take n es in
       let ms = take k (drop n es) in
       let zs = drop m es in
-      let past : T (list_all (stands_before past_cmp sid) ms) = subst (λ ys. T (list_all (stands_before past_cmp sid) ys)) (middle_part es n m k sum) (all_drop (stands_before past_cmp sid) n (take m es) g.before) in
-      let not_before : T (list_all (λ e. not (stands_before base_cmp sid e)) ms) = all_take (λ e. not (stands_before base_cmp sid e)) k (drop n es) h.after in
-      let no_delete : T (list_all (λ e. not ((e.sid == sid) && is_delete e.change)) ms) = all_take (λ e. not ((e.sid == sid) && is_delete e.change)) k (drop n es) (all_drop (λ e. not ((e.sid == sid) && is_delete e.change)) n es (not_deleted es free)) in
+      let past : T (list_all (stands_before past_cmp sid) ms) =
+      subst (λ ys. T (list_all (stands_before past_cmp sid) ys)) (middle_part es n m k sum)
+      (all_drop (stands_before past_cmp sid) n (take m es) g.before) in
+      let not_before : T (list_all (λ e. not (stands_before base_cmp sid e)) ms) =
+      all_take (λ e. not (stands_before base_cmp sid e)) k (drop n es) h.after in
+      let no_delete : T (list_all (λ e. not ((e.sid == sid) && is_delete e.change)) ms) =
+      all_take (λ e. not ((e.sid == sid) && is_delete e.change)) k (drop n es)
+      (all_drop (λ e. not ((e.sid == sid) && is_delete e.change)) n es (not_deleted es free)) in
       let keeps_xs = filter_all kept xs (all_from (stands_before base_cmp sid) kept kept_before xs h.before) in
       let keeps_zs = filter_all kept zs (all_from (λ e. not (stands_before past_cmp sid e)) kept kept_past zs g.after) in
       let drops_ms = filter_none kept ms (none_kept ms past not_before no_delete) in
-      ap (filter kept) (sym (three_parts es n m k sum)) ∙ filter-append kept xs (ms ++ zs) ∙ (λ i. keeps_xs i ++ filter-append kept ms zs i) ∙ (λ i. xs ++ (drops_ms i ++ keeps_zs i))
+      ap (filter kept) (sym (three_parts es n m k sum))
+      ∙ filter-append kept xs (ms ++ zs)
+      ∙ (λ i. keeps_xs i ++ filter-append kept ms zs i)
+      ∙ (λ i. xs ++ (drops_ms i ++ keeps_zs i))
     where
-      none_kept : (ys : List Entry) → T (list_all (stands_before past_cmp sid) ys) → T (list_all (λ e. not (stands_before base_cmp sid e)) ys) → T (list_all (λ e. not ((e.sid == sid) && is_delete e.change)) ys) → T (list_all (λ e. not (kept e)) ys)
+      none_kept : (ys : List Entry) → T (list_all (stands_before past_cmp sid) ys)
+          → T (list_all (λ e. not (stands_before base_cmp sid e)) ys)
+          → T (list_all (λ e. not ((e.sid == sid) && is_delete e.change)) ys) → T (list_all (λ e. not (kept e)) ys)
       none_kept [] p b d = tt
       none_kept (y ∷ ys) p b d =
           both (not (kept y)) _
-          (not_kept y (first (stands_before past_cmp sid y) _ p) (first (not (stands_before base_cmp sid y)) _ b) (first (not ((y.sid == sid) && is_delete y.change)) _ d))
-          (none_kept ys (second (stands_before past_cmp sid y) _ p) (second (not (stands_before base_cmp sid y)) _ b) (second (not ((y.sid == sid) && is_delete y.change)) _ d))
+          (not_kept y (first (stands_before past_cmp sid y) _ p) (first (not (stands_before base_cmp sid y)) _ b)
+          (first (not ((y.sid == sid) && is_delete y.change)) _ d))
+          (none_kept ys (second (stands_before past_cmp sid y) _ p) (second (not (stands_before base_cmp sid y)) _ b)
+          (second (not ((y.sid == sid) && is_delete y.change)) _ d))
 
   -- a delete, where none stands
-  pub put_del-split : (key : Key) (es : List Entry) (n m : ℕ) → IsSplit (stands_before base_cmp sid) es n → IsSplit (stands_before past_cmp sid) es m → has_delete sid es ≡ false → put_del key_cols sid key es ≡ with_run es n m (entry_at sid (Del key))
+  pub put_del-split : (key : Key) (es : List Entry) (n m : ℕ) → IsSplit (stands_before base_cmp sid) es n
+      → IsSplit (stands_before past_cmp sid) es m → has_delete sid es ≡ false
+      → put_del key_cols sid key es ≡ with_run es n m (entry_at sid (Del key))
   put_del-split key es n m h g free =
       let xs = take n es in
       let zs = drop m es in
       ap (put_entry key_cols (entry_at sid (Del key))) (filter-kept es n m h g free)
       ∙ put_entry-past key_cols sid (Del key) base_cmp (base_cmp-same key) xs zs h.before
       ∙ ap (λ ys. xs ++ ys)
-      (put_entry-before key_cols sid (Del key) base_cmp (base_cmp-same key) zs (all_from (λ e. not (stands_before past_cmp sid e)) (λ e. not (stands_before base_cmp sid e)) not_base zs g.after)
+      (put_entry-before key_cols sid (Del key) base_cmp (base_cmp-same key) zs
+      (all_from (λ e. not (stands_before past_cmp sid e)) (λ e. not (stands_before base_cmp sid e)) not_base zs g.after)
       ∙ ap (λ ys. entry_at sid (Del key) ∷ ys) (no_base_ties key zs g.after))
 
   -- ---- an insert that is there
@@ -377,7 +436,8 @@ module _ (key_cols sid : ℕ) where
 
     pub not_match : (x : Entry) → T (before x) → T (not (matches x))
     not_match x h =
-        elim (nat_cmp sid x.sid) as (λ r. nat_cmp sid x.sid ≡ r → T (is_gt (ordering_then r (insert_cmp key_cols key x.change))) → T (not (matches x))) [
+        elim (nat_cmp sid x.sid) as
+        (λ r. nat_cmp sid x.sid ≡ r → T (is_gt (ordering_then r (insert_cmp key_cols key x.change))) → T (not (matches x))) [
           | Less ↦ λ e g. absurd g
           | Equal ↦ λ e g. subst (λ b. T (not (b && is_insert_of key_cols key x.change))) (sym (at_sid x.sid e)) (other_key x.change g)
           | Greater ↦ λ e g. subst (λ b. T (not (b && is_insert_of key_cols key x.change))) (sym (above_sid x.sid e)) tt
@@ -408,7 +468,8 @@ module _ (key_cols sid : ℕ) where
         let at : (z.sid == sid) ≡ true = is_true (z.sid == sid) (first (z.sid == sid) (is_insert_of key_cols key z.change) m) in
         let is : z.sid ≡ sid = eqb-true z.sid sid at in
         let here : T (is_insert_of key_cols key z.change) = second (z.sid == sid) (is_insert_of key_cols key z.change) m in
-        elim (nat_cmp y.sid z.sid) as (λ r. nat_cmp y.sid z.sid ≡ r → ordering_then r (change_cmp key_cols y.change z.change) ≡ Less → T (before y)) [
+        elim (nat_cmp y.sid z.sid) as
+        (λ r. nat_cmp y.sid z.sid ≡ r → ordering_then r (change_cmp key_cols y.change z.change) ≡ Less → T (before y)) [
           | Less ↦ λ e g.
               let lt : y.sid < z.sid = ranked y.sid z.sid Less (sym e) in
               let past : y.sid < sid = omega arith in
@@ -421,7 +482,8 @@ module _ (key_cols sid : ℕ) where
           | Greater ↦ λ e g. cc
         ] refl b
 
-    pub none_after : (y : Entry) (zs : List Entry) → T (not (before y)) → T (list_all (λ z. is_lt (entry_cmp key_cols y z)) zs) → T (list_all (λ z. not (matches z)) zs)
+    pub none_after : (y : Entry) (zs : List Entry) → T (not (before y)) → T (list_all (λ z. is_lt (entry_cmp key_cols y z)) zs)
+        → T (list_all (λ z. not (matches z)) zs)
     none_after y [] h g = tt
     none_after y (z ∷ zs) h g =
         both (not (matches z)) _
@@ -433,10 +495,12 @@ module _ (key_cols sid : ℕ) where
         unless true false f h = absurd (f tt)
         unless false b f h = tt
 
-    skipped : (x : Entry) (es : List Entry) → T (not (matches x)) → inserted_row key_cols sid key (x ∷ es) ≡ inserted_row key_cols sid key es
+    skipped : (x : Entry) (es : List Entry) → T (not (matches x))
+        → inserted_row key_cols sid key (x ∷ es) ≡ inserted_row key_cols sid key es
     skipped x es h = ap (λ b. cond b (row_of x.change) (inserted_row key_cols sid key es)) (false_of (matches x) h)
 
-    pub all_skipped : (xs es : List Entry) → T (list_all (λ x. not (matches x)) xs) → inserted_row key_cols sid key (xs ++ es) ≡ inserted_row key_cols sid key es
+    pub all_skipped : (xs es : List Entry) → T (list_all (λ x. not (matches x)) xs)
+        → inserted_row key_cols sid key (xs ++ es) ≡ inserted_row key_cols sid key es
     all_skipped [] es h = refl
     all_skipped (x ∷ xs) es h = skipped x (xs ++ es) (first (not (matches x)) _ h) ∙ all_skipped xs es (second (not (matches x)) _ h)
 
@@ -445,7 +509,8 @@ module _ (key_cols sid : ℕ) where
     none_inserted (e ∷ es) h = skipped e es (first (not (matches e)) _ h) ∙ none_inserted es (second (not (matches e)) _ h)
 
     -- the first entry that doesn't stand before the key matches
-    first_matches : (y : Entry) (zs : List Entry) → T (not (before y)) → T (list_all (λ z. is_lt (entry_cmp key_cols y z)) zs) → is_some (inserted_row key_cols sid key (y ∷ zs)) ≡ true → T (matches y)
+    first_matches : (y : Entry) (zs : List Entry) → T (not (before y)) → T (list_all (λ z. is_lt (entry_cmp key_cols y z)) zs)
+        → is_some (inserted_row key_cols sid key (y ∷ zs)) ≡ true → T (matches y)
     first_matches y zs h g some = by (matches y) some
       where
         by : (b : Bool) → is_some (cond b (row_of y.change) (inserted_row key_cols sid key zs)) ≡ true → T b
@@ -457,7 +522,8 @@ module _ (key_cols sid : ℕ) where
     ordered_drop (suc n) [] h = tt
     ordered_drop (suc n) (e ∷ es) h = ordered_drop n es (second (list_all (λ y. is_lt (entry_cmp key_cols e y)) es) _ h)
 
-    filter_but_one : (xs zs : List Entry) (y : Entry) → T (list_all (λ x. not (matches x)) xs) → T (matches y) → T (list_all (λ x. not (matches x)) zs) → filter (λ e. not (matches e)) (xs ++ y ∷ zs) ≡ xs ++ zs
+    filter_but_one : (xs zs : List Entry) (y : Entry) → T (list_all (λ x. not (matches x)) xs) → T (matches y)
+        → T (list_all (λ x. not (matches x)) zs) → filter (λ e. not (matches e)) (xs ++ y ∷ zs) ≡ xs ++ zs
     filter_but_one xs zs y h m g =
         filter-append (λ e. not (matches e)) xs (y ∷ zs)
         ∙ (λ i. filter_all (λ e. not (matches e)) xs h i ++ gone i)
@@ -465,18 +531,21 @@ module _ (key_cols sid : ℕ) where
         gone : filter (λ e. not (matches e)) (y ∷ zs) ≡ zs
         gone = by (matches y) m ∙ filter_all (λ e. not (matches e)) zs g
           where
-            by : (b : Bool) → T b → cond (not b) (y ∷ filter (λ e. not (matches e)) zs) (filter (λ e. not (matches e)) zs) ≡ filter (λ e. not (matches e)) zs
+            by : (b : Bool) → T b → cond (not b) (y ∷ filter (λ e. not (matches e)) zs) (filter (λ e. not (matches e)) zs)
+                ≡ filter (λ e. not (matches e)) zs
             by true t = refl
             by false t = absurd t
 
-    map_others : (f : Entry → Entry) (xs : List Entry) → T (list_all (λ x. not (matches x)) xs) → map (λ e. cond (matches e) (f e) e) xs ≡ xs
+    map_others : (f : Entry → Entry) (xs : List Entry) → T (list_all (λ x. not (matches x)) xs)
+        → map (λ e. cond (matches e) (f e) e) xs ≡ xs
     map_others f [] h = refl
     map_others f (x ∷ xs) h =
         let same = ap (λ b. cond b (f x) x) (false_of (matches x) (first (not (matches x)) _ h)) in
         let rest = map_others f xs (second (not (matches x)) _ h) in
         λ i. same i ∷ rest i
 
-    map_one : (f : Entry → Entry) (xs zs : List Entry) (y : Entry) → T (list_all (λ x. not (matches x)) xs) → T (matches y) → T (list_all (λ x. not (matches x)) zs) → map (λ e. cond (matches e) (f e) e) (xs ++ y ∷ zs) ≡ xs ++ f y ∷ zs
+    map_one : (f : Entry → Entry) (xs zs : List Entry) (y : Entry) → T (list_all (λ x. not (matches x)) xs) → T (matches y)
+        → T (list_all (λ x. not (matches x)) zs) → map (λ e. cond (matches e) (f e) e) (xs ++ y ∷ zs) ≡ xs ++ f y ∷ zs
     map_one f [] zs y h m g =
         let here = ap (λ b. cond b (f y) y) (is_true (matches y) m) in
         let rest = map_others f zs g in
@@ -492,9 +561,12 @@ module _ (key_cols sid : ℕ) where
       pub there : T (matches (get_or es n nothing))
       pub row_is : inserted_row key_cols sid key es ≡ row_of (get_or es n nothing).change
       pub taken : take_ins key_cols sid key es ≡ remove es n
-      pub with_cell : (col : ℕ) (value : Value) → set_ins key_cols sid key col value es ≡ set es n (entry_at (get_or es n nothing).sid (change_with_cell col value (get_or es n nothing).change))
+      pub with_cell : (col : ℕ) (value : Value) → set_ins key_cols sid key col value es
+          ≡ set es n (entry_at (get_or es n nothing).sid (change_with_cell col value (get_or es n nothing).change))
 
-    pub has_insert : (es : List Entry) (n : ℕ) → T (are_ordered key_cols es) → IsSplit (stands_before (insert_cmp key_cols key) sid) es n → is_some (inserted_row key_cols sid key es) ≡ true → HasInsert es n
+    pub has_insert : (es : List Entry) (n : ℕ) → T (are_ordered key_cols es)
+        → IsSplit (stands_before (insert_cmp key_cols key) sid) es n → is_some (inserted_row key_cols sid key es) ≡ true
+        → HasInsert es n
     has_insert es n ordered h some =
         let xs = take n es in
         let y = get_or es n nothing in
@@ -532,7 +604,10 @@ same_item [] n d e lt = absurd (omega arith)
 same_item (x ∷ es) zero d e lt = refl
 same_item (x ∷ es) (suc n) d e lt = let short : n < length es = omega arith in same_item es n d e short
 
-pub found_in : (k : ℕ) (es : List Entry) (t : Tree) (sid : ℕ) (cells key : Key) (n : ℕ) → ◌≡◌ {A = Tree} (record { key_cols = k; entries = es }) t → cells ≡ key → are_ordered k es ≡ true → IsSplit (stands_before (insert_cmp t.key_cols cells) sid) t.entries n → is_some (inserted_row t.key_cols sid key t.entries) ≡ true → HasInsert t.key_cols sid key t.entries n
+pub found_in : (k : ℕ) (es : List Entry) (t : Tree) (sid : ℕ) (cells key : Key) (n : ℕ)
+    → ◌≡◌ {A = Tree} (record { key_cols = k; entries = es }) t → cells ≡ key → are_ordered k es ≡ true
+    → IsSplit (stands_before (insert_cmp t.key_cols cells) sid) t.entries n
+    → is_some (inserted_row t.key_cols sid key t.entries) ≡ true → HasInsert t.key_cols sid key t.entries n
 found_in k es t sid cells key n view same ordered split some =
     has_insert t.key_cols sid key t.entries n
     (subst (λ (w : Tree). T (are_ordered w.key_cols w.entries)) view (T_from_true (are_ordered k es) ordered))

@@ -58,7 +58,8 @@ pub counts-le : (es : List Entry) → insert_count es + delete_count es ≤ leng
 counts-le [] = omega arith
 counts-le (e ∷ es) = omega (arith, worth_le e.change, insert_count-cons e es, delete_count-cons e es, counts-le es)
 
-pub delete_count-take : (es : List Entry) (i : ℕ) (e : Entry) → i < length es → e ≡ get_or es i e → delete_count (take (i + 1) es) ≡ delete_count (take i es) + delete_worth e.change
+pub delete_count-take : (es : List Entry) (i : ℕ) (e : Entry) → i < length es → e ≡ get_or es i e
+    → delete_count (take (i + 1) es) ≡ delete_count (take i es) + delete_worth e.change
 delete_count-take es i e lt is =
     let next = ap delete_count (take_more es i e lt) ∙ delete_count-append (take i es) (get_or es i e ∷ []) in
     omega (arith, next, delete_count-cons (get_or es i e) [], ap (λ (x : Entry). delete_worth x.change) is)

@@ -58,16 +58,20 @@ module _ (key : Key) (t : Table) where
   pub inserts_below : (x : Effects) → insert_count (canonical_entries t (low x)) ≡ sum_below inserts_of key x
   inserts_below [] = refl
   inserts_below (e ∷ x) =
-      elim (is_below e.0 key) as (λ b. insert_count (canonical_entries t (cond b (e ∷ low x) (low x))) ≡ cond b (inserts_of e.1) 0 + sum_below inserts_of key x) [
-        | true ↦ insert_count-append (entries_of (rank e.0 t) e.0 e.1) (canonical_entries t (low x)) ∙ (λ i. inserts_of_effect (rank e.0 t) e.0 e.1 i + inserts_below x i)
+      elim (is_below e.0 key) as (λ b. insert_count (canonical_entries t (cond b (e ∷ low x) (low x)))
+      ≡ cond b (inserts_of e.1) 0 + sum_below inserts_of key x) [
+        | true ↦ insert_count-append (entries_of (rank e.0 t) e.0 e.1) (canonical_entries t (low x))
+            ∙ (λ i. inserts_of_effect (rank e.0 t) e.0 e.1 i + inserts_below x i)
         | false ↦ inserts_below x ∙ none_more (sum_below inserts_of key x)
       ]
 
   pub deletes_below : (x : Effects) → delete_count (canonical_entries t (low x)) ≡ sum_below deletes_of key x
   deletes_below [] = refl
   deletes_below (e ∷ x) =
-      elim (is_below e.0 key) as (λ b. delete_count (canonical_entries t (cond b (e ∷ low x) (low x))) ≡ cond b (deletes_of e.1) 0 + sum_below deletes_of key x) [
-        | true ↦ delete_count-append (entries_of (rank e.0 t) e.0 e.1) (canonical_entries t (low x)) ∙ (λ i. deletes_of_effect (rank e.0 t) e.0 e.1 i + deletes_below x i)
+      elim (is_below e.0 key) as (λ b. delete_count (canonical_entries t (cond b (e ∷ low x) (low x)))
+      ≡ cond b (deletes_of e.1) 0 + sum_below deletes_of key x) [
+        | true ↦ delete_count-append (entries_of (rank e.0 t) e.0 e.1) (canonical_entries t (low x))
+            ∙ (λ i. deletes_of_effect (rank e.0 t) e.0 e.1 i + deletes_below x i)
         | false ↦ deletes_below x ∙ none_more (sum_below deletes_of key x)
       ]
 
@@ -111,14 +115,20 @@ module _ (key : Key) (t : Table) where
     -- of a smaller key each entry does
     low_cells : (k : Key) (cells : Cells) → rank k t < rank key t → T (list_all test (map (λ c. entry_at (rank k t) (Mod c.0 c.1)) cells))
     low_cells k [] lt = tt
-    low_cells k (c ∷ cells) lt = both (test (entry_at (rank k t) (Mod c.0 c.1))) _ (gt_of (rank key t) (rank k t) Less lt) (low_cells k cells lt)
+    low_cells k (c ∷ cells) lt =
+        both (test (entry_at (rank k t) (Mod c.0 c.1))) _ (gt_of (rank key t) (rank k t) Less lt) (low_cells k cells lt)
 
-    low_insert : (k : Key) (row : Row) → key_cmp k key ≡ Less → T (eq_by_cmp key_cmp k (key_of key_cols row)) → T (test (entry_at (rank k t) (Ins row)))
-    low_insert k row below own = gt_level (rank key t) (rank k t) (key_cmp key (key_of key_cols row)) (rank-le k key t below) (ap (key_cmp key) (own_key k row own) ∙ turn_less key_cmp_total k key below)
+    low_insert : (k : Key) (row : Row) → key_cmp k key ≡ Less → T (eq_by_cmp key_cmp k (key_of key_cols row))
+        → T (test (entry_at (rank k t) (Ins row)))
+    low_insert k row below own =
+        gt_level (rank key t) (rank k t) (key_cmp key (key_of key_cols row)) (rank-le k key t below)
+        (ap (key_cmp key) (own_key k row own) ∙ turn_less key_cmp_total k key below)
 
-    low_effect : (k : Key) (f : Effect) → key_cmp k key ≡ Less → T (is_keyed_effect key_cols k f) → T (fits (row_at t k) f) → T (list_all test (entries_of (rank k t) k f))
+    low_effect : (k : Key) (f : Effect) → key_cmp k key ≡ Less → T (is_keyed_effect key_cols k f) → T (fits (row_at t k) f)
+        → T (list_all test (entries_of (rank k t) k f))
     low_effect k (effect.Ins row) below own fit = both (test (entry_at (rank k t) (Ins row))) _ (low_insert k row below own) tt
-    low_effect k effect.Del below own fit = both (test (entry_at (rank k t) (Del k))) _ (gt_of (rank key t) (rank k t) Less (rank-lt k key t below fit)) tt
+    low_effect k effect.Del below own fit =
+        both (test (entry_at (rank k t) (Del k))) _ (gt_of (rank key t) (rank k t) Less (rank-lt k key t below fit)) tt
     low_effect k (effect.Mod cells) below own fit = low_cells k cells (rank-lt k key t below fit)
     low_effect k (effect.Rep row) below own fit =
         both (test (entry_at (rank k t) (Ins row))) _ (low_insert k row below own)
@@ -141,16 +151,24 @@ module _ (key : Key) (t : Table) where
           | Greater ↦ λ q. let less = ap is_lt (turn_greater key_cmp_total key k q) in cc
         ] refl
 
-    high_insert : (k : Key) (row : Row) → is_lt (key_cmp k key) ≡ false → T (eq_by_cmp key_cmp k (key_of key_cols row)) → T (not (test (entry_at (rank k t) (Ins row))))
-    high_insert k row above own = not_gt (rank key t) (rank k t) (key_cmp key (key_of key_cols row)) (above_le k above) (subst (λ j. T (not (is_gt (key_cmp key j)))) (sym (own_key k row own)) (above_not k above))
+    high_insert : (k : Key) (row : Row) → is_lt (key_cmp k key) ≡ false → T (eq_by_cmp key_cmp k (key_of key_cols row))
+        → T (not (test (entry_at (rank k t) (Ins row))))
+    high_insert k row above own =
+        not_gt (rank key t) (rank k t) (key_cmp key (key_of key_cols row)) (above_le k above)
+        (subst (λ j. T (not (is_gt (key_cmp key j)))) (sym (own_key k row own)) (above_not k above))
 
-    high_cells : (k : Key) (cells : Cells) → rank key t ≤ rank k t → T (list_all (λ e. not (test e)) (map (λ c. entry_at (rank k t) (Mod c.0 c.1)) cells))
+    high_cells : (k : Key) (cells : Cells) → rank key t ≤ rank k t
+        → T (list_all (λ e. not (test e)) (map (λ c. entry_at (rank k t) (Mod c.0 c.1)) cells))
     high_cells k [] le = tt
-    high_cells k (c ∷ cells) le = both (not (test (entry_at (rank k t) (Mod c.0 c.1)))) _ (not_gt (rank key t) (rank k t) Less le tt) (high_cells k cells le)
+    high_cells k (c ∷ cells) le =
+        both (not (test (entry_at (rank k t) (Mod c.0 c.1)))) _ (not_gt (rank key t) (rank k t) Less le tt)
+        (high_cells k cells le)
 
-    high_effect : (k : Key) (f : Effect) → is_lt (key_cmp k key) ≡ false → T (is_keyed_effect key_cols k f) → T (list_all (λ e. not (test e)) (entries_of (rank k t) k f))
+    high_effect : (k : Key) (f : Effect) → is_lt (key_cmp k key) ≡ false → T (is_keyed_effect key_cols k f)
+        → T (list_all (λ e. not (test e)) (entries_of (rank k t) k f))
     high_effect k (effect.Ins row) above own = both (not (test (entry_at (rank k t) (Ins row)))) _ (high_insert k row above own) tt
-    high_effect k effect.Del above own = both (not (test (entry_at (rank k t) (Del k)))) _ (not_gt (rank key t) (rank k t) Less (above_le k above) tt) tt
+    high_effect k effect.Del above own =
+        both (not (test (entry_at (rank k t) (Del k)))) _ (not_gt (rank key t) (rank k t) Less (above_le k above) tt) tt
     high_effect k (effect.Mod cells) above own = high_cells k cells (above_le k above)
     high_effect k (effect.Rep row) above own =
         both (not (test (entry_at (rank k t) (Ins row)))) _ (high_insert k row above own)
@@ -165,22 +183,30 @@ module _ (key : Key) (t : Table) where
     less_of Equal e = cc
     less_of Greater e = cc
 
-    pub low_all : (x : Effects) → T (list_all (λ e. is_keyed_effect key_cols e.0 e.1) x) → T (all_fit t x) → T (list_all test (canonical_entries t (low x)))
+    pub low_all : (x : Effects) → T (list_all (λ e. is_keyed_effect key_cols e.0 e.1) x) → T (all_fit t x)
+        → T (list_all test (canonical_entries t (low x)))
     low_all [] own fit = tt
     low_all (e ∷ x) own fit =
         let rest = low_all x (second (is_keyed_effect key_cols e.0 e.1) _ own) (second (fits (row_at t e.0) e.1) _ fit) in
-        elim (is_lt (key_cmp e.0 key)) as (λ b. is_lt (key_cmp e.0 key) ≡ b → T (list_all test (canonical_entries t (cond b (e ∷ low x) (low x))))) [
-          | true ↦ λ q. all_append test (entries_of (rank e.0 t) e.0 e.1) (canonical_entries t (low x)) (low_effect e.0 e.1 (less_of (key_cmp e.0 key) q) (first (is_keyed_effect key_cols e.0 e.1) _ own) (first (fits (row_at t e.0) e.1) _ fit)) rest
+        elim (is_lt (key_cmp e.0 key)) as
+        (λ b. is_lt (key_cmp e.0 key) ≡ b → T (list_all test (canonical_entries t (cond b (e ∷ low x) (low x))))) [
+          | true ↦ λ q. all_append test (entries_of (rank e.0 t) e.0 e.1) (canonical_entries t (low x))
+              (low_effect e.0 e.1 (less_of (key_cmp e.0 key) q) (first (is_keyed_effect key_cols e.0 e.1) _ own)
+              (first (fits (row_at t e.0) e.1) _ fit))
+              rest
           | false ↦ λ q. rest
         ] refl
 
-    pub high_all : (x : Effects) → T (list_all (λ e. is_keyed_effect key_cols e.0 e.1) x) → T (list_all (λ e. not (test e)) (canonical_entries t (high x)))
+    pub high_all : (x : Effects) → T (list_all (λ e. is_keyed_effect key_cols e.0 e.1) x)
+        → T (list_all (λ e. not (test e)) (canonical_entries t (high x)))
     high_all [] own = tt
     high_all (e ∷ x) own =
         let rest = high_all x (second (is_keyed_effect key_cols e.0 e.1) _ own) in
-        elim (is_lt (key_cmp e.0 key)) as (λ b. is_lt (key_cmp e.0 key) ≡ b → T (list_all (λ y. not (test y)) (canonical_entries t (cond (not b) (e ∷ high x) (high x))))) [
+        elim (is_lt (key_cmp e.0 key)) as (λ b. is_lt (key_cmp e.0 key) ≡ b
+        → T (list_all (λ y. not (test y)) (canonical_entries t (cond (not b) (e ∷ high x) (high x))))) [
           | true ↦ λ q. rest
-          | false ↦ λ q. all_append (λ y. not (test y)) (entries_of (rank e.0 t) e.0 e.1) (canonical_entries t (high x)) (high_effect e.0 e.1 q (first (is_keyed_effect key_cols e.0 e.1) _ own)) rest
+          | false ↦ λ q. all_append (λ y. not (test y)) (entries_of (rank e.0 t) e.0 e.1) (canonical_entries t (high x))
+              (high_effect e.0 e.1 q (first (is_keyed_effect key_cols e.0 e.1) _ own)) rest
         ] refl
 
 -- the first entries of a split are those that pass
@@ -198,7 +224,9 @@ module _ (schema : Columns) (t : Table) (x : Effects) (h : AreOver schema t x) (
   own = second (is_sorted key_cmp x) _ (passes (are_keyed_effects schema.key_cols x) h.effects_are.keyed)
 
   pub sorted_effects : T (is_sorted key_cmp x)
-  sorted_effects = first (is_sorted key_cmp x) (list_all (λ e. is_keyed_effect schema.key_cols e.0 e.1) x) (passes (are_keyed_effects schema.key_cols x) h.effects_are.keyed)
+  sorted_effects =
+      first (is_sorted key_cmp x) (list_all (λ e. is_keyed_effect schema.key_cols e.0 e.1) x)
+      (passes (are_keyed_effects schema.key_cols x) h.effects_are.keyed)
 
   pub sorted_table : T (is_sorted key_cmp t)
   sorted_table = first (is_sorted key_cmp t) _ (passes (is_keyed_table schema.key_cols t) h.table.keyed)
@@ -210,12 +238,16 @@ module _ (schema : Columns) (t : Table) (x : Effects) (h : AreOver schema t x) (
   entries = canonical_entries t x
 
   -- the entries before an insert of the key are those of the smaller keys
-  pub before_key : (n : ℕ) → IsSplit (stands_before (insert_cmp schema.key_cols key) (rank key t)) entries n → take n entries ≡ canonical_entries t (low key t x)
+  pub before_key : (n : ℕ) → IsSplit (stands_before (insert_cmp schema.key_cols key) (rank key t)) entries n
+      → take n entries ≡ canonical_entries t (low key t x)
   before_key n split =
       let p = test key t schema.key_cols in
       let is = canonical_entries-at_key schema t x key h.effects_are in
-      sym (split_is p entries n split) ∙ ap (filter p) is ∙ filter-append p (canonical_entries t (low key t x)) (canonical_entries t (high key t x))
-      ∙ (λ i. filter_all p (canonical_entries t (low key t x)) (low_all key t schema.key_cols x own fitting) i ++ filter_none p (canonical_entries t (high key t x)) (high_all key t schema.key_cols x own) i)
+      sym (split_is p entries n split)
+      ∙ ap (filter p) is
+      ∙ filter-append p (canonical_entries t (low key t x)) (canonical_entries t (high key t x))
+      ∙ (λ i. filter_all p (canonical_entries t (low key t x)) (low_all key t schema.key_cols x own fitting) i
+      ++ filter_none p (canonical_entries t (high key t x)) (high_all key t schema.key_cols x own) i)
       ∙ append_none (canonical_entries t (low key t x))
     where
       append_none : (xs : List Entry) → xs ++ [] ≡ xs
@@ -223,7 +255,15 @@ module _ (schema : Columns) (t : Table) (x : Effects) (h : AreOver schema t x) (
       append_none (y ∷ xs) = ap (λ ys. y ∷ ys) (append_none xs)
 
   -- so its position is the rank in the image
-  pub rank_is : (n : ℕ) → IsSplit (stands_before (insert_cmp schema.key_cols key) (rank key t)) entries n → rid_of_insert (take n entries) (rank key t) ≡ rank key (table_with t x)
+  pub rank_is : (n : ℕ) → IsSplit (stands_before (insert_cmp schema.key_cols key) (rank key t)) entries n
+      → rid_of_insert (take n entries) (rank key t) ≡ rank key (table_with t x)
   rank_is n split =
       let before = before_key n split in
-      omega (arith, ap insert_count before, ap delete_count before, inserts_below key t x, deletes_below key t x, rank-table_with key t x sorted_table sorted_effects fitting)
+      omega (
+        arith,
+        ap insert_count before,
+        ap delete_count before,
+        inserts_below key t x,
+        deletes_below key t x,
+        rank-table_with key t x sorted_table sorted_effects fitting,
+      )

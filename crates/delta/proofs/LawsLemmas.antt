@@ -50,20 +50,25 @@ module _ (key_cols : ℕ) where
   in_order (c ∷ cs) = stand_after c cs && in_order cs
 
   -- an entry that follows at the same SID follows by its change
-  level : (x y : Entry) (sid : ℕ) → x.sid ≡ sid → y.sid ≡ sid → T (is_lt (entry_cmp key_cols x y)) → T (is_lt (change_cmp key_cols x.change y.change))
+  level : (x y : Entry) (sid : ℕ) → x.sid ≡ sid → y.sid ≡ sid → T (is_lt (entry_cmp key_cols x y))
+      → T (is_lt (change_cmp key_cols x.change y.change))
   level x y sid p q h =
       subst (λ r. T (is_lt (ordering_then r (change_cmp key_cols x.change y.change))))
       ((λ i. nat_cmp (p i) (q i)) ∙ tied_itself nat_cmp_total sid) h
 
   -- of the entries that follow one, those at its SID
-  after_at : (sid : ℕ) (x : Entry) (es : List Entry) → x.sid ≡ sid → T (list_all (λ y. is_lt (entry_cmp key_cols x y)) es) → T (stand_after x.change (changes_at sid es))
+  after_at : (sid : ℕ) (x : Entry) (es : List Entry) → x.sid ≡ sid → T (list_all (λ y. is_lt (entry_cmp key_cols x y)) es)
+      → T (stand_after x.change (changes_at sid es))
   after_at sid x [] is h = tt
   after_at sid x (y ∷ es) is h =
       let rest = after_at sid x es is (second (is_lt (entry_cmp key_cols x y)) (list_all (λ z. is_lt (entry_cmp key_cols x z)) es) h) in
-      elim (y.sid == sid) as (λ b. (y.sid == sid) ≡ b → T (stand_after x.change (map (λ e. e.change) (cond b (y ∷ filter (λ e. e.sid == sid) es) (filter (λ e. e.sid == sid) es))))) [
+      elim (y.sid == sid) as (λ b. (y.sid == sid) ≡ b → T (stand_after x.change
+      (map (λ e. e.change) (cond b (y ∷ filter (λ e. e.sid == sid) es) (filter (λ e. e.sid == sid) es))))) [
         | true ↦ λ same.
             both (is_lt (change_cmp key_cols x.change y.change)) _
-            (level x y sid is (eqb-true y.sid sid same) (first (is_lt (entry_cmp key_cols x y)) (list_all (λ z. is_lt (entry_cmp key_cols x z)) es) h)) rest
+            (level x y sid is (eqb-true y.sid sid same)
+            (first (is_lt (entry_cmp key_cols x y)) (list_all (λ z. is_lt (entry_cmp key_cols x z)) es) h))
+            rest
         | false ↦ λ same. rest
       ] refl
 
@@ -72,15 +77,19 @@ module _ (key_cols : ℕ) where
   in_order-at sid [] h = tt
   in_order-at sid (x ∷ es) h =
       let rest = in_order-at sid es (second (list_all (λ y. is_lt (entry_cmp key_cols x y)) es) (are_ordered key_cols es) h) in
-      elim (x.sid == sid) as (λ b. (x.sid == sid) ≡ b → T (in_order (map (λ e. e.change) (cond b (x ∷ filter (λ e. e.sid == sid) es) (filter (λ e. e.sid == sid) es))))) [
+      elim (x.sid == sid) as (λ b. (x.sid == sid) ≡ b
+      → T (in_order (map (λ e. e.change) (cond b (x ∷ filter (λ e. e.sid == sid) es) (filter (λ e. e.sid == sid) es))))) [
         | true ↦ λ same.
             both (stand_after x.change (changes_at sid es)) (in_order (changes_at sid es))
-            (after_at sid x es (eqb-true x.sid sid same) (first (list_all (λ y. is_lt (entry_cmp key_cols x y)) es) (are_ordered key_cols es) h)) rest
+            (after_at sid x es (eqb-true x.sid sid same)
+            (first (list_all (λ y. is_lt (entry_cmp key_cols x y)) es) (are_ordered key_cols es) h))
+            rest
         | false ↦ λ same. rest
       ] refl
 
   -- the rows that are inserted after a row have greater keys
-  rows_above : (row : Row) (cs : List Change) → T (stand_after (Ins row) cs) → T (below_all key_cmp (key_of key_cols row) (table_of key_cols (inserted_rows cs)))
+  rows_above : (row : Row) (cs : List Change) → T (stand_after (Ins row) cs)
+      → T (below_all key_cmp (key_of key_cols row) (table_of key_cols (inserted_rows cs)))
   rows_above row [] h = tt
   rows_above row (Ins other ∷ cs) h =
       let here = is_lt (key_cmp (key_of key_cols row) (key_of key_cols other)) in
@@ -91,7 +100,10 @@ module _ (key_cols : ℕ) where
   -- so the rows that are inserted ascend
   rows_sorted : (cs : List Change) → T (in_order cs) → T (is_sorted key_cmp (table_of key_cols (inserted_rows cs)))
   rows_sorted [] h = tt
-  rows_sorted (Ins row ∷ cs) h = both (below_all key_cmp (key_of key_cols row) (table_of key_cols (inserted_rows cs))) _ (rows_above row cs (first (stand_after (Ins row) cs) (in_order cs) h)) (rows_sorted cs (second (stand_after (Ins row) cs) (in_order cs) h))
+  rows_sorted (Ins row ∷ cs) h =
+      both (below_all key_cmp (key_of key_cols row) (table_of key_cols (inserted_rows cs))) _
+      (rows_above row cs (first (stand_after (Ins row) cs) (in_order cs) h))
+      (rows_sorted cs (second (stand_after (Ins row) cs) (in_order cs) h))
   rows_sorted (Del key ∷ cs) h = rows_sorted cs (second (stand_after (Del key) cs) (in_order cs) h)
   rows_sorted (Mod col value ∷ cs) h = rows_sorted cs (second (stand_after (Mod col value) cs) (in_order cs) h)
 
@@ -107,7 +119,8 @@ module _ (key_cols : ℕ) where
   after_modify col value [] h d = d
   after_modify col value (Ins row ∷ cs) h d = h
   after_modify col value (Del key ∷ cs) h d = h
-  after_modify col value (Mod other w ∷ cs) h d = after_modify col value cs (second (is_lt (nat_cmp col other)) (stand_after (Mod col value) cs) h) d
+  after_modify col value (Mod other w ∷ cs) h d =
+      after_modify col value cs (second (is_lt (nat_cmp col other)) (stand_after (Mod col value) cs) h) d
 
   -- so where a delete stands no modify does
   no_modify : (cs : List Change) → T (in_order cs) → T (list_any is_delete cs) → T (not (list_any is_modify cs))
@@ -156,7 +169,8 @@ same_number n = grind (arith, nat_tests)
 
 module _ (key_cols : ℕ) (t : Table) (k : Key) where
   -- two keys of the table have different places
-  other_rank : (j : Key) → eq_by_cmp key_cmp k j ≡ false → T (is_some (row_at t k)) → T (is_some (row_at t j)) → (rank j t == rank k t) ≡ false
+  other_rank : (j : Key) → eq_by_cmp key_cmp k j ≡ false → T (is_some (row_at t k)) → T (is_some (row_at t j))
+      → (rank j t == rank k t) ≡ false
   other_rank j ne hk hj =
       elim (key_cmp k j) as (λ r. key_cmp k j ≡ r → (rank j t == rank k t) ≡ false) [
         | Less ↦ λ p. let lt = rank-lt k j t p hk in differ (rank j t) (rank k t) (λ e. omega arith)
@@ -168,7 +182,8 @@ module _ (key_cols : ℕ) (t : Table) (k : Key) where
       differ n m h = grind (arith, nat_tests)
 
   -- of a test that no entry of another key passes
-  module _ (p : Entry → Bool) (apart : (j : Key) (c : Change) → eq_by_cmp key_cmp k j ≡ false → T (is_placed key_cols t j c) → T (not (p (entry_at (rank j t) c)))) where
+  module _ (p : Entry → Bool) (apart : (j : Key) (c : Change) → eq_by_cmp key_cmp k j ≡ false → T (is_placed key_cols t j c)
+      → T (not (p (entry_at (rank j t) c)))) where
     -- none of the entries passes
     abbrev none : List Entry → Bool
     none es = list_all (λ e. not (p e)) es
@@ -179,12 +194,15 @@ module _ (key_cols : ℕ) (t : Table) (k : Key) where
     none-append (x ∷ xs) ys h g = both (not (p x)) _ (first (not (p x)) (none xs) h) (none-append xs ys (second (not (p x)) (none xs) h) g)
 
     -- the modifies of another row don't
-    none_of_cells : (j : Key) (cells : Cells) → eq_by_cmp key_cmp k j ≡ false → T (is_some (row_at t j)) → T (none (map (λ d. entry_at (rank j t) (Mod d.0 d.1)) cells))
+    none_of_cells : (j : Key) (cells : Cells) → eq_by_cmp key_cmp k j ≡ false → T (is_some (row_at t j))
+        → T (none (map (λ d. entry_at (rank j t) (Mod d.0 d.1)) cells))
     none_of_cells j [] ne hj = tt
-    none_of_cells j (d ∷ cells) ne hj = both (not (p (entry_at (rank j t) (Mod d.0 d.1)))) _ (apart j (Mod d.0 d.1) ne hj) (none_of_cells j cells ne hj)
+    none_of_cells j (d ∷ cells) ne hj =
+        both (not (p (entry_at (rank j t) (Mod d.0 d.1)))) _ (apart j (Mod d.0 d.1) ne hj) (none_of_cells j cells ne hj)
 
     -- nor does any entry of another key's effect
-    none_of : (j : Key) (g : Effect) → eq_by_cmp key_cmp k j ≡ false → T (is_keyed_effect key_cols j g) → T (fits (row_at t j) g) → T (none (entries_of (rank j t) j g))
+    none_of : (j : Key) (g : Effect) → eq_by_cmp key_cmp k j ≡ false → T (is_keyed_effect key_cols j g) → T (fits (row_at t j) g)
+        → T (none (entries_of (rank j t) j g))
     none_of j (effect.Ins row) ne he hf = both (not (p (entry_at (rank j t) (Ins row)))) true (apart j (Ins row) ne he) tt
     none_of j effect.Del ne he hf = both (not (p (entry_at (rank j t) (Del j)))) true (apart j (Del j) ne hf) tt
     none_of j (effect.Mod cells) ne he hf = none_of_cells j cells ne hf
@@ -193,38 +211,46 @@ module _ (key_cols : ℕ) (t : Table) (k : Key) where
         (both (not (p (entry_at (rank j t) (Del j)))) true (apart j (Del j) ne hf) tt)
 
     -- none of greater keys
-    none_above : (x : Effects) → T (below_all key_cmp k x) → T (list_all (λ e. is_keyed_effect key_cols e.0 e.1) x) → T (all_fit t x) → T (none (canonical_entries t x))
+    none_above : (x : Effects) → T (below_all key_cmp k x) → T (list_all (λ e. is_keyed_effect key_cols e.0 e.1) x)
+        → T (all_fit t x) → T (none (canonical_entries t x))
     none_above [] h he hf = tt
     none_above (e ∷ x) h he hf =
         none-append (entries_of (rank e.0 t) e.0 e.1) (canonical_entries t x)
-        (none_of e.0 e.1 (ap is_eq (less _ (first (is_lt (key_cmp k e.0)) (below_all key_cmp k x) h))) (first (is_keyed_effect key_cols e.0 e.1) _ he) (first (fits (row_at t e.0) e.1) _ hf))
-        (none_above x (second (is_lt (key_cmp k e.0)) (below_all key_cmp k x) h) (second (is_keyed_effect key_cols e.0 e.1) _ he) (second (fits (row_at t e.0) e.1) _ hf))
+        (none_of e.0 e.1 (ap is_eq (less _ (first (is_lt (key_cmp k e.0)) (below_all key_cmp k x) h)))
+        (first (is_keyed_effect key_cols e.0 e.1) _ he) (first (fits (row_at t e.0) e.1) _ hf))
+        (none_above x (second (is_lt (key_cmp k e.0)) (below_all key_cmp k x) h) (second (is_keyed_effect key_cols e.0 e.1) _ he)
+        (second (fits (row_at t e.0) e.1) _ hf))
 
   -- what is found in the entries of all effects is found in those of the key's own
   module _ {A : Type 0} (look : List Entry → A) (found : Option Effect → A) (p : Entry → Bool)
       (apart : (j : Key) (c : Change) → eq_by_cmp key_cmp k j ≡ false → T (is_placed key_cols t j c) → T (not (p (entry_at (rank j t) c))))
       (skips : (xs ys : List Entry) → T (list_all (λ e. not (p e)) xs) → look (xs ++ ys) ≡ look ys)
       (nothing : look [] ≡ found None)
-      (own : (f : Effect) (ys : List Entry) → T (is_keyed_effect key_cols k f) → T (list_all (λ e. not (p e)) ys) → look (entries_of (rank k t) k f ++ ys) ≡ found (Some f)) where
-    -- by the effects in turn
-    look-canonical_entries : (x : Effects) → T (is_sorted key_cmp x) → T (list_all (λ e. is_keyed_effect key_cols e.0 e.1) x) → T (all_fit t x) → look (canonical_entries t x) ≡ found (find key_cmp k x)
-    look-canonical_entries [] hs he hf = nothing
-    look-canonical_entries (e ∷ x) hs he hf =
-        let keyed = first (is_keyed_effect key_cols e.0 e.1) (list_all (λ e. is_keyed_effect key_cols e.0 e.1) x) he in
-        let rest_keyed = second (is_keyed_effect key_cols e.0 e.1) (list_all (λ e. is_keyed_effect key_cols e.0 e.1) x) he in
-        let fit = first (fits (row_at t e.0) e.1) (all_fit t x) hf in
-        let rest_fit = second (fits (row_at t e.0) e.1) (all_fit t x) hf in
-        elim (eq_by_cmp key_cmp k e.0) as (λ b. eq_by_cmp key_cmp k e.0 ≡ b → look (entries_of (rank e.0 t) e.0 e.1 ++ canonical_entries t x) ≡ found (cond b (Some e.1) (find key_cmp k x))) [
-          | true ↦ λ q.
-              let tie = equal (key_cmp k e.0) (subst T (sym q) tt) in
-              let same = key_cmp-IsAntisymmetric k e.0 tie in
-              let above = below_tied key_cmp key_cmp_total k e.0 x tie (first (below_all key_cmp e.0 x) (is_sorted key_cmp x) hs) in
-              ap (λ j. look (entries_of (rank j t) j e.1 ++ canonical_entries t x)) (sym same)
-              ∙ own e.1 (canonical_entries t x) (subst (λ j. T (is_keyed_effect key_cols j e.1)) (sym same) keyed) (none_above p apart x above rest_keyed rest_fit)
-          | false ↦ λ q.
-              skips (entries_of (rank e.0 t) e.0 e.1) (canonical_entries t x) (none_of p apart e.0 e.1 q keyed fit)
-              ∙ look-canonical_entries x (second (below_all key_cmp e.0 x) (is_sorted key_cmp x) hs) rest_keyed rest_fit
-        ] refl
+      (own : (f : Effect) (ys : List Entry) → T (is_keyed_effect key_cols k f) → T (list_all (λ e. not (p e)) ys)
+      → look (entries_of (rank k t) k f ++ ys) ≡ found (Some f))
+    where
+      -- by the effects in turn
+      look-canonical_entries : (x : Effects) → T (is_sorted key_cmp x) → T (list_all (λ e. is_keyed_effect key_cols e.0 e.1) x)
+          → T (all_fit t x) → look (canonical_entries t x) ≡ found (find key_cmp k x)
+      look-canonical_entries [] hs he hf = nothing
+      look-canonical_entries (e ∷ x) hs he hf =
+          let keyed = first (is_keyed_effect key_cols e.0 e.1) (list_all (λ e. is_keyed_effect key_cols e.0 e.1) x) he in
+          let rest_keyed = second (is_keyed_effect key_cols e.0 e.1) (list_all (λ e. is_keyed_effect key_cols e.0 e.1) x) he in
+          let fit = first (fits (row_at t e.0) e.1) (all_fit t x) hf in
+          let rest_fit = second (fits (row_at t e.0) e.1) (all_fit t x) hf in
+          elim (eq_by_cmp key_cmp k e.0) as (λ b. eq_by_cmp key_cmp k e.0 ≡ b
+          → look (entries_of (rank e.0 t) e.0 e.1 ++ canonical_entries t x) ≡ found (cond b (Some e.1) (find key_cmp k x))) [
+            | true ↦ λ q.
+                let tie = equal (key_cmp k e.0) (subst T (sym q) tt) in
+                let same = key_cmp-IsAntisymmetric k e.0 tie in
+                let above = below_tied key_cmp key_cmp_total k e.0 x tie (first (below_all key_cmp e.0 x) (is_sorted key_cmp x) hs) in
+                ap (λ j. look (entries_of (rank j t) j e.1 ++ canonical_entries t x)) (sym same)
+                ∙ own e.1 (canonical_entries t x) (subst (λ j. T (is_keyed_effect key_cols j e.1)) (sym same) keyed)
+                (none_above p apart x above rest_keyed rest_fit)
+            | false ↦ λ q.
+                skips (entries_of (rank e.0 t) e.0 e.1) (canonical_entries t x) (none_of p apart e.0 e.1 q keyed fit)
+                ∙ look-canonical_entries x (second (below_all key_cmp e.0 x) (is_sorted key_cmp x) hs) rest_keyed rest_fit
+          ] refl
 
   -- ---- the insert of the key
 
@@ -233,30 +259,39 @@ module _ (key_cols : ℕ) (t : Table) (k : Key) where
   its_insert e = is_insert_at key_cols (rank k t) k e
 
   -- no entry of another key is
-  other_insert : (j : Key) (c : Change) → eq_by_cmp key_cmp k j ≡ false → T (is_placed key_cols t j c) → T (not (its_insert (entry_at (rank j t) c)))
-  other_insert j (Ins row) ne h = and_none (rank j t == rank k t) (eq_by_cmp key_cmp k (key_of key_cols row)) (ap (eq_by_cmp key_cmp k) (sym (same_key j (key_of key_cols row) h)) ∙ ne)
+  other_insert : (j : Key) (c : Change) → eq_by_cmp key_cmp k j ≡ false → T (is_placed key_cols t j c)
+      → T (not (its_insert (entry_at (rank j t) c)))
+  other_insert j (Ins row) ne h =
+      and_none (rank j t == rank k t) (eq_by_cmp key_cmp k (key_of key_cols row))
+      (ap (eq_by_cmp key_cmp k) (sym (same_key j (key_of key_cols row) h)) ∙ ne)
   other_insert j (Del key) ne h = and_none (rank j t == rank k t) false refl
   other_insert j (Mod col value) ne h = and_none (rank j t == rank k t) false refl
 
   -- no modify is
   no_cell_inserts : (cells : Cells) → T (list_all (λ e. not (its_insert e)) (map (λ d. entry_at (rank k t) (Mod d.0 d.1)) cells))
   no_cell_inserts [] = tt
-  no_cell_inserts (d ∷ cells) = both (not ((rank k t == rank k t) && false)) _ (and_none (rank k t == rank k t) false refl) (no_cell_inserts cells)
+  no_cell_inserts (d ∷ cells) =
+      both (not ((rank k t == rank k t) && false)) _ (and_none (rank k t == rank k t) false refl) (no_cell_inserts cells)
 
   -- the insert of a row with the key is
   its_own : (row : Row) → T (eq_by_cmp key_cmp k (key_of key_cols row)) → its_insert (entry_at (rank k t) (Ins row)) ≡ true
-  its_own row h = ap (λ b. b && eq_by_cmp key_cmp k (key_of key_cols row)) (same_number (rank k t)) ∙ is_true (eq_by_cmp key_cmp k (key_of key_cols row)) h
+  its_own row h =
+      ap (λ b. b && eq_by_cmp key_cmp k (key_of key_cols row)) (same_number (rank k t))
+      ∙ is_true (eq_by_cmp key_cmp k (key_of key_cols row)) h
 
   -- so of the key's own entries the row of its insert is found
-  own_insert : (f : Effect) (ys : List Entry) → T (is_keyed_effect key_cols k f) → T (list_all (λ e. not (its_insert e)) ys) → inserted_row key_cols (rank k t) k (entries_of (rank k t) k f ++ ys) ≡ row_inserted (Some f)
+  own_insert : (f : Effect) (ys : List Entry) → T (is_keyed_effect key_cols k f) → T (list_all (λ e. not (its_insert e)) ys)
+      → inserted_row key_cols (rank k t) k (entries_of (rank k t) k f ++ ys) ≡ row_inserted (Some f)
   own_insert (effect.Ins row) ys h none = ap (λ b. cond b (Some row) (inserted_row key_cols (rank k t) k ys)) (its_own row h)
   own_insert effect.Del ys h none =
-      all_skipped key_cols (rank k t) k (entry_at (rank k t) (Del k) ∷ []) ys (both (not ((rank k t == rank k t) && false)) true (and_none (rank k t == rank k t) false refl) tt)
+      all_skipped key_cols (rank k t) k (entry_at (rank k t) (Del k) ∷ []) ys
+      (both (not ((rank k t == rank k t) && false)) true (and_none (rank k t == rank k t) false refl) tt)
       ∙ none_inserted key_cols (rank k t) k ys none
   own_insert (effect.Mod cells) ys h none =
       all_skipped key_cols (rank k t) k (map (λ d. entry_at (rank k t) (Mod d.0 d.1)) cells) ys (no_cell_inserts cells)
       ∙ none_inserted key_cols (rank k t) k ys none
-  own_insert (effect.Rep row) ys h none = ap (λ b. cond b (Some row) (inserted_row key_cols (rank k t) k (entry_at (rank k t) (Del k) ∷ ys))) (its_own row h)
+  own_insert (effect.Rep row) ys h none =
+      ap (λ b. cond b (Some row) (inserted_row key_cols (rank k t) k (entry_at (rank k t) (Del k) ∷ ys))) (its_own row h)
 
   -- ---- the delete of its row
 
@@ -266,7 +301,8 @@ module _ (key_cols : ℕ) (t : Table) (k : Key) where
     its_delete e = is_delete_at (rank k t) e
 
     -- no entry of another key is
-    other_delete : (j : Key) (c : Change) → eq_by_cmp key_cmp k j ≡ false → T (is_placed key_cols t j c) → T (not (its_delete (entry_at (rank j t) c)))
+    other_delete : (j : Key) (c : Change) → eq_by_cmp key_cmp k j ≡ false → T (is_placed key_cols t j c)
+        → T (not (its_delete (entry_at (rank j t) c)))
     other_delete j (Ins row) ne h = and_none (rank j t == rank k t) false refl
     other_delete j (Del key) ne h = not_true ((rank j t == rank k t) && true) (ap (λ b. b && true) (other_rank j ne there h))
     other_delete j (Mod col value) ne h = and_none (rank j t == rank k t) false refl
@@ -274,7 +310,8 @@ module _ (key_cols : ℕ) (t : Table) (k : Key) where
     -- no modify is
     no_cell_deletes : (cells : Cells) → T (list_all (λ e. not (its_delete e)) (map (λ d. entry_at (rank k t) (Mod d.0 d.1)) cells))
     no_cell_deletes [] = tt
-    no_cell_deletes (d ∷ cells) = both (not ((rank k t == rank k t) && false)) _ (and_none (rank k t == rank k t) false refl) (no_cell_deletes cells)
+    no_cell_deletes (d ∷ cells) =
+        both (not ((rank k t == rank k t) && false)) _ (and_none (rank k t == rank k t) false refl) (no_cell_deletes cells)
 
     -- nor is an insert
     no_delete_first : (row : Row) → T (list_all (λ e. not (its_delete e)) (entry_at (rank k t) (Ins row) ∷ []))
@@ -285,14 +322,19 @@ module _ (key_cols : ℕ) (t : Table) (k : Key) where
     delete_here ys = ap (λ b. (b && true) || has_delete (rank k t) ys) (same_number (rank k t))
 
     -- so of the key's own entries its delete is found
-    own_delete : (f : Effect) (ys : List Entry) → T (is_keyed_effect key_cols k f) → T (list_all (λ e. not (its_delete e)) ys) → has_delete (rank k t) (entries_of (rank k t) k f ++ ys) ≡ deletes_row (Some f)
+    own_delete : (f : Effect) (ys : List Entry) → T (is_keyed_effect key_cols k f) → T (list_all (λ e. not (its_delete e)) ys)
+        → has_delete (rank k t) (entries_of (rank k t) k f ++ ys) ≡ deletes_row (Some f)
     own_delete (effect.Ins row) ys h none =
-        skip_deletes key_cols (rank k t) (entry_at (rank k t) (Ins row) ∷ []) ys (no_delete_first row) ∙ no_deletes key_cols (rank k t) ys none
+        skip_deletes key_cols (rank k t) (entry_at (rank k t) (Ins row) ∷ []) ys (no_delete_first row)
+        ∙ no_deletes key_cols (rank k t) ys none
     own_delete effect.Del ys h none = delete_here ys
     own_delete (effect.Mod cells) ys h none =
-        skip_deletes key_cols (rank k t) (map (λ d. entry_at (rank k t) (Mod d.0 d.1)) cells) ys (no_cell_deletes cells) ∙ no_deletes key_cols (rank k t) ys none
+        skip_deletes key_cols (rank k t) (map (λ d. entry_at (rank k t) (Mod d.0 d.1)) cells) ys (no_cell_deletes cells)
+        ∙ no_deletes key_cols (rank k t) ys none
     own_delete (effect.Rep row) ys h none =
-        skip_deletes key_cols (rank k t) (entry_at (rank k t) (Ins row) ∷ []) (entry_at (rank k t) (Del k) ∷ ys) (no_delete_first row) ∙ delete_here ys
+        skip_deletes key_cols (rank k t) (entry_at (rank k t) (Ins row) ∷ []) (entry_at (rank k t) (Del k) ∷ ys)
+        (no_delete_first row)
+        ∙ delete_here ys
 
 -- what a transaction finds of its own effects
 pub finds_effect : (schema : Columns) → CanonicalLookUps schema
@@ -316,7 +358,9 @@ finds_effect schema t x key over =
 -- a row that fits has as many cells as there are columns
 length-fits : (schema : Columns) (row : Row) → T (fits_schema schema row) → length row ≡ length schema.types
 length-fits schema row h =
-    elim (length row == length schema.types) as (λ b. (length row == length schema.types) ≡ b → T (is_none (cond b (values_fault 0 schema.types row) (Some WrongCount))) → length row ≡ length schema.types) [
+    elim (length row == length schema.types) as
+    (λ b. (length row == length schema.types) ≡ b → T (is_none (cond b (values_fault 0 schema.types row) (Some WrongCount)))
+    → length row ≡ length schema.types) [
       | true ↦ λ same g. eqb-true (length row) (length schema.types) same
       | false ↦ λ same g. absurd g
     ] refl h
@@ -325,12 +369,14 @@ length-fits schema row h =
 cell_within : (schema : Columns) (col : ℕ) (value : Value) → T (cell_fits_schema schema col value) → col < length schema.types
 cell_within schema col value h = by (slice_get schema.types col) refl h
   where
-    by : (o : Option ColumnType) → slice_get schema.types col ≡ o → T (is_none (cell_fault_at o schema.key_cols col value)) → col < length schema.types
+    by : (o : Option ColumnType) → slice_get schema.types col ≡ o → T (is_none (cell_fault_at o schema.key_cols col value))
+        → col < length schema.types
     by None is g = absurd g
     by (Some type) is g = slice_get_within schema.types col type is
 
 -- so it is in the row
-in_row : (schema : Columns) (row : Row) (col : ℕ) (value : Value) → T (fits_schema schema row) → T (cell_fits_schema schema col value) → col < length row
+in_row : (schema : Columns) (row : Row) (col : ℕ) (value : Value) → T (fits_schema schema row)
+    → T (cell_fits_schema schema col value) → col < length row
 in_row schema row col value h g = let same = length-fits schema row h in let within = cell_within schema col value g in omega arith
 
 -- a column outside the key
@@ -362,7 +408,8 @@ module _ (schema : Columns) (t : Table) (x : Effects) (k : Key) where
       pub shaped : T (holds_at (effect_fits_schema schema) old)
 
   -- the key's row may be deleted
-  pub may_delete : (old : Option Effect) → Known old → T (fits (changed_by row_after old (row_at t k)) effect.Del) → MayEdit schema.key_cols sid (Delete k) old entries
+  pub may_delete : (old : Option Effect) → Known old → T (fits (changed_by row_after old (row_at t k)) effect.Del)
+      → MayEdit schema.key_cols sid (Delete k) old entries
   may_delete None h done = h.delete (is_true (is_some (row_at t k)) done)
   may_delete (Some (effect.Ins row)) h done = ap is_some h.insert
   may_delete (Some effect.Del) h done = absurd done
@@ -371,15 +418,26 @@ module _ (schema : Columns) (t : Table) (x : Effects) (k : Key) where
 
   module _ (col : ℕ) (value : Value) (fitting : T (cell_fits_schema schema col value)) (outside : schema.key_cols ≤ col) where
     -- and a cell of it may be set
-    pub may_set : (old : Option Effect) → Known old → T (fits (changed_by row_after old (row_at t k)) (effect.Mod ((col, value) ∷ []))) → MayEdit schema.key_cols sid (Set k col value) old entries
+    pub may_set : (old : Option Effect) → Known old
+        → T (fits (changed_by row_after old (row_at t k)) (effect.Mod ((col, value) ∷ [])))
+        → MayEdit schema.key_cols sid (Set k col value) old entries
     may_set None h done = h.delete (is_true (is_some (row_at t k)) done)
-    may_set (Some (effect.Ins row)) h done = (some_and (inserted_row schema.key_cols sid k entries) row (λ inserted. col < length inserted) h.insert (in_row schema row col value h.shaped fitting), outside)
+    may_set (Some (effect.Ins row)) h done = (
+      some_and (inserted_row schema.key_cols sid k entries) row (λ inserted. col < length inserted) h.insert
+          (in_row schema row col value h.shaped fitting),
+      outside,
+    )
     may_set (Some effect.Del) h done = absurd done
     may_set (Some (effect.Mod cells)) h done = h.delete (is_true (is_some (row_at t k)) h.fit)
-    may_set (Some (effect.Rep row)) h done = (some_and (inserted_row schema.key_cols sid k entries) row (λ inserted. col < length inserted) h.insert (in_row schema row col value h.shaped fitting), outside)
+    may_set (Some (effect.Rep row)) h done = (
+      some_and (inserted_row schema.key_cols sid k entries) row (λ inserted. col < length inserted) h.insert
+          (in_row schema row col value h.shaped fitting),
+      outside,
+    )
 
 -- a key whose effect inserts a row can't be inserted again
-pub may_insert : (o : Option Row) (old : Option Effect) (there : Option Row) (row : Row) → o ≡ row_inserted old → T (fits (changed_by row_after old there) (effect.Ins row)) → is_some o ≡ false
+pub may_insert : (o : Option Row) (old : Option Effect) (there : Option Row) (row : Row) → o ≡ row_inserted old
+    → T (fits (changed_by row_after old there) (effect.Ins row)) → is_some o ≡ false
 may_insert o None there row is done = ap is_some is
 may_insert o (Some (effect.Ins r)) there row is done = absurd done
 may_insert o (Some effect.Del) there row is done = ap is_some is
@@ -407,27 +465,37 @@ module _ (schema : Columns) (limit : ℕ) (t : Table) (x : Effects) (over : AreO
         insert = found.insert;
         delete = found.delete;
         fit = each_at key_cmp key_cmp_total key_cmp-IsAntisymmetric (λ j f. fits (row_at t j) f) x fit_all k;
-        shaped = each_at key_cmp key_cmp_total key_cmp-IsAntisymmetric (λ j f. effect_fits_schema schema f) x (passes (list_all (λ e. effect_fits_schema schema e.1) x) over.effects_are.fitting) k;
+        shaped =
+            each_at key_cmp key_cmp_total key_cmp-IsAntisymmetric (λ j f. effect_fits_schema schema f) x
+            (passes (list_all (λ e. effect_fits_schema schema e.1) x) over.effects_are.fitting) k;
       }
 
   -- the write fits what its key has so far
-  fits_now : (write : Write) → T (is_done (reply_to schema.key_cols limit t x write)) → (let k = key_of_write schema.key_cols write in T (fits (changed_by row_after (find key_cmp k x) (row_at t k)) (effect_of_write write)))
+  fits_now : (write : Write) → T (is_done (reply_to schema.key_cols limit t x write))
+      → (let k = key_of_write schema.key_cols write in
+      T (fits (changed_by row_after (find key_cmp k x) (row_at t k)) (effect_of_write write)))
   fits_now write done =
       let k = key_of_write schema.key_cols write in
-      subst (λ o. T (fits o (effect_of_write write))) (row_at-table_with t x k (first (is_sorted key_cmp x) (list_all (λ e. is_keyed_effect schema.key_cols e.0 e.1) x) keyed))
+      subst (λ o. T (fits o (effect_of_write write)))
+      (row_at-table_with t x k (first (is_sorted key_cmp x) (list_all (λ e. is_keyed_effect schema.key_cols e.0 e.1) x) keyed))
       (done_fits schema.key_cols limit t x table_keyed keyed fit_all (row_at (table_with t x) k) (length (table_with t x)) write done)
 
   -- so each write may make its edit
-  may_edit : (write : Write) → T (write_fits_schema schema write) → T (is_done (reply_to schema.key_cols limit t x write)) → (let k = key_of_write schema.key_cols write in MayEdit schema.key_cols (rank k t) write (find key_cmp k x) (canonical_entries t x))
+  may_edit : (write : Write) → T (write_fits_schema schema write) → T (is_done (reply_to schema.key_cols limit t x write))
+      → (let k = key_of_write schema.key_cols write in
+      MayEdit schema.key_cols (rank k t) write (find key_cmp k x) (canonical_entries t x))
   may_edit (Insert row) h done =
       let k = key_of schema.key_cols row in
-      may_insert (inserted_row schema.key_cols (rank k t) k (canonical_entries t x)) (find key_cmp k x) (row_at t k) row (known k).insert (fits_now (Insert row) done)
+      may_insert (inserted_row schema.key_cols (rank k t) k (canonical_entries t x)) (find key_cmp k x) (row_at t k) row
+      (known k).insert (fits_now (Insert row) done)
   may_edit (Delete k) h done = may_delete schema t x k (find key_cmp k x) (known k) (fits_now (Delete k) done)
   may_edit (Set k col value) h done =
       may_set schema t x k col value (second _ (cell_fits_schema schema col value) h)
-      (past_key schema.key_cols col (sets_no_key-fits schema (Set k col value) h)) (find key_cmp k x) (known k) (fits_now (Set k col value) done)
+      (past_key schema.key_cols col (sets_no_key-fits schema (Set k col value) h)) (find key_cmp k x) (known k)
+      (fits_now (Set k col value) done)
 
 -- a write that is done may make its edit
 pub may_call : (schema : Columns) → AWriteIsOneCall schema
 may_call schema limit t x write over fitting done =
-    may_edit schema limit t x over write (passes (write_fits_schema schema write) fitting) (passes (is_done (reply_to schema.key_cols limit t x write)) done)
+    may_edit schema limit t x over write (passes (write_fits_schema schema write) fitting)
+    (passes (is_done (reply_to schema.key_cols limit t x write)) done)

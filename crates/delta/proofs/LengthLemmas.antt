@@ -17,7 +17,8 @@ module _ (key_cols : ℕ) where
   length-put_entry e [] = omega arith
   length-put_entry e (x ∷ es) =
       let rest = length-put_entry e es in
-      elim (entry_cmp key_cols e x) as (λ r. length (match_ordering r (e ∷ x ∷ es) (e ∷ es) (x ∷ put_entry key_cols e es)) ≤ length (x ∷ es) + 1) [
+      elim (entry_cmp key_cols e x) as
+      (λ r. length (match_ordering r (e ∷ x ∷ es) (e ∷ es) (x ∷ put_entry key_cols e es)) ≤ length (x ∷ es) + 1) [
         | Less ↦ omega arith
         | Equal ↦ omega arith
         | Greater ↦ omega (arith, rest)

@@ -19,3 +19,4 @@ mod KeyPlaceLemmas
 mod RowCountLemmas
 mod BySidLemmas
 pub mod CallerLemmas
+pub mod Words

@@ -17,11 +17,12 @@ use Rattle.model.specs.declared.entry.Change.TheVariants.{Ins, Del, Mod}
 use Rattle.model.specs.Entries.{entry_at, are_ordered, IsLawful}
 use Rattle.model.proofs.CallerLemmas.{first}
 use Rattle.delta.specs.Search.{insert_cmp, base_cmp, modify_cmp, past_cmp, stands_before, IsSplit}
-use Rattle.delta.specs.Changes.{is_modify_at, modifies_column, modify_count, with_run, entries_with, MayBePut, IsRun}
+use Rattle.delta.specs.Changes.{is_modify_at, modifies_column, modify_count, entries_with, MayBePut, IsRun}
 use Rattle.delta.proofs.ChangesLemmas.{all_from, base-le-past, base_is_past, put_ins-split, put_mod-split, put_del-split}
 use Rattle.delta.proofs.CountedLemmas.{split_from_boundary}
 use Rattle.delta.proofs.SearchLemmas.{is_true, at_index, parted, past_cmp-closed}
 use Rattle.delta.proofs.LawfulLemmas.{IsLawful-put_ins, IsLawful-put_del, IsLawful-put_mod}
+use Rattle.delta.proofs.Words.{with_run}
 
 module _ (key_cols sid : ℕ) where
   -- an entry past the inserts at the SID and at another one stands past the SID

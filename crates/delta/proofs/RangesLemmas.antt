@@ -43,24 +43,33 @@ module _ (sid : ℕ) where
   pub filter-below : (es : List Entry) (n : ℕ) → IsSplit (stands_before first_cmp sid) es n → filter (λ e. nat_lt e.sid sid) es ≡ take n es
   filter-below es n h =
       let below = λ (e : Entry). nat_lt e.sid sid in
-      let kept = filter_all below (take n es) (all_from (stands_before first_cmp sid) below (λ x t. subst T (before_is x.sid) t) (take n es) h.before) in
-      let gone = filter_none below (drop n es) (all_from (λ e. not (stands_before first_cmp sid e)) (λ e. not (below e)) (λ x t. subst (λ b. T (not b)) (before_is x.sid) t) (drop n es) h.after) in
+      let kept =
+      filter_all below (take n es)
+      (all_from (stands_before first_cmp sid) below (λ x t. subst T (before_is x.sid) t) (take n es) h.before) in
+      let gone =
+      filter_none below (drop n es) (all_from (λ e. not (stands_before first_cmp sid e)) (λ e. not (below e))
+      (λ x t. subst (λ b. T (not b)) (before_is x.sid) t) (drop n es) h.after) in
       ap (filter below) (sym (take-append-drop n es))
       ∙ filter-append below (take n es) (drop n es)
       ∙ (λ i. kept i ++ gone i)
       ∙ append-nil (take n es)
 
   -- the search for the SID doesn't end past that for what follows it
-  pub first-le-past : (es : List Entry) (n m : ℕ) → IsSplit (stands_before first_cmp sid) es n → IsSplit (stands_before past_cmp sid) es m → n ≤ m
+  pub first-le-past : (es : List Entry) (n m : ℕ) → IsSplit (stands_before first_cmp sid) es n
+      → IsSplit (stands_before past_cmp sid) es m → n ≤ m
   first-le-past es n m h g =
       elim (cases_lt m n) [
         | inl lt ↦
             let short : m < length es = omega (arith, h.within) in
             let inside : m < length (take n es) = omega (arith, length-take n es, h.within) in
             let y = get_or es m nothing in
-            let below : T (stands_before first_cmp sid y) = subst (λ x. T (stands_before first_cmp sid x)) (get_or-take n es m nothing lt) (at_index (stands_before first_cmp sid) (take n es) h.before m nothing inside) in
-            let cut : T (list_all (λ e. not (stands_before past_cmp sid e)) (y ∷ drop (suc m) es)) = subst (λ ys. T (list_all (λ e. not (stands_before past_cmp sid e)) ys)) (drop-cons es m nothing short) g.after in
-            absurd (below_and_past y.sid (subst T (before_is y.sid) below) (subst (λ b. T (not b)) (past_is y.sid) (first (not (stands_before past_cmp sid y)) _ cut)))
+            let below : T (stands_before first_cmp sid y) =
+            subst (λ x. T (stands_before first_cmp sid x)) (get_or-take n es m nothing lt)
+            (at_index (stands_before first_cmp sid) (take n es) h.before m nothing inside) in
+            let cut : T (list_all (λ e. not (stands_before past_cmp sid e)) (y ∷ drop (suc m) es)) =
+            subst (λ ys. T (list_all (λ e. not (stands_before past_cmp sid e)) ys)) (drop-cons es m nothing short) g.after in
+            absurd (below_and_past y.sid (subst T (before_is y.sid) below)
+            (subst (λ b. T (not b)) (past_is y.sid) (first (not (stands_before past_cmp sid y)) _ cut)))
         | inr le ↦ le
       ]
     where
@@ -68,7 +77,8 @@ module _ (sid : ℕ) where
       below_and_past x a b = grind (arith, nat_tests)
 
   -- what stands between the two is at the SID
-  pub filter-at : (es : List Entry) (n m : ℕ) → IsSplit (stands_before first_cmp sid) es n → IsSplit (stands_before past_cmp sid) es m → take (m - n) (drop n es) ≡ filter (λ e. e.sid == sid) es
+  pub filter-at : (es : List Entry) (n m : ℕ) → IsSplit (stands_before first_cmp sid) es n
+      → IsSplit (stands_before past_cmp sid) es m → take (m - n) (drop n es) ≡ filter (λ e. e.sid == sid) es
   filter-at es n m h g =
       let here = λ (e : Entry). e.sid == sid in
       let k = m - n in
@@ -77,13 +87,24 @@ module _ (sid : ℕ) where
       let xs = take n es in
       let ms = take k (drop n es) in
       let zs = drop m es in
-      let not_past_all : T (list_all (stands_before past_cmp sid) ms) = subst (λ ys. T (list_all (stands_before past_cmp sid) ys)) (middle_part es n m k sum) (all_drop (stands_before past_cmp sid) n (take m es) g.before) in
-      let not_below_all : T (list_all (λ e. not (stands_before first_cmp sid e)) ms) = all_take (λ e. not (stands_before first_cmp sid e)) k (drop n es) h.after in
-      let drops_xs = filter_none here xs (all_from (stands_before first_cmp sid) (λ e. not (here e)) (λ x t. not_here x.sid (subst T (before_is x.sid) t)) xs h.before) in
-      let drops_zs = filter_none here zs (all_from (λ e. not (stands_before past_cmp sid e)) (λ e. not (here e)) (λ x t. not_past x.sid (twice _ (subst (λ b. T (not b)) (past_is x.sid) t))) zs g.after) in
+      let not_past_all : T (list_all (stands_before past_cmp sid) ms) =
+      subst (λ ys. T (list_all (stands_before past_cmp sid) ys)) (middle_part es n m k sum)
+      (all_drop (stands_before past_cmp sid) n (take m es) g.before) in
+      let not_below_all : T (list_all (λ e. not (stands_before first_cmp sid e)) ms) =
+      all_take (λ e. not (stands_before first_cmp sid e)) k (drop n es) h.after in
+      let drops_xs =
+      filter_none here xs
+      (all_from (stands_before first_cmp sid) (λ e. not (here e)) (λ x t. not_here x.sid (subst T (before_is x.sid) t)) xs
+      h.before)
+      in
+      let drops_zs =
+      filter_none here zs (all_from (λ e. not (stands_before past_cmp sid e)) (λ e. not (here e))
+      (λ x t. not_past x.sid (twice _ (subst (λ b. T (not b)) (past_is x.sid) t))) zs g.after) in
       let both_tests = all_both (stands_before past_cmp sid) (λ e. not (stands_before first_cmp sid e)) ms not_past_all not_below_all in
       let keeps_ms = filter_all here ms (all_from (λ e. stands_before past_cmp sid e && not (stands_before first_cmp sid e)) here
-      (λ x t. is_here x.sid (subst (λ b. T (not b)) (before_is x.sid) (second (stands_before past_cmp sid x) _ t)) (subst T (past_is x.sid) (first (stands_before past_cmp sid x) _ t))) ms both_tests) in
+      (λ x t. is_here x.sid (subst (λ b. T (not b)) (before_is x.sid) (second (stands_before past_cmp sid x) _ t))
+      (subst T (past_is x.sid) (first (stands_before past_cmp sid x) _ t)))
+      ms both_tests) in
       sym (ap (filter here) (sym (three_parts es n m k sum))
       ∙ filter-append here xs (ms ++ zs)
       ∙ (λ i. drops_xs i ++ filter-append here ms zs i)

@@ -26,12 +26,16 @@ use Rattle.delta.proofs.CountLemmas.{insert_count-append, delete_count-append}
 
 -- ---- what one effect does to the number of rows
 
-length-without : (key : Key) (t : Table) → T (is_sorted key_cmp t) → cond (is_some (row_at t key)) 1 0 + length (without key_cmp key t) ≡ length t
+length-without : (key : Key) (t : Table) → T (is_sorted key_cmp t)
+    → cond (is_some (row_at t key)) 1 0 + length (without key_cmp key t) ≡ length t
 length-without key [] h = refl
 length-without key (e ∷ t) h =
-    elim (key_cmp key e.0) as (λ r. key_cmp key e.0 ≡ r → cond (is_some (cond (is_eq r) (Some e.1) (row_at t key))) 1 0 + length (cond (not (is_eq r)) (e ∷ without key_cmp key t) (without key_cmp key t)) ≡ suc (length t)) [
+    elim (key_cmp key e.0) as (λ r. key_cmp key e.0 ≡ r → cond (is_some (cond (is_eq r) (Some e.1) (row_at t key))) 1 0
+    + length (cond (not (is_eq r)) (e ∷ without key_cmp key t) (without key_cmp key t))
+    ≡ suc (length t)) [
       | Less ↦ λ p. one_more _ _ _ (length-without key t (second _ _ h))
-      | Equal ↦ λ p. ap (λ xs. 1 + length xs) (without_below key_cmp_total key t (below_tied key_cmp key_cmp_total key e.0 t p (first _ _ h))) ∙ last (length t)
+      | Equal ↦ λ p. ap (λ xs. 1 + length xs)
+          (without_below key_cmp_total key t (below_tied key_cmp key_cmp_total key e.0 t p (first _ _ h))) ∙ last (length t)
       | Greater ↦ λ p. one_more _ _ _ (length-without key t (second _ _ h))
     ] refl
   where
@@ -41,23 +45,30 @@ length-without key (e ∷ t) h =
     last : (n : ℕ) → 1 + n ≡ suc n
     last n = omega arith
 
-length-alter : (key : Key) (f : Effect) (t : Table) (old : Option Row) → row_at t key ≡ old → T (is_sorted key_cmp t) → T (fits old f) → deletes_of f + length (alter key_cmp key (row_after f) t) ≡ inserts_of f + length t
-length-alter key (Ins row) t None is h fit = added _ _ (length-put key_cmp key_cmp_total key row t h ∙ ap (λ (o : Option Row). cond (is_some o) (length t) (length t + 1)) is)
+length-alter : (key : Key) (f : Effect) (t : Table) (old : Option Row) → row_at t key ≡ old → T (is_sorted key_cmp t)
+    → T (fits old f) → deletes_of f + length (alter key_cmp key (row_after f) t) ≡ inserts_of f + length t
+length-alter key (Ins row) t None is h fit =
+    added _ _
+    (length-put key_cmp key_cmp_total key row t h ∙ ap (λ (o : Option Row). cond (is_some o) (length t) (length t + 1)) is)
   where
     added : (n m : ℕ) → n ≡ m + 1 → 0 + n ≡ 1 + m
     added n m p = omega arith
 length-alter key (Ins row) t (Some r) is h fit = absurd fit
 length-alter key Del t None is h fit = absurd fit
-length-alter key Del t (Some r) is h fit = gone _ _ (ap (λ (o : Option Row). cond (is_some o) 1 0 + length (without key_cmp key t)) (sym is) ∙ length-without key t h)
+length-alter key Del t (Some r) is h fit =
+    gone _ _ (ap (λ (o : Option Row). cond (is_some o) 1 0 + length (without key_cmp key t)) (sym is) ∙ length-without key t h)
   where
     gone : (n m : ℕ) → 1 + n ≡ m → 1 + n ≡ 0 + m
     gone n m p = omega arith
 length-alter key (Mod cells) t None is h fit = absurd fit
 length-alter key (Mod cells) t (Some r) is h fit =
     (λ i. 0 + length (store key_cmp key (option_map (set_cells cells) (is i)) t))
-    ∙ ap (λ n. 0 + n) (length-put key_cmp key_cmp_total key (set_cells cells r) t h ∙ ap (λ (o : Option Row). cond (is_some o) (length t) (length t + 1)) is)
+    ∙ ap (λ n. 0 + n) (length-put key_cmp key_cmp_total key (set_cells cells r) t h
+    ∙ ap (λ (o : Option Row). cond (is_some o) (length t) (length t + 1)) is)
 length-alter key (Rep row) t None is h fit = absurd fit
-length-alter key (Rep row) t (Some r) is h fit = ap (λ n. 1 + n) (length-put key_cmp key_cmp_total key row t h ∙ ap (λ (o : Option Row). cond (is_some o) (length t) (length t + 1)) is)
+length-alter key (Rep row) t (Some r) is h fit =
+    ap (λ n. 1 + n)
+    (length-put key_cmp key_cmp_total key row t h ∙ ap (λ (o : Option Row). cond (is_some o) (length t) (length t + 1)) is)
 
 -- ---- all effects
 
@@ -66,12 +77,14 @@ abbrev sum_of : (Effect → ℕ) → Effects → ℕ
 sum_of count [] = 0
 sum_of count (e ∷ effects) = count e.1 + sum_of count effects
 
-length-table_with : (t : Table) (x : Effects) → T (is_sorted key_cmp t) → T (is_sorted key_cmp x) → T (all_fit t x) → sum_of deletes_of x + length (table_with t x) ≡ sum_of inserts_of x + length t
+length-table_with : (t : Table) (x : Effects) → T (is_sorted key_cmp t) → T (is_sorted key_cmp x) → T (all_fit t x)
+    → sum_of deletes_of x + length (table_with t x) ≡ sum_of inserts_of x + length t
 length-table_with t [] ht h fit = refl
 length-table_with t (e ∷ x) ht h fit =
     let after = alter key_cmp e.0 (row_after e.1) t in
     add_up _ _ _ _ _ _ _
-    (length-table_with after x (sorted-alter key_cmp key_cmp_total e.0 (row_after e.1) t ht) (second _ _ h) (subst T (sym (fits_other e.0 (row_after e.1) t x (first _ _ h))) (second _ _ fit)))
+    (length-table_with after x (sorted-alter key_cmp key_cmp_total e.0 (row_after e.1) t ht) (second _ _ h)
+    (subst T (sym (fits_other e.0 (row_after e.1) t x (first _ _ h))) (second _ _ fit)))
     (length-alter e.0 e.1 t (row_at t e.0) refl ht (first _ _ fit))
   where
     add_up : (d e i j n m r : ℕ) → e + n ≡ j + m → d + m ≡ i + r → (d + e) + n ≡ (i + j) + r
@@ -112,7 +125,8 @@ delete_count-canonical_entries t (e ∷ x) =
     ∙ (λ i. delete_count-entries_of (rank e.0 t) e.0 e.1 i + delete_count-canonical_entries t x i)
 
 -- the inserts less the deletes are the rows that come
-pub counted : (t : Table) (x : Effects) → T (is_sorted key_cmp t) → T (is_sorted key_cmp x) → T (all_fit t x) → delete_count (canonical_entries t x) + length (table_with t x) ≡ insert_count (canonical_entries t x) + length t
+pub counted : (t : Table) (x : Effects) → T (is_sorted key_cmp t) → T (is_sorted key_cmp x) → T (all_fit t x)
+    → delete_count (canonical_entries t x) + length (table_with t x) ≡ insert_count (canonical_entries t x) + length t
 counted t x ht h fit =
     ap (λ n. n + length (table_with t x)) (delete_count-canonical_entries t x)
     ∙ length-table_with t x ht h fit
@@ -139,10 +153,12 @@ rows_changed t (e ∷ x) ht h fit =
   where
     fewer : (r : Row) → row_at t e.0 ≡ Some r → sum_of on_row x ≤ length (without key_cmp e.0 t) → 1 + sum_of on_row x ≤ length t
     fewer r is rest =
-        let one : 1 + length (without key_cmp e.0 t) ≡ length t = ap (λ (o : Option Row). cond (is_some o) 1 0 + length (without key_cmp e.0 t)) (sym is) ∙ length-without e.0 t ht in
+        let one : 1 + length (without key_cmp e.0 t) ≡ length t =
+        ap (λ (o : Option Row). cond (is_some o) 1 0 + length (without key_cmp e.0 t)) (sym is) ∙ length-without e.0 t ht in
         omega (arith, rest, one)
 
-    by : (f : Effect) (old : Option Row) → row_at t e.0 ≡ old → T (fits old f) → sum_of on_row x ≤ length t → sum_of on_row x ≤ length (without key_cmp e.0 t) → on_row f + sum_of on_row x ≤ length t
+    by : (f : Effect) (old : Option Row) → row_at t e.0 ≡ old → T (fits old f) → sum_of on_row x ≤ length t
+        → sum_of on_row x ≤ length (without key_cmp e.0 t) → on_row f + sum_of on_row x ≤ length t
     by (Ins row) old is fit_here all rest = omega (arith, all)
     by Del None is fit_here all rest = absurd fit_here
     by Del (Some r) is fit_here all rest = fewer r is rest
@@ -152,28 +168,37 @@ rows_changed t (e ∷ x) ht h fit =
     by (Rep row) (Some r) is fit_here all rest = fewer r is rest
 
 -- the columns of cells that may be set are below the width
-column_within : (schema : Columns) (found : Option ColumnType) (col : ℕ) (value : Value) → slice_get schema.types col ≡ found → T (is_none (cell_fault_at found schema.key_cols col value)) → col < length schema.types
+column_within : (schema : Columns) (found : Option ColumnType) (col : ℕ) (value : Value) → slice_get schema.types col ≡ found
+    → T (is_none (cell_fault_at found schema.key_cols col value)) → col < length schema.types
 column_within schema None col value is fits_here = absurd fits_here
 column_within schema (Some type) col value is fits_here = slice_get_within schema.types col type is
 
 -- and ascend, so that there are no more of them
-cells_within : (schema : Columns) (low : ℕ) (cells : Cells) → T (below_all nat_cmp low cells) → T (is_sorted nat_cmp cells) → T (list_all (λ c. cell_fits_schema schema c.0 c.1) cells) → length cells ≤ length schema.types - suc low
+cells_within : (schema : Columns) (low : ℕ) (cells : Cells) → T (below_all nat_cmp low cells) → T (is_sorted nat_cmp cells)
+    → T (list_all (λ c. cell_fits_schema schema c.0 c.1) cells) → length cells ≤ length schema.types - suc low
 cells_within schema low [] below ascend fit = omega arith
 cells_within schema low (c ∷ cells) below ascend fit =
     let above : low < c.0 = ranked low c.0 Less (sym (less (nat_cmp low c.0) (first (is_lt (nat_cmp low c.0)) _ below))) in
     let within = column_within schema (slice_get schema.types c.0) c.0 c.1 refl (first (cell_fits_schema schema c.0 c.1) _ fit) in
-    let rest = cells_within schema c.0 cells (first (below_all nat_cmp c.0 cells) _ ascend) (second (below_all nat_cmp c.0 cells) _ ascend) (second (cell_fits_schema schema c.0 c.1) _ fit) in
+    let rest =
+    cells_within schema c.0 cells (first (below_all nat_cmp c.0 cells) _ ascend)
+    (second (below_all nat_cmp c.0 cells) _ ascend) (second (cell_fits_schema schema c.0 c.1) _ fit) in
     omega (arith, above, within, rest)
 
-cells_few : (schema : Columns) (cells : Cells) → T (is_sorted nat_cmp cells) → T (list_all (λ c. cell_fits_schema schema c.0 c.1) cells) → length cells ≤ length schema.types
+cells_few : (schema : Columns) (cells : Cells) → T (is_sorted nat_cmp cells)
+    → T (list_all (λ c. cell_fits_schema schema c.0 c.1) cells) → length cells ≤ length schema.types
 cells_few schema [] ascend fit = omega arith
 cells_few schema (c ∷ cells) ascend fit =
     let within = column_within schema (slice_get schema.types c.0) c.0 c.1 refl (first (cell_fits_schema schema c.0 c.1) _ fit) in
-    let rest = cells_within schema c.0 cells (first (below_all nat_cmp c.0 cells) _ ascend) (second (below_all nat_cmp c.0 cells) _ ascend) (second (cell_fits_schema schema c.0 c.1) _ fit) in
+    let rest =
+    cells_within schema c.0 cells (first (below_all nat_cmp c.0 cells) _ ascend)
+    (second (below_all nat_cmp c.0 cells) _ ascend) (second (cell_fits_schema schema c.0 c.1) _ fit) in
     omega (arith, within, rest)
 
 -- an effect on a row that is there has an entry for each column at most, and an insert has one more
-effect_few : (schema : Columns) (sid : ℕ) (key : Key) (f : Effect) → length schema.types ≤ 32 → T (is_keyed_effect schema.key_cols key f) → T (effect_fits_schema schema f) → length (entries_of sid key f) ≤ inserts_of f + 32 * on_row f
+effect_few : (schema : Columns) (sid : ℕ) (key : Key) (f : Effect) → length schema.types ≤ 32
+    → T (is_keyed_effect schema.key_cols key f) → T (effect_fits_schema schema f)
+    → length (entries_of sid key f) ≤ inserts_of f + 32 * on_row f
 effect_few schema sid key (Ins row) narrow keyed fit = omega arith
 effect_few schema sid key Del narrow keyed fit = omega arith
 effect_few schema sid key (Mod cells) narrow keyed fit =
@@ -183,11 +208,17 @@ effect_few schema sid key (Mod cells) narrow keyed fit =
     omega (arith, narrow, few, same)
 effect_few schema sid key (Rep row) narrow keyed fit = omega arith
 
-entries_few : (schema : Columns) (t : Table) (x : Effects) → length schema.types ≤ 32 → T (list_all (λ e. is_keyed_effect schema.key_cols e.0 e.1) x) → T (list_all (λ e. effect_fits_schema schema e.1) x) → length (canonical_entries t x) ≤ sum_of inserts_of x + 32 * sum_of on_row x
+entries_few : (schema : Columns) (t : Table) (x : Effects) → length schema.types ≤ 32
+    → T (list_all (λ e. is_keyed_effect schema.key_cols e.0 e.1) x) → T (list_all (λ e. effect_fits_schema schema e.1) x)
+    → length (canonical_entries t x) ≤ sum_of inserts_of x + 32 * sum_of on_row x
 entries_few schema t [] narrow keyed fit = omega arith
 entries_few schema t (e ∷ x) narrow keyed fit =
-    let here = effect_few schema (rank e.0 t) e.0 e.1 narrow (first (is_keyed_effect schema.key_cols e.0 e.1) _ keyed) (first (effect_fits_schema schema e.1) _ fit) in
-    let rest = entries_few schema t x narrow (second (is_keyed_effect schema.key_cols e.0 e.1) _ keyed) (second (effect_fits_schema schema e.1) _ fit) in
+    let here =
+    effect_few schema (rank e.0 t) e.0 e.1 narrow (first (is_keyed_effect schema.key_cols e.0 e.1) _ keyed)
+    (first (effect_fits_schema schema e.1) _ fit) in
+    let rest =
+    entries_few schema t x narrow (second (is_keyed_effect schema.key_cols e.0 e.1) _ keyed)
+    (second (effect_fits_schema schema e.1) _ fit) in
     let joined = length-append (entries_of (rank e.0 t) e.0 e.1) (canonical_entries t x) in
     omega (arith, here, rest, joined)
 
@@ -202,7 +233,8 @@ deletes_few (e ∷ x) = by e.1 (deletes_few x)
     by (Rep row) rest = omega (arith, rest)
 
 -- entries are no more than the rows of the image, and as many as columns and one for each row of the table
-pub few : (schema : Columns) (t : Table) (x : Effects) → IsSchema schema → AreOver schema t x → length (canonical_entries t x) ≤ length (table_with t x) + 33 * length t
+pub few : (schema : Columns) (t : Table) (x : Effects) → IsSchema schema → AreOver schema t x
+    → length (canonical_entries t x) ≤ length (table_with t x) + 33 * length t
 few schema t x lawful h =
     let keyed = T_from_true (are_keyed_effects schema.key_cols x) h.effects_are.keyed in
     let table = T_from_true (is_keyed_table schema.key_cols t) h.table.keyed in

@@ -40,21 +40,28 @@ at_index p (x ∷ xs) h (suc j) d lt = let shorter : j < length xs = omega arith
 
 -- ---- entries in order
 
-module _ (key_cols : ℕ) (cmp : Change → Ordering) (closed : (x y : Change) → change_cmp key_cols x y ≡ Less → cmp y ≡ Greater → cmp x ≡ Greater) (sid : ℕ) where
+module _ (key_cols : ℕ) (cmp : Change → Ordering)
+    (closed : (x y : Change) → change_cmp key_cols x y ≡ Less → cmp y ≡ Greater → cmp x ≡ Greater) (sid : ℕ) where
   -- where a SID stands to two in order
-  sids_in_order : (n m : ℕ) (o p q : Ordering) → ordering_then (nat_cmp n m) o ≡ Less → (o ≡ Less → q ≡ Greater → p ≡ Greater) → ordering_then (nat_cmp sid m) q ≡ Greater → ordering_then (nat_cmp sid n) p ≡ Greater
+  sids_in_order : (n m : ℕ) (o p q : Ordering) → ordering_then (nat_cmp n m) o ≡ Less → (o ≡ Less → q ≡ Greater → p ≡ Greater)
+      → ordering_then (nat_cmp sid m) q ≡ Greater → ordering_then (nat_cmp sid n) p ≡ Greater
   sids_in_order n m o p q below step after =
       elim (nat_cmp n m) as (λ r. nat_cmp n m ≡ r → ordering_then r o ≡ Less → ordering_then (nat_cmp sid n) p ≡ Greater) [
         | Less ↦ λ e b.
             let lt : n < m = ranked n m Less (sym e) in
             elim (nat_cmp sid m) as (λ r. nat_cmp sid m ≡ r → ordering_then r q ≡ Greater → ordering_then (nat_cmp sid n) p ≡ Greater) [
               | Less ↦ λ f a. cc
-              | Equal ↦ λ f a. let same : sid ≡ m = ranked sid m Equal (sym f) in let gt : n < sid = omega arith in ap (λ r. ordering_then r p) (nat_cmp-greater sid n gt)
-              | Greater ↦ λ f a. let ge : m < sid = ranked sid m Greater (sym f) in let gt : n < sid = omega arith in ap (λ r. ordering_then r p) (nat_cmp-greater sid n gt)
+              | Equal ↦ λ f a. let same : sid ≡ m =
+                  ranked sid m Equal (sym f) in let gt : n
+                  < sid = omega arith in ap (λ r. ordering_then r p) (nat_cmp-greater sid n gt)
+              | Greater ↦ λ f a. let ge : m < sid =
+                  ranked sid m Greater (sym f) in let gt : n
+                  < sid = omega arith in ap (λ r. ordering_then r p) (nat_cmp-greater sid n gt)
             ] refl after
         | Equal ↦ λ e b.
             let same : n ≡ m = ranked n m Equal (sym e) in
-            let here : ordering_then (nat_cmp sid n) q ≡ Greater = subst (λ k. ordering_then (nat_cmp sid k) q ≡ Greater) (sym same) after in
+            let here : ordering_then (nat_cmp sid n) q ≡ Greater =
+            subst (λ k. ordering_then (nat_cmp sid k) q ≡ Greater) (sym same) after in
             elim (nat_cmp sid n) as (λ r. ordering_then r q ≡ Greater → ordering_then r p ≡ Greater) [
               | Less ↦ λ a. cc
               | Equal ↦ λ a. step b a
@@ -67,7 +74,8 @@ module _ (key_cols : ℕ) (cmp : Change → Ordering) (closed : (x y : Change) �
   earlier : (x y : Entry) → entry_cmp key_cols x y ≡ Less → T (stands_before cmp sid y) → T (stands_before cmp sid x)
   earlier x y below passes =
       subst (λ r. T (is_gt r))
-      (sym (sids_in_order x.sid y.sid (change_cmp key_cols x.change y.change) (cmp x.change) (cmp y.change) below (closed x.change y.change) (greater _ passes)))
+      (sym (sids_in_order x.sid y.sid (change_cmp key_cols x.change y.change) (cmp x.change) (cmp y.change) below
+      (closed x.change y.change) (greater _ passes)))
       tt
 
   pub parted : (xs : List Entry) → T (are_ordered key_cols xs) → IsPartitionedBy (stands_before cmp sid) xs
@@ -75,7 +83,9 @@ module _ (key_cols : ℕ) (cmp : Change → Ordering) (closed : (x y : Change) �
   parted (x ∷ xs) h zero zero d le lt passes = passes
   parted (x ∷ xs) h zero (suc j) d le lt passes =
       let shorter : j < length xs = omega arith in
-      is_true _ (earlier x (get_or xs j d) (less _ (at_index (λ y. is_lt (entry_cmp key_cols x y)) xs (first (list_all (λ y. is_lt (entry_cmp key_cols x y)) xs) _ h) j d shorter)) (T_from_true _ passes))
+      is_true _ (earlier x (get_or xs j d) (less _
+      (at_index (λ y. is_lt (entry_cmp key_cols x y)) xs (first (list_all (λ y. is_lt (entry_cmp key_cols x y)) xs) _ h) j
+      d shorter)) (T_from_true _ passes))
   parted (x ∷ xs) h (suc i) zero d le lt passes = absurd (omega arith)
   parted (x ∷ xs) h (suc i) (suc j) d le lt passes =
       let shorter : j < length xs = omega arith in
@@ -106,7 +116,8 @@ module _ (test : Entry → Bool) where
       both (not (test x)) _ (not_true _ here) (all_after zero xs (λ k d low lt. h (suc k) d (omega arith) (omega arith)))
   all_after (suc n) (x ∷ xs) h = all_after n xs (λ k d low lt. h (suc k) d (omega arith) (omega arith))
 
-  pub split_at : (xs : List Entry) (n : ℕ) → n ≤ length xs → IsPartitionPoint (λ y. test y ≡ true) (λ y. test y ≡ false) xs n → IsSplit test xs n
+  pub split_at : (xs : List Entry) (n : ℕ) → n ≤ length xs → IsPartitionPoint (λ y. test y ≡ true) (λ y. test y ≡ false) xs n
+      → IsSplit test xs n
   split_at xs n le point = record { within = le; before = all_before n xs point.0; after = all_after n xs point.1 }
 
 -- ---- the orders are closed
@@ -115,9 +126,12 @@ module _ (key_cols : ℕ) where
   pub first_cmp-closed : (x y : Change) → change_cmp key_cols x y ≡ Less → first_cmp y ≡ Greater → first_cmp x ≡ Greater
   first_cmp-closed x y b a = cc
 
-  pub insert_cmp-closed : (key : Key) (x y : Change) → change_cmp key_cols x y ≡ Less → insert_cmp key_cols key y ≡ Greater → insert_cmp key_cols key x ≡ Greater
+  pub insert_cmp-closed : (key : Key) (x y : Change) → change_cmp key_cols x y ≡ Less → insert_cmp key_cols key y ≡ Greater
+      → insert_cmp key_cols key x ≡ Greater
   insert_cmp-closed key (Ins row) (Ins other) b a =
-      let smaller = key_cmp_total.trans (key_of key_cols row) (key_of key_cols other) key b (turn_greater key_cmp_total key (key_of key_cols other) a) in
+      let smaller =
+      key_cmp_total.trans (key_of key_cols row) (key_of key_cols other) key b
+      (turn_greater key_cmp_total key (key_of key_cols other) a) in
       turn_less key_cmp_total (key_of key_cols row) key smaller
   insert_cmp-closed key (Ins row) (Del k) b a = cc
   insert_cmp-closed key (Ins row) (Mod c v) b a = cc
@@ -137,7 +151,8 @@ module _ (key_cols : ℕ) where
   base_cmp-closed (Mod c v) (Del k) b a = cc
   base_cmp-closed (Mod c v) (Mod d w) b a = cc
 
-  pub modify_cmp-closed : (col : ℕ) (x y : Change) → change_cmp key_cols x y ≡ Less → modify_cmp col y ≡ Greater → modify_cmp col x ≡ Greater
+  pub modify_cmp-closed : (col : ℕ) (x y : Change) → change_cmp key_cols x y ≡ Less → modify_cmp col y ≡ Greater
+      → modify_cmp col x ≡ Greater
   modify_cmp-closed col (Ins row) y b a = refl
   modify_cmp-closed col (Del k) (Ins other) b a = cc
   modify_cmp-closed col (Del k) (Del j) b a = cc

@@ -7,8 +7,6 @@ use Rattle.model.specs.declared.entry.Change.{Change}
 use Rattle.model.specs.declared.entry.Change.TheVariants.{Ins, Del, Mod}
 use Rattle.model.specs.Entries.{change_cmp}
 use Rattle.counted.specs.Changes.{change_of}
-use Rattle.model.specs.declared.effect.Effect.{Effect}
-use Rattle.model.specs.declared.effect.Effect.TheVariants as effect
 use Rattle.delta.specs.declared.by_sid.BaseChange.{BaseChange}
 use Rattle.delta.specs.declared.by_sid.BaseChange.TheVariants.{Kept, Modified, Deleted}
 use Rattle.delta.specs.declared.by_sid.Sought.{Sought}
@@ -44,11 +42,3 @@ made_of_base (Mod col value) = Modified
 abbrev pub base_change : ℕ → Option Entry → BaseChange
 base_change sid None = Kept
 base_change sid (Some e) = cond (e.sid == sid) (made_of_base e.change) Kept
-
--- what an effect makes of the base row of its key, where it inserts none
-abbrev pub effect_on_base : Option Effect → BaseChange
-effect_on_base None = Kept
-effect_on_base (Some (effect.Ins row)) = Kept
-effect_on_base (Some effect.Del) = Deleted
-effect_on_base (Some (effect.Mod cells)) = Modified
-effect_on_base (Some (effect.Rep row)) = Deleted

@@ -1,6 +1,6 @@
 -- Single entries that a change of a tree looks at.
 use Rattle.std.specs.Prelude.{◌≡◌, ℕ, ◌+◌, ◌<◌, ◌≤◌, ◌^◌, ◌==◌, Bool, false, ◌&&◌, IsFalse, IsNone, cond, Option, None, List, []}
-use Rattle.std.specs.Prelude.{◌∷◌, ◌++◌, length, take, drop}
+use Rattle.std.specs.Prelude.{◌∷◌, length, drop}
 use Rattle.values.specs.Shape.{key_of}
 use Rattle.values.specs.declared.row.Key.{Key}
 use Rattle.values.specs.declared.row.Row.{Row}
@@ -32,10 +32,6 @@ row_at key_cols sid key e = cond (is_insert_at key_cols sid key e) (row_of e.cha
 abbrev pub modify_count : ℕ → ℕ → List Entry → ℕ
 modify_count sid col [] = 0
 modify_count sid col (e ∷ entries) = cond (is_modify_at sid col e) 1 0
-
--- the entries with this one in the place of those from `start` up to `end`
-abbrev pub with_run : List Entry → ℕ → ℕ → Entry → List Entry
-with_run entries start end e = take start entries ++ e ∷ drop end entries
 
 -- the row of an insert has the column
 abbrev pub has_cell : ℕ → Change → Type 0

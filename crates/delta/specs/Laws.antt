@@ -70,8 +70,10 @@ module _ (key_cols : ℕ) where
   MayEdit sid (Delete key) (Some (Ins row)) entries = IsSome (inserted_row key_cols sid key entries)
   MayEdit sid (Delete key) (Some (Rep row)) entries = IsSome (inserted_row key_cols sid key entries)
   MayEdit sid (Delete key) old entries = IsFalse (has_delete sid entries)
-  MayEdit sid (Set key col value) (Some (Ins row)) entries = IsSomeAnd (inserted_row key_cols sid key entries) (λ inserted. col < length inserted) × (key_cols ≤ col)
-  MayEdit sid (Set key col value) (Some (Rep row)) entries = IsSomeAnd (inserted_row key_cols sid key entries) (λ inserted. col < length inserted) × (key_cols ≤ col)
+  MayEdit sid (Set key col value) (Some (Ins row)) entries =
+      IsSomeAnd (inserted_row key_cols sid key entries) (λ inserted. col < length inserted) × (key_cols ≤ col)
+  MayEdit sid (Set key col value) (Some (Rep row)) entries =
+      IsSomeAnd (inserted_row key_cols sid key entries) (λ inserted. col < length inserted) × (key_cols ≤ col)
   MayEdit sid (Set key col value) old entries = IsFalse (has_delete sid entries)
 
 module _ (schema : Columns) where

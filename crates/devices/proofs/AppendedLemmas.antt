@@ -98,7 +98,9 @@ pub record AreRead (g : ℕ) (cs : List Column) (olds news : List (List ℕ)) : 
   pub new_read : (col : ℕ) → all_parts col (map type_of cs) news ≡ Ok (map all_of columns)
   pub full : list_all (is_whole g) (map all_of columns) ≡ true → columns_in g (map type_of cs) (map all_of columns) ≡ cs
 
-read_more : (col : ℕ) (ty : ColumnType) (types : List ColumnType) (bytes : List ℕ) (contents : List (List ℕ)) (parts : List Part) (others : List (List Part))
+read_more :
+    (col : ℕ) (ty : ColumnType) (types : List ColumnType) (bytes : List ℕ) (contents : List (List ℕ)) (parts : List Part)
+    (others : List (List Part))
     → parts_after [] (frames_of col (Some ty) bytes) ≡ Ok parts → all_parts (suc col) types contents ≡ Ok others
     → all_parts col (ty ∷ types) (bytes ∷ contents) ≡ Ok (parts ∷ others)
 read_more col ty types bytes contents parts others here there =
@@ -139,7 +141,8 @@ read_all g (c ∷ cs) (o ∷ olds) (n ∷ news) grow =
         old_read =
             λ col. read_more col c.ty types o olds column.front (map front_of there.columns) (here.old_read col) (there.old_read (suc col));
         new_read =
-            λ col. read_more col c.ty types n news (all_of column) (map all_of there.columns) (here.new_read col) (there.new_read (suc col));
+            λ col. read_more col c.ty types n news (all_of column) (map all_of there.columns) (here.new_read col)
+            (there.new_read (suc col));
         full =
             λ whole.
             let both = and_parts (is_whole g (all_of column)) (list_all (is_whole g) (map all_of there.columns)) whole in
@@ -215,7 +218,8 @@ module _ (schema : Columns) (rows : List Row) (lawful : IsSchema schema) (stable
   pub columns_typed : map type_of columns_of ≡ schema.types
   columns_typed =
       let width = length schema.types in
-      all_typed schema rows columns_of (whole schema schema rows columns_of width width refl refl lawful (omega arith) (omega arith) stable refl)
+      all_typed schema rows columns_of
+      (whole schema schema rows columns_of width width refl refl lawful (omega arith) (omega arith) stable refl)
 
   -- they give the table back
   image_again : (g : ℕ) → image_of schema g columns_of ≡ Ok (image g)
@@ -312,7 +316,8 @@ module _ (schema : Columns) (rows : List Row) (lawful : IsSchema schema) (stable
 
 -- ---- devices that took a table's pieces
 
-module _ (schema : Columns) (table : Stable) (g : ℕ) (olds news : List (List ℕ)) (same : table.schema ≡ schema) (lawful : IsSchema table.schema)
+module _ (schema : Columns) (table : Stable) (g : ℕ) (olds news : List (List ℕ)) (same : table.schema ≡ schema)
+    (lawful : IsSchema table.schema)
     (stable : IsStable table) (small : g < 4294967296) (blocks : AllBlocks table)
     (ready : AreReady g schema.types olds) where
   here : AreReady g table.schema.types olds
@@ -322,7 +327,9 @@ module _ (schema : Columns) (table : Stable) (g : ℕ) (olds news : List (List �
   stored_now took =
       let stored = stored-appended table.schema table.rows lawful stable g small blocks olds here in
       ap (stored_image schema) took
-      ∙ subst (λ (s : Columns). stored_image s (appended olds (pieces_of g table)) ≡ Ok (record { generation = g; table = table })) same stored
+      ∙ subst
+      (λ (s : Columns). stored_image s (appended olds (pieces_of g table)) ≡ Ok (record { generation = g; table = table }))
+      same stored
 
   pub ready_now : news ≡ appended olds (pieces_of g table) → AreReady (g + 1) schema.types news
   ready_now took =

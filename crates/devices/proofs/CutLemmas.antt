@@ -28,7 +28,9 @@ module _ (seam : Seam) (part : Part) (is : IsPartAt seam part) where
   h = head_of part
 
   cut_head : (bytes : List ℕ) → length bytes < 16 → is_cut_block seam bytes ≡ true
-  cut_head bytes short = ap (λ b. b || (may_stand seam (head_at bytes) && ltb (length (drop 16 bytes)) (head_at bytes).size)) (lt-ltb (length bytes) 16 short)
+  cut_head bytes short =
+      ap (λ b. b || (may_stand seam (head_at bytes) && ltb (length (drop 16 bytes)) (head_at bytes).size))
+      (lt-ltb (length bytes) 16 short)
 
   cut_payload : (payload : List ℕ) → length payload < h.size → is_cut_block seam (head_bytes h ++ payload) ≡ true
   cut_payload payload short =
@@ -49,10 +51,12 @@ module _ (seam : Seam) (part : Part) (is : IsPartAt seam part) where
   cut_block (suc n) lt =
       let payload = part_payload part in
       elim (cases_lt (suc n) 16) [
-        | inl short ↦ cut_head (take (suc n) (frame_bytes (Block part))) (omega (arith, short, length-take (suc n) (frame_bytes (Block part))))
+        | inl short ↦ cut_head (take (suc n) (frame_bytes (Block part)))
+            (omega (arith, short, length-take (suc n) (frame_bytes (Block part))))
         | inr long ↦
             let room = suc n - length (head_bytes h) in
-            let short : length (take room payload) < h.size = omega (arith, long, lt, length-take room payload, length-append (head_bytes h) payload) in
+            let short : length (take room payload) < h.size =
+            omega (arith, long, lt, length-take room payload, length-append (head_bytes h) payload) in
             ap (is_rest seam) (take-append-ge (suc n) (head_bytes h) payload (omega (arith, long))) ∙ cut_payload (take room payload) short
       ]
 
@@ -78,7 +82,14 @@ module _ (g : ℕ) (ty : ColumnType) (values : List Value) (count : ℕ) where
       let first = frame_bytes frame in
       let others = column_bytes (frames_from g ty values count (a + 1) m) in
       elim (cases_lt n (length first)) [
-        | inl short ↦ record { k = 0; rest = take n first; within = omega arith; spelt = take-append-le n first others (omega (arith, short)); lawful = tt; torn = cut_block seam _ are.0 n short }
+        | inl short ↦ record {
+          k = 0;
+          rest = take n first;
+          within = omega arith;
+          spelt = take-append-le n first others (omega (arith, short));
+          lawful = tt;
+          torn = cut_block seam _ are.0 n short;
+        }
         | inr long ↦
             let after = cut_frames (a + 1) m (n - length first) (seam_after seam frame) are.1 in
             record {

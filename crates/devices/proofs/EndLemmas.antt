@@ -17,7 +17,8 @@ end_reading : (next : ℕ) (ty : ColumnType) (old : List ℕ) → IsWholeColumn 
     → parts_after [] (frames_of col (Some ty) (old ++ 69 ∷ [])) ≡ parts_after [] (frames_of col (Some ty) old)
 end_reading next ty old whole col =
     let frames = whole.frames in
-    parts_again ty (old ++ 69 ∷ []) (frames ++ End ∷ []) [] (column_after old frames (End ∷ []) [] whole.column (tt, tt) refl) (AreWanted-append (Some ty) frames (End ∷ []) whole.typed tt) col
+    parts_again ty (old ++ 69 ∷ []) (frames ++ End ∷ []) [] (column_after old frames (End ∷ []) [] whole.column (tt, tt) refl)
+    (AreWanted-append (Some ty) frames (End ∷ []) whole.typed tt) col
     ∙ ap (λ ps. Ok ps) (parts_of-append frames (End ∷ []) ∙ append-nil _) ∙ sym (parts_again ty old frames [] whole.column whole.typed col)
 
 -- columns of which one has its end
@@ -26,9 +27,12 @@ all_parts-ended : (next col : ℕ) (types : List ColumnType) (front : List (List
     → all_parts col types (front ++ (old ++ 69 ∷ []) ∷ back) ≡ all_parts col types (front ++ old ∷ back)
 all_parts-ended next col [] front old back whole = refl
 all_parts-ended next col (ty ∷ types) [] old back whole =
-    ap (λ (r : Result (List Part) ReadFault). r >>= λ ps. (all_parts (suc col) types back >>= λ os. Ok (ps ∷ os))) (end_reading next ty old whole col)
+    ap (λ (r : Result (List Part) ReadFault). r >>= λ ps. (all_parts (suc col) types back >>= λ os. Ok (ps ∷ os)))
+    (end_reading next ty old whole col)
 all_parts-ended next col (ty ∷ types) (bytes ∷ front) old back whole =
-    ap (λ (r : Result (List (List Part)) ReadFault). parts_after [] (frames_of col (Some ty) bytes) >>= λ ps. (r >>= λ os. Ok (ps ∷ os))) (all_parts-ended next (suc col) types front old back whole)
+    ap
+    (λ (r : Result (List (List Part)) ReadFault). parts_after [] (frames_of col (Some ty) bytes) >>= λ ps. (r >>= λ os. Ok (ps ∷ os)))
+    (all_parts-ended next (suc col) types front old back whole)
 
 -- it stores what it stored
 pub StoresAs-ended : (old new : List ℕ) → new ≡ old ++ 69 ∷ [] → StoresAs old new
@@ -38,7 +42,10 @@ StoresAs-ended old new is = subst (StoresAs old) (sym is) (ended old)
     ended old schema next front back whole =
         let news = front ++ (old ++ 69 ∷ []) ∷ back in
         let olds = front ++ old ∷ back in
-        let even : length news ≡ length olds = omega (arith, length-append front ((old ++ 69 ∷ []) ∷ back), length-append front (old ∷ back)) in
-        ap (λ n. cond (n == length schema.types) (all_parts 0 schema.types news >>= λ ps. image_at schema ps (newest_whole ps)) (Err WrongCount)) even
-        ∙ ap (λ (r : Result (List (List Part)) ReadFault). cond (length olds == length schema.types) (r >>= λ ps. image_at schema ps (newest_whole ps)) (Err WrongCount))
+        let even : length news ≡ length olds =
+        omega (arith, length-append front ((old ++ 69 ∷ []) ∷ back), length-append front (old ∷ back)) in
+        ap (λ n. cond (n == length schema.types) (all_parts 0 schema.types news >>= λ ps. image_at schema ps (newest_whole ps))
+        (Err WrongCount)) even
+        ∙ ap
+        (λ (r : Result (List (List Part)) ReadFault). cond (length olds == length schema.types) (r >>= λ ps. image_at schema ps (newest_whole ps)) (Err WrongCount))
         (all_parts-ended next 0 schema.types front old back whole)

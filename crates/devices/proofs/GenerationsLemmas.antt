@@ -38,7 +38,9 @@ module _ (h g : ℕ) (other : h ≡ g → ⊥) where
 
   is_whole-none : (more : List Part) → AreOf g more → is_whole h more ≡ false
   is_whole-none [] of = refl
-  is_whole-none (p ∷ more) of = or_from (p.last && eqb p.generation h) (is_whole h more) (and_right p.last (eqb p.generation h) (not_here p of.0)) (is_whole-none more of.1)
+  is_whole-none (p ∷ more) of =
+      or_from (p.last && eqb p.generation h) (is_whole h more) (and_right p.last (eqb p.generation h) (not_here p of.0))
+      (is_whole-none more of.1)
 
   is_whole-front : (front more : List Part) → AreOf g more → is_whole h (front ++ more) ≡ is_whole h front
   is_whole-front [] more of = is_whole-none more of
@@ -58,11 +60,14 @@ module _ (g : ℕ) where
 
   pub is_whole-more : (front more : List Part) → AreBelow g front → is_whole g (front ++ more) ≡ is_whole g more
   is_whole-more [] more below = refl
-  is_whole-more (p ∷ front) more below = ap (λ b. b || is_whole g (front ++ more)) (and_right p.last (eqb p.generation g) (not_yet p below.0)) ∙ is_whole-more front more below.1
+  is_whole-more (p ∷ front) more below =
+      ap (λ b. b || is_whole g (front ++ more)) (and_right p.last (eqb p.generation g) (not_yet p below.0))
+      ∙ is_whole-more front more below.1
 
   pub values_in-more : (front more : List Part) → AreBelow g front → values_in g (front ++ more) ≡ values_in g more
   values_in-more [] more below = refl
-  values_in-more (p ∷ front) more below = ap (λ b. cond b p.block.values [] ++ values_in g (front ++ more)) (not_yet p below.0) ∙ values_in-more front more below.1
+  values_in-more (p ∷ front) more below =
+      ap (λ b. cond b p.block.values [] ++ values_in g (front ++ more)) (not_yet p below.0) ∙ values_in-more front more below.1
 
 -- ---- the columns side by side
 
@@ -79,7 +84,8 @@ module _ (h g : ℕ) (other : h ≡ g → ⊥) where
   columns_in-front [] cs are = refl
   columns_in-front (ty ∷ types) [] are = refl
   columns_in-front (ty ∷ types) (c ∷ cs) are =
-      ap (λ (vs : List Value). record { ty = ty; values = vs } ∷ columns_in h types (map all_of cs)) (values_in-front h g other c.front c.more are.0.newer)
+      ap (λ (vs : List Value). record { ty = ty; values = vs } ∷ columns_in h types (map all_of cs))
+      (values_in-front h g other c.front c.more are.0.newer)
       ∙ ap (λ columns. record { ty = ty; values = values_in h c.front } ∷ columns) (columns_in-front types cs are.1)
 
 newest_of-append : (columns : List (List Part)) (best : Option ℕ) (parts more : List Part)
@@ -166,7 +172,8 @@ newest_whole-all g c cs are has =
     let columns = map all_of cs in
     let both = and_parts (is_whole g (all_of c)) (list_all (is_whole g) columns) has in
     let here : is_whole g c.more ≡ true = sym (is_whole-more g c.front c.more are.0.below) ∙ both.0 in
-    newest_of-append columns None c.front c.more ∙ newest_of-whole g cs are.1 both.1 (newest_of columns None c.front) c.more are.0.newer here
+    newest_of-append columns None c.front c.more
+    ∙ newest_of-whole g cs are.1 both.1 (newest_of columns None c.front) c.more are.0.newer here
 
 -- whether a generation is below this one, where there is one
 abbrev IsBelow : ℕ → Option ℕ → Type 0
@@ -176,7 +183,8 @@ IsBelow g (Some h) = h < g
 newest_of-below : (g : ℕ) (columns : List (List Part)) (best : Option ℕ) (front : List Part) → IsBelow g best → AreBelow g front
     → IsBelow g (newest_of columns best front)
 newest_of-below g columns best [] h below = h
-newest_of-below g columns best (p ∷ front) h below = newest_of-below g columns (cond (ends_image columns p) (Some p.generation) best) front (by (ends_image columns p)) below.1
+newest_of-below g columns best (p ∷ front) h below =
+    newest_of-below g columns (cond (ends_image columns p) (Some p.generation) best) front (by (ends_image columns p)) below.1
   where
     by : (b : Bool) → IsBelow g (cond b (Some p.generation) best)
     by true = below.0
@@ -185,7 +193,8 @@ newest_of-below g columns best (p ∷ front) h below = newest_of-below g columns
 pub newest_whole-below : (g : ℕ) (cs : List Grown) → AllByRecursion (IsGrown g) cs → (h : ℕ) → newest_whole (map front_of cs) ≡ Some h
     → h < g
 newest_whole-below g [] are h is = absurd cc
-newest_whole-below g (c ∷ cs) are h is = by (newest_of (map front_of cs) None c.front) (newest_of-below g (map front_of cs) None c.front tt are.0.below) is
+newest_whole-below g (c ∷ cs) are h is =
+    by (newest_of (map front_of cs) None c.front) (newest_of-below g (map front_of cs) None c.front tt are.0.below) is
   where
     by : (o : Option ℕ) → IsBelow g o → o ≡ Some h → h < g
     by None below e = absurd cc

@@ -66,7 +66,9 @@ goes_on_from (Some u) h e =
 module _ (seam : Seam) (part : Part) (turn : is_in_turn seam (head_of part) ≡ true) where
   -- number 0 begins a generation above the newest
   begins_above : part.number ≡ 0 → is_above seam.newest part.generation ≡ true
-  begins_above e = sym (ap (λ b. cond b (is_above seam.newest part.generation) (goes_on seam.before (head_of part))) (eq-eqb part.number 0 e)) ∙ turn
+  begins_above e =
+      sym (ap (λ b. cond b (is_above seam.newest part.generation) (goes_on seam.before (head_of part))) (eq-eqb part.number 0 e))
+      ∙ turn
 
   -- another number goes on
   goes_on_so : eqb part.number 0 ≡ false → goes_on seam.before (head_of part) ≡ true

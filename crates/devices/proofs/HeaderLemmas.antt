@@ -39,7 +39,13 @@ module _ (next : ℕ) (ty : ColumnType) (old : List ℕ) (whole : IsWholeColumn 
 
   ready_header : IsReadyColumn next ty (old ++ frame_bytes header)
   ready_header = record {
-    whole = record { frames = before ++ header ∷ []; column = column; typed = wanted; below = subst (AreBelow next) (sym same_parts) whole.below };
+    whole =
+        record {
+          frames = before ++ header ∷ [];
+          column = column;
+          typed = wanted;
+          below = subst (AreBelow next) (sym same_parts) whole.below;
+        };
     kind = ap (λ (s : Seam). s.kind) (seam_after_all-append start before (header ∷ []));
   }
 
@@ -64,21 +70,30 @@ all_parts-headers next col [] [] whole = refl
 all_parts-headers next col [] (o ∷ olds) whole = absurd whole
 all_parts-headers next col (ty ∷ types) [] whole = absurd whole
 all_parts-headers next col (ty ∷ types) (o ∷ olds) whole =
-    ap (λ (r : Result (List Part) ReadFault). r >>= λ ps. (all_parts (suc col) types (appended olds (headers_of types)) >>= λ os. Ok (ps ∷ os))) (same_reading next ty o whole.0 col)
-    ∙ ap (λ (r : Result (List (List Part)) ReadFault). parts_after [] (frames_of col (Some ty) o) >>= λ ps. (r >>= λ os. Ok (ps ∷ os))) (all_parts-headers next (suc col) types olds whole.1)
+    ap
+    (λ (r : Result (List Part) ReadFault). r >>= λ ps. (all_parts (suc col) types (appended olds (headers_of types)) >>= λ os. Ok (ps ∷ os)))
+    (same_reading next ty o whole.0 col)
+    ∙ ap
+    (λ (r : Result (List (List Part)) ReadFault). parts_after [] (frames_of col (Some ty) o) >>= λ ps. (r >>= λ os. Ok (ps ∷ os)))
+    (all_parts-headers next (suc col) types olds whole.1)
 
 pub stored_image-headers : (next : ℕ) (schema : Columns) (olds : List (List ℕ)) → AreWhole next schema.types olds
     → stored_image schema (appended olds (headers_of schema.types)) ≡ stored_image schema olds
 stored_image-headers next schema olds whole =
     let news = appended olds (headers_of schema.types) in
     let even : length news ≡ length olds =
-    AllZip-long (IsReadyColumn next) schema.types news (ready_headers next schema.types olds whole) ∙ sym (AllZip-long (IsWholeColumn next) schema.types olds whole) in
-    ap (λ n. cond (n == length schema.types) (all_parts 0 schema.types news >>= λ ps. image_at schema ps (newest_whole ps)) (Err WrongCount)) even
-    ∙ ap (λ (r : Result (List (List Part)) ReadFault). cond (length olds == length schema.types) (r >>= λ ps. image_at schema ps (newest_whole ps)) (Err WrongCount)) (all_parts-headers next 0 schema.types olds whole)
+    AllZip-long (IsReadyColumn next) schema.types news (ready_headers next schema.types olds whole)
+    ∙ sym (AllZip-long (IsWholeColumn next) schema.types olds whole) in
+    ap (λ n. cond (n == length schema.types) (all_parts 0 schema.types news >>= λ ps. image_at schema ps (newest_whole ps))
+    (Err WrongCount)) even
+    ∙ ap
+    (λ (r : Result (List (List Part)) ReadFault). cond (length olds == length schema.types) (r >>= λ ps. image_at schema ps (newest_whole ps)) (Err WrongCount))
+    (all_parts-headers next 0 schema.types olds whole)
 
 -- ---- devices that took the headers
 
-module _ (next : ℕ) (schema : Columns) (olds news : List (List ℕ)) (whole : AreWhole next schema.types olds) (took : news ≡ appended olds (headers_of schema.types)) where
+module _ (next : ℕ) (schema : Columns) (olds news : List (List ℕ)) (whole : AreWhole next schema.types olds)
+    (took : news ≡ appended olds (headers_of schema.types)) where
   pub stored_still : stored_image schema news ≡ stored_image schema olds
   stored_still = ap (stored_image schema) took ∙ stored_image-headers next schema olds whole
 

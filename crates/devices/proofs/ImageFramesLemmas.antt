@@ -30,15 +30,29 @@ pub record IsCut (len count : ℕ) : Type 0 where
 pub is_cut : (len : ℕ) → IsCut len (part_count len)
 is_cut len =
     elim (cases_eq len 0) [
-      | inl nothing ↦ by (part_count len) nothing (let e : eqb len 0 ≡ true = eq-eqb len 0 nothing in ap (λ b. cond b 1 (block_count len)) e)
-      | inr something ↦ more (part_count len) (omega (arith, something)) (let e : eqb len 0 ≡ false = ne_eqb len 0 something in ap (λ b. cond b 1 (block_count len)) e)
+      | inl nothing ↦ by (part_count len) nothing
+          (let e : eqb len 0 ≡ true = eq-eqb len 0 nothing in ap (λ b. cond b 1 (block_count len)) e)
+      | inr something ↦ more (part_count len) (omega (arith, something))
+          (let e : eqb len 0 ≡ false = ne_eqb len 0 something in ap (λ b. cond b 1 (block_count len)) e)
     ]
   where
     by : (count : ℕ) → len ≡ 0 → count ≡ 1 → IsCut len count
-    by count nothing is = record { some = omega (arith, is); last = λ h. absurd (omega (arith, h, nothing)); all = omega (arith, is, nothing); none = λ _. is }
+    by count nothing is =
+        record {
+          some = omega (arith, is);
+          last = λ h. absurd (omega (arith, h, nothing));
+          all = omega (arith, is, nothing);
+          none = λ _. is;
+        }
 
     more : (count : ℕ) → 0 < len → count ≡ block_count len → IsCut len count
-    more count some is = record { some = omega (arith, is, some); last = λ _. omega (arith, is, some); all = omega (arith, is); none = λ e. absurd (omega (arith, e, some)) }
+    more count some is =
+        record {
+          some = omega (arith, is, some);
+          last = λ _. omega (arith, is, some);
+          all = omega (arith, is);
+          none = λ e. absurd (omega (arith, e, some));
+        }
 
 -- a block is full, or the last and not empty, or the first
 due_of : (g k n s : ℕ) (last : Bool) → n ≤ 1024 → (last ≡ false → n ≡ 1024) → (last ≡ true → 0 < k → 0 < n)
@@ -76,16 +90,19 @@ module _ (g : ℕ) (ty : ColumnType) (values : List Value) (count : ℕ) where
   is_whole-frames a zero lt = refl
   is_whole-frames a (suc m) lt =
       let open_end : eqb (a + 1) count ≡ false = ne_eqb (a + 1) count (λ e. omega (arith, e, lt)) in
-      or_from (eqb (a + 1) count && eqb g g) (is_whole g (parts_of (frames_from (a + 1) m))) (and_left (eqb (a + 1) count) (eqb g g) open_end) (is_whole-frames (a + 1) m (omega (arith, lt)))
+      or_from (eqb (a + 1) count && eqb g g) (is_whole g (parts_of (frames_from (a + 1) m)))
+      (and_left (eqb (a + 1) count) (eqb g g) open_end) (is_whole-frames (a + 1) m (omega (arith, lt)))
 
   -- with it, it is
   pub is_whole-all : (a m : ℕ) → 0 < m → a + m ≡ count → is_whole g (parts_of (frames_from a m)) ≡ true
   is_whole-all a zero some all = absurd (omega (arith, some))
   is_whole-all a (suc zero) some all =
       let ended : eqb (a + 1) count ≡ true = eq-eqb (a + 1) count (omega (arith, all)) in
-      or_left (eqb (a + 1) count && eqb g g) (is_whole g (parts_of (frames_from (a + 1) zero))) (and_from (eqb (a + 1) count) (eqb g g) ended (eq-eqb g g refl))
+      or_left (eqb (a + 1) count && eqb g g) (is_whole g (parts_of (frames_from (a + 1) zero)))
+      (and_from (eqb (a + 1) count) (eqb g g) ended (eq-eqb g g refl))
   is_whole-all a (suc (suc m)) some all =
-      or_right (eqb (a + 1) count && eqb g g) (is_whole g (parts_of (frames_from (a + 1) (suc m)))) (is_whole-all (a + 1) (suc m) (omega arith) (omega (arith, all)))
+      or_right (eqb (a + 1) count && eqb g g) (is_whole g (parts_of (frames_from (a + 1) (suc m))))
+      (is_whole-all (a + 1) (suc m) (omega arith) (omega (arith, all)))
 
   -- their values are those of the column
   values_in-frames : (a m : ℕ) → values_in g (parts_of (frames_from a m)) ≡ take (1024 * m) (drop (1024 * a) values)
@@ -102,7 +119,8 @@ module _ (g : ℕ) (ty : ColumnType) (values : List Value) (count : ℕ) where
 
   -- ---- where they stand
 
-  module _ (cut : IsCut (length values) count) (blocks : (k : ℕ) → k < count → IsBlock (block_at ty values k)) (small : g < 4294967296) (few : count ≤ 4294967296) where
+  module _ (cut : IsCut (length values) count) (blocks : (k : ℕ) → k < count → IsBlock (block_at ty values k))
+      (small : g < 4294967296) (few : count ≤ 4294967296) where
     pub values_in-all : values_in g (parts_of (frames_from 0 count)) ≡ values
     values_in-all = values_in-frames 0 count ∙ take_all (1024 * count) values cut.all
 
@@ -114,14 +132,30 @@ module _ (g : ℕ) (ty : ColumnType) (values : List Value) (count : ℕ) where
         ]
 
     block_full : (k : ℕ) → k + 1 < count → length (take 1024 (drop (1024 * k) values)) ≡ 1024
-    block_full k lt = omega (arith, length-take 1024 (drop (1024 * k) values), length-drop (1024 * k) values, cut.last (filled (omega (arith, lt))), lt)
+    block_full k lt =
+        omega (
+          arith,
+          length-take 1024 (drop (1024 * k) values),
+          length-drop (1024 * k) values,
+          cut.last (filled (omega (arith, lt))),
+          lt,
+        )
 
     block_some : (k : ℕ) → k + 1 ≡ count → 0 < k → 0 < length (take 1024 (drop (1024 * k) values))
-    block_some k last some = omega (arith, length-take 1024 (drop (1024 * k) values), length-drop (1024 * k) values, cut.last (filled (omega (arith, last, some))), last, some)
+    block_some k last some =
+        omega (
+          arith,
+          length-take 1024 (drop (1024 * k) values),
+          length-drop (1024 * k) values,
+          cut.last (filled (omega (arith, last, some))),
+          last,
+          some,
+        )
 
     due : (k : ℕ) → k < count → has_due_count (head_of (part k)) ≡ true
     due k lt =
-        due_of g k (length (take 1024 (drop (1024 * k) values))) (length (part_payload (part k))) (eqb (k + 1) count) (omega (arith, length-take 1024 (drop (1024 * k) values)))
+        due_of g k (length (take 1024 (drop (1024 * k) values))) (length (part_payload (part k))) (eqb (k + 1) count)
+        (omega (arith, length-take 1024 (drop (1024 * k) values)))
         (λ e. block_full k (omega (arith, lt, eqb-false (k + 1) count e))) (λ e some. block_some k (eqb-true (k + 1) count e) some)
 
     -- a seam at which the block number a may stand
@@ -138,7 +172,8 @@ module _ (g : ℕ) (ty : ColumnType) (values : List Value) (count : ℕ) where
               ap (λ b. cond b (is_above seam.newest g) (goes_on seam.before (head_of (part a)))) zeroth ∙ turn.first begins
           | inr later ↦
               let further : eqb a 0 ≡ false = ne_eqb a 0 later in
-              let next : (eqb g g && eqb (a - 1 + 1) a) ≡ true = and_from (eqb g g) (eqb (a - 1 + 1) a) (eq-eqb g g refl) (eq-eqb (a - 1 + 1) a (omega (arith, later))) in
+              let next : (eqb g g && eqb (a - 1 + 1) a) ≡ true =
+              and_from (eqb g g) (eqb (a - 1 + 1) a) (eq-eqb g g refl) (eq-eqb (a - 1 + 1) a (omega (arith, later))) in
               ap (λ b. cond b (is_above seam.newest g) (goes_on seam.before (head_of (part a)))) further
               ∙ ap (λ (o : Option Unfinished). goes_on o (head_of (part a))) (turn.next (omega (arith, later)) lt) ∙ next
         ]
@@ -147,7 +182,9 @@ module _ (g : ℕ) (ty : ColumnType) (values : List Value) (count : ℕ) where
     stands_at seam a lt turn = record {
       stands =
           and_from (is_some seam.kind && is_in_turn seam (head_of (part a))) (has_due_count (head_of (part a)))
-          (and_from (is_some seam.kind) (is_in_turn seam (head_of (part a))) (ap (λ (o : Option Kind). is_some o) turn.kind) (in_turn seam a lt turn)) (due a lt);
+          (and_from (is_some seam.kind) (is_in_turn seam (head_of (part a))) (ap (λ (o : Option Kind). is_some o) turn.kind)
+          (in_turn seam a lt turn))
+          (due a lt);
       typed = turn.kind;
       block = blocks a lt;
       generation = small;
@@ -167,8 +204,10 @@ module _ (g : ℕ) (ty : ColumnType) (values : List Value) (count : ℕ) where
 
     pub frames_stand : (a m : ℕ) (seam : Seam) → a + m ≡ count → IsTurn seam a → AreFramesAt seam (frames_from a m)
     frames_stand a zero seam all turn = tt
-    frames_stand a (suc m) seam all turn =
-        (stands_at seam a (omega (arith, all)) turn, frames_stand (a + 1) m (seam_after seam (frame a)) (omega (arith, all)) (turn_after seam a (omega (arith, all)) turn))
+    frames_stand a (suc m) seam all turn = (
+      stands_at seam a (omega (arith, all)) turn,
+      frames_stand (a + 1) m (seam_after seam (frame a)) (omega (arith, all)) (turn_after seam a (omega (arith, all)) turn),
+    )
 
   pub kind_after : (a m : ℕ) (seam : Seam) → (seam_after_all seam (frames_from a m)).kind ≡ seam.kind
   kind_after a zero seam = refl

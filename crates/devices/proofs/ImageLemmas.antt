@@ -27,7 +27,8 @@ columns_push : (g : ℕ) (types : List ColumnType) (front : List (List Part)) (p
     → columns_in g types (front ++ parts ∷ []) ≡ columns_in g types front ++ column_of g (get_or types (length front) column.Int) parts ∷ []
 columns_push g [] front parts lt = absurd (omega arith)
 columns_push g (ty ∷ types) [] parts lt = ap (λ cs. column_of g ty parts ∷ cs) (columns_none g types)
-columns_push g (ty ∷ types) (first ∷ front) parts lt = ap (λ cs. column_of g ty first ∷ cs) (columns_push g types front parts (omega (arith, lt)))
+columns_push g (ty ∷ types) (first ∷ front) parts lt =
+    ap (λ cs. column_of g ty first ∷ cs) (columns_push g types front parts (omega (arith, lt)))
 
 -- a column for each
 length-columns_in : (g : ℕ) (types : List ColumnType) (columns : List (List Part)) → length columns ≤ length types
@@ -47,7 +48,8 @@ types-columns_in g (ty ∷ types) (parts ∷ columns) even = ap (λ ts. ty ∷ t
 
 -- columns of as many values
 pub even_columns : (columns : List Column) → are_even columns ≡ true → AreEven columns
-even_columns columns even col d lt = eqb-true _ _ (AllPass-from_list_all (λ c. eqb (length c.values) (row_count columns)) columns even col d lt)
+even_columns columns even col d lt =
+    eqb-true _ _ (AllPass-from_list_all (λ c. eqb (length c.values) (row_count columns)) columns even col d lt)
 
 -- one column more in turn
 pub all_in_turn_push : (types : List ColumnType) (columns : List (List Part)) (parts : List Part) → AreAllInTurn types columns
@@ -63,7 +65,8 @@ all_in_turn_push types columns parts are next col lt =
 
 -- ---- the columns so far
 
-module _ {V : Type 0} (items : V → List Part) (g : ℕ) (types : List ColumnType) (all front back : List V) (one : V) (even : length all ≡ length types) (split : front ++ one ∷ back ≡ all) where
+module _ {V : Type 0} (items : V → List Part) (g : ℕ) (types : List ColumnType) (all front back : List V) (one : V)
+    (even : length all ≡ length types) (split : front ++ one ∷ back ≡ all) where
   -- fewer than all
   pub so_far_few : length front < length types
   so_far_few = omega (arith, even, ap (λ vs. length vs) split, length-append front (one ∷ back))
@@ -86,7 +89,9 @@ module _ {V : Type 0} (items : V → List Part) (g : ℕ) (types : List ColumnTy
         (subst (AreInTurn (get_or types (length front) column.Int)) here (turn (length front) there))
 
     -- the next one
-    pub made_on : made ++ column_of g (get_or types (length made) column.Int) (items one) ∷ [] ≡ columns_in g types (map items (front ++ one ∷ []))
+    pub made_on :
+        made ++ column_of g (get_or types (length made) column.Int) (items one) ∷ []
+        ≡ columns_in g types (map items (front ++ one ∷ []))
     made_on =
         let few : length (map items front) < length types = omega (arith, so_far_few, length-map front items) in
         ap (λ n. made ++ column_of g (get_or types n column.Int) (items one) ∷ []) (length-made ∙ sym (length-map front items))

@@ -17,11 +17,14 @@ use Rattle.devices.proofs.GrammarLemmas.{read_in_turn}
 pub newest_of-push : (others : List (List Part)) (best : Option ℕ) (front : List Part) (part : Part)
     → newest_of others best (front ++ part ∷ []) ≡ cond (ends_image others part) (Some part.generation) (newest_of others best front)
 newest_of-push others best [] part = refl
-newest_of-push others best (first ∷ front) part = newest_of-push others (cond (ends_image others first) (Some first.generation) best) front part
+newest_of-push others best (first ∷ front) part =
+    newest_of-push others (cond (ends_image others first) (Some first.generation) best) front part
 
 -- of the first blocks, by the last of them
-pub newest_of-take : (others : List (List Part)) (parts : List Part) (end : ℕ) (part : Part) → 0 < end → end ≤ length parts → part ≡ get_or parts (end - 1) part
-    → newest_of others None (take end parts) ≡ cond (ends_image others part) (Some part.generation) (newest_of others None (take (end - 1) parts))
+pub newest_of-take : (others : List (List Part)) (parts : List Part) (end : ℕ) (part : Part) → 0 < end → end ≤ length parts
+    → part ≡ get_or parts (end - 1) part
+    → newest_of others None (take end parts)
+    ≡ cond (ends_image others part) (Some part.generation) (newest_of others None (take (end - 1) parts))
 newest_of-take others parts end part some le is =
     let front = take (end - 1) parts in
     let on : end ≡ end - 1 + 1 = omega (arith, some) in
@@ -65,8 +68,10 @@ module _ (others : List (List Part)) where
   greatest_next : (P : ℕ → Type 0) (best : Option ℕ) (part : Part) → IsGreatest P best → ((g : ℕ) → P g → g ≤ part.generation)
       → IsGreatest (λ g. P g ⊎ IsEndedBy part g) (cond (ends_image others part) (Some part.generation) best)
   greatest_next P best part is below = elim (cases_Bool (ends_image others part)) [
-    | inl ends ↦ subst (λ b. IsGreatest (λ g. P g ⊎ IsEndedBy part g) (cond b (Some part.generation) best)) (sym ends) (inr (refl, ends), λ other p. up_to other p)
-    | inr goes ↦ subst (λ b. IsGreatest (λ g. P g ⊎ IsEndedBy part g) (cond b (Some part.generation) best)) (sym goes) (greatest_same P (λ g. P g ⊎ IsEndedBy part g) (λ g p. inl p) (λ g p. back g p goes) best is)
+    | inl ends ↦ subst (λ b. IsGreatest (λ g. P g ⊎ IsEndedBy part g) (cond b (Some part.generation) best)) (sym ends)
+        (inr (refl, ends), λ other p. up_to other p)
+    | inr goes ↦ subst (λ b. IsGreatest (λ g. P g ⊎ IsEndedBy part g) (cond b (Some part.generation) best)) (sym goes)
+        (greatest_same P (λ g. P g ⊎ IsEndedBy part g) (λ g p. inl p) (λ g p. back g p goes) best is)
   ]
     where
       up_to : (other : ℕ) → P other ⊎ IsEndedBy part other → other ≤ part.generation

@@ -15,31 +15,46 @@ columns_after front reading = reading >>= λ columns. Ok (front ++ columns)
 abbrev cons_to : List Part → Result (List (List Part)) ReadFault → Result (List (List Part)) ReadFault
 cons_to parts others = others >>= λ columns. Ok (parts ∷ columns)
 
-columns_after-cons_to : (front : List (List Part)) (parts : List Part) (reading : Result (List (List Part)) ReadFault) → columns_after front (cons_to parts reading) ≡ columns_after (front ++ parts ∷ []) reading
+columns_after-cons_to : (front : List (List Part)) (parts : List Part) (reading : Result (List (List Part)) ReadFault)
+    → columns_after front (cons_to parts reading) ≡ columns_after (front ++ parts ∷ []) reading
 columns_after-cons_to front parts (Ok columns) = ap (λ cs. Ok cs) (sym (append_assoc front (parts ∷ []) columns))
 columns_after-cons_to front parts (Err fault) = refl
 
-module _ (types : List ColumnType) (columns : List (List ℕ)) (col : ℕ) (d : ColumnType) (e : List ℕ) (front : List (List Part)) (total : Result (List (List Part)) ReadFault)
-    (few : col < length types) (even : length columns ≡ length types) (so_far : columns_after front (all_parts col (drop col types) (drop col columns)) ≡ total) where
-  step : columns_after front (parts_after [] (frames_of col (Some (get_or types col d)) (get_or columns col e)) >>= λ parts. cons_to parts (all_parts (suc col) (drop (col + 1) types) (drop (col + 1) columns))) ≡ total
+module _ (types : List ColumnType) (columns : List (List ℕ)) (col : ℕ) (d : ColumnType) (e : List ℕ) (front : List (List Part))
+    (total : Result (List (List Part)) ReadFault)
+    (few : col < length types) (even : length columns ≡ length types)
+    (so_far : columns_after front (all_parts col (drop col types) (drop col columns)) ≡ total) where
+  step :
+      columns_after front
+      (parts_after [] (frames_of col (Some (get_or types col d)) (get_or columns col e)) >>= λ parts. cons_to parts
+      (all_parts (suc col) (drop (col + 1) types) (drop (col + 1) columns)))
+      ≡ total
   step =
       let within : col < length columns = omega (arith, even) in
       sym (rw (drop-cons types col d, drop-cons columns col e, add-one) refl) ∙ so_far
 
   -- a column more
-  pub columns_on : (parts : List Part) → parts_after [] (frames_of col (Some (get_or types col d)) (get_or columns col e)) ≡ Ok parts → columns_after (front ++ parts ∷ []) (all_parts (col + 1) (drop (col + 1) types) (drop (col + 1) columns)) ≡ total
+  pub columns_on : (parts : List Part)
+      → parts_after [] (frames_of col (Some (get_or types col d)) (get_or columns col e)) ≡ Ok parts
+      → columns_after (front ++ parts ∷ []) (all_parts (col + 1) (drop (col + 1) types) (drop (col + 1) columns)) ≡ total
   columns_on parts read =
       let others = all_parts (suc col) (drop (col + 1) types) (drop (col + 1) columns) in
-      ap (λ n. columns_after (front ++ parts ∷ []) (all_parts n (drop (col + 1) types) (drop (col + 1) columns))) (let one : col + 1 ≡ suc col = omega arith in one)
+      ap (λ n. columns_after (front ++ parts ∷ []) (all_parts n (drop (col + 1) types) (drop (col + 1) columns)))
+      (let one : col + 1 ≡ suc col = omega arith in one)
       ∙ sym (columns_after-cons_to front parts others)
       ∙ sym (ap (λ r. columns_after front (r >>= λ ps. cons_to ps others)) read) ∙ step
 
   -- a fault
-  pub columns_fault : (fault : ReadFault) → Fails fault (parts_after [] (frames_of col (Some (get_or types col d)) (get_or columns col e))) → Fails fault total
+  pub columns_fault : (fault : ReadFault)
+      → Fails fault (parts_after [] (frames_of col (Some (get_or types col d)) (get_or columns col e))) → Fails fault total
   columns_fault fault failed = by fault failed
     where
-      failed_by : (f : ReadFault) → parts_after [] (frames_of col (Some (get_or types col d)) (get_or columns col e)) ≡ Err f → total ≡ Err f
-      failed_by f h = sym step ∙ ap (λ r. columns_after front (r >>= λ ps. cons_to ps (all_parts (suc col) (drop (col + 1) types) (drop (col + 1) columns)))) h
+      failed_by : (f : ReadFault) → parts_after [] (frames_of col (Some (get_or types col d)) (get_or columns col e)) ≡ Err f
+          → total ≡ Err f
+      failed_by f h =
+          sym step
+          ∙ ap (λ r. columns_after front
+          (r >>= λ ps. cons_to ps (all_parts (suc col) (drop (col + 1) types) (drop (col + 1) columns)))) h
 
       by : (f : ReadFault) → Fails f (parts_after [] (frames_of col (Some (get_or types col d)) (get_or columns col e))) → Fails f total
       by NoMemory h = tt
@@ -53,7 +68,9 @@ module _ (types : List ColumnType) (columns : List (List ℕ)) (col : ℕ) (d : 
       by (NotAscending row) h = failed_by (NotAscending row) h
 
 -- no column is left
-pub columns_end : (types : List ColumnType) (columns : List (List ℕ)) (col : ℕ) (front : List (List Part)) (total : Result (List (List Part)) ReadFault) → length types ≤ col → columns_after front (all_parts col (drop col types) (drop col columns)) ≡ total → total ≡ Ok front
+pub columns_end : (types : List ColumnType) (columns : List (List ℕ)) (col : ℕ) (front : List (List Part))
+    (total : Result (List (List Part)) ReadFault)
+    → length types ≤ col → columns_after front (all_parts col (drop col types) (drop col columns)) ≡ total → total ≡ Ok front
 columns_end types columns col front total le so_far = by (drop col types) (drop_none types col le) so_far
   where
     drop_none : (xs : List ColumnType) (n : ℕ) → length xs ≤ n → drop n xs ≡ []

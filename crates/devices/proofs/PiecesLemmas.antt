@@ -18,10 +18,13 @@ use Rattle.frames.specs.Column.{frame_bytes, column_bytes}
 use Rattle.devices.specs.Image.{AreBlocks, part_count, image_frame, first_frames, image_frames, piece_at, pieces_of, first_pieces}
 
 column_bytes_push : (frames : List Frame) (frame : Frame) → column_bytes (frames ++ frame ∷ []) ≡ column_bytes frames ++ frame_bytes frame
-column_bytes_push frames frame = flat_map-append frame_bytes frames (frame ∷ []) ∙ ap (λ x. column_bytes frames ++ x) (append-nil (frame_bytes frame))
+column_bytes_push frames frame =
+    flat_map-append frame_bytes frames (frame ∷ []) ∙ ap (λ x. column_bytes frames ++ x) (append-nil (frame_bytes frame))
 
 module _ (generation : ℕ) (ty : ColumnType) (values : List Value) (n k : ℕ) where
-  frames_more : first_frames generation ty values n (k + 1) ≡ first_frames generation ty values n k ++ image_frame generation ty values n k ∷ []
+  frames_more :
+      first_frames generation ty values n (k + 1)
+      ≡ first_frames generation ty values n k ++ image_frame generation ty values n k ∷ []
   frames_more = map-range_with_len_more (image_frame generation ty values n) 0 k k (omega arith)
 
   -- one block more
@@ -36,12 +39,17 @@ module _ (generation : ℕ) (ty : ColumnType) (values : List Value) (n k : ℕ) 
 
 -- no value
 pub image_none : (generation : ℕ) (c : Column) → length c.values ≡ 0
-    → column_bytes (image_frames generation c) ≡ frame_bytes (Block (record { format = Second; generation = generation; number = 0; last = true; block = record { ty = c.ty; values = [] } }))
+    → column_bytes (image_frames generation c) ≡ frame_bytes (Block (record
+    { format = Second; generation = generation; number = 0; last = true; block = record { ty = c.ty; values = [] } }))
 image_none generation c h = by c.ty c.values h
   where
     by : (ty : ColumnType) (values : List Value) → length values ≡ 0
-        → column_bytes (image_frames generation (record { ty = ty; values = values })) ≡ frame_bytes (Block (record { format = Second; generation = generation; number = 0; last = true; block = record { ty = ty; values = [] } }))
-    by ty [] h = append-nil (frame_bytes (Block (record { format = Second; generation = generation; number = 0; last = true; block = record { ty = ty; values = [] } })))
+        → column_bytes (image_frames generation (record { ty = ty; values = values }))
+        ≡ frame_bytes (Block (record
+        { format = Second; generation = generation; number = 0; last = true; block = record { ty = ty; values = [] } }))
+    by ty [] h =
+        append-nil (frame_bytes (Block (record
+        { format = Second; generation = generation; number = 0; last = true; block = record { ty = ty; values = [] } })))
     by ty (v ∷ values) h = absurd (omega (arith, h))
 
 -- so many blocks, rounded up
@@ -65,7 +73,8 @@ length-pieces_of generation table = length-map-range_with_len (piece_at generati
 -- no value stands in one block
 pub AreBlocks-none : (c : Column) → length c.values ≡ 0 → AreBlocks c
 AreBlocks-none c nothing k lt =
-    let least : length (take 1024 (drop (1024 * k) c.values)) ≡ 0 = omega (arith, length-take 1024 (drop (1024 * k) c.values), length-drop (1024 * k) c.values, nothing) in
+    let least : length (take 1024 (drop (1024 * k) c.values)) ≡ 0 =
+    omega (arith, length-take 1024 (drop (1024 * k) c.values), length-drop (1024 * k) c.values, nothing) in
     record { few = omega (arith, least); fit = fits (take 1024 (drop (1024 * k) c.values)) least }
   where
     fits : (values : List Value) → length values ≡ 0 → AllFit c.ty values
@@ -87,5 +96,6 @@ pub columns_more : (table : Stable) (k : ℕ) (c : Column) → ((col : ℕ) → 
 columns_more table k c so_far here is col lt =
     elim (cases_lt col k) [
       | inl before ↦ so_far col before
-      | inr last ↦ subst (λ n. AreBlocks (column_at table.schema.types table.rows n)) (let same : k ≡ col = omega (arith, lt, last) in same) (subst AreBlocks is here)
+      | inr last ↦ subst (λ n. AreBlocks (column_at table.schema.types table.rows n))
+          (let same : k ≡ col = omega (arith, lt, last) in same) (subst AreBlocks is here)
     ]

@@ -85,7 +85,9 @@ module _ (g : ℕ) (c : Column) (held : IsHeld g c) (old : List ℕ) (ready : Is
       full : is_whole g (parts_of (frames k)) ≡ true → values_in g (parts_of (frames k)) ≡ c.values
       full whole =
           elim (cases_lt k count) [
-            | inl part ↦ absurd (let lacks : is_whole g (parts_of (frames k)) ≡ false = is_whole-frames g c.ty c.values count 0 k (omega (arith, part)) in cc)
+            | inl part ↦ absurd (let lacks : is_whole g (parts_of (frames k)) ≡ false =
+                is_whole-frames g c.ty c.values count 0 k (omega (arith, part)) in
+                cc)
             | inr all ↦
                 ap (λ n. values_in g (parts_of (frames n))) (let n : k ≡ count = omega (arith, le, all) in n)
                 ∙ values_in-all g c.ty c.values count (is_cut (length c.values)) held.blocks held.small few
@@ -95,7 +97,8 @@ module _ (g : ℕ) (c : Column) (held : IsHeld g c) (old : List ℕ) (ready : Is
   pub grows_front : (n : ℕ) → Grows g c old (old ++ take n (column_bytes (image_frames g c)))
   grows_front n =
       let front = cut_frames g c.ty c.values count 0 count n seam stand in
-      (grows_by front.k front.rest (old ++ take n (column_bytes (image_frames g c))) front.within front.lawful front.torn (ap (λ bytes. old ++ bytes) front.spelt)).0
+      (grows_by front.k front.rest (old ++ take n (column_bytes (image_frames g c))) front.within front.lawful front.torn
+      (ap (λ bytes. old ++ bytes) front.spelt)).0
 
   -- with nothing
   pub grows_none : Grows g c old old
@@ -105,7 +108,9 @@ module _ (g : ℕ) (c : Column) (held : IsHeld g c) (old : List ℕ) (ready : Is
   pub grows_whole : (grows : Grows g c old (old ++ column_bytes (image_frames g c))) × (is_whole g grows.column.more ≡ true)
   grows_whole =
       let cut = is_cut (length c.values) in
-      let by = grows_by count [] (old ++ column_bytes (image_frames g c)) (omega arith) stand refl (ap (λ bytes. old ++ bytes) (sym (append-nil (column_bytes (image_frames g c))))) in
+      let by =
+      grows_by count [] (old ++ column_bytes (image_frames g c)) (omega arith) stand refl
+      (ap (λ bytes. old ++ bytes) (sym (append-nil (column_bytes (image_frames g c))))) in
       (by.0, ap (is_whole g) by.1 ∙ is_whole-all g c.ty c.values count 0 count cut.some (omega arith))
 
   -- and the next image may follow
@@ -118,9 +123,14 @@ module _ (g : ℕ) (c : Column) (held : IsHeld g c) (old : List ℕ) (ready : Is
           frames = before ++ more;
           column = subst (λ bytes. IsColumn (old ++ bytes) (before ++ more) []) (append-nil (column_bytes more)) column;
           typed = AreWanted-append (Some c.ty) before more ready.whole.typed (frames_wanted g c.ty c.values count (Some c.ty) 0 count);
-          below = subst (AreBelow (g + 1)) (sym (parts_of-append before more)) (below_more g (parts_of before) (parts_of more) ready.whole.below (frames_newer g c.ty c.values count 0 count));
+          below =
+              subst (AreBelow (g + 1)) (sym (parts_of-append before more))
+              (below_more g (parts_of before) (parts_of more) ready.whole.below (frames_newer g c.ty c.values count 0 count));
         };
-        kind = ap (λ (s : Seam). s.kind) (seam_after_all-append start before more) ∙ kind_after g c.ty c.values count 0 count seam ∙ ready.kind;
+        kind =
+            ap (λ (s : Seam). s.kind) (seam_after_all-append start before more)
+            ∙ kind_after g c.ty c.values count 0 count seam
+            ∙ ready.kind;
       }
 
 -- ---- no bytes
@@ -134,5 +144,7 @@ pub all_whole_empty : (next : ℕ) (types : List ColumnType) (contents : List (L
 all_whole_empty next [] [] even none = tt
 all_whole_empty next [] (bytes ∷ contents) even none = absurd (omega (arith, even))
 all_whole_empty next (ty ∷ types) [] even none = absurd (omega (arith, even))
-all_whole_empty next (ty ∷ types) (bytes ∷ contents) even none =
-    (subst (IsWholeColumn next ty) (sym (none 0 (omega arith))) (whole_empty next ty), all_whole_empty next types contents (omega (arith, even)) (λ i lt. none (suc i) (omega (arith, lt))))
+all_whole_empty next (ty ∷ types) (bytes ∷ contents) even none = (
+  subst (IsWholeColumn next ty) (sym (none 0 (omega arith))) (whole_empty next ty),
+  all_whole_empty next types contents (omega (arith, even)) (λ i lt. none (suc i) (omega (arith, lt))),
+)

@@ -80,7 +80,8 @@ module _ {D V : Type 0} (contents : D → List ℕ) (failures : D → ℕ) (item
       → map contents (set devices i new) ≡ appended old (take (i + 1) (map items pieces))
   put_piece devices pieces old i d new v lt even le so_far took =
       let piece : items (get_or pieces i v) ≡ get_or (map items pieces) i [] = sym (get_or-map items pieces i v [] le) in
-      let more : take (i + 1) (map items pieces) ≡ take i (map items pieces) ++ get_or (map items pieces) i [] ∷ [] = take_more (map items pieces) i [] (omega (arith, length-map pieces items)) in
+      let more : take (i + 1) (map items pieces) ≡ take i (map items pieces) ++ get_or (map items pieces) i [] ∷ [] =
+      take_more (map items pieces) i [] (omega (arith, length-map pieces items)) in
       put_device devices pieces old i d new (items (get_or pieces i v)) lt even (omega arith) so_far took
       ∙ ap (λ x. appended old (take i (map items pieces) ++ x ∷ [])) piece ∙ ap (appended old) (sym more)
 
@@ -90,7 +91,9 @@ pub within_contents : {D : Type 0} (contents : D → List ℕ) (devices : List D
 within_contents contents devices i lt = omega (arith, lt, length-map devices contents)
 
 -- where the devices stopped, by the pieces that they were handed
-pub StopsAt-handed : {D V : Type 0} (contents : D → List ℕ) (items : V → List ℕ) (i : ℕ) (given before after left : List D) (held : List V) (pieces : List (List ℕ))
+pub StopsAt-handed :
+    {D V : Type 0} (contents : D → List ℕ) (items : V → List ℕ) (i : ℕ) (given before after left : List D) (held : List V)
+    (pieces : List (List ℕ))
     → StopsAt i (map contents before) (map items held) (map contents after) → before ≡ given → map items held ≡ pieces → left ≡ after
     → StopsAt i (map contents given) pieces (map contents left)
 StopsAt-handed contents items i given before after left held pieces stops is have are = (

@@ -32,7 +32,9 @@ abbrev IsWanted : Option ColumnType → Frame → Type 0
 IsWanted wanted frame = AreWanted wanted (frame ∷ [])
 
 -- a header by its two bytes
-header_of_wanted : (col at : ℕ) (wanted : Option ColumnType) (version : Option Format) (named : Option ColumnType) (after rest : List ℕ) (frame : Frame)
+header_of_wanted :
+    (col at : ℕ) (wanted : Option ColumnType) (version : Option Format) (named : Option ColumnType) (after rest : List ℕ)
+    (frame : Frame)
     → header_of col at wanted version named after ≡ found frame rest → IsWanted wanted frame
 header_of_wanted col at wanted None named after rest frame e = absurd cc
 header_of_wanted col at wanted (Some format) None after rest frame e = absurd cc
@@ -50,13 +52,17 @@ unfolding header_at
 header_wanted col at wanted bytes rest frame e =
     elim (cases_Bool (ltb (length bytes) 3)) [
       | inl short ↦ absurd (let f : found frame rest ≡ Ok None = sym (rw short at e) in cc)
-      | inr long ↦ header_of_wanted col at wanted (format_of (get_or bytes 1 0)) (type_of (get_or bytes 2 0)) (drop 3 bytes) rest frame (rw long at e)
+      | inr long ↦ header_of_wanted col at wanted (format_of (get_or bytes 1 0)) (type_of (get_or bytes 2 0)) (drop 3 bytes) rest
+          frame (rw long at e)
     ]
 
 -- a block by its values
-part_of_wanted : (col at : ℕ) (wanted : Option ColumnType) (h : Head) (kind : Kind) (after rest : List ℕ) (reading : Result (List Value) BlockFault) (frame : Frame)
+part_of_wanted :
+    (col at : ℕ) (wanted : Option ColumnType) (h : Head) (kind : Kind) (after rest : List ℕ)
+    (reading : Result (List Value) BlockFault) (frame : Frame)
     → part_of col at h kind after reading ≡ found frame rest → IsWanted wanted frame
-part_of_wanted col at wanted h kind after rest (Ok values) frame e = subst (IsWanted wanted) (frame_is (Block (part_with h kind values)) frame after rest e) tt
+part_of_wanted col at wanted h kind after rest (Ok values) frame e =
+    subst (IsWanted wanted) (frame_is (Block (part_with h kind values)) frame after rest e) tt
 part_of_wanted col at wanted h kind after rest (Err fault) frame e = absurd cc
 
 -- a block at the front

@@ -45,7 +45,8 @@ sorted ty before [] next i j d le lt = absurd (omega (arith, lt))
 sorted ty before (part ∷ parts) next zero zero d le lt = omega arith
 sorted ty before (part ∷ parts) next zero (suc j) d le lt = (later_at ty part parts j d next.2 (omega (arith, lt))).least
 sorted ty before (part ∷ parts) next (suc i) zero d le lt = absurd (omega (arith, le))
-sorted ty before (part ∷ parts) next (suc i) (suc j) d le lt = sorted ty (Some part) parts next.2 i j d (omega (arith, le)) (omega (arith, lt))
+sorted ty before (part ∷ parts) next (suc i) (suc j) d le lt =
+    sorted ty (Some part) parts next.2 i j d (omega (arith, le)) (omega (arith, lt))
 
 -- whatever the type
 pub generations_sorted : (parts : List Part) → IsInTurn parts → IsNonDecreasingBy (λ p. p.generation) parts
@@ -106,7 +107,8 @@ is_whole-at g parts n d turn lt up above = whole_at turn.0 g None parts n d turn
 
 -- ---- by halving
 
-module _ (g : ℕ) (parts : List Part) (end : ℕ) (turn : IsInTurn parts) (bound : end ≤ length parts) (cut : IsPartitionPoint (λ p. leb p.generation g ≡ true) (λ p. leb p.generation g ≡ false) parts end) where
+module _ (g : ℕ) (parts : List Part) (end : ℕ) (turn : IsInTurn parts) (bound : end ≤ length parts)
+    (cut : IsPartitionPoint (λ p. leb p.generation g ≡ true) (λ p. leb p.generation g ≡ false) parts end) where
   -- blocks past the cut are of later generations
   past : (n : ℕ) (d : Part) → end ≤ n → n < length parts → g < (get_or parts n d).generation
   past n d le lt = leb-false _ _ (cut.1 n d le lt)

@@ -59,6 +59,8 @@ unfolding frames_at frame_at header_at part_at ints_at
 block_cut_2 = refl
 
 -- a store of format 1, and one of format 2 over it
-both_formats : stored_image one_int ((ONE_ROW_COLUMN ++ INT_HEADER_2 ++ TEN_BLOCK_2 2 ++ 0x45 ∷ []) ∷ []) ≡ Ok (record { generation = 2; table = row_ten.table })
+both_formats :
+    stored_image one_int ((ONE_ROW_COLUMN ++ INT_HEADER_2 ++ TEN_BLOCK_2 2 ++ 0x45 ∷ []) ∷ [])
+    ≡ Ok (record { generation = 2; table = row_ten.table })
 unfolding frames_at frame_at header_at part_at ints_at
 both_formats = refl

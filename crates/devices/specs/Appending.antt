@@ -17,7 +17,8 @@ pub record Taken : Type 0 where
 
 -- what a store's devices have taken, by what each has taken and how often it has failed
 abbrev pub taken_by : {A : Type 0} → (A → List ℕ) → (A → ℕ) → List A → ℕ → Taken
-taken_by contents failures devices next = record { contents = map contents devices; failed = have_failed (map failures devices); next = next }
+taken_by contents failures devices next =
+    record { contents = map contents devices; failed = have_failed (map failures devices); next = next }
 
 -- none of the devices has failed, and a generation is left
 pub record MayTake (store : Taken) : Type 0 where
@@ -50,7 +51,8 @@ MayFollow schema store = store.failed ≡ false → AreReady store.next schema.t
 -- the columns store the table under its generation; where a device failed what they stored before, or that; else what they stored before
 abbrev pub Stores : Columns → Stable → Taken → Result ℕ StoreFault → Taken → Type 0
 Stores schema table old (Ok generation) new = stored_image schema new.contents ≡ Ok (record { generation = generation; table = table })
-Stores schema table old (Err (DeviceFailed i)) new = StaysOrIs schema old.contents (record { generation = old.next; table = table }) new.contents
+Stores schema table old (Err (DeviceFailed i)) new =
+    StaysOrIs schema old.contents (record { generation = old.next; table = table }) new.contents
 Stores schema table old (Err WrongCount) new = stored_image schema new.contents ≡ stored_image schema old.contents
 Stores schema table old (Err StoreFailed) new = stored_image schema new.contents ≡ stored_image schema old.contents
 Stores schema table old (Err GenerationsSpent) new = stored_image schema new.contents ≡ stored_image schema old.contents

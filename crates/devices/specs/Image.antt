@@ -26,7 +26,8 @@ AllBlocks table = (col : ℕ) → col < length table.schema.types → AreBlocks 
 
 -- the block number k of so many, under its generation
 abbrev pub image_frame : ℕ → ColumnType → List Value → ℕ → ℕ → Frame
-image_frame generation ty values count k = Block (record { format = Second; generation = generation; number = k; last = k + 1 == count; block = block_at ty values k })
+image_frame generation ty values count k =
+    Block (record { format = Second; generation = generation; number = k; last = k + 1 == count; block = block_at ty values k })
 
 -- the first blocks
 abbrev pub first_frames : ℕ → ColumnType → List Value → ℕ → ℕ → List Frame

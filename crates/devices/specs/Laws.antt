@@ -18,4 +18,5 @@ IsGreatest Is (Some g) = Is g × ((other : ℕ) → Is other → other ≤ g)
 -- of columns that can be read, the newest generation is the greatest that is whole in each of them
 abbrev pub NewestIsTheGreatest : Type 0
 NewestIsTheGreatest = (types : List ColumnType) (columns : List (List ℕ)) (parts : List (List Part))
-    → 0 < length columns → length columns ≡ length types → AllByRecursion AreBytes columns → all_parts 0 types columns ≡ Ok parts → IsGreatest (IsWholeInAll parts) (newest_whole parts)
+    → 0 < length columns → length columns ≡ length types → AllByRecursion AreBytes columns → all_parts 0 types columns ≡ Ok parts
+    → IsGreatest (IsWholeInAll parts) (newest_whole parts)

@@ -38,4 +38,5 @@ AreReady next types contents = AllZip (IsReadyColumn next) types contents
 -- whatever the columns beside, with the new bytes for whole frames they store the image that they stored
 abbrev pub StoresAs : List ℕ → List ℕ → Type 0
 StoresAs old new = (schema : Columns) (next : ℕ) (front back : List (List ℕ))
-    → IsWholeColumn next (get_or schema.types (length front) column.Int) old → stored_image schema (front ++ new ∷ back) ≡ stored_image schema (front ++ old ∷ back)
+    → IsWholeColumn next (get_or schema.types (length front) column.Int) old
+    → stored_image schema (front ++ new ∷ back) ≡ stored_image schema (front ++ old ∷ back)

@@ -63,12 +63,15 @@ fault_of (build.Shape row fault) = NotAscending row
 fault_of build.NoMemory = NoMemory
 
 abbrev pub image_unless : Columns → ℕ → List Column → Option BuildFault → Result Image ReadFault
-image_unless schema g columns None = Ok (record { generation = g; table = record { schema = schema; rows = rows_of (row_count columns) columns } })
+image_unless schema g columns None =
+    Ok (record { generation = g; table = record { schema = schema; rows = rows_of (row_count columns) columns } })
 image_unless schema g columns (Some fault) = Err (fault_of fault)
 
 -- the image of a generation's columns
 abbrev pub image_of : Columns → ℕ → List Column → Result Image ReadFault
-image_of schema g columns = cond (are_even columns) (image_unless schema g columns (build_fault schema (rows_of (row_count columns) columns))) (Err CountsDiffer)
+image_of schema g columns =
+    cond (are_even columns) (image_unless schema g columns (build_fault schema (rows_of (row_count columns) columns)))
+    (Err CountsDiffer)
 
 abbrev pub image_at : Columns → List (List Part) → Option ℕ → Result Image ReadFault
 image_at schema columns None = Err NoImage
@@ -85,7 +88,9 @@ all_parts col (ty ∷ types) (bytes ∷ columns) =
 
 -- the image that columns store under a schema, or their first fault
 abbrev pub stored_image : Columns → List (List ℕ) → Result Image ReadFault
-stored_image schema columns = cond (length columns == length schema.types) (all_parts 0 schema.types columns >>= λ parts. image_at schema parts (newest_whole parts)) (Err WrongCount)
+stored_image schema columns =
+    cond (length columns == length schema.types)
+    (all_parts 0 schema.types columns >>= λ parts. image_at schema parts (newest_whole parts)) (Err WrongCount)
 
 -- what the columns store is what they stored before, or this image
 abbrev pub StaysOrIs : Columns → List (List ℕ) → Image → List (List ℕ) → Type 0

@@ -39,7 +39,9 @@ spelling_short column.Bool (Text t) fit = absurd fit
 
 spellings_short : (ty : ColumnType) (values : List Value) → AllFit ty values → length (flat_map spelling values) ≤ 4098 * length values
 spellings_short ty [] fit = omega arith
-spellings_short ty (v ∷ values) fit = omega (arith, spelling_short ty v fit.0, spellings_short ty values fit.1, length-append (spelling v) (flat_map spelling values))
+spellings_short ty (v ∷ values) fit =
+    omega
+    (arith, spelling_short ty v fit.0, spellings_short ty values fit.1, length-append (spelling v) (flat_map spelling values))
 
 payload_small : (c : Column) → IsBlock c → length (payload_of c.ty c.values) ≤ 4196352
 payload_small c is = by c.ty c.values is.few is.fit
@@ -63,14 +65,20 @@ in_short Second c is = by (is_constant c.values) refl
     few_first (v ∷ values) = omega arith
 
     by : (constant : Bool) → is_constant c.values ≡ constant → length (encoded_of c.ty c.values) < 4294967296
-    by true e = rw e (omega (arith, payload_small (record { ty = c.ty; values = take 1 c.values }) (record { few = few_first c.values; fit = first_fit c.values is.fit })))
+    by true e =
+        rw e (omega (
+          arith,
+          payload_small (record { ty = c.ty; values = take 1 c.values })
+              (record { few = few_first c.values; fit = first_fit c.values is.fit }),
+        ))
     by false e = rw e (omega (arith, payload_small c is))
 
 pub part_short : (part : Part) → IsBlock part.block → length (part_payload part) < 4294967296
 part_short part is = in_short part.format part.block is
 
 -- what is stored is read
-stored_again : (format : Format) (ty : ColumnType) (values : List Value) → AllFit ty values → reading_in format ty (length values) (payload_in format ty values) ≡ Ok values
+stored_again : (format : Format) (ty : ColumnType) (values : List Value) → AllFit ty values
+    → reading_in format ty (length values) (payload_in format ty values) ≡ Ok values
 stored_again First ty values fit = reads_back ty values fit
 stored_again Second ty values fit = encoding_reads_back ty values fit
 
@@ -83,7 +91,8 @@ flag_again false = refl
 kind_again : (seam : Option Kind) (kind : Kind) → seam ≡ Some kind → kind ≡ unwrap_or seam no_kind
 kind_again seam kind e = sym (ap (λ o. unwrap_or o no_kind) e)
 
-payload_again : (col at : ℕ) (part : Part) (rest : List ℕ) → IsBlock part.block → payload_at col at (head_of part) (part_kind part) (part_payload part ++ rest) ≡ Ok (Some (Block part, rest))
+payload_again : (col at : ℕ) (part : Part) (rest : List ℕ) → IsBlock part.block
+    → payload_at col at (head_of part) (part_kind part) (part_payload part ++ rest) ≡ Ok (Some (Block part, rest))
 payload_again col at part rest is =
     let ty = part.block.ty in
     let values = part.block.values in
@@ -96,10 +105,17 @@ payload_again col at part rest is =
     let read : reading_in part.format ty (length values) (take (length payload) (payload ++ rest)) ≡ Ok values =
     ap (reading_in part.format ty (length values)) front ∙ stored_again part.format ty values is.fit in
     let last : part_of col at h kind rest (Ok values) ≡ Ok (Some (Block part, rest)) =
-    ap (λ b. Ok (Some (Block (record { format = part.format; generation = part.generation; number = part.number; last = b; block = part.block }), rest))) (flag_again part.last) in
-    rw enough (ap (λ r. part_of col at h kind (drop (length payload) (payload ++ rest)) r) read ∙ ap (λ x. part_of col at h kind x (Ok values)) back ∙ last)
+    ap (λ b. Ok (Some (
+      Block (record
+          { format = part.format; generation = part.generation; number = part.number; last = b; block = part.block }),
+      rest,
+    ))) (flag_again part.last) in
+    rw enough (ap (λ r. part_of col at h kind (drop (length payload) (payload ++ rest)) r) read
+    ∙ ap (λ x. part_of col at h kind x (Ok values)) back
+    ∙ last)
 
-part_again : (col at : ℕ) (seam : Seam) (part : Part) (rest : List ℕ) → IsPartAt seam part → part_at col at seam (head_bytes (head_of part) ++ (part_payload part ++ rest)) ≡ Ok (Some (Block part, rest))
+part_again : (col at : ℕ) (seam : Seam) (part : Part) (rest : List ℕ) → IsPartAt seam part
+    → part_at col at seam (head_bytes (head_of part) ++ (part_payload part ++ rest)) ≡ Ok (Some (Block part, rest))
 part_again col at seam part rest is =
     let body = part_payload part ++ rest in
     let h = head_of part in
@@ -109,20 +125,24 @@ part_again col at seam part rest is =
       count = omega (arith, is.block.few);
       size = part_short part is.block;
     }) in
-    sym (part_at-stands col at seam (head_bytes h ++ body) h (part_kind part) (omega arith) (sym again) is.stands (kind_again seam.kind (part_kind part) is.typed))
+    sym (part_at-stands col at seam (head_bytes h ++ body) h (part_kind part) (omega arith) (sym again) is.stands
+    (kind_again seam.kind (part_kind part) is.typed))
     ∙ payload_again col at part rest is.block
 
 -- ---- a frame
 
-pub frame_again : (col at : ℕ) (wanted : Option ColumnType) (seam : Seam) (frame : Frame) (rest : List ℕ) → IsFrameAt seam frame → AreWanted wanted (frame ∷ []) → frame_at col at wanted seam (frame_bytes frame ++ rest) ≡ Ok (Some (frame, rest))
+pub frame_again : (col at : ℕ) (wanted : Option ColumnType) (seam : Seam) (frame : Frame) (rest : List ℕ) → IsFrameAt seam frame
+    → AreWanted wanted (frame ∷ []) → frame_at col at wanted seam (frame_bytes frame ++ rest) ≡ Ok (Some (frame, rest))
 unfolding frame_at
 frame_again col at wanted seam (Header kind) rest is w = header_again col at wanted kind rest w.0
 frame_again col at wanted seam (Block part) rest is w =
-    ap (frame_at col at wanted seam) (append_assoc (head_bytes (head_of part)) (part_payload part) rest) ∙ part_again col at seam part rest is
+    ap (frame_at col at wanted seam) (append_assoc (head_bytes (head_of part)) (part_payload part) rest)
+    ∙ part_again col at seam part rest is
 frame_again col at wanted seam End rest is w = refl
 
 -- a rest is read as the end
-pub rest_again : (col at : ℕ) (wanted : Option ColumnType) (seam : Seam) (rest : List ℕ) → 0 < length rest → is_rest seam rest ≡ true → frame_at col at wanted seam rest ≡ Ok None
+pub rest_again : (col at : ℕ) (wanted : Option ColumnType) (seam : Seam) (rest : List ℕ) → 0 < length rest
+    → is_rest seam rest ≡ true → frame_at col at wanted seam rest ≡ Ok None
 unfolding frame_at header_at part_at
 rest_again col at wanted seam [] some h = absurd (omega arith)
 rest_again col at wanted seam (first ∷ bytes) some h =
@@ -144,15 +164,23 @@ rest_again col at wanted seam (first ∷ bytes) some h =
         elim (cases_Bool (ltb (length (first ∷ bytes)) 16)) [
           | inl short ↦ rw short refl
           | inr long ↦
-              let more : (may_stand seam (head_at (first ∷ bytes)) && ltb (length (drop 16 (first ∷ bytes))) (head_at (first ∷ bytes)).size) ≡ true = rw long at cut in
-              let both = and_parts (may_stand seam (head_at (first ∷ bytes))) (ltb (length (drop 16 (first ∷ bytes))) (head_at (first ∷ bytes)).size) more in
+              let more :
+              (may_stand seam (head_at (first ∷ bytes))
+              && ltb (length (drop 16 (first ∷ bytes))) (head_at (first ∷ bytes)).size)
+              ≡ true =
+              rw long at cut in
+              let both =
+              and_parts (may_stand seam (head_at (first ∷ bytes)))
+              (ltb (length (drop 16 (first ∷ bytes))) (head_at (first ∷ bytes)).size) more in
               rw (long, both.0, both.1) refl
         ]
 
 -- ---- a column
 
 pub frames_step : (most col : ℕ) (wanted : Option ColumnType) (size : ℕ) (seam : Seam) (bytes : List ℕ) → 0 < length bytes
-    → frames_at (suc most) col wanted size seam bytes ≡ (frame_at col (size - length bytes) wanted seam bytes >>= λ found. found_then found (λ frame rest. frames_at most col wanted size (seam_after seam frame) rest))
+    → frames_at (suc most) col wanted size seam bytes
+    ≡ (frame_at col (size - length bytes) wanted seam bytes >>= λ found. found_then found
+    (λ frame rest. frames_at most col wanted size (seam_after seam frame) rest))
 unfolding frames_at
 frames_step most col wanted size seam [] some = absurd (omega arith)
 frames_step most col wanted size seam (byte ∷ bytes) some = refl
@@ -162,19 +190,29 @@ frame_long (Header kind) = omega arith
 frame_long (Block part) = omega arith
 frame_long End = omega arith
 
-wanted_first : (wanted : Option ColumnType) (frame : Frame) (frames : List Frame) → AreWanted wanted (frame ∷ frames) → AreWanted wanted (frame ∷ []) × AreWanted wanted frames
+wanted_first : (wanted : Option ColumnType) (frame : Frame) (frames : List Frame) → AreWanted wanted (frame ∷ frames)
+    → AreWanted wanted (frame ∷ []) × AreWanted wanted frames
 wanted_first wanted (Header kind) frames w = ((w.0, tt), w.1)
 wanted_first wanted (Block part) frames w = (tt, w)
 wanted_first wanted End frames w = (tt, w)
 
-pub frames_again : (most col : ℕ) (wanted : Option ColumnType) (size : ℕ) (seam : Seam) (frames : List Frame) (rest : List ℕ) → AreFramesAt seam frames → AreWanted wanted frames → is_rest (seam_after_all seam frames) rest ≡ true → length (column_bytes frames ++ rest) ≤ most
+pub frames_again : (most col : ℕ) (wanted : Option ColumnType) (size : ℕ) (seam : Seam) (frames : List Frame) (rest : List ℕ)
+    → AreFramesAt seam frames → AreWanted wanted frames → is_rest (seam_after_all seam frames) rest ≡ true
+    → length (column_bytes frames ++ rest) ≤ most
     → frames_at most col wanted size seam (column_bytes frames ++ rest) ≡ Ok frames
 unfolding frames_at
 frames_again zero col wanted size seam [] rest are w torn le = refl
 frames_again (suc most) col wanted size seam [] [] are w torn le = refl
 frames_again (suc most) col wanted size seam [] (byte ∷ rest) are w torn le =
-    ap (λ r. r >>= λ found. found_then found (λ frame left. frames_at most col wanted size (seam_after seam frame) left)) (rest_again col (size - length (byte ∷ rest)) wanted seam (byte ∷ rest) (omega arith) torn)
-frames_again zero col wanted size seam (frame ∷ frames) rest are w torn le = absurd (omega (arith, frame_long frame, length-append (frame_bytes frame ++ column_bytes frames) rest, length-append (frame_bytes frame) (column_bytes frames)))
+    ap (λ r. r >>= λ found. found_then found (λ frame left. frames_at most col wanted size (seam_after seam frame) left))
+    (rest_again col (size - length (byte ∷ rest)) wanted seam (byte ∷ rest) (omega arith) torn)
+frames_again zero col wanted size seam (frame ∷ frames) rest are w torn le =
+    absurd (omega (
+      arith,
+      frame_long frame,
+      length-append (frame_bytes frame ++ column_bytes frames) rest,
+      length-append (frame_bytes frame) (column_bytes frames),
+    ))
 frames_again (suc most) col wanted size seam (frame ∷ frames) rest are w torn le =
     let others = column_bytes frames ++ rest in
     let bytes = frame_bytes frame ++ others in
@@ -184,13 +222,19 @@ frames_again (suc most) col wanted size seam (frame ∷ frames) rest are w torn 
     let first = wanted_first wanted frame frames w in
     ap (frames_at (suc most) col wanted size seam) shape
     ∙ frames_step most col wanted size seam bytes some
-    ∙ ap (λ r. r >>= λ found. found_then found (λ f left. frames_at most col wanted size (seam_after seam f) left)) (frame_again col (size - length bytes) wanted seam frame others are.0 first.0)
-    ∙ ap (λ r. r >>= λ fs. Ok (frame ∷ fs)) (frames_again most col wanted size (seam_after seam frame) frames rest are.1 first.1 torn (omega (arith, ap length shape, counted, frame_long frame)))
+    ∙ ap (λ r. r >>= λ found. found_then found (λ f left. frames_at most col wanted size (seam_after seam f) left))
+    (frame_again col (size - length bytes) wanted seam frame others are.0 first.0)
+    ∙ ap (λ r. r >>= λ fs. Ok (frame ∷ fs))
+    (frames_again most col wanted size (seam_after seam frame) frames rest are.1 first.1 torn
+    (omega (arith, ap length shape, counted, frame_long frame)))
 
 -- the bytes of a column read as its frames
-pub column_again : (col : ℕ) (bytes : List ℕ) (frames : List Frame) (rest : List ℕ) (wanted : Option ColumnType) → IsColumn bytes frames rest → AreWanted wanted frames → frames_of col wanted bytes ≡ Ok frames
+pub column_again : (col : ℕ) (bytes : List ℕ) (frames : List Frame) (rest : List ℕ) (wanted : Option ColumnType)
+    → IsColumn bytes frames rest → AreWanted wanted frames → frames_of col wanted bytes ≡ Ok frames
 column_again col bytes frames rest wanted is w =
-    ap (frames_of col wanted) is.spelt ∙ frames_again (length (column_bytes frames ++ rest)) col wanted (length (column_bytes frames ++ rest)) start frames rest is.lawful w is.torn (omega arith)
+    ap (frames_of col wanted) is.spelt
+    ∙ frames_again (length (column_bytes frames ++ rest)) col wanted (length (column_bytes frames ++ rest)) start frames rest
+    is.lawful w is.torn (omega arith)
 
 any_wanted : (frames : List Frame) → AreWanted None frames
 any_wanted [] = tt
@@ -202,7 +246,10 @@ cut_front : (front xs ys : List ℕ) → front ++ xs ≡ front ++ ys → xs ≡ 
 cut_front front xs ys e = sym (drop_at front xs (length front) refl) ∙ ap (drop (length front)) e ∙ drop_at front ys (length front) refl
 
 -- bytes are a column in one way at most
-pub one_column : (bytes : List ℕ) (frames others : List Frame) (rest left : List ℕ) → IsColumn bytes frames rest → IsColumn bytes others left → (frames ≡ others) × (rest ≡ left)
+pub one_column : (bytes : List ℕ) (frames others : List Frame) (rest left : List ℕ) → IsColumn bytes frames rest
+    → IsColumn bytes others left → (frames ≡ others) × (rest ≡ left)
 one_column bytes frames others rest left a b =
-    let same : frames ≡ others = ok_is frames others (sym (column_again 0 bytes frames rest None a (any_wanted frames)) ∙ column_again 0 bytes others left None b (any_wanted others)) in
+    let same : frames ≡ others =
+    ok_is frames others (sym (column_again 0 bytes frames rest None a (any_wanted frames))
+    ∙ column_again 0 bytes others left None b (any_wanted others)) in
     (same, cut_front (column_bytes frames) rest left (sym a.spelt ∙ b.spelt ∙ ap (λ fs. column_bytes fs ++ left) (sym same)))

@@ -40,17 +40,20 @@ some_is : {A : Type 0} (x y : A) → done (Some x) ≡ done (Some y) → x ≡ y
 some_is x y e = cc
 
 -- a test that would have been refused
-pub refused_ok : {A : Type 0} (b : Bool) (fault : ReadFault) (x : Result A ReadFault) (y : A) → cond b (Err fault) x ≡ Ok y → (b ≡ false) × (x ≡ Ok y)
+pub refused_ok : {A : Type 0} (b : Bool) (fault : ReadFault) (x : Result A ReadFault) (y : A) → cond b (Err fault) x ≡ Ok y
+    → (b ≡ false) × (x ≡ Ok y)
 refused_ok true fault x y e = absurd cc
 refused_ok false fault x y e = (refl, e)
 
 -- a test that passed
-pub passed_ok : {A : Type 0} (b : Bool) (x : Result A ReadFault) (fault : ReadFault) (y : A) → cond b x (Err fault) ≡ Ok y → (b ≡ true) × (x ≡ Ok y)
+pub passed_ok : {A : Type 0} (b : Bool) (x : Result A ReadFault) (fault : ReadFault) (y : A) → cond b x (Err fault) ≡ Ok y
+    → (b ≡ true) × (x ≡ Ok y)
 passed_ok true x fault y e = (refl, e)
 passed_ok false x fault y e = absurd cc
 
 -- bytes that aren't cut short
-whole_ok : {A : Type 0} (b : Bool) (x : Result (Option A) ReadFault) (y : A) → cond b (Ok None) x ≡ Ok (Some y) → (b ≡ false) × (x ≡ Ok (Some y))
+whole_ok : {A : Type 0} (b : Bool) (x : Result (Option A) ReadFault) (y : A) → cond b (Ok None) x ≡ Ok (Some y)
+    → (b ≡ false) × (x ≡ Ok (Some y))
 whole_ok true x y e = absurd cc
 whole_ok false x y e = (refl, e)
 
@@ -110,7 +113,9 @@ record IsHeaderRead (version : Option Format) (named : Option ColumnType) (after
   frame_is : frame ≡ Header kind
   rest_is : after ≡ rest
 
-header_of_ok : (col at : ℕ) (wanted : Option ColumnType) (version : Option Format) (named : Option ColumnType) (after rest : List ℕ) (frame : Frame)
+header_of_ok :
+    (col at : ℕ) (wanted : Option ColumnType) (version : Option Format) (named : Option ColumnType) (after rest : List ℕ)
+    (frame : Frame)
     → header_of col at wanted version named after ≡ Ok (Some (frame, rest)) → IsHeaderRead version named after rest frame
 header_of_ok col at wanted None named after rest frame e = absurd cc
 header_of_ok col at wanted (Some format) None after rest frame e = absurd cc
@@ -133,7 +138,8 @@ pub record Takes (seam : Seam) (bytes rest : List ℕ) (frame : Frame) : Type 0 
   pub spelt : bytes ≡ frame_bytes frame ++ rest
   pub lawful : IsFrameAt seam frame
 
-pub header_takes : (col at : ℕ) (wanted : Option ColumnType) (seam : Seam) (bytes rest : List ℕ) (frame : Frame) → get_or bytes 0 0 ≡ 72 → header_at col at wanted bytes ≡ Ok (Some (frame, rest)) → Takes seam bytes rest frame
+pub header_takes : (col at : ℕ) (wanted : Option ColumnType) (seam : Seam) (bytes rest : List ℕ) (frame : Frame)
+    → get_or bytes 0 0 ≡ 72 → header_at col at wanted bytes ≡ Ok (Some (frame, rest)) → Takes seam bytes rest frame
 unfolding header_at
 header_takes col at wanted seam bytes rest frame h e =
     let version = format_of (get_or bytes 1 0) in
@@ -173,11 +179,16 @@ two_small a b p q (suc zero) = q
 two_small a b p q (suc (suc i)) = omega arith
 
 -- the word at a seam is spelt by its cells
-word_spelt : (bytes : List ℕ) (i : ℕ) → AreBytes bytes → to_be_bytes w32 (word_at bytes i) ≡ get_or bytes i 0 ∷ get_or bytes (i + 1) 0 ∷ get_or bytes (i + 2) 0 ∷ get_or bytes (i + 3) 0 ∷ []
-word_spelt bytes i small = be_bytes_4 (get_or bytes i 0 ∷ get_or bytes (i + 1) 0 ∷ get_or bytes (i + 2) 0 ∷ get_or bytes (i + 3) 0 ∷ []) (word_at bytes i) refl (four_small _ _ _ _ (small i) (small (i + 1)) (small (i + 2)) (small (i + 3))) refl
+word_spelt : (bytes : List ℕ) (i : ℕ) → AreBytes bytes → to_be_bytes w32 (word_at bytes i)
+    ≡ get_or bytes i 0 ∷ get_or bytes (i + 1) 0 ∷ get_or bytes (i + 2) 0 ∷ get_or bytes (i + 3) 0 ∷ []
+word_spelt bytes i small =
+    be_bytes_4 (get_or bytes i 0 ∷ get_or bytes (i + 1) 0 ∷ get_or bytes (i + 2) 0 ∷ get_or bytes (i + 3) 0 ∷ [])
+    (word_at bytes i) refl (four_small _ _ _ _ (small i) (small (i + 1)) (small (i + 2)) (small (i + 3))) refl
 
 half_spelt : (bytes : List ℕ) (i : ℕ) → AreBytes bytes → to_be_bytes w16 (half_at bytes i) ≡ get_or bytes i 0 ∷ get_or bytes (i + 1) 0 ∷ []
-half_spelt bytes i small = be_bytes_2 (get_or bytes i 0 ∷ get_or bytes (i + 1) 0 ∷ []) (half_at bytes i) refl (two_small _ _ (small i) (small (i + 1))) refl
+half_spelt bytes i small =
+    be_bytes_2 (get_or bytes i 0 ∷ get_or bytes (i + 1) 0 ∷ []) (half_at bytes i) refl (two_small _ _ (small i) (small (i + 1)))
+    refl
 
 pub word_small : (bytes : List ℕ) (i : ℕ) → AreBytes bytes → word_at bytes i < 4294967296
 word_small bytes i small = omega (arith, small i, small (i + 1), small (i + 2), small (i + 3))
@@ -186,7 +197,10 @@ word_small bytes i small = omega (arith, small i, small (i + 1), small (i + 2), 
 abbrev joined_head : List ℕ → List ℕ → ℕ → List ℕ → List ℕ → List ℕ
 joined_head a b flag c d = 66 ∷ (a ++ (b ++ flag ∷ (c ++ d)))
 
-sixteen_cells : (bytes : List ℕ) → 16 ≤ length bytes → bytes ≡ get_or bytes 0 0 ∷ get_or bytes 1 0 ∷ get_or bytes 2 0 ∷ get_or bytes 3 0 ∷ get_or bytes 4 0 ∷ get_or bytes 5 0 ∷ get_or bytes 6 0 ∷ get_or bytes 7 0 ∷ get_or bytes 8 0 ∷ get_or bytes 9 0 ∷ get_or bytes 10 0 ∷ get_or bytes 11 0 ∷ get_or bytes 12 0 ∷ get_or bytes 13 0 ∷ get_or bytes 14 0 ∷ get_or bytes 15 0 ∷ drop 16 bytes
+sixteen_cells : (bytes : List ℕ) → 16 ≤ length bytes
+    → bytes ≡ get_or bytes 0 0 ∷ get_or bytes 1 0 ∷ get_or bytes 2 0 ∷ get_or bytes 3 0 ∷ get_or bytes 4 0 ∷ get_or bytes 5 0
+    ∷ get_or bytes 6 0 ∷ get_or bytes 7 0 ∷ get_or bytes 8 0 ∷ get_or bytes 9 0 ∷ get_or bytes 10 0 ∷ get_or bytes 11 0
+    ∷ get_or bytes 12 0 ∷ get_or bytes 13 0 ∷ get_or bytes 14 0 ∷ get_or bytes 15 0 ∷ drop 16 bytes
 sixteen_cells [] h = absurd (omega arith)
 sixteen_cells (x0 ∷ []) h = absurd (omega arith)
 sixteen_cells (x0 ∷ x1 ∷ []) h = absurd (omega arith)
@@ -206,20 +220,36 @@ sixteen_cells (x0 ∷ x1 ∷ x2 ∷ x3 ∷ x4 ∷ x5 ∷ x6 ∷ x7 ∷ x8 ∷ x9
 sixteen_cells (x0 ∷ x1 ∷ x2 ∷ x3 ∷ x4 ∷ x5 ∷ x6 ∷ x7 ∷ x8 ∷ x9 ∷ x10 ∷ x11 ∷ x12 ∷ x13 ∷ x14 ∷ x15 ∷ bytes) h = refl
 
 -- sixteen bytes are the spelling of the numbers that they spell
-head_spelt : (bytes : List ℕ) → 16 ≤ length bytes → get_or bytes 0 0 ≡ 66 → AreBytes bytes → bytes ≡ head_bytes (head_at bytes) ++ drop 16 bytes
+head_spelt : (bytes : List ℕ) → 16 ≤ length bytes → get_or bytes 0 0 ≡ 66 → AreBytes bytes
+    → bytes ≡ head_bytes (head_at bytes) ++ drop 16 bytes
 head_spelt bytes long h small =
-    let a : to_be_bytes w32 (word_at bytes 1) ≡ get_or bytes 1 0 ∷ get_or bytes 2 0 ∷ get_or bytes 3 0 ∷ get_or bytes 4 0 ∷ [] = word_spelt bytes 1 small in
-    let b : to_be_bytes w32 (word_at bytes 5) ≡ get_or bytes 5 0 ∷ get_or bytes 6 0 ∷ get_or bytes 7 0 ∷ get_or bytes 8 0 ∷ [] = word_spelt bytes 5 small in
+    let a : to_be_bytes w32 (word_at bytes 1) ≡ get_or bytes 1 0 ∷ get_or bytes 2 0 ∷ get_or bytes 3 0 ∷ get_or bytes 4 0 ∷ [] =
+    word_spelt bytes 1 small in
+    let b : to_be_bytes w32 (word_at bytes 5) ≡ get_or bytes 5 0 ∷ get_or bytes 6 0 ∷ get_or bytes 7 0 ∷ get_or bytes 8 0 ∷ [] =
+    word_spelt bytes 5 small in
     let c : to_be_bytes w16 (half_at bytes 10) ≡ get_or bytes 10 0 ∷ get_or bytes 11 0 ∷ [] = half_spelt bytes 10 small in
-    let d : to_be_bytes w32 (word_at bytes 12) ≡ get_or bytes 12 0 ∷ get_or bytes 13 0 ∷ get_or bytes 14 0 ∷ get_or bytes 15 0 ∷ [] = word_spelt bytes 12 small in
+    let d :
+    to_be_bytes w32 (word_at bytes 12) ≡ get_or bytes 12 0 ∷ get_or bytes 13 0 ∷ get_or bytes 14 0 ∷ get_or bytes 15 0 ∷ [] =
+    word_spelt bytes 12 small in
     let flag = get_or bytes 9 0 in
     let rest = drop 16 bytes in
     sixteen_cells bytes long
-    ∙ ap (λ x. x ∷ get_or bytes 1 0 ∷ get_or bytes 2 0 ∷ get_or bytes 3 0 ∷ get_or bytes 4 0 ∷ get_or bytes 5 0 ∷ get_or bytes 6 0 ∷ get_or bytes 7 0 ∷ get_or bytes 8 0 ∷ get_or bytes 9 0 ∷ get_or bytes 10 0 ∷ get_or bytes 11 0 ∷ get_or bytes 12 0 ∷ get_or bytes 13 0 ∷ get_or bytes 14 0 ∷ get_or bytes 15 0 ∷ rest) h
-    ∙ ap (λ xs. joined_head xs (get_or bytes 5 0 ∷ get_or bytes 6 0 ∷ get_or bytes 7 0 ∷ get_or bytes 8 0 ∷ []) flag (get_or bytes 10 0 ∷ get_or bytes 11 0 ∷ []) (get_or bytes 12 0 ∷ get_or bytes 13 0 ∷ get_or bytes 14 0 ∷ get_or bytes 15 0 ∷ []) ++ rest) (sym a)
-    ∙ ap (λ xs. joined_head (to_be_bytes w32 (word_at bytes 1)) xs flag (get_or bytes 10 0 ∷ get_or bytes 11 0 ∷ []) (get_or bytes 12 0 ∷ get_or bytes 13 0 ∷ get_or bytes 14 0 ∷ get_or bytes 15 0 ∷ []) ++ rest) (sym b)
-    ∙ ap (λ xs. joined_head (to_be_bytes w32 (word_at bytes 1)) (to_be_bytes w32 (word_at bytes 5)) flag xs (get_or bytes 12 0 ∷ get_or bytes 13 0 ∷ get_or bytes 14 0 ∷ get_or bytes 15 0 ∷ []) ++ rest) (sym c)
-    ∙ ap (λ xs. joined_head (to_be_bytes w32 (word_at bytes 1)) (to_be_bytes w32 (word_at bytes 5)) flag (to_be_bytes w16 (half_at bytes 10)) xs ++ rest) (sym d)
+    ∙ ap (λ x. x ∷ get_or bytes 1 0 ∷ get_or bytes 2 0 ∷ get_or bytes 3 0 ∷ get_or bytes 4 0 ∷ get_or bytes 5 0 ∷ get_or bytes 6 0
+    ∷ get_or bytes 7 0 ∷ get_or bytes 8 0 ∷ get_or bytes 9 0 ∷ get_or bytes 10 0 ∷ get_or bytes 11 0 ∷ get_or bytes 12 0
+    ∷ get_or bytes 13 0 ∷ get_or bytes 14 0 ∷ get_or bytes 15 0 ∷ rest) h
+    ∙ ap (λ xs. joined_head xs (get_or bytes 5 0 ∷ get_or bytes 6 0 ∷ get_or bytes 7 0 ∷ get_or bytes 8 0 ∷ []) flag
+    (get_or bytes 10 0 ∷ get_or bytes 11 0 ∷ [])
+    (get_or bytes 12 0 ∷ get_or bytes 13 0 ∷ get_or bytes 14 0 ∷ get_or bytes 15 0 ∷ [])
+    ++ rest) (sym a)
+    ∙ ap (λ xs. joined_head (to_be_bytes w32 (word_at bytes 1)) xs flag (get_or bytes 10 0 ∷ get_or bytes 11 0 ∷ [])
+    (get_or bytes 12 0 ∷ get_or bytes 13 0 ∷ get_or bytes 14 0 ∷ get_or bytes 15 0 ∷ [])
+    ++ rest) (sym b)
+    ∙ ap (λ xs. joined_head (to_be_bytes w32 (word_at bytes 1)) (to_be_bytes w32 (word_at bytes 5)) flag xs
+    (get_or bytes 12 0 ∷ get_or bytes 13 0 ∷ get_or bytes 14 0 ∷ get_or bytes 15 0 ∷ [])
+    ++ rest) (sym c)
+    ∙ ap (λ xs. joined_head (to_be_bytes w32 (word_at bytes 1)) (to_be_bytes w32 (word_at bytes 5)) flag
+    (to_be_bytes w16 (half_at bytes 10)) xs
+    ++ rest) (sym d)
 
 abbrev make_head : ℕ → ℕ → ℕ → ℕ → ℕ → Head
 make_head generation number flag count size = record { generation = generation; number = number; flag = flag; count = count; size = size }
@@ -238,7 +268,8 @@ head_again h rest small =
     let b : word_at (head_bytes h ++ rest) 5 ≡ h.number = from_be_bytes-to_be_bytes_4 h.number small.number in
     let c : half_at (head_bytes h ++ rest) 10 ≡ h.count = from_be_bytes-to_be_bytes_2 h.count small.count in
     let d : word_at (head_bytes h ++ rest) 12 ≡ h.size = from_be_bytes-to_be_bytes_4 h.size small.size in
-    ap (λ x. make_head x (word_at (head_bytes h ++ rest) 5) h.flag (half_at (head_bytes h ++ rest) 10) (word_at (head_bytes h ++ rest) 12)) a
+    ap (λ x. make_head x (word_at (head_bytes h ++ rest) 5) h.flag (half_at (head_bytes h ++ rest) 10)
+    (word_at (head_bytes h ++ rest) 12)) a
     ∙ ap (λ x. make_head h.generation x h.flag (half_at (head_bytes h ++ rest) 10) (word_at (head_bytes h ++ rest) 12)) b
     ∙ ap (λ x. make_head h.generation h.number h.flag x (word_at (head_bytes h ++ rest) 12)) c
     ∙ ap (λ x. make_head h.generation h.number h.flag h.count x) d
@@ -283,7 +314,11 @@ pub is_read : (kind : Kind) (count : ℕ) (bytes : List ℕ) (values : List Valu
     → reading_in kind.format kind.ty count bytes ≡ Ok values → IsRead kind count bytes
 is_read kind count bytes values small few e =
     let same : values_read kind count bytes ≡ values = ap values_or_none e in
-    record { few = few; read = e ∙ ap (λ vs. Ok vs) (sym same); counted = ap length same ∙ (is_stored kind.format kind.ty count bytes values small e).counted }
+    record {
+      few = few;
+      read = e ∙ ap (λ vs. Ok vs) (sym same);
+      counted = ap length same ∙ (is_stored kind.format kind.ty count bytes values small e).counted;
+    }
 
 -- the flag is one of two bytes, and the values fill a block at most
 count_says : (h : Head) → has_due_count h ≡ true → (flag_byte (eqb h.flag 1) ≡ h.flag) × (h.count ≤ MAX_BLOCK_VALUES)
@@ -316,7 +351,12 @@ part_of_ok col at h kind after rest (Ok values) frame e =
     let pair : Frame × List ℕ = (part, after) in
     let other : Frame × List ℕ = (frame, rest) in
     let same : pair ≡ other = some_is pair other e in
-    record { values = values; reading_is = refl; frame_is = sym (ap (λ (p : Frame × List ℕ). p.0) same); rest_is = ap (λ (p : Frame × List ℕ). p.1) same }
+    record {
+      values = values;
+      reading_is = refl;
+      frame_is = sym (ap (λ (p : Frame × List ℕ). p.0) same);
+      rest_is = ap (λ (p : Frame × List ℕ). p.1) same;
+    }
 part_of_ok col at h kind after rest (Err fault) frame e = absurd cc
 
 pub part_takes : (col at : ℕ) (seam : Seam) (bytes rest : List ℕ) (frame : Frame) → AreBytes bytes → get_or bytes 0 0 ≡ 66
@@ -328,7 +368,9 @@ part_takes col at seam bytes rest frame small first e =
     let body = drop 16 bytes in
     let payload = take h.size body in
     let reading = reading_in kind.format kind.ty h.count payload in
-    let a = whole_ok (ltb (length bytes) 16) (cond (may_stand seam h) (payload_at col at h kind body) (Err (BadFrame col at))) (frame, rest) e in
+    let a =
+    whole_ok (ltb (length bytes) 16) (cond (may_stand seam h) (payload_at col at h kind body) (Err (BadFrame col at)))
+    (frame, rest) e in
     let b = passed_ok (may_stand seam h) (payload_at col at h kind body) (BadFrame col at) (Some (frame, rest)) a.1 in
     let c = whole_ok (ltb (length body) h.size) (part_of col at h kind (drop h.size body) reading) (frame, rest) b.1 in
     let read = part_of_ok col at h kind (drop h.size body) rest reading frame c.1 in
@@ -339,7 +381,8 @@ part_takes col at seam bytes rest frame small first e =
     let is : IsStored kind.format kind.ty h.count payload read.values =
     is_stored kind.format kind.ty h.count payload read.values (AreBytes-take h.size body (AreBytes-drop 16 bytes small)) read.reading_is in
     let long : h.size ≤ length body = ltb-false _ _ c.0 in
-    let size : length written ≡ h.size = sym (ap length is.spelt) ∙ (let l : length payload ≡ h.size = omega (arith, length-take h.size body) in l) in
+    let size : length written ≡ h.size =
+    sym (ap length is.spelt) ∙ (let l : length payload ≡ h.size = omega (arith, length-take h.size body) in l) in
     let head : head_of part ≡ h =
     ap (λ x. make_head h.generation h.number x (length read.values) (length written)) count.0
     ∙ ap (λ x. make_head h.generation h.number h.flag x (length written)) is.counted
@@ -367,4 +410,5 @@ unfolding part_at
 part_at-stands col at seam bytes h kind long head stands typed =
     let enough : ltb (length bytes) 16 ≡ false = le-ltb _ _ long in
     let good : may_stand seam (head_at bytes) ≡ true = ap (may_stand seam) (sym head) ∙ stands in
-    sym (rw (enough, good) (ap (λ x. payload_at col at x (unwrap_or seam.kind no_kind) (drop 16 bytes)) (sym head) ∙ ap (λ x. payload_at col at h x (drop 16 bytes)) (sym typed)))
+    sym (rw (enough, good) (ap (λ x. payload_at col at x (unwrap_or seam.kind no_kind) (drop 16 bytes)) (sym head)
+    ∙ ap (λ x. payload_at col at h x (drop 16 bytes)) (sym typed)))

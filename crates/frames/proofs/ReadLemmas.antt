@@ -17,47 +17,65 @@ parts_of-cons (Header kind) frames = refl
 parts_of-cons (Block part) frames = refl
 parts_of-cons End frames = refl
 
-parts_after-and_then : (front : List Part) (frame : Frame) (reading : Result (List Frame) ReadFault) → parts_after front (and_then frame reading) ≡ parts_after (front ++ parts_of (frame ∷ [])) reading
-parts_after-and_then front frame (Ok frames) = ap (λ ps. Ok (front ++ ps)) (parts_of-cons frame frames) ∙ ap (λ ps. Ok ps) (sym (append_assoc front (parts_of (frame ∷ [])) (parts_of frames)))
+parts_after-and_then : (front : List Part) (frame : Frame) (reading : Result (List Frame) ReadFault)
+    → parts_after front (and_then frame reading) ≡ parts_after (front ++ parts_of (frame ∷ [])) reading
+parts_after-and_then front frame (Ok frames) =
+    ap (λ ps. Ok (front ++ ps)) (parts_of-cons frame frames)
+    ∙ ap (λ ps. Ok ps) (sym (append_assoc front (parts_of (frame ∷ [])) (parts_of frames)))
 parts_after-and_then front frame (Err fault) = refl
 
 -- what has been read so far, with what is left to read, is all that is read
-pub record IsReadTo (col : ℕ) (wanted : Option ColumnType) (size : ℕ) (seam : Seam) (rest : List ℕ) (front : List Part) (total : Result (List Part) ReadFault) : Type 0 where
+pub record IsReadTo (col : ℕ) (wanted : Option ColumnType) (size : ℕ) (seam : Seam) (rest : List ℕ) (front : List Part) (total : Result (List Part) ReadFault) :
+    Type 0 where
   pub most : ℕ
   pub enough : length rest ≤ most
   pub read : parts_after front (frames_at most col wanted size seam rest) ≡ total
 
 -- nothing is left
-none_left : (most col : ℕ) (wanted : Option ColumnType) (size : ℕ) (seam : Seam) (bytes : List ℕ) → length bytes ≡ 0 → frames_at most col wanted size seam bytes ≡ Ok []
+none_left : (most col : ℕ) (wanted : Option ColumnType) (size : ℕ) (seam : Seam) (bytes : List ℕ) → length bytes ≡ 0
+    → frames_at most col wanted size seam bytes ≡ Ok []
 unfolding frames_at
 none_left zero col wanted size seam bytes h = refl
 none_left (suc most) col wanted size seam [] h = refl
 none_left (suc most) col wanted size seam (byte ∷ bytes) h = absurd (omega (arith, h))
 
-module _ (col : ℕ) (wanted : Option ColumnType) (size : ℕ) (seam : Seam) (rest : List ℕ) (front : List Part) (total : Result (List Part) ReadFault) where
+module _ (col : ℕ) (wanted : Option ColumnType) (size : ℕ) (seam : Seam) (rest : List ℕ) (front : List Part)
+    (total : Result (List Part) ReadFault) where
   -- nothing is left
   pub reads_end : length rest ≡ 0 → IsReadTo col wanted size seam rest front total → total ≡ Ok front
-  reads_end none so_far = sym so_far.read ∙ ap (parts_after front) (none_left so_far.most col wanted size seam rest none) ∙ ap (λ ps. Ok ps) (append-nil front)
+  reads_end none so_far =
+      sym so_far.read
+      ∙ ap (parts_after front) (none_left so_far.most col wanted size seam rest none)
+      ∙ ap (λ ps. Ok ps) (append-nil front)
 
   module _ (some : 0 < length rest) (so_far : IsReadTo col wanted size seam rest front total) where
     abbrev next : ℕ → Found → Result (List Frame) ReadFault
     next most found = found_then found (λ frame left. frames_at most col wanted size (seam_after seam frame) left)
 
-    step : (most : ℕ) × (length rest ≤ suc most) × (parts_after front (frame_at col (size - length rest) wanted seam rest >>= next most) ≡ total)
+    step :
+        (most : ℕ) × (length rest ≤ suc most)
+        × (parts_after front (frame_at col (size - length rest) wanted seam rest >>= next most) ≡ total)
     step = by so_far.most so_far.enough so_far.read
       where
-        by : (n : ℕ) → length rest ≤ n → parts_after front (frames_at n col wanted size seam rest) ≡ total → (most : ℕ) × (length rest ≤ suc most) × (parts_after front (frame_at col (size - length rest) wanted seam rest >>= next most) ≡ total)
+        by : (n : ℕ) → length rest ≤ n → parts_after front (frames_at n col wanted size seam rest) ≡ total
+            → (most : ℕ) × (length rest ≤ suc most)
+            × (parts_after front (frame_at col (size - length rest) wanted seam rest >>= next most) ≡ total)
         by zero le e = absurd (omega arith)
         by (suc most) le e = (most, le, sym (ap (parts_after front) (frames_step most col wanted size seam rest some)) ∙ e)
 
     -- a frame more
-    pub reads_on : (frame : Frame) (left : List ℕ) → length left < length rest → frame_at col (size - length rest) wanted seam rest ≡ Ok (Some (frame, left)) → IsReadTo col wanted size (seam_after seam frame) left (front ++ parts_of (frame ∷ [])) total
+    pub reads_on : (frame : Frame) (left : List ℕ) → length left < length rest
+        → frame_at col (size - length rest) wanted seam rest ≡ Ok (Some (frame, left))
+        → IsReadTo col wanted size (seam_after seam frame) left (front ++ parts_of (frame ∷ [])) total
     reads_on frame left shorter e =
         let most = step.0 in
         record {
           most = most;
           enough = omega (arith, step.1);
-          read = sym (parts_after-and_then front frame (frames_at most col wanted size (seam_after seam frame) left)) ∙ sym (ap (λ r. parts_after front (r >>= next most)) e) ∙ step.2;
+          read =
+              sym (parts_after-and_then front frame (frames_at most col wanted size (seam_after seam frame) left))
+              ∙ sym (ap (λ r. parts_after front (r >>= next most)) e)
+              ∙ step.2;
         }
 
     -- a rest

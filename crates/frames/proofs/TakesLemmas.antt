@@ -27,14 +27,16 @@ found_is frame other rest left e =
     let same : pair ≡ others = cc in
     (ap (λ (p : Frame × List ℕ). p.0) same, ap (λ (p : Frame × List ℕ). p.1) same)
 
-end_takes : (seam : Seam) (bytes rest : List ℕ) (frame : Frame) → get_or bytes 0 0 ≡ 69 → found End (drop 1 bytes) ≡ found frame rest → Takes seam bytes rest frame
+end_takes : (seam : Seam) (bytes rest : List ℕ) (frame : Frame) → get_or bytes 0 0 ≡ 69
+    → found End (drop 1 bytes) ≡ found frame rest → Takes seam bytes rest frame
 end_takes seam [] rest frame h e = absurd (omega (arith, h))
 end_takes seam (byte ∷ bytes) rest frame h e =
     let same = found_is End frame bytes rest e in
     subst (Takes seam (byte ∷ bytes) rest) same.0 (record { spelt = ap (λ b. b ∷ bytes) h ∙ ap (λ r. 69 ∷ r) same.1; lawful = tt })
 
 -- a frame that was read is spelt at the front of the bytes, and may stand there
-pub frame_takes : (col at : ℕ) (wanted : Option ColumnType) (seam : Seam) (bytes rest : List ℕ) (frame : Frame) → AreBytes bytes → frame_at col at wanted seam bytes ≡ Ok (Some (frame, rest)) → Takes seam bytes rest frame
+pub frame_takes : (col at : ℕ) (wanted : Option ColumnType) (seam : Seam) (bytes rest : List ℕ) (frame : Frame) → AreBytes bytes
+    → frame_at col at wanted seam bytes ≡ Ok (Some (frame, rest)) → Takes seam bytes rest frame
 unfolding frame_at
 frame_takes col at wanted seam bytes rest frame small e =
     elim (cases_Bool (eqb (get_or bytes 0 0) 72)) [
@@ -49,13 +51,15 @@ frame_takes col at wanted seam bytes rest frame small e =
     ]
 
 -- and is shorter than the bytes
-pub frame_shorter : (col at : ℕ) (wanted : Option ColumnType) (seam : Seam) (bytes rest : List ℕ) (frame : Frame) → AreBytes bytes → frame_at col at wanted seam bytes ≡ Ok (Some (frame, rest)) → length rest < length bytes
+pub frame_shorter : (col at : ℕ) (wanted : Option ColumnType) (seam : Seam) (bytes rest : List ℕ) (frame : Frame) → AreBytes bytes
+    → frame_at col at wanted seam bytes ≡ Ok (Some (frame, rest)) → length rest < length bytes
 frame_shorter col at wanted seam bytes rest frame small e =
     let takes = frame_takes col at wanted seam bytes rest frame small e in
     omega (arith, ap length takes.spelt, length-append (frame_bytes frame) rest, frame_long frame)
 
 -- and the bytes after it are bytes
-pub frame_leaves : (col at : ℕ) (wanted : Option ColumnType) (seam : Seam) (bytes rest : List ℕ) (frame : Frame) → AreBytes bytes → frame_at col at wanted seam bytes ≡ Ok (Some (frame, rest)) → AreBytes rest
+pub frame_leaves : (col at : ℕ) (wanted : Option ColumnType) (seam : Seam) (bytes rest : List ℕ) (frame : Frame) → AreBytes bytes
+    → frame_at col at wanted seam bytes ≡ Ok (Some (frame, rest)) → AreBytes rest
 frame_leaves col at wanted seam bytes rest frame small e =
     let takes = frame_takes col at wanted seam bytes rest frame small e in
     let n = length (frame_bytes frame) in

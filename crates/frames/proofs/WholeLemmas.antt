@@ -21,10 +21,12 @@ use Rattle.frames.proofs.TakesLemmas.{frame_takes, frame_shorter, frame_leaves}
 
 -- ---- no frame: a rest
 
-header_none : (col at : ℕ) (wanted : Option ColumnType) (version : Option Format) (named : Option ColumnType) (rest : List ℕ) → header_of col at wanted version named rest ≡ Ok None → ⊥
+header_none : (col at : ℕ) (wanted : Option ColumnType) (version : Option Format) (named : Option ColumnType) (rest : List ℕ)
+    → header_of col at wanted version named rest ≡ Ok None → ⊥
 header_none col at wanted None named rest e = absurd cc
 header_none col at wanted (Some format) None rest e = absurd cc
-header_none col at wanted (Some format) (Some ty) rest e = tested (is_wanted wanted ty) (Header (record { format = format; ty = ty }), rest) e
+header_none col at wanted (Some format) (Some ty) rest e =
+    tested (is_wanted wanted ty) (Header (record { format = format; ty = ty }), rest) e
   where
     tested : (b : Bool) (found : Frame × List ℕ) → cond b (Ok (Some found)) (Err (TypesDiffer col)) ≡ Ok None → ⊥
     tested true found h = absurd cc
@@ -35,10 +37,12 @@ unfolding header_at
 header_cut col at wanted bytes e =
     elim (cases_Bool (ltb (length bytes) 3)) [
       | inl short ↦ ltb-true _ _ short
-      | inr long ↦ absurd (header_none col at wanted (format_of (get_or bytes 1 0)) (type_of (get_or bytes 2 0)) (drop 3 bytes) (rw long at e))
+      | inr long ↦ absurd
+          (header_none col at wanted (format_of (get_or bytes 1 0)) (type_of (get_or bytes 2 0)) (drop 3 bytes) (rw long at e))
     ]
 
-part_none : (col at : ℕ) (h : Head) (kind : Kind) (rest : List ℕ) (reading : Result (List Value) BlockFault) → part_of col at h kind rest reading ≡ Ok None → ⊥
+part_none : (col at : ℕ) (h : Head) (kind : Kind) (rest : List ℕ) (reading : Result (List Value) BlockFault)
+    → part_of col at h kind rest reading ≡ Ok None → ⊥
 part_none col at h kind rest (Ok values) e = absurd cc
 part_none col at h kind rest (Err fault) e = absurd cc
 
@@ -56,7 +60,8 @@ part_cut col at seam bytes e =
       ]
     ]
 
-rest_taken : (col at : ℕ) (wanted : Option ColumnType) (seam : Seam) (first : ℕ) (bytes : List ℕ) → frame_at col at wanted seam (first ∷ bytes) ≡ Ok None → is_rest seam (first ∷ bytes) ≡ true
+rest_taken : (col at : ℕ) (wanted : Option ColumnType) (seam : Seam) (first : ℕ) (bytes : List ℕ)
+    → frame_at col at wanted seam (first ∷ bytes) ≡ Ok None → is_rest seam (first ∷ bytes) ≡ true
 unfolding frame_at
 rest_taken col at wanted seam first bytes e =
     elim (cases_Bool (eqb first 72)) [
@@ -74,7 +79,8 @@ rest_taken col at wanted seam first bytes e =
 
 -- ---- frames
 
-step_ok : {A B : Type 0} (r : Result A ReadFault) (next : A → Result B ReadFault) (y : B) → (r >>= next) ≡ Ok y → (x : A) × (r ≡ Ok x) × (next x ≡ Ok y)
+step_ok : {A B : Type 0} (r : Result A ReadFault) (next : A → Result B ReadFault) (y : B) → (r >>= next) ≡ Ok y
+    → (x : A) × (r ≡ Ok x) × (next x ≡ Ok y)
 step_ok (Ok x) next y e = (x, refl, e)
 step_ok (Err fault) next y e = absurd cc
 
@@ -89,29 +95,39 @@ none_taken : (seam : Seam) (frames : List Frame) → [] ≡ frames → IsTaken s
 none_taken seam frames is = subst (IsTaken seam []) is (record { rest = []; lawful = tt; torn = refl; spelt = refl })
 
 -- a rest, or a frame and those after it
-found_taken : (most col at : ℕ) (wanted : Option ColumnType) (size : ℕ) (seam : Seam) (first : ℕ) (bytes : List ℕ) (frames : List Frame) (found : Found) → AreBytes (first ∷ bytes)
+found_taken : (most col at : ℕ) (wanted : Option ColumnType) (size : ℕ) (seam : Seam) (first : ℕ) (bytes : List ℕ)
+    (frames : List Frame) (found : Found)
+    → AreBytes (first ∷ bytes)
     → length (first ∷ bytes) ≤ suc most → frame_at col at wanted seam (first ∷ bytes) ≡ Ok found
     → found_then found (λ frame left. frames_at most col wanted size (seam_after seam frame) left) ≡ Ok frames
-    → ((next : Seam) (left : List ℕ) (others : List Frame) → AreBytes left → length left ≤ most → frames_at most col wanted size next left ≡ Ok others → IsTaken next left others)
+    → ((next : Seam) (left : List ℕ) (others : List Frame) → AreBytes left → length left ≤ most
+    → frames_at most col wanted size next left ≡ Ok others → IsTaken next left others)
     → IsTaken seam (first ∷ bytes) frames
 found_taken most col at wanted size seam first bytes frames None small le e more again =
-    subst (IsTaken seam (first ∷ bytes)) (ok_is [] frames more) (record { rest = first ∷ bytes; lawful = tt; torn = rest_taken col at wanted seam first bytes e; spelt = refl })
+    subst (IsTaken seam (first ∷ bytes)) (ok_is [] frames more)
+    (record { rest = first ∷ bytes; lawful = tt; torn = rest_taken col at wanted seam first bytes e; spelt = refl })
 found_taken most col at wanted size seam first bytes frames (Some found) small le e more again =
     let frame = found.0 in
     let left = found.1 in
     let takes = frame_takes col at wanted seam (first ∷ bytes) left frame small e in
     let shorter = frame_shorter col at wanted seam (first ∷ bytes) left frame small e in
     let b = step_ok (frames_at most col wanted size (seam_after seam frame) left) (λ fs. Ok (frame ∷ fs)) frames more in
-    let others = again (seam_after seam frame) left b.0 (frame_leaves col at wanted seam (first ∷ bytes) left frame small e) (omega (arith, shorter, le)) b.1 in
+    let others =
+    again (seam_after seam frame) left b.0 (frame_leaves col at wanted seam (first ∷ bytes) left frame small e)
+    (omega (arith, shorter, le)) b.1 in
     let made : IsTaken seam (first ∷ bytes) (frame ∷ b.0) = record {
       rest = others.rest;
       lawful = (takes.lawful, others.lawful);
       torn = others.torn;
-      spelt = takes.spelt ∙ ap (λ x. frame_bytes frame ++ x) others.spelt ∙ sym (append_assoc (frame_bytes frame) (column_bytes b.0) others.rest);
+      spelt =
+          takes.spelt
+          ∙ ap (λ x. frame_bytes frame ++ x) others.spelt
+          ∙ sym (append_assoc (frame_bytes frame) (column_bytes b.0) others.rest);
     } in
     subst (IsTaken seam (first ∷ bytes)) (ok_is (frame ∷ b.0) frames b.2) made
 
-frames_take : (most col : ℕ) (wanted : Option ColumnType) (size : ℕ) (seam : Seam) (bytes : List ℕ) (frames : List Frame) → AreBytes bytes → length bytes ≤ most
+frames_take : (most col : ℕ) (wanted : Option ColumnType) (size : ℕ) (seam : Seam) (bytes : List ℕ) (frames : List Frame)
+    → AreBytes bytes → length bytes ≤ most
     → frames_at most col wanted size seam bytes ≡ Ok frames → IsTaken seam bytes frames
 unfolding frames_at
 frames_take zero col wanted size seam [] frames small le e = none_taken seam frames (ok_is [] frames e)
@@ -119,8 +135,11 @@ frames_take zero col wanted size seam (first ∷ bytes) frames small le e = absu
 frames_take (suc most) col wanted size seam [] frames small le e = none_taken seam frames (ok_is [] frames e)
 frames_take (suc most) col wanted size seam (first ∷ bytes) frames small le e =
     let at = size - length (first ∷ bytes) in
-    let b = step_ok (frame_at col at wanted seam (first ∷ bytes)) (λ found. found_then found (λ frame left. frames_at most col wanted size (seam_after seam frame) left)) frames e in
-    found_taken most col at wanted size seam first bytes frames b.0 small le b.1 b.2 (λ next left others. frames_take most col wanted size next left others)
+    let b =
+    step_ok (frame_at col at wanted seam (first ∷ bytes))
+    (λ found. found_then found (λ frame left. frames_at most col wanted size (seam_after seam frame) left)) frames e in
+    found_taken most col at wanted size seam first bytes frames b.0 small le b.1 b.2
+    (λ next left others. frames_take most col wanted size next left others)
 
 pub column_taken : WhatReadsIsAColumn
 column_taken col wanted bytes frames small e =

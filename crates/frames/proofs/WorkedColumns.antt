@@ -28,7 +28,10 @@ abbrev ids : List Frame
 ids = Header (first column.Int) ∷ Block (one_part column.Int (Int (pos 10) ∷ Int (pos 20) ∷ Int (pos 30) ∷ [])) ∷ End ∷ []
 
 abbrev names : List Frame
-names = Header (first column.Text) ∷ Block (one_part column.Text (Text (65 ∷ 110 ∷ 110 ∷ []) ∷ Text (66 ∷ 111 ∷ 98 ∷ []) ∷ Text (67 ∷ 105 ∷ 100 ∷ []) ∷ [])) ∷ End ∷ []
+names =
+    Header (first column.Text)
+    ∷ Block (one_part column.Text (Text (65 ∷ 110 ∷ 110 ∷ []) ∷ Text (66 ∷ 111 ∷ 98 ∷ []) ∷ Text (67 ∷ 105 ∷ 100 ∷ []) ∷ []))
+    ∷ End ∷ []
 
 abbrev none : List Frame
 none = Header (first column.Int) ∷ Block (one_part column.Int []) ∷ End ∷ []
@@ -76,11 +79,16 @@ unknown_version : frames_of 0 (Some column.Int) (0x48 ∷ 0x03 ∷ 0x01 ∷ TEN_
 unfolding frames_at frame_at header_at
 unknown_version = refl
 
-short_block_not_last : frames_of 0 (Some column.Int) (INT_HEADER ++ (0x42 ∷ 0 ∷ 0 ∷ 0 ∷ 1 ∷ 0 ∷ 0 ∷ 0 ∷ 0 ∷ 0x00 ∷ drop 10 TEN_BLOCK) ++ 0x45 ∷ []) ≡ Err (BadFrame 0 3)
+short_block_not_last :
+    frames_of 0 (Some column.Int) (INT_HEADER ++ (0x42 ∷ 0 ∷ 0 ∷ 0 ∷ 1 ∷ 0 ∷ 0 ∷ 0 ∷ 0 ∷ 0x00 ∷ drop 10 TEN_BLOCK) ++ 0x45 ∷ [])
+    ≡ Err (BadFrame 0 3)
 unfolding frames_at frame_at header_at part_at
 short_block_not_last = refl
 
-payload_a_byte_short : frames_of 0 (Some column.Int) (INT_HEADER ++ (0x42 ∷ 0 ∷ 0 ∷ 0 ∷ 1 ∷ 0 ∷ 0 ∷ 0 ∷ 0 ∷ 0x01 ∷ 0 ∷ 1 ∷ 0 ∷ 0 ∷ 0 ∷ 7 ∷ drop 16 TEN_BLOCK) ++ 0x45 ∷ []) ≡ Err (BadBlock 0 3 (Short 0))
+payload_a_byte_short :
+    frames_of 0 (Some column.Int)
+    (INT_HEADER ++ (0x42 ∷ 0 ∷ 0 ∷ 0 ∷ 1 ∷ 0 ∷ 0 ∷ 0 ∷ 0 ∷ 0x01 ∷ 0 ∷ 1 ∷ 0 ∷ 0 ∷ 0 ∷ 7 ∷ drop 16 TEN_BLOCK) ++ 0x45 ∷ [])
+    ≡ Err (BadBlock 0 3 (Short 0))
 unfolding frames_at frame_at header_at part_at ints_at
 payload_a_byte_short = refl
 
@@ -101,11 +109,18 @@ unfolding frames_at frame_at header_at
 other_type = refl
 
 -- a payload length that points past the end is a torn frame; more values than a block has are none
-length_past_the_end : frames_of 0 (Some column.Int) (INT_HEADER ++ (0x42 ∷ 0 ∷ 0 ∷ 0 ∷ 1 ∷ 0 ∷ 0 ∷ 0 ∷ 0 ∷ 0x01 ∷ 0 ∷ 1 ∷ 255 ∷ 255 ∷ 255 ∷ 255 ∷ drop 16 TEN_BLOCK) ++ 0x45 ∷ []) ≡ Ok (Header (first column.Int) ∷ [])
+length_past_the_end :
+    frames_of 0 (Some column.Int)
+    (INT_HEADER ++ (0x42 ∷ 0 ∷ 0 ∷ 0 ∷ 1 ∷ 0 ∷ 0 ∷ 0 ∷ 0 ∷ 0x01 ∷ 0 ∷ 1 ∷ 255 ∷ 255 ∷ 255 ∷ 255 ∷ drop 16 TEN_BLOCK) ++ 0x45
+    ∷ [])
+    ≡ Ok (Header (first column.Int) ∷ [])
 unfolding frames_at frame_at header_at part_at
 length_past_the_end = refl
 
-too_many_values : frames_of 0 (Some column.Int) (INT_HEADER ++ (0x42 ∷ 0 ∷ 0 ∷ 0 ∷ 1 ∷ 0 ∷ 0 ∷ 0 ∷ 0 ∷ 0x01 ∷ 4 ∷ 1 ∷ 0 ∷ 0 ∷ 0 ∷ 8 ∷ drop 16 TEN_BLOCK) ++ 0x45 ∷ []) ≡ Err (BadFrame 0 3)
+too_many_values :
+    frames_of 0 (Some column.Int)
+    (INT_HEADER ++ (0x42 ∷ 0 ∷ 0 ∷ 0 ∷ 1 ∷ 0 ∷ 0 ∷ 0 ∷ 0 ∷ 0x01 ∷ 4 ∷ 1 ∷ 0 ∷ 0 ∷ 0 ∷ 8 ∷ drop 16 TEN_BLOCK) ++ 0x45 ∷ [])
+    ≡ Err (BadFrame 0 3)
 unfolding frames_at frame_at header_at part_at
 too_many_values = refl
 
@@ -116,7 +131,8 @@ second ty = record { format = Second; ty = ty }
 
 -- the one block of a generation
 abbrev second_part : ℕ → ColumnType → List Value → Part
-second_part generation ty values = record { format = Second; generation = generation; number = 0; last = true; block = record { ty = ty; values = values } }
+second_part generation ty values =
+    record { format = Second; generation = generation; number = 0; last = true; block = record { ty = ty; values = values } }
 
 abbrev ten_2 : List Frame
 ten_2 = Header (second column.Int) ∷ Block (second_part 1 column.Int (Int (pos 10) ∷ [])) ∷ End ∷ []
@@ -154,7 +170,10 @@ unfolding frames_at frame_at header_at part_at ints_at
 no_encoding = refl
 
 -- equal values that stand plain
-plain_sevens : frames_of 0 (Some column.Int) (INT_HEADER_2 ++ (0x42 ∷ 0 ∷ 0 ∷ 0 ∷ 1 ∷ 0 ∷ 0 ∷ 0 ∷ 0 ∷ 0x01 ∷ 0 ∷ 2 ∷ 0 ∷ 0 ∷ 0 ∷ 17 ∷ 0x00 ∷ []) ++ (0 ∷ 0 ∷ 0 ∷ 0 ∷ 0 ∷ 0 ∷ 0 ∷ 7 ∷ 0 ∷ 0 ∷ 0 ∷ 0 ∷ 0 ∷ 0 ∷ 0 ∷ 7 ∷ []))
+plain_sevens :
+    frames_of 0 (Some column.Int)
+    (INT_HEADER_2 ++ (0x42 ∷ 0 ∷ 0 ∷ 0 ∷ 1 ∷ 0 ∷ 0 ∷ 0 ∷ 0 ∷ 0x01 ∷ 0 ∷ 2 ∷ 0 ∷ 0 ∷ 0 ∷ 17 ∷ 0x00 ∷ [])
+    ++ (0 ∷ 0 ∷ 0 ∷ 0 ∷ 0 ∷ 0 ∷ 0 ∷ 7 ∷ 0 ∷ 0 ∷ 0 ∷ 0 ∷ 0 ∷ 0 ∷ 0 ∷ 7 ∷ []))
     ≡ Err (BadBlock 0 3 BadEncoding)
 unfolding frames_at frame_at header_at part_at ints_at
 plain_sevens = refl

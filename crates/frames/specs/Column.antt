@@ -46,7 +46,9 @@ head_of part = record {
 
 -- in sixteen bytes, the highest byte of each number first
 abbrev pub head_bytes : Head → List ℕ
-head_bytes h = 66 ∷ (to_be_bytes w32 h.generation ++ (to_be_bytes w32 h.number ++ h.flag ∷ (to_be_bytes w16 h.count ++ to_be_bytes w32 h.size)))
+head_bytes h =
+    66 ∷ (to_be_bytes w32 h.generation
+    ++ (to_be_bytes w32 h.number ++ h.flag ∷ (to_be_bytes w16 h.count ++ to_be_bytes w32 h.size)))
 
 abbrev pub frame_bytes : Frame → List ℕ
 frame_bytes (Header kind) = 72 ∷ version_byte kind.format ∷ type_byte kind.ty ∷ []
@@ -79,7 +81,9 @@ is_in_turn seam h = cond (h.number == 0) (is_above seam.newest h.generation) (go
 
 -- whether it is full, or the last and not empty, or the one block of an empty table
 abbrev pub has_due_count : Head → Bool
-has_due_count h = cond (h.flag == 0) (h.count == MAX_BLOCK_VALUES) (cond (h.flag == 1) (nat_le h.count MAX_BLOCK_VALUES && (nat_lt 0 h.count || (h.number == 0))) false)
+has_due_count h =
+    cond (h.flag == 0) (h.count == MAX_BLOCK_VALUES)
+    (cond (h.flag == 1) (nat_le h.count MAX_BLOCK_VALUES && (nat_lt 0 h.count || (h.number == 0))) false)
 
 -- whether a block with these numbers may stand at the seam
 abbrev pub may_stand : Seam → Head → Bool
@@ -133,11 +137,19 @@ half_at bytes i = from_be_bytes w16 (get_or bytes i 0 ∷ get_or bytes (i + 1) 0
 
 -- the numbers that the first sixteen bytes spell
 abbrev pub head_at : List ℕ → Head
-head_at bytes = record { generation = word_at bytes 1; number = word_at bytes 5; flag = get_or bytes 9 0; count = half_at bytes 10; size = word_at bytes 12 }
+head_at bytes =
+    record {
+      generation = word_at bytes 1;
+      number = word_at bytes 5;
+      flag = get_or bytes 9 0;
+      count = half_at bytes 10;
+      size = word_at bytes 12;
+    }
 
 -- whether bytes that begin with a block's byte are the beginning of a block that may stand here, cut short
 abbrev pub is_cut_block : Seam → List ℕ → Bool
-is_cut_block seam bytes = nat_lt (length bytes) 16 || (may_stand seam (head_at bytes) && nat_lt (length (drop 16 bytes)) (head_at bytes).size)
+is_cut_block seam bytes =
+    nat_lt (length bytes) 16 || (may_stand seam (head_at bytes) && nat_lt (length (drop 16 bytes)) (head_at bytes).size)
 
 -- whether bytes are the beginning of a header or a block that may stand here, cut short, or none
 abbrev pub is_rest : Seam → List ℕ → Bool

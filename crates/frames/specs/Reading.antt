@@ -59,7 +59,13 @@ header_at col at wanted bytes =
 -- a block with these numbers, of this kind, and with these values
 abbrev pub part_with : Head → Kind → List Value → Part
 part_with h kind values =
-    record { format = kind.format; generation = h.generation; number = h.number; last = h.flag == 1; block = record { ty = kind.ty; values = values } }
+    record {
+      format = kind.format;
+      generation = h.generation;
+      number = h.number;
+      last = h.flag == 1;
+      block = record { ty = kind.ty; values = values };
+    }
 
 -- a block with these numbers and this payload, by the values that this says
 abbrev pub part_of : ℕ → ℕ → Head → Kind → List ℕ → Result (List Value) BlockFault → Result Found ReadFault

@@ -62,13 +62,16 @@ above-Less Less p e h q = ap (λ (r : Ordering). is_lt (ordering_then r q)) e
 above-Less Equal p e h q = cc h
 above-Less Greater p e h q = cc h
 
-module _ (k count : ℕ) (columns : List Column) (up : (i : ℕ) → i + 1 < count → key_cmp (key_of k (row_at columns i)) (key_of k (row_at columns (i + 1))) ≡ Less) where
+module _ (k count : ℕ) (columns : List Column)
+    (up : (i : ℕ) → i + 1 < count → key_cmp (key_of k (row_at columns i)) (key_of k (row_at columns (i + 1))) ≡ Less) where
   pub ascent-IsAscending : IsAscending k (rows_of count columns)
   ascent-IsAscending j d lt =
       let long : length (rows_of count columns) ≡ count = length-map-range_with_len (row_at columns) 0 count in
       let within : j + 1 < count = omega (arith, lt, long) in
-      let a : get_or (rows_of count columns) j d ≡ row_at columns j = get_or-map-range_with_len (row_at columns) 0 count j j d (omega (arith, within)) (omega arith) in
-      let b : get_or (rows_of count columns) (j + 1) d ≡ row_at columns (j + 1) = get_or-map-range_with_len (row_at columns) 0 count (j + 1) (j + 1) d within (omega arith) in
+      let a : get_or (rows_of count columns) j d ≡ row_at columns j =
+      get_or-map-range_with_len (row_at columns) 0 count j j d (omega (arith, within)) (omega arith) in
+      let b : get_or (rows_of count columns) (j + 1) d ≡ row_at columns (j + 1) =
+      get_or-map-range_with_len (row_at columns) 0 count (j + 1) (j + 1) d within (omega arith) in
       (λ i. key_cmp (key_of k (a i)) (key_of k (b i))) ∙ up j within
 
   pub ascent-IsInOrder : IsInOrder k (rows_in count columns)
@@ -110,7 +113,8 @@ module _ (columns : List Column) (places : List ℕ) where
       let x = get_or places j 0 in
       let y = get_or places (j + 1) 0 in
       (λ i. is_lt (ordering_then (key_cmp (key_of k (b i).row) (key_of k (a i).row)) (nat_cmp (b i).number (a i).number)))
-      ∙ ap (λ (o : Ordering). is_lt (ordering_then (key_cmp (key_of k (row_at columns y)) (key_of k (row_at columns x))) o)) (nat_cmp-more y x)
+      ∙ ap (λ (o : Ordering). is_lt (ordering_then (key_cmp (key_of k (row_at columns y)) (key_of k (row_at columns x))) o))
+      (nat_cmp-more y x)
       ∙ up j 0 low within
 
   -- the same rows, without their numbers
@@ -120,7 +124,8 @@ module _ (columns : List Column) (places : List ℕ) where
   row_at-sorted : (k : ℕ) → k < length places → (cs : List Column) → row_at (map (gathered places) cs) k ≡ row_at cs (get_or places k 0)
   row_at-sorted k lt [] = refl
   row_at-sorted k lt (c ∷ cs) =
-      let one : get_or (map (λ place. cell_at place c) places) k (Truth false) ≡ cell_at (get_or places k 0) c = get_or-map (λ (place : ℕ). cell_at place c) places k 0 (Truth false) lt in
+      let one : get_or (map (λ place. cell_at place c) places) k (Truth false) ≡ cell_at (get_or places k 0) c =
+      get_or-map (λ (place : ℕ). cell_at place c) places k 0 (Truth false) lt in
       let rest = row_at-sorted k lt cs in
       (λ i. one i ∷ rest i)
 
@@ -148,7 +153,8 @@ module _ (count : ℕ) (places : List ℕ) (moved : IsPermutation (range_with_le
 
   pub places_within : All (λ place. place < count) places
   places_within = All-permutation (λ (place : ℕ). place < count) (range_with_len 0 count) places moved
-      (λ k d lt. let at = get_or-range_with_len 0 count k d (omega (arith, lt, length-range_with_len 0 count)) in omega (arith, at, lt, length-range_with_len 0 count))
+      (λ k d lt. let at = get_or-range_with_len 0 count k d (omega (arith, lt, length-range_with_len 0 count)) in
+      omega (arith, at, lt, length-range_with_len 0 count))
 
   pub rows_at-moved : (columns : List Column) → IsPermutation (rows_in count columns) (rows_at columns places)
   rows_at-moved columns = IsPermutation-map (row_in columns) (range_with_len 0 count) places moved
@@ -159,12 +165,15 @@ module _ (count : ℕ) (places : List ℕ) (moved : IsPermutation (range_with_le
 -- ---- two keys compared
 
 -- one column more
-pub keys_at : (i j : ℕ) (columns : List Column) (n : ℕ) (c : Column) (x y : Value) (o : Ordering) → n < length columns → c ≡ get_or columns n c → x ≡ cell_at i c → y ≡ cell_at j c → value_cmp x y ≡ o
-    → key_cmp (map (cell_at i) (drop n columns)) (map (cell_at j) (drop n columns)) ≡ ordering_then o (key_cmp (map (cell_at i) (drop (n + 1) columns)) (map (cell_at j) (drop (n + 1) columns)))
+pub keys_at : (i j : ℕ) (columns : List Column) (n : ℕ) (c : Column) (x y : Value) (o : Ordering) → n < length columns
+    → c ≡ get_or columns n c → x ≡ cell_at i c → y ≡ cell_at j c → value_cmp x y ≡ o
+    → key_cmp (map (cell_at i) (drop n columns)) (map (cell_at j) (drop n columns))
+    ≡ ordering_then o (key_cmp (map (cell_at i) (drop (n + 1) columns)) (map (cell_at j) (drop (n + 1) columns)))
 keys_at i j columns n c x y o lt is p q e =
     let cut : drop n columns ≡ c ∷ drop (n + 1) columns = drop_more columns n c lt ∙ ap (λ d. d ∷ drop (n + 1) columns) (sym is) in
     ap (λ cs. key_cmp (map (cell_at i) cs) (map (cell_at j) cs)) cut
-    ∙ (λ k. ordering_then (value_cmp (sym p k) (sym q k)) (key_cmp (map (cell_at i) (drop (n + 1) columns)) (map (cell_at j) (drop (n + 1) columns))))
+    ∙ (λ k. ordering_then (value_cmp (sym p k) (sym q k))
+    (key_cmp (map (cell_at i) (drop (n + 1) columns)) (map (cell_at j) (drop (n + 1) columns))))
     ∙ ap (λ r. ordering_then r (key_cmp (map (cell_at i) (drop (n + 1) columns)) (map (cell_at j) (drop (n + 1) columns)))) e
 
 -- ---- the ascent, row by row
@@ -174,7 +183,8 @@ lt-Less Less e = refl
 lt-Less Equal e = cc e
 lt-Less Greater e = cc e
 
-pub ascent-step : (k : ℕ) (columns : List Column) (i : ℕ) (o : Ordering) → 1 ≤ i → o ≡ key_cmp (key_of k (row_at columns (i - 1))) (key_of k (row_at columns i)) → is_lt o ≡ true
+pub ascent-step : (k : ℕ) (columns : List Column) (i : ℕ) (o : Ordering) → 1 ≤ i
+    → o ≡ key_cmp (key_of k (row_at columns (i - 1))) (key_of k (row_at columns i)) → is_lt o ≡ true
     → ((j : ℕ) → j + 1 < i → key_cmp (key_of k (row_at columns j)) (key_of k (row_at columns (j + 1))) ≡ Less)
     → (j : ℕ) → j + 1 < i + 1 → key_cmp (key_of k (row_at columns j)) (key_of k (row_at columns (j + 1))) ≡ Less
 ascent-step k columns i o some is less so j lt = elim (cases_eq (j + 1) i) [

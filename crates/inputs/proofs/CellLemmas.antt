@@ -111,16 +111,21 @@ module _ {E : Type 0} where
       and-false _ _ (λ a b. let d = numeral-digits ds a in h (d.0, d.1, lt_from _ _ b)) in
       rw no refl
 
-  carried : (o p : Option ℤ) (r : Result ℤ E) → o ≡ p → MatchResult r (λ n. p ≡ Some n) (λ _. p ≡ None) → MatchResult r (λ n. o ≡ Some n) (λ _. o ≡ None)
+  carried : (o p : Option ℤ) (r : Result ℤ E) → o ≡ p → MatchResult r (λ n. p ≡ Some n) (λ _. p ≡ None)
+      → MatchResult r (λ n. o ≡ Some n) (λ _. o ≡ None)
   carried o p r e h = rw e h
 
   -- what a parse of 64 bits answers
-  pub int_of-parse : (bs : List ℕ) (r : Result ℤ E) → ParsesSigned w64 10 bs r → MatchResult r (λ n. int_of bs ≡ Some n) (λ _. int_of bs ≡ None)
+  pub int_of-parse : (bs : List ℕ) (r : Result ℤ E) → ParsesSigned w64 10 bs r
+      → MatchResult r (λ n. int_of bs ≡ Some n) (λ _. int_of bs ≡ None)
   int_of-parse bs r h = elim (cases_eq (get_or bs 0 0) 45) [
-    | inl e ↦ carried (int_of bs) (signed_number true (drop 1 bs)) r (rw (eq-eqb _ _ e) refl) (minus-says (drop 1 bs) r (parse_signed_minus numerals w64 bs r h e))
+    | inl e ↦ carried (int_of bs) (signed_number true (drop 1 bs)) r (rw (eq-eqb _ _ e) refl)
+        (minus-says (drop 1 bs) r (parse_signed_minus numerals w64 bs r h e))
     | inr n ↦ elim (cases_eq (get_or bs 0 0) 43) [
-      | inl e ↦ carried (int_of bs) (signed_number false (drop 1 bs)) r (rw (ne_eqb _ _ n, eq-eqb _ _ e) refl) (plain-says (drop 1 bs) r (parse_signed_plus numerals w64 bs r h e))
-      | inr m ↦ carried (int_of bs) (signed_number false bs) r (rw (ne_eqb _ _ n, ne_eqb _ _ m) refl) (plain-says bs r (parse_signed_plain numerals w64 bs r h m n))
+      | inl e ↦ carried (int_of bs) (signed_number false (drop 1 bs)) r (rw (ne_eqb _ _ n, eq-eqb _ _ e) refl)
+          (plain-says (drop 1 bs) r (parse_signed_plus numerals w64 bs r h e))
+      | inr m ↦ carried (int_of bs) (signed_number false bs) r (rw (ne_eqb _ _ n, ne_eqb _ _ m) refl)
+          (plain-says bs r (parse_signed_plain numerals w64 bs r h m n))
     ]
   ]
 
@@ -159,7 +164,8 @@ signed-none false ds h = let no : (is_numeral ds && nat_lt (digits_value 10 ds) 
 
 pub int_of-no_text : (bs : List ℕ) → ¬ (IsUtf8 bs) → int_of bs ≡ None
 int_of-no_text bs h =
-    signed-none (starts_with_minus bs) (without_leading_sign bs) (λ e. h (IsUtf8-from_ascii bs (sign-ascii bs (numeral-digits (without_leading_sign bs) e).0)))
+    signed-none (starts_with_minus bs) (without_leading_sign bs)
+    (λ e. h (IsUtf8-from_ascii bs (sign-ascii bs (numeral-digits (without_leading_sign bs) e).0)))
 
 -- ---- a number of few digits
 
@@ -193,12 +199,15 @@ int_of-plain bs h small =
     let signs = first-digit bs h in
     rw (ne_eqb _ _ signs.1, ne_eqb _ _ signs.0, h, lt_true _ _ small) refl
 
-pub plain-some : (bs : List ℕ) (r : Option ℤ) → IfSome r (λ n. is_numeral bs ≡ true) → IfSome r (λ n. n ≡ pos (digits_value 10 bs)) → IfSome r (λ n. digits_value 10 bs < 2 ^ 63) → IfSome r (λ n. int_of bs ≡ Some n)
+pub plain-some : (bs : List ℕ) (r : Option ℤ) → IfSome r (λ n. is_numeral bs ≡ true)
+    → IfSome r (λ n. n ≡ pos (digits_value 10 bs)) → IfSome r (λ n. digits_value 10 bs < 2 ^ 63)
+    → IfSome r (λ n. int_of bs ≡ Some n)
 plain-some bs None digits value small = tt
 plain-some bs (Some n) digits value small = int_of-plain bs digits small ∙ ap Some (sym value)
 
 -- a sign that stands first, and digits after it
-pub int_of-minus : (bs : List ℕ) → (get_or bs 0 0 == 45) ≡ true → is_numeral (drop 1 bs) ≡ true → digits_value 10 (drop 1 bs) < 2 ^ 63 → int_of bs ≡ Some (neg_ℤ (pos (digits_value 10 (drop 1 bs))))
+pub int_of-minus : (bs : List ℕ) → (get_or bs 0 0 == 45) ≡ true → is_numeral (drop 1 bs) ≡ true
+    → digits_value 10 (drop 1 bs) < 2 ^ 63 → int_of bs ≡ Some (neg_ℤ (pos (digits_value 10 (drop 1 bs))))
 int_of-minus bs e h small = rw (e, h, le_true (digits_value 10 (drop 1 bs)) (2 ^ 63) (omega (arith, small))) refl
 
 negated : (v : ℕ) → v < 2 ^ 63 → to_z w64 (of_z w64 (neg_ℤ (pos v))) ≡ neg_ℤ (pos v)

@@ -33,7 +33,9 @@ number_or None m h = omega arith
 number_or (Some n) m h = let l = h n refl in omega (arith, l)
 
 number_of-most : (name : List ℕ) (clients : List (List ℕ)) → number_of name clients ≤ length clients
-number_of-most name clients = number_or (place_from 0 name clients) (length clients) (λ n e. let l = place_from-within 0 name clients n e in omega (arith, l))
+number_of-most name clients =
+    number_or (place_from 0 name clients) (length clients)
+    (λ n e. let l = place_from-within 0 name clients n e in omega (arith, l))
 
 clients_with-below : (name : List ℕ) (clients : List (List ℕ)) → number_of name clients < length (clients_with name clients)
 clients_with-below name clients = elim (cases_lt (number_of name clients) (length clients)) [
@@ -74,7 +76,8 @@ clients_of-longer clients (fields ∷ records) =
 
 -- ---- one record
 
-client_of-parts : (clients : List (List ℕ)) (number : ℕ) (name : List ℕ) (rest : Fields) (client : ℕ) → client_of clients number (name ∷ rest) ≡ Ok client
+client_of-parts : (clients : List (List ℕ)) (number : ℕ) (name : List ℕ) (rest : Fields) (client : ℕ)
+    → client_of clients number (name ∷ rest) ≡ Ok client
     → (number_of name clients ≡ client) × (number_of name clients < MAX_CLIENTS)
 client_of-parts clients number name rest client e = elim (cases_Bool (is_client name)) [
   | inr f ↦ cc (rw f at e)
@@ -84,19 +87,23 @@ client_of-parts clients number name rest client e = elim (cases_Bool (is_client 
   ]
 ]
 
-client_of-below : (clients : List (List ℕ)) (number : ℕ) (fields : Fields) (client : ℕ) → client_of clients number fields ≡ Ok client → client < length (clients_after clients fields)
+client_of-below : (clients : List (List ℕ)) (number : ℕ) (fields : Fields) (client : ℕ)
+    → client_of clients number fields ≡ Ok client → client < length (clients_after clients fields)
 client_of-below clients number [] client e = cc e
 client_of-below clients number (name ∷ rest) client e =
     let parts = client_of-parts clients number name rest client e in
     let below = clients_with-below name clients in
     omega (arith, parts.0, below)
 
-client_of-few : (clients : List (List ℕ)) (number : ℕ) (fields : Fields) (client : ℕ) → client_of clients number fields ≡ Ok client → length clients ≤ MAX_CLIENTS
+client_of-few : (clients : List (List ℕ)) (number : ℕ) (fields : Fields) (client : ℕ)
+    → client_of clients number fields ≡ Ok client → length clients ≤ MAX_CLIENTS
     → length (clients_after clients fields) ≤ MAX_CLIENTS
 client_of-few clients number [] client e few = few
-client_of-few clients number (name ∷ rest) client e few = clients_with-few name clients (client_of-parts clients number name rest client e).1 few
+client_of-few clients number (name ∷ rest) client e few =
+    clients_with-few name clients (client_of-parts clients number name rest client e).1 few
 
-with_client-parts : (a : Result ℕ ScriptFault) (b : Result Call ScriptFault) (call : ClientCall) → with_client a b ≡ Ok call → (a ≡ Ok call.client) × (b ≡ Ok call.call)
+with_client-parts : (a : Result ℕ ScriptFault) (b : Result Call ScriptFault) (call : ClientCall) → with_client a b ≡ Ok call
+    → (a ≡ Ok call.client) × (b ≡ Ok call.call)
 with_client-parts (Err f) b call e = cc e
 with_client-parts (Ok a) (Err f) call e = cc e
 with_client-parts (Ok a) (Ok b) call e =
@@ -104,7 +111,8 @@ with_client-parts (Ok a) (Ok b) call e =
     (ap (λ (x : ClientCall). Ok x.client) same, ap (λ (x : ClientCall). Ok x.call) same)
 
 -- the client and the call of a record
-pub call_of-parts : (schema : Columns) (clients : List (List ℕ)) (number : ℕ) (fields : Fields) (call : ClientCall) → call_of schema clients number fields ≡ Ok call
+pub call_of-parts : (schema : Columns) (clients : List (List ℕ)) (number : ℕ) (fields : Fields) (call : ClientCall)
+    → call_of schema clients number fields ≡ Ok call
     → (client_of clients number fields ≡ Ok call.client) × (asked schema number fields ≡ Ok call.call)
 call_of-parts schema clients number fields call e = elim (cases_Bool (list_all is_utf8 fields)) [
   | inl t ↦ with_client-parts (client_of clients number fields) (asked schema number fields) call (rw t at e)
@@ -113,25 +121,33 @@ call_of-parts schema clients number fields call e = elim (cases_Bool (list_all i
 
 -- ---- all records
 
-pub calls_of-below : (schema : Columns) (clients : List (List ℕ)) (number : ℕ) (records : List Fields) (calls : List ClientCall) → calls_of schema clients number records ≡ Ok calls
+pub calls_of-below : (schema : Columns) (clients : List (List ℕ)) (number : ℕ) (records : List Fields) (calls : List ClientCall)
+    → calls_of schema clients number records ≡ Ok calls
     → All (λ call. call.client < length (clients_of clients records)) calls
 calls_of-below schema clients number [] calls e = let none : calls ≡ [] = cc e in rw none (λ k d l. absurd (omega (arith, l)))
 calls_of-below schema clients number (fields ∷ records) calls e =
-    let parts = then_cons-parts (call_of schema clients number fields) (calls_of schema (clients_after clients fields) (suc number) records) calls e in
+    let parts =
+    then_cons-parts (call_of schema clients number fields)
+    (calls_of schema (clients_after clients fields) (suc number) records) calls e in
     let one = client_of-below clients number fields parts.0.client (call_of-parts schema clients number fields parts.0 parts.2).0 in
     let more = clients_of-longer (clients_after clients fields) records in
-    rw parts.4 (All-cons (λ (call : ClientCall). call.client < length (clients_of clients (fields ∷ records))) parts.0 parts.1 (omega (arith, one, more))
+    rw parts.4 (All-cons (λ (call : ClientCall). call.client < length (clients_of clients (fields ∷ records))) parts.0 parts.1
+    (omega (arith, one, more))
     (calls_of-below schema (clients_after clients fields) (suc number) records parts.1 parts.3))
 
-pub calls_of-few : (schema : Columns) (clients : List (List ℕ)) (number : ℕ) (records : List Fields) (calls : List ClientCall) → calls_of schema clients number records ≡ Ok calls
+pub calls_of-few : (schema : Columns) (clients : List (List ℕ)) (number : ℕ) (records : List Fields) (calls : List ClientCall)
+    → calls_of schema clients number records ≡ Ok calls
     → length clients ≤ MAX_CLIENTS → length (clients_of clients records) ≤ MAX_CLIENTS
 calls_of-few schema clients number [] calls e few = few
 calls_of-few schema clients number (fields ∷ records) calls e few =
-    let parts = then_cons-parts (call_of schema clients number fields) (calls_of schema (clients_after clients fields) (suc number) records) calls e in
+    let parts =
+    then_cons-parts (call_of schema clients number fields)
+    (calls_of schema (clients_after clients fields) (suc number) records) calls e in
     calls_of-few schema (clients_after clients fields) (suc number) records parts.1 parts.3
     (client_of-few clients number fields parts.0.client (call_of-parts schema clients number fields parts.0 parts.2).0 few)
 
-with_clients-parts : (names clients : List (List ℕ)) (r : Result (List ClientCall) ScriptFault) (calls : List ClientCall) → with_clients names r ≡ Ok (clients, calls)
+with_clients-parts : (names clients : List (List ℕ)) (r : Result (List ClientCall) ScriptFault) (calls : List ClientCall)
+    → with_clients names r ≡ Ok (clients, calls)
     → (names ≡ clients) × (r ≡ Ok calls)
 with_clients-parts names clients (Err f) calls e = cc e
 with_clients-parts names clients (Ok read) calls e =
@@ -139,17 +155,20 @@ with_clients-parts names clients (Ok read) calls e =
     (ap (λ (p : List (List ℕ) × List ClientCall). p.0) same, ap (λ (p : List (List ℕ) × List ClientCall). Ok p.1) same)
 
 -- the clients and the calls of a script
-pub script_of-parts : (schema : Columns) (records : List Fields) (clients : List (List ℕ)) (calls : List ClientCall) → script_of schema records ≡ Ok (clients, calls)
+pub script_of-parts : (schema : Columns) (records : List Fields) (clients : List (List ℕ)) (calls : List ClientCall)
+    → script_of schema records ≡ Ok (clients, calls)
     → (clients_of [] records ≡ clients) × (calls_of schema [] 1 records ≡ Ok calls)
 script_of-parts schema records clients calls e = with_clients-parts (clients_of [] records) clients (calls_of schema [] 1 records) calls e
 
-pub script_of-below : (schema : Columns) (records : List Fields) (clients : List (List ℕ)) (calls : List ClientCall) → script_of schema records ≡ Ok (clients, calls)
+pub script_of-below : (schema : Columns) (records : List Fields) (clients : List (List ℕ)) (calls : List ClientCall)
+    → script_of schema records ≡ Ok (clients, calls)
     → All (λ call. call.client < length clients) calls
 script_of-below schema records clients calls e =
     let parts = script_of-parts schema records clients calls e in
     rw parts.0 at (calls_of-below schema [] 1 records calls parts.1)
 
-pub script_of-few : (schema : Columns) (records : List Fields) (clients : List (List ℕ)) (calls : List ClientCall) → script_of schema records ≡ Ok (clients, calls) → length clients ≤ MAX_CLIENTS
+pub script_of-few : (schema : Columns) (records : List Fields) (clients : List (List ℕ)) (calls : List ClientCall)
+    → script_of schema records ≡ Ok (clients, calls) → length clients ≤ MAX_CLIENTS
 script_of-few schema records clients calls e =
     let parts = script_of-parts schema records clients calls e in
     rw parts.0 at (calls_of-few schema [] 1 records calls parts.1 (omega arith))

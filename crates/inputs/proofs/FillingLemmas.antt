@@ -33,22 +33,26 @@ extended-none [] = refl
 extended-none (c ∷ columns) = refl
 
 -- the columns from the first value's end on are as they were
-pub extended-at : (columns : List Column) (cells : List Value) (i : ℕ) (d : Column) → length cells ≡ i → get_or (extended columns cells) i d ≡ get_or columns i d
+pub extended-at : (columns : List Column) (cells : List Value) (i : ℕ) (d : Column) → length cells ≡ i
+    → get_or (extended columns cells) i d ≡ get_or columns i d
 extended-at [] cells i d e = refl
 extended-at (c ∷ columns) [] i d e = refl
 extended-at (c ∷ columns) (v ∷ cells) zero d e = absurd (omega (arith, e))
 extended-at (c ∷ columns) (v ∷ cells) (suc i) d e = extended-at columns cells i d (omega (arith, e))
 
-pub extended-set : (columns : List Column) (cells : List Value) (i : ℕ) (c : Column) (v : Value) → length cells ≡ i → i < length columns → c ≡ get_or columns i c
+pub extended-set : (columns : List Column) (cells : List Value) (i : ℕ) (c : Column) (v : Value) → length cells ≡ i
+    → i < length columns → c ≡ get_or columns i c
     → set (extended columns cells) i (record { ty = c.ty; values = c.values ++ v ∷ [] }) ≡ extended columns (cells ++ v ∷ [])
 extended-set [] cells i c v e lt is = absurd (omega (arith, lt))
 extended-set (x ∷ columns) [] zero c v e lt is =
     let same : c ≡ x = is in
-    ap (λ (y : Column). record { ty = y.ty; values = y.values ++ v ∷ [] } ∷ columns) same ∙ ap (λ (ys : List Column). record { ty = x.ty; values = x.values ++ v ∷ [] } ∷ ys) (sym (extended-none columns))
+    ap (λ (y : Column). record { ty = y.ty; values = y.values ++ v ∷ [] } ∷ columns) same
+    ∙ ap (λ (ys : List Column). record { ty = x.ty; values = x.values ++ v ∷ [] } ∷ ys) (sym (extended-none columns))
 extended-set (x ∷ columns) [] (suc i) c v e lt is = absurd (omega (arith, e))
 extended-set (x ∷ columns) (w ∷ cells) zero c v e lt is = absurd (omega (arith, e))
 extended-set (x ∷ columns) (w ∷ cells) (suc i) c v e lt is =
-    ap (λ (ys : List Column). record { ty = x.ty; values = x.values ++ w ∷ [] } ∷ ys) (extended-set columns cells i c v (omega (arith, e)) (omega (arith, lt)) is)
+    ap (λ (ys : List Column). record { ty = x.ty; values = x.values ++ w ∷ [] } ∷ ys)
+    (extended-set columns cells i c v (omega (arith, e)) (omega (arith, lt)) is)
 
 pub length-extended : (columns : List Column) (cells : List Value) → length (extended columns cells) ≡ length columns
 length-extended [] cells = refl
@@ -66,9 +70,11 @@ types_in-empty (type ∷ types) = ap (λ (rest : List ColumnType). type ∷ rest
 
 pub AreLong-empty : (types : List ColumnType) → AreLong 0 (map empty_column types)
 AreLong-empty [] = All-nil (λ (c : Column). length c.values ≡ 0)
-AreLong-empty (type ∷ types) = All-cons (λ (c : Column). length c.values ≡ 0) (empty_column type) (map empty_column types) refl (AreLong-empty types)
+AreLong-empty (type ∷ types) =
+    All-cons (λ (c : Column). length c.values ≡ 0) (empty_column type) (map empty_column types) refl (AreLong-empty types)
 
-pub AreLong-extended : (count : ℕ) (columns : List Column) (cells : List Value) → AreLong count columns → length cells ≡ length columns → AreLong (count + 1) (extended columns cells)
+pub AreLong-extended : (count : ℕ) (columns : List Column) (cells : List Value) → AreLong count columns
+    → length cells ≡ length columns → AreLong (count + 1) (extended columns cells)
 AreLong-extended count [] cells h e = All-nil (λ (c : Column). length c.values ≡ count + 1)
 AreLong-extended count (c ∷ columns) [] h e = absurd (omega (arith, e))
 AreLong-extended count (c ∷ columns) (v ∷ cells) h e =
@@ -80,17 +86,20 @@ AreLong-extended count (c ∷ columns) (v ∷ cells) h e =
 
 -- ---- rows
 
-row_at-before : (count i : ℕ) (columns : List Column) (cells : List Value) → AreLong count columns → i < count → row_at (extended columns cells) i ≡ row_at columns i
+row_at-before : (count i : ℕ) (columns : List Column) (cells : List Value) → AreLong count columns → i < count
+    → row_at (extended columns cells) i ≡ row_at columns i
 row_at-before count i [] cells h lt = refl
 row_at-before count i (c ∷ columns) [] h lt = refl
 row_at-before count i (c ∷ columns) (v ∷ cells) h lt =
     let Long : Column → Type 0 = λ c. length c.values ≡ count in
     let here : length c.values ≡ count = All-head Long c columns h in
-    let one : get_or (c.values ++ v ∷ []) i (Truth false) ≡ get_or c.values i (Truth false) = get_or_append_left c.values (v ∷ []) (Truth false) i (omega (arith, here, lt)) in
+    let one : get_or (c.values ++ v ∷ []) i (Truth false) ≡ get_or c.values i (Truth false) =
+    get_or_append_left c.values (v ∷ []) (Truth false) i (omega (arith, here, lt)) in
     let rest = row_at-before count i columns cells (All-tail Long c columns h) lt in
     (λ j. one j ∷ rest j)
 
-row_at-added : (count : ℕ) (columns : List Column) (cells : List Value) → AreLong count columns → length cells ≡ length columns → row_at (extended columns cells) count ≡ cells
+row_at-added : (count : ℕ) (columns : List Column) (cells : List Value) → AreLong count columns → length cells ≡ length columns
+    → row_at (extended columns cells) count ≡ cells
 row_at-added count [] [] h e = refl
 row_at-added count [] (v ∷ cells) h e = absurd (omega (arith, e))
 row_at-added count (c ∷ columns) [] h e = absurd (omega (arith, e))
@@ -104,7 +113,8 @@ row_at-added count (c ∷ columns) (v ∷ cells) h e =
 pub length-rows_in : (count : ℕ) (columns : List Column) → length (rows_in count columns) ≡ count
 length-rows_in count columns = length-map-range_with_len (row_in columns) 0 count
 
-pub rows_in-at : (count : ℕ) (columns : List Column) (i : ℕ) (d : Numbered) → i < count → get_or (rows_in count columns) i d ≡ row_in columns i
+pub rows_in-at : (count : ℕ) (columns : List Column) (i : ℕ) (d : Numbered) → i < count
+    → get_or (rows_in count columns) i d ≡ row_in columns i
 rows_in-at count columns i d lt = get_or-map-range_with_len (row_in columns) 0 count i i d lt (omega arith)
 
 -- one row more
@@ -114,8 +124,11 @@ rows_in-extended count columns cells h e =
     let more = extended columns cells in
     let first : rows_in count columns ≡ rows_in count more =
     fill_by_all (row_in more) (rows_in count columns) count (row_in columns 0) (length-rows_in count columns)
-    (λ k lt. rows_in-at count columns k (row_in columns 0) lt ∙ ap (λ (row : Row). record { number = k + 2; row = row }) (sym (row_at-before count k columns cells h lt))) in
-    let last : row_in more count ≡ record { number = count + 2; row = cells } = ap (λ (row : Row). record { number = count + 2; row = row }) (row_at-added count columns cells h e) in
+    (λ k lt. rows_in-at count columns k (row_in columns 0) lt
+    ∙ ap (λ (row : Row). record { number = k + 2; row = row }) (sym (row_at-before count k columns cells h lt)))
+    in
+    let last : row_in more count ≡ record { number = count + 2; row = cells } =
+    ap (λ (row : Row). record { number = count + 2; row = row }) (row_at-added count columns cells h e) in
     map-range_with_len_more (row_in more) 0 count count (omega arith)
     ∙ (λ j. (sym first) j ++ last j ∷ [])
 
@@ -126,7 +139,8 @@ rows_in-alone count columns = map-map (λ (row : Numbered). row.row) (row_in col
 -- ---- cell by cell
 
 -- the type of the column at a place, and those after it
-pub type-drop : (columns : List Column) (i : ℕ) (c : Column) → i < length columns → c ≡ get_or columns i c → drop i (types_in columns) ≡ c.ty ∷ drop (suc i) (types_in columns)
+pub type-drop : (columns : List Column) (i : ℕ) (c : Column) → i < length columns → c ≡ get_or columns i c
+    → drop i (types_in columns) ≡ c.ty ∷ drop (suc i) (types_in columns)
 type-drop [] i c lt is = absurd (omega (arith, lt))
 type-drop (x ∷ columns) zero c lt is = ap (λ (y : Column). y.ty ∷ types_in columns) (sym is)
 type-drop (x ∷ columns) (suc i) c lt is = type-drop columns i c (omega (arith, lt)) is
@@ -139,25 +153,29 @@ all-cells number i types fields cells le =
 
 -- ---- the row of a record
 
-pub row_of-cells : (types : List ColumnType) (number : ℕ) (fields : Fields) (cells : List Value) → number ≤ MAX_ROWS + 1 → length fields ≡ length types
+pub row_of-cells : (types : List ColumnType) (number : ℕ) (fields : Fields) (cells : List Value) → number ≤ MAX_ROWS + 1
+    → length fields ≡ length types
     → cells_of number 0 types fields ≡ Ok cells → row_of types number fields ≡ Ok (record { number = number; row = cells })
 row_of-cells types number fields cells few wide e =
     let under : nat_lt (MAX_ROWS + 1) number ≡ false = lt_false (MAX_ROWS + 1) number few in
     let same : (length fields == length types) ≡ true = eq-eqb (length fields) (length types) wide in
     rw (under, same, e) refl
 
-pub row_of-fault : (types : List ColumnType) (number : ℕ) (fields : Fields) (fault : TableFault) → number ≤ MAX_ROWS + 1 → length fields ≡ length types
+pub row_of-fault : (types : List ColumnType) (number : ℕ) (fields : Fields) (fault : TableFault) → number ≤ MAX_ROWS + 1
+    → length fields ≡ length types
     → cells_of number 0 types fields ≡ Err fault → row_of types number fields ≡ Err fault
 row_of-fault types number fields fault few wide e =
     let under : nat_lt (MAX_ROWS + 1) number ≡ false = lt_false (MAX_ROWS + 1) number few in
     let same : (length fields == length types) ≡ true = eq-eqb (length fields) (length types) wide in
     rw (under, same, e) refl
 
-pub row_of-count : (types : List ColumnType) (number : ℕ) (fields : Fields) → number ≤ MAX_ROWS + 1 → (length fields ≡ length types → ⊥) → row_of types number fields ≡ Err (BadCount number)
+pub row_of-count : (types : List ColumnType) (number : ℕ) (fields : Fields) → number ≤ MAX_ROWS + 1
+    → (length fields ≡ length types → ⊥) → row_of types number fields ≡ Err (BadCount number)
 row_of-count types number fields few other =
     let under : nat_lt (MAX_ROWS + 1) number ≡ false = lt_false (MAX_ROWS + 1) number few in
     let same : (length fields == length types) ≡ false = ne_eqb (length fields) (length types) other in
     rw (under, same) refl
 
-pub row_of-many : (types : List ColumnType) (number : ℕ) (fields : Fields) → MAX_ROWS + 1 < number → row_of types number fields ≡ Err TooManyRows
+pub row_of-many : (types : List ColumnType) (number : ℕ) (fields : Fields) → MAX_ROWS + 1 < number
+    → row_of types number fields ≡ Err TooManyRows
 row_of-many types number fields many = rw (lt_true (MAX_ROWS + 1) number many) refl

@@ -29,12 +29,14 @@ use Rattle.inputs.proofs.ReadLemmas.{then_cons-parts, or_else-parts}
 
 -- ---- cells
 
-mapped : {A : Type 0} (type : ColumnType) (col : ℕ) (f : A → Value) (o : Option A) (v : Value) → ((a : A) → value_fault type col (f a) ≡ None) → option_map f o ≡ Some v → value_fault type col v ≡ None
+mapped : {A : Type 0} (type : ColumnType) (col : ℕ) (f : A → Value) (o : Option A) (v : Value)
+    → ((a : A) → value_fault type col (f a) ≡ None) → option_map f o ≡ Some v → value_fault type col v ≡ None
 mapped type col f None v h e = cc e
 mapped type col f (Some a) v h e = let same : f a ≡ v = cc e in rw (← same) (h a)
 
 -- a cell that was read fits its column
-cell_of-fits : (type : ColumnType) (number at col : ℕ) (bytes : List ℕ) (v : Value) → cell_of type number at bytes ≡ Ok v → value_fault type col v ≡ None
+cell_of-fits : (type : ColumnType) (number at col : ℕ) (bytes : List ℕ) (v : Value) → cell_of type number at bytes ≡ Ok v
+    → value_fault type col v ≡ None
 cell_of-fits column.Int number at col bytes v e = mapped column.Int col Int (int_of bytes) v (λ a. refl) (or_else-parts _ _ v e)
 cell_of-fits column.Bool number at col bytes v e = mapped column.Bool col Truth (truth_of bytes) v (λ a. refl) (or_else-parts _ _ v e)
 cell_of-fits column.Text number at col bytes v e = elim (cases_Bool (is_utf8 bytes)) [
@@ -45,7 +47,8 @@ cell_of-fits column.Text number at col bytes v e = elim (cases_Bool (is_utf8 byt
   ]
 ]
 
-cells_of-fit : (number at col : ℕ) (types : List ColumnType) (fields : Fields) (cells : List Value) → length fields ≡ length types → cells_of number at types fields ≡ Ok cells
+cells_of-fit : (number at col : ℕ) (types : List ColumnType) (fields : Fields) (cells : List Value) → length fields ≡ length types
+    → cells_of number at types fields ≡ Ok cells
     → (length cells ≡ length types) × (values_fault col types cells ≡ None)
 cells_of-fit number at col [] fields cells l e = let none : cells ≡ [] = cc e in rw none (refl, refl)
 cells_of-fit number at col (type ∷ types) [] cells l e = absurd (omega (arith, l))
@@ -63,7 +66,8 @@ numbered-parts number (Ok cells) row e =
     let same : ◌≡◌ {A = Numbered} (record { number = number; row = cells }) row = cc e in
     ap (λ (x : Numbered). Ok x.row) same
 
-row_of-fits : (types : List ColumnType) (number : ℕ) (fields : Fields) (row : Numbered) → row_of types number fields ≡ Ok row → list_fault types row.row ≡ None
+row_of-fits : (types : List ColumnType) (number : ℕ) (fields : Fields) (row : Numbered) → row_of types number fields ≡ Ok row
+    → list_fault types row.row ≡ None
 row_of-fits types number fields row e = elim (cases_Bool (nat_lt (MAX_ROWS + 1) number)) [
   | inl many ↦ cc (rw many at e)
   | inr few ↦ elim (cases_eq (length fields) (length types)) [
@@ -75,17 +79,20 @@ row_of-fits types number fields row e = elim (cases_Bool (nat_lt (MAX_ROWS + 1) 
   ]
 ]
 
-numbered_rows-fit : (types : List ColumnType) (number : ℕ) (records : List Fields) (rows : List Numbered) → numbered_rows types number records ≡ Ok rows
+numbered_rows-fit : (types : List ColumnType) (number : ℕ) (records : List Fields) (rows : List Numbered)
+    → numbered_rows types number records ≡ Ok rows
     → All (λ row. list_fault types row ≡ None) (map (λ row. row.row) rows)
 numbered_rows-fit types number [] rows e = let none : rows ≡ [] = cc e in rw none (λ k d l. absurd (omega (arith, l)))
 numbered_rows-fit types number (fields ∷ records) rows e =
     let parts = then_cons-parts (row_of types number fields) (numbered_rows types (suc number) records) rows e in
-    rw parts.4 (All-cons (λ (row : Row). list_fault types row ≡ None) parts.0.row (map (λ row. row.row) parts.1) (row_of-fits types number fields parts.0 parts.2)
+    rw parts.4 (All-cons (λ (row : Row). list_fault types row ≡ None) parts.0.row (map (λ row. row.row) parts.1)
+    (row_of-fits types number fields parts.0 parts.2)
     (numbered_rows-fit types (suc number) records parts.1 parts.3))
 
 -- ---- tables
 
-unless_repeated-fits : (schema columns : Columns) (rows : List Numbered) (o : Option Numbered) (read : List Row) → All (λ row. list_fault columns.types row ≡ None) (map (λ row. row.row) rows)
+unless_repeated-fits : (schema columns : Columns) (rows : List Numbered) (o : Option Numbered) (read : List Row)
+    → All (λ row. list_fault columns.types row ≡ None) (map (λ row. row.row) rows)
     → unless_repeated columns rows o ≡ Ok (schema, read) → All (λ row. list_fault schema.types row ≡ None) read
 unless_repeated-fits schema columns rows (Some row) read h e = cc e
 unless_repeated-fits schema columns rows None read h e =
@@ -96,14 +103,18 @@ keyed-fits : (schema columns : Columns) (r : Result (List Numbered) TableFault) 
     → ((rows : List Numbered) → r ≡ Ok rows → All (λ row. list_fault columns.types row ≡ None) (map (λ row. row.row) rows))
     → keyed columns r ≡ Ok (schema, read) → All (λ row. list_fault schema.types row ≡ None) read
 keyed-fits schema columns (Err f) read h e = cc e
-keyed-fits schema columns (Ok rows) read h e = unless_repeated-fits schema columns rows (first_repeat columns.key_cols rows) read (h rows refl) e
+keyed-fits schema columns (Ok rows) read h e =
+    unless_repeated-fits schema columns rows (first_repeat columns.key_cols rows) read (h rows refl) e
 
-under-fits : (schema : Columns) (s : Result Columns TableFault) (records : List Fields) (read : List Row) → under s records ≡ Ok (schema, read) → All (λ row. list_fault schema.types row ≡ None) read
+under-fits : (schema : Columns) (s : Result Columns TableFault) (records : List Fields) (read : List Row)
+    → under s records ≡ Ok (schema, read) → All (λ row. list_fault schema.types row ≡ None) read
 under-fits schema (Err f) records read e = cc e
-under-fits schema (Ok columns) records read e = keyed-fits schema columns (numbered_rows columns.types 2 records) read (numbered_rows-fit columns.types 2 records) e
+under-fits schema (Ok columns) records read e =
+    keyed-fits schema columns (numbered_rows columns.types 2 records) read (numbered_rows-fit columns.types 2 records) e
 
 -- each row that was read fits the schema
-table_of-fits : (records : List Fields) (schema : Columns) (read : List Row) → table_of records ≡ Ok (schema, read) → All (λ row. list_fault schema.types row ≡ None) read
+table_of-fits : (records : List Fields) (schema : Columns) (read : List Row) → table_of records ≡ Ok (schema, read)
+    → All (λ row. list_fault schema.types row ≡ None) read
 table_of-fits [] schema read e = cc e
 table_of-fits (header ∷ records) schema read e = under-fits schema (schema_of header) records read e
 
@@ -119,22 +130,31 @@ sorted-rows k (row ∷ next ∷ rows) h =
     let less = h 0 row (omega arith) in
     let rest = sorted-rows k (next ∷ rows) (ascending-tail k row (next ∷ rows) h) in
     let later = model.table_of k rows in
-    let behind = below_less key_cmp_total (key_of k row) (key_of k next) later less (first (below_all key_cmp (key_of k next) later) (is_sorted key_cmp later) rest) in
-    let below = both (is_lt (key_cmp (key_of k row) (key_of k next))) (below_all key_cmp (key_of k row) later) (subst (λ o. T (is_lt o)) (sym less) tt) behind in
+    let behind =
+    below_less key_cmp_total (key_of k row) (key_of k next) later less
+    (first (below_all key_cmp (key_of k next) later) (is_sorted key_cmp later) rest) in
+    let below =
+    both (is_lt (key_cmp (key_of k row) (key_of k next))) (below_all key_cmp (key_of k row) later)
+    (subst (λ o. T (is_lt o)) (sym less) tt) behind in
     both (below_all key_cmp (key_of k row) (model.table_of k (next ∷ rows))) (is_sorted key_cmp (model.table_of k (next ∷ rows))) below rest
 
 true-from : (b : Bool) → T b → b ≡ true
 true-from true h = refl
 true-from false h = absurd h
 
-all_fit : (schema : Columns) (rows : List Row) → All (λ row. list_fault schema.types row ≡ None) rows → list_all (λ e. fits_schema schema e.1) (model.table_of schema.key_cols rows) ≡ true
+all_fit : (schema : Columns) (rows : List Row) → All (λ row. list_fault schema.types row ≡ None) rows
+    → list_all (λ e. fits_schema schema e.1) (model.table_of schema.key_cols rows) ≡ true
 all_fit schema [] h = refl
-all_fit schema (row ∷ rows) h = rw (h 0 row (omega arith), all_fit schema rows (All-tail (λ (r : Row). list_fault schema.types r ≡ None) row rows h)) refl
+all_fit schema (row ∷ rows) h =
+    rw (h 0 row (omega arith), all_fit schema rows (All-tail (λ (r : Row). list_fault schema.types r ≡ None) row rows h)) refl
 
 -- rows that were read, each once and in ascending key, are a table of the schema
-pub table_of-table : (records : List Fields) (schema : Columns) (read rows : List Row) → table_of records ≡ Ok (schema, read) → IsPermutation read rows → IsAscending schema.key_cols rows
+pub table_of-table : (records : List Fields) (schema : Columns) (read rows : List Row) → table_of records ≡ Ok (schema, read)
+    → IsPermutation read rows → IsAscending schema.key_cols rows
     → model.IsTable schema (model.table_of schema.key_cols rows)
 table_of-table records schema read rows said each_once ascending = record {
   keyed = true-from _ (is_keyed_table-table_of schema.key_cols rows (sorted-rows schema.key_cols rows ascending));
-  fitting = all_fit schema rows (All-permutation (λ (r : Row). list_fault schema.types r ≡ None) read rows each_once (table_of-fits records schema read said));
+  fitting =
+      all_fit schema rows (All-permutation (λ (r : Row). list_fault schema.types r ≡ None) read rows each_once
+      (table_of-fits records schema read said));
 }

@@ -15,7 +15,8 @@ use Rattle.inputs.proofs.ReadLemmas.{prepend-then_cons}
 
 -- ---- cells in their order
 
-placed-is_key : (at : ℕ) (in_key : Bool) (o : Option Heading) (heading : Heading) → placed at in_key o ≡ Ok heading → is_key_column o ≡ heading.is_key
+placed-is_key : (at : ℕ) (in_key : Bool) (o : Option Heading) (heading : Heading) → placed at in_key o ≡ Ok heading
+    → is_key_column o ≡ heading.is_key
 placed-is_key at in_key None heading e = cc e
 placed-is_key at in_key (Some x) heading e = elim (cases_Bool (x.is_key && not in_key)) [
   | inl t ↦ cc (rw t at e)
@@ -24,7 +25,8 @@ placed-is_key at in_key (Some x) heading e = elim (cases_Bool (x.is_key && not i
 
 pub headings_of-step : (i : ℕ) (in_key : Bool) (fields : Fields) (field : List ℕ) (heading : Heading) (headings : List Heading)
     → drop i fields ≡ field ∷ drop (suc i) fields → placed i in_key (heading_of field) ≡ Ok heading
-    → prepend headings (headings_of i in_key (drop i fields)) ≡ prepend (headings ++ heading ∷ []) (headings_of (i + 1) heading.is_key (drop (i + 1) fields))
+    → prepend headings (headings_of i in_key (drop i fields))
+    ≡ prepend (headings ++ heading ∷ []) (headings_of (i + 1) heading.is_key (drop (i + 1) fields))
 headings_of-step i in_key fields field heading headings hf hp =
     rw (hf, hp, add-one, placed-is_key i in_key (heading_of field) heading hp) (prepend-then_cons headings heading _)
 

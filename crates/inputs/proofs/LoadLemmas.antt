@@ -21,7 +21,8 @@ use Rattle.inputs.proofs.FittingLemmas.{table_of-table}
 use Rattle.inputs.proofs.TableLemmas.{table_of-ok}
 
 -- columns of a schema, each with so many values
-module _ (schema : Columns) (lawful : IsSchema schema) (count : ℕ) (columns : List Column) (typed : types_in columns ≡ schema.types) (long : AreLong count columns) where
+module _ (schema : Columns) (lawful : IsSchema schema) (count : ℕ) (columns : List Column)
+    (typed : types_in columns ≡ schema.types) (long : AreLong count columns) where
   pub columns-width : length columns ≡ length schema.types
   columns-width = sym (length-map columns (λ (c : Column). c.ty)) ∙ ap (λ (types : List ColumnType). length types) typed
 
@@ -33,7 +34,8 @@ module _ (schema : Columns) (lawful : IsSchema schema) (count : ℕ) (columns : 
 
 module _ (text : List ℕ) (header : Fields) (read : List Fields) (schema : Columns) (columns sorted : List Column) (number : ℕ)
     (whole : AreRecordsOf text (header ∷ read)) (named : schema_of header ≡ Ok schema)
-    (so : (more : List Fields) → said.numbered_rows schema.types 2 (read ++ more) ≡ prepend (rows_in (number - 2) columns) (said.numbered_rows schema.types number more))
+    (so : (more : List Fields) → said.numbered_rows schema.types 2 (read ++ more)
+    ≡ prepend (rows_in (number - 2) columns) (said.numbered_rows schema.types number more))
     (distinct : first_repeat schema.key_cols (rows_in (number - 2) columns) ≡ None)
     (each_once : IsPermutation (rows_of (number - 2) columns) (rows_of (number - 2) sorted))
     (ascending : IsAscending schema.key_cols (rows_of (number - 2) sorted)) where
@@ -52,7 +54,8 @@ module _ (text : List ℕ) (header : Fields) (read : List Fields) (schema : Colu
     ascending = ascending;
   })
 
-  pub loaded-stable : (count : ℕ) → count ≡ number - 2 → number ≤ MAX_ROWS + 2 → IsStable (record { schema = schema; rows = rows_of count sorted })
+  pub loaded-stable : (count : ℕ) → count ≡ number - 2 → number ≤ MAX_ROWS + 2
+      → IsStable (record { schema = schema; rows = rows_of count sorted })
   loaded-stable count e few = subst (λ n. IsStable (record { schema = schema; rows = rows_of n sorted })) (sym e) (record {
     table = table_of-table (header ∷ read) schema (rows_of (number - 2) columns) (rows_of (number - 2) sorted) told each_once ascending;
     few = let long = length_rows (number - 2) sorted in omega (arith, long, few);

@@ -20,13 +20,19 @@ use Rattle.blocks.specs.Column.{Column}
 use Rattle.stable.specs.Column.{all_may_stand}
 use Rattle.stable.specs.Rows.{cell_at, row_at}
 use Rattle.stable.proofs.CallerLemmas.{stands_at}
-use Rattle.inputs.specs.Filling.{keyed_at, keyed_cmp, key_number_cmp, number_cmp, number_or_zero, place_cmp, row_in, AreApart, AreDistinct, AreKeysApart}
+use Rattle.inputs.specs.Filling.{keyed_at, keyed_cmp, number_cmp, number_or_zero, place_cmp, row_in, AreApart, AreDistinct, AreKeysApart}
 use Rattle.inputs.specs.Input.{same_key}
 use Rattle.inputs.specs.declared.ascent.Keyed.{Keyed}
 use Rattle.inputs.proofs.AscentLemmas.{rows_at-get}
 
+-- by the numbers alone
+abbrev pub key_number_cmp : Keyed → Keyed → Ordering
+key_number_cmp a b = int_cmp a.key b.key
+
 pub keyed_cmp_weak : IsStrictWeakOrder (λ a b. is_lt (keyed_cmp a b))
-keyed_cmp_weak = ranks_by (then_total (on_total (λ (k : Keyed). k.key) int_cmp_total) (on_total (λ (k : Keyed). k.place) nat_cmp_total)) (λ (k : Keyed). k)
+keyed_cmp_weak =
+    ranks_by (then_total (on_total (λ (k : Keyed). k.key) int_cmp_total) (on_total (λ (k : Keyed). k.place) nat_cmp_total))
+    (λ (k : Keyed). k)
 
 pub key_number_cmp_weak : IsStrictWeakOrder (λ a b. is_lt (key_number_cmp a b))
 key_number_cmp_weak = ranks_by (on_total (λ (k : Keyed). k.key) int_cmp_total) (λ (k : Keyed). k)
@@ -41,16 +47,19 @@ pub keys-sorted : (keyed : List Keyed) → IsSorted key_number_cmp keyed → Are
 keys-sorted keyed up apart j d low lt =
     let a = get_or keyed j d in
     let b = get_or keyed (j + 1) d in
-    then-false (int_cmp b.key a.key) (int_cmp a.key b.key) (nat_cmp b.place a.place) (int_cmp_total.antisymm a.key b.key) (up j d low lt) (apart j d lt)
+    then-false (int_cmp b.key a.key) (int_cmp a.key b.key) (nat_cmp b.place a.place) (int_cmp_total.antisymm a.key b.key)
+    (up j d low lt) (apart j d lt)
 
 -- one neighbour more
-pub apart-step : (keyed : List Keyed) (i : ℕ) (e : Keyed) → 1 ≤ i → i < length keyed → is_eq (int_cmp (get_or keyed (i - 1) e).key (get_or keyed i e).key) ≡ false
+pub apart-step : (keyed : List Keyed) (i : ℕ) (e : Keyed) → 1 ≤ i → i < length keyed
+    → is_eq (int_cmp (get_or keyed (i - 1) e).key (get_or keyed i e).key) ≡ false
     → ((k : ℕ) (d : Keyed) → k + 1 < i → is_eq (int_cmp (get_or keyed k d).key (get_or keyed (k + 1) d).key) ≡ false)
     → (k : ℕ) (d : Keyed) → k + 1 < i + 1 → is_eq (int_cmp (get_or keyed k d).key (get_or keyed (k + 1) d).key) ≡ false
 apart-step keyed i e some within here so k d lt = elim (cases_eq (k + 1) i) [
   | inl at ↦
       let before : i - 1 ≡ k = omega (arith, at) in
-      (λ t. is_eq (int_cmp (get_or_default keyed k d e (omega (arith, at, within)) t).key (get_or_default keyed (k + 1) d e (omega (arith, at, within)) t).key))
+      (λ t. is_eq (int_cmp (get_or_default keyed k d e (omega (arith, at, within)) t).key
+      (get_or_default keyed (k + 1) d e (omega (arith, at, within)) t).key))
       ∙ (λ t. is_eq (int_cmp (get_or keyed (sym before t) e).key (get_or keyed (at t) e).key))
       ∙ here
   | inr n ↦ so k d (omega (arith, n, lt))
@@ -117,7 +126,8 @@ module _ (c : Column) (count : ℕ) (int : c.ty ≡ column.Int) (filled : length
         ∙ (λ i. is_eq (int_cmp (sym is_a.0 i).key (sym is_b.0 i).key))
         ∙ apart j e within
 
-pub places-moved : (c : Column) (count : ℕ) (keyed : List Keyed) → IsPermutation (map (keyed_at c) (range_with_len 0 count)) keyed → IsPermutation (range_with_len 0 count) (map (λ k. k.place) keyed)
+pub places-moved : (c : Column) (count : ℕ) (keyed : List Keyed) → IsPermutation (map (keyed_at c) (range_with_len 0 count)) keyed
+    → IsPermutation (range_with_len 0 count) (map (λ k. k.place) keyed)
 places-moved c count keyed moved =
     let places = λ (k : Keyed). k.place in
     let same = map-map places (keyed_at c) (range_with_len 0 count) ∙ map-id (range_with_len 0 count) in
@@ -125,26 +135,32 @@ places-moved c count keyed moved =
 
 -- ---- a key of one column
 
-key-one : (columns : List Column) (p : ℕ) (d : Column) → 0 < length columns → key_of 1 (row_at columns p) ≡ cell_at p (get_or columns 0 d) ∷ []
+key-one : (columns : List Column) (p : ℕ) (d : Column) → 0 < length columns
+    → key_of 1 (row_at columns p) ≡ cell_at p (get_or columns 0 d) ∷ []
 key-one [] p d lt = absurd (omega (arith, lt))
 key-one (c ∷ columns) p d lt = refl
 
-place_cmp-one : (columns : List Column) (c : Column) (a b : ℕ) → 0 < length columns → c ≡ get_or columns 0 c → place_cmp 1 columns a b ≡ number_cmp c a b
+place_cmp-one : (columns : List Column) (c : Column) (a b : ℕ) → 0 < length columns → c ≡ get_or columns 0 c
+    → place_cmp 1 columns a b ≡ number_cmp c a b
 place_cmp-one columns c a b lt is =
     (λ i. ordering_then (key_cmp (key-one columns a c lt i) (key-one columns b c lt i)) (nat_cmp a b))
     ∙ (λ i. ordering_then (key_cmp (cell_at a (sym is i) ∷ []) (cell_at b (sym is i) ∷ [])) (nat_cmp a b))
     ∙ ap (λ (o : Ordering). ordering_then o (nat_cmp a b)) (then_Equal (value_cmp (cell_at a c) (cell_at b c)))
 
-pub sorted-one : (columns : List Column) (c : Column) (places : List ℕ) → 0 < length columns → c ≡ get_or columns 0 c → IsSorted (number_cmp c) places → IsSorted (place_cmp 1 columns) places
-sorted-one columns c places lt is up j d low within = ap is_lt (place_cmp-one columns c (get_or places (j + 1) d) (get_or places j d) lt is) ∙ up j d low within
+pub sorted-one : (columns : List Column) (c : Column) (places : List ℕ) → 0 < length columns → c ≡ get_or columns 0 c
+    → IsSorted (number_cmp c) places → IsSorted (place_cmp 1 columns) places
+sorted-one columns c places lt is up j d low within =
+    ap is_lt (place_cmp-one columns c (get_or places (j + 1) d) (get_or places j d) lt is) ∙ up j d low within
 
-same_key-one : (columns : List Column) (c : Column) (a b : ℕ) → 0 < length columns → c ≡ get_or columns 0 c → same_key 1 (row_in columns a) (row_in columns b) ≡ is_eq (value_cmp (cell_at a c) (cell_at b c))
+same_key-one : (columns : List Column) (c : Column) (a b : ℕ) → 0 < length columns → c ≡ get_or columns 0 c
+    → same_key 1 (row_in columns a) (row_in columns b) ≡ is_eq (value_cmp (cell_at a c) (cell_at b c))
 same_key-one columns c a b lt is =
     (λ i. is_eq (key_cmp (key-one columns a c lt i) (key-one columns b c lt i)))
     ∙ (λ i. is_eq (key_cmp (cell_at a (sym is i) ∷ []) (cell_at b (sym is i) ∷ [])))
     ∙ ap is_eq (then_Equal (value_cmp (cell_at a c) (cell_at b c)))
 
-pub distinct-one : (columns : List Column) (c : Column) (places : List ℕ) → 0 < length columns → c ≡ get_or columns 0 c → AreApart c places → AreDistinct 1 columns places
+pub distinct-one : (columns : List Column) (c : Column) (places : List ℕ) → 0 < length columns → c ≡ get_or columns 0 c
+    → AreApart c places → AreDistinct 1 columns places
 distinct-one columns c places lt is apart k d within =
     (λ i. same_key 1 (rows_at-get columns places k d (omega (arith, within)) i) (rows_at-get columns places (k + 1) d within i))
     ∙ same_key-one columns c (get_or places k 0) (get_or places (k + 1) 0) lt is

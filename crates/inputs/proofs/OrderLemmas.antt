@@ -28,7 +28,8 @@ get-same (x ∷ xs) (suc i) d e h = get-same xs i d e (omega (arith, h))
 -- ---- orders
 
 pub numbered_cmp_total : (k : ℕ) → IsTotalOrder (numbered_cmp k)
-numbered_cmp_total k = then_total (on_total (λ (x : Numbered). key_of k x.row) key_cmp_total) (on_total (λ (x : Numbered). x.number) nat_cmp_total)
+numbered_cmp_total k =
+    then_total (on_total (λ (x : Numbered). key_of k x.row) key_cmp_total) (on_total (λ (x : Numbered). x.number) nat_cmp_total)
 
 pub numbered_cmp_weak : (k : ℕ) → IsStrictWeakOrder (λ x y. is_lt (numbered_cmp k x y))
 numbered_cmp_weak k = ranks_by (numbered_cmp_total k) (λ (x : Numbered). x)
@@ -76,7 +77,9 @@ lt_from_le a b h ne = elim (cases_lt a b) [ inl l ↦ l | inr l ↦ absurd (ne (
 -- ---- numbers stay apart where rows are moved
 
 abbrev AreApart : List Numbered → Type 0
-AreApart rows = (i j : ℕ) (d : Numbered) → i < length rows → j < length rows → (i ≡ j → ⊥) → (get_or rows i d).number ≡ (get_or rows j d).number → ⊥
+AreApart rows =
+    (i j : ℕ) (d : Numbered) → i < length rows → j < length rows → (i ≡ j → ⊥)
+    → (get_or rows i d).number ≡ (get_or rows j d).number → ⊥
 
 -- where the row at a place was before an exchange
 abbrev moved_from : ℕ → ℕ → ℕ → ℕ
@@ -107,13 +110,15 @@ apart-swap rows a b ha hb apart i j d hi hj ne same =
     let lj : j < length rows = omega (arith, length-swap rows a b) in
     let ei = moved_from-at (λ i. get_or rows i d) (λ i. get_or (swap rows a b) i d) a b i s in
     let ej = moved_from-at (λ i. get_or rows i d) (λ i. get_or (swap rows a b) i d) a b j s in
-    apart (moved_from a b i) (moved_from a b j) d (moved_from-below a b i _ ha hb li) (moved_from-below a b j _ ha hb lj) (moved_from-apart a b i j ne)
+    apart (moved_from a b i) (moved_from a b j) d (moved_from-below a b i _ ha hb li) (moved_from-below a b j _ ha hb lj)
+    (moved_from-apart a b i j ne)
     (sym (ap (λ (x : Numbered). x.number) ei) ∙ same ∙ ap (λ (x : Numbered). x.number) ej)
 
 numbered-apart : (rows : List Numbered) → AreNumbered rows → AreApart rows
 numbered-apart rows h i j d hi hj ne same = elim (cases_lt i j) [
   | inl l ↦ let up : (get_or rows i d).number < (get_or rows j d).number = h i j d l hj in absurd (omega (arith, up, same))
-  | inr l ↦ let up : (get_or rows j d).number < (get_or rows i d).number = h j i d (omega (arith, ne)) hi in absurd (omega (arith, up, same))
+  | inr l ↦ let up : (get_or rows j d).number < (get_or rows i d).number =
+      h j i d (omega (arith, ne)) hi in absurd (omega (arith, up, same))
 ]
 
 sorted-apart : (rows sorted : List Numbered) → IsPermutation rows sorted → AreNumbered rows → AreApart sorted
@@ -125,9 +130,12 @@ module _ (k : ℕ) (sorted : List Numbered) (up : IsInOrder k sorted) where
   -- a row does not stand before one that is less
   not_less : (i j : ℕ) (d : Numbered) → i ≤ j → j < length sorted
       → (key_cmp (key_of k (get_or sorted j d).row) (key_of k (get_or sorted i d).row) ≡ Less → ⊥)
-      × (key_cmp (key_of k (get_or sorted j d).row) (key_of k (get_or sorted i d).row) ≡ Equal → (get_or sorted i d).number ≤ (get_or sorted j d).number)
+      × (key_cmp (key_of k (get_or sorted j d).row) (key_of k (get_or sorted i d).row) ≡ Equal
+      → (get_or sorted i d).number ≤ (get_or sorted j d).number)
   not_less i j d l h =
-      let parts = then-not_less (key_cmp (key_of k (get_or sorted j d).row) (key_of k (get_or sorted i d).row)) (nat_cmp (get_or sorted j d).number (get_or sorted i d).number)
+      let parts =
+      then-not_less (key_cmp (key_of k (get_or sorted j d).row) (key_of k (get_or sorted i d).row))
+      (nat_cmp (get_or sorted j d).number (get_or sorted i d).number)
       (sorted_far (λ x y. is_lt (numbered_cmp k x y)) (numbered_cmp_weak k) sorted up i j d l h) in
       (parts.0, λ e. number-not_less (get_or sorted j d).number (get_or sorted i d).number (parts.1 e))
 
@@ -138,14 +146,22 @@ module _ (k : ℕ) (sorted : List Numbered) (up : IsInOrder k sorted) where
   repeat-adjacent i j d hi hj same lower =
       let equal : key_cmp (key_of k (get_or sorted i d).row) (key_of k (get_or sorted j d).row) ≡ Equal = is_eq-Equal _ same in
       elim (cases_lt i j) [
-        | inr l ↦ let le : (get_or sorted j d).number ≤ (get_or sorted i d).number = (not_less j i d l hi).1 equal in absurd (omega (arith, le, lower))
+        | inr l ↦ let le : (get_or sorted j d).number ≤ (get_or sorted i d).number =
+            (not_less j i d l hi).1 equal in absurd (omega (arith, le, lower))
         | inl l ↦
             let near = (not_less i (j - 1) d (omega (arith, l)) (omega (arith, l, hj))).0 in
             let next = (not_less (j - 1) j d (omega (arith, l)) hj).0 in
-            let moved = key_cmp_total.congr (key_of k (get_or sorted i d).row) (key_of k (get_or sorted j d).row) (key_of k (get_or sorted (j - 1) d).row) equal in
-            let one = tied (key_cmp (key_of k (get_or sorted i d).row) (key_of k (get_or sorted (j - 1) d).row)) (key_cmp (key_of k (get_or sorted (j - 1) d).row) (key_of k (get_or sorted i d).row))
-            (key_cmp_total.antisymm (key_of k (get_or sorted (j - 1) d).row) (key_of k (get_or sorted i d).row)) (λ e. next (sym moved ∙ e)) near in
-            let other = tied_back key_cmp_total (key_of k (get_or sorted j d).row) (key_of k (get_or sorted (j - 1) d).row) (sym moved ∙ one) in
+            let moved =
+            key_cmp_total.congr (key_of k (get_or sorted i d).row) (key_of k (get_or sorted j d).row)
+            (key_of k (get_or sorted (j - 1) d).row) equal in
+            let one =
+            tied (key_cmp (key_of k (get_or sorted i d).row) (key_of k (get_or sorted (j - 1) d).row))
+            (key_cmp (key_of k (get_or sorted (j - 1) d).row) (key_of k (get_or sorted i d).row))
+            (key_cmp_total.antisymm (key_of k (get_or sorted (j - 1) d).row) (key_of k (get_or sorted i d).row))
+            (λ e. next (sym moved ∙ e)) near in
+            let other =
+            tied_back key_cmp_total (key_of k (get_or sorted j d).row) (key_of k (get_or sorted (j - 1) d).row)
+            (sym moved ∙ one) in
             let first : 1 ≤ j = omega (arith, l) in
             (first, ap is_eq other)
       ]
@@ -161,7 +177,8 @@ module _ (k : ℕ) (sorted : List Numbered) (up : IsInOrder k sorted) where
       let off : j ≡ j + 1 → ⊥ = λ e. absurd (omega (arith, e)) in
       let ne : (get_or sorted j d).number ≡ (get_or sorted (j + 1) d).number → ⊥ = apart j (j + 1) d here h off in
       let lower : (get_or sorted j d).number < (get_or sorted (j + 1) d).number = lt_from_le _ _ le ne in
-      list_any_at (λ other. nat_lt other.number (get_or sorted (j + 1) d).number && same_key k other (get_or sorted (j + 1) d)) sorted j d here
+      list_any_at (λ other. nat_lt other.number (get_or sorted (j + 1) d).number && same_key k other (get_or sorted (j + 1) d))
+      sorted j d here
       (rw (lt_true _ _ lower, same) refl)
 
   -- where no neighbours have one key, the keys ascend
@@ -172,12 +189,15 @@ module _ (k : ℕ) (sorted : List Numbered) (up : IsInOrder k sorted) where
       let near : j + 1 < length sorted = omega (arith, h, long) in
       let first = get_or-map (λ (row : Numbered). row.row) sorted j e d (omega (arith, near)) in
       let second = get_or-map (λ (row : Numbered). row.row) sorted (j + 1) e d near in
-      rw (first, second) (above (key_cmp (key_of k (get_or sorted (j + 1) e).row) (key_of k (get_or sorted j e).row)) (key_cmp (key_of k (get_or sorted j e).row) (key_of k (get_or sorted (j + 1) e).row))
-      (key_cmp_total.antisymm (key_of k (get_or sorted j e).row) (key_of k (get_or sorted (j + 1) e).row)) (not_less j (j + 1) e (omega arith) near).0 (none j e near))
+      rw (first, second) (above (key_cmp (key_of k (get_or sorted (j + 1) e).row) (key_of k (get_or sorted j e).row))
+      (key_cmp (key_of k (get_or sorted j e).row) (key_of k (get_or sorted (j + 1) e).row))
+      (key_cmp_total.antisymm (key_of k (get_or sorted j e).row) (key_of k (get_or sorted (j + 1) e).row))
+      (not_less j (j + 1) e (omega arith) near).0 (none j e near))
 
 -- ---- the least repeat, row by row
 
-module _ (k : ℕ) (rows : List Numbered) (i : ℕ) (before row : Numbered) (h : i + 1 < length rows) (at : before ≡ get_or rows i before) (next : row ≡ get_or rows (i + 1) row) where
+module _ (k : ℕ) (rows : List Numbered) (i : ℕ) (before row : Numbered) (h : i + 1 < length rows)
+    (at : before ≡ get_or rows i before) (next : row ≡ get_or rows (i + 1) row) where
   same_at : (d : Numbered) → same_key k (get_or rows i d) (get_or rows (i + 1) d) ≡ same_key k before row
   same_at d =
       let a : get_or rows i d ≡ before = get-same rows i d before (omega (arith, h)) ∙ sym at in
@@ -190,7 +210,8 @@ module _ (k : ℕ) (rows : List Numbered) (i : ℕ) (before row : Numbered) (h :
   here_or_below : (j : ℕ) → j + 1 < i + 1 + 1 → (j + 1 < i + 1) ⊎ (j ≡ i)
   here_or_below j l = elim (cases_lt (j + 1) (i + 1)) [ inl m ↦ inl m | inr m ↦ inr (omega (arith, l, m)) ]
 
-  least-step : (same : Bool) (least : Option ℕ) → same_key k before row ≡ same → IsLeastRepeat k rows (i + 1) least → IsLeastRepeat k rows (i + 1 + 1) (lower_repeat same row.number least)
+  least-step : (same : Bool) (least : Option ℕ) → same_key k before row ≡ same → IsLeastRepeat k rows (i + 1) least
+      → IsLeastRepeat k rows (i + 1 + 1) (lower_repeat same row.number least)
   least-step false None e so = λ j d l. elim (here_or_below j l) [
     | inl m ↦ so j d m
     | inr m ↦ rw m (same_at d ∙ e)
@@ -228,14 +249,16 @@ module _ (k : ℕ) (rows : List Numbered) (i : ℕ) (before row : Numbered) (h :
         )
   ]
 
-  pub IsLeastRepeat-step : (least : Option ℕ) → IsLeastRepeat k rows (i + 1) least → IsLeastRepeat k rows (i + 1 + 1) (lower_repeat (same_key k before row) row.number least)
+  pub IsLeastRepeat-step : (least : Option ℕ) → IsLeastRepeat k rows (i + 1) least
+      → IsLeastRepeat k rows (i + 1 + 1) (lower_repeat (same_key k before row) row.number least)
   IsLeastRepeat-step least so = least-step (same_key k before row) least refl so
 
 -- one row repeats nothing
 pub IsLeastRepeat-start : (k : ℕ) (rows : List Numbered) → IsLeastRepeat k rows (0 + 1) None
 IsLeastRepeat-start k rows j d l = absurd (omega (arith, l))
 
-pub IsLeastRepeat-end : (k : ℕ) (rows : List Numbered) (i : ℕ) (least : Option ℕ) → i ≤ length rows - 1 → length rows - 1 ≤ i → IsLeastRepeat k rows (i + 1) least → IsLeastRepeat k rows (length rows) least
+pub IsLeastRepeat-end : (k : ℕ) (rows : List Numbered) (i : ℕ) (least : Option ℕ) → i ≤ length rows - 1 → length rows - 1 ≤ i
+    → IsLeastRepeat k rows (i + 1) least → IsLeastRepeat k rows (length rows) least
 IsLeastRepeat-end k [] i None l m so = λ j d h. absurd (omega (arith, h))
 IsLeastRepeat-end k [] i (Some n) l m so = let b = so.0.1 in absurd (omega (arith, l, b))
 IsLeastRepeat-end k (x ∷ rows) i least l m so = let e : i + 1 ≡ length (x ∷ rows) = omega (arith, l, m) in rw e at so
@@ -257,11 +280,14 @@ find-least p (x ∷ rows) number h (suc i) d hi hp hn least = elim (cases_Bool (
   | inl e ↦ let le : number ≤ x.number = least 0 d (omega arith) e in
       let lt : x.number < (get_or rows i d).number = h 0 (suc i) d (omega arith) hi in
       absurd (omega (arith, le, lt, hn))
-  | inr e ↦ let rest = find-least p rows number (λ a b c l m. h (suc a) (suc b) c (omega (arith, l)) (omega (arith, m))) i d (omega (arith, hi)) hp hn (λ j c l. least (suc j) c (omega (arith, l))) in
+  | inr e ↦ let rest =
+      find-least p rows number (λ a b c l m. h (suc a) (suc b) c (omega (arith, l)) (omega (arith, m))) i d (omega (arith, hi)) hp
+      hn (λ j c l. least (suc j) c (omega (arith, l))) in
       (rest.0, rw e rest.1, rest.2)
 ]
 
-module _ (k : ℕ) (rows sorted : List Numbered) (moved : IsPermutation rows sorted) (numbered : AreNumbered rows) (up : IsInOrder k sorted) where
+module _ (k : ℕ) (rows sorted : List Numbered) (moved : IsPermutation rows sorted) (numbered : AreNumbered rows)
+    (up : IsInOrder k sorted) where
   same_repeats : (row : Numbered) → is_repeat k rows row ≡ is_repeat k sorted row
   same_repeats row = list_any-IsPermutation (λ other. nat_lt other.number row.number && same_key k other row) rows sorted moved
 
@@ -275,10 +301,18 @@ module _ (k : ℕ) (rows sorted : List Numbered) (moved : IsPermutation rows sor
       let lower : other.1.number < row.number = lt_from _ _ tests.0 in
       let at_other : (d : Numbered) → get_or sorted other.0 d ≡ other.1 = λ d. get-same sorted other.0 d other.1 other.2 ∙ other.3 in
       let at_row : (d : Numbered) → get_or sorted there.0 d ≡ row = λ d. get-same sorted there.0 d row there.1 ∙ there.2 in
-      let near = repeat-adjacent k sorted up other.0 there.0 row other.2 there.1 (rw (at_other row, at_row row) tests.1) (rw (at_other row, at_row row) lower) in
+      let near =
+      repeat-adjacent k sorted up other.0 there.0 row other.2 there.1 (rw (at_other row, at_row row) tests.1)
+      (rw (at_other row, at_row row) lower) in
       let first : 1 ≤ there.0 = near.0 in
-      let back : there.0 - 1 + 1 ≡ there.0 = omega (arith, first) in
-      (there.0 - 1, rw back there.1, λ d. (rw back (at_row d), rw (get-same sorted (there.0 - 1) d row (omega (arith, first, there.1))) (rw (at_row row) at near.1)))
+      let back : there.0 - 1 + 1 ≡ there.0 = omega (arith, first) in (
+        there.0 - 1,
+        rw back there.1,
+        λ d. (
+          rw back (at_row d),
+          rw (get-same sorted (there.0 - 1) d row (omega (arith, first, there.1))) (rw (at_row row) at near.1),
+        ),
+      )
 
   pub repeats-none : IsLeastRepeat k sorted (length sorted) None → first_repeat k rows ≡ None
   repeats-none none = find-none (is_repeat k rows) rows (λ i d l. elim (cases_Bool (is_repeat k rows (get_or rows i d))) [
@@ -288,7 +322,8 @@ module _ (k : ℕ) (rows sorted : List Numbered) (moved : IsPermutation rows sor
     | inr e ↦ e
   ])
 
-  pub repeats-least : (number : ℕ) → IsLeastRepeat k sorted (length sorted) (Some number) → (row : Numbered) × (first_repeat k rows ≡ Some row) × (row.number ≡ number)
+  pub repeats-least : (number : ℕ) → IsLeastRepeat k sorted (length sorted) (Some number)
+      → (row : Numbered) × (first_repeat k rows ≡ Some row) × (row.number ≡ number)
   repeats-least number h =
       let d : Numbered = record { number = 0; row = [] } in
       let at = h.0.0 in
@@ -296,7 +331,8 @@ module _ (k : ℕ) (rows sorted : List Numbered) (moved : IsPermutation rows sor
       let row = get_or sorted (at + 1) d in
       let again = same_repeats row ∙ adjacent-repeat k sorted up at d (sorted-apart rows sorted moved numbered) h.0.1 found.0 in
       let here = Contains-permutation sorted rows row (IsPermutation-sym rows sorted moved) (Contains-get_or sorted (at + 1) d h.0.1) in
-      find-least (is_repeat k rows) rows number numbered here.0 row here.1 (rw here.2 again) (ap (λ (x : Numbered). x.number) here.2 ∙ found.1)
+      find-least (is_repeat k rows) rows number numbered here.0 row here.1 (rw here.2 again)
+      (ap (λ (x : Numbered). x.number) here.2 ∙ found.1)
       (λ j c l e. let behind = repeat-behind (get_or rows j c) (Contains-get_or rows j c l) e in
       let both = behind.2 c in
       let le = h.1 behind.0 c behind.1 (rw both.0 both.1) in

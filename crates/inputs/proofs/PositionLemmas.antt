@@ -41,13 +41,17 @@ position_of-plus (c ∷ bs) e = none_where (c ∷ bs) (λ a b. plain (rw e at a)
 -- ---- calls of positions
 
 -- the argument of a read at a position
-pub at_call-read : (number : ℕ) (fields : Fields) → 2 < length fields → at_call number (drop 2 fields) ≡ read_at (position_at number 2 (get_or fields 2 []))
+pub at_call-read : (number : ℕ) (fields : Fields) → 2 < length fields
+    → at_call number (drop 2 fields) ≡ read_at (position_at number 2 (get_or fields 2 []))
 at_call-read number fields lt = ap (at_call number) (drop_more fields 2 [] lt)
 
 -- the arguments of a scan
-pub scan_call-read : (number : ℕ) (fields : Fields) → 3 < length fields → scan_call number (drop 2 fields) ≡ scan_between (position_at number 2 (get_or fields 2 [])) (position_at number 3 (get_or fields 3 []))
+pub scan_call-read : (number : ℕ) (fields : Fields) → 3 < length fields
+    → scan_call number (drop 2 fields)
+    ≡ scan_between (position_at number 2 (get_or fields 2 [])) (position_at number 3 (get_or fields 3 []))
 scan_call-read number fields lt =
-    ap (scan_call number) (drop_more fields 2 [] (omega (arith, lt)) ∙ ap (λ (rest : Fields). get_or fields 2 [] ∷ rest) (drop_more fields 3 [] lt))
+    ap (scan_call number)
+    (drop_more fields 2 [] (omega (arith, lt)) ∙ ap (λ (rest : Fields). get_or fields 2 [] ∷ rest) (drop_more fields 3 [] lt))
 
 -- the field that stands first of the rest
 pub field-is : (fields rest : Fields) (at : ℕ) (field : List ℕ) → drop at fields ≡ field ∷ rest → get_or fields at [] ≡ field

@@ -21,7 +21,8 @@ module _ {A F : Type 0} where
   prepend-then_cons xs a (Err e) = refl
 
   -- what was read first, and the rest
-  pub then_cons-parts : (a : Result A F) (r : Result (List A) F) (xs : List A) → then_cons a r ≡ Ok xs → (x : A) × (rest : List A) × (a ≡ Ok x) × (r ≡ Ok rest) × (xs ≡ x ∷ rest)
+  pub then_cons-parts : (a : Result A F) (r : Result (List A) F) (xs : List A) → then_cons a r ≡ Ok xs
+      → (x : A) × (rest : List A) × (a ≡ Ok x) × (r ≡ Ok rest) × (xs ≡ x ∷ rest)
   then_cons-parts (Err f) r xs e = cc e
   then_cons-parts (Ok a) (Err f) xs e = cc e
   then_cons-parts (Ok a) (Ok rest) xs e = (a, rest, refl, refl, cc e)
@@ -71,10 +72,21 @@ reached-start cfg s s2 xs e = (e, refl)
 
 -- what a read adds
 pub reads-one : (text : List ℕ) (read : List Fields) (old new : Reader (Bor (List ℕ))) (found : Bool) (fields : Fields)
-    → IsReading text read old → took_first new ≡ true → is_flexible new ≡ is_flexible old → ReadRecord (λ (s : Bor (List ℕ)). Some s.now) old new found fields → ReadsOne text read new found fields
+    → IsReading text read old → took_first new ≡ true → is_flexible new ≡ is_flexible old
+    → ReadRecord (λ (s : Bor (List ℕ)). Some s.now) old new found fields → ReadsOne text read new found fields
 reads-one text read old new true fields h begun flex r =
-    let more = rows-more (λ (s : Bor (List ℕ)). Some s.now) old new fields default_config st.StartRecord (strip_bom text) h.left read h.config h.source h.reached r in
-    record { plain = r.3 ∙ h.plain; ready = inl begun; config = r.2 ∙ h.config; flexible = flex ∙ h.flexible; left = more.0; source = more.1; reached = more.2 }
+    let more =
+    rows-more (λ (s : Bor (List ℕ)). Some s.now) old new fields default_config st.StartRecord (strip_bom text) h.left read
+    h.config h.source h.reached r in
+    record {
+      plain = r.3 ∙ h.plain;
+      ready = inl begun;
+      config = r.2 ∙ h.config;
+      flexible = flex ∙ h.flexible;
+      left = more.0;
+      source = more.1;
+      reached = more.2;
+    }
 reads-one text read old new false fields h begun flex r =
     (old.state, h.left, h.reached, rows-end (λ (s : Bor (List ℕ)). Some s.now) old new fields default_config h.left h.config h.source r)
 
@@ -91,10 +103,12 @@ rest_of cfg s s2 xs ys (r ∷ rs) (q ∷ all) h g =
     (later.0, cc (h.2, d.2, ap (λ (p : Read). p.0) same, later.1))
 
 -- what a reader gave stands at the start of the text's records
-pub records-start : (text : List ℕ) (read all : List Fields) (reader : Reader (Bor (List ℕ))) → IsReading text read reader → AreRecordsOf text all → (rest : List Fields) × (all ≡ read ++ rest)
+pub records-start : (text : List ℕ) (read all : List Fields) (reader : Reader (Bor (List ℕ))) → IsReading text read reader
+    → AreRecordsOf text all → (rest : List Fields) × (all ≡ read ++ rest)
 records-start text read all reader h g = rest_of default_config st.StartRecord reader.state (strip_bom text) h.left read all h.reached g
 
-same_of : (cfg : Config) (s : State) (xs : List ℕ) (first all : List Fields) → AreRecords cfg s xs first → AreRecords cfg s xs all → all ≡ first
+same_of : (cfg : Config) (s : State) (xs : List ℕ) (first all : List Fields) → AreRecords cfg s xs first → AreRecords cfg s xs all
+    → all ≡ first
 unfolding Reached
 same_of cfg s xs [] [] h g = refl
 same_of cfg s xs [] (q ∷ all) h g = cc (sym g.2.1 ∙ rw (← h.2.0, ← h.2.1) at h.3)

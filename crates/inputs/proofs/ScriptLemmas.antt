@@ -38,26 +38,31 @@ drop-slice_get [] i x e = cc e
 drop-slice_get (y ∷ xs) zero x e = let same : y ≡ x = cc e in ap (λ z. z ∷ xs) same
 drop-slice_get (y ∷ xs) (suc i) x e = drop-slice_get xs i x e
 
-pub place_from-here : (i : ℕ) (name other : List ℕ) (names : List (List ℕ)) → drop i names ≡ other ∷ drop (suc i) names → bytes_eq other name ≡ true → place_from i name (drop i names) ≡ Some i
+pub place_from-here : (i : ℕ) (name other : List ℕ) (names : List (List ℕ)) → drop i names ≡ other ∷ drop (suc i) names
+    → bytes_eq other name ≡ true → place_from i name (drop i names) ≡ Some i
 place_from-here i name other names h e = rw (h, e) refl
 
-pub place_from-next : (i : ℕ) (name other : List ℕ) (names : List (List ℕ)) → drop i names ≡ other ∷ drop (suc i) names → bytes_eq other name ≡ false
+pub place_from-next : (i : ℕ) (name other : List ℕ) (names : List (List ℕ)) → drop i names ≡ other ∷ drop (suc i) names
+    → bytes_eq other name ≡ false
     → place_from i name (drop i names) ≡ place_from (i + 1) name (drop (i + 1) names)
 place_from-next i name other names h e = rw (h, e, add-one) refl
 
 -- ---- clients
 
-pub client_of-none : (clients : List (List ℕ)) (number : ℕ) (fields : Fields) → fields ≡ [] → client_of clients number fields ≡ Err (BadClient number)
+pub client_of-none : (clients : List (List ℕ)) (number : ℕ) (fields : Fields) → fields ≡ []
+    → client_of clients number fields ≡ Err (BadClient number)
 client_of-none clients number fields e = rw e refl
 
 module _ (clients : List (List ℕ)) (number : ℕ) (fields rest : Fields) (name : List ℕ) (e : fields ≡ name ∷ rest) where
   pub client_of-bad : is_client name ≡ false → client_of clients number fields ≡ Err (BadClient number)
   client_of-bad h = rw (e, h) refl
 
-  pub client_of-too_many : is_client name ≡ true → MAX_CLIENTS ≤ number_of name clients → client_of clients number fields ≡ Err (TooManyClients number)
+  pub client_of-too_many : is_client name ≡ true → MAX_CLIENTS ≤ number_of name clients
+      → client_of clients number fields ≡ Err (TooManyClients number)
   client_of-too_many h m = rw (e, h, le_true MAX_CLIENTS (number_of name clients) m) refl
 
-  pub client_of-ok : is_client name ≡ true → number_of name clients < MAX_CLIENTS → client_of clients number fields ≡ Ok (number_of name clients)
+  pub client_of-ok : is_client name ≡ true → number_of name clients < MAX_CLIENTS
+      → client_of clients number fields ≡ Ok (number_of name clients)
   client_of-ok h m = rw (e, h, le_false MAX_CLIENTS (number_of name clients) m) refl
 
   pub clients_after-known : number_of name clients < length clients → clients_after clients fields ≡ clients
@@ -71,14 +76,16 @@ clients_after-none clients fields e = rw e refl
 
 -- the first of fields that are text is text
 pub first-text : (fields rest : Fields) (name : List ℕ) → fields ≡ name ∷ rest → list_all is_utf8 fields ≡ true → ¬ (IsUtf8 name) → ⊥
-first-text fields rest name e all other = other (IsUtf8-from_is_utf8 name (and-parts (is_utf8 name) (list_all is_utf8 rest) (rw e at all)).0)
+first-text fields rest name e all other =
+    other (IsUtf8-from_is_utf8 name (and-parts (is_utf8 name) (list_all is_utf8 rest) (rw e at all)).0)
 
 -- ---- arguments
 
 module _ (number i : ℕ) (types : List ColumnType) (fields : Fields) (type : ColumnType) (field : List ℕ) (values : List Value)
     (ht : drop i types ≡ type ∷ drop (suc i) types) (hf : drop (2 + i) fields ≡ field ∷ drop (suc (2 + i)) fields) where
   pub values_of-step : (value : Value) → value_of type field ≡ Some value
-      → prepend values (values_of number (2 + i) (drop i types) (drop (2 + i) fields)) ≡ prepend (values ++ value ∷ []) (values_of number (2 + (i + 1)) (drop (i + 1) types) (drop (2 + (i + 1)) fields))
+      → prepend values (values_of number (2 + i) (drop i types) (drop (2 + i) fields))
+      ≡ prepend (values ++ value ∷ []) (values_of number (2 + (i + 1)) (drop (i + 1) types) (drop (2 + (i + 1)) fields))
   values_of-step value hv =
       let next : 2 + (i + 1) ≡ suc (2 + i) = omega arith in
       rw (ht, hf, hv, next, add-one) (prepend-then_cons values value _)
@@ -94,23 +101,27 @@ set_cell-parts schema number at key fields name field h g = rw (h, rw add-one at
 
 -- ---- verbs
 
-pub asked-no_verb : (schema : Columns) (number : ℕ) (fields : Fields) → drop 1 fields ≡ [] → asked schema number fields ≡ Err (BadCount number)
+pub asked-no_verb : (schema : Columns) (number : ℕ) (fields : Fields) → drop 1 fields ≡ []
+    → asked schema number fields ≡ Err (BadCount number)
 asked-no_verb schema number fields e = rw e refl
 
 module _ (schema : Columns) (number : ℕ) (fields : Fields) (word : List ℕ) (e : drop 1 fields ≡ word ∷ drop 2 fields) where
   pub asked-bad_verb : verb_of word ≡ None → asked schema number fields ≡ Err (BadVerb number)
   asked-bad_verb h = rw (e, h) refl
 
-  pub asked-bad_count : (verb : Verb) → verb_of word ≡ Some verb → (length fields ≡ 2 + arguments_of schema verb → ⊥) → asked schema number fields ≡ Err (BadCount number)
+  pub asked-bad_count : (verb : Verb) → verb_of word ≡ Some verb → (length fields ≡ 2 + arguments_of schema verb → ⊥)
+      → asked schema number fields ≡ Err (BadCount number)
   asked-bad_count verb h n = rw (e, h, ne_eqb (length fields) (2 + arguments_of schema verb) n) refl
 
-  pub asked-typed : (verb : Verb) → verb_of word ≡ Some verb → length fields ≡ 2 + arguments_of schema verb → asked schema number fields ≡ typed_call schema number verb fields
+  pub asked-typed : (verb : Verb) → verb_of word ≡ Some verb → length fields ≡ 2 + arguments_of schema verb
+      → asked schema number fields ≡ typed_call schema number verb fields
   asked-typed verb h n = rw (e, h, eq-eqb (length fields) (2 + arguments_of schema verb) n) refl
 
 -- ---- records
 
 -- a record that asks for a call is text
-pub call_of-text : (schema : Columns) (clients : List (List ℕ)) (number : ℕ) (fields : Fields) (call : ClientCall) → call_of schema clients number fields ≡ Ok call → list_all is_utf8 fields ≡ true
+pub call_of-text : (schema : Columns) (clients : List (List ℕ)) (number : ℕ) (fields : Fields) (call : ClientCall)
+    → call_of schema clients number fields ≡ Ok call → list_all is_utf8 fields ≡ true
 call_of-text schema clients number fields call e = elim (cases_Bool (list_all is_utf8 fields)) [
   | inl t ↦ t
   | inr f ↦ cc (rw f at e)
@@ -119,11 +130,14 @@ call_of-text schema clients number fields call e = elim (cases_Bool (list_all is
 module _ (schema : Columns) (read : List Fields) (number : ℕ) (clients : List (List ℕ)) (fields : Fields) (calls : List ClientCall)
     (so : (more : List Fields) → calls_of schema [] 1 (read ++ more) ≡ prepend calls (calls_of schema clients number more)) where
   pub calls_of-step : (call : ClientCall) → call_of schema clients number fields ≡ Ok call
-      → (more : List Fields) → calls_of schema [] 1 ((read ++ fields ∷ []) ++ more) ≡ prepend (calls ++ call ∷ []) (calls_of schema (clients_after clients fields) (number + 1) more)
-  calls_of-step call h more = rw (append_assoc read (fields ∷ []) more) (so (fields ∷ more) ∙ rw (h, add-one) (prepend-then_cons calls call _))
+      → (more : List Fields) → calls_of schema [] 1 ((read ++ fields ∷ []) ++ more)
+      ≡ prepend (calls ++ call ∷ []) (calls_of schema (clients_after clients fields) (number + 1) more)
+  calls_of-step call h more =
+      rw (append_assoc read (fields ∷ []) more) (so (fields ∷ more) ∙ rw (h, add-one) (prepend-then_cons calls call _))
 
   pub script_of-fault : (text : List ℕ) (all : List Fields) (fault : ScriptFault) (reader : Reader (Bor (List ℕ)))
-      → IsReading text (read ++ fields ∷ []) reader → call_of schema clients number fields ≡ Err fault → AreRecordsOf text all → script_of schema all ≡ Err fault
+      → IsReading text (read ++ fields ∷ []) reader → call_of schema clients number fields ≡ Err fault → AreRecordsOf text all
+      → script_of schema all ≡ Err fault
   script_of-fault text all fault reader h e g =
       let rest = records-start text (read ++ fields ∷ []) all reader h g in
       let bad : calls_of schema [] 1 ((read ++ fields ∷ []) ++ rest.0) ≡ Err fault =

@@ -22,7 +22,9 @@ table_of-bad_header text header all fault reader h e g =
     let rest = records-start text (header ∷ []) all reader h g in
     rw rest.1 (rw e refl)
 
-pub table_of-bad_row : (text : List ℕ) (header fields : Fields) (read all : List Fields) (schema : Columns) (rows : List Numbered) (number : ℕ) (fault : TableFault) (reader : Reader (Bor (List ℕ)))
+pub table_of-bad_row :
+    (text : List ℕ) (header fields : Fields) (read all : List Fields) (schema : Columns) (rows : List Numbered) (number : ℕ)
+    (fault : TableFault) (reader : Reader (Bor (List ℕ)))
     → IsReading text (header ∷ (read ++ fields ∷ [])) reader → schema_of header ≡ Ok schema
     → ((more : List Fields) → numbered_rows schema.types 2 (read ++ more) ≡ prepend rows (numbered_rows schema.types number more))
     → row_of schema.types number fields ≡ Err fault
@@ -36,7 +38,9 @@ all_rows : (schema : Columns) (read : List Fields) (rows : List Numbered) (numbe
     → numbered_rows schema.types 2 read ≡ Ok rows
 all_rows schema read rows number so = rw (append-nil read, append-nil rows) at (so [])
 
-pub table_of-repeat : (text : List ℕ) (header : Fields) (read all : List Fields) (schema : Columns) (rows : List Numbered) (number : ℕ) (row : Numbered)
+pub table_of-repeat :
+    (text : List ℕ) (header : Fields) (read all : List Fields) (schema : Columns) (rows : List Numbered) (number : ℕ)
+    (row : Numbered)
     → AreRecordsOf text (header ∷ read) → schema_of header ≡ Ok schema
     → ((more : List Fields) → numbered_rows schema.types 2 (read ++ more) ≡ prepend rows (numbered_rows schema.types number more))
     → first_repeat schema.key_cols rows ≡ Some row

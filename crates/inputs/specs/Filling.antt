@@ -70,10 +70,6 @@ keyed_at c place = record { key = number_or_zero (cell_at place c); place = plac
 abbrev pub keyed_cmp : Keyed → Keyed → Ordering
 keyed_cmp a b = ordering_then (int_cmp a.key b.key) (nat_cmp a.place b.place)
 
--- by the numbers alone
-abbrev pub key_number_cmp : Keyed → Keyed → Ordering
-key_number_cmp a b = int_cmp a.key b.key
-
 -- no two neighbours have one number
 abbrev pub AreKeysApart : List Keyed → Type 0
 AreKeysApart keyed =
@@ -86,7 +82,8 @@ number_cmp c a b = ordering_then (value_cmp (cell_at a c) (cell_at b c)) (nat_cm
 -- no two neighbours have one value in this column
 abbrev pub AreApart : Column → List ℕ → Type 0
 AreApart c places =
-    (k : ℕ) → k + 1 < length places → is_eq (value_cmp (cell_at (slice_index_or places k 0) c) (cell_at (slice_index_or places (k + 1) 0) c)) ≡ false
+    (k : ℕ) → k + 1 < length places
+    → is_eq (value_cmp (cell_at (slice_index_or places k 0) c) (cell_at (slice_index_or places (k + 1) 0) c)) ≡ false
 
 -- no row has the key of the one before it
 abbrev pub AreDistinct : ℕ → List Column → List ℕ → Type 0

@@ -31,7 +31,8 @@ abbrev pub cell_of : ColumnType → ℕ → ℕ → List ℕ → Result Value Ta
 cell_of column.Int number at bytes = or_else (BadCell number at) (value_of column.Int bytes)
 cell_of column.Bool number at bytes = or_else (BadCell number at) (value_of column.Bool bytes)
 cell_of column.Text number at bytes =
-    cond (is_utf8 bytes) (cond (nat_lt MAX_TEXT_BYTES (length bytes)) (Err (TextTooLong number at)) (Ok (Text bytes))) (Err (BadText number at))
+    cond (is_utf8 bytes) (cond (nat_lt MAX_TEXT_BYTES (length bytes)) (Err (TextTooLong number at)) (Ok (Text bytes)))
+    (Err (BadText number at))
 
 abbrev pub cells_of : ℕ → ℕ → List ColumnType → Fields → Result (List Value) TableFault
 cells_of number at [] fields = Ok []
@@ -78,7 +79,8 @@ keyed schema (Ok rows) = unless_repeated schema rows (first_repeat schema.key_co
 -- each key is above the one before it
 abbrev pub IsAscending : ℕ → List Row → Type 0
 IsAscending key_cols rows =
-    (k : ℕ) (d : Row) → k + 1 < length rows → key_cmp (key_of key_cols (slice_index_or rows k d)) (key_of key_cols (slice_index_or rows (k + 1) d)) ≡ Less
+    (k : ℕ) (d : Row) → k + 1 < length rows
+    → key_cmp (key_of key_cols (slice_index_or rows k d)) (key_of key_cols (slice_index_or rows (k + 1) d)) ≡ Less
 
 -- ---- tables
 

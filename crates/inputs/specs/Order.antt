@@ -27,8 +27,11 @@ abbrev pub IsLeastRepeat : ℕ → List Numbered → ℕ → Option ℕ → Type
 IsLeastRepeat key_cols rows high None =
     (k : ℕ) (d : Numbered) → k + 1 < high → same_key key_cols (slice_index_or rows k d) (slice_index_or rows (k + 1) d) ≡ false
 IsLeastRepeat key_cols rows high (Some number) =
-    ((k : ℕ) × (k + 1 < high) × ((d : Numbered) → (same_key key_cols (slice_index_or rows k d) (slice_index_or rows (k + 1) d) ≡ true) × ((slice_index_or rows (k + 1) d).number ≡ number)))
-    × ((k : ℕ) (d : Numbered) → k + 1 < high → same_key key_cols (slice_index_or rows k d) (slice_index_or rows (k + 1) d) ≡ true → number ≤ (slice_index_or rows (k + 1) d).number)
+    ((k : ℕ) × (k + 1 < high)
+    × ((d : Numbered) → (same_key key_cols (slice_index_or rows k d) (slice_index_or rows (k + 1) d) ≡ true)
+    × ((slice_index_or rows (k + 1) d).number ≡ number)))
+    × ((k : ℕ) (d : Numbered) → k + 1 < high → same_key key_cols (slice_index_or rows k d) (slice_index_or rows (k + 1) d) ≡ true
+    → number ≤ (slice_index_or rows (k + 1) d).number)
 
 -- the lower of the number, where it is of a repeat, and the least one so far
 abbrev pub lower_repeat : Bool → ℕ → Option ℕ → Option ℕ

@@ -2,6 +2,7 @@
 use Rattle.std.specs.Prelude.{◌≡◌, ◌≤◌}
 use Rattle.std.specs.Prelude.{length}
 use Rattle.values.specs.Shape.{Columns, IsSchema}
+use Rattle.values.specs.declared.limits.TheConstants.{MAX_ROWS}
 use Rattle.model.specs.Table.{Table}
 use Rattle.model.specs.Effects.{Effects, AreOver, table_with}
 use Rattle.model.specs.Entries.{canonical_entries}
@@ -16,12 +17,12 @@ tree_of schema t x = record { key_cols = schema.key_cols; entries = canonical_en
 pub record IsTreeOf (schema : Columns) (t : Table) (x : Effects) (tree : Tree) : Type 0 where
   pub over : AreOver schema t x
   pub tree_is : tree ≡ tree_of schema t x
-  pub few : insert_count tree.entries ≤ 2147483647
+  pub few : insert_count tree.entries ≤ MAX_ROWS
 
 -- a schema, and a table with no more rows than a table may have
 pub record IsSmall (schema : Columns) (t : Table) : Type 0 where
   pub lawful : IsSchema schema
-  pub rows : length t ≤ 2147483647
+  pub rows : length t ≤ MAX_ROWS
 
 -- two trees, the upper one over the image of the lower one
 pub record AreConsecutive (lower upper : Tree) : Type 0 where

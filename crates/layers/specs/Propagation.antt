@@ -3,6 +3,7 @@ use Rattle.std.specs.Prelude.{◌≡◌, ℕ, ◌≤◌, ◌^◌, Bool, true, Is
 use Rattle.values.specs.Orders.{key_cmp}
 use Rattle.values.specs.Shape.{Columns, key_of, cell_fits_schema}
 use Rattle.values.specs.declared.row.Key.{Key}
+use Rattle.values.specs.declared.limits.TheConstants.{MAX_ROWS}
 use Rattle.model.specs.declared.entry.Entry.{Entry}
 use Rattle.model.specs.declared.entry.Change.{Change}
 use Rattle.model.specs.declared.entry.Change.TheVariants.{Ins, Del, Mod}
@@ -56,7 +57,7 @@ pub record IsNext (tree : Tree) (entry : Entry) : Type 0 where
   pub cell : IsTrue (cell_fits schema entry.change)
   pub fit : IsTrue (fits (row_at (table_with t x) key) (effect_of_change entry.change))
   pub ranked : entry.sid ≡ rank key (table_with t x)
-  pub rows : length t ≤ 2147483647
+  pub rows : length t ≤ MAX_ROWS
   pub image : length (table_with t x) ≤ 2 ^ 40
   pub room : length (canonical_entries t (effects_with x key entry.change)) ≤ 2 ^ 40
 

@@ -18,22 +18,28 @@ use Rattle.manager.specs.Prepared.{LeavesTable, Granted, IsGrant}
 use Rattle.manager.proofs.HistoryLemmas.{granted_when, managed_over, next_managed, refused_commits, granted_commits, table_with_all-one}
 use Rattle.manager.proofs.KeptLemmas.{kept_next}
 
-module _ (m : Managed) (l : Lower) (newest : LayeredVersion) (kept : List Tree) (h : HoldsNewest m l newest kept) (txn : Transaction) (k : IsTransaction txn) (own : IsOwn m txn) (few : m.made < 2 ^ 62) where
+module _ (m : Managed) (l : Lower) (newest : LayeredVersion) (kept : List Tree) (h : HoldsNewest m l newest kept)
+    (txn : Transaction) (k : IsTransaction txn) (own : IsOwn m txn) (few : m.made < 2 ^ 62) where
   -- a commit that leaves the table
-  pub refused_holds : (reply : CommitReply) → reply ≡ reply_due m txn → LeavesTable reply → HoldsNewest (with_record m (record_of txn reply)) l newest kept
+  pub refused_holds : (reply : CommitReply) → reply ≡ reply_due m txn → LeavesTable reply
+      → HoldsNewest (with_record m (record_of txn reply)) l newest kept
   refused_holds reply due leaves_it =
       let same = sym (refused_commits m h.lawful txn k own reply due leaves_it) in
       record {
         lawful = next_managed m h.lawful txn k own reply due few;
         folded = h.folded;
-        newest_is = h.newest_is ∙ (λ i. record { schema = m.schema; table = table_with_all m.start.table (same i); number = m.start.base + length (same i) });
+        newest_is =
+            h.newest_is
+            ∙ (λ i. record
+            { schema = m.schema; table = table_with_all m.start.table (same i); number = m.start.base + length (same i) });
         layers_are = h.layers_are ∙ (λ i. numbered l (m.start.base + length (same i)));
         kept_are = h.kept_are ∙ (λ i. keep_last m.start.recent (commit_trees m.schema m.start.table (same i)));
       }
 
   -- and one that is granted
   pub granted_holds : (grant : Granted) → Committed (suc (newest_number m)) ≡ reply_due m txn → IsGrant m (effects_of txn) grant →
-      HoldsNewest (with_layers (with_record m (record_of txn (Committed (suc (newest_number m))))) grant.layers) grant.layers grant.version (keep_last m.start.recent (kept ++ grant.tree ∷ []))
+      HoldsNewest (with_layers (with_record m (record_of txn (Committed (suc (newest_number m))))) grant.layers) grant.layers
+      grant.version (keep_last m.start.recent (kept ++ grant.tree ∷ []))
   granted_holds grant due is =
       let x = effects_of txn in
       let clash = list_any (conflicts m.start.rule x) (commits_since m txn) in
@@ -44,7 +50,9 @@ module _ (m : Managed) (l : Lower) (newest : LayeredVersion) (kept : List Tree) 
       let number : suc (newest_number m) ≡ m.start.base + length (commits_in m ++ x ∷ []) = omega (arith, one) in
       let table = sym (table_with_all-one m.start.table (commits_in m) x) in
       record {
-        lawful = managed_over (with_record m (record_of txn (Committed (suc (newest_number m))))) grant.layers (next_managed m h.lawful txn k own (Committed (suc (newest_number m))) due few);
+        lawful =
+            managed_over (with_record m (record_of txn (Committed (suc (newest_number m))))) grant.layers
+            (next_managed m h.lawful txn k own (Committed (suc (newest_number m))) due few);
         folded = is.folded;
         newest_is =
             is.version_is

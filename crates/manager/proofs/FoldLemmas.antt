@@ -23,7 +23,8 @@ use Rattle.manager.proofs.HistoryLemmas.{newest_within}
 use Rattle.manager.proofs.GrantLemmas.{limited, schema_is, folded_table, written_is}
 
 -- a fold's contract, at the trees behind owners
-pub merged_in : (below above lower upper folded : Tree) → below ≡ lower → above ≡ upper → ((w : AreConsecutive below above) → folded ≡ composed_tree below above w) →
+pub merged_in : (below above lower upper folded : Tree) → below ≡ lower → above ≡ upper
+    → ((w : AreConsecutive below above) → folded ≡ composed_tree below above w) →
     (w : AreConsecutive lower upper) → folded ≡ composed_tree lower upper w
 merged_in below above lower upper folded lower_is upper_is told =
     subst (λ (e : Tree × Tree). (w : AreConsecutive e.0 e.1) → folded ≡ composed_tree e.0 e.1 w) (λ i. (lower_is i, upper_is i)) told
@@ -84,7 +85,9 @@ module _ (m : Managed) (l : Lower) (newest : LayeredVersion) (kept : List Tree) 
 
     pub in_turn : AreOver l.stable.schema (table_in l.stable) all_effects
         × (table_with (table_in l.stable) all_effects ≡ table_with (folded_table m l newest kept h) h.folded.lower.middle.effects)
-    in_turn = composes l.stable.schema (table_in l.stable) h.folded.lower.lower.effects h.folded.lower.middle.effects h.folded.lower.lower.over h.folded.lower.middle.over
+    in_turn =
+        composes l.stable.schema (table_in l.stable) h.folded.lower.lower.effects h.folded.lower.middle.effects
+        h.folded.lower.lower.over h.folded.lower.middle.over
 
     abbrev pub merged_folded : AreFolded merged
     merged_folded = record {
@@ -95,7 +98,9 @@ module _ (m : Managed) (l : Lower) (newest : LayeredVersion) (kept : List Tree) 
           over = in_turn.0;
           entries = ap (λ (t : Tree). t.entries) read_is;
         };
-        middle = no_layer l.stable.schema (table_with (table_in l.stable) all_effects) (leaves l.stable.schema (table_in l.stable) all_effects in_turn.0);
+        middle =
+            no_layer l.stable.schema (table_with (table_in l.stable) all_effects)
+            (leaves l.stable.schema (table_in l.stable) all_effects in_turn.0);
       };
       stable_few = h.folded.stable_few;
       few = subst (λ (t : Table). length t ≤ MAX_ROWS) (sym (in_turn.1 ∙ written_is m l newest kept h)) newest_few;

@@ -43,7 +43,9 @@ module _ (m : Managed) (l : Lower) (newest : LayeredVersion) (kept : List Tree) 
   pub written_is : table_with folded_table h.folded.lower.middle.effects ≡ newest_table m
   written_is = sym (lower_table_is l h.folded.lower) ∙ table_is
 
-  module _ (x : Effects) (over : AreOver m.schema (newest_table m) x) (room : length (table_with (newest_table m) x) ≤ m.start.limit) (tree : Tree) (tree_is : tree ≡ tree_of m.schema (newest_table m) x) where
+  module _ (x : Effects) (over : AreOver m.schema (newest_table m) x)
+      (room : length (table_with (newest_table m) x) ≤ m.start.limit) (tree : Tree)
+      (tree_is : tree ≡ tree_of m.schema (newest_table m) x) where
     pub over_layers : AreOver l.stable.schema (table_with folded_table h.folded.lower.middle.effects) x
     over_layers = subst (λ (e : Columns × Table). AreOver e.0 e.1 x) (sym (λ i. (schema_is i, written_is i))) over
 
@@ -75,11 +77,15 @@ module _ (m : Managed) (l : Lower) (newest : LayeredVersion) (kept : List Tree) 
         }
 
     -- with it folded in
-    module _ (write : Tree) (write_is : write ≡ tree_of l.stable.schema folded_table (composed_effects h.folded.lower.middle.effects x)) where
+    module _ (write : Tree)
+        (write_is : write ≡ tree_of l.stable.schema folded_table (composed_effects h.folded.lower.middle.effects x)) where
       abbrev pub next : Lower
       next = record l { write = write }
 
-      pub in_turn : AreOver l.stable.schema folded_table (composed_effects h.folded.lower.middle.effects x) × (table_with folded_table (composed_effects h.folded.lower.middle.effects x) ≡ table_with (table_with folded_table h.folded.lower.middle.effects) x)
+      pub in_turn :
+          AreOver l.stable.schema folded_table (composed_effects h.folded.lower.middle.effects x)
+          × (table_with folded_table (composed_effects h.folded.lower.middle.effects x)
+          ≡ table_with (table_with folded_table h.folded.lower.middle.effects) x)
       in_turn = composes l.stable.schema folded_table h.folded.lower.middle.effects x h.folded.lower.middle.over over_layers
 
       abbrev pub next_folded : AreFolded next
@@ -130,7 +136,8 @@ alone_folded s h =
       few = omega (arith, rows, few);
     }
 
-pub opened_holds : (s : Stable) (limit recent : ℕ) (rule : ConflictRule) → IsStable s → IsSchema s.schema → length s.rows ≤ limit → limit ≤ MAX_ROWS →
+pub opened_holds : (s : Stable) (limit recent : ℕ) (rule : ConflictRule) → IsStable s → IsSchema s.schema → length s.rows ≤ limit
+    → limit ≤ MAX_ROWS →
     HoldsNewest (opened s limit recent rule) (alone s) (numbered (alone s) 0) []
 opened_holds s limit recent rule h lawful within most =
     let rows : length (table_in s) ≡ length s.rows = length-map _ _ in

@@ -34,9 +34,12 @@ pub table_with_all-later : (t : Table) (commits : List Effects) (j k : ℕ) →
 table_with_all-later t commits zero k = let e : k ≡ 0 + k = omega arith in ap (λ n. table_with_all t (take n commits)) e
 table_with_all-later t [] (suc j) zero = sym (ap (table_with_all t) (take_nothing (suc j + 0)))
 table_with_all-later t [] (suc j) (suc k) = sym (ap (table_with_all t) (take_nothing (suc j + suc k)))
-table_with_all-later t (x ∷ commits) (suc j) k = let e : suc (j + k) ≡ suc j + k = omega arith in table_with_all-later (table_with t x) commits j k ∙ ap (λ n. table_with_all t (take n (x ∷ commits))) e
+table_with_all-later t (x ∷ commits) (suc j) k =
+    let e : suc (j + k) ≡ suc j + k = omega arith in
+    table_with_all-later (table_with t x) commits j k ∙ ap (λ n. table_with_all t (take n (x ∷ commits))) e
 
-pub table_with_all-one : (t : Table) (commits : List Effects) (x : Effects) → table_with_all t (commits ++ x ∷ []) ≡ table_with (table_with_all t commits) x
+pub table_with_all-one : (t : Table) (commits : List Effects) (x : Effects)
+    → table_with_all t (commits ++ x ∷ []) ≡ table_with (table_with_all t commits) x
 table_with_all-one t [] x = refl
 table_with_all-one t (y ∷ commits) x = table_with_all-one (table_with t y) commits x
 
@@ -50,7 +53,8 @@ module _ (schema : Columns) (start : Start) where
   one_at_most commits x (Full n) = omega arith
 
   -- no more commits than records
-  commits_few : (commits : List Effects) (history : List Record) → length (commits_from schema start commits history) ≤ length commits + length history
+  commits_few : (commits : List Effects) (history : List Record)
+      → length (commits_from schema start commits history) ≤ length commits + length history
   commits_few commits [] = omega arith
   commits_few commits (r ∷ history) =
       let one = one_at_most commits (effects_of_record schema start commits r) r.reply in
@@ -86,7 +90,9 @@ module _ (m : Managed) (h : IsManaged m) where
       (length-table_after m.schema m.start m.history (m.start.base + k) h.within h.legal)
 
   pub newest_within : length (newest_table m) ≤ m.start.limit
-  newest_within = subst (λ (cs : List Effects). length (table_with_all m.start.table cs) ≤ m.start.limit) (take_length (commits_in m)) (within_after (length (commits_in m)))
+  newest_within =
+      subst (λ (cs : List Effects). length (table_with_all m.start.table cs) ≤ m.start.limit) (take_length (commits_in m))
+      (within_after (length (commits_in m)))
 
   -- numbers are no more than the records made
   pub number_fits : newest_number m ≤ m.made
@@ -126,15 +132,20 @@ module _ (m : Managed) (txn : Transaction) (own : IsOwn m txn) (recent : is_too_
         (AreCommits-drop m.schema m.start.table (commits_in m) (txn.begin - m.start.base) (each_fits m h))
 
     pub since_newest : table_with_all txn.table (commits_since m txn) ≡ newest_table m
-    since_newest = sym (ap (λ (t : Table). table_with_all t (commits_since m txn)) snapshot_is) ∙ table_with_all-drop m.start.table (commits_in m) (txn.begin - m.start.base)
+    since_newest =
+        sym (ap (λ (t : Table). table_with_all t (commits_since m txn)) snapshot_is)
+        ∙ table_with_all-drop m.start.table (commits_in m) (txn.begin - m.start.base)
 
     pub since_within : (j : ℕ) → length (table_with_all txn.table (take j (commits_since m txn))) ≤ m.start.limit
     since_within j =
         subst (λ (t : Table). length (table_with_all t (take j (commits_since m txn))) ≤ m.start.limit) snapshot_is
-        (subst (λ (t : Table). length t ≤ m.start.limit) (sym (table_with_all-later m.start.table (commits_in m) (txn.begin - m.start.base) j)) (within_after m h ((txn.begin - m.start.base) + j)))
+        (subst (λ (t : Table). length t ≤ m.start.limit)
+        (sym (table_with_all-later m.start.table (commits_in m) (txn.begin - m.start.base) j))
+        (within_after m h ((txn.begin - m.start.base) + j)))
 
     -- where it conflicts with none of them its effects fit the newest table
-    pub over_newest : list_any (conflicts m.start.rule (effects_of txn)) (commits_since m txn) ≡ false → AreOver m.schema (newest_table m) (effects_of txn)
+    pub over_newest : list_any (conflicts m.start.rule (effects_of txn)) (commits_since m txn) ≡ false
+        → AreOver m.schema (newest_table m) (effects_of txn)
     over_newest clear =
         subst (λ (t : Table). AreOver m.schema t (effects_of txn)) since_newest
         (fits_newest m.schema m.start.rule txn.table (effects_of txn) (commits_since m txn) over_snapshot commits_since_fit clear)
@@ -142,14 +153,16 @@ module _ (m : Managed) (txn : Transaction) (own : IsOwn m txn) (recent : is_too_
 -- ---- one record more
 
 -- a reply that leaves the table leaves the commits
-commits_with-refused : (commits : List Effects) (x : Effects) (reply : CommitReply) → LeavesTable reply → commits_with commits x reply ≡ commits
+commits_with-refused : (commits : List Effects) (x : Effects) (reply : CommitReply) → LeavesTable reply
+    → commits_with commits x reply ≡ commits
 commits_with-refused commits x (Committed n) h = absurd h
 commits_with-refused commits x (Conflict n) h = refl
 commits_with-refused commits x (TooOld n) h = refl
 commits_with-refused commits x (Full n) h = refl
 
 -- a commit that is granted isn't too old, conflicts with none, and keeps the limit
-pub granted_when : (old clash full : Bool) (n k : ℕ) → Committed k ≡ cond old (TooOld n) (cond clash (Conflict n) (cond full (Full n) (Committed (suc n)))) →
+pub granted_when : (old clash full : Bool) (n k : ℕ)
+    → Committed k ≡ cond old (TooOld n) (cond clash (Conflict n) (cond full (Full n) (Committed (suc n)))) →
     (old ≡ false) × ((clash ≡ false) × (full ≡ false))
 granted_when true clash full n k h = cc h
 granted_when false true full n k h = cc h
@@ -172,22 +185,27 @@ managed_over m l h = record {
 pub own_over : (m : Managed) (l : Lower) (txn : Transaction) → IsOwn m txn → IsOwn (with_layers m l) txn
 own_over m l txn own = record { schema = own.schema; limit = own.limit; begun = own.begun; snapshot = own.snapshot }
 
-module _ (m : Managed) (h : IsManaged m) (txn : Transaction) (k : IsTransaction txn) (own : IsOwn m txn) (reply : CommitReply) (due : reply ≡ reply_due m txn) where
+module _ (m : Managed) (h : IsManaged m) (txn : Transaction) (k : IsTransaction txn) (own : IsOwn m txn) (reply : CommitReply)
+    (due : reply ≡ reply_due m txn) where
   -- the effects of its record are its own, from the base on
   pub recorded_is : m.start.base ≤ txn.begin → effects_of_record m.schema m.start (commits_in m) (record_of txn reply) ≡ effects_of txn
   recorded_is above = sym (λ i. effects_after_all (own.schema i).key_cols (own.limit i) (own.snapshot above i) [] (asked_of txn))
 
-  due_as_recorded : reply_due m txn ≡ due_reply m.start (commits_in m) txn.begin (effects_of_record m.schema m.start (commits_in m) (record_of txn reply))
+  due_as_recorded :
+      reply_due m txn
+      ≡ due_reply m.start (commits_in m) txn.begin (effects_of_record m.schema m.start (commits_in m) (record_of txn reply))
   due_as_recorded = by (nat_lt txn.begin m.start.base) refl
     where
       below : nat_lt txn.begin m.start.base ≡ true → txn.begin < m.start.base
       below e = grind (arith, nat_tests)
 
       by : (b : Bool) → nat_lt txn.begin m.start.base ≡ b →
-          reply_due m txn ≡ due_reply m.start (commits_in m) txn.begin (effects_of_record m.schema m.start (commits_in m) (record_of txn reply))
+          reply_due m txn
+          ≡ due_reply m.start (commits_in m) txn.begin (effects_of_record m.schema m.start (commits_in m) (record_of txn reply))
       by true e =
           due_reply-cut m.schema m.start (commits_in m) txn.begin (effects_of txn) (below e)
-          ∙ sym (due_reply-cut m.schema m.start (commits_in m) txn.begin (effects_of_record m.schema m.start (commits_in m) (record_of txn reply)) (below e))
+          ∙ sym (due_reply-cut m.schema m.start (commits_in m) txn.begin
+          (effects_of_record m.schema m.start (commits_in m) (record_of txn reply)) (below e))
       by false e = ap (due_reply m.start (commits_in m) txn.begin) (sym (recorded_is (lt_false txn.begin m.start.base e)))
 
   legal_record : IsLegalRecord m.schema m.start (commits_in m) (record_of txn reply)
@@ -221,7 +239,8 @@ module _ (m : Managed) (h : IsManaged m) (txn : Transaction) (k : IsTransaction 
       ∙ commits_with-refused (commits_in m) (effects_of_record m.schema m.start (commits_in m) (record_of txn reply)) reply leaves_it
 
   -- and what is committed adds its own
-  pub granted_commits : (n : ℕ) → reply ≡ Committed n → is_too_old m txn ≡ false → commits_in (with_record m (record_of txn reply)) ≡ commits_in m ++ effects_of txn ∷ []
+  pub granted_commits : (n : ℕ) → reply ≡ Committed n → is_too_old m txn ≡ false
+      → commits_in (with_record m (record_of txn reply)) ≡ commits_in m ++ effects_of txn ∷ []
   granted_commits n is recent =
       commits_from-append m.schema m.start [] m.history (record_of txn reply)
       ∙ (λ i. commits_with (commits_in m) (recorded_is (above_base m txn own recent) i) (is i))

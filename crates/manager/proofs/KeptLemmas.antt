@@ -31,7 +31,8 @@ module _ (schema : Columns) where
   -- the kept trees from an index on are those of the commits after the first j
   pub kept_since : (t : Table) (commits : List Effects) (recent j first : ℕ) → j ≤ length commits → length commits - j ≤ recent →
       first + (length commits - j) ≡ length (keep_last recent (commit_trees schema t commits)) →
-      drop first (keep_last recent (commit_trees schema t commits)) ≡ commit_trees schema (table_with_all t (take j commits)) (drop j commits)
+      drop first (keep_last recent (commit_trees schema t commits))
+      ≡ commit_trees schema (table_with_all t (take j commits)) (drop j commits)
   kept_since t commits recent j first within few is =
       let trees = commit_trees schema t commits in
       let count = length-commit_trees t commits in
@@ -45,7 +46,8 @@ drop-within [] ys (suc n) h = absurd (omega arith)
 drop-within (x ∷ xs) ys (suc n) h = drop-within xs ys n (omega arith)
 
 -- the last of what is kept with one more are the last of all with one more
-keep_last-again : {A : Type 0} (recent : ℕ) (xs : List A) (x : A) → keep_last recent (keep_last recent xs ++ x ∷ []) ≡ keep_last recent (xs ++ x ∷ [])
+keep_last-again : {A : Type 0} (recent : ℕ) (xs : List A) (x : A)
+    → keep_last recent (keep_last recent xs ++ x ∷ []) ≡ keep_last recent (xs ++ x ∷ [])
 keep_last-again recent xs x =
     let n = length xs - recent in
     let kept = drop n xs in
@@ -61,7 +63,8 @@ keep_last-again recent xs x =
 -- after one commit more the kept trees have its own
 pub kept_next : (schema : Columns) (t : Table) (commits : List Effects) (recent : ℕ) (x : Effects) (tree : Tree) →
     tree ≡ tree_of schema (table_with_all t commits) x →
-    keep_last recent (keep_last recent (commit_trees schema t commits) ++ tree ∷ []) ≡ keep_last recent (commit_trees schema t (commits ++ x ∷ []))
+    keep_last recent (keep_last recent (commit_trees schema t commits) ++ tree ∷ [])
+    ≡ keep_last recent (commit_trees schema t (commits ++ x ∷ []))
 kept_next schema t commits recent x tree is =
     keep_last-again recent (commit_trees schema t commits) tree
     ∙ ap (λ (u : Tree). keep_last recent (commit_trees schema t commits ++ u ∷ [])) is

@@ -29,7 +29,8 @@ pub if_ok : {A E : Type 0} {P Q : A → Type 0} (r : Result A E) → ((x : A) �
 if_ok (Ok x) f h = f x h
 if_ok (Err e) f h = h
 
-module _ (m : Managed) (l : Lower) (newest : LayeredVersion) (kept : List Tree) (h : HoldsNewest m l newest kept) (txn : Transaction) (own : IsOwn m txn) (recent : is_too_old m txn ≡ false) where
+module _ (m : Managed) (l : Lower) (newest : LayeredVersion) (kept : List Tree) (h : HoldsNewest m l newest kept)
+    (txn : Transaction) (own : IsOwn m txn) (recent : is_too_old m txn ≡ false) where
   -- how many commits came since it began, from the base on
   since_is : newest_number m - txn.begin ≡ length (commits_in m) - (txn.begin - m.start.base)
   since_is = let above = above_base m txn own recent in let begun = own.begun in omega (arith, above, begun)
@@ -41,7 +42,9 @@ module _ (m : Managed) (l : Lower) (newest : LayeredVersion) (kept : List Tree) 
   kept_count =
       let trees = commit_trees m.schema m.start.table (commits_in m) in
       let count = length-commit_trees m.schema m.start.table (commits_in m) in
-      ap (λ (ts : List Tree). length ts) h.kept_are ∙ length-drop (length trees - m.start.recent) trees ∙ ap (λ n. n - (n - m.start.recent)) count
+      ap (λ (ts : List Tree). length ts) h.kept_are
+      ∙ length-drop (length trees - m.start.recent) trees
+      ∙ ap (λ n. n - (n - m.start.recent)) count
 
   -- the trees of all commits since it began are kept
   pub since_kept : newest_number m - txn.begin ≤ length kept
@@ -52,7 +55,8 @@ module _ (m : Managed) (l : Lower) (newest : LayeredVersion) (kept : List Tree) 
       omega (arith, few, is, count)
 
   -- so that its tree may pass them
-  module _ (k : IsTransaction txn) (first : ℕ) (first_is : first ≡ length kept - (newest_number m - txn.begin)) (tree : Tree) (tree_is : tree ≡ transaction.tree_of txn) where
+  module _ (k : IsTransaction txn) (first : ℕ) (first_is : first ≡ length kept - (newest_number m - txn.begin)) (tree : Tree)
+      (tree_is : tree ≡ transaction.tree_of txn) where
     pub own_tree : tree ≡ tree_of m.schema txn.table (effects_of txn)
     own_tree = tree_is ∙ ap (λ (s : Columns). tree_of s txn.table (effects_of txn)) own.schema
 
@@ -92,13 +96,17 @@ module _ (m : Managed) (l : Lower) (newest : LayeredVersion) (kept : List Tree) 
     -- and what comes of it is what the commit looks for
     pub led_on : (passed : Option Tree) → IsThrough m.start.rule (drop first kept) tree may_pass passed → IsPassed m txn passed
     led_on None told = told
-    led_on (Some after) told = (told.0, told.1 ∙ ap (λ (t : Table). tree_of m.schema t (effects_of txn)) (since_newest m txn own recent h.lawful k))
+    led_on (Some after) told =
+        (told.0, told.1 ∙ ap (λ (t : Table). tree_of m.schema t (effects_of txn)) (since_newest m txn own recent h.lawful k))
 
 -- the rows after effects, by the counts of their tree
-pub rows_counted : (m : Managed) (x : Effects) (tree : Tree) → AreOver m.schema (newest_table m) x → tree ≡ tree_of m.schema (newest_table m) x →
+pub rows_counted : (m : Managed) (x : Effects) (tree : Tree) → AreOver m.schema (newest_table m) x
+    → tree ≡ tree_of m.schema (newest_table m) x →
     delete_count tree.entries + length (table_with (newest_table m) x) ≡ insert_count tree.entries + length (newest_table m)
 rows_counted m x tree over is =
-    subst (λ (t : Tree). delete_count t.entries + length (table_with (newest_table m) x) ≡ insert_count t.entries + length (newest_table m)) (sym is)
+    subst
+    (λ (t : Tree). delete_count t.entries + length (table_with (newest_table m) x) ≡ insert_count t.entries + length (newest_table m))
+    (sym is)
     (rows_after m.schema (newest_table m) x over)
 
 -- ---- the reply, by the tests in their order
@@ -111,10 +119,14 @@ module _ (m : Managed) (txn : Transaction) where
   is_full = nat_lt m.start.limit (length (table_with (newest_table m) (effects_of txn)))
 
   pub too_old_due : is_too_old m txn ≡ true → TooOld (newest_number m) ≡ reply_due m txn
-  too_old_due old = sym (ap (λ b. cond b (TooOld (newest_number m)) (cond clash (Conflict (newest_number m)) (cond is_full (Full (newest_number m)) (Committed (suc (newest_number m)))))) old)
+  too_old_due old =
+      sym (ap (λ b. cond b (TooOld (newest_number m)) (cond clash (Conflict (newest_number m))
+      (cond is_full (Full (newest_number m)) (Committed (suc (newest_number m)))))) old)
 
   pub conflict_due : is_too_old m txn ≡ false → clash ≡ true → Conflict (newest_number m) ≡ reply_due m txn
-  conflict_due old some = sym (λ i. cond (old i) (TooOld (newest_number m)) (cond (some i) (Conflict (newest_number m)) (cond is_full (Full (newest_number m)) (Committed (suc (newest_number m))))))
+  conflict_due old some =
+      sym (λ i. cond (old i) (TooOld (newest_number m)) (cond (some i) (Conflict (newest_number m))
+      (cond is_full (Full (newest_number m)) (Committed (suc (newest_number m))))))
 
   full_true : (n : ℕ) → m.start.limit < n → nat_lt m.start.limit n ≡ true
   full_true n h = grind (arith, nat_tests)
@@ -122,10 +134,15 @@ module _ (m : Managed) (txn : Transaction) where
   full_false : (n : ℕ) → n ≤ m.start.limit → nat_lt m.start.limit n ≡ false
   full_false n h = grind (arith, nat_tests)
 
-  pub full_due : is_too_old m txn ≡ false → clash ≡ false → m.start.limit < length (table_with (newest_table m) (effects_of txn)) → Full (newest_number m) ≡ reply_due m txn
+  pub full_due : is_too_old m txn ≡ false → clash ≡ false → m.start.limit < length (table_with (newest_table m) (effects_of txn))
+      → Full (newest_number m) ≡ reply_due m txn
   full_due old none past =
-      sym (λ i. cond (old i) (TooOld (newest_number m)) (cond (none i) (Conflict (newest_number m)) (cond (full_true _ past i) (Full (newest_number m)) (Committed (suc (newest_number m))))))
+      sym (λ i. cond (old i) (TooOld (newest_number m)) (cond (none i) (Conflict (newest_number m))
+      (cond (full_true _ past i) (Full (newest_number m)) (Committed (suc (newest_number m))))))
 
-  pub committed_due : is_too_old m txn ≡ false → clash ≡ false → length (table_with (newest_table m) (effects_of txn)) ≤ m.start.limit → Committed (suc (newest_number m)) ≡ reply_due m txn
+  pub committed_due : is_too_old m txn ≡ false → clash ≡ false
+      → length (table_with (newest_table m) (effects_of txn)) ≤ m.start.limit
+      → Committed (suc (newest_number m)) ≡ reply_due m txn
   committed_due old none within =
-      sym (λ i. cond (old i) (TooOld (newest_number m)) (cond (none i) (Conflict (newest_number m)) (cond (full_false _ within i) (Full (newest_number m)) (Committed (suc (newest_number m))))))
+      sym (λ i. cond (old i) (TooOld (newest_number m)) (cond (none i) (Conflict (newest_number m))
+      (cond (full_false _ within i) (Full (newest_number m)) (Committed (suc (newest_number m))))))

@@ -110,7 +110,8 @@ module _ (rule : ConflictRule) (schema : Columns) (x : Effects) (all : List Effe
       stopped clash = verdict_is ∙ or_true _ _ clash
 
       -- and where there is none the way goes on
-      pub goes_on : (next : Tree) → conflicts rule x m.y ≡ false → next ≡ tree_of schema (table_with w.now m.y) x → Way (drop (n + 1) kept) next
+      pub goes_on : (next : Tree) → conflicts rule x m.y ≡ false → next ≡ tree_of schema (table_with w.now m.y) x
+          → Way (drop (n + 1) kept) next
       goes_on next clear next_is = record {
         now = table_with w.now m.y;
         rest = m.later;
@@ -119,7 +120,9 @@ module _ (rule : ConflictRule) (schema : Columns) (x : Effects) (all : List Effe
         few = subst (λ k. k ≤ 2147483647) (insert_count-any w.now (table_with w.now m.y) x) w.few;
         kept_are = m.kept_are;
         commits = (subst (AreCommits schema w.now) m.rest_is w.commits).1;
-        within = λ k. subst (λ (cs : List Effects). length (table_with_all w.now (take (suc k) cs)) ≤ 2147483647) m.rest_is (w.within (suc k));
+        within =
+            λ k. subst (λ (cs : List Effects). length (table_with_all w.now (take (suc k) cs)) ≤ 2147483647) m.rest_is
+            (w.within (suc k));
         verdict = verdict_is ∙ or_false _ _ clear;
         last = sym (ap (table_with_all w.now) m.rest_is) ∙ w.last;
       }
@@ -134,10 +137,14 @@ module _ (rule : ConflictRule) (schema : Columns) (x : Effects) (all : List Effe
         w.verdict ∙ ap (list_any (conflicts rule x)) is,
         w.tree_is ∙ ap (λ (t : Table). tree_of schema t x) (sym (ap (table_with_all w.now) is) ∙ w.last),
       )
-      by (y ∷ later) is = let some : tree_of schema w.now y ∷ commit_trees schema (table_with w.now y) later ≡ [] = sym (w.kept_are ∙ ap (commit_trees schema w.now) is) ∙ none in cc
+      by (y ∷ later) is =
+          let some : tree_of schema w.now y ∷ commit_trees schema (table_with w.now y) later ≡ [] =
+          sym (w.kept_are ∙ ap (commit_trees schema w.now) is) ∙ none in
+          cc
 
 -- the way begins
-pub begins : (rule : ConflictRule) (kept : List Tree) (tree : Tree) (w : MayPass rule kept tree) → IsOnItsWay rule w.schema w.x w.rest (table_with_all w.now w.rest) kept tree
+pub begins : (rule : ConflictRule) (kept : List Tree) (tree : Tree) (w : MayPass rule kept tree)
+    → IsOnItsWay rule w.schema w.x w.rest (table_with_all w.now w.rest) kept tree
 begins rule kept tree w = record {
   now = w.now;
   rest = w.rest;

@@ -28,7 +28,9 @@ module _ (m : Managed) (l : Lower) (newest : LayeredVersion) (kept : List Tree) 
       let lower = h.folded.lower.lower in
       record {
         lower = lower;
-        middle = no_layer l.stable.schema (folded_table m l newest kept h) (leaves l.stable.schema (table_in l.stable) lower.effects lower.over);
+        middle =
+            no_layer l.stable.schema (folded_table m l newest kept h)
+            (leaves l.stable.schema (table_in l.stable) lower.effects lower.over);
       }
 
   -- their rows are those of the table under the Read-PDT
@@ -75,5 +77,6 @@ pub stable_of-folded : (m : Managed) (folded : Layered) → IsFolded m folded �
 stable_of-folded m folded h =
     let l = folded.layers in
     let rows = merged_rows l.stable.rows l.read.entries in
-    let none : merged_rows rows l.write.entries ≡ rows = ap (λ (t : Tree). merged_rows rows t.entries) h.merged.write ∙ merged_rows_from_nothing 0 rows in
+    let none : merged_rows rows l.write.entries ≡ rows =
+    ap (λ (t : Tree). merged_rows rows t.entries) h.merged.write ∙ merged_rows_from_nothing 0 rows in
     ap stable_of h.layers_are ∙ (λ i. record { schema = l.stable.schema; rows = none i })

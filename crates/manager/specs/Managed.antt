@@ -34,7 +34,8 @@ history_of m = record { schema = m.schema; start = m.start; records = m.history 
 
 -- the manager of a stable table that has just been opened: its numbers count from 0, and its trees have no entries
 abbrev pub opened : Stable → ℕ → ℕ → ConflictRule → Managed
-opened s limit recent rule = managed_of (recorded_at (record { schema = s.schema; table = table_in s; number = 0 }) limit recent rule []) 0 (alone s)
+opened s limit recent rule =
+    managed_of (recorded_at (record { schema = s.schema; table = table_in s; number = 0 }) limit recent rule []) 0 (alone s)
 
 -- the effects that were committed since the start, in order
 abbrev pub commits_in : Managed → List Effects

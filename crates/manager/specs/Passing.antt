@@ -2,6 +2,7 @@
 use Rattle.std.specs.Prelude.{◌≡◌, ℕ, ◌≤◌, true, false, Option, Some, None, List, length, take}
 use Rattle.std.specs.List.{list_any}
 use Rattle.values.specs.Shape.{Columns, IsSchema}
+use Rattle.values.specs.declared.limits.TheConstants.{MAX_ROWS}
 use Rattle.model.specs.declared.clash.ConflictRule.{ConflictRule}
 use Rattle.model.specs.Table.{Table}
 use Rattle.model.specs.Effects.{Effects, AreOver}
@@ -23,10 +24,10 @@ module _ (rule : ConflictRule) (kept : List Tree) (tree : Tree) where
     pub lawful : IsSchema schema
     pub over : AreOver schema now x
     pub tree_is : tree ≡ tree_of schema now x
-    pub few : insert_count tree.entries ≤ 2147483647
+    pub few : insert_count tree.entries ≤ MAX_ROWS
     pub kept_are : kept ≡ commit_trees schema now rest
     pub commits : AreCommits schema now rest
-    pub within : (k : ℕ) → length (table_with_all now (take k rest)) ≤ 2147483647
+    pub within : (k : ℕ) → length (table_with_all now (take k rest)) ≤ MAX_ROWS
 
   -- the tree of the effects over the table after all commits, or none where they conflict with one
   abbrev pub IsThrough : MayPass → Option Tree → Type 0

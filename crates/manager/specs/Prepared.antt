@@ -39,7 +39,8 @@ LeavesTable (Full n) = Unit {0}
 abbrev pub IsPassed : Managed → Transaction → Option Tree → Type 0
 IsPassed m txn None = list_any (conflicts m.start.rule (effects_of txn)) (commits_since m txn) ≡ true
 IsPassed m txn (Some tree) =
-    (list_any (conflicts m.start.rule (effects_of txn)) (commits_since m txn) ≡ false) × (tree ≡ tree_of m.schema (newest_table m) (effects_of txn))
+    (list_any (conflicts m.start.rule (effects_of txn)) (commits_since m txn) ≡ false)
+    × (tree ≡ tree_of m.schema (newest_table m) (effects_of txn))
 
 -- the tree is that of effects that fit the newest table and leave no more rows than the limit
 pub record MayGrant (m : Managed) (tree : Tree) : Type 0 where
@@ -53,7 +54,9 @@ pub record IsGrant (m : Managed) (x : Effects) (granted : Granted) : Type 0 wher
   pub tree_is : granted.tree ≡ tree_of m.schema (newest_table m) x
   pub folded : AreFolded granted.layers
   pub written : AreWritten m.layers x granted.layers
-  pub version_is : table_version granted.version ≡ record { schema = m.schema; table = table_with (newest_table m) x; number = suc (newest_number m) }
+  pub version_is :
+      table_version granted.version
+      ≡ record { schema = m.schema; table = table_with (newest_table m) x; number = suc (newest_number m) }
   pub layers_are : granted.version ≡ numbered granted.layers (suc (newest_number m))
 
 -- what is installed with a reply: the next version where the transaction is committed, or nothing

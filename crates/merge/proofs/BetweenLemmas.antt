@@ -20,20 +20,24 @@ holds true h = tt
 holds false h = cc h
 
 module _ (key_cols : ℕ) where
-  sorted_past : (n : ℕ) (rows : List Row) → T (is_sorted key_cmp (table_of key_cols rows)) → T (is_sorted key_cmp (table_of key_cols (drop n rows)))
+  sorted_past : (n : ℕ) (rows : List Row) → T (is_sorted key_cmp (table_of key_cols rows))
+      → T (is_sorted key_cmp (table_of key_cols (drop n rows)))
   sorted_past zero rows h = h
   sorted_past (suc n) [] h = h
   sorted_past (suc n) (row ∷ rows) h = sorted_past n rows (second _ _ h)
 
-  below_first : (n : ℕ) (key : Key) (rows : List Row) → T (below_all key_cmp key (table_of key_cols rows)) → T (below_all key_cmp key (table_of key_cols (take n rows)))
+  below_first : (n : ℕ) (key : Key) (rows : List Row) → T (below_all key_cmp key (table_of key_cols rows))
+      → T (below_all key_cmp key (table_of key_cols (take n rows)))
   below_first zero key rows h = tt
   below_first (suc n) key [] h = h
   below_first (suc n) key (row ∷ rows) h = both _ _ (first _ _ h) (below_first n key rows (second _ _ h))
 
-  sorted_first : (n : ℕ) (rows : List Row) → T (is_sorted key_cmp (table_of key_cols rows)) → T (is_sorted key_cmp (table_of key_cols (take n rows)))
+  sorted_first : (n : ℕ) (rows : List Row) → T (is_sorted key_cmp (table_of key_cols rows))
+      → T (is_sorted key_cmp (table_of key_cols (take n rows)))
   sorted_first zero rows h = tt
   sorted_first (suc n) [] h = h
-  sorted_first (suc n) (row ∷ rows) h = both _ _ (below_first n (key_of key_cols row) rows (first _ _ h)) (sorted_first n rows (second _ _ h))
+  sorted_first (suc n) (row ∷ rows) h =
+      both _ _ (below_first n (key_of key_cols row) rows (first _ _ h)) (sorted_first n rows (second _ _ h))
 
   module _ (fits : Key × Row → Bool) where
     all_past : (n : ℕ) (rows : List Row) → T (list_all fits (table_of key_cols rows)) → T (list_all fits (table_of key_cols (drop n rows)))
@@ -56,13 +60,16 @@ few_first zero rows = omega arith
 few_first (suc n) [] = omega arith
 few_first (suc n) (row ∷ rows) = omega (arith, few_first n rows)
 
-pub between_stable : (schema : Columns) (from to : ℕ) (rows : List Row) → IsStable (record { schema = schema; rows = rows }) → IsStable (record { schema = schema; rows = drop from (take to rows) })
+pub between_stable : (schema : Columns) (from to : ℕ) (rows : List Row) → IsStable (record { schema = schema; rows = rows })
+    → IsStable (record { schema = schema; rows = drop from (take to rows) })
 between_stable schema from to rows is =
     let keys = schema.key_cols in
     let fits = λ (e : Key × Row). fits_schema schema e.1 in
     record {
       table = record {
-        keyed = is_true _ (is_keyed_table-table_of keys (drop from (take to rows)) (sorted_past keys from (take to rows) (sorted_first keys to rows (first _ _ (holds _ is.table.keyed)))));
+        keyed =
+            is_true _ (is_keyed_table-table_of keys (drop from (take to rows))
+            (sorted_past keys from (take to rows) (sorted_first keys to rows (first _ _ (holds _ is.table.keyed)))));
         fitting = is_true _ (all_past keys fits from (take to rows) (all_first keys fits to rows (holds _ is.table.fitting)));
       };
       few = omega (arith, few_past from (take to rows), few_first to rows, is.few);

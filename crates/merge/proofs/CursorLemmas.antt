@@ -72,7 +72,8 @@ get-nothing (x ∷ xs) zero is = cc
 get-nothing (x ∷ xs) (suc n) is = get-nothing xs n is
 
 -- an iterator over the elements from an index on gives the one at it, and goes on after it
-pub next_is : (es : List Entry) (n : ℕ) (s t : List Entry) (r : Option (Bor Entry)) → s ≡ drop n es → YieldsFirstRef {A = Entry} (λ xs. xs) s r t →
+pub next_is : (es : List Entry) (n : ℕ) (s t : List Entry) (r : Option (Bor Entry)) → s ≡ drop n es
+    → YieldsFirstRef {A = Entry} (λ xs. xs) s r t →
     (option_copied r ≡ slice_get es n) × (t ≡ drop (n + 1) es)
 next_is es n s t None is gives =
     let none : drop n es ≡ [] = sym is ∙ gives.0 in
@@ -99,7 +100,8 @@ place_fits key_cols es n x h is = omega (arith, h.counted, slice_get_within es n
 
 -- ---- the test of a delete
 
-pub starts-some : (sid : ℕ) (es : List Entry) (n : ℕ) (x : Entry) → slice_get es n ≡ Some x → starts_with_delete sid (drop n es) ≡ (x.sid == sid) && is_delete x.change
+pub starts-some : (sid : ℕ) (es : List Entry) (n : ℕ) (x : Entry) → slice_get es n ≡ Some x
+    → starts_with_delete sid (drop n es) ≡ (x.sid == sid) && is_delete x.change
 starts-some sid es n x is = ap (starts_with_delete sid) (drop-at es n x is)
 
 pub starts-none : (sid : ℕ) (es : List Entry) (n : ℕ) → slice_get es n ≡ None → starts_with_delete sid (drop n es) ≡ false
@@ -108,14 +110,17 @@ starts-none sid es n is = ap (starts_with_delete sid) (drop-none es n is)
 pub not_same : (a b : ℕ) → (a ≡ b → ⊥) → (a == b) ≡ false
 not_same a b h = elim (a == b) as (λ r. (a == b) ≡ r → r ≡ false) [ true ↦ λ e. absurd (h (same_of a b e)) | false ↦ λ e. refl ] refl
 
-pub starts-same : (sid : ℕ) (es : List Entry) (n : ℕ) (x : Entry) → slice_get es n ≡ Some x → x.sid ≡ sid → starts_with_delete sid (drop n es) ≡ is_delete x.change
+pub starts-same : (sid : ℕ) (es : List Entry) (n : ℕ) (x : Entry) → slice_get es n ≡ Some x → x.sid ≡ sid
+    → starts_with_delete sid (drop n es) ≡ is_delete x.change
 starts-same sid es n x is same = starts-some sid es n x is ∙ ap (λ b. b && is_delete x.change) (ap (λ k. k == sid) same ∙ same_itself sid)
 
-pub starts-other : (sid : ℕ) (es : List Entry) (n : ℕ) (x : Entry) → slice_get es n ≡ Some x → (x.sid ≡ sid → ⊥) → starts_with_delete sid (drop n es) ≡ false
+pub starts-other : (sid : ℕ) (es : List Entry) (n : ℕ) (x : Entry) → slice_get es n ≡ Some x → (x.sid ≡ sid → ⊥)
+    → starts_with_delete sid (drop n es) ≡ false
 starts-other sid es n x is other = starts-some sid es n x is ∙ ap (λ b. b && is_delete x.change) (not_same x.sid sid other)
 
 -- only an entry at the SID passes it
-pub starts-fits : (key_cols sid : ℕ) (es : List Entry) (n : ℕ) → IsLawful key_cols es → starts_with_delete sid (drop n es) ≡ true → (sid < 2 ^ 32) × (n < length es)
+pub starts-fits : (key_cols sid : ℕ) (es : List Entry) (n : ℕ) → IsLawful key_cols es → starts_with_delete sid (drop n es) ≡ true
+    → (sid < 2 ^ 32) × (n < length es)
 starts-fits key_cols sid es n h test = by (drop n es) refl test
   where
     by : (left : List Entry) → drop n es ≡ left → starts_with_delete sid left ≡ true → (sid < 2 ^ 32) × (n < length es)
@@ -123,7 +128,8 @@ starts-fits key_cols sid es n h test = by (drop n es) refl test
     by (x ∷ rest) is t =
         let at = slice_get-drop es n x rest is in
         elim (x.sid == sid) as (λ b. (x.sid == sid) ≡ b → b && is_delete x.change ≡ true → (sid < 2 ^ 32) × (n < length es)) [
-          | true ↦ λ e g. let low = placed_at key_cols es n x h at in let same = same_of x.sid sid e in (omega arith, slice_get_within es n x at)
+          | true ↦ λ e g. let low =
+              placed_at key_cols es n x h at in let same = same_of x.sid sid e in (omega arith, slice_get_within es n x at)
           | false ↦ λ e g. cc
         ] refl t
 
@@ -150,7 +156,8 @@ is_past-weaken n m e le h = by (nat_lt e.sid n) refl (is_insert e.change) h
 
 pub past-weaken : (n m : ℕ) (es : List Entry) → n ≤ m → T (list_all (is_past n) es) → T (list_all (is_past m) es)
 past-weaken n m [] le h = tt
-past-weaken n m (e ∷ es) le h = both (is_past m e) _ (is_past-weaken n m e le (first (is_past n e) _ h)) (past-weaken n m es le (second (is_past n e) _ h))
+past-weaken n m (e ∷ es) le h =
+    both (is_past m e) _ (is_past-weaken n m e le (first (is_past n e) _ h)) (past-weaken n m es le (second (is_past n e) _ h))
 
 pub below_past : (n : ℕ) (e : Entry) → e.sid < n → T (is_past n e)
 below_past n e lt = subst (λ b. T (b || is_insert e.change)) (sym (yes (nat_lt e.sid n) (of_lt e.sid n lt))) tt
@@ -167,8 +174,11 @@ insert_past n sid row = or_true (nat_lt sid n)
     or_true false = tt
 
 -- one more entry is past
-pub one_past : (n place : ℕ) (es : List Entry) (x : Entry) → slice_get es place ≡ Some x → T (is_past n x) → T (list_all (is_past n) (take place es)) → T (list_all (is_past n) (take (place + 1) es))
-one_past n place es x is h past = subst (λ xs. T (list_all (is_past n) xs)) (sym (take-at es place x is)) (all-append (is_past n) (take place es) (x ∷ []) past (both (is_past n x) _ h tt))
+pub one_past : (n place : ℕ) (es : List Entry) (x : Entry) → slice_get es place ≡ Some x → T (is_past n x)
+    → T (list_all (is_past n) (take place es)) → T (list_all (is_past n) (take (place + 1) es))
+one_past n place es x is h past =
+    subst (λ xs. T (list_all (is_past n) xs)) (sym (take-at es place x is))
+    (all-append (is_past n) (take place es) (x ∷ []) past (both (is_past n x) _ h tt))
 
 -- no modify of the next row is past
 cells-past : (sid : ℕ) (xs ys : List Entry) → T (list_all (is_past sid) xs) → cells_at sid (xs ++ ys) ≡ cells_at sid ys
@@ -184,19 +194,22 @@ cells-past sid (x ∷ xs) ys h = by (x.sid == sid) refl x.change refl ∙ cells-
     by : (b : Bool) → (x.sid == sid) ≡ b → (c : Change) → x.change ≡ c → cells_at sid (x ∷ xs ++ ys) ≡ cells_at sid (xs ++ ys)
     by false e c k = ap modified_cells (changes_at_other sid x (xs ++ ys) e)
     by true e (Ins row) k =
-        ap (λ b. modified_cells (map (λ (e : Entry). e.change) (cond b (x ∷ filter (λ e. e.sid == sid) (xs ++ ys)) (filter (λ e. e.sid == sid) (xs ++ ys))))) e
+        ap (λ b. modified_cells (map (λ (e : Entry). e.change)
+        (cond b (x ∷ filter (λ e. e.sid == sid) (xs ++ ys)) (filter (λ e. e.sid == sid) (xs ++ ys))))) e
         ∙ ap (λ c. modified_cells (c ∷ changes_at sid (xs ++ ys))) k
     by true e (Del key) k = absurd (none (Del key) k (same_of x.sid sid e) refl)
     by true e (Mod col value) k = absurd (none (Mod col value) k (same_of x.sid sid e) refl)
 
-pub cells_at-left : (c : TreeCursor) → T (list_all (is_past c.sid) (take c.index c.tree.entries)) → cells_at c.sid c.tree.entries ≡ cells_at c.sid (entries_left c)
+pub cells_at-left : (c : TreeCursor) → T (list_all (is_past c.sid) (take c.index c.tree.entries))
+    → cells_at c.sid c.tree.entries ≡ cells_at c.sid (entries_left c)
 cells_at-left c h =
     ap (cells_at c.sid) (sym (take-append-drop c.index c.tree.entries)) ∙ cells-past c.sid (take c.index c.tree.entries) (entries_left c) h
 
 -- ---- entries over rows
 
 -- entries within, from a later place on
-pub within_from : (n m end : ℕ) (es : List Entry) → T (all_from m es) → T (list_all (stands_within n end) es) → T (list_all (stands_within m end) es)
+pub within_from : (n m end : ℕ) (es : List Entry) → T (all_from m es) → T (list_all (stands_within n end) es)
+    → T (list_all (stands_within m end) es)
 within_from n m end [] h w = tt
 within_from n m end (e ∷ es) h w =
     both (stands_within m end e) _
@@ -204,7 +217,8 @@ within_from n m end (e ∷ es) h w =
     (within_from n m end es (second (nat_le m e.sid) _ h) (second (stands_within n end e) _ w))
 
 module _ (key_cols : ℕ) where
-  pub over_from : (n m end stop : ℕ) (es : List Entry) → end ≡ stop → T (all_from m es) → IsOver key_cols n end es → IsOver key_cols m stop es
+  pub over_from : (n m end stop : ℕ) (es : List Entry) → end ≡ stop → T (all_from m es) → IsOver key_cols n end es
+      → IsOver key_cols m stop es
   over_from n m end stop es is h o = record {
     ordered = o.ordered;
     within = subst (λ k. T (list_all (stands_within m k) es)) is (within_from n m end es h o.within);
@@ -226,7 +240,8 @@ module _ (c : TreeCursor) where
   kc = c.tree.key_cols
 
   -- past an insert
-  pub inserts_next : (row : Row) (new : TreeCursor) → slice_get es c.index ≡ Some (entry_at c.sid (Ins row)) → new ≡ record c { index = c.index + 1 } → InsertsNext row c new
+  pub inserts_next : (row : Row) (new : TreeCursor) → slice_get es c.index ≡ Some (entry_at c.sid (Ins row))
+      → new ≡ record c { index = c.index + 1 } → InsertsNext row c new
   inserts_next row new is next =
       let n : TreeCursor = record c { index = c.index + 1 } in
       let left : entries_left c ≡ entry_at c.sid (Ins row) ∷ entries_left n = drop-at es c.index (entry_at c.sid (Ins row)) is in
@@ -236,12 +251,15 @@ module _ (c : TreeCursor) where
           lawful = h.lawful;
           past = one_past c.sid c.index es (entry_at c.sid (Ins row)) is (insert_past c.sid c.sid row) h.past;
           few = h.few;
-          over = over_tail kc c.sid (c.sid + count) (entry_at c.sid (Ins row)) (entries_left n) (subst (λ xs. IsOver kc c.sid (c.sid + count) xs) left h.over);
+          over =
+              over_tail kc c.sid (c.sid + count) (entry_at c.sid (Ins row)) (entries_left n)
+              (subst (λ xs. IsOver kc c.sid (c.sid + count) xs) left h.over);
         };
       })
 
   -- past the delete of the next base row
-  pub deletes_next : (key : Key) (new : TreeCursor) → slice_get es c.index ≡ Some (entry_at c.sid (Del key)) → new ≡ record c { index = c.index + 1; sid = c.sid + 1 } → DeletesNext c new
+  pub deletes_next : (key : Key) (new : TreeCursor) → slice_get es c.index ≡ Some (entry_at c.sid (Del key))
+      → new ≡ record c { index = c.index + 1; sid = c.sid + 1 } → DeletesNext c new
   deletes_next key new is next =
       let x : Entry = entry_at c.sid (Del key) in
       let n : TreeCursor = record c { index = c.index + 1; sid = c.sid + 1 } in
@@ -251,34 +269,48 @@ module _ (c : TreeCursor) where
       subst (λ y. DeletesNext c y) (sym next) (record {
         some = λ count h.
             let w = subst (λ xs. T (list_all (stands_within c.sid (c.sid + count)) xs)) left h.over.within in
-            let lt = lt_of c.sid (c.sid + count) (second (nat_le c.sid c.sid) (nat_lt c.sid (c.sid + count)) (first (stands_within c.sid (c.sid + count) x) _ w)) in
+            let lt =
+            lt_of c.sid (c.sid + count)
+            (second (nat_le c.sid c.sid) (nat_lt c.sid (c.sid + count)) (first (stands_within c.sid (c.sid + count) x) _ w))
+            in
             omega arith;
         rows = λ row base h.
             let o = subst (λ xs. T (are_ordered kc xs)) left h.over.ordered in
             ap (merged_rows_from c.sid (row ∷ base)) left
-            ∙ merged_rows_from_delete c.sid key row base (entries_left n) (after_delete kc c.sid key (entries_left n) (first (list_all (λ y. is_lt (entry_cmp kc x y)) (entries_left n)) _ o))
+            ∙ merged_rows_from_delete c.sid key row base (entries_left n) (after_delete kc c.sid key (entries_left n)
+            (first (list_all (λ y. is_lt (entry_cmp kc x y)) (entries_left n)) _ o))
             ∙ ap (λ m. merged_rows_from m base (entries_left n)) (sym step);
         cursor = λ count h.
             let o = subst (λ xs. IsOver kc c.sid (c.sid + suc count) xs) left h.over in
-            let far = all_from-after c.sid (entries_left n) (after_delete kc c.sid key (entries_left n) (first (list_all (λ y. is_lt (entry_cmp kc x y)) (entries_left n)) _ o.ordered)) in
+            let far =
+            all_from-after c.sid (entries_left n) (after_delete kc c.sid key (entries_left n)
+            (first (list_all (λ y. is_lt (entry_cmp kc x y)) (entries_left n)) _ o.ordered)) in
             let stop : c.sid + suc count ≡ c.sid + 1 + count = omega arith in
             let low : c.sid ≤ c.sid + 1 = omega arith in
             record {
               lawful = h.lawful;
-              past = one_past (c.sid + 1) c.index es x is (below_past (c.sid + 1) x later) (past-weaken c.sid (c.sid + 1) (take c.index es) low h.past);
+              past =
+                  one_past (c.sid + 1) c.index es x is (below_past (c.sid + 1) x later)
+                  (past-weaken c.sid (c.sid + 1) (take c.index es) low h.past);
               few = omega (arith, h.few);
-              over = over_from kc c.sid (c.sid + 1) (c.sid + suc count) (c.sid + 1 + count) (entries_left n) stop (subst (λ m. T (all_from m (entries_left n))) (sym step) far) (over_tail kc c.sid (c.sid + suc count) x (entries_left n) o);
+              over =
+                  over_from kc c.sid (c.sid + 1) (c.sid + suc count) (c.sid + 1 + count) (entries_left n) stop
+                  (subst (λ m. T (all_from m (entries_left n))) (sym step) far)
+                  (over_tail kc c.sid (c.sid + suc count) x (entries_left n) o);
             };
       })
 
   -- that is what the test says
-  pub deletes_test : (new : TreeCursor) → starts_with_delete c.sid (entries_left c) ≡ true → new ≡ record c { index = c.index + 1; sid = c.sid + 1 } → DeletesNext c new
+  pub deletes_test : (new : TreeCursor) → starts_with_delete c.sid (entries_left c) ≡ true
+      → new ≡ record c { index = c.index + 1; sid = c.sid + 1 } → DeletesNext c new
   deletes_test new test next = by (entries_left c) refl test
     where
-      at_change : (x : Entry) (rest : List Entry) → entries_left c ≡ x ∷ rest → x.sid ≡ c.sid → (d : Change) → x.change ≡ d → is_delete d ≡ true → DeletesNext c new
+      at_change : (x : Entry) (rest : List Entry) → entries_left c ≡ x ∷ rest → x.sid ≡ c.sid → (d : Change) → x.change ≡ d
+          → is_delete d ≡ true → DeletesNext c new
       at_change x rest left here (Ins row) k t = cc
       at_change x rest left here (Mod col value) k t = cc
-      at_change x rest left here (Del key) k t = deletes_next key new (slice_get-drop es c.index x rest left ∙ (λ i. Some (entry_at (here i) (k i)))) next
+      at_change x rest left here (Del key) k t =
+          deletes_next key new (slice_get-drop es c.index x rest left ∙ (λ i. Some (entry_at (here i) (k i)))) next
 
       by : (left : List Entry) → entries_left c ≡ left → starts_with_delete c.sid left ≡ true → DeletesNext c new
       by [] is t = cc
@@ -290,12 +322,14 @@ module _ (c : TreeCursor) where
 
 -- ---- the entries past a SID
 
-pub entries_past-at : (sid n : ℕ) (es : List Entry) (x : Entry) → slice_get es n ≡ Some x → x.sid ≡ sid → entries_past sid (drop n es) ≡ entries_past sid (drop (n + 1) es)
+pub entries_past-at : (sid n : ℕ) (es : List Entry) (x : Entry) → slice_get es n ≡ Some x → x.sid ≡ sid
+    → entries_past sid (drop n es) ≡ entries_past sid (drop (n + 1) es)
 entries_past-at sid n es x is same =
     ap (entries_past sid) (drop-at es n x is)
     ∙ ap (λ b. cond b (entries_past sid (drop (n + 1) es)) (x ∷ drop (n + 1) es)) (ap (λ k. k == sid) same ∙ same_itself sid)
 
-pub entries_past-other : (sid n : ℕ) (es : List Entry) (x : Entry) → slice_get es n ≡ Some x → (x.sid ≡ sid → ⊥) → entries_past sid (drop n es) ≡ drop n es
+pub entries_past-other : (sid n : ℕ) (es : List Entry) (x : Entry) → slice_get es n ≡ Some x → (x.sid ≡ sid → ⊥)
+    → entries_past sid (drop n es) ≡ drop n es
 entries_past-other sid n es x is other =
     ap (entries_past sid) (drop-at es n x is)
     ∙ ap (λ b. cond b (entries_past sid (drop (n + 1) es)) (x ∷ drop (n + 1) es)) (not_same x.sid sid other)

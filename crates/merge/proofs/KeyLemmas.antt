@@ -14,7 +14,8 @@ use Rattle.merge.specs.Image.{IsLayer}
 -- ---- a layer
 
 module _ (schema : Columns) (t : Table) (tree : Tree) (h : IsLayer schema t tree) (key : Key) (r : ℕ) (place : r ≡ rank key t) where
-  pub layer_rank : (n rid : ℕ) → IsSplit (stands_before (insert_cmp tree.key_cols key) r) tree.entries n → rid ≡ rid_of_insert (take n tree.entries) r → rid ≡ rank key (table_with t h.effects)
+  pub layer_rank : (n rid : ℕ) → IsSplit (stands_before (insert_cmp tree.key_cols key) r) tree.entries n
+      → rid ≡ rid_of_insert (take n tree.entries) r → rid ≡ rank key (table_with t h.effects)
   layer_rank n rid split is =
       let split' : IsSplit (stands_before (insert_cmp schema.key_cols key) (rank key t)) (canonical_entries t h.effects) n =
       subst (λ es. IsSplit (stands_before (insert_cmp schema.key_cols key) (rank key t)) es n) h.entries

@@ -27,13 +27,14 @@ use Rattle.delta.specs.Search.{insert_cmp, stands_before, IsSplit}
 use Rattle.delta.specs.Lookups.{inserted_row}
 use Rattle.delta.specs.Laws.{row_inserted}
 use Rattle.delta.specs.Tree.{Tree}
-use Rattle.delta.specs.BySid.{base_change, effect_on_base, is_deleted}
+use Rattle.delta.specs.BySid.{base_change, is_deleted}
 use Rattle.delta.specs.declared.by_sid.BaseChange.{BaseChange}
 use Rattle.delta.specs.declared.by_sid.BaseChange.TheVariants.{Kept, Modified, Deleted}
 use Rattle.delta.proofs.CallerLemmas.{base_change-effect, finds_effect, fitting, sorted_effects}
 use Rattle.merge.specs.Image.{IsLayer}
 use Rattle.merge.specs.KeyRow.{row_above}
 use Rattle.merge.specs.View.{modified_cells, cells_at}
+use Rattle.delta.proofs.Words.{effect_on_base}
 
 -- ---- the cells that canonical entries change
 

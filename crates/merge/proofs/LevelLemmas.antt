@@ -49,14 +49,16 @@ all_from-after n (e ∷ es) h =
 
 all_from-append : (n : ℕ) (es fs : List Entry) → T (all_from n es) → T (all_from n fs) → T (all_from n (es ++ fs))
 all_from-append n [] fs p q = q
-all_from-append n (e ∷ es) fs p q = both (nat_le n e.sid) _ (first (nat_le n e.sid) _ p) (all_from-append n es fs (second (nat_le n e.sid) _ p) q)
+all_from-append n (e ∷ es) fs p q =
+    both (nat_le n e.sid) _ (first (nat_le n e.sid) _ p) (all_from-append n es fs (second (nat_le n e.sid) _ p) q)
 
 -- ---- the order
 
 -- what stands first is at a smaller place, or first at the same one
 sid_first : (a b : ℕ) (o : Ordering) → T (is_lt (ordering_then (nat_cmp a b) o)) → (a < b) ⊎ ((a ≡ b) × T (is_lt o))
 sid_first a b o h =
-    elim (nat_lt a b) as (λ l. nat_lt a b ≡ l → T (is_lt (ordering_then (cond l Less (cond (a == b) Equal Greater)) o)) → (a < b) ⊎ ((a ≡ b) × T (is_lt o))) [
+    elim (nat_lt a b) as (λ l. nat_lt a b ≡ l → T (is_lt (ordering_then (cond l Less (cond (a == b) Equal Greater)) o))
+    → (a < b) ⊎ ((a ≡ b) × T (is_lt o))) [
       | true ↦ λ is g. inl (grind (arith, nat_tests))
       | false ↦ λ is g.
           elim (a == b) as (λ l. (a == b) ≡ l → T (is_lt (ordering_then (cond l Equal Greater) o)) → (a < b) ⊎ ((a ≡ b) × T (is_lt o))) [
@@ -70,7 +72,8 @@ module _ (key_cols : ℕ) where
   pub from_head : (x : Entry) (es : List Entry) → T (list_all (λ y. is_lt (entry_cmp key_cols x y)) es) → T (all_from x.sid es)
   from_head x [] h = tt
   from_head x (y ∷ es) h =
-      both (nat_le x.sid y.sid) _ (of_le x.sid y.sid (at_least (sid_first x.sid y.sid (change_cmp key_cols x.change y.change) (first (is_lt (entry_cmp key_cols x y)) _ h))))
+      both (nat_le x.sid y.sid) _ (of_le x.sid y.sid
+      (at_least (sid_first x.sid y.sid (change_cmp key_cols x.change y.change) (first (is_lt (entry_cmp key_cols x y)) _ h))))
       (from_head x es (second (is_lt (entry_cmp key_cols x y)) _ h))
     where
       at_least : (x.sid < y.sid) ⊎ ((x.sid ≡ y.sid) × T (is_lt (change_cmp key_cols x.change y.change))) → x.sid ≤ y.sid
@@ -83,10 +86,12 @@ module _ (key_cols : ℕ) where
   none_after_delete key (Del other) h = h
   none_after_delete key (Mod col value) h = h
 
-  pub after_delete : (n : ℕ) (key : Key) (es : List Entry) → T (list_all (λ y. is_lt (entry_cmp key_cols (entry_at n (Del key)) y)) es) → T (all_after n es)
+  pub after_delete : (n : ℕ) (key : Key) (es : List Entry)
+      → T (list_all (λ y. is_lt (entry_cmp key_cols (entry_at n (Del key)) y)) es) → T (all_after n es)
   after_delete n key [] h = tt
   after_delete n key (y ∷ es) h =
-      both (nat_lt n y.sid) _ (of_lt n y.sid (past (sid_first n y.sid (change_cmp key_cols (Del key) y.change) (first (is_lt (entry_cmp key_cols (entry_at n (Del key)) y)) _ h))))
+      both (nat_lt n y.sid) _ (of_lt n y.sid (past (sid_first n y.sid (change_cmp key_cols (Del key) y.change)
+      (first (is_lt (entry_cmp key_cols (entry_at n (Del key)) y)) _ h))))
       (after_delete n key es (second (is_lt (entry_cmp key_cols (entry_at n (Del key)) y)) _ h))
     where
       past : (n < y.sid) ⊎ ((n ≡ y.sid) × T (is_lt (change_cmp key_cols (Del key) y.change))) → n < y.sid
@@ -102,7 +107,8 @@ module _ (key_cols : ℕ) where
 -- ---- a stretch without entries
 
 -- the rows before the first entry stand as they are
-pub merged_rows_from-gap : (k n m : ℕ) (base : List Row) (es : List Entry) → m ≡ n + k → k ≤ length base → T (all_from m es) → merged_rows_from n base es ≡ take k base ++ merged_rows_from m (drop k base) es
+pub merged_rows_from-gap : (k n m : ℕ) (base : List Row) (es : List Entry) → m ≡ n + k → k ≤ length base → T (all_from m es)
+    → merged_rows_from n base es ≡ take k base ++ merged_rows_from m (drop k base) es
 merged_rows_from-gap zero n m base es is le h = let e : n ≡ m = omega arith in ap (λ p. merged_rows_from p base es) e
 merged_rows_from-gap (suc k) n m [] es is le h = absurd (omega arith)
 merged_rows_from-gap (suc k) n m (row ∷ base) es is le h =
@@ -113,7 +119,8 @@ merged_rows_from-gap (suc k) n m (row ∷ base) es is le h =
     ∙ ap (λ rows. row ∷ rows) (merged_rows_from-gap k (suc n) m base es next shorter h)
 
 -- a modify at the first place changes its row
-pub merged_rows_from-cell : (n col : ℕ) (value : Value) (row : Row) (base : List Row) (es : List Entry) → merged_rows_from n (row ∷ base) (entry_at n (Mod col value) ∷ es) ≡ merged_rows_from n (slice_set row col value ∷ base) es
+pub merged_rows_from-cell : (n col : ℕ) (value : Value) (row : Row) (base : List Row) (es : List Entry)
+    → merged_rows_from n (row ∷ base) (entry_at n (Mod col value) ∷ es) ≡ merged_rows_from n (slice_set row col value ∷ base) es
 merged_rows_from-cell n col value row base es =
     let here = changes_at_here n (Mod col value) es in
     let lt : n < suc n = omega arith in

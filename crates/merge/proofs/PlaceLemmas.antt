@@ -29,13 +29,15 @@ within_drop n end (suc k) [] h = tt
 within_drop n end (suc k) (e ∷ es) h = within_drop n end k es (second (stands_within n end e) _ h)
 
 ordered_drop : (key_cols k : ℕ) (es : List Entry) → T (are_ordered key_cols es) → T (are_ordered key_cols (drop k es))
-ordered_drop key_cols k es h = ordered_right key_cols (take k es) (drop k es) (subst (λ xs. T (are_ordered key_cols xs)) (sym (take-append-drop k es)) h)
+ordered_drop key_cols k es h =
+    ordered_right key_cols (take k es) (drop k es) (subst (λ xs. T (are_ordered key_cols xs)) (sym (take-append-drop k es)) h)
 
 -- what comes before the base row at a SID is past there
 passed_past : (s : ℕ) (es : List Entry) → T (list_all (is_passed 0 s) es) → T (list_all (is_past s) es)
 passed_past s [] h = tt
 passed_past s (e ∷ es) h =
-    both (is_past s e) _ (by e.change (second (nat_le 0 e.sid) _ (first (is_passed 0 s e) _ h))) (passed_past s es (second (is_passed 0 s e) _ h))
+    both (is_past s e) _ (by e.change (second (nat_le 0 e.sid) _ (first (is_passed 0 s e) _ h)))
+    (passed_past s es (second (is_passed 0 s e) _ h))
   where
     or_true : (b : Bool) → T (b || true)
     or_true true = tt
@@ -57,7 +59,10 @@ drop_passed (x ∷ xs) ys zero is = absurd (omega arith)
 drop_passed (x ∷ xs) ys (suc n) is = let shorter : length xs ≡ n = omega arith in drop_passed xs ys n shorter
 
 -- the cursor past entries that come before the base row at its SID, where no other does
-module _ (base : List Row) (c : TreeCursor) (over : IsOver c.tree.key_cols 0 (length base) c.tree.entries) (lawful : IsLawful c.tree.key_cols c.tree.entries) (small : length base < 2 ^ 62) (within : c.sid ≤ length base) (passed : T (list_all (is_passed 0 c.sid) (take c.index c.tree.entries))) (far : T (all_from c.sid (drop c.index c.tree.entries))) where
+module _ (base : List Row) (c : TreeCursor) (over : IsOver c.tree.key_cols 0 (length base) c.tree.entries)
+    (lawful : IsLawful c.tree.key_cols c.tree.entries) (small : length base < 2 ^ 62) (within : c.sid ≤ length base)
+    (passed : T (list_all (is_passed 0 c.sid) (take c.index c.tree.entries)))
+    (far : T (all_from c.sid (drop c.index c.tree.entries))) where
   abbrev es : List Entry
   es = c.tree.entries
 
@@ -70,7 +75,8 @@ module _ (base : List Row) (c : TreeCursor) (over : IsOver c.tree.key_cols 0 (le
   reach : IsReached 0 c.sid c.sid base (take c.index es) (drop c.index es)
   reach =
       let sum : c.sid ≡ 0 + c.sid = omega arith in
-      reached kc (take c.index es) (drop c.index es) 0 c.sid c.sid base sum within (subst (λ xs. T (are_ordered kc xs)) (sym whole) over.ordered) passed far
+      reached kc (take c.index es) (drop c.index es) 0 c.sid c.sid base sum within
+      (subst (λ xs. T (are_ordered kc xs)) (sym whole) over.ordered) passed far
 
   -- at the position that they give
   pub cursor_at : (rid : ℕ) → rid + delete_count (take c.index es) ≡ c.sid + insert_count (take c.index es) → IsCursorAt base rid c
@@ -80,12 +86,17 @@ module _ (base : List Row) (c : TreeCursor) (over : IsOver c.tree.key_cols 0 (le
       let stop : length base ≡ c.sid + length (drop c.sid base) = omega (arith, length-drop c.sid base, within) in
       record {
         within = within;
-        rows = sym (ap (drop rid) (ap (merged_rows base) (sym whole) ∙ r.image) ∙ drop_passed r.passed (merged_rows_from c.sid (drop c.sid base) (drop c.index es)) rid count);
+        rows =
+            sym (ap (drop rid) (ap (merged_rows base) (sym whole) ∙ r.image)
+            ∙ drop_passed r.passed (merged_rows_from c.sid (drop c.sid base) (drop c.index es)) rid count);
         cursor = record {
           lawful = lawful;
           past = passed_past c.sid (take c.index es) passed;
           few = omega (arith, stop, small);
-          over = over_from kc 0 c.sid (length base) (c.sid + length (drop c.sid base)) (drop c.index es) stop far (record { ordered = ordered_drop kc c.index es over.ordered; within = within_drop 0 (length base) c.index es over.within });
+          over =
+              over_from kc 0 c.sid (length base) (c.sid + length (drop c.sid base)) (drop c.index es) stop far
+              (record
+              { ordered = ordered_drop kc c.index es over.ordered; within = within_drop 0 (length base) c.index es over.within });
         };
       }
 
@@ -100,14 +111,19 @@ module _ (s : ℕ) where
   stands_passed : (es : List Entry) → T (list_all (stands_before base_cmp s) es) → T (list_all (is_passed 0 s) es)
   stands_passed [] h = tt
   stands_passed (e ∷ es) h =
-      both (is_passed 0 s e) _ (both (nat_le 0 e.sid) _ (of_le 0 e.sid (omega arith)) (by (nat_cmp s e.sid) refl e.change refl (first (stands_before base_cmp s e) _ h)))
+      both (is_passed 0 s e) _ (both (nat_le 0 e.sid) _ (of_le 0 e.sid (omega arith))
+      (by (nat_cmp s e.sid) refl e.change refl (first (stands_before base_cmp s e) _ h)))
       (stands_passed es (second (stands_before base_cmp s e) _ h))
     where
-      by : (r : Ordering) → nat_cmp s e.sid ≡ r → (c : Change) → e.change ≡ c → T (is_gt (ordering_then (nat_cmp s e.sid) (base_cmp e.change))) → T (cond (is_insert c) (nat_le e.sid s) (nat_lt e.sid s))
+      by : (r : Ordering) → nat_cmp s e.sid ≡ r → (c : Change) → e.change ≡ c
+          → T (is_gt (ordering_then (nat_cmp s e.sid) (base_cmp e.change)))
+          → T (cond (is_insert c) (nat_le e.sid s) (nat_lt e.sid s))
       by Less q c k t = absurd (subst (λ r. T (is_gt (ordering_then r (base_cmp e.change)))) q t)
       by Equal q (Ins row) k t = let same : s ≡ e.sid = ranked s e.sid Equal (sym q) in of_le e.sid s (omega arith)
-      by Equal q (Del key) k t = absurd (subst (λ d. T (is_gt (base_cmp d))) k (subst (λ r. T (is_gt (ordering_then r (base_cmp e.change)))) q t))
-      by Equal q (Mod col value) k t = absurd (subst (λ d. T (is_gt (base_cmp d))) k (subst (λ r. T (is_gt (ordering_then r (base_cmp e.change)))) q t))
+      by Equal q (Del key) k t =
+          absurd (subst (λ d. T (is_gt (base_cmp d))) k (subst (λ r. T (is_gt (ordering_then r (base_cmp e.change)))) q t))
+      by Equal q (Mod col value) k t =
+          absurd (subst (λ d. T (is_gt (base_cmp d))) k (subst (λ r. T (is_gt (ordering_then r (base_cmp e.change)))) q t))
       by Greater q (Ins row) k t = let lt : e.sid < s = ranked s e.sid Greater (sym q) in of_le e.sid s (omega arith)
       by Greater q (Del key) k t = of_lt e.sid s (ranked s e.sid Greater (sym q))
       by Greater q (Mod col value) k t = of_lt e.sid s (ranked s e.sid Greater (sym q))
@@ -154,7 +170,8 @@ module _ (base : List Row) (c : TreeCursor) (rid : ℕ) (over : IsOver c.tree.ke
   inside w is =
       let past : length base < c.sid = omega arith in
       let none = none_far (length base) c.sid (drop c.index all) past (within_drop 0 (length base) c.index all over.within) far in
-      let same : take c.index all ≡ all = sym (append_none (take c.index all)) ∙ ap (λ ys. take c.index all ++ ys) (sym none) ∙ take-append-drop c.index all in
+      let same : take c.index all ≡ all =
+      sym (append_none (take c.index all)) ∙ ap (λ ys. take c.index all ++ ys) (sym none) ∙ take-append-drop c.index all in
       omega (arith, low, start.position, ap insert_count same, ap delete_count same, length-merged_rows c.tree.key_cols base all over)
     where
       append_none : (xs : List Entry) → xs ++ [] ≡ xs

@@ -45,7 +45,8 @@ module _ {X : Type 0} where
       ] refl
 
   -- the items from one place up to another, where both are cut to the length
-  pub cut_range : (from to : ℕ) (xs : List X) → take (min to (length xs) - min from (length xs)) (drop (min from (length xs)) xs) ≡ drop from (take to xs)
+  pub cut_range : (from to : ℕ) (xs : List X)
+      → take (min to (length xs) - min from (length xs)) (drop (min from (length xs)) xs) ≡ drop from (take to xs)
   cut_range from to xs =
       let short : length (take to xs) ≤ length xs = shorter to xs in
       range_of (min from (length xs)) (min to (length xs)) xs

@@ -36,7 +36,9 @@ drop_twice j k l xs is = drop-drop k j xs ∙ ap (λ m. drop m xs) (sym is)
 
 module _ (key_cols : ℕ) where
   -- a stretch without entries comes before
-  past_gap : (j n m k s : ℕ) (base : List Row) (x : Entry) (before after : List Entry) → m ≡ n + j → j ≤ k → k ≤ length base → T (all_from m (x ∷ before ++ after)) → IsReached m (k - j) s (drop j base) (x ∷ before) after → IsReached n k s base (x ∷ before) after
+  past_gap : (j n m k s : ℕ) (base : List Row) (x : Entry) (before after : List Entry) → m ≡ n + j → j ≤ k → k ≤ length base
+      → T (all_from m (x ∷ before ++ after)) → IsReached m (k - j) s (drop j base) (x ∷ before) after
+      → IsReached n k s base (x ∷ before) after
   past_gap j n m k s base x before after is le short far h =
       let split : k ≡ j + (k - j) = omega arith in
       let low : j ≤ length base = omega arith in
@@ -51,21 +53,26 @@ module _ (key_cols : ℕ) where
       }
 
   -- past an entry at the first place
-  past_insert : (m k s : ℕ) (row : Row) (base : List Row) (before after : List Entry) → IsReached m k s base before after → IsReached m k s base (entry_at m (Ins row) ∷ before) after
+  past_insert : (m k s : ℕ) (row : Row) (base : List Row) (before after : List Entry) → IsReached m k s base before after
+      → IsReached m k s base (entry_at m (Ins row) ∷ before) after
   past_insert m k s row base before after h = record {
     passed = row ∷ h.passed;
     image = merged_rows_from_insert m row base (before ++ after) ∙ ap (λ rows. row ∷ rows) h.image;
     count = omega (arith, h.count);
   }
 
-  past_delete : (m k s : ℕ) (key : Key) (row : Row) (base : List Row) (before after : List Entry) → T (all_after m (before ++ after)) → IsReached (suc m) k s base before after → IsReached m (suc k) s (row ∷ base) (entry_at m (Del key) ∷ before) after
+  past_delete : (m k s : ℕ) (key : Key) (row : Row) (base : List Row) (before after : List Entry)
+      → T (all_after m (before ++ after)) → IsReached (suc m) k s base before after
+      → IsReached m (suc k) s (row ∷ base) (entry_at m (Del key) ∷ before) after
   past_delete m k s key row base before after far h = record {
     passed = h.passed;
     image = merged_rows_from_delete m key row base (before ++ after) far ∙ h.image;
     count = omega (arith, h.count);
   }
 
-  past_modify : (m k s col : ℕ) (value : Value) (row : Row) (base : List Row) (before after : List Entry) → IsReached m (suc k) s (slice_set row col value ∷ base) before after → IsReached m (suc k) s (row ∷ base) (entry_at m (Mod col value) ∷ before) after
+  past_modify : (m k s col : ℕ) (value : Value) (row : Row) (base : List Row) (before after : List Entry)
+      → IsReached m (suc k) s (slice_set row col value ∷ base) before after
+      → IsReached m (suc k) s (row ∷ base) (entry_at m (Mod col value) ∷ before) after
   past_modify m k s col value row base before after h = record {
     passed = h.passed;
     image = merged_rows_from-cell m col value row base (before ++ after) ∙ h.image;
@@ -73,7 +80,10 @@ module _ (key_cols : ℕ) where
   }
 
   -- past a delete, and past a modify, of some row of the base
-  past_some_delete : (m k s : ℕ) (key : Key) (base : List Row) (before after : List Entry) → s ≡ m + k → 0 < k → k ≤ length base → T (all_after m (before ++ after)) → ((k' : ℕ) (base' : List Row) → s ≡ suc m + k' → k' ≤ length base' → IsReached (suc m) k' s base' before after) → IsReached m k s base (entry_at m (Del key) ∷ before) after
+  past_some_delete : (m k s : ℕ) (key : Key) (base : List Row) (before after : List Entry) → s ≡ m + k → 0 < k → k ≤ length base
+      → T (all_after m (before ++ after))
+      → ((k' : ℕ) (base' : List Row) → s ≡ suc m + k' → k' ≤ length base' → IsReached (suc m) k' s base' before after)
+      → IsReached m k s base (entry_at m (Del key) ∷ before) after
   past_some_delete m zero s key base before after is some short far rest = absurd (omega arith)
   past_some_delete m (suc k) s key [] before after is some short far rest = absurd (omega arith)
   past_some_delete m (suc k) s key (row ∷ base) before after is some short far rest =
@@ -81,17 +91,21 @@ module _ (key_cols : ℕ) where
       let shorter : k ≤ length base = omega arith in
       past_delete m k s key row base before after far (rest k base next shorter)
 
-  past_some_modify : (m k s col : ℕ) (value : Value) (base : List Row) (before after : List Entry) → 0 < k → k ≤ length base → ((base' : List Row) → k ≤ length base' → IsReached m k s base' before after) → IsReached m k s base (entry_at m (Mod col value) ∷ before) after
+  past_some_modify : (m k s col : ℕ) (value : Value) (base : List Row) (before after : List Entry) → 0 < k → k ≤ length base
+      → ((base' : List Row) → k ≤ length base' → IsReached m k s base' before after)
+      → IsReached m k s base (entry_at m (Mod col value) ∷ before) after
   past_some_modify m zero s col value base before after some short rest = absurd (omega arith)
   past_some_modify m (suc k) s col value [] before after some short rest = absurd (omega arith)
   past_some_modify m (suc k) s col value (row ∷ base) before after some short rest =
       past_modify m k s col value row base before after (rest (slice_set row col value ∷ base) short)
 
   -- entries that come before place s do so from any place that they don't stand before
-  passed_from : (n m s : ℕ) (es fs : List Entry) → T (all_from m (es ++ fs)) → T (list_all (is_passed n s) es) → T (list_all (is_passed m s) es)
+  passed_from : (n m s : ℕ) (es fs : List Entry) → T (all_from m (es ++ fs)) → T (list_all (is_passed n s) es)
+      → T (list_all (is_passed m s) es)
   passed_from n m s [] fs h p = tt
   passed_from n m s (e ∷ es) fs h p =
-      both (is_passed m s e) _ (both (nat_le m e.sid) _ (first (nat_le m e.sid) _ h) (second (nat_le n e.sid) _ (first (is_passed n s e) _ p)))
+      both (is_passed m s e) _
+      (both (nat_le m e.sid) _ (first (nat_le m e.sid) _ h) (second (nat_le n e.sid) _ (first (is_passed n s e) _ p)))
       (passed_from n m s es fs (second (nat_le m e.sid) _ h) (second (is_passed n s e) _ p))
 
   -- the entries past one in order
@@ -99,7 +113,9 @@ module _ (key_cols : ℕ) where
   follow x es = list_all (λ y. is_lt (entry_cmp key_cols x y)) es
 
   -- the image past entries that come before the base row at place s, which is that number k from place n on
-  pub reached : (before after : List Entry) (n k s : ℕ) (base : List Row) → s ≡ n + k → k ≤ length base → T (are_ordered key_cols (before ++ after)) → T (list_all (is_passed n s) before) → T (all_from s after) → IsReached n k s base before after
+  pub reached : (before after : List Entry) (n k s : ℕ) (base : List Row) → s ≡ n + k → k ≤ length base
+      → T (are_ordered key_cols (before ++ after)) → T (list_all (is_passed n s) before) → T (all_from s after)
+      → IsReached n k s base before after
   reached [] after n k s base is short ordered bef far = record {
     passed = take k base;
     image = merged_rows_from-gap k n s base after is short far;
@@ -115,7 +131,8 @@ module _ (key_cols : ℕ) where
       let ordered' = second (follow x (before ++ after)) (are_ordered key_cols (before ++ after)) ordered in
       let all : T (all_from m (x ∷ before ++ after)) = all_from-ordered key_cols m x (before ++ after) ordered own in
       let later : T (all_from m (before ++ after)) = second (nat_le m m) _ all in
-      elim x.change as (λ c. T (follow (entry_at m c) (before ++ after)) → T (is_passed n s (entry_at m c)) → IsReached n k s base (entry_at m c ∷ before) after) [
+      elim x.change as (λ c. T (follow (entry_at m c) (before ++ after)) → T (is_passed n s (entry_at m c))
+      → IsReached n k s base (entry_at m c ∷ before) after) [
         | Ins row ↦ λ o b.
             let high : m ≤ s = le_of m s (second (nat_le n m) (nat_le m s) b) in
             let inside : j ≤ k = omega arith in
@@ -133,7 +150,8 @@ module _ (key_cols : ℕ) where
             let past = after_delete key_cols m key (before ++ after) o in
             past_gap j n m k s base (entry_at m (Del key)) before after at_m inside short all
             (past_some_delete m (k - j) s key (drop j base) before after next some shorter past
-            (λ k' base' e l. reached before after (suc m) k' s base' e l ordered' (passed_from n (suc m) s before after (all_from-after m (before ++ after) past) bef') far))
+            (λ k' base' e l. reached before after (suc m) k' s base' e l ordered'
+            (passed_from n (suc m) s before after (all_from-after m (before ++ after) past) bef') far))
         | Mod col value ↦ λ o b.
             let high : m < s = lt_here m s (second (nat_le n m) (nat_lt m s) b) in
             let inside : j ≤ k = omega arith in
@@ -153,14 +171,21 @@ append_nothing (x ∷ xs) = ap (λ ys. x ∷ ys) (append_nothing xs)
 
 within_passed : (n end : ℕ) (es : List Entry) → T (list_all (stands_within n end) es) → T (list_all (is_passed n end) es)
 within_passed n end [] h = tt
-within_passed n end (e ∷ es) h = both (is_passed n end e) _ (first (stands_within n end e) _ h) (within_passed n end es (second (stands_within n end e) _ h))
+within_passed n end (e ∷ es) h =
+    both (is_passed n end e) _ (first (stands_within n end e) _ h) (within_passed n end es (second (stands_within n end e) _ h))
 
 -- the length of the image
-pub length-merged_rows : (key_cols : ℕ) (base : List Row) (es : List Entry) → IsOver key_cols 0 (length base) es → length (merged_rows base es) + delete_count es ≡ length base + insert_count es
+pub length-merged_rows : (key_cols : ℕ) (base : List Row) (es : List Entry) → IsOver key_cols 0 (length base) es
+    → length (merged_rows base es) + delete_count es ≡ length base + insert_count es
 length-merged_rows key_cols base es h =
     let whole : length base ≡ 0 + length base = omega arith in
     let full : length base ≤ length base = omega arith in
     let all = append_nothing es in
-    let r = reached key_cols es [] 0 (length base) (length base) base whole full (subst (λ fs. T (are_ordered key_cols fs)) (sym all) h.ordered) (within_passed 0 (length base) es h.within) tt in
-    let image = ap (merged_rows base) (sym all) ∙ r.image ∙ ap (λ rest. r.passed ++ merged_rows_from (length base) rest []) (drop_all (length base) base full) in
+    let r =
+    reached key_cols es [] 0 (length base) (length base) base whole full
+    (subst (λ fs. T (are_ordered key_cols fs)) (sym all) h.ordered) (within_passed 0 (length base) es h.within) tt in
+    let image =
+    ap (merged_rows base) (sym all)
+    ∙ r.image
+    ∙ ap (λ rest. r.passed ++ merged_rows_from (length base) rest []) (drop_all (length base) base full) in
     omega (arith, ap length image, length-append r.passed [], r.count)

@@ -19,7 +19,8 @@ use Rattle.merge.specs.Runs.{part_values}
 use Rattle.merge.specs.declared.run.ColumnPart.{ColumnPart}
 
 -- a run of the block that has a place is a run of the values from there on
-pub run_in_block : (values : List Value) (at run : ℕ) → at % 1024 + run ≤ 1024 → take run (drop (at % 1024) (take 1024 (drop (1024 * (at / 1024)) values))) ≡ take run (drop at values)
+pub run_in_block : (values : List Value) (at run : ℕ) → at % 1024 + run ≤ 1024
+    → take run (drop (at % 1024) (take 1024 (drop (1024 * (at / 1024)) values))) ≡ take run (drop at values)
 run_in_block values at run fits =
     let q = at / 1024 in
     let r = at % 1024 in
@@ -67,13 +68,15 @@ no_fault : (fault : Option ShapeFault) → T (is_none fault) → fault ≡ None
 no_fault (Some fault) h = absurd h
 no_fault None h = refl
 
-all_fit : (schema : Columns) (rows : List Row) → T (list_all (λ e. fits_schema schema e.1) (table_of schema.key_cols rows)) → (k : ℕ) (d : Row) → k < length rows → row_fault schema (get_or rows k d) ≡ None
+all_fit : (schema : Columns) (rows : List Row) → T (list_all (λ e. fits_schema schema e.1) (table_of schema.key_cols rows))
+    → (k : ℕ) (d : Row) → k < length rows → row_fault schema (get_or rows k d) ≡ None
 all_fit schema [] h k d lt = absurd (omega arith)
 all_fit schema (row ∷ rows) h zero d lt = no_fault (row_fault schema row) (first (fits_schema schema row) _ h)
 all_fit schema (row ∷ rows) h (suc k) d lt = all_fit schema rows (second (fits_schema schema row) _ h) k d (omega arith)
 
 -- each row of a table may stand in each column
-pub table_stands : (schema : Columns) (rows : List Row) (col : ℕ) → IsTable schema (table_of schema.key_cols rows) → col < length schema.types → All (StandsAt (get_or schema.types col column.Int) col) rows
+pub table_stands : (schema : Columns) (rows : List Row) (col : ℕ) → IsTable schema (table_of schema.key_cols rows)
+    → col < length schema.types → All (StandsAt (get_or schema.types col column.Int) col) rows
 table_stands schema rows col table lt =
     λ k d within.
     let shaped = all_fit schema rows (holds _ table.fitting) k d within in

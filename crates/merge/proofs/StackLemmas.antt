@@ -22,7 +22,13 @@ use Rattle.model.proofs.CallerLemmas.{both, first, second, is_below, one_if, ran
 use Rattle.stable.specs.Stable.{Stable, table_in}
 use Rattle.delta.specs.Tree.{Tree}
 use Rattle.merge.specs.Image.{Stack, stack_of, stack_below, tree_over, read_rows, write_rows, image_rows, image_table, IsLayer, AreBothStacked, AreStacked}
-use Rattle.merge.specs.Level.{stands_within, IsOver, AreLevels}
+use Rattle.merge.specs.Level.{stands_within, IsOver}
+
+-- the layers of a stack, each in order over the rows below it
+pub record AreLevels (s : Stack) : Type 0 where
+  pub lower : IsOver s.schema.key_cols 0 (length s.rows) s.read
+  pub middle : IsOver s.schema.key_cols 0 (length (read_rows s)) s.write
+  pub upper : IsOver s.schema.key_cols 0 (length (write_rows s)) s.trans
 
 of_le : (n m : ℕ) → n ≤ m → T (nat_le n m)
 of_le n m h = grind (arith, nat_tests)
@@ -34,7 +40,8 @@ of_lt n m h = grind (arith, nat_tests)
 rank-there : (k : Key) (t : Table) → T (is_some (row_at t k)) → rank k t < length t
 rank-there k [] h = absurd h
 rank-there k (e ∷ t) h =
-    elim (key_cmp k e.0) as (λ r. key_cmp k e.0 ≡ r → T (is_some (cond (is_eq r) (Some e.1) (row_at t k))) → rank k (e ∷ t) < suc (length t)) [
+    elim (key_cmp k e.0) as
+    (λ r. key_cmp k e.0 ≡ r → T (is_some (cond (is_eq r) (Some e.1) (row_at t k))) → rank k (e ∷ t) < suc (length t)) [
       | Less ↦ λ p g. omega (arith, rank-cons k e t, at_most (is_below e.0 k), rank-there k t g)
       | Equal ↦ λ p g. omega (arith, rank-cons k e t, ap (λ r. one_if (is_lt r)) (tie p), rank-le-length k t)
       | Greater ↦ λ p g. omega (arith, rank-cons k e t, at_most (is_below e.0 k), rank-there k t g)
@@ -53,17 +60,23 @@ module _ (n end : ℕ) where
 
   cells_within : (k : ℕ) (cells : Cells) → n ≤ k → k < end → T (list_all (stands_within n end) (map (λ c. entry_at k (Mod c.0 c.1)) cells))
   cells_within k [] low high = tt
-  cells_within k (c ∷ cells) low high = both (stands_within n end (entry_at k (Mod c.0 c.1))) _ (base_within k low high) (cells_within k cells low high)
+  cells_within k (c ∷ cells) low high =
+      both (stands_within n end (entry_at k (Mod c.0 c.1))) _ (base_within k low high) (cells_within k cells low high)
 
-  within_append : (es fs : List Entry) → T (list_all (stands_within n end) es) → T (list_all (stands_within n end) fs) → T (list_all (stands_within n end) (es ++ fs))
+  within_append : (es fs : List Entry) → T (list_all (stands_within n end) es) → T (list_all (stands_within n end) fs)
+      → T (list_all (stands_within n end) (es ++ fs))
   within_append [] fs p q = q
-  within_append (e ∷ es) fs p q = both (stands_within n end e) _ (first (stands_within n end e) _ p) (within_append es fs (second (stands_within n end e) _ p) q)
+  within_append (e ∷ es) fs p q =
+      both (stands_within n end e) _ (first (stands_within n end e) _ p)
+      (within_append es fs (second (stands_within n end e) _ p) q)
 
 -- the entries of one effect stand within the table
-entries_within : (t : Table) (k : Key) (f : Effect) → T (fits (row_at t k) f) → T (list_all (stands_within 0 (length t)) (entries_of (rank k t) k f))
+entries_within : (t : Table) (k : Key) (f : Effect) → T (fits (row_at t k) f)
+    → T (list_all (stands_within 0 (length t)) (entries_of (rank k t) k f))
 entries_within t k (effect.Ins row) fit =
     let low : 0 ≤ rank k t = omega arith in
-    both (nat_le 0 (rank k t) && nat_le (rank k t) (length t)) _ (both (nat_le 0 (rank k t)) _ (of_le 0 (rank k t) low) (of_le (rank k t) (length t) (rank-le-length k t))) tt
+    both (nat_le 0 (rank k t) && nat_le (rank k t) (length t)) _
+    (both (nat_le 0 (rank k t)) _ (of_le 0 (rank k t) low) (of_le (rank k t) (length t) (rank-le-length k t))) tt
 entries_within t k effect.Del fit =
     let low : 0 ≤ rank k t = omega arith in
     both (nat_le 0 (rank k t) && nat_lt (rank k t) (length t)) _ (base_within 0 (length t) (rank k t) low (rank-there k t fit)) tt
@@ -72,7 +85,8 @@ entries_within t k (effect.Mod cells) fit =
     cells_within 0 (length t) (rank k t) cells low (rank-there k t fit)
 entries_within t k (effect.Rep row) fit =
     let low : 0 ≤ rank k t = omega arith in
-    both (nat_le 0 (rank k t) && nat_le (rank k t) (length t)) _ (both (nat_le 0 (rank k t)) _ (of_le 0 (rank k t) low) (of_le (rank k t) (length t) (rank-le-length k t)))
+    both (nat_le 0 (rank k t) && nat_le (rank k t) (length t)) _
+    (both (nat_le 0 (rank k t)) _ (of_le 0 (rank k t) low) (of_le (rank k t) (length t) (rank-le-length k t)))
     (both (nat_le 0 (rank k t) && nat_lt (rank k t) (length t)) _ (base_within 0 (length t) (rank k t) low (rank-there k t fit)) tt)
 
 canonical_within : (t : Table) (x : Effects) → T (all_fit t x) → T (list_all (stands_within 0 (length t)) (canonical_entries t x))
@@ -86,7 +100,9 @@ module _ (schema : Columns) where
   -- the entries of effects over a table stand in order over its rows
   pub over-canonical_entries : (t : Table) (x : Effects) → AreOver schema t x → IsOver schema.key_cols 0 (length t) (canonical_entries t x)
   over-canonical_entries t x h = record {
-    ordered = ordered-canonical_entries schema.key_cols t x (passes (are_keyed_effects schema.key_cols x) h.effects_are.keyed) (passes (all_fit t x) h.fit);
+    ordered =
+        ordered-canonical_entries schema.key_cols t x (passes (are_keyed_effects schema.key_cols x) h.effects_are.keyed)
+        (passes (all_fit t x) h.fit);
     within = canonical_within t x (passes (all_fit t x) h.fit);
   }
 
@@ -95,7 +111,8 @@ module _ (schema : Columns) where
   merges t x h =
       merged_rows-canonical_entries t x
       (first (is_sorted key_cmp t) _ (passes (is_keyed_table schema.key_cols t) h.table.keyed))
-      (first (is_sorted key_cmp x) (list_all (λ e. is_keyed_effect schema.key_cols e.0 e.1) x) (passes (are_keyed_effects schema.key_cols x) h.effects_are.keyed))
+      (first (is_sorted key_cmp x) (list_all (λ e. is_keyed_effect schema.key_cols e.0 e.1) x)
+      (passes (are_keyed_effects schema.key_cols x) h.effects_are.keyed))
       (passes (all_fit t x) h.fit)
 
   -- a layer over a table, over rows that are the table's
@@ -127,19 +144,29 @@ module _ (stable : Stable) (read write trans : Tree) (h : AreStacked stable read
   are_levels = record {
     lower = layer_over stable.schema (table_in stable) read h.lower stable.rows stable_rows_is;
     middle = layer_over stable.schema (table_with (table_in stable) h.lower.effects) write h.middle (read_rows stack) read_rows_is;
-    upper = layer_over stable.schema (table_with (table_with (table_in stable) h.lower.effects) h.middle.effects) trans h.upper (write_rows stack) write_rows_is;
+    upper =
+        layer_over stable.schema (table_with (table_with (table_in stable) h.lower.effects) h.middle.effects) trans h.upper
+        (write_rows stack) write_rows_is;
   }
 
   -- the rows of the image are those of the table after all effects
-  pub image_rows_is : image_rows stack ≡ rows_of (table_with (table_with (table_with (table_in stable) h.lower.effects) h.middle.effects) h.upper.effects)
-  image_rows_is = layer_rows stable.schema (table_with (table_with (table_in stable) h.lower.effects) h.middle.effects) trans h.upper (write_rows stack) write_rows_is
+  pub image_rows_is :
+      image_rows stack
+      ≡ rows_of (table_with (table_with (table_with (table_in stable) h.lower.effects) h.middle.effects) h.upper.effects)
+  image_rows_is =
+      layer_rows stable.schema (table_with (table_with (table_in stable) h.lower.effects) h.middle.effects) trans h.upper
+      (write_rows stack) write_rows_is
 
   -- and under their keys they are that table
-  pub image_table_is : image_table stack ≡ table_with (table_with (table_with (table_in stable) h.lower.effects) h.middle.effects) h.upper.effects
+  pub image_table_is :
+      image_table stack ≡ table_with (table_with (table_with (table_in stable) h.lower.effects) h.middle.effects) h.upper.effects
   image_table_is =
       let t = table_with (table_with (table_with (table_in stable) h.lower.effects) h.middle.effects) h.upper.effects in
-      let is = leaves stable.schema (table_with (table_with (table_in stable) h.lower.effects) h.middle.effects) h.upper.effects h.upper.over in
-      ap (table_of stable.schema.key_cols) image_rows_is ∙ table_of-rows_of stable.schema.key_cols t (passes (is_keyed_table stable.schema.key_cols t) is.keyed)
+      let is =
+      leaves stable.schema (table_with (table_with (table_in stable) h.lower.effects) h.middle.effects) h.upper.effects
+      h.upper.over in
+      ap (table_of stable.schema.key_cols) image_rows_is
+      ∙ table_of-rows_of stable.schema.key_cols t (passes (is_keyed_table stable.schema.key_cols t) is.keyed)
 
   pub image_is_table : IsTable stable.schema (image_table stack)
   image_is_table =
@@ -151,7 +178,8 @@ module _ (stable : Stable) (read write trans : Tree) (h : AreStacked stable read
 merged_rows-nothing : (rows : List Row) → merged_rows rows [] ≡ rows
 merged_rows-nothing rows = merged_rows_from_nothing 0 rows
 
-pub image_rows-none : (stable : Stable) (read write : Tree) → image_rows (stack_below stable read write) ≡ write_rows (stack_below stable read write)
+pub image_rows-none : (stable : Stable) (read write : Tree)
+    → image_rows (stack_below stable read write) ≡ write_rows (stack_below stable read write)
 image_rows-none stable read write = merged_rows-nothing (write_rows (stack_below stable read write))
 
 pub nothing_lawful : (key_cols : ℕ) → IsLawful key_cols []
@@ -178,11 +206,14 @@ module _ (stable : Stable) (read write : Tree) (h : AreBothStacked stable read w
   }
 
 -- the image is then the table under the two lower layers
-pub image_table-none : (stable : Stable) (read write : Tree) (h : AreBothStacked stable read write) → image_table (stack_below stable read write) ≡ table_with (table_with (table_in stable) h.lower.effects) h.middle.effects
+pub image_table-none : (stable : Stable) (read write : Tree) (h : AreBothStacked stable read write)
+    → image_table (stack_below stable read write) ≡ table_with (table_with (table_in stable) h.lower.effects) h.middle.effects
 image_table-none stable read write h =
     let t = table_with (table_with (table_in stable) h.lower.effects) h.middle.effects in
-    ap (table_of stable.schema.key_cols) (image_rows-none stable read write ∙ write_rows_is stable read write (tree_over stable.schema.key_cols None) (none_stacked stable read write h))
-    ∙ table_of-rows_of stable.schema.key_cols t (passes (is_keyed_table stable.schema.key_cols t) (under_is_table stable read write h).keyed)
+    ap (table_of stable.schema.key_cols) (image_rows-none stable read write
+    ∙ write_rows_is stable read write (tree_over stable.schema.key_cols None) (none_stacked stable read write h))
+    ∙ table_of-rows_of stable.schema.key_cols t
+    (passes (is_keyed_table stable.schema.key_cols t) (under_is_table stable read write h).keyed)
 
 -- no rank in a table is past the rows that it has
 pub rank-few : (k : Key) (t : Table) (rows : List Row) → rows ≡ rows_of t → rank k t ≤ length rows

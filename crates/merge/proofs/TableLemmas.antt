@@ -46,7 +46,8 @@ same_type column.Bool column.Text (Text x) p q = cc p
 same_type column.Bool column.Text (Truth x) p q = cc q
 
 -- a stretch of stable rows has the column, and it is of the type
-module _ (ty : ColumnType) (col : ℕ) (stretch : StableStretch) (is : IsStableStretch stretch) (kept : IsStable stretch.table.now) (stand : All (StandsAt ty col) (stretch_rows (Stable stretch))) where
+module _ (ty : ColumnType) (col : ℕ) (stretch : StableStretch) (is : IsStableStretch stretch) (kept : IsStable stretch.table.now)
+    (stand : All (StandsAt ty col) (stretch_rows (Stable stretch))) where
   abbrev types : List ColumnType
   types = stretch.table.now.schema.types
 
@@ -54,24 +55,34 @@ module _ (ty : ColumnType) (col : ℕ) (stretch : StableStretch) (is : IsStableS
   first = get_or stretch.table.now.rows stretch.sid []
 
   first_stands : StandsAt ty col first
-  first_stands = All-head (StandsAt ty col) first (take (stretch.len - 1) (drop (stretch.sid + 1) stretch.table.now.rows)) (subst (All (StandsAt ty col)) (stretch_next stretch is) stand)
+  first_stands =
+      All-head (StandsAt ty col) first (take (stretch.len - 1) (drop (stretch.sid + 1) stretch.table.now.rows))
+      (subst (All (StandsAt ty col)) (stretch_next stretch is) stand)
 
   shaped : list_fault types first ≡ None
-  shaped = all_shaped stretch.table.now.schema stretch.table.now.rows (no_build_fault stretch.table.now.schema stretch.table.now.rows kept) stretch.sid [] (omega (arith, is.some, is.within))
+  shaped =
+      all_shaped stretch.table.now.schema stretch.table.now.rows
+      (no_build_fault stretch.table.now.schema stretch.table.now.rows kept) stretch.sid [] (omega (arith, is.some, is.within))
 
   pub has_column : col < length types
   has_column = omega (arith, first_stands.wide, width_of types first shaped)
 
   pub column_type : get_or types col column.Int ≡ ty
-  column_type = same_type (get_or types col column.Int) ty (get_or first col (Truth false)) (fit_at types first col has_column shaped).typed first_stands.typed
+  column_type =
+      same_type (get_or types col column.Int) ty (get_or first col (Truth false)) (fit_at types first col has_column shaped).typed
+      first_stands.typed
 
-  pub stretch_values : take stretch.len (drop stretch.sid (column_values col stretch.table.now.rows)) ≡ column_values col (stretch_rows (Stable stretch))
+  pub stretch_values :
+      take stretch.len (drop stretch.sid (column_values col stretch.table.now.rows))
+      ≡ column_values col (stretch_rows (Stable stretch))
   stretch_values =
       let cell = λ (row : Row). get_or row col (Truth false) in
-      ap (take stretch.len) (drop-map cell stretch.sid stretch.table.now.rows) ∙ take-map cell stretch.len (drop stretch.sid stretch.table.now.rows)
+      ap (take stretch.len) (drop-map cell stretch.sid stretch.table.now.rows)
+      ∙ take-map cell stretch.len (drop stretch.sid stretch.table.now.rows)
 
 -- the value of a single row is of the type, and no long text
-module _ (ty : ColumnType) (col : ℕ) (view : RowView) (v : Value) (stand : All (StandsAt ty col) (stretch_rows (One view))) (e : slice_get (row_of view) col ≡ Some v) where
+module _ (ty : ColumnType) (col : ℕ) (view : RowView) (v : Value) (stand : All (StandsAt ty col) (stretch_rows (One view)))
+    (e : slice_get (row_of view) col ≡ Some v) where
   cell_is : get_or (row_of view) col (Truth false) ≡ v
   cell_is = get_or_from_slice_get (row_of view) col v (Truth false) e
 
@@ -87,7 +98,8 @@ module _ (ty : ColumnType) (col : ℕ) (view : RowView) (v : Value) (stand : All
 -- ---- all rows
 
 -- each row of a table may stand in each column
-pub rows_stand : (schema : Columns) (rows : List Row) (col : ℕ) → IsStable (record { schema = schema; rows = rows }) → col < length schema.types → All (StandsAt (get_or schema.types col column.Int) col) rows
+pub rows_stand : (schema : Columns) (rows : List Row) (col : ℕ) → IsStable (record { schema = schema; rows = rows })
+    → col < length schema.types → All (StandsAt (get_or schema.types col column.Int) col) rows
 rows_stand schema rows col h lt =
     λ k d within.
     let shaped = all_shaped schema rows (no_build_fault schema rows h) k d within in
@@ -96,19 +108,35 @@ rows_stand schema rows col h lt =
 
 module _ (ty : ColumnType) (col : ℕ) (rows rest all : List Row) (is : all ≡ rows ++ rest) (stand : All (StandsAt ty col) all) where
   pub left_stand : All (StandsAt ty col) rows
-  left_stand = λ k d lt. subst (λ (row : Row). StandsAt ty col row) (ap (λ rs. get_or rs k d) is ∙ get_or_append_left rows rest d k lt) (stand k d (omega (arith, lt, ap (λ (rs : List Row). length rs) is, length-append rows rest)))
+  left_stand =
+      λ k d lt. subst (λ (row : Row). StandsAt ty col row) (ap (λ rs. get_or rs k d) is ∙ get_or_append_left rows rest d k lt)
+      (stand k d (omega (arith, lt, ap (λ (rs : List Row). length rs) is, length-append rows rest)))
 
   pub right_stand : All (StandsAt ty col) rest
-  right_stand = λ k d lt. subst (λ (row : Row). StandsAt ty col row) (ap (λ rs. get_or rs (length rows + k) d) is ∙ get_or-append_right rows rest (length rows) (length rows + k) d refl (omega arith) ∙ ap (λ n. get_or rest n d) (omega arith)) (stand (length rows + k) d (omega (arith, lt, ap (λ (rs : List Row). length rs) is, length-append rows rest)))
+  right_stand =
+      λ k d lt. subst (λ (row : Row). StandsAt ty col row) (ap (λ rs. get_or rs (length rows + k) d) is
+      ∙ get_or-append_right rows rest (length rows) (length rows + k) d refl (omega arith)
+      ∙ ap (λ n. get_or rest n d) (omega arith))
+      (stand (length rows + k) d (omega (arith, lt, ap (λ (rs : List Row). length rs) is, length-append rows rest)))
 
   -- the values of a stretch go from those that are left to those so far
-  pub values_move : (old : List Value) (done : List Value) → old ++ column_values col all ≡ done → (old ++ column_values col rows) ++ column_values col rest ≡ done
+  pub values_move : (old : List Value) (done : List Value) → old ++ column_values col all ≡ done
+      → (old ++ column_values col rows) ++ column_values col rest ≡ done
   values_move old done e =
       append_assoc old (column_values col rows) (column_values col rest)
       ∙ ap (λ more. old ++ more) (sym (ap (column_values col) is ∙ map-append (λ (row : Row). get_or row col (Truth false)) rows rest))
       ∙ e
 
-  pub values_fit : (old : List Value) (done : List Row) → old ++ column_values col all ≡ column_values col done → length old + length rows ≤ length done
+  pub values_fit : (old : List Value) (done : List Row) → old ++ column_values col all ≡ column_values col done
+      → length old + length rows ≤ length done
   values_fit old done e =
       let cell = λ (row : Row). get_or row col (Truth false) in
-      omega (arith, ap (λ (vs : List Value). length vs) e, length-append old (column_values col all), length-map all cell, length-map done cell, ap (λ (rs : List Row). length rs) is, length-append rows rest)
+      omega (
+        arith,
+        ap (λ (vs : List Value). length vs) e,
+        length-append old (column_values col all),
+        length-map all cell,
+        length-map done cell,
+        ap (λ (rs : List Row). length rs) is,
+        length-append rows rest,
+      )

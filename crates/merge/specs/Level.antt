@@ -17,12 +17,6 @@ pub record IsOver (key_cols n end : ℕ) (entries : List Entry) : Type 0 where
   pub ordered : T (are_ordered key_cols entries)
   pub within : T (list_all (stands_within n end) entries)
 
--- the layers of a stack, each in order over the rows below it
-pub record AreLevels (s : Stack) : Type 0 where
-  pub lower : IsOver s.schema.key_cols 0 (length s.rows) s.read
-  pub middle : IsOver s.schema.key_cols 0 (length (read_rows s)) s.write
-  pub upper : IsOver s.schema.key_cols 0 (length (write_rows s)) s.trans
-
 -- what layers keep beside their rows: lawful trees, so many rows in the image, and not too many at any level
 pub record AreKept (stable : Stable) (read write trans : Tree) (len : ℕ) : Type 0 where
   pub stacked : AreStacked stable read write trans

@@ -27,7 +27,9 @@ IsRun ty (One value) = IsTrue (has_type ty (value_of value))
 
 -- what a call that hands out the next run gives: all values come in order, no run is empty, and each is of the column's type
 abbrev pub YieldsRun : Column → Option Run → Column → Type 0
-YieldsRun old result new = MatchOption result ((old.values ≡ []) × (new ≡ old)) (λ run. (old ≡ record { ty = new.ty; values = run_values run ++ new.values }) × (0 < length (run_values run)) × IsRun new.ty run)
+YieldsRun old result new =
+    MatchOption result ((old.values ≡ []) × (new ≡ old))
+    (λ run. (old ≡ record { ty = new.ty; values = run_values run ++ new.values }) × (0 < length (run_values run)) × IsRun new.ty run)
 
 -- the values of a part of a column
 abbrev pub part_values : ColumnPart → List Value

@@ -25,4 +25,6 @@ IsStretch depth (One view) = IsBare depth view
 
 -- what a call that hands out the next stretch gives: all rows come, no stretch is empty, and stable rows are in their table
 abbrev pub YieldsStretch : List Row → Option Stretch → List Row → Type 0
-YieldsStretch old result new = MatchOption result ((old ≡ []) × (new ≡ [])) (λ stretch. (old ≡ stretch_rows stretch ++ new) × (0 < length (stretch_rows stretch)) × IsStretch 3 stretch)
+YieldsStretch old result new =
+    MatchOption result ((old ≡ []) × (new ≡ []))
+    (λ stretch. (old ≡ stretch_rows stretch ++ new) × (0 < length (stretch_rows stretch)) × IsStretch 3 stretch)

@@ -82,9 +82,13 @@ module _ (schema : Columns) where
       )
 
   -- the effects of a write alone, after those so far
-  written_fit : (x : Effects) (write : Write) (done : Bool) → T (is_sorted key_cmp x) → T (list_all (λ e. effect_fits_schema schema e.1) x) → T (write_fits_schema schema write) →
-      T (list_all (λ e. effect_fits_schema schema e.1) (cond done (composed_effects x ((key_of_write schema.key_cols write, effect_of_write write) ∷ [])) x))
-  written_fit x write true sorted h is = composed_effects-fit schema x ((key_of_write schema.key_cols write, effect_of_write write) ∷ []) sorted tt h (effect_of_write-fits schema write is)
+  written_fit : (x : Effects) (write : Write) (done : Bool) → T (is_sorted key_cmp x)
+      → T (list_all (λ e. effect_fits_schema schema e.1) x) → T (write_fits_schema schema write) →
+      T (list_all (λ e. effect_fits_schema schema e.1)
+      (cond done (composed_effects x ((key_of_write schema.key_cols write, effect_of_write write) ∷ [])) x))
+  written_fit x write true sorted h is =
+      composed_effects-fit schema x ((key_of_write schema.key_cols write, effect_of_write write) ∷ []) sorted tt h
+      (effect_of_write-fits schema write is)
   written_fit x write false sorted h is = h
 
   pub keeps : WriteKeeps schema

@@ -69,7 +69,10 @@ pub all_fit-unclashed : (rule : ConflictRule) (t : Table) (x y : Effects) → T 
     conflicts rule x y ≡ false → T (all_fit (table_with t y) x)
 all_fit-unclashed rule t [] y hy fx fy free = tt
 all_fit-unclashed rule t (e ∷ x) y hy fx fy free =
-    let head = unclashed_at rule e.1 (find key_cmp e.0 y) (row_at t e.0) (first _ _ fx) (each_at key_cmp key_cmp_total key_cmp-IsAntisymmetric (λ k f. fits (row_at t k) f) y fy e.0) (left_false (clashes rule e.1 (find key_cmp e.0 y)) _ free) in
+    let head =
+    unclashed_at rule e.1 (find key_cmp e.0 y) (row_at t e.0) (first _ _ fx)
+    (each_at key_cmp key_cmp_total key_cmp-IsAntisymmetric (λ k f. fits (row_at t k) f) y fy e.0)
+    (left_false (clashes rule e.1 (find key_cmp e.0 y)) _ free) in
     both _ _ (subst (λ old. T (fits old e.1)) (sym (row_at-table_with t y e.0 hy)) head)
     (all_fit-unclashed rule t x y hy (second _ _ fx) fy (right_false (clashes rule e.1 (find key_cmp e.0 y)) _ free))
 
@@ -82,7 +85,8 @@ module _ (rule : ConflictRule) (key_cols : ℕ) where
   abbrev clashes_with : List Entry → Entry → Bool
   clashes_with ys x = list_any (do_clash x) ys
 
-  is_some-or_clash : (i j : ℕ) (kind : Option ClashKind) (other : Option Clash) → is_some (or_clash i j kind other) ≡ (is_some kind || is_some other)
+  is_some-or_clash : (i j : ℕ) (kind : Option ClashKind) (other : Option Clash)
+      → is_some (or_clash i j kind other) ≡ (is_some kind || is_some other)
   is_some-or_clash i j None other = refl
   is_some-or_clash i j (Some kind) other = refl
 
@@ -114,7 +118,8 @@ module _ (rule : ConflictRule) (key_cols : ℕ) where
         equal Equal p = refl
         equal Greater p = absurd p
 
-    other_rank : (k j : Key) → eq_by_cmp key_cmp k j ≡ false → T (is_some (row_at t k)) → T (is_some (row_at t j)) → (rank k t == rank j t) ≡ false
+    other_rank : (k j : Key) → eq_by_cmp key_cmp k j ≡ false → T (is_some (row_at t k)) → T (is_some (row_at t j))
+        → (rank k t == rank j t) ≡ false
     other_rank k j ne hk hj =
         elim (key_cmp k j) as (λ r. key_cmp k j ≡ r → (rank k t == rank j t) ≡ false) [
           | Less ↦ λ p. let lt = rank-lt k j t p hk in differ (rank k t) (rank j t) (λ e. omega arith)
@@ -125,7 +130,8 @@ module _ (rule : ConflictRule) (key_cols : ℕ) where
         differ : (n m : ℕ) → n ≢ m → (n == m) ≡ false
         differ n m h = grind (arith, nat_tests)
 
-    apart : (k j : Key) (c d : Change) → eq_by_cmp key_cmp k j ≡ false → T (is_placed key_cols t k c) → T (is_placed key_cols t j d) → do_clash (entry_at (rank k t) c) (entry_at (rank j t) d) ≡ false
+    apart : (k j : Key) (c d : Change) → eq_by_cmp key_cmp k j ≡ false → T (is_placed key_cols t k c)
+        → T (is_placed key_cols t j d) → do_clash (entry_at (rank k t) c) (entry_at (rank j t) d) ≡ false
     apart k j (Ins row) (Ins other) ne hc hd =
         let left = same_key k row hc in
         let right = same_key j other hd in
@@ -144,30 +150,42 @@ module _ (rule : ConflictRule) (key_cols : ℕ) where
       abbrev x : Entry
       x = entry_at (rank k t) c
 
-      none_of_cells : (j : Key) (cells : Cells) → eq_by_cmp key_cmp k j ≡ false → T (is_some (row_at t j)) → list_any (do_clash x) (map (λ d. entry_at (rank j t) (Mod d.0 d.1)) cells) ≡ false
+      none_of_cells : (j : Key) (cells : Cells) → eq_by_cmp key_cmp k j ≡ false → T (is_some (row_at t j))
+          → list_any (do_clash x) (map (λ d. entry_at (rank j t) (Mod d.0 d.1)) cells) ≡ false
       none_of_cells j [] ne hj = refl
-      none_of_cells j (d ∷ cells) ne hj = ap (λ b. b || list_any (do_clash x) (map (λ d. entry_at (rank j t) (Mod d.0 d.1)) cells)) (apart k j c (Mod d.0 d.1) ne hc hj) ∙ none_of_cells j cells ne hj
+      none_of_cells j (d ∷ cells) ne hj =
+          ap (λ b. b || list_any (do_clash x) (map (λ d. entry_at (rank j t) (Mod d.0 d.1)) cells))
+          (apart k j c (Mod d.0 d.1) ne hc hj)
+          ∙ none_of_cells j cells ne hj
 
-      none_of : (j : Key) (g : Effect) → eq_by_cmp key_cmp k j ≡ false → T (is_keyed_effect key_cols j g) → T (fits (row_at t j) g) → list_any (do_clash x) (entries_of (rank j t) j g) ≡ false
+      none_of : (j : Key) (g : Effect) → eq_by_cmp key_cmp k j ≡ false → T (is_keyed_effect key_cols j g)
+          → T (fits (row_at t j) g) → list_any (do_clash x) (entries_of (rank j t) j g) ≡ false
       none_of j (effect.Ins row) ne he hf = ap (λ b. b || false) (apart k j c (Ins row) ne hc he)
       none_of j effect.Del ne he hf = ap (λ b. b || false) (apart k j c (Del j) ne hc hf)
       none_of j (effect.Mod cells) ne he hf = none_of_cells j cells ne hf
       none_of j (effect.Rep row) ne he hf = (λ i. apart k j c (Ins row) ne hc he i || (apart k j c (Del j) ne hc hf i || false))
 
       -- only the other's effect on the same key matters
-      only_here : (y : Effects) → T (is_sorted key_cmp y) → T (list_all (λ e. is_keyed_effect key_cols e.0 e.1) y) → T (all_fit t y) → clashes_with (canonical_entries t y) x ≡ clashes_with (maybe_entries (rank k t) k (find key_cmp k y)) x
+      only_here : (y : Effects) → T (is_sorted key_cmp y) → T (list_all (λ e. is_keyed_effect key_cols e.0 e.1) y)
+          → T (all_fit t y)
+          → clashes_with (canonical_entries t y) x ≡ clashes_with (maybe_entries (rank k t) k (find key_cmp k y)) x
       only_here [] hs he hf = refl
       only_here (e ∷ y) hs he hf =
           list_any-append (do_clash x) (entries_of (rank e.0 t) e.0 e.1) (canonical_entries t y)
-          ∙ elim (eq_by_cmp key_cmp k e.0) as (λ b. eq_by_cmp key_cmp k e.0 ≡ b → (list_any (do_clash x) (entries_of (rank e.0 t) e.0 e.1) || clashes_with (canonical_entries t y) x) ≡ clashes_with (maybe_entries (rank k t) k (cond b (Some e.1) (find key_cmp k y))) x) [
+          ∙ elim (eq_by_cmp key_cmp k e.0) as (λ b. eq_by_cmp key_cmp k e.0 ≡ b
+          → (list_any (do_clash x) (entries_of (rank e.0 t) e.0 e.1) || clashes_with (canonical_entries t y) x)
+          ≡ clashes_with (maybe_entries (rank k t) k (cond b (Some e.1) (find key_cmp k y))) x) [
             | true ↦ λ q.
                 let tie = equal _ (subst T (sym q) tt) in
                 let same = key_cmp-IsAntisymmetric k e.0 tie in
                 let nothing = find_below key_cmp_total k y (below_tied key_cmp key_cmp_total k e.0 y tie (first _ _ hs)) in
-                let tail = only_here y (second _ _ hs) (second _ _ he) (second _ _ hf) ∙ ap (λ o. clashes_with (maybe_entries (rank k t) k o) x) nothing in
+                let tail =
+                only_here y (second _ _ hs) (second _ _ he) (second _ _ hf)
+                ∙ ap (λ o. clashes_with (maybe_entries (rank k t) k o) x) nothing in
                 (λ i. list_any (do_clash x) (entries_of (rank (sym same i) t) (sym same i) e.1) || tail i)
                 ∙ or_none (list_any (do_clash x) (entries_of (rank k t) k e.1))
-            | false ↦ λ q. ap (λ b. b || clashes_with (canonical_entries t y) x) (none_of e.0 e.1 q (first _ _ he) (first _ _ hf)) ∙ only_here y (second _ _ hs) (second _ _ he) (second _ _ hf)
+            | false ↦ λ q. ap (λ b. b || clashes_with (canonical_entries t y) x) (none_of e.0 e.1 q (first _ _ he) (first _ _ hf))
+                ∙ only_here y (second _ _ hs) (second _ _ he) (second _ _ hf)
           ] refl
         where
           equal : (r : Ordering) → T (is_eq r) → r ≡ Equal
@@ -251,7 +269,8 @@ module _ (rule : ConflictRule) (key_cols : ℕ) where
         | ByRow ↦ λ by. rows_clash n cells others by p q
       ] refl
 
-  keys_tie : (k : Key) (row other : Row) → T (eq_by_cmp key_cmp k (key_of key_cols row)) → T (eq_by_cmp key_cmp k (key_of key_cols other)) → eq_by_cmp key_cmp (key_of key_cols row) (key_of key_cols other) ≡ true
+  keys_tie : (k : Key) (row other : Row) → T (eq_by_cmp key_cmp k (key_of key_cols row))
+      → T (eq_by_cmp key_cmp k (key_of key_cols other)) → eq_by_cmp key_cmp (key_of key_cols row) (key_of key_cols other) ≡ true
   keys_tie k row other p q =
       let left = same_key [] k row p in
       let right = same_key [] k other q in
@@ -269,7 +288,8 @@ module _ (rule : ConflictRule) (key_cols : ℕ) where
       none [] = refl
       none (c ∷ cells) = none cells
   effects_clash n k (effect.Rep row) None old kf kg p q = refl
-  effects_clash n k (effect.Ins row) (Some (effect.Ins other)) old kf kg p q = ap (λ b. (is_some (cond b (Some InsertInsert) None) || false) || false) (keys_tie k row other kf kg)
+  effects_clash n k (effect.Ins row) (Some (effect.Ins other)) old kf kg p q =
+      ap (λ b. (is_some (cond b (Some InsertInsert) None) || false) || false) (keys_tie k row other kf kg)
   effects_clash n k (effect.Ins row) (Some effect.Del) None kf kg p q = absurd q
   effects_clash n k (effect.Ins row) (Some effect.Del) (Some o) kf kg p q = absurd p
   effects_clash n k (effect.Ins row) (Some (effect.Mod others)) None kf kg p q = absurd q
@@ -278,41 +298,62 @@ module _ (rule : ConflictRule) (key_cols : ℕ) where
   effects_clash n k (effect.Ins row) (Some (effect.Rep other)) (Some o) kf kg p q = absurd p
   effects_clash n k effect.Del (Some (effect.Ins other)) None kf kg p q = absurd p
   effects_clash n k effect.Del (Some (effect.Ins other)) (Some o) kf kg p q = absurd q
-  effects_clash n k effect.Del (Some effect.Del) old kf kg p q = ap (λ b. (is_some (cond b (Some DeleteDelete) None) || false) || false) (same_number n)
+  effects_clash n k effect.Del (Some effect.Del) old kf kg p q =
+      ap (λ b. (is_some (cond b (Some DeleteDelete) None) || false) || false) (same_number n)
   effects_clash n k effect.Del (Some (effect.Mod [])) old kf kg p q = absurd kg
-  effects_clash n k effect.Del (Some (effect.Mod (d ∷ others))) old kf kg p q = ap (λ b. (is_some (cond b (Some DeleteModify) None) || list_any (do_clash (entry_at n (Del k))) (mods n others)) || false) (same_number n)
-  effects_clash n k effect.Del (Some (effect.Rep other)) old kf kg p q = ap (λ b. (is_some (cond b (Some DeleteDelete) None) || false) || false) (same_number n)
+  effects_clash n k effect.Del (Some (effect.Mod (d ∷ others))) old kf kg p q =
+      ap (λ b. (is_some (cond b (Some DeleteModify) None) || list_any (do_clash (entry_at n (Del k))) (mods n others)) || false)
+      (same_number n)
+  effects_clash n k effect.Del (Some (effect.Rep other)) old kf kg p q =
+      ap (λ b. (is_some (cond b (Some DeleteDelete) None) || false) || false) (same_number n)
   effects_clash n k (effect.Mod cells) (Some (effect.Ins other)) None kf kg p q = absurd p
   effects_clash n k (effect.Mod cells) (Some (effect.Ins other)) (Some o) kf kg p q = absurd q
   effects_clash n k (effect.Mod []) (Some effect.Del) old kf kg p q = absurd kf
-  effects_clash n k (effect.Mod (c ∷ cells)) (Some effect.Del) old kf kg p q = ap (λ b. (is_some (cond b (Some DeleteModify) None) || false) || list_any (clashes_with (entry_at n (Del k) ∷ [])) (mods n cells)) (same_number n)
+  effects_clash n k (effect.Mod (c ∷ cells)) (Some effect.Del) old kf kg p q =
+      ap (λ b. (is_some (cond b (Some DeleteModify) None) || false)
+      || list_any (clashes_with (entry_at n (Del k) ∷ [])) (mods n cells)) (same_number n)
   effects_clash n k (effect.Mod cells) (Some (effect.Mod others)) old kf kg p q = mods_clash n cells others (first _ _ kf) (first _ _ kg)
   effects_clash n k (effect.Mod []) (Some (effect.Rep other)) old kf kg p q = absurd kf
-  effects_clash n k (effect.Mod (c ∷ cells)) (Some (effect.Rep other)) old kf kg p q = ap (λ b. (is_some (cond b (Some DeleteModify) None) || false) || list_any (clashes_with (entry_at n (Ins other) ∷ entry_at n (Del k) ∷ [])) (mods n cells)) (same_number n)
+  effects_clash n k (effect.Mod (c ∷ cells)) (Some (effect.Rep other)) old kf kg p q =
+      ap (λ b. (is_some (cond b (Some DeleteModify) None) || false)
+      || list_any (clashes_with (entry_at n (Ins other) ∷ entry_at n (Del k) ∷ [])) (mods n cells)) (same_number n)
   effects_clash n k (effect.Rep row) (Some (effect.Ins other)) None kf kg p q = absurd p
   effects_clash n k (effect.Rep row) (Some (effect.Ins other)) (Some o) kf kg p q = absurd q
-  effects_clash n k (effect.Rep row) (Some effect.Del) old kf kg p q = ap (λ b. (is_some (cond b (Some DeleteDelete) None) || false) || false) (same_number n)
+  effects_clash n k (effect.Rep row) (Some effect.Del) old kf kg p q =
+      ap (λ b. (is_some (cond b (Some DeleteDelete) None) || false) || false) (same_number n)
   effects_clash n k (effect.Rep row) (Some (effect.Mod [])) old kf kg p q = absurd kg
   effects_clash n k (effect.Rep row) (Some (effect.Mod (d ∷ others))) old kf kg p q =
-      (λ i. insert_apart n row others i || ((is_some (cond (n == n) (Some DeleteModify) None) || list_any (do_clash (entry_at n (Del k))) (mods n others)) || false))
-      ∙ ap (λ b. (is_some (cond b (Some DeleteModify) None) || list_any (do_clash (entry_at n (Del k))) (mods n others)) || false) (same_number n)
-  effects_clash n k (effect.Rep row) (Some (effect.Rep other)) old kf kg p q = ap (λ b. (is_some (cond b (Some InsertInsert) None) || (false || false)) || ((false || (is_some (cond (n == n) (Some DeleteDelete) None) || false)) || false)) (keys_tie k row other kf kg)
+      (λ i. insert_apart n row others i
+      || ((is_some (cond (n == n) (Some DeleteModify) None) || list_any (do_clash (entry_at n (Del k))) (mods n others))
+      || false))
+      ∙ ap (λ b. (is_some (cond b (Some DeleteModify) None) || list_any (do_clash (entry_at n (Del k))) (mods n others)) || false)
+      (same_number n)
+  effects_clash n k (effect.Rep row) (Some (effect.Rep other)) old kf kg p q =
+      ap (λ b. (is_some (cond b (Some InsertInsert) None) || (false || false))
+      || ((false || (is_some (cond (n == n) (Some DeleteDelete) None) || false)) || false)) (keys_tie k row other kf kg)
 
   -- ---- all effects
 
   module _ (t : Table) (y : Effects) (hy : T (are_keyed_effects key_cols y)) (fy : T (all_fit t y)) where
-    to_here : (k : Key) (c : Change) → T (is_placed key_cols t k c) → clashes_with (canonical_entries t y) (entry_at (rank k t) c) ≡ clashes_with (maybe_entries (rank k t) k (find key_cmp k y)) (entry_at (rank k t) c)
+    to_here : (k : Key) (c : Change) → T (is_placed key_cols t k c)
+        → clashes_with (canonical_entries t y) (entry_at (rank k t) c)
+        ≡ clashes_with (maybe_entries (rank k t) k (find key_cmp k y)) (entry_at (rank k t) c)
     to_here k c hc = only_here t k c hc y (first _ _ hy) (second _ _ hy) fy
 
-    cells_here : (k : Key) (cells : Cells) → T (is_some (row_at t k)) → list_any (clashes_with (canonical_entries t y)) (mods (rank k t) cells) ≡ list_any (clashes_with (maybe_entries (rank k t) k (find key_cmp k y))) (mods (rank k t) cells)
+    cells_here : (k : Key) (cells : Cells) → T (is_some (row_at t k))
+        → list_any (clashes_with (canonical_entries t y)) (mods (rank k t) cells)
+        ≡ list_any (clashes_with (maybe_entries (rank k t) k (find key_cmp k y))) (mods (rank k t) cells)
     cells_here k [] h = refl
     cells_here k (c ∷ cells) h = let head = to_here k (Mod c.0 c.1) h in let rest = cells_here k cells h in λ i. head i || rest i
 
-    effect_here : (k : Key) (f : Effect) → T (is_keyed_effect key_cols k f) → T (fits (row_at t k) f) → list_any (clashes_with (canonical_entries t y)) (entries_of (rank k t) k f) ≡ list_any (clashes_with (maybe_entries (rank k t) k (find key_cmp k y))) (entries_of (rank k t) k f)
+    effect_here : (k : Key) (f : Effect) → T (is_keyed_effect key_cols k f) → T (fits (row_at t k) f)
+        → list_any (clashes_with (canonical_entries t y)) (entries_of (rank k t) k f)
+        ≡ list_any (clashes_with (maybe_entries (rank k t) k (find key_cmp k y))) (entries_of (rank k t) k f)
     effect_here k (effect.Ins row) he hf = ap (λ b. b || false) (to_here k (Ins row) he)
     effect_here k effect.Del he hf = ap (λ b. b || false) (to_here k (Del k) hf)
     effect_here k (effect.Mod cells) he hf = cells_here k cells hf
-    effect_here k (effect.Rep row) he hf = let head = to_here k (Ins row) he in let rest = to_here k (Del k) hf in λ i. head i || (rest i || false)
+    effect_here k (effect.Rep row) he hf =
+        let head = to_here k (Ins row) he in let rest = to_here k (Del k) hf in λ i. head i || (rest i || false)
 
     all_here : (x : Effects) → T (list_all (λ e. is_keyed_effect key_cols e.0 e.1) x) → T (all_fit t x) →
         list_any (clashes_with (canonical_entries t y)) (canonical_entries t x) ≡ conflicts rule x y
@@ -324,10 +365,12 @@ module _ (rule : ConflictRule) (key_cols : ℕ) where
         (each_at key_cmp key_cmp_total key_cmp-IsAntisymmetric (is_keyed_effect key_cols) y (second _ _ hy) e.0) (first _ _ hf)
         (each_at key_cmp key_cmp_total key_cmp-IsAntisymmetric (λ k f. fits (row_at t k) f) y fy e.0) in
         let rest = all_here x (second _ _ he) (second _ _ hf) in
-        list_any-append (clashes_with (canonical_entries t y)) (entries_of (rank e.0 t) e.0 e.1) (canonical_entries t x) ∙ λ i. head i || rest i
+        list_any-append (clashes_with (canonical_entries t y)) (entries_of (rank e.0 t) e.0 e.1) (canonical_entries t x) ∙ λ i.
+        head i || rest i
 
   -- two transactions clash just where a first clash of their entries is found
   pub first_clash-canonical_entries : (t : Table) (x y : Effects) → T (are_keyed_effects key_cols x) → T (are_keyed_effects key_cols y) →
       T (all_fit t x) → T (all_fit t y) → is_some (first_clash rule key_cols (canonical_entries t x) (canonical_entries t y))
       ≡ conflicts rule x y
-  first_clash-canonical_entries t x y hx hy fx fy = is_some-first_clash 0 (canonical_entries t x) (canonical_entries t y) ∙ all_here t y hy fy x (second _ _ hx) fx
+  first_clash-canonical_entries t x y hx hy fx fy =
+      is_some-first_clash 0 (canonical_entries t x) (canonical_entries t y) ∙ all_here t y hy fy x (second _ _ hx) fx

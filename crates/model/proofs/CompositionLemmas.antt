@@ -22,17 +22,21 @@ use Rattle.model.proofs.MapsLemmas.{both, first, second, less, changed_by, find-
 differ : (c d : ℕ) → nat_cmp c d ≡ Less → c ≢ d
 differ c d p e = let q : nat_cmp c d ≡ Equal = ap (nat_cmp c) (sym e) ∙ tied_itself nat_cmp_total c in cc
 
-set_cells_move : (c : ℕ) (v : Value) (cells : Cells) (row : Row) → T (below_all nat_cmp c cells) → set_cells cells (set row c v) ≡ set (set_cells cells row) c v
+set_cells_move : (c : ℕ) (v : Value) (cells : Cells) (row : Row) → T (below_all nat_cmp c cells)
+    → set_cells cells (set row c v) ≡ set (set_cells cells row) c v
 set_cells_move c v [] row h = refl
 set_cells_move c v (d ∷ cells) row h =
     ap (set_cells cells) (set_comm row c d.0 v d.1 (differ c d.0 (less _ (first _ _ h))))
     ∙ set_cells_move c v cells (set row d.0 d.1) (second _ _ h)
 
 -- one more cell is set last
-set_cells_put : (c : ℕ) (v : Value) (cells : Cells) (row : Row) → T (is_sorted nat_cmp cells) → set_cells (put nat_cmp c v cells) row ≡ set (set_cells cells row) c v
+set_cells_put : (c : ℕ) (v : Value) (cells : Cells) (row : Row) → T (is_sorted nat_cmp cells)
+    → set_cells (put nat_cmp c v cells) row ≡ set (set_cells cells row) c v
 set_cells_put c v [] row h = refl
 set_cells_put c v (d ∷ cells) row h =
-    elim (nat_cmp c d.0) as (λ r. nat_cmp c d.0 ≡ r → set_cells (by_order r ((c, v) ∷ d ∷ cells) ((d.0, v) ∷ cells) (d ∷ put nat_cmp c v cells)) row ≡ set (set_cells (d ∷ cells) row) c v) [
+    elim (nat_cmp c d.0) as
+    (λ r. nat_cmp c d.0 ≡ r → set_cells (by_order r ((c, v) ∷ d ∷ cells) ((d.0, v) ∷ cells) (d ∷ put nat_cmp c v cells)) row
+    ≡ set (set_cells (d ∷ cells) row) c v) [
       | Less ↦ λ p.
           ap (set_cells cells) (set_comm row c d.0 v d.1 (differ c d.0 p))
           ∙ set_cells_move c v cells (set row d.0 d.1) (below c d.0 cells p (first _ _ h))
@@ -46,9 +50,12 @@ set_cells_put c v (d ∷ cells) row h =
   where
     below : (c d : ℕ) (cells : Cells) → nat_cmp c d ≡ Less → T (below_all nat_cmp d cells) → T (below_all nat_cmp c cells)
     below c d [] p h = tt
-    below c d (e ∷ cells) p h = both _ _ (subst (λ r. T (is_lt r)) (sym (nat_cmp_total.trans c d e.0 p (less _ (first _ _ h)))) tt) (below c d cells p (second _ _ h))
+    below c d (e ∷ cells) p h =
+        both _ _ (subst (λ r. T (is_lt r)) (sym (nat_cmp_total.trans c d e.0 p (less _ (first _ _ h)))) tt)
+        (below c d cells p (second _ _ h))
 
-pub set_cells_over : (cells later : Cells) (row : Row) → T (is_sorted nat_cmp cells) → set_cells (over_cells cells later) row ≡ set_cells later (set_cells cells row)
+pub set_cells_over : (cells later : Cells) (row : Row) → T (is_sorted nat_cmp cells)
+    → set_cells (over_cells cells later) row ≡ set_cells later (set_cells cells row)
 set_cells_over cells [] row h = refl
 set_cells_over cells (c ∷ later) row h =
     set_cells_over (put nat_cmp c.0 c.1 cells) later row (is_sorted-put nat_cmp nat_cmp_total c.0 c.1 cells h)
@@ -63,7 +70,9 @@ cells_ascend (Mod cells) = is_sorted nat_cmp cells
 cells_ascend (Rep row) = true
 
 -- the joined effect is the later one after the first
-pub composed_effect-row_after : (f : Effect) (x : Option Effect) (old : Option Row) → T (holds_at (fits old) x) → T (holds_at cells_ascend x) → T (fits (changed_by row_after x old) f) → changed_by row_after (composed_effect f x) old ≡ row_after f (changed_by row_after x old)
+pub composed_effect-row_after : (f : Effect) (x : Option Effect) (old : Option Row) → T (holds_at (fits old) x)
+    → T (holds_at cells_ascend x) → T (fits (changed_by row_after x old) f)
+    → changed_by row_after (composed_effect f x) old ≡ row_after f (changed_by row_after x old)
 composed_effect-row_after f None old fit asc later = refl
 composed_effect-row_after (Ins s) (Some (Ins r)) old fit asc later = absurd later
 composed_effect-row_after (Ins s) (Some Del) old fit asc later = refl
@@ -86,7 +95,8 @@ composed_effect-row_after (Rep s) (Some (Mod d)) old fit asc later = refl
 composed_effect-row_after (Rep s) (Some (Rep r)) old fit asc later = refl
 
 -- and fits where the first one does
-pub composed_effect-all_fit : (f : Effect) (x : Option Effect) (old : Option Row) → T (holds_at (fits old) x) → T (fits (changed_by row_after x old) f) → T (holds_at (fits old) (composed_effect f x))
+pub composed_effect-all_fit : (f : Effect) (x : Option Effect) (old : Option Row) → T (holds_at (fits old) x)
+    → T (fits (changed_by row_after x old) f) → T (holds_at (fits old) (composed_effect f x))
 composed_effect-all_fit f None old fit later = later
 composed_effect-all_fit (Ins s) (Some (Ins r)) old fit later = absurd later
 composed_effect-all_fit (Ins s) (Some Del) old fit later = fit
@@ -108,10 +118,12 @@ composed_effect-all_fit (Rep s) (Some (Rep r)) old fit later = fit
 -- ---- all keys
 
 -- what stands at a key after effects
-pub row_at-table_with : (t : Table) (effects : Effects) (key : Key) → T (is_sorted key_cmp effects) → row_at (table_with t effects) key ≡ changed_by row_after (find key_cmp key effects) (row_at t key)
+pub row_at-table_with : (t : Table) (effects : Effects) (key : Key) → T (is_sorted key_cmp effects)
+    → row_at (table_with t effects) key ≡ changed_by row_after (find key_cmp key effects) (row_at t key)
 row_at-table_with t effects key h = find-alter_all key_cmp key_cmp_total row_after effects t key h
 
-pub effect_at-composed_effects : (x f : Effects) (key : Key) → T (is_sorted key_cmp f) → find key_cmp key (composed_effects x f) ≡ changed_by composed_effect (find key_cmp key f) (find key_cmp key x)
+pub effect_at-composed_effects : (x f : Effects) (key : Key) → T (is_sorted key_cmp f)
+    → find key_cmp key (composed_effects x f) ≡ changed_by composed_effect (find key_cmp key f) (find key_cmp key x)
 effect_at-composed_effects x f key h = find-alter_all key_cmp key_cmp_total composed_effect f x key h
 
 pub sorted-table_with : (t : Table) (effects : Effects) → T (is_sorted key_cmp t) → T (is_sorted key_cmp (table_with t effects))
@@ -120,10 +132,12 @@ sorted-table_with t effects h = sorted-alter_all key_cmp key_cmp_total row_after
 pub sorted-composed_effects : (x f : Effects) → T (is_sorted key_cmp x) → T (is_sorted key_cmp (composed_effects x f))
 sorted-composed_effects x f h = sorted-alter_all key_cmp key_cmp_total composed_effect f x h
 
-pub fits_at_key : (t : Table) (effects : Effects) → T (all_fit t effects) → (key : Key) → T (holds_at (fits (row_at t key)) (find key_cmp key effects))
+pub fits_at_key : (t : Table) (effects : Effects) → T (all_fit t effects) → (key : Key)
+    → T (holds_at (fits (row_at t key)) (find key_cmp key effects))
 fits_at_key t effects h key = each_at key_cmp key_cmp_total key_cmp-IsAntisymmetric (λ k f. fits (row_at t k) f) effects h key
 
-pub fits_from_keys : (t : Table) (effects : Effects) → T (is_sorted key_cmp effects) → ((key : Key) → T (holds_at (fits (row_at t key)) (find key_cmp key effects))) → T (all_fit t effects)
+pub fits_from_keys : (t : Table) (effects : Effects) → T (is_sorted key_cmp effects)
+    → ((key : Key) → T (holds_at (fits (row_at t key)) (find key_cmp key effects))) → T (all_fit t effects)
 fits_from_keys t effects h all = each_from key_cmp key_cmp_total key_cmp-IsAntisymmetric (λ k f. fits (row_at t k) f) effects h all
 
 -- the premises on two transactions, the second over the table after the first
@@ -143,13 +157,18 @@ module _ (t : Table) (x f : Effects) (h : Follows t x f) where
   ascends_at key = each_at key_cmp key_cmp_total key_cmp-IsAntisymmetric (λ k e. cells_ascend e) x h.x_ascends key
 
   f_at : (key : Key) → T (holds_at (fits (changed_by row_after (find key_cmp key x) (row_at t key))) (find key_cmp key f))
-  f_at key = subst (λ old. T (holds_at (fits old) (find key_cmp key f))) (row_at-table_with t x key h.x_sorted) (fits_at_key (table_with t x) f h.f_fits key)
+  f_at key =
+      subst (λ old. T (holds_at (fits old) (find key_cmp key f))) (row_at-table_with t x key h.x_sorted)
+      (fits_at_key (table_with t x) f h.f_fits key)
 
-  one_key : (g y : Option Effect) (old : Option Row) → T (holds_at (fits old) y) → T (holds_at cells_ascend y) → T (holds_at (fits (changed_by row_after y old)) g) → changed_by row_after (changed_by composed_effect g y) old ≡ changed_by row_after g (changed_by row_after y old)
+  one_key : (g y : Option Effect) (old : Option Row) → T (holds_at (fits old) y) → T (holds_at cells_ascend y)
+      → T (holds_at (fits (changed_by row_after y old)) g)
+      → changed_by row_after (changed_by composed_effect g y) old ≡ changed_by row_after g (changed_by row_after y old)
   one_key None y old a b c = refl
   one_key (Some g) y old a b c = composed_effect-row_after g y old a b c
 
-  one_fits : (g y : Option Effect) (old : Option Row) → T (holds_at (fits old) y) → T (holds_at (fits (changed_by row_after y old)) g) → T (holds_at (fits old) (changed_by composed_effect g y))
+  one_fits : (g y : Option Effect) (old : Option Row) → T (holds_at (fits old) y)
+      → T (holds_at (fits (changed_by row_after y old)) g) → T (holds_at (fits old) (changed_by composed_effect g y))
   one_fits None y old a c = a
   one_fits (Some g) y old a c = composed_effect-all_fit g y old a c
 
@@ -157,12 +176,14 @@ module _ (t : Table) (x f : Effects) (h : Follows t x f) where
   pub table_with-composed_effects : table_with t (composed_effects x f) ≡ table_with (table_with t x) f
   table_with-composed_effects =
       same_map key_cmp key_cmp_total key_cmp-IsAntisymmetric _ _
-      (sorted-table_with t (composed_effects x f) h.table_sorted) (sorted-table_with (table_with t x) f (sorted-table_with t x h.table_sorted))
+      (sorted-table_with t (composed_effects x f) h.table_sorted)
+      (sorted-table_with (table_with t x) f (sorted-table_with t x h.table_sorted))
       (λ key.
       row_at-table_with t (composed_effects x f) key (sorted-composed_effects x f h.x_sorted)
       ∙ ap (λ g. changed_by row_after g (row_at t key)) (effect_at-composed_effects x f key h.f_sorted)
       ∙ one_key (find key_cmp key f) (find key_cmp key x) (row_at t key) (x_at key) (ascends_at key) (f_at key)
-      ∙ sym (row_at-table_with (table_with t x) f key h.f_sorted ∙ ap (changed_by row_after (find key_cmp key f)) (row_at-table_with t x key h.x_sorted)))
+      ∙ sym (row_at-table_with (table_with t x) f key h.f_sorted
+      ∙ ap (changed_by row_after (find key_cmp key f)) (row_at-table_with t x key h.x_sorted)))
 
   -- and the composed effects fit
   pub all_fit-composed_effects : T (all_fit t (composed_effects x f))

@@ -43,48 +43,66 @@ module _ (key_cols : ℕ) (t : Table) where
 
   -- a change of the list that leaves the entries of smaller keys
   abbrev IsPast : Key → (List Entry → List Entry) → Type 0
-  IsPast k op = (j : Key) (g : Effect) (zs : List Entry) → key_cmp j k ≡ Less → T (is_keyed_effect key_cols j g) → T (fits (row_at t j) g) → op (entries_of (rank j t) j g ++ zs) ≡ entries_of (rank j t) j g ++ op zs
+  IsPast k op =
+      (j : Key) (g : Effect) (zs : List Entry) → key_cmp j k ≡ Less → T (is_keyed_effect key_cols j g) → T (fits (row_at t j) g)
+      → op (entries_of (rank j t) j g ++ zs) ≡ entries_of (rank j t) j g ++ op zs
 
   -- and makes the new entries of the old ones at its key
   abbrev IsHere : Key → (List Entry → List Entry) → Option Effect → Option Effect → Type 0
-  IsHere k op old new = (es : Effects) → T (below_all key_cmp k es) → T (are_lawful es) → op (maybe_entries (rank k t) k old ++ canonical_entries t es) ≡ maybe_entries (rank k t) k new ++ canonical_entries t es
+  IsHere k op old new =
+      (es : Effects) → T (below_all key_cmp k es) → T (are_lawful es)
+      → op (maybe_entries (rank k t) k old ++ canonical_entries t es) ≡ maybe_entries (rank k t) k new ++ canonical_entries t es
 
-  store_first : (k : Key) (new : Option Effect) (es : Effects) → T (below_all key_cmp k es) → canonical_entries t (store key_cmp k new es) ≡ maybe_entries (rank k t) k new ++ canonical_entries t es
+  store_first : (k : Key) (new : Option Effect) (es : Effects) → T (below_all key_cmp k es)
+      → canonical_entries t (store key_cmp k new es) ≡ maybe_entries (rank k t) k new ++ canonical_entries t es
   store_first k None es h = ap (canonical_entries t) (without_below key_cmp_total k es h)
   store_first k (Some f) es h = ap (canonical_entries t) (put_at k f es h)
 
-  equal_case : (k : Key) (op : List Entry → List Entry) (new : Option Effect) (g : Effect) (es : Effects) → T (below_all key_cmp k es) → T (are_lawful es) → IsHere k op (Some g) new → canonical_entries t (store key_cmp k new ((k, g) ∷ es)) ≡ op (canonical_entries t ((k, g) ∷ es))
+  equal_case : (k : Key) (op : List Entry → List Entry) (new : Option Effect) (g : Effect) (es : Effects)
+      → T (below_all key_cmp k es) → T (are_lawful es) → IsHere k op (Some g) new
+      → canonical_entries t (store key_cmp k new ((k, g) ∷ es)) ≡ op (canonical_entries t ((k, g) ∷ es))
   equal_case k op None g es h l here =
-      ap (λ r. canonical_entries t (cond (not (is_eq r)) ((k, g) ∷ without key_cmp k es) (without key_cmp k es))) (tied_itself key_cmp_total k)
+      ap (λ r. canonical_entries t (cond (not (is_eq r)) ((k, g) ∷ without key_cmp k es) (without key_cmp k es)))
+      (tied_itself key_cmp_total k)
       ∙ ap (canonical_entries t) (without_below key_cmp_total k es h) ∙ sym (here es h l)
   equal_case k op (Some f) g es h l here =
-      ap (λ r. canonical_entries t (by_order r ((k, f) ∷ (k, g) ∷ es) ((k, f) ∷ es) ((k, g) ∷ put key_cmp k f es))) (tied_itself key_cmp_total k) ∙ sym (here es h l)
+      ap (λ r. canonical_entries t (by_order r ((k, f) ∷ (k, g) ∷ es) ((k, f) ∷ es) ((k, g) ∷ put key_cmp k f es)))
+      (tied_itself key_cmp_total k)
+      ∙ sym (here es h l)
 
   -- so it changes the entries as the effects are changed at the key
-  pub edited : (k : Key) (op : List Entry → List Entry) (new : Option Effect) (es : Effects) (old : Option Effect) → find key_cmp k es ≡ old → T (is_sorted key_cmp es) → T (are_lawful es) → IsPast k op → IsHere k op old new → canonical_entries t (store key_cmp k new es) ≡ op (canonical_entries t es)
+  pub edited : (k : Key) (op : List Entry → List Entry) (new : Option Effect) (es : Effects) (old : Option Effect)
+      → find key_cmp k es ≡ old → T (is_sorted key_cmp es) → T (are_lawful es) → IsPast k op → IsHere k op old new
+      → canonical_entries t (store key_cmp k new es) ≡ op (canonical_entries t es)
   edited k op new [] None is h l past here = store_first k new [] tt ∙ sym (here [] tt tt)
   edited k op new [] (Some f) is h l past here = cc
   edited k op new (e ∷ es) old is h l past here =
-      elim (key_cmp k e.0) as (λ r. key_cmp k e.0 ≡ r → canonical_entries t (store key_cmp k new (e ∷ es)) ≡ op (canonical_entries t (e ∷ es))) [
+      elim (key_cmp k e.0) as
+      (λ r. key_cmp k e.0 ≡ r → canonical_entries t (store key_cmp k new (e ∷ es)) ≡ op (canonical_entries t (e ∷ es))) [
         | Less ↦ λ p.
-            let below : T (below_all key_cmp k (e ∷ es)) = both _ _ (subst (λ r. T (is_lt r)) (sym p) tt) (below_less key_cmp_total k e.0 es p (first _ _ h)) in
+            let below : T (below_all key_cmp k (e ∷ es)) =
+            both _ _ (subst (λ r. T (is_lt r)) (sym p) tt) (below_less key_cmp_total k e.0 es p (first _ _ h)) in
             let none = sym is ∙ find_below key_cmp_total k (e ∷ es) below in
             store_first k new (e ∷ es) below ∙ sym (subst (λ o. IsHere k op o new) none here (e ∷ es) below l)
         | Equal ↦ λ p.
             let same = key_cmp-IsAntisymmetric k e.0 p in
             let found = sym is ∙ ap (λ r. cond (is_eq r) (Some e.1) (find key_cmp k es)) p in
             subst (λ j. canonical_entries t (store key_cmp k new ((j, e.1) ∷ es)) ≡ op (canonical_entries t ((j, e.1) ∷ es))) same
-            (equal_case k op new e.1 es (subst (λ j. T (below_all key_cmp j es)) (sym same) (first _ _ h)) (second _ _ l) (subst (λ o. IsHere k op o new) found here))
+            (equal_case k op new e.1 es (subst (λ j. T (below_all key_cmp j es)) (sym same) (first _ _ h)) (second _ _ l)
+            (subst (λ o. IsHere k op o new) found here))
         | Greater ↦ λ p.
             let lawful : T (is_keyed_effect key_cols e.0 e.1 && fits (row_at t e.0) e.1) = first _ _ l in
             ap (canonical_entries t) (store_past key_cmp k new e es p)
-            ∙ ap (λ zs. entries_of (rank e.0 t) e.0 e.1 ++ zs) (edited k op new es old (sym (find_past key_cmp k e es p) ∙ is) (second _ _ h) (second _ _ l) past here)
-            ∙ sym (past e.0 e.1 (canonical_entries t es) (turn_greater key_cmp_total k e.0 p) (first (is_keyed_effect key_cols e.0 e.1) _ lawful) (second (is_keyed_effect key_cols e.0 e.1) _ lawful))
+            ∙ ap (λ zs. entries_of (rank e.0 t) e.0 e.1 ++ zs)
+            (edited k op new es old (sym (find_past key_cmp k e es p) ∙ is) (second _ _ h) (second _ _ l) past here)
+            ∙ sym (past e.0 e.1 (canonical_entries t es) (turn_greater key_cmp_total k e.0 p)
+            (first (is_keyed_effect key_cols e.0 e.1) _ lawful) (second (is_keyed_effect key_cols e.0 e.1) _ lawful))
       ] refl
 
   -- ---- entries of different keys
 
-  keys_in_order : (j k : Key) (row other : Row) → T (eq_by_cmp key_cmp j (key_of key_cols row)) → T (eq_by_cmp key_cmp k (key_of key_cols other)) → key_cmp (key_of key_cols row) (key_of key_cols other) ≡ key_cmp j k
+  keys_in_order : (j k : Key) (row other : Row) → T (eq_by_cmp key_cmp j (key_of key_cols row))
+      → T (eq_by_cmp key_cmp k (key_of key_cols other)) → key_cmp (key_of key_cols row) (key_of key_cols other) ≡ key_cmp j k
   keys_in_order j k row other p q =
       let left = sym (same_keys j (key_of key_cols row) p) in
       let right = sym (same_keys k (key_of key_cols other) q) in
@@ -131,19 +149,26 @@ module _ (key_cols : ℕ) (t : Table) where
       ] refl
 
   -- an entry of a smaller key stands before one of a greater key
-  pub entry-less : (j k : Key) (y c : Change) → key_cmp j k ≡ Less → T (is_placed key_cols t j y) → T (is_placed key_cols t k c) → entry_cmp key_cols (entry_at (rank j t) y) (entry_at (rank k t) c) ≡ Less
+  pub entry-less : (j k : Key) (y c : Change) → key_cmp j k ≡ Less → T (is_placed key_cols t j y) → T (is_placed key_cols t k c)
+      → entry_cmp key_cols (entry_at (rank j t) y) (entry_at (rank k t) c) ≡ Less
   entry-less j k (Ins row) (Ins other) p hy hc = at_least (rank j t) (rank k t) _ (rank-le j k t p) (keys_in_order j k row other hy hc ∙ p)
   entry-less j k (Ins row) (Del key) p hy hc = at_least (rank j t) (rank k t) _ (rank-le j k t p) refl
   entry-less j k (Ins row) (Mod col value) p hy hc = at_least (rank j t) (rank k t) _ (rank-le j k t p) refl
-  entry-less j k (Del key) c p hy hc = ap (λ r. ordering_then r (change_cmp key_cols (Del key) c)) (cmp_less (rank j t) (rank k t) (rank-lt j k t p hy))
-  entry-less j k (Mod col value) c p hy hc = ap (λ r. ordering_then r (change_cmp key_cols (Mod col value) c)) (cmp_less (rank j t) (rank k t) (rank-lt j k t p hy))
+  entry-less j k (Del key) c p hy hc =
+      ap (λ r. ordering_then r (change_cmp key_cols (Del key) c)) (cmp_less (rank j t) (rank k t) (rank-lt j k t p hy))
+  entry-less j k (Mod col value) c p hy hc =
+      ap (λ r. ordering_then r (change_cmp key_cols (Mod col value) c)) (cmp_less (rank j t) (rank k t) (rank-lt j k t p hy))
 
-  pub entry-greater : (j k : Key) (y c : Change) → key_cmp j k ≡ Less → T (is_placed key_cols t j y) → T (is_placed key_cols t k c) → entry_cmp key_cols (entry_at (rank k t) c) (entry_at (rank j t) y) ≡ Greater
-  entry-greater j k (Ins row) (Ins other) p hy hc = at_most (rank k t) (rank j t) _ (rank-le j k t p) (keys_in_order k j other row hc hy ∙ turn_less key_cmp_total j k p)
+  pub entry-greater : (j k : Key) (y c : Change) → key_cmp j k ≡ Less → T (is_placed key_cols t j y)
+      → T (is_placed key_cols t k c) → entry_cmp key_cols (entry_at (rank k t) c) (entry_at (rank j t) y) ≡ Greater
+  entry-greater j k (Ins row) (Ins other) p hy hc =
+      at_most (rank k t) (rank j t) _ (rank-le j k t p) (keys_in_order k j other row hc hy ∙ turn_less key_cmp_total j k p)
   entry-greater j k (Ins row) (Del key) p hy hc = at_most (rank k t) (rank j t) _ (rank-le j k t p) refl
   entry-greater j k (Ins row) (Mod col value) p hy hc = at_most (rank k t) (rank j t) _ (rank-le j k t p) refl
-  entry-greater j k (Del key) c p hy hc = ap (λ r. ordering_then r (change_cmp key_cols c (Del key))) (cmp_greater (rank k t) (rank j t) (rank-lt j k t p hy))
-  entry-greater j k (Mod col value) c p hy hc = ap (λ r. ordering_then r (change_cmp key_cols c (Mod col value))) (cmp_greater (rank k t) (rank j t) (rank-lt j k t p hy))
+  entry-greater j k (Del key) c p hy hc =
+      ap (λ r. ordering_then r (change_cmp key_cols c (Del key))) (cmp_greater (rank k t) (rank j t) (rank-lt j k t p hy))
+  entry-greater j k (Mod col value) c p hy hc =
+      ap (λ r. ordering_then r (change_cmp key_cols c (Mod col value))) (cmp_greater (rank k t) (rank j t) (rank-lt j k t p hy))
 
   -- ---- an entry that is put in
 
@@ -151,36 +176,51 @@ module _ (key_cols : ℕ) (t : Table) where
     abbrev e : Entry
     e = entry_at (rank k t) c
 
-    past_one : (j : Key) (y : Change) (zs : List Entry) → key_cmp j k ≡ Less → T (is_placed key_cols t j y) → put_entry key_cols e (entry_at (rank j t) y ∷ zs) ≡ entry_at (rank j t) y ∷ put_entry key_cols e zs
-    past_one j y zs p hy = ap (λ r. match_ordering r (e ∷ entry_at (rank j t) y ∷ zs) (e ∷ zs) (entry_at (rank j t) y ∷ put_entry key_cols e zs)) (entry-greater j k y c p hy hc)
+    past_one : (j : Key) (y : Change) (zs : List Entry) → key_cmp j k ≡ Less → T (is_placed key_cols t j y)
+        → put_entry key_cols e (entry_at (rank j t) y ∷ zs) ≡ entry_at (rank j t) y ∷ put_entry key_cols e zs
+    past_one j y zs p hy =
+        ap (λ r. match_ordering r (e ∷ entry_at (rank j t) y ∷ zs) (e ∷ zs) (entry_at (rank j t) y ∷ put_entry key_cols e zs))
+        (entry-greater j k y c p hy hc)
 
-    past_cells : (j : Key) (cells : Cells) (zs : List Entry) → key_cmp j k ≡ Less → T (is_some (row_at t j)) → put_entry key_cols e (map (λ x. entry_at (rank j t) (Mod x.0 x.1)) cells ++ zs) ≡ map (λ x. entry_at (rank j t) (Mod x.0 x.1)) cells ++ put_entry key_cols e zs
+    past_cells : (j : Key) (cells : Cells) (zs : List Entry) → key_cmp j k ≡ Less → T (is_some (row_at t j))
+        → put_entry key_cols e (map (λ x. entry_at (rank j t) (Mod x.0 x.1)) cells ++ zs)
+        ≡ map (λ x. entry_at (rank j t) (Mod x.0 x.1)) cells ++ put_entry key_cols e zs
     past_cells j [] zs p hy = refl
     past_cells j (x ∷ cells) zs p hy =
-        past_one j (Mod x.0 x.1) (map (λ x. entry_at (rank j t) (Mod x.0 x.1)) cells ++ zs) p hy ∙ ap (λ es. entry_at (rank j t) (Mod x.0 x.1) ∷ es) (past_cells j cells zs p hy)
+        past_one j (Mod x.0 x.1) (map (λ x. entry_at (rank j t) (Mod x.0 x.1)) cells ++ zs) p hy
+        ∙ ap (λ es. entry_at (rank j t) (Mod x.0 x.1) ∷ es) (past_cells j cells zs p hy)
 
     pub put-past : IsPast k (put_entry key_cols e)
     put-past j (effect.Ins row) zs p he hf = past_one j (Ins row) zs p he
     put-past j effect.Del zs p he hf = past_one j (Del j) zs p hf
     put-past j (effect.Mod cells) zs p he hf = past_cells j cells zs p hf
-    put-past j (effect.Rep row) zs p he hf = past_one j (Ins row) (entry_at (rank j t) (Del j) ∷ zs) p he ∙ ap (λ es. entry_at (rank j t) (Ins row) ∷ es) (past_one j (Del j) zs p hf)
+    put-past j (effect.Rep row) zs p he hf =
+        past_one j (Ins row) (entry_at (rank j t) (Del j) ∷ zs) p he
+        ∙ ap (λ es. entry_at (rank j t) (Ins row) ∷ es) (past_one j (Del j) zs p hf)
 
     -- before the entries of greater keys
-    before_one : (j : Key) (y : Change) (zs : List Entry) → key_cmp k j ≡ Less → T (is_placed key_cols t j y) → put_entry key_cols e (entry_at (rank j t) y ∷ zs) ≡ e ∷ entry_at (rank j t) y ∷ zs
-    before_one j y zs p hy = ap (λ r. match_ordering r (e ∷ entry_at (rank j t) y ∷ zs) (e ∷ zs) (entry_at (rank j t) y ∷ put_entry key_cols e zs)) (entry-less k j c y p hc hy)
+    before_one : (j : Key) (y : Change) (zs : List Entry) → key_cmp k j ≡ Less → T (is_placed key_cols t j y)
+        → put_entry key_cols e (entry_at (rank j t) y ∷ zs) ≡ e ∷ entry_at (rank j t) y ∷ zs
+    before_one j y zs p hy =
+        ap (λ r. match_ordering r (e ∷ entry_at (rank j t) y ∷ zs) (e ∷ zs) (entry_at (rank j t) y ∷ put_entry key_cols e zs))
+        (entry-less k j c y p hc hy)
 
-    before_effect : (j : Key) (f : Effect) (zs : List Entry) → key_cmp k j ≡ Less → T (is_keyed_effect key_cols j f) → T (fits (row_at t j) f) → put_entry key_cols e (entries_of (rank j t) j f ++ zs) ≡ e ∷ (entries_of (rank j t) j f ++ zs)
+    before_effect : (j : Key) (f : Effect) (zs : List Entry) → key_cmp k j ≡ Less → T (is_keyed_effect key_cols j f)
+        → T (fits (row_at t j) f) → put_entry key_cols e (entries_of (rank j t) j f ++ zs) ≡ e ∷ (entries_of (rank j t) j f ++ zs)
     before_effect j (effect.Ins row) zs p he hf = before_one j (Ins row) zs p he
     before_effect j effect.Del zs p he hf = before_one j (Del j) zs p hf
     before_effect j (effect.Mod []) zs p he hf = absurd he
-    before_effect j (effect.Mod (x ∷ cells)) zs p he hf = before_one j (Mod x.0 x.1) (map (λ x. entry_at (rank j t) (Mod x.0 x.1)) cells ++ zs) p hf
+    before_effect j (effect.Mod (x ∷ cells)) zs p he hf =
+        before_one j (Mod x.0 x.1) (map (λ x. entry_at (rank j t) (Mod x.0 x.1)) cells ++ zs) p hf
     before_effect j (effect.Rep row) zs p he hf = before_one j (Ins row) (entry_at (rank j t) (Del j) ∷ zs) p he
 
-    pub put-before : (es : Effects) → T (below_all key_cmp k es) → T (are_lawful es) → put_entry key_cols e (canonical_entries t es) ≡ e ∷ canonical_entries t es
+    pub put-before : (es : Effects) → T (below_all key_cmp k es) → T (are_lawful es)
+        → put_entry key_cols e (canonical_entries t es) ≡ e ∷ canonical_entries t es
     put-before [] h l = refl
     put-before (x ∷ es) h l =
         let lawful : T (is_keyed_effect key_cols x.0 x.1 && fits (row_at t x.0) x.1) = first _ _ l in
-        before_effect x.0 x.1 (canonical_entries t es) (less _ (first _ _ h)) (first (is_keyed_effect key_cols x.0 x.1) _ lawful) (second (is_keyed_effect key_cols x.0 x.1) _ lawful)
+        before_effect x.0 x.1 (canonical_entries t es) (less _ (first _ _ h)) (first (is_keyed_effect key_cols x.0 x.1) _ lawful)
+        (second (is_keyed_effect key_cols x.0 x.1) _ lawful)
 
   -- ---- inserts taken out or changed
 
@@ -200,7 +240,9 @@ module _ (key_cols : ℕ) (t : Table) where
 
     -- no other key's insert is it
     not_it : (j : Key) (n : ℕ) (c : Change) → eq_by_cmp key_cmp k j ≡ false → T (is_placed key_cols t j c) → is_it (entry_at n c) ≡ false
-    not_it j n (Ins row) h hc = and_false (n == rank k t) (eq_by_cmp key_cmp k (key_of key_cols row)) (ap (λ i. eq_by_cmp key_cmp k i) (sym (same_key j (key_of key_cols row) hc)) ∙ h)
+    not_it j n (Ins row) h hc =
+        and_false (n == rank k t) (eq_by_cmp key_cmp k (key_of key_cols row))
+        (ap (λ i. eq_by_cmp key_cmp k i) (sym (same_key j (key_of key_cols row) hc)) ∙ h)
       where
         equal : (r : Ordering) → T (is_eq r) → r ≡ Equal
         equal Less p = absurd p
@@ -220,18 +262,26 @@ module _ (key_cols : ℕ) (t : Table) where
         true_of false h = absurd h
 
     -- a change of the entries that are it leaves those that aren't
-    module _ (op : List Entry → List Entry) (joins : (ys zs : List Entry) → op (ys ++ zs) ≡ op ys ++ op zs) (nothing : op [] ≡ []) (skips : (e : Entry) (es : List Entry) → is_it e ≡ false → op (e ∷ es) ≡ e ∷ op es) where
-      other_cells : (j : Key) (n : ℕ) (cells : Cells) → eq_by_cmp key_cmp k j ≡ false → T (is_some (row_at t j)) → op (map (λ x. entry_at n (Mod x.0 x.1)) cells) ≡ map (λ x. entry_at n (Mod x.0 x.1)) cells
+    module _ (op : List Entry → List Entry) (joins : (ys zs : List Entry) → op (ys ++ zs) ≡ op ys ++ op zs) (nothing : op [] ≡ [])
+        (skips : (e : Entry) (es : List Entry) → is_it e ≡ false → op (e ∷ es) ≡ e ∷ op es) where
+      other_cells : (j : Key) (n : ℕ) (cells : Cells) → eq_by_cmp key_cmp k j ≡ false → T (is_some (row_at t j))
+          → op (map (λ x. entry_at n (Mod x.0 x.1)) cells) ≡ map (λ x. entry_at n (Mod x.0 x.1)) cells
       other_cells j n [] h hf = nothing
-      other_cells j n (x ∷ cells) h hf = skips (entry_at n (Mod x.0 x.1)) (map (λ x. entry_at n (Mod x.0 x.1)) cells) (not_it j n (Mod x.0 x.1) h hf) ∙ ap (λ es. entry_at n (Mod x.0 x.1) ∷ es) (other_cells j n cells h hf)
+      other_cells j n (x ∷ cells) h hf =
+          skips (entry_at n (Mod x.0 x.1)) (map (λ x. entry_at n (Mod x.0 x.1)) cells) (not_it j n (Mod x.0 x.1) h hf)
+          ∙ ap (λ es. entry_at n (Mod x.0 x.1) ∷ es) (other_cells j n cells h hf)
 
-      other_effect : (j : Key) (g : Effect) (n : ℕ) → eq_by_cmp key_cmp k j ≡ false → T (is_keyed_effect key_cols j g) → T (fits (row_at t j) g) → op (entries_of n j g) ≡ entries_of n j g
-      other_effect j (effect.Ins row) n h he hf = skips (entry_at n (Ins row)) [] (not_it j n (Ins row) h he) ∙ ap (λ es. entry_at n (Ins row) ∷ es) nothing
-      other_effect j effect.Del n h he hf = skips (entry_at n (Del j)) [] (not_it j n (Del j) h hf) ∙ ap (λ es. entry_at n (Del j) ∷ es) nothing
+      other_effect : (j : Key) (g : Effect) (n : ℕ) → eq_by_cmp key_cmp k j ≡ false → T (is_keyed_effect key_cols j g)
+          → T (fits (row_at t j) g) → op (entries_of n j g) ≡ entries_of n j g
+      other_effect j (effect.Ins row) n h he hf =
+          skips (entry_at n (Ins row)) [] (not_it j n (Ins row) h he) ∙ ap (λ es. entry_at n (Ins row) ∷ es) nothing
+      other_effect j effect.Del n h he hf =
+          skips (entry_at n (Del j)) [] (not_it j n (Del j) h hf) ∙ ap (λ es. entry_at n (Del j) ∷ es) nothing
       other_effect j (effect.Mod cells) n h he hf = other_cells j n cells h hf
       other_effect j (effect.Rep row) n h he hf =
           skips (entry_at n (Ins row)) (entry_at n (Del j) ∷ []) (not_it j n (Ins row) h he)
-          ∙ ap (λ es. entry_at n (Ins row) ∷ es) (skips (entry_at n (Del j)) [] (not_it j n (Del j) h hf) ∙ ap (λ es. entry_at n (Del j) ∷ es) nothing)
+          ∙ ap (λ es. entry_at n (Ins row) ∷ es)
+          (skips (entry_at n (Del j)) [] (not_it j n (Del j) h hf) ∙ ap (λ es. entry_at n (Del j) ∷ es) nothing)
 
       it-past : IsPast k op
       it-past j g zs p he hf =
@@ -242,7 +292,9 @@ module _ (key_cols : ℕ) (t : Table) where
       it-rest [] h l = nothing
       it-rest (x ∷ es) h l =
           let lawful : T (is_keyed_effect key_cols x.0 x.1 && fits (row_at t x.0) x.1) = first _ _ l in
-          let head = other_effect x.0 x.1 (rank x.0 t) (ap is_eq (less _ (first _ _ h))) (first (is_keyed_effect key_cols x.0 x.1) _ lawful) (second (is_keyed_effect key_cols x.0 x.1) _ lawful) in
+          let head =
+          other_effect x.0 x.1 (rank x.0 t) (ap is_eq (less _ (first _ _ h)))
+          (first (is_keyed_effect key_cols x.0 x.1) _ lawful) (second (is_keyed_effect key_cols x.0 x.1) _ lawful) in
           let rest = it-rest es (second _ _ h) (second _ _ l) in
           joins (entries_of (rank x.0 t) x.0 x.1) (canonical_entries t es) ∙ λ i. head i ++ rest i
 
@@ -266,7 +318,8 @@ module _ (key_cols : ℕ) (t : Table) where
     take-inserted row he es h l = take-takes (entry_at (rank k t) (Ins row)) (canonical_entries t es) (its_own row he) ∙ take-rest es h l
 
     -- of a replaced row that is deleted the delete stays
-    pub take-replaced : (row : Row) → T (is_keyed_effect key_cols k (effect.Rep row)) → IsHere k take (Some (effect.Rep row)) (Some effect.Del)
+    pub take-replaced : (row : Row) → T (is_keyed_effect key_cols k (effect.Rep row))
+        → IsHere k take (Some (effect.Rep row)) (Some effect.Del)
     take-replaced row he es h l =
         take-takes (entry_at (rank k t) (Ins row)) (entry_at (rank k t) (Del k) ∷ canonical_entries t es) (its_own row he)
         ∙ take-skips (entry_at (rank k t) (Del k)) (canonical_entries t es) (and_false (rank k t == rank k t) false refl)
@@ -279,26 +332,35 @@ module _ (key_cols : ℕ) (t : Table) where
       change-skips : (e : Entry) (es : List Entry) → is_it e ≡ false → change (e ∷ es) ≡ e ∷ change es
       change-skips e es h = ap (λ b. cond b (entry_at e.sid (change_with_cell col value e.change)) e ∷ change es) h
 
-      change-changes : (row : Row) (es : List Entry) → T (eq_by_cmp key_cmp k (key_of key_cols row)) → change (entry_at (rank k t) (Ins row) ∷ es) ≡ entry_at (rank k t) (Ins (set row col value)) ∷ change es
-      change-changes row es h = ap (λ b. cond b (entry_at (rank k t) (Ins (set row col value))) (entry_at (rank k t) (Ins row)) ∷ change es) (its_own row h)
+      change-changes : (row : Row) (es : List Entry) → T (eq_by_cmp key_cmp k (key_of key_cols row))
+          → change (entry_at (rank k t) (Ins row) ∷ es) ≡ entry_at (rank k t) (Ins (set row col value)) ∷ change es
+      change-changes row es h =
+          ap (λ b. cond b (entry_at (rank k t) (Ins (set row col value))) (entry_at (rank k t) (Ins row)) ∷ change es)
+          (its_own row h)
 
       change-joins : (ys zs : List Entry) → change (ys ++ zs) ≡ change ys ++ change zs
       change-joins ys zs = map-append (λ e. cond (is_it e) (entry_at e.sid (change_with_cell col value e.change)) e) ys zs
 
-      change-rest : (es : Effects) → T (below_all key_cmp k es) → T (are_lawful es) → change (canonical_entries t es) ≡ canonical_entries t es
+      change-rest : (es : Effects) → T (below_all key_cmp k es) → T (are_lawful es)
+          → change (canonical_entries t es) ≡ canonical_entries t es
       change-rest es h l = it-rest change change-joins refl change-skips es h l
 
       pub change-past : IsPast k change
       change-past = it-past change change-joins refl change-skips
 
-      pub change-inserted : (row : Row) → T (is_keyed_effect key_cols k (effect.Ins row)) → IsHere k change (Some (effect.Ins row)) (Some (effect.Ins (set row col value)))
-      change-inserted row he es h l = change-changes row (canonical_entries t es) he ∙ ap (λ zs. entry_at (rank k t) (Ins (set row col value)) ∷ zs) (change-rest es h l)
+      pub change-inserted : (row : Row) → T (is_keyed_effect key_cols k (effect.Ins row))
+          → IsHere k change (Some (effect.Ins row)) (Some (effect.Ins (set row col value)))
+      change-inserted row he es h l =
+          change-changes row (canonical_entries t es) he
+          ∙ ap (λ zs. entry_at (rank k t) (Ins (set row col value)) ∷ zs) (change-rest es h l)
 
-      pub change-replaced : (row : Row) → T (is_keyed_effect key_cols k (effect.Rep row)) → IsHere k change (Some (effect.Rep row)) (Some (effect.Rep (set row col value)))
+      pub change-replaced : (row : Row) → T (is_keyed_effect key_cols k (effect.Rep row))
+          → IsHere k change (Some (effect.Rep row)) (Some (effect.Rep (set row col value)))
       change-replaced row he es h l =
           change-changes row (entry_at (rank k t) (Del k) ∷ canonical_entries t es) he
           ∙ ap (λ zs. entry_at (rank k t) (Ins (set row col value)) ∷ zs)
-          (change-skips (entry_at (rank k t) (Del k)) (canonical_entries t es) (and_false (rank k t == rank k t) false refl) ∙ ap (λ zs. entry_at (rank k t) (Del k) ∷ zs) (change-rest es h l))
+          (change-skips (entry_at (rank k t) (Del k)) (canonical_entries t es) (and_false (rank k t == rank k t) false refl)
+          ∙ ap (λ zs. entry_at (rank k t) (Del k) ∷ zs) (change-rest es h l))
 
     -- ---- modifies dropped, and inserts, deletes and modifies put in
 
@@ -309,19 +371,23 @@ module _ (key_cols : ℕ) (t : Table) where
       drop-skips : (e : Entry) (es : List Entry) → ((e.sid == rank k t) && is_modify e.change) ≡ false → drop (e ∷ es) ≡ e ∷ drop es
       drop-skips e es h = ap (λ b. cond (not b) (e ∷ drop es) (drop es)) h
 
-      apart_cells : (j : Key) (cells : Cells) → rank j t ≢ rank k t → drop (map (λ x. entry_at (rank j t) (Mod x.0 x.1)) cells) ≡ map (λ x. entry_at (rank j t) (Mod x.0 x.1)) cells
+      apart_cells : (j : Key) (cells : Cells) → rank j t ≢ rank k t
+          → drop (map (λ x. entry_at (rank j t) (Mod x.0 x.1)) cells) ≡ map (λ x. entry_at (rank j t) (Mod x.0 x.1)) cells
       apart_cells j [] ne = refl
       apart_cells j (x ∷ cells) ne =
-          drop-skips (entry_at (rank j t) (Mod x.0 x.1)) (map (λ x. entry_at (rank j t) (Mod x.0 x.1)) cells) (ap (λ b. b && true) (other_number (rank j t) (rank k t) ne))
+          drop-skips (entry_at (rank j t) (Mod x.0 x.1)) (map (λ x. entry_at (rank j t) (Mod x.0 x.1)) cells)
+          (ap (λ b. b && true) (other_number (rank j t) (rank k t) ne))
           ∙ ap (λ es. entry_at (rank j t) (Mod x.0 x.1) ∷ es) (apart_cells j cells ne)
 
-      apart_effect : (j : Key) (g : Effect) → (T (is_some (row_at t j)) → rank j t ≢ rank k t) → T (fits (row_at t j) g) → drop (entries_of (rank j t) j g) ≡ entries_of (rank j t) j g
+      apart_effect : (j : Key) (g : Effect) → (T (is_some (row_at t j)) → rank j t ≢ rank k t) → T (fits (row_at t j) g)
+          → drop (entries_of (rank j t) j g) ≡ entries_of (rank j t) j g
       apart_effect j (effect.Ins row) ne hf = drop-skips (entry_at (rank j t) (Ins row)) [] (and_false (rank j t == rank k t) false refl)
       apart_effect j effect.Del ne hf = drop-skips (entry_at (rank j t) (Del j)) [] (and_false (rank j t == rank k t) false refl)
       apart_effect j (effect.Mod cells) ne hf = apart_cells j cells (ne hf)
       apart_effect j (effect.Rep row) ne hf =
           drop-skips (entry_at (rank j t) (Ins row)) (entry_at (rank j t) (Del j) ∷ []) (and_false (rank j t == rank k t) false refl)
-          ∙ ap (λ es. entry_at (rank j t) (Ins row) ∷ es) (drop-skips (entry_at (rank j t) (Del j)) [] (and_false (rank j t == rank k t) false refl))
+          ∙ ap (λ es. entry_at (rank j t) (Ins row) ∷ es)
+          (drop-skips (entry_at (rank j t) (Del j)) [] (and_false (rank j t == rank k t) false refl))
 
       drop-joins : (ys zs : List Entry) → drop (ys ++ zs) ≡ drop ys ++ drop zs
       drop-joins ys zs = filter-append (λ e. not ((e.sid == rank k t) && is_modify e.change)) ys zs
@@ -341,7 +407,9 @@ module _ (key_cols : ℕ) (t : Table) where
       drop-rest [] h l = refl
       drop-rest (x ∷ es) h l =
           let lawful : T (is_keyed_effect key_cols x.0 x.1 && fits (row_at t x.0) x.1) = first _ _ l in
-          let head = apart_effect x.0 x.1 (λ hj. gt_ne (rank x.0 t) (rank k t) (rank-lt k x.0 t (less _ (first _ _ h)) there)) (second (is_keyed_effect key_cols x.0 x.1) _ lawful) in
+          let head =
+          apart_effect x.0 x.1 (λ hj. gt_ne (rank x.0 t) (rank k t) (rank-lt k x.0 t (less _ (first _ _ h)) there))
+          (second (is_keyed_effect key_cols x.0 x.1) _ lawful) in
           let rest = drop-rest es (second _ _ h) (second _ _ l) in
           drop-joins (entries_of (rank x.0 t) x.0 x.1) (canonical_entries t es) ∙ λ i. head i ++ rest i
 
@@ -349,16 +417,21 @@ module _ (key_cols : ℕ) (t : Table) where
       drop-cells [] zs = refl
       drop-cells (x ∷ cells) zs =
           let rest = map (λ x. entry_at (rank k t) (Mod x.0 x.1)) cells ++ zs in
-          ap (λ b. cond (not (b && true)) (entry_at (rank k t) (Mod x.0 x.1) ∷ drop rest) (drop rest)) (same_number (rank k t)) ∙ drop-cells cells zs
+          ap (λ b. cond (not (b && true)) (entry_at (rank k t) (Mod x.0 x.1) ∷ drop rest) (drop rest)) (same_number (rank k t))
+          ∙ drop-cells cells zs
 
       pub delete-past : IsPast k (put_del key_cols (rank k t) k)
-      delete-past j g zs p he hf = ap (put_entry key_cols (entry_at (rank k t) (Del k))) (drop-past j g zs p he hf) ∙ put-past k (Del k) there j g (drop zs) p he hf
+      delete-past j g zs p he hf =
+          ap (put_entry key_cols (entry_at (rank k t) (Del k))) (drop-past j g zs p he hf)
+          ∙ put-past k (Del k) there j g (drop zs) p he hf
 
       pub delete-row : IsHere k (put_del key_cols (rank k t) k) None (Some effect.Del)
       delete-row es h l = ap (put_entry key_cols (entry_at (rank k t) (Del k))) (drop-rest es h l) ∙ put-before k (Del k) there es h l
 
       pub delete-modified : (cells : Cells) → IsHere k (put_del key_cols (rank k t) k) (Some (effect.Mod cells)) (Some effect.Del)
-      delete-modified cells es h l = ap (put_entry key_cols (entry_at (rank k t) (Del k))) (drop-cells cells (canonical_entries t es) ∙ drop-rest es h l) ∙ put-before k (Del k) there es h l
+      delete-modified cells es h l =
+          ap (put_entry key_cols (entry_at (rank k t) (Del k))) (drop-cells cells (canonical_entries t es) ∙ drop-rest es h l)
+          ∙ put-before k (Del k) there es h l
 
       module _ (col : ℕ) (value : Value) where
         pub modify-past : IsPast k (put_mod key_cols (rank k t) col value)
@@ -367,20 +440,28 @@ module _ (key_cols : ℕ) (t : Table) where
         pub modify-row : IsHere k (put_mod key_cols (rank k t) col value) None (Some (effect.Mod ((col, value) ∷ [])))
         modify-row es h l = put-before k (Mod col value) there es h l
 
-        cells_put : (cells : Cells) (es : Effects) → T (below_all key_cmp k es) → T (are_lawful es) → put_mod key_cols (rank k t) col value (map (λ x. entry_at (rank k t) (Mod x.0 x.1)) cells ++ canonical_entries t es) ≡ map (λ x. entry_at (rank k t) (Mod x.0 x.1)) (put nat_cmp col value cells) ++ canonical_entries t es
+        cells_put : (cells : Cells) (es : Effects) → T (below_all key_cmp k es) → T (are_lawful es)
+            → put_mod key_cols (rank k t) col value (map (λ x. entry_at (rank k t) (Mod x.0 x.1)) cells ++ canonical_entries t es)
+            ≡ map (λ x. entry_at (rank k t) (Mod x.0 x.1)) (put nat_cmp col value cells) ++ canonical_entries t es
         cells_put [] es h l = put-before k (Mod col value) there es h l
         cells_put (x ∷ cells) es h l =
             let e = entry_at (rank k t) (Mod col value) in
             let y = entry_at (rank k t) (Mod x.0 x.1) in
             let rest = map (λ x. entry_at (rank k t) (Mod x.0 x.1)) cells ++ canonical_entries t es in
-            ap (λ r. match_ordering (ordering_then r (nat_cmp col x.0)) (e ∷ y ∷ rest) (e ∷ rest) (y ∷ put_entry key_cols e rest)) (tied_itself nat_cmp_total (rank k t))
-            ∙ elim (nat_cmp col x.0) as (λ r. nat_cmp col x.0 ≡ r → match_ordering r (e ∷ y ∷ rest) (e ∷ rest) (y ∷ put_entry key_cols e rest) ≡ map (λ x. entry_at (rank k t) (Mod x.0 x.1)) (by_order r ((col, value) ∷ x ∷ cells) ((x.0, value) ∷ cells) (x ∷ put nat_cmp col value cells)) ++ canonical_entries t es) [
+            ap (λ r. match_ordering (ordering_then r (nat_cmp col x.0)) (e ∷ y ∷ rest) (e ∷ rest) (y ∷ put_entry key_cols e rest))
+            (tied_itself nat_cmp_total (rank k t))
+            ∙ elim (nat_cmp col x.0) as
+            (λ r. nat_cmp col x.0 ≡ r → match_ordering r (e ∷ y ∷ rest) (e ∷ rest) (y ∷ put_entry key_cols e rest)
+            ≡ map (λ x. entry_at (rank k t) (Mod x.0 x.1))
+            (by_order r ((col, value) ∷ x ∷ cells) ((x.0, value) ∷ cells) (x ∷ put nat_cmp col value cells))
+            ++ canonical_entries t es) [
               | Less ↦ λ p. refl
               | Equal ↦ λ p. let same = nat_cmp-IsAntisymmetric col x.0 p in ap (λ c. entry_at (rank k t) (Mod c value) ∷ rest) same
               | Greater ↦ λ p. ap (λ zs. y ∷ zs) (cells_put cells es h l)
             ] refl
 
-        pub modify-modified : (cells : Cells) → IsHere k (put_mod key_cols (rank k t) col value) (Some (effect.Mod cells)) (Some (effect.Mod (put nat_cmp col value cells)))
+        pub modify-modified : (cells : Cells) → IsHere k (put_mod key_cols (rank k t) col value) (Some (effect.Mod cells))
+            (Some (effect.Mod (put nat_cmp col value cells)))
         modify-modified cells es h l = cells_put cells es h l
 
     module _ (row : Row) (keyed : T (eq_by_cmp key_cmp k (key_of key_cols row))) where
@@ -392,4 +473,8 @@ module _ (key_cols : ℕ) (t : Table) where
 
       pub insert-deleted : IsHere k (put_ins key_cols (rank k t) row) (Some effect.Del) (Some (effect.Rep row))
       insert-deleted es h l =
-          ap (λ r. match_ordering (ordering_then r Less) (entry_at (rank k t) (Ins row) ∷ entry_at (rank k t) (Del k) ∷ canonical_entries t es) (entry_at (rank k t) (Ins row) ∷ canonical_entries t es) (entry_at (rank k t) (Del k) ∷ put_entry key_cols (entry_at (rank k t) (Ins row)) (canonical_entries t es))) (tied_itself nat_cmp_total (rank k t))
+          ap (λ r. match_ordering (ordering_then r Less)
+          (entry_at (rank k t) (Ins row) ∷ entry_at (rank k t) (Del k) ∷ canonical_entries t es)
+          (entry_at (rank k t) (Ins row) ∷ canonical_entries t es)
+          (entry_at (rank k t) (Del k) ∷ put_entry key_cols (entry_at (rank k t) (Ins row)) (canonical_entries t es)))
+          (tied_itself nat_cmp_total (rank k t))

@@ -27,7 +27,8 @@ get-map_of t key h = finite.get-from_sorted key_cmp t key h
 pub values-map_of : (t : Table) → T (is_sorted key_cmp t) → finite.values (map_of t) ≡ rows_of t
 values-map_of t h = ap (map (λ e. e.1)) (entries-map_of t h)
 
-pub insert-map_of : (t : Table) (key : Key) (row : Row) → T (is_sorted key_cmp t) → map_of (put key_cmp key row t) ≡ finite.insert (map_of t) key row
+pub insert-map_of : (t : Table) (key : Key) (row : Row) → T (is_sorted key_cmp t)
+    → map_of (put key_cmp key row t) ≡ finite.insert (map_of t) key row
 insert-map_of t key row h =
     finite.same_map key_cmp_total key_cmp-IsAntisymmetric _ _
     (λ q. get-map_of (put key_cmp key row t) q (is_sorted-put key_cmp key_cmp_total key row t h)
@@ -35,7 +36,8 @@ insert-map_of t key row h =
     ∙ sym (finite.get-insert key_cmp_total (map_of t) key row q ∙ ap (cond (eq_by_cmp key_cmp q key) (Some row)) (get-map_of t q h)))
 
 -- applying effects changes the map at each key by the effect on it
-pub get-table_with : (t : Table) (effects : Effects) (key : Key) → T (is_sorted key_cmp t) → T (is_sorted key_cmp effects) → finite.get (map_of (table_with t effects)) key ≡ changed_by row_after (find key_cmp key effects) (finite.get (map_of t) key)
+pub get-table_with : (t : Table) (effects : Effects) (key : Key) → T (is_sorted key_cmp t) → T (is_sorted key_cmp effects)
+    → finite.get (map_of (table_with t effects)) key ≡ changed_by row_after (find key_cmp key effects) (finite.get (map_of t) key)
 get-table_with t effects key ht h =
     get-map_of (table_with t effects) key (sorted-table_with t effects ht)
     ∙ row_at-table_with t effects key h

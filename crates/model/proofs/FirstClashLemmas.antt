@@ -62,7 +62,8 @@ module _ (rule : ConflictRule) (key_cols : ℕ) where
   first_with : (i : ℕ) (x : Entry) (j : ℕ) (ys : List Entry) → IsFoundWith i x j ys (clash_with rule key_cols i x j ys)
   first_with i x j [] = λ k z kind at is. cc
   first_with i x j (y ∷ ys) =
-      elim (clash_of_entries rule key_cols x y) as (λ o. clash_of_entries rule key_cols x y ≡ o → IsFoundWith i x j (y ∷ ys) (or_clash i j o (clash_with rule key_cols i x (suc j) ys))) [
+      elim (clash_of_entries rule key_cols x y) as (λ o. clash_of_entries rule key_cols x y ≡ o
+      → IsFoundWith i x j (y ∷ ys) (or_clash i j o (clash_with rule key_cols i x (suc j) ys))) [
         | None ↦ λ free. later_with i x j y ys (clash_with rule key_cols i x (suc j) ys) (first_with i x (suc j) ys) free
         | Some kind ↦ λ is. record {
           x_is = refl;
@@ -108,7 +109,8 @@ module _ (rule : ConflictRule) (key_cols : ℕ) where
   past place k y j (inr h) = inr (ap suc h.0, h.1)
 
   -- past an entry that clashes with none of the others
-  later_from : (i : ℕ) (x : Entry) (xs ys : List Entry) (found : Option Clash) → IsFoundFrom (suc i) xs ys found → IsFoundWith i x zero ys None → IsFoundFrom i (x ∷ xs) ys found
+  later_from : (i : ℕ) (x : Entry) (xs ys : List Entry) (found : Option Clash) → IsFoundFrom (suc i) xs ys found
+      → IsFoundWith i x zero ys None → IsFoundFrom i (x ∷ xs) ys found
   later_from i x xs ys None none free = λ k j kind h. by_place k j kind h
     where
       -- by the place of what clashes
@@ -118,7 +120,14 @@ module _ (rule : ConflictRule) (key_cols : ℕ) where
   later_from i x xs ys (Some clash) first free = record {
     place = suc first.place;
     x_is = omega (arith, first.x_is);
-    clashing = record { x = first.clashing.x; y = first.clashing.y; x_at = first.clashing.x_at; y_at = first.clashing.y_at; kind_is = first.clashing.kind_is };
+    clashing =
+        record {
+          x = first.clashing.x;
+          y = first.clashing.y;
+          x_at = first.clashing.x_at;
+          y_at = first.clashing.y_at;
+          kind_is = first.clashing.kind_is;
+        };
     least = λ k j kind h. by_place k j kind h;
   }
     where
@@ -156,7 +165,8 @@ module _ (rule : ConflictRule) (key_cols : ℕ) where
       (first_with i x zero ys) (first_from (suc i) xs ys)
     where
       -- by what the search with the entry at place i finds
-      by_head : (head rest : Option Clash) → IsFoundWith i x zero ys head → IsFoundFrom (suc i) xs ys rest → IsFoundFrom i (x ∷ xs) ys (or_else head rest)
+      by_head : (head rest : Option Clash) → IsFoundWith i x zero ys head → IsFoundFrom (suc i) xs ys rest
+          → IsFoundFrom i (x ∷ xs) ys (or_else head rest)
       by_head None rest free later = later_from i x xs ys rest later free
       by_head (Some clash) rest first later = here_from i x xs ys clash first
 

@@ -34,7 +34,8 @@ has_no_fault type v = has_type type v && not (is_too_long v)
 
 value_fault-none : (type : ColumnType) (col : ℕ) (v : Value) → is_none (value_fault type col v) ≡ has_no_fault type v
 value_fault-none type col v =
-    elim (has_type type v) as (λ b. is_none (cond b (cond (is_too_long v) (Some (TextTooLong col)) None) (Some (WrongType col))) ≡ b && not (is_too_long v)) [
+    elim (has_type type v) as
+    (λ b. is_none (cond b (cond (is_too_long v) (Some (TextTooLong col)) None) (Some (WrongType col))) ≡ b && not (is_too_long v)) [
       | true ↦ elim (is_too_long v) as (λ b. is_none (cond b (Some (TextTooLong col)) None) ≡ not b) [ true ↦ refl | false ↦ refl ]
       | false ↦ refl
     ]
@@ -43,9 +44,12 @@ or_fault-none : (x y : Option ShapeFault) → is_none (or_fault x y) ≡ is_none
 or_fault-none None y = refl
 or_fault-none (Some fault) y = refl
 
-list_fault-none : (types : List ColumnType) (values : List Value) → is_none (list_fault types values) ≡ (length values == length types) && is_none (values_fault 0 types values)
+list_fault-none : (types : List ColumnType) (values : List Value)
+    → is_none (list_fault types values) ≡ (length values == length types) && is_none (values_fault 0 types values)
 list_fault-none types values =
-    elim (length values == length types) as (λ b. is_none (cond b (values_fault 0 types values) (Some WrongCount)) ≡ b && is_none (values_fault 0 types values)) [ true ↦ refl | false ↦ refl ]
+    elim (length values == length types) as
+    (λ b. is_none (cond b (values_fault 0 types values) (Some WrongCount)) ≡ b && is_none (values_fault 0 types values))
+    [ true ↦ refl | false ↦ refl ]
 
 -- whether a value has no fault in a column that may be there
 abbrev fits_column : Option ColumnType → Value → Bool
@@ -53,23 +57,30 @@ fits_column None v = false
 fits_column (Some type) v = has_no_fault type v
 
 -- a value that fits its column in place of another one
-values_fault-set : (col i : ℕ) (v : Value) (types : List ColumnType) (values : List Value) → T (fits_column (slice_get types i) v) → T (is_none (values_fault col types values)) → T (is_none (values_fault col types (set values i v)))
+values_fault-set : (col i : ℕ) (v : Value) (types : List ColumnType) (values : List Value) → T (fits_column (slice_get types i) v)
+    → T (is_none (values_fault col types values)) → T (is_none (values_fault col types (set values i v)))
 values_fault-set col i v [] values h g = tt
 values_fault-set col i v (type ∷ types) [] h g = tt
 values_fault-set col zero v (type ∷ types) (w ∷ values) h g =
-    let split : T (is_none (value_fault type col w) && is_none (values_fault (suc col) types values)) = subst T (or_fault-none (value_fault type col w) (values_fault (suc col) types values)) g in
+    let split : T (is_none (value_fault type col w) && is_none (values_fault (suc col) types values)) =
+    subst T (or_fault-none (value_fault type col w) (values_fault (suc col) types values)) g in
     subst T (sym (or_fault-none (value_fault type col v) (values_fault (suc col) types values)))
-    (both (is_none (value_fault type col v)) _ (subst T (sym (value_fault-none type col v)) h) (second (is_none (value_fault type col w)) _ split))
+    (both (is_none (value_fault type col v)) _ (subst T (sym (value_fault-none type col v)) h)
+    (second (is_none (value_fault type col w)) _ split))
 values_fault-set col (suc i) v (type ∷ types) (w ∷ values) h g =
-    let split : T (is_none (value_fault type col w) && is_none (values_fault (suc col) types values)) = subst T (or_fault-none (value_fault type col w) (values_fault (suc col) types values)) g in
+    let split : T (is_none (value_fault type col w) && is_none (values_fault (suc col) types values)) =
+    subst T (or_fault-none (value_fault type col w) (values_fault (suc col) types values)) g in
     subst T (sym (or_fault-none (value_fault type col w) (values_fault (suc col) types (set values i v))))
-    (both (is_none (value_fault type col w)) _ (first (is_none (value_fault type col w)) _ split) (values_fault-set (suc col) i v types values h (second (is_none (value_fault type col w)) _ split)))
+    (both (is_none (value_fault type col w)) _ (first (is_none (value_fault type col w)) _ split)
+    (values_fault-set (suc col) i v types values h (second (is_none (value_fault type col w)) _ split)))
 
 -- a cell that fits stands in a column of its type, outside the key
-cell_fault-column : (type : Option ColumnType) (key_cols col : ℕ) (v : Value) → T (is_none (cell_fault_at type key_cols col v)) → T (fits_column type v) × T (nat_le key_cols col)
+cell_fault-column : (type : Option ColumnType) (key_cols col : ℕ) (v : Value) → T (is_none (cell_fault_at type key_cols col v))
+    → T (fits_column type v) × T (nat_le key_cols col)
 cell_fault-column None key_cols col v h = absurd h
 cell_fault-column (Some type) key_cols col v h =
-    elim (nat_lt col key_cols) as (λ b. nat_lt col key_cols ≡ b → T (is_none (cond b (Some KeyColumn) (value_fault type col v))) → T (has_no_fault type v) × T (nat_le key_cols col)) [
+    elim (nat_lt col key_cols) as (λ b. nat_lt col key_cols ≡ b → T (is_none (cond b (Some KeyColumn) (value_fault type col v)))
+    → T (has_no_fault type v) × T (nat_le key_cols col)) [
       | true ↦ λ e g. absurd g
       | false ↦ λ e g. (subst T (value_fault-none type col v) g, at_least e)
     ] refl h
@@ -78,40 +89,55 @@ cell_fault-column (Some type) key_cols col v h =
     at_least e = grind (arith, nat_tests)
 
 module _ (schema : Columns) where
-  pub fits_schema-set : (row : Row) (col : ℕ) (v : Value) → T (cell_fits_schema schema col v) → T (fits_schema schema row) → T (fits_schema schema (set row col v))
+  pub fits_schema-set : (row : Row) (col : ℕ) (v : Value) → T (cell_fits_schema schema col v) → T (fits_schema schema row)
+      → T (fits_schema schema (set row col v))
   fits_schema-set row col v h g =
-      let split : T ((length row == length schema.types) && is_none (values_fault 0 schema.types row)) = subst T (list_fault-none schema.types row) g in
+      let split : T ((length row == length schema.types) && is_none (values_fault 0 schema.types row)) =
+      subst T (list_fault-none schema.types row) g in
       let same : length (set row col v) ≡ length row = length-set row col v in
       subst T (sym (list_fault-none schema.types (set row col v)))
       (both (length (set row col v) == length schema.types) _
       (subst (λ n. T (n == length schema.types)) (sym same) (first (length row == length schema.types) _ split))
-      (values_fault-set 0 col v schema.types row ((cell_fault-column (slice_get schema.types col) schema.key_cols col v h).0) (second (length row == length schema.types) _ split)))
+      (values_fault-set 0 col v schema.types row ((cell_fault-column (slice_get schema.types col) schema.key_cols col v h).0)
+      (second (length row == length schema.types) _ split)))
 
   -- ---- cells
 
   abbrev cells_fit : Cells → Bool
   cells_fit cells = list_all (λ c. cell_fits_schema schema c.0 c.1) cells
 
-  fits_schema-set_cells : (cells : Cells) (row : Row) → T (cells_fit cells) → T (fits_schema schema row) → T (fits_schema schema (set_cells cells row))
+  fits_schema-set_cells : (cells : Cells) (row : Row) → T (cells_fit cells) → T (fits_schema schema row)
+      → T (fits_schema schema (set_cells cells row))
   fits_schema-set_cells [] row h g = g
-  fits_schema-set_cells (c ∷ cells) row h g = fits_schema-set_cells cells (set row c.0 c.1) (second (cell_fits_schema schema c.0 c.1) _ h) (fits_schema-set row c.0 c.1 (first (cell_fits_schema schema c.0 c.1) _ h) g)
+  fits_schema-set_cells (c ∷ cells) row h g =
+      fits_schema-set_cells cells (set row c.0 c.1) (second (cell_fits_schema schema c.0 c.1) _ h)
+      (fits_schema-set row c.0 c.1 (first (cell_fits_schema schema c.0 c.1) _ h) g)
 
-  cells_fit-put : (c : ℕ) (v : Value) (cells : Cells) → T (cell_fits_schema schema c v) → T (cells_fit cells) → T (cells_fit (put nat_cmp c v cells))
+  cells_fit-put : (c : ℕ) (v : Value) (cells : Cells) → T (cell_fits_schema schema c v) → T (cells_fit cells)
+      → T (cells_fit (put nat_cmp c v cells))
   cells_fit-put c v [] p h = both (cell_fits_schema schema c v) _ p tt
   cells_fit-put c v (d ∷ cells) p h =
-      elim (nat_cmp c d.0) as (λ r. nat_cmp c d.0 ≡ r → T (cells_fit (by_order r ((c, v) ∷ d ∷ cells) ((d.0, v) ∷ cells) (d ∷ put nat_cmp c v cells)))) [
+      elim (nat_cmp c d.0) as
+      (λ r. nat_cmp c d.0 ≡ r → T (cells_fit (by_order r ((c, v) ∷ d ∷ cells) ((d.0, v) ∷ cells) (d ∷ put nat_cmp c v cells)))) [
         | Less ↦ λ e. both (cell_fits_schema schema c v) _ p h
-        | Equal ↦ λ e. both (cell_fits_schema schema d.0 v) _ (subst (λ i. T (cell_fits_schema schema i v)) (nat_cmp-IsAntisymmetric c d.0 e) p) (second (cell_fits_schema schema d.0 d.1) _ h)
-        | Greater ↦ λ e. both (cell_fits_schema schema d.0 d.1) _ (first (cell_fits_schema schema d.0 d.1) _ h) (cells_fit-put c v cells p (second (cell_fits_schema schema d.0 d.1) _ h))
+        | Equal ↦ λ e. both (cell_fits_schema schema d.0 v) _
+            (subst (λ i. T (cell_fits_schema schema i v)) (nat_cmp-IsAntisymmetric c d.0 e) p)
+            (second (cell_fits_schema schema d.0 d.1) _ h)
+        | Greater ↦ λ e. both (cell_fits_schema schema d.0 d.1) _ (first (cell_fits_schema schema d.0 d.1) _ h)
+            (cells_fit-put c v cells p (second (cell_fits_schema schema d.0 d.1) _ h))
       ] refl
 
   cells_fit-over : (cells later : Cells) → T (cells_fit cells) → T (cells_fit later) → T (cells_fit (over_cells cells later))
   cells_fit-over cells [] h g = h
-  cells_fit-over cells (c ∷ later) h g = cells_fit-over (put nat_cmp c.0 c.1 cells) later (cells_fit-put c.0 c.1 cells (first (cell_fits_schema schema c.0 c.1) _ g) h) (second (cell_fits_schema schema c.0 c.1) _ g)
+  cells_fit-over cells (c ∷ later) h g =
+      cells_fit-over (put nat_cmp c.0 c.1 cells) later
+      (cells_fit-put c.0 c.1 cells (first (cell_fits_schema schema c.0 c.1) _ g) h)
+      (second (cell_fits_schema schema c.0 c.1) _ g)
 
   -- ---- one key
 
-  composed_effect-fits : (f : Effect) (x : Option Effect) → T (effect_fits_schema schema f) → T (holds_at (effect_fits_schema schema) x) → T (holds_at (effect_fits_schema schema) (composed_effect f x))
+  composed_effect-fits : (f : Effect) (x : Option Effect) → T (effect_fits_schema schema f)
+      → T (holds_at (effect_fits_schema schema) x) → T (holds_at (effect_fits_schema schema) (composed_effect f x))
   composed_effect-fits f None p q = p
   composed_effect-fits (Ins s) (Some (Ins r)) p q = q
   composed_effect-fits (Ins s) (Some Del) p q = p
@@ -130,18 +156,21 @@ module _ (schema : Columns) where
   composed_effect-fits (Rep s) (Some (Mod d)) p q = p
   composed_effect-fits (Rep s) (Some (Rep r)) p q = p
 
-  row_after-fits : (f : Effect) (old : Option Row) → T (effect_fits_schema schema f) → T (holds_at (fits_schema schema) old) → T (holds_at (fits_schema schema) (row_after f old))
+  row_after-fits : (f : Effect) (old : Option Row) → T (effect_fits_schema schema f) → T (holds_at (fits_schema schema) old)
+      → T (holds_at (fits_schema schema) (row_after f old))
   row_after-fits (Ins row) old p q = p
   row_after-fits Del old p q = tt
   row_after-fits (Mod cells) None p q = tt
   row_after-fits (Mod cells) (Some row) p q = fits_schema-set_cells cells row p q
   row_after-fits (Rep row) old p q = p
 
-  maybe_composed : (g x : Option Effect) → T (holds_at (effect_fits_schema schema) g) → T (holds_at (effect_fits_schema schema) x) → T (holds_at (effect_fits_schema schema) (changed_by composed_effect g x))
+  maybe_composed : (g x : Option Effect) → T (holds_at (effect_fits_schema schema) g) → T (holds_at (effect_fits_schema schema) x)
+      → T (holds_at (effect_fits_schema schema) (changed_by composed_effect g x))
   maybe_composed None x p q = q
   maybe_composed (Some f) x p q = composed_effect-fits f x p q
 
-  maybe_after : (g : Option Effect) (old : Option Row) → T (holds_at (effect_fits_schema schema) g) → T (holds_at (fits_schema schema) old) → T (holds_at (fits_schema schema) (changed_by row_after g old))
+  maybe_after : (g : Option Effect) (old : Option Row) → T (holds_at (effect_fits_schema schema) g)
+      → T (holds_at (fits_schema schema) old) → T (holds_at (fits_schema schema) (changed_by row_after g old))
   maybe_after None old p q = q
   maybe_after (Some f) old p q = row_after-fits f old p q
 
@@ -153,16 +182,20 @@ module _ (schema : Columns) where
   abbrev pub all_rows_fit : Table → Bool
   all_rows_fit t = list_all (λ e. fits_schema schema e.1) t
 
-  abbrev effect_at : (effects : Effects) → T (all_effects_fit effects) → (k : Key) → T (holds_at (effect_fits_schema schema) (find key_cmp k effects))
+  abbrev effect_at : (effects : Effects) → T (all_effects_fit effects) → (k : Key)
+      → T (holds_at (effect_fits_schema schema) (find key_cmp k effects))
   effect_at effects h k = each_at key_cmp key_cmp_total key_cmp-IsAntisymmetric (λ j f. effect_fits_schema schema f) effects h k
 
-  pub composed_effects-fit : (x f : Effects) → T (is_sorted key_cmp x) → T (is_sorted key_cmp f) → T (all_effects_fit x) → T (all_effects_fit f) → T (all_effects_fit (composed_effects x f))
+  pub composed_effects-fit : (x f : Effects) → T (is_sorted key_cmp x) → T (is_sorted key_cmp f) → T (all_effects_fit x)
+      → T (all_effects_fit f) → T (all_effects_fit (composed_effects x f))
   composed_effects-fit x f sx sf hx hf =
-      each_from key_cmp key_cmp_total key_cmp-IsAntisymmetric (λ j g. effect_fits_schema schema g) (composed_effects x f) (sorted-composed_effects x f sx)
+      each_from key_cmp key_cmp_total key_cmp-IsAntisymmetric (λ j g. effect_fits_schema schema g) (composed_effects x f)
+      (sorted-composed_effects x f sx)
       (λ k. subst (λ g. T (holds_at (effect_fits_schema schema) g)) (sym (effect_at-composed_effects x f k sf))
       (maybe_composed (find key_cmp k f) (find key_cmp k x) (effect_at f hf k) (effect_at x hx k)))
 
-  pub table_with-fits : (t : Table) (x : Effects) → T (is_sorted key_cmp t) → T (is_sorted key_cmp x) → T (all_rows_fit t) → T (all_effects_fit x) → T (all_rows_fit (table_with t x))
+  pub table_with-fits : (t : Table) (x : Effects) → T (is_sorted key_cmp t) → T (is_sorted key_cmp x) → T (all_rows_fit t)
+      → T (all_effects_fit x) → T (all_rows_fit (table_with t x))
   table_with-fits t x st sx ht hx =
       each_from key_cmp key_cmp_total key_cmp-IsAntisymmetric (λ j row. fits_schema schema row) (table_with t x) (sorted-table_with t x st)
       (λ k. subst (λ old. T (holds_at (fits_schema schema) old)) (sym (row_at-table_with t x k sx))
@@ -171,7 +204,8 @@ module _ (schema : Columns) where
 
   -- ---- a write alone
 
-  pub effect_of_write-fits : (write : Write) → T (write_fits_schema schema write) → T (all_effects_fit ((key_of_write schema.key_cols write, effect_of_write write) ∷ []))
+  pub effect_of_write-fits : (write : Write) → T (write_fits_schema schema write)
+      → T (all_effects_fit ((key_of_write schema.key_cols write, effect_of_write write) ∷ []))
   effect_of_write-fits (Insert row) h = both (fits_schema schema row) _ h tt
   effect_of_write-fits (Delete key) h = tt
   effect_of_write-fits (Set key col v) h =

@@ -46,7 +46,10 @@ module _ (key_cols : ℕ) where
         | Into change ↦ fold_one key_cols (entry_at lower.sid change) rest added gone uppers
       ]
 
-  pub met : (m : Meeting) (lower : Entry) (rest : ℕ → ℕ → List Entry → List Entry) (added gone : ℕ) (upper : Entry) (uppers : List Entry) → meet key_cols added gone lower upper ≡ m → fold_one key_cols lower rest added gone (upper ∷ uppers) ≡ outcome m lower rest added gone upper uppers
+  pub met : (m : Meeting) (lower : Entry) (rest : ℕ → ℕ → List Entry → List Entry) (added gone : ℕ) (upper : Entry)
+      (uppers : List Entry)
+      → meet key_cols added gone lower upper ≡ m
+      → fold_one key_cols lower rest added gone (upper ∷ uppers) ≡ outcome m lower rest added gone upper uppers
   met m lower rest added gone upper uppers e = ap (λ m. outcome m lower rest added gone upper uppers) e
 
   -- where the walk stands: n rows of the base and n' of the lower image were passed
@@ -58,38 +61,50 @@ module _ (key_cols : ℕ) where
     lowered_here u = ap (λ m. entry_at m u) (take_off n n' a d level)
 
     -- each lower entry stands after place n: the upper one comes first
-    pub upper_first : (ls : List Entry) → T (all_after n ls) → (u : Change) (us : List Entry) → fold_from key_cols ls a d (entry_at n' u ∷ us) ≡ entry_at n u ∷ fold_from key_cols ls a d us
+    pub upper_first : (ls : List Entry) → T (all_after n ls) → (u : Change) (us : List Entry)
+        → fold_from key_cols ls a d (entry_at n' u ∷ us) ≡ entry_at n u ∷ fold_from key_cols ls a d us
     upper_first [] h u us = ap (λ e. e ∷ map (lowered_entry a d) us) (lowered_here u)
     upper_first (l ∷ ls) h u us =
         let lt = lt_of n l.sid (first _ _ h) in
         let far : n' + d < l.sid + a = omega arith in
-        met Upper l (fold_from key_cols ls) a d (entry_at n' u) us (ap (λ r. positions_meet key_cols r l.change u) (cmp_less (n' + d) (l.sid + a) far))
+        met Upper l (fold_from key_cols ls) a d (entry_at n' u) us
+        (ap (λ r. positions_meet key_cols r l.change u) (cmp_less (n' + d) (l.sid + a) far))
         ∙ ap (λ e. e ∷ fold_from key_cols (l ∷ ls) a d us) (lowered_here u)
 
     -- each upper entry stands after position n': the lower one comes first
-    pub lower_first : (c : Change) (ls us : List Entry) → T (all_after n' us) → fold_from key_cols (entry_at n c ∷ ls) a d us ≡ entry_at n c ∷ fold_from key_cols ls (a + added_by c) (d + gone_by c) us
+    pub lower_first : (c : Change) (ls us : List Entry) → T (all_after n' us)
+        → fold_from key_cols (entry_at n c ∷ ls) a d us ≡ entry_at n c ∷ fold_from key_cols ls (a + added_by c) (d + gone_by c) us
     lower_first c ls [] h = refl
     lower_first c ls (u ∷ us) h =
         let lt = lt_of n' u.sid (first _ _ h) in
         let far : n + a < u.sid + d = omega arith in
-        met Lower (entry_at n c) (fold_from key_cols ls) a d u us (ap (λ r. positions_meet key_cols r c u.change) (cmp_greater (u.sid + d) (n + a) far))
+        met Lower (entry_at n c) (fold_from key_cols ls) a d u us
+        (ap (λ r. positions_meet key_cols r c u.change) (cmp_greater (u.sid + d) (n + a) far))
 
     -- the upper entry comes first here
-    pub upper_here : (c u : Change) (ls us : List Entry) → changes_meet key_cols c u ≡ Upper → fold_from key_cols (entry_at n c ∷ ls) a d (entry_at n' u ∷ us) ≡ entry_at n u ∷ fold_from key_cols (entry_at n c ∷ ls) a d us
+    pub upper_here : (c u : Change) (ls us : List Entry) → changes_meet key_cols c u ≡ Upper
+        → fold_from key_cols (entry_at n c ∷ ls) a d (entry_at n' u ∷ us)
+        ≡ entry_at n u ∷ fold_from key_cols (entry_at n c ∷ ls) a d us
     upper_here c u ls us m =
         met Upper (entry_at n c) (fold_from key_cols ls) a d (entry_at n' u) us (here c u ∙ m)
         ∙ ap (λ e. e ∷ fold_from key_cols (entry_at n c ∷ ls) a d us) (lowered_here u)
 
-    pub lower_here : (c u : Change) (ls us : List Entry) → changes_meet key_cols c u ≡ Lower → fold_from key_cols (entry_at n c ∷ ls) a d (entry_at n' u ∷ us) ≡ entry_at n c ∷ fold_from key_cols ls (a + added_by c) (d + gone_by c) (entry_at n' u ∷ us)
+    pub lower_here : (c u : Change) (ls us : List Entry) → changes_meet key_cols c u ≡ Lower
+        → fold_from key_cols (entry_at n c ∷ ls) a d (entry_at n' u ∷ us)
+        ≡ entry_at n c ∷ fold_from key_cols ls (a + added_by c) (d + gone_by c) (entry_at n' u ∷ us)
     lower_here c u ls us m = met Lower (entry_at n c) (fold_from key_cols ls) a d (entry_at n' u) us (here c u ∙ m)
 
-    pub over_here : (c u : Change) (ls us : List Entry) → changes_meet key_cols c u ≡ Over → fold_from key_cols (entry_at n c ∷ ls) a d (entry_at n' u ∷ us) ≡ fold_from key_cols ls a d (entry_at n' u ∷ us)
+    pub over_here : (c u : Change) (ls us : List Entry) → changes_meet key_cols c u ≡ Over
+        → fold_from key_cols (entry_at n c ∷ ls) a d (entry_at n' u ∷ us) ≡ fold_from key_cols ls a d (entry_at n' u ∷ us)
     over_here c u ls us m = met Over (entry_at n c) (fold_from key_cols ls) a d (entry_at n' u) us (here c u ∙ m)
 
-    pub neither_here : (c u : Change) (ls us : List Entry) → changes_meet key_cols c u ≡ Neither → fold_from key_cols (entry_at n c ∷ ls) a d (entry_at n' u ∷ us) ≡ fold_from key_cols ls (a + added_by c) (d + gone_by c) us
+    pub neither_here : (c u : Change) (ls us : List Entry) → changes_meet key_cols c u ≡ Neither
+        → fold_from key_cols (entry_at n c ∷ ls) a d (entry_at n' u ∷ us)
+        ≡ fold_from key_cols ls (a + added_by c) (d + gone_by c) us
     neither_here c u ls us m = met Neither (entry_at n c) (fold_from key_cols ls) a d (entry_at n' u) us (here c u ∙ m)
 
-    pub into_here : (c u new : Change) (ls us : List Entry) → changes_meet key_cols c u ≡ Into new → fold_from key_cols (entry_at n c ∷ ls) a d (entry_at n' u ∷ us) ≡ fold_from key_cols (entry_at n new ∷ ls) a d us
+    pub into_here : (c u new : Change) (ls us : List Entry) → changes_meet key_cols c u ≡ Into new
+        → fold_from key_cols (entry_at n c ∷ ls) a d (entry_at n' u ∷ us) ≡ fold_from key_cols (entry_at n new ∷ ls) a d us
     into_here c u new ls us m = met (Into new) (entry_at n c) (fold_from key_cols ls) a d (entry_at n' u) us (here c u ∙ m)
 
 -- ---- modifies
@@ -106,10 +121,12 @@ turn x y p = turn_less nat_cmp_total x y p
 turned : (x y : ℕ) → nat_cmp x y ≡ Greater → nat_cmp y x ≡ Less
 turned x y p = turn_greater nat_cmp_total x y p
 
-over_past : (x : ℕ × Value) (cells later : Cells) → T (below_all nat_cmp x.0 later) → over_cells (x ∷ cells) later ≡ x ∷ over_cells cells later
+over_past : (x : ℕ × Value) (cells later : Cells) → T (below_all nat_cmp x.0 later)
+    → over_cells (x ∷ cells) later ≡ x ∷ over_cells cells later
 over_past x cells [] h = refl
 over_past x cells (y ∷ later) h =
-    ap (λ r. over_cells (by_order r ((y.0, y.1) ∷ x ∷ cells) ((x.0, y.1) ∷ cells) (x ∷ put nat_cmp y.0 y.1 cells)) later) (turn x.0 y.0 (less _ (first _ _ h)))
+    ap (λ r. over_cells (by_order r ((y.0, y.1) ∷ x ∷ cells) ((x.0, y.1) ∷ cells) (x ∷ put nat_cmp y.0 y.1 cells)) later)
+    (turn x.0 y.0 (less _ (first _ _ h)))
     ∙ over_past x (put nat_cmp y.0 y.1 cells) later (second _ _ h)
 
 over_nothing : (later : Cells) → T (is_sorted nat_cmp later) → over_cells [] later ≡ later
@@ -122,12 +139,16 @@ put_first y (x ∷ cells) h = ap (λ r. by_order r (y ∷ x ∷ cells) ((x.0, y.
 
 module _ (key_cols : ℕ) (n n' a d : ℕ) (level : n' + d ≡ n + a) where
   -- modifies of the upper tree alone
-  pub mods_upper : (cells : Cells) (ls us : List Entry) → T (all_after n ls) → fold_from key_cols ls a d (mods n' cells ++ us) ≡ mods n cells ++ fold_from key_cols ls a d us
+  pub mods_upper : (cells : Cells) (ls us : List Entry) → T (all_after n ls)
+      → fold_from key_cols ls a d (mods n' cells ++ us) ≡ mods n cells ++ fold_from key_cols ls a d us
   mods_upper [] ls us h = refl
-  mods_upper (c ∷ cells) ls us h = upper_first key_cols n n' a d level ls h (Mod c.0 c.1) (mods n' cells ++ us) ∙ ap (λ es. entry_at n (Mod c.0 c.1) ∷ es) (mods_upper cells ls us h)
+  mods_upper (c ∷ cells) ls us h =
+      upper_first key_cols n n' a d level ls h (Mod c.0 c.1) (mods n' cells ++ us)
+      ∙ ap (λ es. entry_at n (Mod c.0 c.1) ∷ es) (mods_upper cells ls us h)
 
   -- and of the lower one alone
-  pub mods_lower : (cells : Cells) (ls us : List Entry) → T (all_after n' us) → fold_from key_cols (mods n cells ++ ls) a d us ≡ mods n cells ++ fold_from key_cols ls a d us
+  pub mods_lower : (cells : Cells) (ls us : List Entry) → T (all_after n' us)
+      → fold_from key_cols (mods n cells ++ ls) a d us ≡ mods n cells ++ fold_from key_cols ls a d us
   mods_lower [] ls us h = refl
   mods_lower (c ∷ cells) ls us h =
       let at_a = add_none a in
@@ -137,29 +158,46 @@ module _ (key_cols : ℕ) (n n' a d : ℕ) (level : n' + d ≡ n + a) where
       ∙ ap (λ es. entry_at n (Mod c.0 c.1) ∷ es) (mods_lower cells ls us h)
 
   -- a delete takes the place of modifies
-  pub mods_deleted : (cells : Cells) (key : Key) (ls us : List Entry) → fold_from key_cols (mods n cells ++ ls) a d (entry_at n' (Del key) ∷ us) ≡ fold_from key_cols ls a d (entry_at n' (Del key) ∷ us)
+  pub mods_deleted : (cells : Cells) (key : Key) (ls us : List Entry)
+      → fold_from key_cols (mods n cells ++ ls) a d (entry_at n' (Del key) ∷ us)
+      ≡ fold_from key_cols ls a d (entry_at n' (Del key) ∷ us)
   mods_deleted [] key ls us = refl
-  mods_deleted (c ∷ cells) key ls us = over_here key_cols n n' a d level (Mod c.0 c.1) (Del key) (mods n cells ++ ls) us refl ∙ mods_deleted cells key ls us
+  mods_deleted (c ∷ cells) key ls us =
+      over_here key_cols n n' a d level (Mod c.0 c.1) (Del key) (mods n cells ++ ls) us refl ∙ mods_deleted cells key ls us
 
   -- an insert stands before them
-  pub mods_after_insert : (cells : Cells) (new : Row) (ls us : List Entry) → T (all_after n ls) → fold_from key_cols (mods n cells ++ ls) a d (entry_at n' (Ins new) ∷ us) ≡ entry_at n (Ins new) ∷ fold_from key_cols (mods n cells ++ ls) a d us
+  pub mods_after_insert : (cells : Cells) (new : Row) (ls us : List Entry) → T (all_after n ls)
+      → fold_from key_cols (mods n cells ++ ls) a d (entry_at n' (Ins new) ∷ us)
+      ≡ entry_at n (Ins new) ∷ fold_from key_cols (mods n cells ++ ls) a d us
   mods_after_insert [] new ls us h = upper_first key_cols n n' a d level ls h (Ins new) us
   mods_after_insert (c ∷ cells) new ls us h = upper_here key_cols n n' a d level (Mod c.0 c.1) (Ins new) (mods n cells ++ ls) us refl
 
   -- modifies of an inserted row change it
-  pub mods_into : (cells : Cells) (row : Row) (ls us : List Entry) → fold_from key_cols (entry_at n (Ins row) ∷ ls) a d (mods n' cells ++ us) ≡ fold_from key_cols (entry_at n (Ins (set_cells cells row)) ∷ ls) a d us
+  pub mods_into : (cells : Cells) (row : Row) (ls us : List Entry)
+      → fold_from key_cols (entry_at n (Ins row) ∷ ls) a d (mods n' cells ++ us)
+      ≡ fold_from key_cols (entry_at n (Ins (set_cells cells row)) ∷ ls) a d us
   mods_into [] row ls us = refl
-  mods_into (c ∷ cells) row ls us = into_here key_cols n n' a d level (Ins row) (Mod c.0 c.1) (Ins (set row c.0 c.1)) ls (mods n' cells ++ us) refl ∙ mods_into cells (set row c.0 c.1) ls us
+  mods_into (c ∷ cells) row ls us =
+      into_here key_cols n n' a d level (Ins row) (Mod c.0 c.1) (Ins (set row c.0 c.1)) ls (mods n' cells ++ us) refl
+      ∙ mods_into cells (set row c.0 c.1) ls us
 
   abbrev AreMerged : List Entry → List Entry → Cells → Cells → Type 0
-  AreMerged ls us cells later = fold_from key_cols (mods n cells ++ ls) a d (mods n' later ++ us) ≡ mods n (over_cells cells later) ++ fold_from key_cols ls a d us
+  AreMerged ls us cells later =
+      fold_from key_cols (mods n cells ++ ls) a d (mods n' later ++ us)
+      ≡ mods n (over_cells cells later) ++ fold_from key_cols ls a d us
 
-  merged_cons : (ls us : List Entry) → T (all_after n ls) → T (all_after n' us) → (x : ℕ × Value) (cells : Cells) → T (below_all nat_cmp x.0 cells) → ((later : Cells) → T (is_sorted nat_cmp later) → AreMerged ls us cells later) → (later : Cells) → T (is_sorted nat_cmp later) → AreMerged ls us (x ∷ cells) later
+  merged_cons : (ls us : List Entry) → T (all_after n ls) → T (all_after n' us) → (x : ℕ × Value) (cells : Cells)
+      → T (below_all nat_cmp x.0 cells) → ((later : Cells) → T (is_sorted nat_cmp later) → AreMerged ls us cells later)
+      → (later : Cells) → T (is_sorted nat_cmp later) → AreMerged ls us (x ∷ cells) later
   merged_cons ls us hl hu x cells bx ih [] h = mods_lower (x ∷ cells) ls us hu
   merged_cons ls us hl hu x cells bx ih (y ∷ later) h =
       let m = Mod x.0 x.1 in
       let u = Mod y.0 y.1 in
-      elim (nat_cmp y.0 x.0) as (λ r. nat_cmp y.0 x.0 ≡ r → fold_from key_cols (mods n (x ∷ cells) ++ ls) a d (mods n' (y ∷ later) ++ us) ≡ mods n (over_cells (by_order r ((y.0, y.1) ∷ x ∷ cells) ((x.0, y.1) ∷ cells) (x ∷ put nat_cmp y.0 y.1 cells)) later) ++ fold_from key_cols ls a d us) [
+      elim (nat_cmp y.0 x.0) as
+      (λ r. nat_cmp y.0 x.0 ≡ r → fold_from key_cols (mods n (x ∷ cells) ++ ls) a d (mods n' (y ∷ later) ++ us)
+      ≡ mods n
+      (over_cells (by_order r ((y.0, y.1) ∷ x ∷ cells) ((x.0, y.1) ∷ cells) (x ∷ put nat_cmp y.0 y.1 cells)) later)
+      ++ fold_from key_cols ls a d us) [
         | Less ↦ λ p.
             upper_here key_cols n n' a d level m u (mods n cells ++ ls) (mods n' later ++ us) (ap columns_meet p)
             ∙ ap (λ es. entry_at n u ∷ es) (merged_cons ls us hl hu x cells bx ih later (second _ _ h))
@@ -168,7 +206,8 @@ module _ (key_cols : ℕ) (n n' a d : ℕ) (level : n' + d ≡ n + a) where
             let same = nat_cmp-IsAntisymmetric y.0 x.0 p in
             over_here key_cols n n' a d level m u (mods n cells ++ ls) (mods n' later ++ us) (ap columns_meet p)
             ∙ ih (y ∷ later) h
-            ∙ ap (λ cs. mods n (over_cells cs later) ++ fold_from key_cols ls a d us) (put_first y cells (subst (λ k. T (below_all nat_cmp k cells)) (sym same) bx) ∙ ap (λ k. (k, y.1) ∷ cells) same)
+            ∙ ap (λ cs. mods n (over_cells cs later) ++ fold_from key_cols ls a d us)
+            (put_first y cells (subst (λ k. T (below_all nat_cmp k cells)) (sym same) bx) ∙ ap (λ k. (k, y.1) ∷ cells) same)
         | Greater ↦ λ p.
             let at_a = add_none a in
             let at_d = add_none d in
@@ -176,10 +215,14 @@ module _ (key_cols : ℕ) (n n' a d : ℕ) (level : n' + d ≡ n + a) where
             lower_here key_cols n n' a d level m u (mods n cells ++ ls) (mods n' later ++ us) (ap columns_meet p)
             ∙ (λ i. entry_at n m ∷ fold_from key_cols (mods n cells ++ ls) (at_a i) (at_d i) (mods n' (y ∷ later) ++ us))
             ∙ ap (λ es. entry_at n m ∷ es) (ih (y ∷ later) h)
-            ∙ sym (ap (λ cs. mods n cs ++ fold_from key_cols ls a d us) (over_past x (put nat_cmp y.0 y.1 cells) later (below_less nat_cmp_total x.0 y.0 later low (first _ _ h))))
+            ∙ sym (ap (λ cs. mods n cs ++ fold_from key_cols ls a d us)
+            (over_past x (put nat_cmp y.0 y.1 cells) later (below_less nat_cmp_total x.0 y.0 later low (first _ _ h))))
       ] refl
 
   -- modifies of both trees are merged by column
-  pub mods_merged : (cells : Cells) (ls us : List Entry) → T (all_after n ls) → T (all_after n' us) → T (is_sorted nat_cmp cells) → (later : Cells) → T (is_sorted nat_cmp later) → AreMerged ls us cells later
-  mods_merged [] ls us hl hu h later g = mods_upper later ls us hl ∙ sym (ap (λ cs. mods n cs ++ fold_from key_cols ls a d us) (over_nothing later g))
-  mods_merged (x ∷ cells) ls us hl hu h later g = merged_cons ls us hl hu x cells (first _ _ h) (mods_merged cells ls us hl hu (second _ _ h)) later g
+  pub mods_merged : (cells : Cells) (ls us : List Entry) → T (all_after n ls) → T (all_after n' us) → T (is_sorted nat_cmp cells)
+      → (later : Cells) → T (is_sorted nat_cmp later) → AreMerged ls us cells later
+  mods_merged [] ls us hl hu h later g =
+      mods_upper later ls us hl ∙ sym (ap (λ cs. mods n cs ++ fold_from key_cols ls a d us) (over_nothing later g))
+  mods_merged (x ∷ cells) ls us hl hu h later g =
+      merged_cons ls us hl hu x cells (first _ _ h) (mods_merged cells ls us hl hu (second _ _ h)) later g

@@ -26,7 +26,8 @@ right_true false b h = cc
 -- ---- tables after commits
 
 -- later commits are after all the earlier ones
-table_with_all-append : (t : Table) (commits later : List Effects) → table_with_all t (commits ++ later) ≡ table_with_all (table_with_all t commits) later
+table_with_all-append : (t : Table) (commits later : List Effects)
+    → table_with_all t (commits ++ later) ≡ table_with_all (table_with_all t commits) later
 table_with_all-append t [] later = refl
 table_with_all-append t (x ∷ commits) later = table_with_all-append (table_with t x) commits later
 
@@ -75,7 +76,8 @@ module _ (schema : Columns) where
   AreCommits-drop t (x ∷ commits) (suc k) h = AreCommits-drop (table_with t x) commits k h.1
 
   -- one more commit is over the table after all of them
-  AreCommits-append : (t : Table) (commits : List Effects) (x : Effects) → AreCommits schema t commits → AreOver schema (table_with_all t commits) x → AreCommits schema t (commits ++ x ∷ [])
+  AreCommits-append : (t : Table) (commits : List Effects) (x : Effects) → AreCommits schema t commits
+      → AreOver schema (table_with_all t commits) x → AreCommits schema t (commits ++ x ∷ [])
   AreCommits-append t [] x h over = (over, tt)
   AreCommits-append t (y ∷ commits) x h over = (h.0, AreCommits-append (table_with t y) commits x h.1 over)
 
@@ -84,9 +86,11 @@ module _ (schema : Columns) where
   over_none t h = record { table = h; effects_are = record { keyed = refl; fitting = refl }; fit = refl }
 
   -- commits leave a table of the schema
-  pub IsTable-table_with_all : LeavesTable schema → (t : Table) (commits : List Effects) → IsTable schema t → AreCommits schema t commits → IsTable schema (table_with_all t commits)
+  pub IsTable-table_with_all : LeavesTable schema → (t : Table) (commits : List Effects) → IsTable schema t
+      → AreCommits schema t commits → IsTable schema (table_with_all t commits)
   IsTable-table_with_all leaves t [] h commits_are = h
-  IsTable-table_with_all leaves t (x ∷ commits) h commits_are = IsTable-table_with_all leaves (table_with t x) commits (leaves t x commits_are.0) commits_are.1
+  IsTable-table_with_all leaves t (x ∷ commits) h commits_are =
+      IsTable-table_with_all leaves (table_with t x) commits (leaves t x commits_are.0) commits_are.1
 
   -- ---- writes in order
 

@@ -25,7 +25,9 @@ use Rattle.model.proofs.WritesLemmas.{follows, done_fits}
 
 -- a table without a key has no more rows
 length-without-le : (key : Key) (t : Table) → length (without key_cmp key t) ≤ length t
-length-without-le key t = omega (arith, length-filter (λ e. not (eq_by_cmp key_cmp key e.0)) t, count_by-le-length (λ e. not (eq_by_cmp key_cmp key e.0)) t)
+length-without-le key t =
+    omega
+    (arith, length-filter (λ e. not (eq_by_cmp key_cmp key e.0)) t, count_by-le-length (λ e. not (eq_by_cmp key_cmp key e.0)) t)
 
 module _ (limit : ℕ) where
   -- a count that isn't at the limit leaves room for one row
@@ -33,7 +35,8 @@ module _ (limit : ℕ) where
   room n h = grind (arith, nat_tests)
 
   -- an insert that is done adds a row where there is room for one
-  insert_within : (found : Option Row) (n : ℕ) (row : Row) → T (is_done (reply_where limit (is_some found) n (Insert row))) → cond (is_some found) n (n + 1) ≤ limit
+  insert_within : (found : Option Row) (n : ℕ) (row : Row) → T (is_done (reply_where limit (is_some found) n (Insert row)))
+      → cond (is_some found) n (n + 1) ≤ limit
   insert_within (Some old) n row done = absurd done
   insert_within None n row done =
       elim (nat_le limit n) as (λ b. nat_le limit n ≡ b → T (is_done (cond b Full Done)) → n + 1 ≤ limit) [
@@ -42,7 +45,10 @@ module _ (limit : ℕ) where
       ] refl done
 
   -- one write that is done, in a table within the limit
-  alter-within : (key_cols : ℕ) (image : Table) (write : Write) → T (is_sorted key_cmp image) → T (is_done (reply_where limit (is_some (row_at image (key_of_write key_cols write))) (length image) write)) → length image ≤ limit → length (alter key_cmp (key_of_write key_cols write) (row_after (effect_of_write write)) image) ≤ limit
+  alter-within : (key_cols : ℕ) (image : Table) (write : Write) → T (is_sorted key_cmp image)
+      → T (is_done (reply_where limit (is_some (row_at image (key_of_write key_cols write))) (length image) write))
+      → length image ≤ limit
+      → length (alter key_cmp (key_of_write key_cols write) (row_after (effect_of_write write)) image) ≤ limit
   alter-within key_cols image (Insert row) h done few =
       let grown = length-put key_cmp key_cmp_total (key_of key_cols row) row image h in
       let within = insert_within (row_at image (key_of key_cols row)) (length image) row done in
@@ -52,10 +58,13 @@ module _ (limit : ℕ) where
       by_row (row_at image key) refl
     where
       -- by the row that stands there
-      by_row : (found : Option Row) → row_at image key ≡ found → length (store key_cmp key (option_map (set_cells ((col, value) ∷ [])) found) image) ≤ limit
+      by_row : (found : Option Row) → row_at image key ≡ found
+          → length (store key_cmp key (option_map (set_cells ((col, value) ∷ [])) found) image) ≤ limit
       by_row None is = omega (arith, few, length-without-le key image)
       by_row (Some row) is =
-          let same = length-put key_cmp key_cmp_total key (set_cells ((col, value) ∷ []) row) image h ∙ ap (λ (o : Option Row). cond (is_some o) (length image) (length image + 1)) is in
+          let same =
+          length-put key_cmp key_cmp_total key (set_cells ((col, value) ∷ []) row) image h
+          ∙ ap (λ (o : Option Row). cond (is_some o) (length image) (length image + 1)) is in
           subst (λ n. n ≤ limit) (sym same) few
 
 module _ (schema : Columns) where
@@ -66,7 +75,8 @@ module _ (schema : Columns) where
       let image : Table = table_with t x in
       let key = key_of_write key_cols write in
       let done : Bool = is_done (reply_to key_cols limit t x write) in
-      elim done as (λ b. done ≡ b → length (table_with t (cond b (alter key_cmp key (composed_effect (effect_of_write write)) x) x)) ≤ limit) [
+      elim done as
+      (λ b. done ≡ b → length (table_with t (cond b (alter key_cmp key (composed_effect (effect_of_write write)) x) x)) ≤ limit) [
         | true ↦ λ is. one_more (passes done is)
         | false ↦ λ is. few
       ] refl
@@ -84,7 +94,9 @@ module _ (schema : Columns) where
       effects_fit = passes (all_fit t x) h.fit
 
       -- a write that is done changes the image at its key alone
-      one_more : T (is_done (reply_to schema.key_cols limit t x write)) → length (table_with t (alter key_cmp (key_of_write schema.key_cols write) (composed_effect (effect_of_write write)) x)) ≤ limit
+      one_more : T (is_done (reply_to schema.key_cols limit t x write))
+          → length (table_with t (alter key_cmp (key_of_write schema.key_cols write) (composed_effect (effect_of_write write)) x))
+          ≤ limit
       one_more done =
           let key_cols = schema.key_cols in
           let image = table_with t x in
@@ -96,7 +108,10 @@ module _ (schema : Columns) where
             x_ascends = x_alone.x_ascends;
             x_fits = x_alone.x_fits;
             f_sorted = tt;
-            f_fits = both (fits (row_at image key) (effect_of_write write)) _ (done_fits key_cols limit t x table_keyed effects_keyed effects_fit (row_at image key) (length image) write done) tt;
+            f_fits =
+                both (fits (row_at image key) (effect_of_write write)) _
+                (done_fits key_cols limit t x table_keyed effects_keyed effects_fit (row_at image key) (length image) write done)
+                tt;
           } in
           subst (λ table. length table ≤ limit) (sym (table_with-composed_effects t x ((key, effect_of_write write) ∷ []) in_turn))
           (alter-within limit key_cols image write (sorted-table_with t x x_alone.table_sorted) done few)

@@ -29,10 +29,13 @@ above_other : (n m : ℕ) → n < m → (m == n) ≡ false
 above_other n m lt = grind (arith, nat_tests)
 
 pub changes_at_here : (n : ℕ) (c : Change) (es : List Entry) → changes_at n (entry_at n c ∷ es) ≡ c ∷ changes_at n es
-changes_at_here n c es = ap (λ b. map (λ (e : Entry). e.change) (cond b (entry_at n c ∷ filter (λ e. e.sid == n) es) (filter (λ e. e.sid == n) es))) (same_number n)
+changes_at_here n c es =
+    ap (λ b. map (λ (e : Entry). e.change) (cond b (entry_at n c ∷ filter (λ e. e.sid == n) es) (filter (λ e. e.sid == n) es)))
+    (same_number n)
 
 pub changes_at_other : (n : ℕ) (e : Entry) (es : List Entry) → (e.sid == n) ≡ false → changes_at n (e ∷ es) ≡ changes_at n es
-changes_at_other n e es h = ap (λ b. map (λ (e : Entry). e.change) (cond b (e ∷ filter (λ e. e.sid == n) es) (filter (λ e. e.sid == n) es))) h
+changes_at_other n e es h =
+    ap (λ b. map (λ (e : Entry). e.change) (cond b (e ∷ filter (λ e. e.sid == n) es) (filter (λ e. e.sid == n) es))) h
 
 -- each entry stands after place n
 abbrev pub all_after : ℕ → List Entry → Bool
@@ -53,7 +56,8 @@ changes_at_after n (e ∷ es) h =
 before_other : (n m : ℕ) → n < m → (n == m) ≡ false
 before_other n m lt = grind (arith, nat_tests)
 
-pub merged_rows_from_past : (n m : ℕ) (c : Change) (base : List Row) (es : List Entry) → n < m → merged_rows_from m base (entry_at n c ∷ es) ≡ merged_rows_from m base es
+pub merged_rows_from_past : (n m : ℕ) (c : Change) (base : List Row) (es : List Entry) → n < m
+    → merged_rows_from m base (entry_at n c ∷ es) ≡ merged_rows_from m base es
 merged_rows_from_past n m c [] es lt = ap inserted_rows (changes_at_other m (entry_at n c) es (before_other n m lt))
 merged_rows_from_past n m c (row ∷ base) es lt =
     let here = changes_at_other m (entry_at n c) es (before_other n m lt) in
@@ -61,7 +65,8 @@ merged_rows_from_past n m c (row ∷ base) es lt =
     λ i. inserted_rows (here i) ++ (left_of row (here i) ++ merged_rows_from_past n (suc m) c base es later i)
 
 -- an insert at the first place comes first
-pub merged_rows_from_insert : (n : ℕ) (new : Row) (base : List Row) (es : List Entry) → merged_rows_from n base (entry_at n (Ins new) ∷ es) ≡ new ∷ merged_rows_from n base es
+pub merged_rows_from_insert : (n : ℕ) (new : Row) (base : List Row) (es : List Entry)
+    → merged_rows_from n base (entry_at n (Ins new) ∷ es) ≡ new ∷ merged_rows_from n base es
 merged_rows_from_insert n new [] es = ap inserted_rows (changes_at_here n (Ins new) es)
 merged_rows_from_insert n new (row ∷ base) es =
     let here = changes_at_here n (Ins new) es in
@@ -69,19 +74,23 @@ merged_rows_from_insert n new (row ∷ base) es =
     λ i. inserted_rows (here i) ++ (left_of row (here i) ++ merged_rows_from_past n (suc n) (Ins new) base es lt i)
 
 -- without entries at the first place its row stands
-pub merged_rows_from_none : (n : ℕ) (row : Row) (base : List Row) (es : List Entry) → T (all_after n es) → merged_rows_from n (row ∷ base) es ≡ row ∷ merged_rows_from (suc n) base es
+pub merged_rows_from_none : (n : ℕ) (row : Row) (base : List Row) (es : List Entry) → T (all_after n es)
+    → merged_rows_from n (row ∷ base) es ≡ row ∷ merged_rows_from (suc n) base es
 merged_rows_from_none n row base es h =
     ap (λ cs. inserted_rows cs ++ (left_of row cs ++ merged_rows_from (suc n) base es)) (changes_at_after n es h)
 
 -- a delete at the first place takes its row away
-pub merged_rows_from_delete : (n : ℕ) (key : Key) (row : Row) (base : List Row) (es : List Entry) → T (all_after n es) → merged_rows_from n (row ∷ base) (entry_at n (Del key) ∷ es) ≡ merged_rows_from (suc n) base es
+pub merged_rows_from_delete : (n : ℕ) (key : Key) (row : Row) (base : List Row) (es : List Entry) → T (all_after n es)
+    → merged_rows_from n (row ∷ base) (entry_at n (Del key) ∷ es) ≡ merged_rows_from (suc n) base es
 merged_rows_from_delete n key row base es h =
     let here = changes_at_here n (Del key) es ∙ ap (λ cs. Del key ∷ cs) (changes_at_after n es h) in
     let lt : n < suc n = omega arith in
     λ i. inserted_rows (here i) ++ (left_of row (here i) ++ merged_rows_from_past n (suc n) (Del key) base es lt i)
 
 -- modifies at the first place change its row's cells
-pub merged_rows_from_modify : (n : ℕ) (cells : Cells) (row : Row) (base : List Row) (es : List Entry) → T (all_after n es) → merged_rows_from n (row ∷ base) (map (λ c. entry_at n (Mod c.0 c.1)) cells ++ es) ≡ set_cells cells row ∷ merged_rows_from (suc n) base es
+pub merged_rows_from_modify : (n : ℕ) (cells : Cells) (row : Row) (base : List Row) (es : List Entry) → T (all_after n es)
+    → merged_rows_from n (row ∷ base) (map (λ c. entry_at n (Mod c.0 c.1)) cells ++ es)
+    ≡ set_cells cells row ∷ merged_rows_from (suc n) base es
 merged_rows_from_modify n [] row base es h = merged_rows_from_none n row base es h
 merged_rows_from_modify n (c ∷ cells) row base es h =
     let rest = map (λ c. entry_at n (Mod c.0 c.1)) cells ++ es in
@@ -111,13 +120,17 @@ rank_past k e t h = ap (λ r. length (cond (is_lt r) (e ∷ filter (λ e. is_lt 
 
 pub rank_below : (k : Key) (t : Table) → T (below_all key_cmp k t) → rank k t ≡ 0
 rank_below k [] h = refl
-rank_below k (e ∷ t) h = ap (λ r. length (cond (is_lt r) (e ∷ filter (λ e. is_lt (key_cmp e.0 k)) t) (filter (λ e. is_lt (key_cmp e.0 k)) t))) (turn_less key_cmp_total k e.0 (less _ (first _ _ h))) ∙ rank_below k t (second _ _ h)
+rank_below k (e ∷ t) h =
+    ap (λ r. length (cond (is_lt r) (e ∷ filter (λ e. is_lt (key_cmp e.0 k)) t) (filter (λ e. is_lt (key_cmp e.0 k)) t)))
+    (turn_less key_cmp_total k e.0 (less _ (first _ _ h)))
+    ∙ rank_below k t (second _ _ h)
 
 move_suc : (n r : ℕ) → n + suc r ≡ suc n + r
 move_suc n r = omega arith
 
 -- past a row with a smaller key than any effect's
-pub canonical_entries_from_past : (n : ℕ) (e : Key × Row) (t : Table) (effects : Effects) → T (below_all key_cmp e.0 effects) → canonical_entries_from n (e ∷ t) effects ≡ canonical_entries_from (suc n) t effects
+pub canonical_entries_from_past : (n : ℕ) (e : Key × Row) (t : Table) (effects : Effects) → T (below_all key_cmp e.0 effects)
+    → canonical_entries_from n (e ∷ t) effects ≡ canonical_entries_from (suc n) t effects
 canonical_entries_from_past n e t [] h = refl
 canonical_entries_from_past n e t (x ∷ effects) h =
     let place = ap (λ m. n + m) (rank_past x.0 e t (less _ (first _ _ h))) ∙ move_suc n (rank x.0 t) in
@@ -141,11 +154,13 @@ pub canonical_entries_from_after : (n m : ℕ) (t : Table) (effects : Effects) �
 canonical_entries_from_after n m t [] lt = tt
 canonical_entries_from_after n m t (e ∷ effects) lt =
     let far : n < m + rank e.0 t = omega arith in
-    after_append n (entries_of (m + rank e.0 t) e.0 e.1) (canonical_entries_from m t effects) (entries_after n (m + rank e.0 t) e.0 e.1 far) (canonical_entries_from_after n m t effects lt)
+    after_append n (entries_of (m + rank e.0 t) e.0 e.1) (canonical_entries_from m t effects)
+    (entries_after n (m + rank e.0 t) e.0 e.1 far) (canonical_entries_from_after n m t effects lt)
 
 -- ---- the law
 
-pub all_fit_past : (e : Key × Row) (t : Table) (effects : Effects) → T (below_all key_cmp e.0 effects) → all_fit (e ∷ t) effects ≡ all_fit t effects
+pub all_fit_past : (e : Key × Row) (t : Table) (effects : Effects) → T (below_all key_cmp e.0 effects)
+    → all_fit (e ∷ t) effects ≡ all_fit t effects
 all_fit_past e t [] h = refl
 all_fit_past e t (x ∷ effects) h =
     let found = find_past key_cmp x.0 e t (below_head key_cmp_total e.0 x effects h) in
@@ -159,17 +174,20 @@ abbrev IsPatchedRight : Table → ℕ → Effects → Type 0
 IsPatchedRight t n effects = merged_rows_from n (rows_of t) (canonical_entries_from n t effects) ≡ rows_of (table_with t effects)
 
 -- an insert before each row
-inserted_first : (n : ℕ) (k : Key) (row : Row) (t : Table) (effects : Effects) → T (below_all key_cmp k t) → T (below_all key_cmp k effects) → IsPatchedRight t n effects → IsPatchedRight t n ((k, effect.Ins row) ∷ effects)
+inserted_first : (n : ℕ) (k : Key) (row : Row) (t : Table) (effects : Effects) → T (below_all key_cmp k t)
+    → T (below_all key_cmp k effects) → IsPatchedRight t n effects → IsPatchedRight t n ((k, effect.Ins row) ∷ effects)
 inserted_first n k row t effects bt be rest =
     let none : rank k t ≡ 0 = rank_below k t bt in
     let here : n + rank k t ≡ n = omega arith in
     ap (λ m. merged_rows_from n (rows_of t) (entry_at m (Ins row) ∷ canonical_entries_from n t effects)) here
     ∙ merged_rows_from_insert n row (rows_of t) (canonical_entries_from n t effects)
     ∙ ap (λ rs. row ∷ rs) rest
-    ∙ sym (ap rows_of (ap (alter_all key_cmp row_after effects) (put_below k row t bt) ∙ alter_all_past key_cmp key_cmp_total row_after effects (k, row) t be))
+    ∙ sym (ap rows_of (ap (alter_all key_cmp row_after effects) (put_below k row t bt)
+    ∙ alter_all_past key_cmp key_cmp_total row_after effects (k, row) t be))
 
 -- only an insert fits where nothing stands
-absent_first : (n : ℕ) (k : Key) (f : Effect) (t : Table) (effects : Effects) → T (fits None f) → T (below_all key_cmp k t) → T (below_all key_cmp k effects) → IsPatchedRight t n effects → IsPatchedRight t n ((k, f) ∷ effects)
+absent_first : (n : ℕ) (k : Key) (f : Effect) (t : Table) (effects : Effects) → T (fits None f) → T (below_all key_cmp k t)
+    → T (below_all key_cmp k effects) → IsPatchedRight t n effects → IsPatchedRight t n ((k, f) ∷ effects)
 absent_first n k (effect.Ins row) t effects fit bt be rest = inserted_first n k row t effects bt be rest
 absent_first n k effect.Del t effects fit bt be rest = absurd fit
 absent_first n k (effect.Mod cells) t effects fit bt be rest = absurd fit
@@ -205,7 +223,8 @@ module _ (e : Key × Row) (t : Table) where
 
     module _ (n : ℕ) (effects : Effects) (be : T (below_all key_cmp e.0 effects)) where
       -- the entries of an effect here, and then those of the others
-      pub canon_here : (f : Effect) → canonical_entries_from n (e ∷ t) ((e.0, f) ∷ effects) ≡ entries_of n e.0 f ++ canonical_entries_from (suc n) t effects
+      pub canon_here : (f : Effect)
+          → canonical_entries_from n (e ∷ t) ((e.0, f) ∷ effects) ≡ entries_of n e.0 f ++ canonical_entries_from (suc n) t effects
       canon_here f =
           let z : n + 0 ≡ n = omega arith in
           let place = ap (λ m. n + m) rank_here ∙ z in
@@ -215,9 +234,13 @@ module _ (e : Key × Row) (t : Table) where
       far = let lt : n < suc n = omega arith in canonical_entries_from_after n (suc n) t effects lt
 
       -- the table after an effect here that leaves a row
-      pub apply_here : (f : Effect) (row : Row) → row_after f (Some e.1) ≡ Some row → table_with (e ∷ t) ((e.0, f) ∷ effects) ≡ (e.0, row) ∷ table_with t effects
+      pub apply_here : (f : Effect) (row : Row) → row_after f (Some e.1) ≡ Some row
+          → table_with (e ∷ t) ((e.0, f) ∷ effects) ≡ (e.0, row) ∷ table_with t effects
       apply_here f row is =
-          let stored = ap (λ old. store key_cmp e.0 (row_after f old) (e ∷ t)) found_here ∙ ap (λ new. store key_cmp e.0 new (e ∷ t)) is ∙ put_here row in
+          let stored =
+          ap (λ old. store key_cmp e.0 (row_after f old) (e ∷ t)) found_here
+          ∙ ap (λ new. store key_cmp e.0 new (e ∷ t)) is
+          ∙ put_here row in
           ap (alter_all key_cmp row_after effects) stored ∙ alter_all_past key_cmp key_cmp_total row_after effects (e.0, row) t be
 
       pub apply_deleted : table_with (e ∷ t) ((e.0, effect.Del) ∷ effects) ≡ table_with t effects
@@ -242,20 +265,25 @@ module _ (e : Key × Row) (t : Table) where
             ∙ sym (ap rows_of (apply_here (effect.Rep row) row refl))
 
 -- all effects above the first row
-patched_past : (n : ℕ) (e : Key × Row) (t : Table) (effects : Effects) → T (below_all key_cmp e.0 effects) → IsPatchedRight t (suc n) effects → IsPatchedRight (e ∷ t) n effects
+patched_past : (n : ℕ) (e : Key × Row) (t : Table) (effects : Effects) → T (below_all key_cmp e.0 effects)
+    → IsPatchedRight t (suc n) effects → IsPatchedRight (e ∷ t) n effects
 patched_past n e t effects be rest =
     let lt : n < suc n = omega arith in
     ap (merged_rows_from n (rows_of (e ∷ t))) (canonical_entries_from_past n e t effects be)
-    ∙ merged_rows_from_none n e.1 (rows_of t) (canonical_entries_from (suc n) t effects) (canonical_entries_from_after n (suc n) t effects lt)
+    ∙ merged_rows_from_none n e.1 (rows_of t) (canonical_entries_from (suc n) t effects)
+    (canonical_entries_from_after n (suc n) t effects lt)
     ∙ ap (λ rs. e.1 ∷ rs) rest
     ∙ sym (ap rows_of (alter_all_past key_cmp key_cmp_total row_after effects e t be))
 
-patched_cons : (e : Key × Row) (t : Table) → T (below_all key_cmp e.0 t) → ((n : ℕ) (effects : Effects) → T (is_sorted key_cmp effects) → T (all_fit t effects) → IsPatchedRight t n effects) → (n : ℕ) (effects : Effects) → T (is_sorted key_cmp effects) → T (all_fit (e ∷ t) effects) → IsPatchedRight (e ∷ t) n effects
+patched_cons : (e : Key × Row) (t : Table) → T (below_all key_cmp e.0 t)
+    → ((n : ℕ) (effects : Effects) → T (is_sorted key_cmp effects) → T (all_fit t effects) → IsPatchedRight t n effects)
+    → (n : ℕ) (effects : Effects) → T (is_sorted key_cmp effects) → T (all_fit (e ∷ t) effects) → IsPatchedRight (e ∷ t) n effects
 patched_cons e t bt rest n [] sorted fit = merged_rows_from_nothing n (rows_of (e ∷ t))
 patched_cons e t bt rest n (x ∷ effects) sorted fit =
     elim (key_cmp x.0 e.0) as (λ r. key_cmp x.0 e.0 ≡ r → IsPatchedRight (e ∷ t) n (x ∷ effects)) [
       | Less ↦ λ p.
-          let bt' : T (below_all key_cmp x.0 (e ∷ t)) = both _ _ (subst (λ r. T (is_lt r)) (sym p) tt) (below_less key_cmp_total x.0 e.0 t p bt) in
+          let bt' : T (below_all key_cmp x.0 (e ∷ t)) =
+          both _ _ (subst (λ r. T (is_lt r)) (sym p) tt) (below_less key_cmp_total x.0 e.0 t p bt) in
           absent_first n x.0 x.1 (e ∷ t) effects
           (subst (λ old. T (fits old x.1)) (find_below key_cmp_total x.0 (e ∷ t) bt') (first _ _ fit))
           bt' (first _ _ sorted) (patched_cons e t bt rest n effects (second _ _ sorted) (second _ _ fit))
@@ -269,15 +297,18 @@ patched_cons e t bt rest n (x ∷ effects) sorted fit =
           x.1 (subst (λ old. T (fits old x.1)) (found_here e t) fit'))
       | Greater ↦ λ p.
           let lt = turn_greater key_cmp_total x.0 e.0 p in
-          let be : T (below_all key_cmp e.0 (x ∷ effects)) = both _ _ (subst (λ r. T (is_lt r)) (sym lt) tt) (below_less key_cmp_total e.0 x.0 effects lt (first _ _ sorted)) in
+          let be : T (below_all key_cmp e.0 (x ∷ effects)) =
+          both _ _ (subst (λ r. T (is_lt r)) (sym lt) tt) (below_less key_cmp_total e.0 x.0 effects lt (first _ _ sorted)) in
           patched_past n e t (x ∷ effects) be (rest (suc n) (x ∷ effects) sorted (subst T (all_fit_past e t (x ∷ effects) be) fit))
     ] refl
 
-patched : (t : Table) → T (is_sorted key_cmp t) → (n : ℕ) (effects : Effects) → T (is_sorted key_cmp effects) → T (all_fit t effects) → IsPatchedRight t n effects
+patched : (t : Table) → T (is_sorted key_cmp t) → (n : ℕ) (effects : Effects) → T (is_sorted key_cmp effects)
+    → T (all_fit t effects) → IsPatchedRight t n effects
 patched [] st n effects sorted fit = patched_nil n effects sorted fit
 patched (e ∷ t) st n effects sorted fit = patched_cons e t (first _ _ st) (patched t (second _ _ st)) n effects sorted fit
 
 -- the rows patched by the entries of effects are those of the table after them
-pub merged_rows-canonical_entries : (t : Table) (effects : Effects) → T (is_sorted key_cmp t) → T (is_sorted key_cmp effects) → T (all_fit t effects) → merged_rows (rows_of t) (canonical_entries t effects) ≡ rows_of (table_with t effects)
+pub merged_rows-canonical_entries : (t : Table) (effects : Effects) → T (is_sorted key_cmp t) → T (is_sorted key_cmp effects)
+    → T (all_fit t effects) → merged_rows (rows_of t) (canonical_entries t effects) ≡ rows_of (table_with t effects)
 merged_rows-canonical_entries t effects st sorted fit =
     ap (merged_rows (rows_of t)) (sym (canonical_entries_from_zero t effects)) ∙ patched t st 0 effects sorted fit

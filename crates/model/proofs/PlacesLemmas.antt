@@ -51,7 +51,8 @@ none_more n = omega arith
 count_inserts : (p : Entry → Bool) (es : List Entry) → length (inserted_rows (map (λ e. e.change) (filter p es))) ≡ counted ins_worth p es
 count_inserts p [] = refl
 count_inserts p (e ∷ es) =
-    elim (p e) as (λ b. length (inserted_rows (map (λ e. e.change) (cond b (e ∷ filter p es) (filter p es)))) ≡ cond b (ins_worth e.change) 0 + counted ins_worth p es) [
+    elim (p e) as (λ b. length (inserted_rows (map (λ e. e.change) (cond b (e ∷ filter p es) (filter p es))))
+    ≡ cond b (ins_worth e.change) 0 + counted ins_worth p es) [
       | true ↦ one_more e.change (map (λ e. e.change) (filter p es)) ∙ ap (λ n. ins_worth e.change + n) (count_inserts p es)
       | false ↦ count_inserts p es ∙ none_more (counted ins_worth p es)
     ]
@@ -59,7 +60,8 @@ count_inserts p (e ∷ es) =
 count_deletes : (p : Entry → Bool) (es : List Entry) → length (deleted_keys (map (λ e. e.change) (filter p es))) ≡ counted del_worth p es
 count_deletes p [] = refl
 count_deletes p (e ∷ es) =
-    elim (p e) as (λ b. length (deleted_keys (map (λ e. e.change) (cond b (e ∷ filter p es) (filter p es)))) ≡ cond b (del_worth e.change) 0 + counted del_worth p es) [
+    elim (p e) as (λ b. length (deleted_keys (map (λ e. e.change) (cond b (e ∷ filter p es) (filter p es))))
+    ≡ cond b (del_worth e.change) 0 + counted del_worth p es) [
       | true ↦ one_gone e.change (map (λ e. e.change) (filter p es)) ∙ ap (λ n. del_worth e.change + n) (count_deletes p es)
       | false ↦ count_deletes p es ∙ none_more (counted del_worth p es)
     ]
@@ -76,11 +78,13 @@ never x w = grind (arith, nat_tests)
 four : (a b c d e f : ℕ) → a ≡ b + c → d ≡ e + f → a + d ≡ (b + e) + (c + f)
 four a b c d e f p q = omega arith
 
-count_next : (worth : Change → ℕ) (m : ℕ) (es : List Entry) → counted worth (λ e. nat_lt e.sid (suc m)) es ≡ counted worth (λ e. nat_lt e.sid m) es + counted worth (λ e. e.sid == m) es
+count_next : (worth : Change → ℕ) (m : ℕ) (es : List Entry)
+    → counted worth (λ e. nat_lt e.sid (suc m)) es ≡ counted worth (λ e. nat_lt e.sid m) es + counted worth (λ e. e.sid == m) es
 count_next worth m [] = refl
 count_next worth m (e ∷ es) = four _ _ _ _ _ _ (below_next e.sid m (worth e.change)) (count_next worth m es)
 
-count_up_to : (worth : Change → ℕ) (m : ℕ) (es : List Entry) → counted worth (λ e. nat_le e.sid m) es ≡ counted worth (λ e. nat_lt e.sid m) es + counted worth (λ e. e.sid == m) es
+count_up_to : (worth : Change → ℕ) (m : ℕ) (es : List Entry)
+    → counted worth (λ e. nat_le e.sid m) es ≡ counted worth (λ e. nat_lt e.sid m) es + counted worth (λ e. e.sid == m) es
 count_up_to worth m [] = refl
 count_up_to worth m (e ∷ es) = four _ _ _ _ _ _ (up_to e.sid m (worth e.change)) (count_up_to worth m es)
 
@@ -96,7 +100,8 @@ left_length row (Ins new ∷ cs) h = left_length row cs h
 left_length row (Del key ∷ cs) h = omega arith
 left_length row (Mod col value ∷ cs) h = left_length (set row col value) cs h
 
-left_first : (row : Row) (cs : List Change) (rest : List Row) → length (deleted_keys cs) ≡ 0 → slice_get (left_of row cs ++ rest) 0 ≡ slice_get (left_of row cs) 0
+left_first : (row : Row) (cs : List Change) (rest : List Row) → length (deleted_keys cs) ≡ 0
+    → slice_get (left_of row cs ++ rest) 0 ≡ slice_get (left_of row cs) 0
 left_first row [] rest h = refl
 left_first row (Ins new ∷ cs) rest h = left_first row cs rest h
 left_first row (Del key ∷ cs) rest h = absurd (omega arith)
@@ -140,7 +145,9 @@ module _ (es : List Entry) (single : (m : ℕ) → length (deleted_keys (changes
       let rest = del_grow (suc n) k s e in
       omega (arith, count_next del_worth n es, single n, here_del n)
 
-  found : (base : List Row) (n k s r : ℕ) → s ≡ n + k → k < length base → length (deleted_keys (changes_at s es)) ≡ 0 → r + (n + ins_below n) + del_below s ≡ (s + ins_below s + ins_here s) + del_below n → slice_get (merged_rows_from n base es) r ≡ row_left (slice_get base k) (changes_at s es)
+  found : (base : List Row) (n k s r : ℕ) → s ≡ n + k → k < length base → length (deleted_keys (changes_at s es)) ≡ 0
+      → r + (n + ins_below n) + del_below s ≡ (s + ins_below s + ins_here s) + del_below n
+      → slice_get (merged_rows_from n base es) r ≡ row_left (slice_get base k) (changes_at s es)
   found [] n k s r is lt kept at_r = absurd (omega arith)
   found (row ∷ base) n zero s r is lt kept at_r =
       let e : s ≡ n = omega arith in
@@ -157,23 +164,45 @@ module _ (es : List Entry) (single : (m : ℕ) → length (deleted_keys (changes
       let i = length (inserted_rows (changes_at n es)) in
       let l = length (left_of row (changes_at n es)) in
       let one = left_length row (changes_at n es) (single n) in
-      let enough : i + l ≤ r = omega (arith, at_r, one, here_ins n, here_del n, count_next ins_worth n es, count_next del_worth n es, ins_grow (suc n) k s e, del_grow (suc n) k s e) in
+      let enough : i + l ≤ r =
+      omega (
+        arith,
+        at_r,
+        one,
+        here_ins n,
+        here_del n,
+        count_next ins_worth n es,
+        count_next del_worth n es,
+        ins_grow (suc n) k s e,
+        del_grow (suc n) k s e,
+      ) in
       let rest : ℕ = r - (i + l) in
       let index : r ≡ i + (l + rest) = omega (arith, enough) in
-      let next : rest + (suc n + ins_below (suc n)) + del_below s ≡ (s + ins_below s + ins_here s) + del_below (suc n) = omega (arith, at_r, enough, one, here_ins n, here_del n, count_next ins_worth n es, count_next del_worth n es) in
+      let next : rest + (suc n + ins_below (suc n)) + del_below s ≡ (s + ins_below s + ins_here s) + del_below (suc n) =
+      omega (arith, at_r, enough, one, here_ins n, here_del n, count_next ins_worth n es, count_next del_worth n es) in
       ap (slice_get (merged_rows_from n (row ∷ base) es)) index
       ∙ skip (inserted_rows (changes_at n es)) (left_of row (changes_at n es) ++ merged_rows_from (suc n) base es) (l + rest)
       ∙ skip (left_of row (changes_at n es)) (merged_rows_from (suc n) base es) rest
       ∙ found base (suc n) k s rest e shorter kept next
 
   -- the row at the position of a base row that isn't deleted is that row, as its changes leave it
-  pub merged_rows-base : (base : List Row) (s : ℕ) → s < length base → length (deleted_keys (changes_at s es)) ≡ 0 → slice_get (merged_rows base es) (rid_of_base es s) ≡ row_left (slice_get base s) (changes_at s es)
+  pub merged_rows-base : (base : List Row) (s : ℕ) → s < length base → length (deleted_keys (changes_at s es)) ≡ 0
+      → slice_get (merged_rows base es) (rid_of_base es s) ≡ row_left (slice_get base s) (changes_at s es)
   merged_rows-base base s lt kept =
       let z : s ≡ 0 + s = omega arith in
       let none_i = count_none ins_worth es in
       let none_d = count_none del_worth es in
       let position : rid_of_base es s + (0 + ins_below 0) + del_below s ≡ (s + ins_below s + ins_here s) + del_below 0 =
-      omega (arith, none_i, none_d, del_grow 0 s s z, count_inserts (λ e. nat_le e.sid s) es, count_deletes (λ e. nat_lt e.sid s) es, count_up_to ins_worth s es) in
+      omega (
+        arith,
+        none_i,
+        none_d,
+        del_grow 0 s s z,
+        count_inserts (λ e. nat_le e.sid s) es,
+        count_deletes (λ e. nat_lt e.sid s) es,
+        count_up_to ins_worth s es,
+      )
+      in
       found base 0 s s (rid_of_base es s) z lt kept position
 
   first_part : {X : Type 0} (xs ys : List X) (i : ℕ) → i < length xs → slice_get (xs ++ ys) i ≡ slice_get xs i
@@ -182,7 +211,9 @@ module _ (es : List Entry) (single : (m : ℕ) → length (deleted_keys (changes
   first_part (x ∷ xs) ys (suc i) h = let lt : i < length xs = omega arith in first_part xs ys i lt
 
   -- the j-th insert of a place
-  found_insert : (base : List Row) (n k s r j : ℕ) → s ≡ n + k → k ≤ length base → j < length (inserted_rows (changes_at s es)) → r + (n + ins_below n) + del_below s ≡ (s + ins_below s + j) + del_below n → slice_get (merged_rows_from n base es) r ≡ slice_get (inserted_rows (changes_at s es)) j
+  found_insert : (base : List Row) (n k s r j : ℕ) → s ≡ n + k → k ≤ length base → j < length (inserted_rows (changes_at s es))
+      → r + (n + ins_below n) + del_below s ≡ (s + ins_below s + j) + del_below n
+      → slice_get (merged_rows_from n base es) r ≡ slice_get (inserted_rows (changes_at s es)) j
   found_insert [] n zero s r j is le lt at_r =
       let e : s ≡ n = omega arith in
       let at_r' = subst (λ m. r + (n + ins_below n) + del_below m ≡ (m + ins_below m + j) + del_below n) e at_r in
@@ -203,21 +234,35 @@ module _ (es : List Entry) (single : (m : ℕ) → length (deleted_keys (changes
       let i = length (inserted_rows (changes_at n es)) in
       let l = length (left_of row (changes_at n es)) in
       let one = left_length row (changes_at n es) (single n) in
-      let enough : i + l ≤ r = omega (arith, at_r, one, here_ins n, here_del n, count_next ins_worth n es, count_next del_worth n es, ins_grow (suc n) k s e, del_grow (suc n) k s e) in
+      let enough : i + l ≤ r =
+      omega (
+        arith,
+        at_r,
+        one,
+        here_ins n,
+        here_del n,
+        count_next ins_worth n es,
+        count_next del_worth n es,
+        ins_grow (suc n) k s e,
+        del_grow (suc n) k s e,
+      ) in
       let rest : ℕ = r - (i + l) in
       let index : r ≡ i + (l + rest) = omega (arith, enough) in
-      let next : rest + (suc n + ins_below (suc n)) + del_below s ≡ (s + ins_below s + j) + del_below (suc n) = omega (arith, at_r, enough, one, here_ins n, here_del n, count_next ins_worth n es, count_next del_worth n es) in
+      let next : rest + (suc n + ins_below (suc n)) + del_below s ≡ (s + ins_below s + j) + del_below (suc n) =
+      omega (arith, at_r, enough, one, here_ins n, here_del n, count_next ins_worth n es, count_next del_worth n es) in
       ap (slice_get (merged_rows_from n (row ∷ base) es)) index
       ∙ skip (inserted_rows (changes_at n es)) (left_of row (changes_at n es) ++ merged_rows_from (suc n) base es) (l + rest)
       ∙ skip (left_of row (changes_at n es)) (merged_rows_from (suc n) base es) rest
       ∙ found_insert base (suc n) k s rest j e shorter lt next
 
   -- the j-th insert of place s stands j rows past the rows before that place
-  pub merged_rows-insert : (base : List Row) (s j : ℕ) → s ≤ length base → j < length (inserted_rows (changes_at s es)) → slice_get (merged_rows base es) ((s + (ins_below s + j)) - del_below s) ≡ slice_get (inserted_rows (changes_at s es)) j
+  pub merged_rows-insert : (base : List Row) (s j : ℕ) → s ≤ length base → j < length (inserted_rows (changes_at s es))
+      → slice_get (merged_rows base es) ((s + (ins_below s + j)) - del_below s) ≡ slice_get (inserted_rows (changes_at s es)) j
   merged_rows-insert base s j le lt =
       let z : s ≡ 0 + s = omega arith in
       let none_i = count_none ins_worth es in
       let none_d = count_none del_worth es in
       let r : ℕ = (s + (ins_below s + j)) - del_below s in
-      let position : r + (0 + ins_below 0) + del_below s ≡ (s + ins_below s + j) + del_below 0 = omega (arith, none_i, none_d, del_grow 0 s s z) in
+      let position : r + (0 + ins_below 0) + del_below s ≡ (s + ins_below s + j) + del_below 0 =
+      omega (arith, none_i, none_d, del_grow 0 s s z) in
       found_insert base 0 s s r j z le lt position

@@ -31,7 +31,8 @@ same_of a b h = grind (arith, nat_tests)
 -- what stands first is at a smaller place, or first at the same one
 first_place : (a b : ℕ) (o : Ordering) → T (is_lt (ordering_then (nat_cmp a b) o)) → (a < b) ⊎ ((a ≡ b) × T (is_lt o))
 first_place a b o h =
-    elim (nat_lt a b) as (λ l. nat_lt a b ≡ l → T (is_lt (ordering_then (cond l Less (cond (a == b) Equal Greater)) o)) → (a < b) ⊎ ((a ≡ b) × T (is_lt o))) [
+    elim (nat_lt a b) as (λ l. nat_lt a b ≡ l → T (is_lt (ordering_then (cond l Less (cond (a == b) Equal Greater)) o))
+    → (a < b) ⊎ ((a ≡ b) × T (is_lt o))) [
       | true ↦ λ is g. inl (lt_of a b is)
       | false ↦ λ is g.
           elim (a == b) as (λ l. (a == b) ≡ l → T (is_lt (ordering_then (cond l Equal Greater) o)) → (a < b) ⊎ ((a ≡ b) × T (is_lt o))) [
@@ -81,12 +82,15 @@ module _ (key_cols : ℕ) where
   none_first key (Mod col value) h = h
 
   -- entries in order after a delete have none at its place
-  after_delete : (m sid : ℕ) (key : Key) (es : List Entry) → sid ≡ m → T (list_all (stands_before (entry_at sid (Del key))) es) → length (deleted_keys (changes_at m es)) ≡ 0
+  after_delete : (m sid : ℕ) (key : Key) (es : List Entry) → sid ≡ m → T (list_all (stands_before (entry_at sid (Del key))) es)
+      → length (deleted_keys (changes_at m es)) ≡ 0
   after_delete m sid key [] is h = refl
   after_delete m sid key (e ∷ es) is h =
       let rest = after_delete m sid key es is (second (stands_before (entry_at sid (Del key)) e) _ h) in
       let place = first_place sid e.sid (change_cmp key_cols (Del key) e.change) (first _ _ h) in
-      elim (e.sid == m) as (λ b. (e.sid == m) ≡ b → length (deleted_keys (map (λ e. e.change) (cond b (e ∷ filter (λ e. e.sid == m) es) (filter (λ e. e.sid == m) es)))) ≡ 0) [
+      elim (e.sid == m) as (λ b. (e.sid == m) ≡ b → length
+      (deleted_keys (map (λ e. e.change) (cond b (e ∷ filter (λ e. e.sid == m) es) (filter (λ e. e.sid == m) es))))
+      ≡ 0) [
         | true ↦ λ same. absurd (apart place (same_of e.sid m same))
         | false ↦ λ same. rest
       ] refl
@@ -101,13 +105,16 @@ module _ (key_cols : ℕ) where
   single_delete [] h m = omega arith
   single_delete (e ∷ es) h m =
       let rest = single_delete es (second (list_all (stands_before e) es) _ h) m in
-      elim (e.sid == m) as (λ b. (e.sid == m) ≡ b → length (deleted_keys (map (λ e. e.change) (cond b (e ∷ filter (λ e. e.sid == m) es) (filter (λ e. e.sid == m) es)))) ≤ 1) [
+      elim (e.sid == m) as (λ b. (e.sid == m) ≡ b → length
+      (deleted_keys (map (λ e. e.change) (cond b (e ∷ filter (λ e. e.sid == m) es) (filter (λ e. e.sid == m) es))))
+      ≤ 1) [
         | true ↦ λ same. with_head e.sid e.change (same_of e.sid m same) (first (list_all (stands_before e) es) _ h) rest
         | false ↦ λ same. rest
       ] refl
     where
       -- by the change at the head
-      with_head : (sid : ℕ) (c : Change) → sid ≡ m → T (list_all (stands_before (entry_at sid c)) es) → length (deleted_keys (changes_at m es)) ≤ 1 → length (deleted_keys (c ∷ changes_at m es)) ≤ 1
+      with_head : (sid : ℕ) (c : Change) → sid ≡ m → T (list_all (stands_before (entry_at sid c)) es)
+          → length (deleted_keys (changes_at m es)) ≤ 1 → length (deleted_keys (c ∷ changes_at m es)) ≤ 1
       with_head sid (Ins row) is g r = r
       with_head sid (Del key) is g r = let none = after_delete m sid key es is g in omega arith
       with_head sid (Mod col value) is g r = r
@@ -126,15 +133,19 @@ module _ (key_cols : ℕ) where
     before_insert e h = by_place (first_place e.sid sid (change_cmp key_cols e.change (Ins row)) h)
       where
         -- by the place of the entry
-        by_place : (e.sid < sid) ⊎ ((e.sid ≡ sid) × T (is_lt (change_cmp key_cols e.change (Ins row)))) → (e.sid < sid) ⊎ ((e.sid ≡ sid) × (del_worth e.change ≡ 0))
+        by_place : (e.sid < sid) ⊎ ((e.sid ≡ sid) × T (is_lt (change_cmp key_cols e.change (Ins row))))
+            → (e.sid < sid) ⊎ ((e.sid ≡ sid) × (del_worth e.change ≡ 0))
         by_place (inl lt) = inl lt
         by_place (inr k) = inr (k.0, not_deleted e.change k.1)
 
     -- no entry after it is below its place
-    counted_after : (worth : Change → ℕ) (es : List Entry) → T (list_all (stands_before (entry_at sid (Ins row))) es) → counted worth (λ e. nat_lt e.sid sid) es ≡ 0
+    counted_after : (worth : Change → ℕ) (es : List Entry) → T (list_all (stands_before (entry_at sid (Ins row))) es)
+        → counted worth (λ e. nat_lt e.sid sid) es ≡ 0
     counted_after worth [] h = refl
     counted_after worth (e ∷ es) h =
-        let head = not_below e.sid sid (worth e.change) (at_or_above (first_place sid e.sid (change_cmp key_cols (Ins row) e.change) (first _ _ h))) in
+        let head =
+        not_below e.sid sid (worth e.change)
+        (at_or_above (first_place sid e.sid (change_cmp key_cols (Ins row) e.change) (first _ _ h))) in
         let rest = counted_after worth es (second (stands_before (entry_at sid (Ins row)) e) _ h) in
         omega (arith, head, rest)
       where
@@ -149,11 +160,15 @@ module _ (key_cols : ℕ) where
       all_with before = before ++ entry_at sid (Ins row) ∷ after
 
       -- where an entry before the insert stands
-      split : (e : Entry) (before : List Entry) → T (are_ordered key_cols (all_with (e ∷ before))) → (e.sid < sid) ⊎ ((e.sid ≡ sid) × (del_worth e.change ≡ 0))
-      split e before h = before_insert e (at_seam (stands_before e) before (entry_at sid (Ins row)) after (first (list_all (stands_before e) (all_with before)) _ h))
+      split : (e : Entry) (before : List Entry) → T (are_ordered key_cols (all_with (e ∷ before)))
+          → (e.sid < sid) ⊎ ((e.sid ≡ sid) × (del_worth e.change ≡ 0))
+      split e before h =
+          before_insert e (at_seam (stands_before e) before (entry_at sid (Ins row)) after
+          (first (list_all (stands_before e) (all_with before)) _ h))
 
       -- the deletes below the place of the insert are those before it
-      deletes_before : (before : List Entry) → T (are_ordered key_cols (all_with before)) → delete_count before ≡ counted del_worth (λ e. nat_lt e.sid sid) (all_with before)
+      deletes_before : (before : List Entry) → T (are_ordered key_cols (all_with before))
+          → delete_count before ≡ counted del_worth (λ e. nat_lt e.sid sid) (all_with before)
       deletes_before [] h =
           let here = below_itself sid 0 in
           let rest = counted_after del_worth after (first _ (are_ordered key_cols after) h) in
@@ -163,12 +178,17 @@ module _ (key_cols : ℕ) where
           one_gone e.change (map (λ e. e.change) before) ∙ by_place (split e before h) rest
         where
           -- by the place of the entry at the head
-          by_place : (e.sid < sid) ⊎ ((e.sid ≡ sid) × (del_worth e.change ≡ 0)) → delete_count before ≡ counted del_worth (λ e. nat_lt e.sid sid) (all_with before) → del_worth e.change + delete_count before ≡ counted del_worth (λ e. nat_lt e.sid sid) (all_with (e ∷ before))
+          by_place : (e.sid < sid) ⊎ ((e.sid ≡ sid) × (del_worth e.change ≡ 0))
+              → delete_count before ≡ counted del_worth (λ e. nat_lt e.sid sid) (all_with before)
+              → del_worth e.change + delete_count before ≡ counted del_worth (λ e. nat_lt e.sid sid) (all_with (e ∷ before))
           by_place (inl lt) rest = omega (arith, rest, is_below e.sid sid (del_worth e.change) lt)
-          by_place (inr k) rest = let le : sid ≤ e.sid = omega (arith, k.0) in omega (arith, rest, k.1, not_below e.sid sid (del_worth e.change) le)
+          by_place (inr k) rest =
+              let le : sid ≤ e.sid = omega (arith, k.0) in omega (arith, rest, k.1, not_below e.sid sid (del_worth e.change) le)
 
       -- the inserts before it are those below its place, and those before it there
-      inserts_before : (before : List Entry) → T (are_ordered key_cols (all_with before)) → insert_count before ≡ counted ins_worth (λ e. nat_lt e.sid sid) (all_with before) + length (inserted_rows (changes_at sid before))
+      inserts_before : (before : List Entry) → T (are_ordered key_cols (all_with before))
+          → insert_count before
+          ≡ counted ins_worth (λ e. nat_lt e.sid sid) (all_with before) + length (inserted_rows (changes_at sid before))
       inserts_before [] h =
           let here = below_itself sid 1 in
           let rest = counted_after ins_worth after (first _ (are_ordered key_cols after) h) in
@@ -178,26 +198,50 @@ module _ (key_cols : ℕ) where
           one_more e.change (map (λ e. e.change) before) ∙ by_place (split e before h) rest
         where
           -- by the place of the entry at the head
-          by_place : (e.sid < sid) ⊎ ((e.sid ≡ sid) × (del_worth e.change ≡ 0)) → insert_count before ≡ counted ins_worth (λ e. nat_lt e.sid sid) (all_with before) + length (inserted_rows (changes_at sid before)) → ins_worth e.change + insert_count before ≡ counted ins_worth (λ e. nat_lt e.sid sid) (all_with (e ∷ before)) + length (inserted_rows (changes_at sid (e ∷ before)))
+          by_place : (e.sid < sid) ⊎ ((e.sid ≡ sid) × (del_worth e.change ≡ 0))
+              → insert_count before
+              ≡ counted ins_worth (λ e. nat_lt e.sid sid) (all_with before) + length (inserted_rows (changes_at sid before))
+              → ins_worth e.change + insert_count before ≡ counted ins_worth (λ e. nat_lt e.sid sid) (all_with (e ∷ before))
+              + length (inserted_rows (changes_at sid (e ∷ before)))
           by_place (inl lt) rest =
-              let apart = ap (λ b. length (inserted_rows (map (λ e. e.change) (cond b (e ∷ filter (λ e. e.sid == sid) before) (filter (λ e. e.sid == sid) before))))) (other_place e.sid sid lt) in
+              let apart =
+              ap (λ b. length (inserted_rows (map (λ e. e.change)
+              (cond b (e ∷ filter (λ e. e.sid == sid) before) (filter (λ e. e.sid == sid) before)))))
+              (other_place e.sid sid lt) in
               omega (arith, rest, apart, is_below e.sid sid (ins_worth e.change) lt)
           by_place (inr k) rest =
               let le : sid ≤ e.sid = omega (arith, k.0) in
-              let here = ap (λ b. length (inserted_rows (map (λ e. e.change) (cond b (e ∷ filter (λ e. e.sid == sid) before) (filter (λ e. e.sid == sid) before))))) (same_place e.sid sid k.0) in
+              let here =
+              ap (λ b. length (inserted_rows (map (λ e. e.change)
+              (cond b (e ∷ filter (λ e. e.sid == sid) before) (filter (λ e. e.sid == sid) before)))))
+              (same_place e.sid sid k.0) in
               omega (arith, rest, here, one_more e.change (changes_at sid before), not_below e.sid sid (ins_worth e.change) le)
 
       -- its row follows those that are inserted before it at its place
-      row_there : (before : List Entry) → slice_get (inserted_rows (changes_at sid (all_with before))) (length (inserted_rows (changes_at sid before))) ≡ Some row
-      row_there [] = ap (λ b. slice_get (inserted_rows (map (λ e. e.change) (cond b (entry_at sid (Ins row) ∷ filter (λ e. e.sid == sid) after) (filter (λ e. e.sid == sid) after)))) 0) (same_place sid sid refl)
+      row_there : (before : List Entry)
+          → slice_get (inserted_rows (changes_at sid (all_with before))) (length (inserted_rows (changes_at sid before)))
+          ≡ Some row
+      row_there [] =
+          ap (λ b. slice_get (inserted_rows (map (λ e. e.change)
+          (cond b (entry_at sid (Ins row) ∷ filter (λ e. e.sid == sid) after) (filter (λ e. e.sid == sid) after)))) 0)
+          (same_place sid sid refl)
       row_there (e ∷ before) =
-          elim (e.sid == sid) as (λ b. slice_get (inserted_rows (map (λ e. e.change) (cond b (e ∷ filter (λ e. e.sid == sid) (all_with before)) (filter (λ e. e.sid == sid) (all_with before))))) (length (inserted_rows (map (λ e. e.change) (cond b (e ∷ filter (λ e. e.sid == sid) before) (filter (λ e. e.sid == sid) before))))) ≡ Some row) [
+          elim (e.sid == sid) as (λ b. slice_get (inserted_rows (map (λ e. e.change)
+          (cond b (e ∷ filter (λ e. e.sid == sid) (all_with before)) (filter (λ e. e.sid == sid) (all_with before)))))
+          (length (inserted_rows
+          (map (λ e. e.change) (cond b (e ∷ filter (λ e. e.sid == sid) before) (filter (λ e. e.sid == sid) before)))))
+          ≡ Some row) [
             | true ↦ past e.change (row_there before)
             | false ↦ row_there before
           ]
         where
           -- the change at the head moves the row and the count alike
-          past : (c : Change) → slice_get (inserted_rows (changes_at sid (all_with before))) (length (inserted_rows (changes_at sid before))) ≡ Some row → slice_get (inserted_rows (c ∷ changes_at sid (all_with before))) (length (inserted_rows (c ∷ changes_at sid before))) ≡ Some row
+          past : (c : Change)
+              → slice_get (inserted_rows (changes_at sid (all_with before))) (length (inserted_rows (changes_at sid before)))
+              ≡ Some row
+              → slice_get (inserted_rows (c ∷ changes_at sid (all_with before)))
+              (length (inserted_rows (c ∷ changes_at sid before)))
+              ≡ Some row
           past (Ins other) h = h
           past (Del key) h = h
           past (Mod col value) h = h

@@ -32,39 +32,53 @@ swap_in : (a b n m : ℕ) → m ≡ b + n → a + m ≡ b + (a + n)
 swap_in a b n m e = omega arith
 
 module _ (k j : Key) where
-  rank-put : (row : Row) (t : Table) → T (is_sorted key_cmp t) → rank k (put key_cmp j row t) ≡ cond (is_some (row_at t j)) 0 (one_if (is_below j k)) + rank k t
+  rank-put : (row : Row) (t : Table) → T (is_sorted key_cmp t)
+      → rank k (put key_cmp j row t) ≡ cond (is_some (row_at t j)) 0 (one_if (is_below j k)) + rank k t
   rank-put row [] h = rank-cons k (j, row) []
   rank-put row (e ∷ t) h =
-      elim (key_cmp j e.0) as (λ r. key_cmp j e.0 ≡ r → rank k (by_order r ((j, row) ∷ e ∷ t) ((e.0, row) ∷ t) (e ∷ put key_cmp j row t)) ≡ cond (is_some (cond (is_eq r) (Some e.1) (row_at t j))) 0 (one_if (is_below j k)) + rank k (e ∷ t)) [
+      elim (key_cmp j e.0) as
+      (λ r. key_cmp j e.0 ≡ r → rank k (by_order r ((j, row) ∷ e ∷ t) ((e.0, row) ∷ t) (e ∷ put key_cmp j row t))
+      ≡ cond (is_some (cond (is_eq r) (Some e.1) (row_at t j))) 0 (one_if (is_below j k)) + rank k (e ∷ t)) [
         | Less ↦ λ p.
             rank-cons k (j, row) (e ∷ t)
-            ∙ ap (λ (o : Option Row). cond (is_some o) 0 (one_if (is_below j k)) + rank k (e ∷ t)) (sym (find_below key_cmp_total j t (below j e.0 t p (first _ _ h))))
+            ∙ ap (λ (o : Option Row). cond (is_some o) 0 (one_if (is_below j k)) + rank k (e ∷ t))
+            (sym (find_below key_cmp_total j t (below j e.0 t p (first _ _ h))))
         | Equal ↦ λ p. rank-cons k (e.0, row) t ∙ sym (rank-cons k e t) ∙ none_more (rank k (e ∷ t))
         | Greater ↦ λ p.
             rank-cons k e (put key_cmp j row t)
-            ∙ swap_in (one_if (is_below e.0 k)) (cond (is_some (row_at t j)) 0 (one_if (is_below j k))) (rank k t) _ (rank-put row t (second _ _ h))
+            ∙ swap_in (one_if (is_below e.0 k)) (cond (is_some (row_at t j)) 0 (one_if (is_below j k))) (rank k t) _
+            (rank-put row t (second _ _ h))
             ∙ ap (λ n. cond (is_some (row_at t j)) 0 (one_if (is_below j k)) + n) (sym (rank-cons k e t))
       ] refl
     where
       below : (x y : Key) (t : Table) → key_cmp x y ≡ Less → T (below_all key_cmp y t) → T (below_all key_cmp x t)
       below x y [] p h = tt
-      below x y (e ∷ t) p h = both _ _ (subst (λ r. T (is_lt r)) (sym (key_cmp_total.trans x y e.0 p (less _ (first _ _ h)))) tt) (below x y t p (second _ _ h))
+      below x y (e ∷ t) p h =
+          both _ _ (subst (λ r. T (is_lt r)) (sym (key_cmp_total.trans x y e.0 p (less _ (first _ _ h)))) tt)
+          (below x y t p (second _ _ h))
 
-  rank-without : (t : Table) → T (is_sorted key_cmp t) → cond (is_some (row_at t j)) (one_if (is_below j k)) 0 + rank k (without key_cmp j t) ≡ rank k t
+  rank-without : (t : Table) → T (is_sorted key_cmp t)
+      → cond (is_some (row_at t j)) (one_if (is_below j k)) 0 + rank k (without key_cmp j t) ≡ rank k t
   rank-without [] h = refl
   rank-without (e ∷ t) h =
-      elim (key_cmp j e.0) as (λ r. key_cmp j e.0 ≡ r → cond (is_some (cond (is_eq r) (Some e.1) (row_at t j))) (one_if (is_below j k)) 0 + rank k (cond (not (is_eq r)) (e ∷ without key_cmp j t) (without key_cmp j t)) ≡ rank k (e ∷ t)) [
+      elim (key_cmp j e.0) as
+      (λ r. key_cmp j e.0 ≡ r → cond (is_some (cond (is_eq r) (Some e.1) (row_at t j))) (one_if (is_below j k)) 0
+      + rank k (cond (not (is_eq r)) (e ∷ without key_cmp j t) (without key_cmp j t))
+      ≡ rank k (e ∷ t)) [
         | Less ↦ λ p.
             ap (λ n. cond (is_some (row_at t j)) (one_if (is_below j k)) 0 + n) (rank-cons k e (without key_cmp j t))
-            ∙ sym (swap_in (one_if (is_below e.0 k)) (cond (is_some (row_at t j)) (one_if (is_below j k)) 0) (rank k (without key_cmp j t)) _ (sym (rank-without t (second _ _ h))))
+            ∙ sym (swap_in (one_if (is_below e.0 k)) (cond (is_some (row_at t j)) (one_if (is_below j k)) 0)
+            (rank k (without key_cmp j t)) _ (sym (rank-without t (second _ _ h))))
             ∙ sym (rank-cons k e t)
         | Equal ↦ λ p.
             let same = key_cmp-IsAntisymmetric j e.0 p in
-            (λ i. one_if (is_below (same i) k) + rank k (without_below key_cmp_total j t (below_tied key_cmp key_cmp_total j e.0 t p (first _ _ h)) i))
+            (λ i. one_if (is_below (same i) k)
+            + rank k (without_below key_cmp_total j t (below_tied key_cmp key_cmp_total j e.0 t p (first _ _ h)) i))
             ∙ sym (rank-cons k e t)
         | Greater ↦ λ p.
             ap (λ n. cond (is_some (row_at t j)) (one_if (is_below j k)) 0 + n) (rank-cons k e (without key_cmp j t))
-            ∙ sym (swap_in (one_if (is_below e.0 k)) (cond (is_some (row_at t j)) (one_if (is_below j k)) 0) (rank k (without key_cmp j t)) _ (sym (rank-without t (second _ _ h))))
+            ∙ sym (swap_in (one_if (is_below e.0 k)) (cond (is_some (row_at t j)) (one_if (is_below j k)) 0)
+            (rank k (without key_cmp j t)) _ (sym (rank-without t (second _ _ h))))
             ∙ sym (rank-cons k e t)
       ] refl
 
@@ -87,7 +101,9 @@ sum_below count k [] = 0
 sum_below count k (e ∷ effects) = cond (is_below e.0 k) (count e.1) 0 + sum_below count k effects
 
 -- one effect moves the rank of each greater key
-rank-alter : (k j : Key) (f : Effect) (t : Table) (old : Option Row) → row_at t j ≡ old → T (is_sorted key_cmp t) → T (fits old f) → cond (is_below j k) (deletes_of f) 0 + rank k (alter key_cmp j (row_after f) t) ≡ cond (is_below j k) (inserts_of f) 0 + rank k t
+rank-alter : (k j : Key) (f : Effect) (t : Table) (old : Option Row) → row_at t j ≡ old → T (is_sorted key_cmp t) → T (fits old f)
+    → cond (is_below j k) (deletes_of f) 0 + rank k (alter key_cmp j (row_after f) t)
+    ≡ cond (is_below j k) (inserts_of f) 0 + rank k t
 rank-alter k j (Ins row) t None is h fit =
     let here = rank-put k j row t h ∙ ap (λ (o : Option Row). cond (is_some o) 0 (one_if (is_below j k)) + rank k t) is in
     nothing (is_below j k) _ ∙ here
@@ -98,7 +114,9 @@ rank-alter k j (Ins row) t None is h fit =
 rank-alter k j (Ins row) t (Some r) is h fit = absurd fit
 rank-alter k j Del t None is h fit = absurd fit
 rank-alter k j Del t (Some r) is h fit =
-    let here = ap (λ (o : Option Row). cond (is_some o) (one_if (is_below j k)) 0 + rank k (without key_cmp j t)) (sym is) ∙ rank-without k j t h in
+    let here =
+    ap (λ (o : Option Row). cond (is_some o) (one_if (is_below j k)) 0 + rank k (without key_cmp j t)) (sym is)
+    ∙ rank-without k j t h in
     here ∙ sym (nothing (is_below j k) _)
   where
     nothing : (b : Bool) (n : ℕ) → cond b 0 0 + n ≡ n
@@ -107,13 +125,18 @@ rank-alter k j Del t (Some r) is h fit =
 rank-alter k j (Mod cells) t None is h fit = absurd fit
 rank-alter k j (Mod cells) t (Some r) is h fit =
     (λ i. cond (is_below j k) 0 0 + rank k (store key_cmp j (option_map (set_cells cells) (is i)) t))
-    ∙ ap (λ n. cond (is_below j k) 0 0 + n) (rank-put k j (set_cells cells r) t h ∙ ap (λ (o : Option Row). cond (is_some o) 0 (one_if (is_below j k)) + rank k t) is ∙ sym (none_more (rank k t)))
+    ∙ ap (λ n. cond (is_below j k) 0 0 + n) (rank-put k j (set_cells cells r) t h
+    ∙ ap (λ (o : Option Row). cond (is_some o) 0 (one_if (is_below j k)) + rank k t) is
+    ∙ sym (none_more (rank k t)))
 rank-alter k j (Rep row) t None is h fit = absurd fit
 rank-alter k j (Rep row) t (Some r) is h fit =
-    ap (λ n. cond (is_below j k) 1 0 + n) (rank-put k j row t h ∙ ap (λ (o : Option Row). cond (is_some o) 0 (one_if (is_below j k)) + rank k t) is ∙ sym (none_more (rank k t)))
+    ap (λ n. cond (is_below j k) 1 0 + n) (rank-put k j row t h
+    ∙ ap (λ (o : Option Row). cond (is_some o) 0 (one_if (is_below j k)) + rank k t) is
+    ∙ sym (none_more (rank k t)))
 
 -- an effect on a smaller key changes nothing of what fits
-pub fits_other : (j : Key) (g : Option Row → Option Row) (t : Table) (effects : Effects) → T (below_all key_cmp j effects) → all_fit (alter key_cmp j g t) effects ≡ all_fit t effects
+pub fits_other : (j : Key) (g : Option Row → Option Row) (t : Table) (effects : Effects) → T (below_all key_cmp j effects)
+    → all_fit (alter key_cmp j g t) effects ≡ all_fit t effects
 fits_other j g t [] h = refl
 fits_other j g t (e ∷ effects) h =
     let apart = below_head key_cmp_total j e effects h in
@@ -124,10 +147,14 @@ add_up : (d e i j n m r : ℕ) → e + n ≡ j + m → d + m ≡ i + r → (d + 
 add_up d e i j n m r p q = omega arith
 
 -- effects move a rank by their inserts less their deletes on smaller keys
-pub rank-table_with : (k : Key) (t : Table) (effects : Effects) → T (is_sorted key_cmp t) → T (is_sorted key_cmp effects) → T (all_fit t effects) → sum_below deletes_of k effects + rank k (table_with t effects) ≡ sum_below inserts_of k effects + rank k t
+pub rank-table_with : (k : Key) (t : Table) (effects : Effects) → T (is_sorted key_cmp t) → T (is_sorted key_cmp effects)
+    → T (all_fit t effects)
+    → sum_below deletes_of k effects + rank k (table_with t effects) ≡ sum_below inserts_of k effects + rank k t
 rank-table_with k t [] ht h fit = refl
 rank-table_with k t (e ∷ effects) ht h fit =
     let after = alter key_cmp e.0 (row_after e.1) t in
-    add_up (cond (is_below e.0 k) (deletes_of e.1) 0) (sum_below deletes_of k effects) (cond (is_below e.0 k) (inserts_of e.1) 0) (sum_below inserts_of k effects) (rank k (table_with after effects)) (rank k after) (rank k t)
-    (rank-table_with k after effects (sorted-alter key_cmp key_cmp_total e.0 (row_after e.1) t ht) (second _ _ h) (subst T (sym (fits_other e.0 (row_after e.1) t effects (first _ _ h))) (second _ _ fit)))
+    add_up (cond (is_below e.0 k) (deletes_of e.1) 0) (sum_below deletes_of k effects) (cond (is_below e.0 k) (inserts_of e.1) 0)
+    (sum_below inserts_of k effects) (rank k (table_with after effects)) (rank k after) (rank k t)
+    (rank-table_with k after effects (sorted-alter key_cmp key_cmp_total e.0 (row_after e.1) t ht) (second _ _ h)
+    (subst T (sym (fits_other e.0 (row_after e.1) t effects (first _ _ h))) (second _ _ fit)))
     (rank-alter k e.0 e.1 t (row_at t e.0) refl ht (first _ _ fit))

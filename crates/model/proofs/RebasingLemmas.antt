@@ -46,10 +46,12 @@ rank-le j k (e ∷ t) p =
 pub rank-lt : (j k : Key) (t : Table) → key_cmp j k ≡ Less → T (is_some (row_at t j)) → rank j t < rank k t
 rank-lt j k [] p h = absurd h
 rank-lt j k (e ∷ t) p h =
-    elim (eq_by_cmp key_cmp j e.0) as (λ b. eq_by_cmp key_cmp j e.0 ≡ b → T (is_some (cond b (Some e.1) (row_at t j))) → rank j (e ∷ t) < rank k (e ∷ t)) [
+    elim (eq_by_cmp key_cmp j e.0) as
+    (λ b. eq_by_cmp key_cmp j e.0 ≡ b → T (is_some (cond b (Some e.1) (row_at t j))) → rank j (e ∷ t) < rank k (e ∷ t)) [
       | true ↦ λ q _.
           let same = key_cmp-IsAntisymmetric j e.0 (equal _ (subst T (sym q) tt)) in
-          let low : one_if (is_below e.0 j) ≡ 0 = ap (λ x. one_if (is_below x j)) (sym same) ∙ ap (λ r. one_if (is_lt r)) (tied_itself key_cmp_total j) in
+          let low : one_if (is_below e.0 j) ≡ 0 =
+          ap (λ x. one_if (is_below x j)) (sym same) ∙ ap (λ r. one_if (is_lt r)) (tied_itself key_cmp_total j) in
           let high : one_if (is_below e.0 k) ≡ 1 = ap (λ x. one_if (is_below x k)) (sym same) ∙ ap (λ r. one_if (is_lt r)) p in
           let rest = rank-le j k t p in
           omega (arith, rank-cons j e t, rank-cons k e t)
@@ -96,18 +98,23 @@ module _ (key_cols : ℕ) (t : Table) where
   is_placed k (Del key) = is_some (row_at t k)
   is_placed k (Mod col value) = is_some (row_at t k)
 
-  first_test : (j k : Key) (row other : Row) → T (eq_by_cmp key_cmp j (key_of key_cols row)) → T (eq_by_cmp key_cmp k (key_of key_cols other)) → stands_first key_cols (Ins row) (Ins other) ≡ is_below j k
+  first_test : (j k : Key) (row other : Row) → T (eq_by_cmp key_cmp j (key_of key_cols row))
+      → T (eq_by_cmp key_cmp k (key_of key_cols other)) → stands_first key_cols (Ins row) (Ins other) ≡ is_below j k
   first_test j k row other p q =
       let left = sym (same_keys j (key_of key_cols row) p) in
       let right = sym (same_keys k (key_of key_cols other) q) in
       λ i. is_below (left i) (right i)
 
   -- an insert of another key stands before a placed change where its key is smaller
-  insert_test : (j k : Key) (row : Row) (c : Change) → T (eq_by_cmp key_cmp j (key_of key_cols row)) → T (is_placed k c) → (T (eq_by_cmp key_cmp k j) → ⊥) → inserts_before key_cols (entry_at (rank k t) c) (entry_at (rank j t) (Ins row)) ≡ is_below j k
+  insert_test : (j k : Key) (row : Row) (c : Change) → T (eq_by_cmp key_cmp j (key_of key_cols row)) → T (is_placed k c)
+      → (T (eq_by_cmp key_cmp k j) → ⊥)
+      → inserts_before key_cols (entry_at (rank k t) c) (entry_at (rank j t) (Ins row)) ≡ is_below j k
   insert_test j k row c p here other =
-      elim (key_cmp j k) as (λ r. key_cmp j k ≡ r → inserts_before key_cols (entry_at (rank k t) c) (entry_at (rank j t) (Ins row)) ≡ is_lt r) [
+      elim (key_cmp j k) as
+      (λ r. key_cmp j k ≡ r → inserts_before key_cols (entry_at (rank k t) c) (entry_at (rank j t) (Ins row)) ≡ is_lt r) [
         | Less ↦ λ q. up_test (rank j t) (rank k t) (stands_first key_cols (Ins row) c) (rank-le j k t q) (above c here q)
-        | Equal ↦ λ q. absurd (other (subst (λ x. T (eq_by_cmp key_cmp k x)) (sym (key_cmp-IsAntisymmetric j k q)) (subst (λ r. T (is_eq r)) (sym (tied_itself key_cmp_total k)) tt)))
+        | Equal ↦ λ q. absurd (other (subst (λ x. T (eq_by_cmp key_cmp k x)) (sym (key_cmp-IsAntisymmetric j k q))
+            (subst (λ r. T (is_eq r)) (sym (tied_itself key_cmp_total k)) tt)))
         | Greater ↦ λ q. under c here q
       ] refl
     where
@@ -116,17 +123,23 @@ module _ (key_cols : ℕ) (t : Table) where
       above (Del key) here q = refl
       above (Mod col value) here q = refl
 
-      under : (c : Change) → T (is_placed k c) → key_cmp j k ≡ Greater → inserts_before key_cols (entry_at (rank k t) c) (entry_at (rank j t) (Ins row)) ≡ false
-      under (Ins new) here q = level_test (rank j t) (rank k t) (stands_first key_cols (Ins row) (Ins new)) (rank-le k j t (turn_greater key_cmp_total j k q)) (first_test j k row new p here ∙ ap is_lt q)
+      under : (c : Change) → T (is_placed k c) → key_cmp j k ≡ Greater
+          → inserts_before key_cols (entry_at (rank k t) c) (entry_at (rank j t) (Ins row)) ≡ false
+      under (Ins new) here q =
+          level_test (rank j t) (rank k t) (stands_first key_cols (Ins row) (Ins new))
+          (rank-le k j t (turn_greater key_cmp_total j k q)) (first_test j k row new p here ∙ ap is_lt q)
       under (Del key) here q = down_test (rank j t) (rank k t) true (rank-lt k j t (turn_greater key_cmp_total j k q) here)
       under (Mod col value) here q = down_test (rank j t) (rank k t) true (rank-lt k j t (turn_greater key_cmp_total j k q) here)
 
   -- and so does a delete
-  delete_test : (j k : Key) (c : Change) → T (is_some (row_at t j)) → deletes_before key_cols (entry_at (rank k t) c) (entry_at (rank j t) (Del j)) ≡ is_below j k
+  delete_test : (j k : Key) (c : Change) → T (is_some (row_at t j))
+      → deletes_before key_cols (entry_at (rank k t) c) (entry_at (rank j t) (Del j)) ≡ is_below j k
   delete_test j k c here =
       elim (key_cmp j k) as (λ r. key_cmp j k ≡ r → nat_lt (rank j t) (rank k t) ≡ is_lt r) [
         | Less ↦ λ q. lt_test (rank j t) (rank k t) (rank-lt j k t q here)
-        | Equal ↦ λ q. let e = ap (λ x. rank x t) (key_cmp-IsAntisymmetric j k q) in let le : rank k t ≤ rank j t = omega arith in ge_test (rank j t) (rank k t) le
+        | Equal ↦ λ q. let e =
+            ap (λ x. rank x t) (key_cmp-IsAntisymmetric j k q) in let le : rank k t
+            ≤ rank j t = omega arith in ge_test (rank j t) (rank k t) le
         | Greater ↦ λ q. ge_test (rank j t) (rank k t) (rank-le k j t (turn_greater key_cmp_total j k q))
       ] refl
 
@@ -172,23 +185,32 @@ module _ (key_cols : ℕ) (t : Table) (k : Key) (c : Change) (here : T (is_place
   apart_of true g h e _ = subst T e h
   apart_of false g h e x = x
 
-  inserts_one : (j : Key) (g : Effect) → T (is_keyed_effect key_cols j g) → T (is_apart j g) → length (filter inserts_p (entries_of (rank j t) j g)) ≡ cond (is_below j k) (inserts_of g) 0
+  inserts_one : (j : Key) (g : Effect) → T (is_keyed_effect key_cols j g) → T (is_apart j g)
+      → length (filter inserts_p (entries_of (rank j t) j g)) ≡ cond (is_below j k) (inserts_of g) 0
   inserts_one j (effect.Ins row) h apart =
-      ap (λ b. length (cond b (entry_at (rank j t) (Ins row) ∷ []) [])) (insert_test key_cols t j k row c h here (apart_of (eq_by_cmp key_cmp k j) false apart refl)) ∙ count_one (is_below j k) (entry_at (rank j t) (Ins row))
+      ap (λ b. length (cond b (entry_at (rank j t) (Ins row) ∷ []) []))
+      (insert_test key_cols t j k row c h here (apart_of (eq_by_cmp key_cmp k j) false apart refl))
+      ∙ count_one (is_below j k) (entry_at (rank j t) (Ins row))
   inserts_one j effect.Del h apart = zero_if (is_below j k)
   inserts_one j (effect.Mod cells) h apart = no_inserts (rank j t) cells ∙ zero_if (is_below j k)
   inserts_one j (effect.Rep row) h apart =
-      ap (λ b. length (cond b (entry_at (rank j t) (Ins row) ∷ []) [])) (insert_test key_cols t j k row c h here (apart_of (eq_by_cmp key_cmp k j) false apart refl)) ∙ count_one (is_below j k) (entry_at (rank j t) (Ins row))
+      ap (λ b. length (cond b (entry_at (rank j t) (Ins row) ∷ []) []))
+      (insert_test key_cols t j k row c h here (apart_of (eq_by_cmp key_cmp k j) false apart refl))
+      ∙ count_one (is_below j k) (entry_at (rank j t) (Ins row))
 
-  deletes_one : (j : Key) (g : Effect) → T (fits (row_at t j) g) → length (filter deletes_p (entries_of (rank j t) j g)) ≡ cond (is_below j k) (deletes_of g) 0
+  deletes_one : (j : Key) (g : Effect) → T (fits (row_at t j) g)
+      → length (filter deletes_p (entries_of (rank j t) j g)) ≡ cond (is_below j k) (deletes_of g) 0
   deletes_one j (effect.Ins row) fit = zero_if (is_below j k)
   deletes_one j effect.Del fit =
-      ap (λ b. length (cond b (entry_at (rank j t) (Del j) ∷ []) [])) (delete_test key_cols t j k c fit) ∙ count_one (is_below j k) (entry_at (rank j t) (Del j))
+      ap (λ b. length (cond b (entry_at (rank j t) (Del j) ∷ []) [])) (delete_test key_cols t j k c fit)
+      ∙ count_one (is_below j k) (entry_at (rank j t) (Del j))
   deletes_one j (effect.Mod cells) fit = no_deletes (rank j t) cells ∙ zero_if (is_below j k)
   deletes_one j (effect.Rep row) fit =
-      ap (λ b. length (cond b (entry_at (rank j t) (Del j) ∷ []) [])) (delete_test key_cols t j k c fit) ∙ count_one (is_below j k) (entry_at (rank j t) (Del j))
+      ap (λ b. length (cond b (entry_at (rank j t) (Del j) ∷ []) [])) (delete_test key_cols t j k c fit)
+      ∙ count_one (is_below j k) (entry_at (rank j t) (Del j))
 
-  inserts_all : (y : Effects) → T (list_all (λ e. is_keyed_effect key_cols e.0 e.1) y) → T (list_all (λ e. is_apart e.0 e.1) y) → length (filter inserts_p (canonical_entries t y)) ≡ sum_below inserts_of k y
+  inserts_all : (y : Effects) → T (list_all (λ e. is_keyed_effect key_cols e.0 e.1) y) → T (list_all (λ e. is_apart e.0 e.1) y)
+      → length (filter inserts_p (canonical_entries t y)) ≡ sum_below inserts_of k y
   inserts_all [] h apart = refl
   inserts_all (e ∷ y) h apart =
       let head = inserts_one e.0 e.1 (first _ _ h) (first _ _ apart) in
@@ -205,12 +227,15 @@ module _ (key_cols : ℕ) (t : Table) (k : Key) (c : Change) (here : T (is_place
   balance : (r r' i d : ℕ) → d + r' ≡ i + r → (r + i) - d ≡ r'
   balance r r' i d e = omega arith
 
-  pub moved_one : (y : Effects) → T (is_sorted key_cmp t) → T (are_keyed_effects key_cols y) → T (all_fit t y) → T (list_all (λ e. is_apart e.0 e.1) y) → rebased_entry key_cols (canonical_entries t y) (entry_at (rank k t) c) ≡ entry_at (rank k (table_with t y)) c
+  pub moved_one : (y : Effects) → T (is_sorted key_cmp t) → T (are_keyed_effects key_cols y) → T (all_fit t y)
+      → T (list_all (λ e. is_apart e.0 e.1) y)
+      → rebased_entry key_cols (canonical_entries t y) (entry_at (rank k t) c) ≡ entry_at (rank k (table_with t y)) c
   moved_one y ht hy fy apart =
       let ins = inserts_all y (second _ _ hy) apart in
       let del = deletes_all y fy in
       (λ i. entry_at ((rank k t + ins i) - del i) c)
-      ∙ ap (λ n. entry_at n c) (balance (rank k t) (rank k (table_with t y)) (sum_below inserts_of k y) (sum_below deletes_of k y) (rank-table_with k t y ht (first _ _ hy) fy))
+      ∙ ap (λ n. entry_at n c) (balance (rank k t) (rank k (table_with t y)) (sum_below inserts_of k y) (sum_below deletes_of k y)
+      (rank-table_with k t y ht (first _ _ hy) fy))
 
 -- ---- effects that don't clash
 
@@ -234,10 +259,12 @@ none_added rule f (Some effect.Del) old p q unclashed = tt
 none_added rule f (Some (effect.Mod c)) old p q unclashed = tt
 
 -- a test of what is found is one of each entry under the key
-pub spread : (p : Effect → Bool) (k : Key) (y : Effects) → T (is_sorted key_cmp y) → T (holds_at p (find key_cmp k y)) → T (list_all (λ e. cond (eq_by_cmp key_cmp k e.0) (p e.1) true) y)
+pub spread : (p : Effect → Bool) (k : Key) (y : Effects) → T (is_sorted key_cmp y) → T (holds_at p (find key_cmp k y))
+    → T (list_all (λ e. cond (eq_by_cmp key_cmp k e.0) (p e.1) true) y)
 spread p k [] h found = tt
 spread p k (e ∷ y) h found =
-    elim (eq_by_cmp key_cmp k e.0) as (λ b. eq_by_cmp key_cmp k e.0 ≡ b → T (holds_at p (cond b (Some e.1) (find key_cmp k y))) → T (cond b (p e.1) true && list_all (λ e. cond (eq_by_cmp key_cmp k e.0) (p e.1) true) y)) [
+    elim (eq_by_cmp key_cmp k e.0) as (λ b. eq_by_cmp key_cmp k e.0 ≡ b → T (holds_at p (cond b (Some e.1) (find key_cmp k y)))
+    → T (cond b (p e.1) true && list_all (λ e. cond (eq_by_cmp key_cmp k e.0) (p e.1) true) y)) [
       | true ↦ λ q g.
           let none = find_below key_cmp_total k y (below_tied key_cmp key_cmp_total k e.0 y (equal _ (subst T (sym q) tt)) (first _ _ h)) in
           both _ _ g (spread p k y (second _ _ h) (subst (λ v. T (holds_at p v)) (sym none) tt))
@@ -252,16 +279,22 @@ right_false : (a b : Bool) → (a || b) ≡ false → b ≡ false
 right_false true b e = cc
 right_false false b e = e
 
-module _ (key_cols : ℕ) (t : Table) (y : Effects) (ht : T (is_sorted key_cmp t)) (hy : T (are_keyed_effects key_cols y)) (fy : T (all_fit t y)) where
+module _ (key_cols : ℕ) (t : Table) (y : Effects) (ht : T (is_sorted key_cmp t)) (hy : T (are_keyed_effects key_cols y))
+    (fy : T (all_fit t y)) where
   module _ (k : Key) (apart : T (list_all (λ e. cond (eq_by_cmp key_cmp k e.0) (adds_none e.1) true) y)) where
-    step : (c : Change) → T (is_placed key_cols t k c) → rebased_entry key_cols (canonical_entries t y) (entry_at (rank k t) c) ≡ entry_at (rank k (table_with t y)) c
+    step : (c : Change) → T (is_placed key_cols t k c)
+        → rebased_entry key_cols (canonical_entries t y) (entry_at (rank k t) c) ≡ entry_at (rank k (table_with t y)) c
     step c here = moved_one key_cols t k c here y ht hy fy apart
 
-    cells_step : (cells : Cells) → T (is_some (row_at t k)) → map (rebased_entry key_cols (canonical_entries t y)) (map (λ c. entry_at (rank k t) (Mod c.0 c.1)) cells) ≡ map (λ c. entry_at (rank k (table_with t y)) (Mod c.0 c.1)) cells
+    cells_step : (cells : Cells) → T (is_some (row_at t k))
+        → map (rebased_entry key_cols (canonical_entries t y)) (map (λ c. entry_at (rank k t) (Mod c.0 c.1)) cells)
+        ≡ map (λ c. entry_at (rank k (table_with t y)) (Mod c.0 c.1)) cells
     cells_step [] here = refl
     cells_step (c ∷ cells) here = let head = step (Mod c.0 c.1) here in let rest = cells_step cells here in λ i. head i ∷ rest i
 
-    effect_step : (f : Effect) → T (is_keyed_effect key_cols k f) → T (fits (row_at t k) f) → map (rebased_entry key_cols (canonical_entries t y)) (entries_of (rank k t) k f) ≡ entries_of (rank k (table_with t y)) k f
+    effect_step : (f : Effect) → T (is_keyed_effect key_cols k f) → T (fits (row_at t k) f)
+        → map (rebased_entry key_cols (canonical_entries t y)) (entries_of (rank k t) k f)
+        ≡ entries_of (rank k (table_with t y)) k f
     effect_step (effect.Ins row) h fit = ap (λ e. e ∷ []) (step (Ins row) h)
     effect_step effect.Del h fit = ap (λ e. e ∷ []) (step (Del k) fit)
     effect_step (effect.Mod cells) h fit = cells_step cells fit
@@ -274,10 +307,13 @@ module _ (key_cols : ℕ) (t : Table) (y : Effects) (ht : T (is_sorted key_cmp t
   all_moved rule (e ∷ x) h fit unclashed =
       let free = left_false (clashes rule e.1 (find key_cmp e.0 y)) _ unclashed in
       let fits_y = each_at key_cmp key_cmp_total key_cmp-IsAntisymmetric (λ k f. fits (row_at t k) f) y fy e.0 in
-      let apart = spread adds_none e.0 y (first _ _ hy) (none_added rule e.1 (find key_cmp e.0 y) (row_at t e.0) (first _ _ fit) fits_y free) in
+      let apart =
+      spread adds_none e.0 y (first _ _ hy)
+      (none_added rule e.1 (find key_cmp e.0 y) (row_at t e.0) (first _ _ fit) fits_y free) in
       let head = effect_step e.0 apart e.1 (first _ _ h) (first _ _ fit) in
       let rest = all_moved rule x (second _ _ h) (second _ _ fit) (right_false (clashes rule e.1 (find key_cmp e.0 y)) _ unclashed) in
-      map-append (rebased_entry key_cols (canonical_entries t y)) (entries_of (rank e.0 t) e.0 e.1) (canonical_entries t x) ∙ λ i. head i ++ rest i
+      map-append (rebased_entry key_cols (canonical_entries t y)) (entries_of (rank e.0 t) e.0 e.1) (canonical_entries t x) ∙ λ i.
+      head i ++ rest i
 
 -- X's entries moved over Y's, where the two don't clash, are X's entries over the table after Y
 pub rebased_entry-canonical_entries : (rule : ConflictRule) (key_cols : ℕ) (t : Table) (x y : Effects) → T (is_sorted key_cmp t) →

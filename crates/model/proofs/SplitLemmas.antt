@@ -31,28 +31,36 @@ module _ (key : Key) where
       ] refl
 
   -- of the effects above such a key none is below the key
-  filter-none_below : (j : Key) (x : Effects) → is_lt (key_cmp j key) ≡ false → T (below_all key_cmp j x) → filter (λ e. is_lt (key_cmp e.0 key)) x ≡ []
+  filter-none_below : (j : Key) (x : Effects) → is_lt (key_cmp j key) ≡ false → T (below_all key_cmp j x)
+      → filter (λ e. is_lt (key_cmp e.0 key)) x ≡ []
   filter-none_below j [] above h = refl
   filter-none_below j (e ∷ x) above h =
-      ap (λ b. cond b (e ∷ filter (λ e. is_lt (key_cmp e.0 key)) x) (filter (λ e. is_lt (key_cmp e.0 key)) x)) (still_above j e.0 above (less _ (first _ _ h)))
+      ap (λ b. cond b (e ∷ filter (λ e. is_lt (key_cmp e.0 key)) x) (filter (λ e. is_lt (key_cmp e.0 key)) x))
+      (still_above j e.0 above (less _ (first _ _ h)))
       ∙ filter-none_below j x above (second (is_lt (key_cmp j e.0)) _ h)
 
   -- and all are kept among the rest
-  filter-all_above : (j : Key) (x : Effects) → is_lt (key_cmp j key) ≡ false → T (below_all key_cmp j x) → filter (λ e. not (is_lt (key_cmp e.0 key))) x ≡ x
+  filter-all_above : (j : Key) (x : Effects) → is_lt (key_cmp j key) ≡ false → T (below_all key_cmp j x)
+      → filter (λ e. not (is_lt (key_cmp e.0 key))) x ≡ x
   filter-all_above j [] above h = refl
   filter-all_above j (e ∷ x) above h =
-      ap (λ b. cond (not b) (e ∷ filter (λ e. not (is_lt (key_cmp e.0 key))) x) (filter (λ e. not (is_lt (key_cmp e.0 key))) x)) (still_above j e.0 above (less _ (first _ _ h)))
+      ap (λ b. cond (not b) (e ∷ filter (λ e. not (is_lt (key_cmp e.0 key))) x) (filter (λ e. not (is_lt (key_cmp e.0 key))) x))
+      (still_above j e.0 above (less _ (first _ _ h)))
       ∙ ap (λ es. e ∷ es) (filter-all_above j x above (second (is_lt (key_cmp j e.0)) _ h))
 
   -- the entries of ascending effects are those of the keys below the key, followed by those of the rest
-  canonical_entries-split : (t : Table) (x : Effects) → T (is_sorted key_cmp x) → canonical_entries t x ≡ canonical_entries t (filter (λ e. is_lt (key_cmp e.0 key)) x) ++ canonical_entries t (filter (λ e. not (is_lt (key_cmp e.0 key))) x)
+  canonical_entries-split : (t : Table) (x : Effects) → T (is_sorted key_cmp x)
+      → canonical_entries t x ≡ canonical_entries t (filter (λ e. is_lt (key_cmp e.0 key)) x)
+      ++ canonical_entries t (filter (λ e. not (is_lt (key_cmp e.0 key))) x)
   canonical_entries-split t [] h = refl
   canonical_entries-split t (e ∷ x) h =
       let here : List Entry = entries_of (rank e.0 t) e.0 e.1 in
       let low : Effects = filter (λ e. is_lt (key_cmp e.0 key)) x in
       let high : Effects = filter (λ e. not (is_lt (key_cmp e.0 key))) x in
-      elim (is_lt (key_cmp e.0 key)) as (λ b. is_lt (key_cmp e.0 key) ≡ b → here ++ canonical_entries t x ≡ canonical_entries t (cond b (e ∷ low) low) ++ canonical_entries t (cond (not b) (e ∷ high) high)) [
-        | true ↦ λ is. ap (λ es. here ++ es) (canonical_entries-split t x (second (below_all key_cmp e.0 x) _ h)) ∙ sym (append_assoc here (canonical_entries t low) (canonical_entries t high))
+      elim (is_lt (key_cmp e.0 key)) as (λ b. is_lt (key_cmp e.0 key) ≡ b → here ++ canonical_entries t x
+      ≡ canonical_entries t (cond b (e ∷ low) low) ++ canonical_entries t (cond (not b) (e ∷ high) high)) [
+        | true ↦ λ is. ap (λ es. here ++ es) (canonical_entries-split t x (second (below_all key_cmp e.0 x) _ h)) ∙ sym
+            (append_assoc here (canonical_entries t low) (canonical_entries t high))
         | false ↦ λ is.
             let none = filter-none_below e.0 x is (first _ (is_sorted key_cmp x) h) in
             let all = filter-all_above e.0 x is (first _ (is_sorted key_cmp x) h) in
@@ -62,7 +70,8 @@ module _ (key : Key) where
 -- the entries of effects split at any key
 pub canonical_entries-at_key : (schema : Columns) → EntriesSplit schema
 canonical_entries-at_key schema t x key h =
-    canonical_entries-split key t x (first _ (list_all (λ e. is_keyed_effect schema.key_cols e.0 e.1) x) (passes (are_keyed_effects schema.key_cols x) h.keyed))
+    canonical_entries-split key t x
+    (first _ (list_all (λ e. is_keyed_effect schema.key_cols e.0 e.1) x) (passes (are_keyed_effects schema.key_cols x) h.keyed))
 
 -- ---- the places of entries
 
@@ -74,7 +83,8 @@ module _ (n m : ℕ) (le : n ≤ m) where
   -- the modifies of a row stand at its place
   cells_placed : (cells : Cells) → All (λ e. e.sid ≤ m) (map (λ c. entry_at n (Mod c.0 c.1)) cells)
   cells_placed [] = All-nil (λ e. e.sid ≤ m)
-  cells_placed (c ∷ cells) = All-cons (λ e. e.sid ≤ m) (entry_at n (Mod c.0 c.1)) (map (λ c. entry_at n (Mod c.0 c.1)) cells) le (cells_placed cells)
+  cells_placed (c ∷ cells) =
+      All-cons (λ e. e.sid ≤ m) (entry_at n (Mod c.0 c.1)) (map (λ c. entry_at n (Mod c.0 c.1)) cells) le (cells_placed cells)
 
   -- the entries of one effect stand at the place of its key
   entries_of-placed : (key : Key) (f : Effect) → All (λ e. e.sid ≤ m) (entries_of n key f)

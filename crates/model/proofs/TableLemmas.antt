@@ -35,5 +35,6 @@ module _ (key_cols : ℕ) where
   all_keyed (r ∷ rs) = both _ _ (subst (λ o. T (is_eq o)) (sym (tied_itself key_cmp_total (key_of key_cols r))) tt) (all_keyed rs)
 
   -- rows in ascending key are those of a lawful table
-  pub is_keyed_table-table_of : (rs : List Row) → T (is_sorted key_cmp (table_of key_cols rs)) → T (is_keyed_table key_cols (table_of key_cols rs))
+  pub is_keyed_table-table_of : (rs : List Row) → T (is_sorted key_cmp (table_of key_cols rs))
+      → T (is_keyed_table key_cols (table_of key_cols rs))
   is_keyed_table-table_of rs h = both _ _ h (all_keyed rs)

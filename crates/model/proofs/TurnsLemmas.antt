@@ -15,9 +15,11 @@ module _ (schema : Columns) (rebases : RebasesEntries schema) where
   pub over-table_with_all : FitsTheNewest schema
   over-table_with_all rule t x [] h commits_are free = h
   over-table_with_all rule t x (y ∷ commits) h commits_are free =
-      elim (conflicts rule x y) as (λ b. conflicts rule x y ≡ b → (b || list_any (conflicts rule x) commits) ≡ false → AreOver schema (table_with_all (table_with t y) commits) x) [
+      elim (conflicts rule x y) as (λ b. conflicts rule x y ≡ b → (b || list_any (conflicts rule x) commits) ≡ false
+      → AreOver schema (table_with_all (table_with t y) commits) x) [
         | true ↦ λ found none. cc
-        | false ↦ λ found none. over-table_with_all rule (table_with t y) x commits (rebases rule t x y h commits_are.0 found).0 commits_are.1 none
+        | false ↦ λ found none. over-table_with_all rule (table_with t y) x commits (rebases rule t x y h commits_are.0 found).0
+            commits_are.1 none
       ] refl free
 
   module _ (finds : ConflictIsFound schema) where
@@ -27,10 +29,14 @@ module _ (schema : Columns) (rebases : RebasesEntries schema) where
     passed_entries-trees_of rule t x (y ∷ commits) h commits_are =
         let xs = canonical_entries t x in
         let ys = canonical_entries t y in
-        let rest : Option (List Entry) = passed_entries rule schema.key_cols (trees_of schema (table_with t y) commits) (rebased_entries schema.key_cols ys xs) in
+        let rest : Option (List Entry) =
+        passed_entries rule schema.key_cols (trees_of schema (table_with t y) commits) (rebased_entries schema.key_cols ys xs)
+        in
         let found : is_some (first_clash rule schema.key_cols xs ys) ≡ conflicts rule x y = finds rule t x y h commits_are.0 in
         ap (λ b. cond b None rest) found
-        ∙ elim (conflicts rule x y) as (λ b. conflicts rule x y ≡ b → cond b None rest ≡ cond (b || list_any (conflicts rule x) commits) None (Some (canonical_entries (table_with_all (table_with t y) commits) x))) [
+        ∙ elim (conflicts rule x y) as
+        (λ b. conflicts rule x y ≡ b → cond b None rest ≡ cond (b || list_any (conflicts rule x) commits) None
+        (Some (canonical_entries (table_with_all (table_with t y) commits) x))) [
           | true ↦ λ is. refl
           | false ↦ λ is.
               let moved = rebases rule t x y h commits_are.0 is in

@@ -233,7 +233,9 @@ three_inserts_keys = refl
 
 -- a commit that another one undid still conflicts
 abbrev undone_by_another : List Record
-undone_by_another = by b 0 (inserting 25) (Committed 1) ∷ by c 1 ((Delete (id 25), Done) ∷ []) (Committed 2) ∷ by a 0 (inserting 25) (Conflict 2) ∷ []
+undone_by_another =
+    by b 0 (inserting 25) (Committed 1) ∷ by c 1 ((Delete (id 25), Done) ∷ []) (Committed 2) ∷ by a 0 (inserting 25) (Conflict 2)
+    ∷ []
 
 a_commit_undone_by_another_still_conflicts : (rule : ConflictRule) → legal (under rule base) undone_by_another
 a_commit_undone_by_another_still_conflicts rule =
@@ -252,7 +254,9 @@ skewed_image = refl
 
 -- an old begin is decided with as many commits since as are kept, and too old with one more
 abbrev old_begins : List Record
-old_begins = by b 0 [] (Committed 1) ∷ by b 1 [] (Committed 2) ∷ by a 0 ((set_qty 30 9, Done) ∷ []) (Committed 3) ∷ by c 0 [] (TooOld 3) ∷ []
+old_begins =
+    by b 0 [] (Committed 1) ∷ by b 1 [] (Committed 2) ∷ by a 0 ((set_qty 30 9, Done) ∷ []) (Committed 3) ∷ by c 0 [] (TooOld 3)
+    ∷ []
 
 an_old_begin_is_decided_or_too_old : legal (record (under ByColumn base) { recent = 2 }) old_begins
 an_old_begin_is_decided_or_too_old = (
@@ -265,7 +269,9 @@ an_old_begin_is_decided_or_too_old = (
 
 -- the row limit holds within a transaction and across transactions
 abbrev at_most_four : List Record
-at_most_four = by a 0 ((Insert (item 40 [] 0), Done) ∷ (Insert (item 41 [] 0), Full) ∷ []) (Committed 1) ∷ by b 0 (inserting 50) (TableFull 1) ∷ []
+at_most_four =
+    by a 0 ((Insert (item 40 [] 0), Done) ∷ (Insert (item 41 [] 0), Full) ∷ []) (Committed 1)
+    ∷ by b 0 (inserting 50) (TableFull 1) ∷ []
 
 the_row_limit_holds_in_and_across_transactions : legal (record (under ByColumn base) { limit = 4 }) at_most_four
 the_row_limit_holds_in_and_across_transactions = (kept (lit≤ tt) (lit≤ tt) refl refl refl, (kept (lit≤ tt) (lit≤ tt) refl refl refl, tt))

@@ -65,7 +65,9 @@ at_the_ghost = (id 16, effect.Ins (new_row 16)) ∷ (id 20, effect.Rep (new_row 
 two_inserts_entries : canonical_entries base two_inserts ≡ entry_at 1 (Ins (new_row 15)) ∷ entry_at 1 (Ins (new_row 18)) ∷ []
 two_inserts_entries = refl
 
-at_the_ghost_entries : canonical_entries base at_the_ghost ≡ entry_at 1 (Ins (new_row 16)) ∷ entry_at 1 (Ins (new_row 20)) ∷ entry_at 1 (Del (id 20)) ∷ []
+at_the_ghost_entries :
+    canonical_entries base at_the_ghost
+    ≡ entry_at 1 (Ins (new_row 16)) ∷ entry_at 1 (Ins (new_row 20)) ∷ entry_at 1 (Del (id 20)) ∷ []
 at_the_ghost_entries = refl
 
 at_the_ghost_keys : keys (table_with base at_the_ghost) ≡ id 10 ∷ id 16 ∷ id 20 ∷ id 30 ∷ []
@@ -75,7 +77,9 @@ serialize_passes_smaller_inserts_alone : rebased_entries key_cols (canonical_ent
     ≡ entry_at 1 (Ins (new_row 15)) ∷ entry_at 2 (Ins (new_row 18)) ∷ []
 serialize_passes_smaller_inserts_alone = refl
 
-serialized_entries_are_canonical : canonical_entries (table_with base at_the_ghost) two_inserts ≡ entry_at 1 (Ins (new_row 15)) ∷ entry_at 2 (Ins (new_row 18)) ∷ []
+serialized_entries_are_canonical :
+    canonical_entries (table_with base at_the_ghost) two_inserts
+    ≡ entry_at 1 (Ins (new_row 15)) ∷ entry_at 2 (Ins (new_row 18)) ∷ []
 serialized_entries_are_canonical = refl
 
 serialized_keys : keys (table_with (table_with base at_the_ghost) two_inserts) ≡ id 10 ∷ id 15 ∷ id 16 ∷ id 18 ∷ id 20 ∷ id 30 ∷ []
@@ -95,7 +99,9 @@ round_the_ghost = (id 15, effect.Ins (new_row 15)) ∷ (id 25, effect.Ins (new_r
 abbrev round_the_ghost_folded : List Entry
 round_the_ghost_folded = entry_at 1 (Ins (new_row 15)) ∷ entry_at 1 (Del (id 20)) ∷ entry_at 2 (Ins (new_row 25)) ∷ []
 
-upper_round_the_ghost : canonical_entries (table_with base (deletes 20)) round_the_ghost ≡ entry_at 1 (Ins (new_row 15)) ∷ entry_at 1 (Ins (new_row 25)) ∷ []
+upper_round_the_ghost :
+    canonical_entries (table_with base (deletes 20)) round_the_ghost
+    ≡ entry_at 1 (Ins (new_row 15)) ∷ entry_at 1 (Ins (new_row 25)) ∷ []
 upper_round_the_ghost = refl
 
 composed_round_the_ghost : composed (deletes 20) round_the_ghost ≡ round_the_ghost_folded

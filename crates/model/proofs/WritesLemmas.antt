@@ -84,10 +84,12 @@ module _ (key_cols : ℕ) where
       let rest : T (is_sorted nat_cmp cells && outside cells) = second (has_cells cells) _ h in
       second (is_sorted nat_cmp cells) _ rest
 
-  keyed : (k : Key) (cells : Cells) (row : Row) → T (outside cells) → T (eq_by_cmp key_cmp k (key_of key_cols row)) → T (eq_by_cmp key_cmp k (key_of key_cols (set_cells cells row)))
+  keyed : (k : Key) (cells : Cells) (row : Row) → T (outside cells) → T (eq_by_cmp key_cmp k (key_of key_cols row))
+      → T (eq_by_cmp key_cmp k (key_of key_cols (set_cells cells row)))
   keyed k cells row h g = subst (λ j. T (eq_by_cmp key_cmp k j)) (sym (key_of-set_cells cells row h)) g
 
-  composed_effect-is_keyed_effect : (k : Key) (f : Effect) (x : Option Effect) → T (is_keyed_effect key_cols k f) → T (holds_at (is_keyed_effect key_cols k) x) → T (holds_at (is_keyed_effect key_cols k) (composed_effect f x))
+  composed_effect-is_keyed_effect : (k : Key) (f : Effect) (x : Option Effect) → T (is_keyed_effect key_cols k f)
+      → T (holds_at (is_keyed_effect key_cols k) x) → T (holds_at (is_keyed_effect key_cols k) (composed_effect f x))
   composed_effect-is_keyed_effect k f None p q = p
   composed_effect-is_keyed_effect k (Ins s) (Some (Ins r)) p q = q
   composed_effect-is_keyed_effect k (Ins s) (Some Del) p q = p
@@ -109,7 +111,8 @@ module _ (key_cols : ℕ) where
   abbrev is_row : Key → Row → Bool
   is_row k row = eq_by_cmp key_cmp k (key_of key_cols row)
 
-  row_after-is_row : (k : Key) (f : Effect) (old : Option Row) → T (is_keyed_effect key_cols k f) → T (holds_at (is_row k) old) → T (holds_at (is_row k) (row_after f old))
+  row_after-is_row : (k : Key) (f : Effect) (old : Option Row) → T (is_keyed_effect key_cols k f) → T (holds_at (is_row k) old)
+      → T (holds_at (is_row k) (row_after f old))
   row_after-is_row k (Ins row) old p q = p
   row_after-is_row k Del old p q = tt
   row_after-is_row k (Mod cells) None p q = tt
@@ -118,18 +121,22 @@ module _ (key_cols : ℕ) where
 
   -- ---- all keys
 
-  maybe_joined : (k : Key) (g x : Option Effect) → T (holds_at (is_keyed_effect key_cols k) g) → T (holds_at (is_keyed_effect key_cols k) x) → T (holds_at (is_keyed_effect key_cols k) (changed_by composed_effect g x))
+  maybe_joined : (k : Key) (g x : Option Effect) → T (holds_at (is_keyed_effect key_cols k) g)
+      → T (holds_at (is_keyed_effect key_cols k) x) → T (holds_at (is_keyed_effect key_cols k) (changed_by composed_effect g x))
   maybe_joined k None x p q = q
   maybe_joined k (Some f) x p q = composed_effect-is_keyed_effect k f x p q
 
-  maybe_changed : (k : Key) (g : Option Effect) (old : Option Row) → T (holds_at (is_keyed_effect key_cols k) g) → T (holds_at (is_row k) old) → T (holds_at (is_row k) (changed_by row_after g old))
+  maybe_changed : (k : Key) (g : Option Effect) (old : Option Row) → T (holds_at (is_keyed_effect key_cols k) g)
+      → T (holds_at (is_row k) old) → T (holds_at (is_row k) (changed_by row_after g old))
   maybe_changed k None old p q = q
   maybe_changed k (Some f) old p q = row_after-is_row k f old p q
 
-  abbrev effect_at : (effects : Effects) → T (are_keyed_effects key_cols effects) → (k : Key) → T (holds_at (is_keyed_effect key_cols k) (find key_cmp k effects))
+  abbrev effect_at : (effects : Effects) → T (are_keyed_effects key_cols effects) → (k : Key)
+      → T (holds_at (is_keyed_effect key_cols k) (find key_cmp k effects))
   effect_at effects h k = each_at key_cmp key_cmp_total key_cmp-IsAntisymmetric (is_keyed_effect key_cols) effects (second _ _ h) k
 
-  pub are_keyed_effects-composed_effects : (x f : Effects) → T (are_keyed_effects key_cols x) → T (are_keyed_effects key_cols f) → T (are_keyed_effects key_cols (composed_effects x f))
+  pub are_keyed_effects-composed_effects : (x f : Effects) → T (are_keyed_effects key_cols x) → T (are_keyed_effects key_cols f)
+      → T (are_keyed_effects key_cols (composed_effects x f))
   are_keyed_effects-composed_effects x f hx hf =
       let sorted = sorted-composed_effects x f (first _ _ hx) in
       both _ _ sorted
@@ -137,7 +144,8 @@ module _ (key_cols : ℕ) where
       (λ k. subst (λ g. T (holds_at (is_keyed_effect key_cols k) g)) (sym (effect_at-composed_effects x f k (first _ _ hf)))
       (maybe_joined k (find key_cmp k f) (find key_cmp k x) (effect_at f hf k) (effect_at x hx k))))
 
-  pub is_keyed_table-table_with : (t : Table) (effects : Effects) → T (is_keyed_table key_cols t) → T (are_keyed_effects key_cols effects) → T (is_keyed_table key_cols (table_with t effects))
+  pub is_keyed_table-table_with : (t : Table) (effects : Effects) → T (is_keyed_table key_cols t)
+      → T (are_keyed_effects key_cols effects) → T (is_keyed_table key_cols (table_with t effects))
   is_keyed_table-table_with t effects ht he =
       let sorted = sorted-table_with t effects (first _ _ ht) in
       both _ _ sorted
@@ -154,12 +162,14 @@ module _ (key_cols : ℕ) where
       first (is_sorted nat_cmp cells) _ rest
   ascends_of k (Rep row) h = tt
 
-  all_ascend : (effects : Effects) → T (list_all (λ e. is_keyed_effect key_cols e.0 e.1) effects) → T (list_all (λ e. cells_ascend e.1) effects)
+  all_ascend : (effects : Effects) → T (list_all (λ e. is_keyed_effect key_cols e.0 e.1) effects)
+      → T (list_all (λ e. cells_ascend e.1) effects)
   all_ascend [] h = tt
   all_ascend (e ∷ effects) h = both _ _ (ascends_of e.0 e.1 (first _ _ h)) (all_ascend effects (second _ _ h))
 
   -- what the laws of two transactions in turn ask for
-  pub follows : (t : Table) (x f : Effects) → T (is_keyed_table key_cols t) → T (are_keyed_effects key_cols x) → T (all_fit t x) → T (are_keyed_effects key_cols f) → T (all_fit (table_with t x) f) → Follows t x f
+  pub follows : (t : Table) (x f : Effects) → T (is_keyed_table key_cols t) → T (are_keyed_effects key_cols x) → T (all_fit t x)
+      → T (are_keyed_effects key_cols f) → T (all_fit (table_with t x) f) → Follows t x f
   follows t x f ht hx fx hf ff = record {
     table_sorted = first _ _ ht;
     x_sorted = first _ _ hx;
@@ -171,7 +181,8 @@ module _ (key_cols : ℕ) where
 
   -- ---- one write
 
-  module _ (limit : ℕ) (t : Table) (effects : Effects) (ht : T (is_keyed_table key_cols t)) (he : T (are_keyed_effects key_cols effects)) (fe : T (all_fit t effects)) where
+  module _ (limit : ℕ) (t : Table) (effects : Effects) (ht : T (is_keyed_table key_cols t))
+      (he : T (are_keyed_effects key_cols effects)) (fe : T (all_fit t effects)) where
     -- the write alone, as effects
     abbrev pub alone : Write → Effects
     alone write = (key_of_write key_cols write, effect_of_write write) ∷ []
@@ -181,7 +192,8 @@ module _ (key_cols : ℕ) where
     alone-are_keyed_effects (Delete key) h = tt
     alone-are_keyed_effects (Set key col value) h = both _ _ (both _ _ h tt) tt
 
-    pub done_fits : (old : Option Row) (count : ℕ) (write : Write) → T (is_done (reply_where limit (is_some old) count write)) → T (fits old (effect_of_write write))
+    pub done_fits : (old : Option Row) (count : ℕ) (write : Write) → T (is_done (reply_where limit (is_some old) count write))
+        → T (fits old (effect_of_write write))
     done_fits None count (Insert row) h = tt
     done_fits (Some r) count (Insert row) h = absurd h
     done_fits None count (Delete key) h = absurd h
@@ -195,10 +207,14 @@ module _ (key_cols : ℕ) where
       pub fit : T (all_fit t effects')
       pub table_is : table_with t effects' ≡ table
 
-    kept_done : (write : Write) → T (sets_no_key key_cols write) → T (is_done (reply_to key_cols limit t effects write)) → IsKept (composed_effects effects (alone write)) (table_with (table_with t effects) (alone write))
+    kept_done : (write : Write) → T (sets_no_key key_cols write) → T (is_done (reply_to key_cols limit t effects write))
+        → IsKept (composed_effects effects (alone write)) (table_with (table_with t effects) (alone write))
     kept_done write hw done =
         let ha = alone-are_keyed_effects write hw in
-        let fa = both _ _ (done_fits (row_at (table_with t effects) (key_of_write key_cols write)) (length (table_with t effects)) write done) tt in
+        let fa =
+        both _ _
+        (done_fits (row_at (table_with t effects) (key_of_write key_cols write)) (length (table_with t effects)) write done)
+        tt in
         let h = follows t effects (alone write) ht he fe ha fa in
         record {
           lawful = are_keyed_effects-composed_effects effects (alone write) he ha;
@@ -207,9 +223,14 @@ module _ (key_cols : ℕ) where
         }
 
     -- a write that is done is the write alone after the effects so far; another leaves them
-    pub write_kept : (write : Write) → T (sets_no_key key_cols write) → IsKept (effects_after key_cols limit t effects write) (cond (is_done (reply_to key_cols limit t effects write)) (table_with (table_with t effects) (alone write)) (table_with t effects))
+    pub write_kept : (write : Write) → T (sets_no_key key_cols write)
+        → IsKept (effects_after key_cols limit t effects write)
+        (cond (is_done (reply_to key_cols limit t effects write)) (table_with (table_with t effects) (alone write))
+        (table_with t effects))
     write_kept write hw =
-        elim (is_done (reply_to key_cols limit t effects write)) as (λ b. is_done (reply_to key_cols limit t effects write) ≡ b → IsKept (cond b (composed_effects effects (alone write)) effects) (cond b (table_with (table_with t effects) (alone write)) (table_with t effects))) [
+        elim (is_done (reply_to key_cols limit t effects write)) as (λ b. is_done (reply_to key_cols limit t effects write) ≡ b
+        → IsKept (cond b (composed_effects effects (alone write)) effects)
+        (cond b (table_with (table_with t effects) (alone write)) (table_with t effects))) [
           | true ↦ λ e. kept_done write hw (subst T (sym e) tt)
           | false ↦ λ e. record { lawful = he; fit = fe; table_is = refl }
         ] refl

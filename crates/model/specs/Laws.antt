@@ -30,7 +30,8 @@ use Rattle.model.specs.History.{table_with_all, table_after, Start, Record, IsLe
 module _ (schema : Columns) where
   -- the entries of effects, merged into the rows of the table, give the rows of the table after them
   abbrev pub MergesToTable : Type 0
-  MergesToTable = (t : Table) (x : Effects) → AreOver schema t x → merged_rows (rows_of t) (canonical_entries t x) ≡ rows_of (table_with t x)
+  MergesToTable =
+      (t : Table) (x : Effects) → AreOver schema t x → merged_rows (rows_of t) (canonical_entries t x) ≡ rows_of (table_with t x)
 
   -- effects leave a table of the schema
   abbrev pub LeavesTable : Type 0
@@ -50,7 +51,9 @@ module _ (schema : Columns) where
 
   -- and writes in order do
   abbrev pub WritesKeep : Type 0
-  WritesKeep = (limit : ℕ) (t : Table) (x : Effects) (writes : List Write) → AreOver schema t x → IsTrue (list_all (write_fits_schema schema) writes) →
+  WritesKeep =
+      (limit : ℕ) (t : Table) (x : Effects) (writes : List Write) → AreOver schema t x
+      → IsTrue (list_all (write_fits_schema schema) writes) →
       AreOver schema t (effects_after_all schema.key_cols limit t x writes)
 
   -- no write takes the image past the row limit
@@ -63,7 +66,8 @@ module _ (schema : Columns) where
   WriteEdits = (limit : ℕ) (t : Table) (x : Effects) (write : Write) → AreOver schema t x →
       let key = key_of_write schema.key_cols write in
       canonical_entries t (effects_after schema.key_cols limit t x write)
-      ≡ cond (is_done (reply_to schema.key_cols limit t x write)) (edited_entries schema.key_cols (rank key t) write (find key_cmp key x) (canonical_entries t x)) (canonical_entries t x)
+      ≡ cond (is_done (reply_to schema.key_cols limit t x write))
+      (edited_entries schema.key_cols (rank key t) write (find key_cmp key x) (canonical_entries t x)) (canonical_entries t x)
 
   -- ---- entries
 
@@ -79,18 +83,23 @@ module _ (schema : Columns) where
   -- they stand in key order: those of the keys below any key, followed by those of the rest
   abbrev pub EntriesSplit : Type 0
   EntriesSplit = (t : Table) (x : Effects) (key : Key) → AreEffects schema x →
-      canonical_entries t x ≡ canonical_entries t (filter (λ e. is_lt (key_cmp e.0 key)) x) ++ canonical_entries t (filter (λ e. not (is_lt (key_cmp e.0 key))) x)
+      canonical_entries t x ≡ canonical_entries t (filter (λ e. is_lt (key_cmp e.0 key)) x)
+      ++ canonical_entries t (filter (λ e. not (is_lt (key_cmp e.0 key))) x)
 
 -- entries in order put each row at its position in the image
 module _ (key_cols : ℕ) where
   -- the row of an insert
   abbrev pub InsertStandsAtRid : Type 0
-  InsertStandsAtRid = (base : List Row) (before after : List Entry) (sid : ℕ) (row : Row) → let entries = before ++ entry_at sid (Ins row) ∷ after in
+  InsertStandsAtRid =
+      (base : List Row) (before after : List Entry) (sid : ℕ) (row : Row)
+      → let entries = before ++ entry_at sid (Ins row) ∷ after in
       IsTrue (are_ordered key_cols entries) → sid ≤ length base → slice_get (merged_rows base entries) (rid_of_insert before sid) ≡ Some row
 
   -- and a base row that isn't deleted, as its modifies leave it
   abbrev pub BaseStandsAtRid : Type 0
-  BaseStandsAtRid = (base : List Row) (entries : List Entry) (sid : ℕ) (row now : Row) → IsTrue (are_ordered key_cols entries) → slice_get base sid ≡ Some row → left_of row (changes_at sid entries) ≡ now ∷ [] →
+  BaseStandsAtRid =
+      (base : List Row) (entries : List Entry) (sid : ℕ) (row now : Row) → IsTrue (are_ordered key_cols entries)
+      → slice_get base sid ≡ Some row → left_of row (changes_at sid entries) ≡ now ∷ [] →
       slice_get (merged_rows base entries) (rid_of_base entries sid) ≡ Some now
 
 module _ (schema : Columns) where
@@ -111,7 +120,8 @@ module _ (schema : Columns) where
   -- entries over a tree's image, folded into the tree, are those of the composed effects
   abbrev pub FoldsToComposed : Type 0
   FoldsToComposed = (t : Table) (x f : Effects) → AreOver schema t x → AreOver schema (table_with t x) f →
-      folded_entries schema.key_cols (canonical_entries t x) (canonical_entries (table_with t x) f) ≡ canonical_entries t (composed_effects x f)
+      folded_entries schema.key_cols (canonical_entries t x) (canonical_entries (table_with t x) f)
+      ≡ canonical_entries t (composed_effects x f)
 
 -- the first clash is one, and the least
 module _ (key_cols : ℕ) where

@@ -33,7 +33,8 @@ columns_clash ByRow col other = true
 module _ (rule : ConflictRule) (key_cols : ℕ) where
   -- how two changes clash, where they stand at one place or not
   abbrev pub clash_of_changes : Bool → Change → Change → Option ClashKind
-  clash_of_changes here (Ins row) (Ins other) = cond (eq_by_cmp key_cmp (key_of key_cols row) (key_of key_cols other)) (Some InsertInsert) None
+  clash_of_changes here (Ins row) (Ins other) =
+      cond (eq_by_cmp key_cmp (key_of key_cols row) (key_of key_cols other)) (Some InsertInsert) None
   clash_of_changes here (Ins row) y = None
   clash_of_changes here x (Ins row) = None
   clash_of_changes here (Del key) (Del other) = cond here (Some DeleteDelete) None

@@ -54,7 +54,8 @@ module _ (key_cols limit : ℕ) (t : Table) where
   -- the effects after a write: where it is done, it comes after what was done to its key
   abbrev pub effects_after : Effects → Write → Effects
   effects_after effects write =
-      cond (is_done (reply_to effects write)) (alter key_cmp (key_of_write key_cols write) (composed_effect (effect_of_write write)) effects) effects
+      cond (is_done (reply_to effects write))
+      (alter key_cmp (key_of_write key_cols write) (composed_effect (effect_of_write write)) effects) effects
 
   -- the replies to writes in order
   abbrev pub replies_to : Effects → List Write → List WriteReply

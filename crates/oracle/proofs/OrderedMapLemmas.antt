@@ -40,7 +40,8 @@ module _ {K : Type 0} (R : K → K → Ordering) where
     pub remove_entry-without : (es : List (K × X)) (k : K) → T (is_sorted R es) → remove_entry (is_at (R k)) es ≡ without R k es
     remove_entry-without [] k h = refl
     remove_entry-without (e ∷ es) k h =
-        elim (R k e.0) as (λ r. R k e.0 ≡ r → cond (is_eq r) es (e ∷ remove_entry (is_at (R k)) es) ≡ cond (not (is_eq r)) (e ∷ without R k es) (without R k es)) [
+        elim (R k e.0) as (λ r. R k e.0 ≡ r → cond (is_eq r) es (e ∷ remove_entry (is_at (R k)) es)
+        ≡ cond (not (is_eq r)) (e ∷ without R k es) (without R k es)) [
           | Less ↦ λ p. ap (λ xs. e ∷ xs) (remove_entry-without es k (second _ _ h))
           | Equal ↦ λ p. sym (without_below o k es (below_tied R o k e.0 es p (first _ _ h)))
           | Greater ↦ λ p. ap (λ xs. e ∷ xs) (remove_entry-without es k (second _ _ h))
@@ -50,7 +51,8 @@ module _ {K : Type 0} (R : K → K → Ordering) where
     pub put-last : (k : K) (v : X) (es rest : List (K × X)) → T (is_sorted R (es ++ (k, v) ∷ rest)) → put R k v es ≡ es ++ (k, v) ∷ []
     put-last k v [] rest h = refl
     put-last k v (e ∷ es) rest h =
-        ap (λ r. by_order r ((k, v) ∷ e ∷ es) ((e.0, v) ∷ es) (e ∷ put R k v es)) (o.antisymm k e.0 ∙ ap ordering_reverse (above es (first _ _ h)))
+        ap (λ r. by_order r ((k, v) ∷ e ∷ es) ((e.0, v) ∷ es) (e ∷ put R k v es))
+        (o.antisymm k e.0 ∙ ap ordering_reverse (above es (first _ _ h)))
         ∙ ap (λ xs. e ∷ xs) (put-last k v es rest (second _ _ h))
       where
         above : (es : List (K × X)) → T (below_all R e.0 (es ++ (k, v) ∷ rest)) → R e.0 k ≡ Less
@@ -68,7 +70,8 @@ module _ {K : Type 0} (R : K → K → Ordering) where
         found (Some x) = refl
 
     -- one more entry of a map that is copied in order
-    pub copied-put : (all copied left rest : List (K × X)) (k : K) (v : X) → T (is_sorted R all) → copied ++ left ≡ all → left ≡ (k, v) ∷ rest → put R k v copied ++ rest ≡ all
+    pub copied-put : (all copied left rest : List (K × X)) (k : K) (v : X) → T (is_sorted R all) → copied ++ left ≡ all
+        → left ≡ (k, v) ∷ rest → put R k v copied ++ rest ≡ all
     copied-put all copied left rest k v h so_far next =
         let whole : copied ++ (k, v) ∷ rest ≡ all = ap (λ es. copied ++ es) (sym next) ∙ so_far in
         ap (λ es. es ++ rest) (put-last k v copied rest (subst (λ es. T (is_sorted R es)) (sym whole) h))

@@ -169,11 +169,14 @@ module _ (key_cols : ℕ) (start : Start) (older : List Table) (commits : List E
     )
 
 -- where each write got the reply that is due, the effects of those that were done are the transaction's
-pub effects_when_all-due : (key_cols limit : ℕ) (t : Table) (effects : Effects) (writes : List (Write × WriteReply)) → GotDueReplies key_cols limit t effects writes
+pub effects_when_all-due : (key_cols limit : ℕ) (t : Table) (effects : Effects) (writes : List (Write × WriteReply))
+    → GotDueReplies key_cols limit t effects writes
     → effects_when_all key_cols effects writes ≡ effects_after_all key_cols limit t effects (map (λ w. w.0) writes)
 effects_when_all-due key_cols limit t effects [] h = refl
 effects_when_all-due key_cols limit t effects (w ∷ writes) h =
-    let step = λ (reply : WriteReply). cond (is_done reply) (alter key_cmp (key_of_write key_cols w.0) (composed_effect (effect_of_write w.0)) effects) effects in
+    let step =
+    λ (reply : WriteReply). cond (is_done reply) (alter key_cmp (key_of_write key_cols w.0) (composed_effect (effect_of_write w.0)) effects) effects
+    in
     let after = effects_after key_cols limit t effects w.0 in
     let same : effects_when key_cols effects w ≡ after = ap step (cc h) in
     let rest : GotDueReplies key_cols limit t after writes = cc h in

@@ -20,7 +20,8 @@ module _ (key_cols limit : ℕ) (t : Table) where
   -- the effects of the writes, or none where one of them got another reply
   abbrev pub AreAnswered : List (Write × WriteReply) → Option Effects → Type 0
   AreAnswered writes found =
-      MatchOption found (¬ (GotDueReplies [] writes)) (λ effects. GotDueReplies [] writes × (effects ≡ effects_after_all key_cols limit t [] (map (λ w. w.0) writes)))
+      MatchOption found (¬ (GotDueReplies [] writes))
+      (λ effects. GotDueReplies [] writes × (effects ≡ effects_after_all key_cols limit t [] (map (λ w. w.0) writes)))
 
 -- ---- writes with their replies
 

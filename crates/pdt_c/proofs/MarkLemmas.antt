@@ -35,7 +35,8 @@ first_marks txn (mark ∷ marks) (suc level) h =
     (h.0, All-take (λ (later : Marked). mark.count ≤ later.count) level marks h.1, first_marks txn marks level h.2)
 
 -- each stands
-pub stands : (txn : Transaction) (marks : List Marked) (level : ℕ) (mark : Marked) → AreMarks txn marks → slice_get marks level ≡ Some mark → IsMark mark txn
+pub stands : (txn : Transaction) (marks : List Marked) (level : ℕ) (mark : Marked) → AreMarks txn marks
+    → slice_get marks level ≡ Some mark → IsMark mark txn
 stands txn [] level mark h is = absurd (none-some mark is)
 stands txn (m ∷ marks) zero mark h is = subst (λ (x : Marked). IsMark x txn) (same_Some m mark is) h.0
 stands txn (m ∷ marks) (suc level) mark h is = stands txn marks level mark h.2 is
@@ -47,10 +48,14 @@ module _ (txn : Transaction) (mark : Marked) where
   below m (n ∷ marks) zero h is = subst (λ (x : Marked). m.count ≤ x.count) (same_Some n mark is) (h 0 n (omega arith))
   below m (n ∷ marks) (suc level) h is = below m marks level (λ k d within. h (suc k) d (omega (arith, within))) is
 
-  pub gone_back : (marks : List Marked) (level : ℕ) → AreMarks txn marks → slice_get marks level ≡ Some mark → AreMarks (with_first mark.count txn) (take (suc level) marks)
+  pub gone_back : (marks : List Marked) (level : ℕ) → AreMarks txn marks → slice_get marks level ≡ Some mark
+      → AreMarks (with_first mark.count txn) (take (suc level) marks)
   gone_back [] level h is = absurd (none-some mark is)
-  gone_back (m ∷ marks) zero h is =
-      (gone_back_IsMark m txn mark.count h.0 (subst (λ (x : Marked). m.count ≤ x.count) (same_Some m mark is) (omega arith)), no_marks m, tt)
+  gone_back (m ∷ marks) zero h is = (
+    gone_back_IsMark m txn mark.count h.0 (subst (λ (x : Marked). m.count ≤ x.count) (same_Some m mark is) (omega arith)),
+    no_marks m,
+    tt,
+  )
   gone_back (m ∷ marks) (suc level) h is = (
     gone_back_IsMark m txn mark.count h.0 (below m marks level h.1 is),
     All-take (λ (later : Marked). m.count ≤ later.count) (suc level) marks h.1,
@@ -58,7 +63,8 @@ module _ (txn : Transaction) (mark : Marked) where
   )
 
 -- a write that is answered goes on, and one that is refused changes nothing
-pub told_GoesOn : (code : ℕ) (old new : Transaction) → (code ≢ 7 → code ≢ 1 → GoesOn old new) → ((code ≡ 7) ⊎ (code ≡ 1) → new ≡ old) → GoesOn old new
+pub told_GoesOn : (code : ℕ) (old new : Transaction) → (code ≢ 7 → code ≢ 1 → GoesOn old new)
+    → ((code ≡ 7) ⊎ (code ≡ 1) → new ≡ old) → GoesOn old new
 told_GoesOn code old new told refused = elim (cases_eq code 7) [
   | inl shape ↦ refused_GoesOn old new (refused (inl shape))
   | inr fits ↦ elim (cases_eq code 1) [

@@ -18,7 +18,8 @@ numbers_int (x ∷ xs) = ap (λ rest. x ∷ rest) (numbers_int xs)
 -- ---- a range of rows
 
 -- from a place on, as many as a room has
-pub range_cut : {X : Type 0} (from room to : ℕ) (rows : List X) → (from + room ≤ length rows → to ≡ from + room) → (length rows ≤ from + room → to ≡ length rows)
+pub range_cut : {X : Type 0} (from room to : ℕ) (rows : List X) → (from + room ≤ length rows → to ≡ from + room)
+    → (length rows ≤ from + room → to ≡ length rows)
     → drop from (take to rows) ≡ take room (drop from rows)
 range_cut from room to rows small large =
     elim (cases_lt (length rows) (from + room)) [
@@ -29,10 +30,13 @@ range_cut from room to rows small large =
     ]
 
 -- up to a place, or to the end
-pub take_cut : {X : Type 0} (to end : ℕ) (rows : List X) → (to ≤ length rows → end ≡ to) → (length rows ≤ to → end ≡ length rows) → take end rows ≡ take to rows
+pub take_cut : {X : Type 0} (to end : ℕ) (rows : List X) → (to ≤ length rows → end ≡ to) → (length rows ≤ to → end ≡ length rows)
+    → take end rows ≡ take to rows
 take_cut to end rows small large =
     elim (cases_lt (length rows) to) [
-      | inl l ↦ ap (λ n. take n rows) (large (omega (arith, l))) ∙ take_all (length rows) rows (omega arith) ∙ sym (take_all to rows (omega (arith, l)))
+      | inl l ↦ ap (λ n. take n rows) (large (omega (arith, l)))
+          ∙ take_all (length rows) rows (omega arith)
+          ∙ sym (take_all to rows (omega (arith, l)))
       | inr g ↦ ap (λ n. take n rows) (small (omega (arith, g)))
     ]
 
@@ -54,13 +58,15 @@ length-between col from to rows =
     )
 
 -- the numbers of a run go from those that are left to those so far
-pub numbers_move : (seen : List ℤ) (own rest : List Value) (all : List ℤ) → seen ++ numbers_of (own ++ rest) ≡ all → (seen ++ numbers_of own) ++ numbers_of rest ≡ all
+pub numbers_move : (seen : List ℤ) (own rest : List Value) (all : List ℤ) → seen ++ numbers_of (own ++ rest) ≡ all
+    → (seen ++ numbers_of own) ++ numbers_of rest ≡ all
 numbers_move seen own rest all is =
     append_assoc seen (numbers_of own) (numbers_of rest) ∙ ap (λ ns. seen ++ ns) (sym (map-append number_of own rest)) ∙ is
 
 -- ---- pieces
 
-pub shown_more : (pieces : List Piece) (piece : Piece) (numbers own : List ℤ) → AreShown pieces numbers → IsShown piece own → AreShown (pieces ++ piece ∷ []) (numbers ++ own)
+pub shown_more : (pieces : List Piece) (piece : Piece) (numbers own : List ℤ) → AreShown pieces numbers → IsShown piece own
+    → AreShown (pieces ++ piece ∷ []) (numbers ++ own)
 shown_more [] piece numbers own h shows = (own, [], ap (λ (ns : List ℤ). ns ++ own) h ∙ sym (append-nil own), shows, refl)
 shown_more (p ∷ pieces) piece numbers own h shows =
     (h.0, h.1 ++ own, ap (λ (ns : List ℤ). ns ++ own) h.2 ∙ append_assoc h.0 h.1 own, h.3, shown_more pieces piece h.1 own h.4 shows)
@@ -73,12 +79,20 @@ take_seen seen rest n is = ap (λ m. take m (seen ++ rest)) is ∙ first seen
     first (x ∷ xs) = ap (λ ys. x ∷ ys) (first xs)
 
 -- what pieces show that come so far, and no others where there is room
-pub handed : (numbers seen rest : List ℤ) (room count rows : ℕ) (pieces : List Piece) → count ≤ room → rows ≡ length seen → AreShown (take count pieces) seen
+pub handed : (numbers seen rest : List ℤ) (room count rows : ℕ) (pieces : List Piece) → count ≤ room → rows ≡ length seen
+    → AreShown (take count pieces) seen
     → seen ++ rest ≡ numbers → (count < room → rest ≡ []) → HandsPieces numbers room count pieces rows
 handed numbers seen rest room count rows pieces within rows_are shown is all =
     record {
       within = within;
       rows_within = omega (arith, rows_are, ap (λ (ns : List ℤ). length ns) is, length-append seen rest);
       shown = subst (AreShown (take count pieces)) (sym (ap (take rows) (sym is) ∙ take_seen seen rest rows rows_are)) shown;
-      all = λ lt. omega (arith, rows_are, ap (λ (ns : List ℤ). length ns) is, length-append seen rest, ap (λ (ns : List ℤ). length ns) (all lt));
+      all =
+          λ lt. omega (
+            arith,
+            rows_are,
+            ap (λ (ns : List ℤ). length ns) is,
+            length-append seen rest,
+            ap (λ (ns : List ℤ). length ns) (all lt),
+          );
     }

@@ -26,10 +26,12 @@ run_lengths_more texts first i text is =
     more : take (i + 1) (drop first texts) ≡ take i (drop first texts) ++ text ∷ []
     more =
         take_more (drop first texts) i text within
-        ∙ ap (λ t. take i (drop first texts) ++ t ∷ []) (get_or-drop first texts i text ∙ get_or_from_slice_get texts (first + i) text text is)
+        ∙ ap (λ t. take i (drop first texts) ++ t ∷ [])
+        (get_or-drop first texts i text ∙ get_or_from_slice_get texts (first + i) text text is)
 
 -- the length of the next text is put after those so far
-pub length_put : (before lens : List ℤ) (texts : List (List ℕ)) (first i done : ℕ) (text : List ℕ) → done + i < length lens → slice_get texts (first + i) ≡ Some text
+pub length_put : (before lens : List ℤ) (texts : List (List ℕ)) (first i done : ℕ) (text : List ℕ) → done + i < length lens
+    → slice_get texts (first + i) ≡ Some text
     → take (done + i) lens ≡ before ++ run_lengths texts first i
     → take (done + (i + 1)) (set lens (done + i) (pos (length text))) ≡ before ++ run_lengths texts first (i + 1)
 length_put before lens texts first i done text within there is =
@@ -43,11 +45,14 @@ length_put before lens texts first i done text within there is =
     next = omega arith
 
 -- the address of one more text is put after those so far
-pub there_one : (at : ℕ) (texts after : List Ptr) (address : Ptr) → at < length texts → after ≡ set texts at address → InBlock address → AreThere at texts
+pub there_one : (at : ℕ) (texts after : List Ptr) (address : Ptr) → at < length texts → after ≡ set texts at address
+    → InBlock address → AreThere at texts
     → AreThere (at + 1) after
-there_one at texts after address within is lies before = subst (AreThere (at + 1)) (sym is) (AllWithin-more_set texts at address within InBlock before lies)
+there_one at texts after address within is lies before =
+    subst (AreThere (at + 1)) (sym is) (AllWithin-more_set texts at address within InBlock before lies)
 
-pub there_more : (done i : ℕ) (texts : List Ptr) (address : Ptr) (after : List Ptr) → done + i < length texts → after ≡ set texts (done + i) address → InBlock address
+pub there_more : (done i : ℕ) (texts : List Ptr) (address : Ptr) (after : List Ptr) → done + i < length texts
+    → after ≡ set texts (done + i) address → InBlock address
     → AreThere (done + i) texts → AreThere (done + (i + 1)) after
 there_more done i texts address after within is lies before =
     subst (λ n. AreThere n after) next (there_one (done + i) texts after address within is lies before)

@@ -41,7 +41,8 @@ module _ (Z : RattleType) (LZ : Laws Z) (g : Ghosts Z.Denot) where
   abbrev frees : Al
   frees = record { row = Z; laws = LZ; g = g; d = impl [] tnil dnil; drops = impl [] tnil dnil }
 
-  module _ {M : Type 1} {𝓤 : Ura M} {𝓛 : Logic 𝓤} {K : Type 0} {Γ : List (Item 𝓤)} {G : Goal 𝓤 𝓛.H} (name : Sym) (args : List Lifetime) (types : List RattleType) where
+  module _ {M : Type 1} {𝓤 : Ura M} {𝓛 : Logic 𝓤} {K : Type 0} {Γ : List (Item 𝓤)} {G : Goal 𝓤 𝓛.H} (name : Sym)
+      (args : List Lifetime) (types : List RattleType) where
     pub word_out : K → (p : Ptr) (a : Z.Denot) (vs : List Val)
         → ((h : Val) → vs ≡ word p h ∷ [] → Good (layout Z) h → Seq K 𝓛 (‵ (Z.own_val a (h ∷ [])) ∷ Γ) G)
         → Seq K 𝓛 (‵ ((Struct (Two name args types)).own_val (p, (a, tt)) vs) ∷ Γ) G

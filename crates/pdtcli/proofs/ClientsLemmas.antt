@@ -50,10 +50,18 @@ decided_in-call asked rows reply =
 
 -- ---- one call more
 
-IsSeatRun-more : (o : Managed) (old mid new : Seat) (calls : List ClientCall) (lines : List ReplyLine) (asked : ClientCall) (these : List ReplyLine)
+IsSeatRun-more :
+    (o : Managed) (old mid new : Seat) (calls : List ClientCall) (lines : List ReplyLine) (asked : ClientCall)
+    (these : List ReplyLine)
     → IsSeatRun o old calls lines mid → SeatServed o mid asked these new → IsSeatRun o old (calls ++ asked ∷ []) (lines ++ these) new
-IsSeatRun-more o old mid new [] lines asked these r s =
-    (new, these, [], ap (λ (ls : List ReplyLine). ls ++ these) r.0 ∙ sym (append-nil these), subst (λ (seat : Seat). SeatServed o seat asked these new) r.1 s, (refl, refl))
+IsSeatRun-more o old mid new [] lines asked these r s = (
+  new,
+  these,
+  [],
+  ap (λ (ls : List ReplyLine). ls ++ these) r.0 ∙ sym (append-nil these),
+  subst (λ (seat : Seat). SeatServed o seat asked these new) r.1 s,
+  (refl, refl),
+)
 IsSeatRun-more o old mid new (c ∷ calls) lines asked these r s =
     let rest = r.2 in (
       r.0,
@@ -68,26 +76,39 @@ abbrev is_of : ℕ → ClientCall → Bool
 is_of client asked = asked.client == client
 
 -- the calls of a client up to one that is its own
-own_more : (client : ℕ) (calls : List ClientCall) (i : ℕ) (asked : ClientCall) → i < length calls → asked ≡ get_or calls i asked → (asked.client == client) ≡ true → calls_of client (take (i + 1) calls) ≡ calls_of client (take i calls) ++ asked ∷ []
+own_more : (client : ℕ) (calls : List ClientCall) (i : ℕ) (asked : ClientCall) → i < length calls → asked ≡ get_or calls i asked
+    → (asked.client == client) ≡ true → calls_of client (take (i + 1) calls) ≡ calls_of client (take i calls) ++ asked ∷ []
 own_more client calls i asked inside is own =
     filter_more (is_of client) calls i asked inside
-    ∙ subst (λ (a : ClientCall). filter (is_of client) (take i calls) ++ cond (is_of client a) (a ∷ []) [] ≡ filter (is_of client) (take i calls) ++ asked ∷ []) is (rw own refl)
+    ∙ subst (λ (a : ClientCall). filter (is_of client) (take i calls) ++ cond (is_of client a) (a ∷ []) []
+    ≡ filter (is_of client) (take i calls) ++ asked ∷ []) is (rw own refl)
 
 -- and up to one that isn't
-pub other_more : (client : ℕ) (calls : List ClientCall) (i : ℕ) (asked : ClientCall) → i < length calls → asked ≡ get_or calls i asked → (asked.client == client) ≡ false → calls_of client (take (i + 1) calls) ≡ calls_of client (take i calls)
+pub other_more : (client : ℕ) (calls : List ClientCall) (i : ℕ) (asked : ClientCall) → i < length calls
+    → asked ≡ get_or calls i asked → (asked.client == client) ≡ false
+    → calls_of client (take (i + 1) calls) ≡ calls_of client (take i calls)
 other_more client calls i asked inside is other =
     filter_more (is_of client) calls i asked inside
-    ∙ subst (λ (a : ClientCall). filter (is_of client) (take i calls) ++ cond (is_of client a) (a ∷ []) [] ≡ filter (is_of client) (take i calls)) is (rw other (append-nil (filter (is_of client) (take i calls))))
+    ∙ subst
+    (λ (a : ClientCall). filter (is_of client) (take i calls) ++ cond (is_of client a) (a ∷ []) [] ≡ filter (is_of client) (take i calls))
+    is (rw other (append-nil (filter (is_of client) (take i calls))))
 
 -- a call of the client is made
-pub made_more : (o : Managed) (old mid new : Seat) (calls : List ClientCall) (i : ℕ) (lines : List ReplyLine) (asked : ClientCall) (rows : List Row) (reply : Reply)
+pub made_more :
+    (o : Managed) (old mid new : Seat) (calls : List ClientCall) (i : ℕ) (lines : List ReplyLine) (asked : ClientCall)
+    (rows : List Row) (reply : Reply)
     → i < length calls → asked ≡ get_or calls i asked → (asked.client == old.client) ≡ true
     → HasMade o old (take i calls) lines mid → SeatStep o asked.call mid rows reply new
     → HasMade o old (take (i + 1) calls) (lines ++ lines_of asked rows reply) new
 made_more o old mid new calls i lines asked rows reply inside is own made step = record {
-  run = subst (λ (cs : List ClientCall). IsSeatRun o old cs (lines ++ lines_of asked rows reply) new) (sym (own_more old.client calls i asked inside is own))
-      (IsSeatRun-more o old mid new (calls_of old.client (take i calls)) lines asked (lines_of asked rows reply) made.run (record { rows = rows; reply = reply; step = step; told = refl }));
-  counted = omega (arith, made.counted, step.counted, decided_in-append lines (lines_of asked rows reply), decided_in-call asked rows reply);
+  run =
+      subst (λ (cs : List ClientCall). IsSeatRun o old cs (lines ++ lines_of asked rows reply) new)
+      (sym (own_more old.client calls i asked inside is own))
+      (IsSeatRun-more o old mid new (calls_of old.client (take i calls)) lines asked (lines_of asked rows reply) made.run
+      (record { rows = rows; reply = reply; step = step; told = refl }));
+  counted =
+      omega
+      (arith, made.counted, step.counted, decided_in-append lines (lines_of asked rows reply), decided_in-call asked rows reply);
 }
 
 -- another client's is not
@@ -100,13 +121,19 @@ made_same o old new calls i lines asked inside is other made = record {
 }
 
 -- the client's calls are as many as those up to one place and those from it on, and one that is its own is left
-pub own_left : (client : ℕ) (calls : List ClientCall) (i : ℕ) (asked : ClientCall) → i < length calls → asked ≡ get_or calls i asked → (asked.client == client) ≡ true → length (calls_of client (take (i + 1) calls)) ≡ length (calls_of client (take i calls)) + 1
-own_left client calls i asked inside is own = ap length (own_more client calls i asked inside is own) ∙ length-append (calls_of client (take i calls)) (asked ∷ [])
+pub own_left : (client : ℕ) (calls : List ClientCall) (i : ℕ) (asked : ClientCall) → i < length calls
+    → asked ≡ get_or calls i asked → (asked.client == client) ≡ true
+    → length (calls_of client (take (i + 1) calls)) ≡ length (calls_of client (take i calls)) + 1
+own_left client calls i asked inside is own =
+    ap length (own_more client calls i asked inside is own) ∙ length-append (calls_of client (take i calls)) (asked ∷ [])
 
 -- ---- one client more
 
-pub HaveMade-push : (o : Managed) (givens : List (Seat × List ClientCall)) (groups : List (List ReplyLine)) (seats : List Seat) (given : Seat × List ClientCall) (lines : List ReplyLine) (seat : Seat)
-    → HaveMade o givens groups seats → HasMade o given.0 given.1 lines seat → HaveMade o (givens ++ given ∷ []) (groups ++ lines ∷ []) (seats ++ seat ∷ [])
+pub HaveMade-push :
+    (o : Managed) (givens : List (Seat × List ClientCall)) (groups : List (List ReplyLine)) (seats : List Seat)
+    (given : Seat × List ClientCall) (lines : List ReplyLine) (seat : Seat)
+    → HaveMade o givens groups seats → HasMade o given.0 given.1 lines seat
+    → HaveMade o (givens ++ given ∷ []) (groups ++ lines ∷ []) (seats ++ seat ∷ [])
 HaveMade-push o [] [] [] given lines seat all one = (one, tt)
 HaveMade-push o (g ∷ gs) (l ∷ ls) (s ∷ ss) given lines seat all one = (all.0, HaveMade-push o gs ls ss given lines seat all.1 one)
 HaveMade-push o [] [] (s ∷ ss) given lines seat all one = absurd all
@@ -114,7 +141,8 @@ HaveMade-push o [] (l ∷ ls) ss given lines seat all one = absurd all
 HaveMade-push o (g ∷ gs) [] ss given lines seat all one = absurd all
 HaveMade-push o (g ∷ gs) (l ∷ ls) [] given lines seat all one = absurd all
 
-pub HaveMade-many : (o : Managed) (givens : List (Seat × List ClientCall)) (groups : List (List ReplyLine)) (seats : List Seat) → HaveMade o givens groups seats → length seats ≡ length givens
+pub HaveMade-many : (o : Managed) (givens : List (Seat × List ClientCall)) (groups : List (List ReplyLine)) (seats : List Seat)
+    → HaveMade o givens groups seats → length seats ≡ length givens
 HaveMade-many o [] [] [] all = refl
 HaveMade-many o (g ∷ gs) (l ∷ ls) (s ∷ ss) all = ap suc (HaveMade-many o gs ls ss all.1)
 HaveMade-many o [] [] (s ∷ ss) all = absurd all
@@ -126,22 +154,29 @@ push_move : {X : Type 0} (xs : List X) (x : X) (ys : List X) → (xs ++ x ∷ []
 push_move xs x ys = append_assoc xs (x ∷ []) ys
 
 -- one handle is joined, and the rest is left
-pub next_done : {H X : Type 0} (f : H → X) (done all : List X) (h : H) (rest left : List H) → rest ≡ h ∷ left → done ++ map f rest ≡ all → (done ++ f h ∷ []) ++ map f left ≡ all
+pub next_done : {H X : Type 0} (f : H → X) (done all : List X) (h : H) (rest left : List H) → rest ≡ h ∷ left
+    → done ++ map f rest ≡ all → (done ++ f h ∷ []) ++ map f left ≡ all
 next_done f done all h rest left is here = push_move done (f h) (map f left) ∙ subst (λ r. done ++ map f r ≡ all) is here
 
-pub made_step : {V : Type 0} (f : V → List ReplyLine) (o : Managed) (givens : List (Seat × List ClientCall)) (seats seats' : List Seat) (vs vs' : List V) (given : Seat × List ClientCall) (v : V) (seat : Seat)
+pub made_step :
+    {V : Type 0} (f : V → List ReplyLine) (o : Managed) (givens : List (Seat × List ClientCall)) (seats seats' : List Seat)
+    (vs vs' : List V) (given : Seat × List ClientCall) (v : V) (seat : Seat)
     → HaveMade o givens (map f vs) seats → HasMade o given.0 given.1 (f v) seat → vs' ≡ vs ++ v ∷ [] → seats' ≡ seats ++ seat ∷ []
     → HaveMade o (givens ++ given ∷ []) (map f vs') seats'
-made_step f o givens seats seats' vs vs' given v seat all one more back = rw more (rw back (rw (map-append f vs (v ∷ [])) (HaveMade-push o givens (map f vs) seats given (f v) seat all one)))
+made_step f o givens seats seats' vs vs' given v seat all one more back =
+    rw more (rw back (rw (map-append f vs (v ∷ [])) (HaveMade-push o givens (map f vs) seats given (f v) seat all one)))
 
 -- a client's calls up to one place are no more than all of them
 pub own_most : (client : ℕ) (calls : List ClientCall) (i : ℕ) → length (calls_of client (take i calls)) ≤ length (calls_of client calls)
 own_most client calls i =
-    let parts = ap length (ap (λ (cs : List ClientCall). calls_of client cs) (sym (take-append-drop i calls)) ∙ filter-append (is_of client) (take i calls) (drop i calls)) in
+    let parts =
+    ap length (ap (λ (cs : List ClientCall). calls_of client cs) (sym (take-append-drop i calls))
+    ∙ filter-append (is_of client) (take i calls) (drop i calls)) in
     omega (arith, parts, length-append (calls_of client (take i calls)) (calls_of client (drop i calls)))
 
 -- where there is no client, nothing is left but the manager, as it was
-pub none_made : (o : Managed) (calls : List ClientCall) (clients : ℕ) (left : Left) → clients ≡ 0 → left.manager ≡ o → left.lines ≡ [] → left.counts ≡ [] → IsLeft o calls clients left
+pub none_made : (o : Managed) (calls : List ClientCall) (clients : ℕ) (left : Left) → clients ≡ 0 → left.manager ≡ o
+    → left.lines ≡ [] → left.counts ≡ [] → IsLeft o calls clients left
 none_made o calls clients left none manager lines counts = record {
   groups = [];
   seats = [];
@@ -161,7 +196,9 @@ numbered clients i d inside =
     subst (λ (s : Seat). s.client < clients) (sym (get_or-map-range_with_len new_seat 0 clients i (0 + i) d below refl)) client
 
 -- one thread is started, and the sessions behind it are left
-pub started_more : {H : Type 0} (f : H → Seat × List ClientCall) (calls : List ClientCall) (handles handles' : List H) (rest left all : List Seat) (h : H) (seat : Seat)
+pub started_more :
+    {H : Type 0} (f : H → Seat × List ClientCall) (calls : List ClientCall) (handles handles' : List H)
+    (rest left all : List Seat) (h : H) (seat : Seat)
     → rest ≡ seat ∷ left → f h ≡ (seat, calls) → handles' ≡ handles ++ h ∷ [] → map f handles ++ each_with calls rest ≡ each_with calls all
     → map f handles' ++ each_with calls left ≡ each_with calls all
 started_more f calls handles handles' rest left all h seat is made more was =

@@ -27,10 +27,14 @@ use Rattle.pdtcli.specs.declared.reply.ReplyLine.{ReplyLine}
 pub records_text-append : (rs qs : List Fields) → records_text (rs ++ qs) ≡ records_text rs ++ records_text qs
 records_text-append [] qs = refl
 records_text-append (r ∷ rs) qs =
-    ap (λ (z : List ℕ). record_text r ++ z) (records_text-append rs qs) ∙ sym (append_assoc (record_text r) (records_text rs) (records_text qs))
+    ap (λ (z : List ℕ). record_text r ++ z) (records_text-append rs qs)
+    ∙ sym (append_assoc (record_text r) (records_text rs) (records_text qs))
 
-pub lines_text-append : (clients : List (List ℕ)) (a b : List ReplyLine) → lines_text clients (a ++ b) ≡ lines_text clients a ++ lines_text clients b
-lines_text-append clients a b = ap records_text (map-append (line_fields clients) a b) ∙ records_text-append (map (line_fields clients) a) (map (line_fields clients) b)
+pub lines_text-append : (clients : List (List ℕ)) (a b : List ReplyLine)
+    → lines_text clients (a ++ b) ≡ lines_text clients a ++ lines_text clients b
+lines_text-append clients a b =
+    ap records_text (map-append (line_fields clients) a b)
+    ∙ records_text-append (map (line_fields clients) a) (map (line_fields clients) b)
 
 pub rows_text-append : (a b : List Row) → rows_text (a ++ b) ≡ rows_text a ++ rows_text b
 rows_text-append a b = ap records_text (map-append row_fields a b) ∙ records_text-append (map row_fields a) (map row_fields b)
@@ -41,7 +45,8 @@ pub lines_text-more : (start : List ℕ) (clients : List (List ℕ)) (lines : Li
 lines_text-more start clients lines line =
     append_assoc start (lines_text clients lines) (record_text (line_fields clients line))
     ∙ ap (λ (z : List ℕ). start ++ z)
-    (ap (λ (z : List ℕ). lines_text clients lines ++ z) (sym (append-nil (record_text (line_fields clients line)))) ∙ sym (lines_text-append clients lines (line ∷ [])))
+    (ap (λ (z : List ℕ). lines_text clients lines ++ z) (sym (append-nil (record_text (line_fields clients line))))
+    ∙ sym (lines_text-append clients lines (line ∷ [])))
 
 -- ---- the header
 
@@ -51,13 +56,16 @@ slice_get-drop (y ∷ xs) zero x e = ap (λ z. z ∷ xs) (cc e)
 slice_get-drop (y ∷ xs) (suc i) x e = slice_get-drop xs i x e
 
 -- one header cell more
-pub header_cells-more : (before : Fields) (key_cols at : ℕ) (names : List (List ℕ)) (types : List ColumnType) (name : List ℕ) (type : ColumnType)
+pub header_cells-more :
+    (before : Fields) (key_cols at : ℕ) (names : List (List ℕ)) (types : List ColumnType) (name : List ℕ) (type : ColumnType)
     → slice_get names at ≡ Some name → slice_get types at ≡ Some type
     → before ++ header_cells key_cols at (drop at names) (drop at types)
-    ≡ (before ++ (name ++ kind_text type (nat_lt at key_cols)) ∷ []) ++ header_cells key_cols (suc at) (drop (suc at) names) (drop (suc at) types)
+    ≡ (before ++ (name ++ kind_text type (nat_lt at key_cols)) ∷ [])
+    ++ header_cells key_cols (suc at) (drop (suc at) names) (drop (suc at) types)
 header_cells-more before key_cols at names types name type n t =
     rw (slice_get-drop names at name n, slice_get-drop types at type t)
-    (sym (append_assoc before ((name ++ kind_text type (nat_lt at key_cols)) ∷ []) (header_cells key_cols (suc at) (drop (suc at) names) (drop (suc at) types))))
+    (sym (append_assoc before ((name ++ kind_text type (nat_lt at key_cols)) ∷ [])
+    (header_cells key_cols (suc at) (drop (suc at) names) (drop (suc at) types))))
 
 -- ---- a stable table alone
 
@@ -80,7 +88,8 @@ module _ (s : Stable) where
 
 -- the header, and then the rows
 pub image_text-whole : (schema : Columns) (rows : List Row) (old mid new : Option (List ℕ)) (text : List ℕ) → text ≡ image_text schema []
-    → Appends old mid text → (shown : List Row) → shown ≡ rows → {T E : Type 0} (r : Result T E) → OnOk r (Appends mid new (rows_text shown))
+    → Appends old mid text → (shown : List Row) → shown ≡ rows → {T E : Type 0} (r : Result T E)
+    → OnOk r (Appends mid new (rows_text shown))
     → OnOk r (Appends old new (image_text schema rows))
 image_text-whole schema rows old mid new text is sent shown are (Err fault) h = tt
 image_text-whole schema rows old mid new text is sent shown are (Ok x) h =

@@ -6,7 +6,9 @@ use Rattle.manager.specs.declared.fault.OpenFault.{OpenFault}
 use Rattle.manager.specs.declared.fault.OpenFault.TheVariants.{NoMemory}
 
 -- a refusal is for the first fault, or for want of memory where there is none
-pub refused_for : (first : Option OpenFault) (fault : OpenFault) → MatchOption first (fault ≡ NoMemory) (λ f. ◌≡◌ {A = Result Managed OpenFault} (Err fault) (Err f)) → fault ≡ unwrap_or first NoMemory
+pub refused_for : (first : Option OpenFault) (fault : OpenFault)
+    → MatchOption first (fault ≡ NoMemory) (λ f. ◌≡◌ {A = Result Managed OpenFault} (Err fault) (Err f))
+    → fault ≡ unwrap_or first NoMemory
 refused_for None fault h = h
 refused_for (Some f) fault h = cc h
 
@@ -16,6 +18,7 @@ no_fault None m h = refl
 no_fault (Some f) m h = cc h
 
 -- what is so of the refusal is so of the answer that it passes up
-pub passed_up : {T E : Type 0} (answer : Result T E) (refusal : E) (Is : E → Type 0) → IsErrAnd answer (λ e. e ≡ refusal) → Is refusal → IfErr answer Is
+pub passed_up : {T E : Type 0} (answer : Result T E) (refusal : E) (Is : E → Type 0) → IsErrAnd answer (λ e. e ≡ refusal)
+    → Is refusal → IfErr answer Is
 passed_up (Ok x) refusal Is is h = absurd is
 passed_up (Err e) refusal Is is h = subst Is (sym is) h

@@ -7,5 +7,7 @@ use Rattle.pdtcli.specs.declared.reply.Reply.TheVariants.{Row as Shown}
 use Rattle.pdtcli.specs.Run.{scan_lines}
 
 -- one line more
-pub shown_more : (client : ℕ) (rows : List Row) (row : Row) → scan_lines client rows ++ record { client = client; verb = verb.Scan; reply = Shown row } ∷ [] ≡ scan_lines client (rows ++ row ∷ [])
+pub shown_more : (client : ℕ) (rows : List Row) (row : Row)
+    → scan_lines client rows ++ record { client = client; verb = verb.Scan; reply = Shown row } ∷ []
+    ≡ scan_lines client (rows ++ row ∷ [])
 shown_more client rows row = sym (map-append (λ (r : Row). record { client = client; verb = verb.Scan; reply = Shown r }) rows (row ∷ []))

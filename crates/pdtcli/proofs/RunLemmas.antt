@@ -36,7 +36,9 @@ keeps_same : (old new : Managed) → new ≡ old → Keeps old new
 keeps_same old new is = subst (Keeps old) (sym is) (record { schema = refl; own = λ txn h. h; made = omega arith })
 
 -- a commit leaves the tables before it
-own_later : (m : Managed) (r : Record) (txn : Transaction) (commits : List Effects) → commits_in (with_record m r) ≡ commits → (reply : CommitReply) → (x : Effects) → commits ≡ commits_with (commits_in m) x reply → IsOwn m txn → IsOwn (with_record m r) txn
+own_later : (m : Managed) (r : Record) (txn : Transaction) (commits : List Effects) → commits_in (with_record m r) ≡ commits
+    → (reply : CommitReply) → (x : Effects) → commits ≡ commits_with (commits_in m) x reply → IsOwn m txn
+    → IsOwn (with_record m r) txn
 own_later m r txn commits are (Committed n) x is h =
     let longer = are ∙ is in
     let grown = length-append (commits_in m) (x ∷ []) in
@@ -46,16 +48,33 @@ own_later m r txn commits are (Committed n) x is h =
       schema = h.schema;
       limit = h.limit;
       begun = omega (arith, h.begun, more);
-      snapshot = λ above. h.snapshot above ∙ ap (table_with_all m.start.table) (sym before) ∙ ap (λ (cs : List Effects). table_after m.start cs txn.begin) (sym longer);
+      snapshot =
+          λ above. h.snapshot above
+          ∙ ap (table_with_all m.start.table) (sym before)
+          ∙ ap (λ (cs : List Effects). table_after m.start cs txn.begin) (sym longer);
     }
-own_later m r txn commits are (Conflict n) x is h = subst (λ (cs : List Effects). (txn.begin ≤ m.start.base + length cs) × (m.start.base ≤ txn.begin → txn.table ≡ table_after m.start cs txn.begin) → IsOwn (with_record m r) txn) (are ∙ is) (λ k. record { schema = h.schema; limit = h.limit; begun = k.0; snapshot = k.1 }) (h.begun, h.snapshot)
-own_later m r txn commits are (TooOld n) x is h = subst (λ (cs : List Effects). (txn.begin ≤ m.start.base + length cs) × (m.start.base ≤ txn.begin → txn.table ≡ table_after m.start cs txn.begin) → IsOwn (with_record m r) txn) (are ∙ is) (λ k. record { schema = h.schema; limit = h.limit; begun = k.0; snapshot = k.1 }) (h.begun, h.snapshot)
-own_later m r txn commits are (Full n) x is h = subst (λ (cs : List Effects). (txn.begin ≤ m.start.base + length cs) × (m.start.base ≤ txn.begin → txn.table ≡ table_after m.start cs txn.begin) → IsOwn (with_record m r) txn) (are ∙ is) (λ k. record { schema = h.schema; limit = h.limit; begun = k.0; snapshot = k.1 }) (h.begun, h.snapshot)
+own_later m r txn commits are (Conflict n) x is h =
+    subst
+    (λ (cs : List Effects). (txn.begin ≤ m.start.base + length cs) × (m.start.base ≤ txn.begin → txn.table ≡ table_after m.start cs txn.begin)
+    → IsOwn (with_record m r) txn)
+    (are ∙ is) (λ k. record { schema = h.schema; limit = h.limit; begun = k.0; snapshot = k.1 }) (h.begun, h.snapshot)
+own_later m r txn commits are (TooOld n) x is h =
+    subst
+    (λ (cs : List Effects). (txn.begin ≤ m.start.base + length cs) × (m.start.base ≤ txn.begin → txn.table ≡ table_after m.start cs txn.begin)
+    → IsOwn (with_record m r) txn)
+    (are ∙ is) (λ k. record { schema = h.schema; limit = h.limit; begun = k.0; snapshot = k.1 }) (h.begun, h.snapshot)
+own_later m r txn commits are (Full n) x is h =
+    subst
+    (λ (cs : List Effects). (txn.begin ≤ m.start.base + length cs) × (m.start.base ≤ txn.begin → txn.table ≡ table_after m.start cs txn.begin)
+    → IsOwn (with_record m r) txn)
+    (are ∙ is) (λ k. record { schema = h.schema; limit = h.limit; begun = k.0; snapshot = k.1 }) (h.begun, h.snapshot)
 
 keeps_record : (m : Managed) (r : Record) → Keeps m (with_record m r)
 keeps_record m r = record {
   schema = refl;
-  own = λ txn h. own_later m r txn (commits_in (with_record m r)) refl r.reply (effects_of_record m.schema m.start (commits_in m) r) (commits_from-append m.schema m.start [] m.history r) h;
+  own =
+      λ txn h. own_later m r txn (commits_in (with_record m r)) refl r.reply (effects_of_record m.schema m.start (commits_in m) r)
+      (commits_from-append m.schema m.start [] m.history r) h;
   made = omega (arith, length-append m.history (r ∷ []));
 }
 
@@ -66,10 +85,13 @@ keeps_over : (old m : Managed) (layers : Lower) → Keeps old m → Keeps old (w
 keeps_over old m layers k = record { schema = k.schema; own = λ txn h. own_over m layers txn (k.own txn h); made = k.made }
 
 keeps_decided : (m : Managed) (txn : Transaction) (reply : CommitReply) (new : Managed) → IsDecided m txn reply new → Keeps m new
-keeps_decided m txn reply new h = subst (Keeps m) (sym h.kept) (keeps_over m (with_record m (record_of txn reply)) new.layers (keeps_record m (record_of txn reply)))
+keeps_decided m txn reply new h =
+    subst (Keeps m) (sym h.kept)
+    (keeps_over m (with_record m (record_of txn reply)) new.layers (keeps_record m (record_of txn reply)))
 
 -- a decided commit keeps the other transactions of the manager
-pub own_decided : (m : Managed) (txn : Transaction) (reply : CommitReply) (new : Managed) → IsDecided m txn reply new → (other : Transaction) → IsOwn m other → IsOwn new other
+pub own_decided : (m : Managed) (txn : Transaction) (reply : CommitReply) (new : Managed) → IsDecided m txn reply new
+    → (other : Transaction) → IsOwn m other → IsOwn new other
 own_decided m txn reply new h other own = (keeps_decided m txn reply new h).own other own
 
 -- what a side keeps by a step
@@ -80,13 +102,15 @@ record SideKeeps (old new : Side) : Type 0 where
 side_same : (old new : Side) → IfSome old.own (IsOwn old.manager) → new ≡ old → SideKeeps old new
 side_same old new own is = subst (SideKeeps old) (sym is) (record { keeps = keeps_same old.manager old.manager refl; own = own })
 
-side_with : (old : Side) (own : Option Transaction) → IfSome own (IsOwn old.manager) → (new : Side) → new ≡ record old { own = own } → SideKeeps old new
+side_with : (old : Side) (own : Option Transaction) → IfSome own (IsOwn old.manager) → (new : Side)
+    → new ≡ record old { own = own } → SideKeeps old new
 side_with old own h new is = subst (SideKeeps old) (sym is) (record { keeps = keeps_same old.manager old.manager refl; own = h })
 
 begun_own : (m : Managed) (client : ℕ) → IsOwn m (begun_at m client)
 begun_own m client = record { schema = refl; limit = refl; begun = omega arith; snapshot = λ above. sym (newest_whole m) }
 
-begin_keeps : (client : ℕ) (old new : Side) (reply : Reply) → IfSome old.own (IsOwn old.manager) → BeginStep client old reply new → SideKeeps old new
+begin_keeps : (client : ℕ) (old new : Side) (reply : Reply) → IfSome old.own (IsOwn old.manager) → BeginStep client old reply new
+    → SideKeeps old new
 begin_keeps client old new Begun own h = side_with old (Some (begun_at old.manager client)) (begun_own old.manager client) new h.1
 begin_keeps client old new AlreadyOpen own h = side_same old new own h.1
 begin_keeps client old new NoMemory own h = side_same old new own h.1
@@ -111,8 +135,11 @@ begin_keeps client old new (Cut count) own h = absurd h
 begin_keeps client old new Ended own h = absurd h
 begin_keeps client old new Stranger own h = absurd h
 
-write_keeps : (txn : Transaction) (write : Write) (old new : Side) (reply : Reply) → IsOwn old.manager txn → IfSome old.own (IsOwn old.manager) → OpenWriteStep txn write old reply new → SideKeeps old new
-write_keeps txn write old new (Wrote r) mine own h = side_with old (Some _) (record { schema = mine.schema; limit = mine.limit; begun = mine.begun; snapshot = mine.snapshot }) new h.2
+write_keeps : (txn : Transaction) (write : Write) (old new : Side) (reply : Reply) → IsOwn old.manager txn
+    → IfSome old.own (IsOwn old.manager) → OpenWriteStep txn write old reply new → SideKeeps old new
+write_keeps txn write old new (Wrote r) mine own h =
+    side_with old (Some _) (record { schema = mine.schema; limit = mine.limit; begun = mine.begun; snapshot = mine.snapshot }) new
+    h.2
 write_keeps txn write old new KeyColumn mine own h = side_same old new own h.1
 write_keeps txn write old new (TextTooLong n) mine own h = side_same old new own h.1
 write_keeps txn write old new NoMemory mine own h = side_same old new own h.1
@@ -140,8 +167,13 @@ is_none : (own : Option Transaction) → IsNone own → own ≡ None
 is_none None h = refl
 is_none (Some txn) h = cc h
 
-commit_keeps : (txn : Transaction) (old new : Side) (reply : Reply) → IfSome old.own (IsOwn old.manager) → OpenCommitStep txn old reply new → SideKeeps old new
-commit_keeps txn old new (Decided r) own h = record { keeps = keeps_decided old.manager txn r new.manager h.0; own = subst (λ (o : Option Transaction). IfSome o (IsOwn new.manager)) (sym (is_none new.own h.1)) tt }
+commit_keeps : (txn : Transaction) (old new : Side) (reply : Reply) → IfSome old.own (IsOwn old.manager)
+    → OpenCommitStep txn old reply new → SideKeeps old new
+commit_keeps txn old new (Decided r) own h =
+    record {
+      keeps = keeps_decided old.manager txn r new.manager h.0;
+      own = subst (λ (o : Option Transaction). IfSome o (IsOwn new.manager)) (sym (is_none new.own h.1)) tt;
+    }
 commit_keeps txn old new NoMemory own h = side_same old new own h.0
 commit_keeps txn old new Begun own h = absurd h
 commit_keeps txn old new AlreadyOpen own h = absurd h
@@ -178,7 +210,12 @@ if_some old new keeps (Some txn) h = keeps.own txn h
 
 -- a side whose transaction stays beside a manager that keeps it
 side_own : (old new : Side) → IfSome old.own (IsOwn old.manager) → new.own ≡ old.own → Keeps old.manager new.manager → SideKeeps old new
-side_own old new own same keeps = record { keeps = keeps; own = subst (λ (o : Option Transaction). IfSome o (IsOwn new.manager)) (sym same) (if_some old.manager new.manager keeps old.own own) }
+side_own old new own same keeps =
+    record {
+      keeps = keeps;
+      own = subst (λ (o : Option Transaction). IfSome o (IsOwn new.manager)) (sym same)
+          (if_some old.manager new.manager keeps old.own own);
+    }
 
 keeps_layers : (old new : Managed) (layers : Lower) → new ≡ with_layers old layers → Keeps old new
 keeps_layers old new layers is = subst (Keeps old) (sym is) (keeps_over old old layers (keeps_same old old refl))
@@ -189,7 +226,8 @@ fold_keeps old new reply own h = side_own old new own h.0 (⊎_elim
     (λ (t : (reply ≡ NoMemory) × (new.manager ≡ old.manager)). keeps_same old.manager new.manager t.1)
     h.1)
 
-rebuilt_keeps : (old new : Managed) (answer : Result ℕ CheckpointFault) → MatchResult answer (λ _. new ≡ rebuilt_of old) (λ _. new ≡ old) → Keeps old new
+rebuilt_keeps : (old new : Managed) (answer : Result ℕ CheckpointFault)
+    → MatchResult answer (λ _. new ≡ rebuilt_of old) (λ _. new ≡ old) → Keeps old new
 rebuilt_keeps old new (Ok generation) h = keeps_layers old new (alone (newest_stable old)) h
 rebuilt_keeps old new (Err fault) h = keeps_same old new h
 
@@ -197,7 +235,9 @@ rebuild_keeps : (old new : Side) (reply : Reply) → IfSome old.own (IsOwn old.m
 rebuild_keeps old new reply own h = side_own old new own h.0 (rebuilt_keeps old.manager new.manager h.1.0 h.1.2)
 
 -- by the transaction that is open
-step_keeps : (client : ℕ) (asked : Call) (m : Managed) (mine : Option Transaction) (new : Side) (rows : List Row) (reply : Reply) → IfSome mine (IsOwn m) → SideStep client asked (record { manager = m; own = mine }) rows reply new → SideKeeps (record { manager = m; own = mine }) new
+step_keeps : (client : ℕ) (asked : Call) (m : Managed) (mine : Option Transaction) (new : Side) (rows : List Row) (reply : Reply)
+    → IfSome mine (IsOwn m) → SideStep client asked (record { manager = m; own = mine }) rows reply new
+    → SideKeeps (record { manager = m; own = mine }) new
 step_keeps client call.Begin m mine new rows reply own h = begin_keeps client _ new reply own h.1
 step_keeps client (call.Write write) m None new rows reply own h = side_same _ new own h.1.1
 step_keeps client (call.Write write) m (Some txn) new rows reply own h = write_keeps txn write _ new reply own own h.1
@@ -211,14 +251,20 @@ step_keeps client call.Checkpoint m mine new rows reply own h = rebuild_keeps _ 
 step_keeps client call.Cut m mine new rows reply own h = cut_keeps _ new own h.1.1
 
 -- the clients are ready again
-pub ready_again : (schema : Columns) (count : ℕ) (m : Managed) (transactions : List (Option Transaction)) → IsReady schema count m transactions → (client : ℕ) (asked : Call) (mine : Option Transaction) (new : Side) (rows : List Row) (reply : Reply) → IfSome mine (IsOwn m)
-    → SideStep client asked (record { manager = m; own = mine }) rows reply new → IsReady schema count new.manager (set transactions client new.own)
+pub ready_again : (schema : Columns) (count : ℕ) (m : Managed) (transactions : List (Option Transaction))
+    → IsReady schema count m transactions
+    → (client : ℕ) (asked : Call) (mine : Option Transaction) (new : Side) (rows : List Row) (reply : Reply)
+    → IfSome mine (IsOwn m)
+    → SideStep client asked (record { manager = m; own = mine }) rows reply new
+    → IsReady schema count new.manager (set transactions client new.own)
 ready_again schema count m transactions h client asked mine new rows reply own step =
     let kept = step_keeps client asked m mine new rows reply own step in
     record {
       schema_is = kept.keeps.schema ∙ h.schema_is;
       many = length-set transactions client new.own ∙ h.many;
-      own = All-set (λ mine. IfSome mine (IsOwn new.manager)) transactions client new.own kept.own (λ k d lt. if_some m new.manager kept.keeps (get_or transactions k d) (h.own k d lt));
+      own =
+          All-set (λ mine. IfSome mine (IsOwn new.manager)) transactions client new.own kept.own
+          (λ k d lt. if_some m new.manager kept.keeps (get_or transactions k d) (h.own k d lt));
     }
 
 -- and no record has come into the history that wasn't made
@@ -232,9 +278,17 @@ made_again first m client asked mine new rows reply own before step =
 
 -- ---- a run goes on
 
-pub IsRun-more : (old mid new : State) (calls : List ClientCall) (lines : List ReplyLine) (asked : ClientCall) (these : List ReplyLine) → IsRun old calls lines mid → Step mid asked these new → IsRun old (calls ++ asked ∷ []) (lines ++ these) new
-IsRun-more old mid new [] lines asked these r s =
-    (new, these, [], ap (λ (ls : List ReplyLine). ls ++ these) r.0 ∙ sym (append-nil these), subst (λ (st : State). Step st asked these new) r.1 s, (refl, refl))
+pub IsRun-more : (old mid new : State) (calls : List ClientCall) (lines : List ReplyLine) (asked : ClientCall)
+    (these : List ReplyLine)
+    → IsRun old calls lines mid → Step mid asked these new → IsRun old (calls ++ asked ∷ []) (lines ++ these) new
+IsRun-more old mid new [] lines asked these r s = (
+  new,
+  these,
+  [],
+  ap (λ (ls : List ReplyLine). ls ++ these) r.0 ∙ sym (append-nil these),
+  subst (λ (st : State). Step st asked these new) r.1 s,
+  (refl, refl),
+)
 IsRun-more old mid new (c ∷ calls) lines asked these r s =
     let next = r.0 in
     let first = r.1 in

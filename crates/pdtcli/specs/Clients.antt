@@ -32,7 +32,9 @@ side_of_seat o seat = record { manager = o; own = seat.txn }
 
 -- a begin: over the version of all that the session has then seen
 abbrev pub SeatBegin : Managed → Seat → Reply → Seat → Type 0
-SeatBegin o old Begun new = IsNone old.txn × IsPrefix old.seen new.seen × (new ≡ record old { seen = new.seen; txn = Some (begun_in o new.seen old.client) })
+SeatBegin o old Begun new =
+    IsNone old.txn × IsPrefix old.seen new.seen
+    × (new ≡ record old { seen = new.seen; txn = Some (begun_in o new.seen old.client) })
 SeatBegin o old AlreadyOpen new = IsSome old.txn × (new ≡ old)
 SeatBegin o old Ended new = IsNone old.txn × (new ≡ old)
 SeatBegin o old NoMemory new = IsNone old.txn × (new ≡ old)
@@ -49,19 +51,24 @@ SeatCommit o old reply new = ⊥
 
 -- a cut tells how many records a history has that it handed out, which is a legal one of this opening
 abbrev pub IsCutReply : Managed → Reply → Type 0
-IsCutReply o (Cut count) = (history : Recorded) × IsHandedOut o history × IsLegal history.schema history.start history.records × (count ≡ length history.records)
+IsCutReply o (Cut count) =
+    (history : Recorded) × IsHandedOut o history × IsLegal history.schema history.start history.records
+    × (count ≡ length history.records)
 IsCutReply o NoMemory = Unit {0}
 IsCutReply o reply = ⊥
 
 -- the session's call may show these rows, be answered so, and leave this
 abbrev pub SeatAnswers : Managed → Call → Seat → List Row → Reply → Seat → Type 0
 SeatAnswers o call.Begin old rows reply new = (rows ≡ []) × SeatBegin o old reply new
-SeatAnswers o (call.Write write) old rows reply new = (rows ≡ []) × WriteStep old.txn write (side_of_seat o old) reply (side_of_seat o new) × (new ≡ record old { txn = new.txn })
+SeatAnswers o (call.Write write) old rows reply new =
+    (rows ≡ []) × WriteStep old.txn write (side_of_seat o old) reply (side_of_seat o new) × (new ≡ record old { txn = new.txn })
 SeatAnswers o (call.Read read) old rows reply new = ReadStep old.txn read rows reply × (new ≡ old)
 SeatAnswers o call.Commit old rows reply new = (rows ≡ []) × SeatCommit o old reply new
-SeatAnswers o call.Abort old rows reply new = (rows ≡ []) × AbortStep old.txn (side_of_seat o old) reply (side_of_seat o new) × (new ≡ record old { txn = new.txn })
+SeatAnswers o call.Abort old rows reply new =
+    (rows ≡ []) × AbortStep old.txn (side_of_seat o old) reply (side_of_seat o new) × (new ≡ record old { txn = new.txn })
 SeatAnswers o call.Fold old rows reply new = (rows ≡ []) × ((reply ≡ Folded) ⊎ (reply ≡ NoMemory)) × (new ≡ old)
-SeatAnswers o call.Checkpoint old rows reply new = (rows ≡ []) × ((answer : Result ℕ CheckpointFault) × (reply ≡ checkpoint_reply answer)) × (new ≡ old)
+SeatAnswers o call.Checkpoint old rows reply new =
+    (rows ≡ []) × ((answer : Result ℕ CheckpointFault) × (reply ≡ checkpoint_reply answer)) × (new ≡ old)
 SeatAnswers o call.Cut old rows reply new = (rows ≡ []) × IsCutReply o reply × (new ≡ old)
 
 -- how many commits a reply decides
@@ -86,7 +93,9 @@ pub record SeatServed (o : Managed) (old : Seat) (asked : ClientCall) (lines : L
 -- the lines of each call, in order
 abbrev pub IsSeatRun : Managed → Seat → List ClientCall → List ReplyLine → Seat → Type 0
 IsSeatRun o old [] lines new = (lines ≡ []) × (new ≡ old)
-IsSeatRun o old (asked ∷ calls) lines new = (mid : Seat) × (these : List ReplyLine) × (rest : List ReplyLine) × (lines ≡ these ++ rest) × SeatServed o old asked these mid × IsSeatRun o mid calls rest new
+IsSeatRun o old (asked ∷ calls) lines new =
+    (mid : Seat) × (these : List ReplyLine) × (rest : List ReplyLine) × (lines ≡ these ++ rest) × SeatServed o old asked these mid
+    × IsSeatRun o mid calls rest new
 
 -- a client's calls
 abbrev pub calls_of : ℕ → List ClientCall → List ClientCall
@@ -142,6 +151,7 @@ IsStartRefusal clients run_fault.NoMemory = Unit {0}
 
 -- why nothing is left of so many clients. There are too many exactly above 64; where there are none, only memory can be wanted
 abbrev pub IsClientsRefusal : ℕ → RunFault → Type 0
-IsClientsRefusal clients (run_fault.Open fault) = (1 ≤ clients) × (clients ≤ 64 → fault ≢ share_fault.BadLimit) × (64 < clients → fault ≡ share_fault.BadLimit)
+IsClientsRefusal clients (run_fault.Open fault) =
+    (1 ≤ clients) × (clients ≤ 64 → fault ≢ share_fault.BadLimit) × (64 < clients → fault ≡ share_fault.BadLimit)
 IsClientsRefusal clients (run_fault.NoThread client) = client < clients
 IsClientsRefusal clients run_fault.NoMemory = Unit {0}

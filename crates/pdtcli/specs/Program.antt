@@ -70,7 +70,9 @@ pub record IsRunFrom (manager : Managed) (script : Typed) (store : Taken) (left 
   pub transactions : List (Option Transaction)
   pub after : Taken
   pub clients : left.clients ≡ script.clients
-  pub run : IsRun (start_of manager script store) script.calls left.lines (record { manager = left.manager; transactions = transactions; store = after })
+  pub run :
+      IsRun (start_of manager script store) script.calls left.lines
+      (record { manager = left.manager; transactions = transactions; store = after })
 
 -- this is left of the script's clients on threads of their own, each of which made its calls; a record was made for each commit
 -- that was decided, and the manager is lawful
@@ -124,7 +126,8 @@ IsRefusalOf table script options UnreadableScript =
 IsRefusalOf table script options (Script fault) =
     (stable : Stable) × HasTable table stable × IsScriptRefusal stable.schema script (Script fault)
 IsRefusalOf table script options (Open fault) =
-    (inputs : Inputs) × AreInputs table script inputs × (fault ≡ unwrap_or (fault_of_opening inputs.stable options.recent options.limit) open_fault.NoMemory)
+    (inputs : Inputs) × AreInputs table script inputs
+    × (fault ≡ unwrap_or (fault_of_opening inputs.stable options.recent options.limit) open_fault.NoMemory)
 IsRefusalOf table script options refusal = ⊥
 
 -- ---- the status

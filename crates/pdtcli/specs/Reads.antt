@@ -45,7 +45,8 @@ ReadGives txn (Scan from to) rows answer = IsScan (rows_between txn from to) row
 -- a text of the key that is too long is told before any look at the image
 abbrev pub OpenReadStep : Option ShapeFault → Transaction → Read → List Row → Reply → Type 0
 OpenReadStep None txn read rows answer = ReadGives txn read rows answer
-OpenReadStep (Some fault) txn read rows answer = (rows ≡ []) × ((cell : ℕ) × (fault ≡ shape.TextTooLong cell) × (answer ≡ reply.TextTooLong cell))
+OpenReadStep (Some fault) txn read rows answer =
+    (rows ≡ []) × ((cell : ℕ) × (fault ≡ shape.TextTooLong cell) × (answer ≡ reply.TextTooLong cell))
 
 abbrev pub ReadStep : Option Transaction → Read → List Row → Reply → Type 0
 ReadStep None read rows answer = (rows ≡ []) × (answer ≡ reply.NotOpen)

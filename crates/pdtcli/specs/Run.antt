@@ -88,7 +88,8 @@ checkpoint_reply (Err (checkpoint.DeviceFailed i)) = DeviceFailed i
 abbrev pub RebuildStep : Side → Reply → Side → Type 0
 RebuildStep old reply new =
     (new.own ≡ old.own)
-    × ((answer : Result ℕ CheckpointFault) × (reply ≡ checkpoint_reply answer) × MatchResult answer (λ _. new.manager ≡ rebuilt_of old.manager) (λ _. new.manager ≡ old.manager))
+    × ((answer : Result ℕ CheckpointFault) × (reply ≡ checkpoint_reply answer)
+    × MatchResult answer (λ _. new.manager ≡ rebuilt_of old.manager) (λ _. new.manager ≡ old.manager))
 
 -- a cut hands out the history, and tells how many records it has
 abbrev pub CutStep : Side → Reply → Side → Type 0
@@ -189,7 +190,8 @@ lines_of asked rows reply = shown_lines asked rows ++ line_of asked reply ∷ []
 
 -- a client's side is served: the lines before the reply are those of rows, and the side takes the step
 abbrev pub IsServed : ClientCall → Side → List ReplyLine → Reply → List ReplyLine → Side → Type 0
-IsServed asked old before reply after new = (rows : List Row) × SideStep asked.client asked.call old rows reply new × (after ≡ before ++ shown_lines asked rows)
+IsServed asked old before reply after new =
+    (rows : List Row) × SideStep asked.client asked.call old rows reply new × (after ≡ before ++ shown_lines asked rows)
 
 -- the call's client takes a step, which leaves the others, the store takes its own, and the lines tell them
 pub record Step (old : State) (asked : ClientCall) (lines : List ReplyLine) (new : State) : Type 0 where
@@ -205,7 +207,9 @@ pub record Step (old : State) (asked : ClientCall) (lines : List ReplyLine) (new
 -- the lines of each call, in order
 abbrev pub IsRun : State → List ClientCall → List ReplyLine → State → Type 0
 IsRun old [] lines new = (lines ≡ []) × (new ≡ old)
-IsRun old (asked ∷ calls) lines new = (mid : State) × (these : List ReplyLine) × (rest : List ReplyLine) × (lines ≡ these ++ rest) × Step old asked these mid × IsRun mid calls rest new
+IsRun old (asked ∷ calls) lines new =
+    (mid : State) × (these : List ReplyLine) × (rest : List ReplyLine) × (lines ≡ these ++ rest) × Step old asked these mid
+    × IsRun mid calls rest new
 
 -- ---- counts
 

@@ -5,14 +5,6 @@ use Rattle.values.specs.declared.fault.ShapeFault.TheVariants as shape
 use Rattle.pdtcli.specs.declared.reply.Reply.{Reply}
 use Rattle.pdtcli.specs.declared.reply.Reply.TheVariants as answer
 
--- the faults of shape that a write of a script can have: its counts and types are those of the schema
-abbrev pub IsToldShape : ShapeFault → Type 0
-IsToldShape shape.WrongCount = ⊥
-IsToldShape (shape.WrongType col) = ⊥
-IsToldShape (shape.TextTooLong cell) = Unit {0}
-IsToldShape shape.NoSuchColumn = ⊥
-IsToldShape shape.KeyColumn = Unit {0}
-
 -- the reply that tells a fault, and none where there is none; no reply tells a wrong count, a wrong type or a missing column
 abbrev pub IsToldAs : Option ShapeFault → Option Reply → Type 0
 IsToldAs None told = told ≡ None

@@ -17,7 +17,8 @@ moved xs ys n = Unit {0}
 
 adds_goes : (log v : List Item) (e : Item) (old n : ℕ) → length log ≡ n + 1 → length v ≡ old + 1 → IsPrefix v log
     → (b : Bool) → (n == old) ≡ b
-    → Goes IsCounted shown moved 0 (v, (no_nib, None)) (λ n. either (n == old) (old + 1) n) (Adds (step 0 old (old + 1) e) (v, (no_nib, None))) ((n, true) ∷ []) log
+    → Goes IsCounted shown moved 0 (v, (no_nib, None)) (λ n. either (n == old) (old + 1) n)
+    (Adds (step 0 old (old + 1) e) (v, (no_nib, None))) ((n, true) ∷ []) log
 adds_goes log v e old n long len pre true is =
     let here : n ≡ old = grind (arith, nat_tests) in
     let same : v ≡ log = prefix_whole v log pre (omega arith) in
@@ -42,7 +43,11 @@ adds_goes log v e old n long len pre false is =
     )
 
 pub adds_moves : (v : List Item) (e : Item) (old : ℕ) → length v ≡ old + 1
-    → Moves IsCounted shown moved 0 (v, (no_nib, None)) (λ n. either (n == old) (old + 1) n) (Adds (step 0 old (old + 1) e) (v, (no_nib, None)))
+    → Moves IsCounted shown moved 0 (v, (no_nib, None)) (λ n. either (n == old) (old + 1) n)
+    (Adds (step 0 old (old + 1) e) (v, (no_nib, None)))
 adds_moves v e old len cs log kept pre away =
-    let P : List Cell → Type 0 = λ c. (0 < length c) × ((cell c 0).1 ≡ true) × Goes IsCounted shown moved 0 (v, (no_nib, None)) (λ n. either (n == old) (old + 1) n) (Adds (step 0 old (old + 1) e) (v, (no_nib, None))) c log in
+    let P : List Cell → Type 0 =
+    λ c. (0 < length c) × ((cell c 0).1 ≡ true)
+    × Goes IsCounted shown moved 0 (v, (no_nib, None)) (λ n. either (n == old) (old + 1) n)
+    (Adds (step 0 old (old + 1) e) (v, (no_nib, None))) c log in
     subst P (sym kept.2) (omega arith, refl, adds_goes log v e old kept.0 kept.1 len pre (kept.0 == old) refl)

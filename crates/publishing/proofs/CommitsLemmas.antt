@@ -28,7 +28,8 @@ all_effects-drop (suc n) (c ∷ xs) = all_effects-drop n xs
 -- ---- a history
 
 module _ (schema : Columns) (start : Start) where
-  with_granted : (before : List Effects) (c : Commit) (reply : CommitReply) → commits_with before c.effects reply ≡ before ++ all_effects (granted_by c reply)
+  with_granted : (before : List Effects) (c : Commit) (reply : CommitReply)
+      → commits_with before c.effects reply ≡ before ++ all_effects (granted_by c reply)
   with_granted before c (Committed n) = refl
   with_granted before c (Conflict n) = sym (append-nil before)
   with_granted before c (TooOld n) = sym (append-nil before)
@@ -49,34 +50,42 @@ module _ (schema : Columns) (start : Start) where
 
   pub commits_from_records-push : (before : List Effects) (history : List Record) (r : Record) →
       commits_from_records schema start before (history ++ r ∷ [])
-      ≡ commits_from_records schema start before history ++ granted_by (asked_by schema start (commits_from schema start before history) r) r.reply
+      ≡ commits_from_records schema start before history
+      ++ granted_by (asked_by schema start (commits_from schema start before history) r) r.reply
   commits_from_records-push before [] r = append-nil (granted_by (asked_by schema start before r) r.reply)
   commits_from_records-push before (s ∷ history) r =
       let here = granted_by (asked_by schema start before s) s.reply in
       let next = commits_after schema start before s in
       ap (λ (cs : List Commit). here ++ cs) (commits_from_records-push next history r)
-      ∙ sym (append_assoc here (commits_from_records schema start next history) (granted_by (asked_by schema start (commits_from schema start next history) r) r.reply))
+      ∙ sym (append_assoc here (commits_from_records schema start next history)
+      (granted_by (asked_by schema start (commits_from schema start next history) r) r.reply))
 
 -- ---- a list
 
 pub commits_in-append : (xs ys : List Item) → commits_in (xs ++ ys) ≡ commits_in xs ++ commits_in ys
 commits_in-append [] ys = refl
 commits_in-append (x ∷ xs) ys =
-    ap (λ (cs : List Commit). commits_of_item x ++ cs) (commits_in-append xs ys) ∙ sym (append_assoc (commits_of_item x) (commits_in xs) (commits_in ys))
+    ap (λ (cs : List Commit). commits_of_item x ++ cs) (commits_in-append xs ys)
+    ∙ sym (append_assoc (commits_of_item x) (commits_in xs) (commits_in ys))
 
-pub last_base-push : (base : ℕ) (list : List Item) (item : Item) → last_base base (list ++ item ∷ []) ≡ base_after (last_base base list) item
+pub last_base-push : (base : ℕ) (list : List Item) (item : Item)
+    → last_base base (list ++ item ∷ []) ≡ base_after (last_base base list) item
 last_base-push base [] item = refl
 last_base-push base (x ∷ list) item = last_base-push (base_after base x) list item
 
 module _ (o : Managed) where
   pub all_commits-append : (xs ys : List Item) → all_commits o (xs ++ ys) ≡ all_commits o xs ++ commits_in ys
-  all_commits-append xs ys = ap (λ (cs : List Commit). commits_made o ++ cs) (commits_in-append xs ys) ∙ sym (append_assoc (commits_made o) (commits_in xs) (commits_in ys))
+  all_commits-append xs ys =
+      ap (λ (cs : List Commit). commits_made o ++ cs) (commits_in-append xs ys)
+      ∙ sym (append_assoc (commits_made o) (commits_in xs) (commits_in ys))
 
   pub all_commits-prefix : (xs ys : List Item) → IsPrefix xs ys → IsPrefix (all_commits o xs) (all_commits o ys)
   all_commits-prefix xs ys p = (commits_in p.0, sym (all_commits-append xs p.0) ∙ ap (all_commits o) p.1)
 
   pub all_commits-push : (list : List Item) (item : Item) → all_commits o (list ++ item ∷ []) ≡ all_commits o list ++ commits_of_item item
-  all_commits-push list item = all_commits-append list (item ∷ []) ∙ ap (λ (cs : List Commit). all_commits o list ++ cs) (append-nil (commits_of_item item))
+  all_commits-push list item =
+      all_commits-append list (item ∷ [])
+      ∙ ap (λ (cs : List Commit). all_commits o list ++ cs) (append-nil (commits_of_item item))
 
 -- the first effects are those of each list that begins with the commits
 pub effects_prefix : (xs ys : List Commit) (n : ℕ) → IsPrefix xs ys → n ≤ length xs → take n (all_effects ys) ≡ take n (all_effects xs)

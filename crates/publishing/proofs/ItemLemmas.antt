@@ -25,7 +25,8 @@ use Rattle.publishing.proofs.ListedLemmas.{number_is, table_is}
 
 module _ (m : Managed) (h : IsManaged m) (txn : Transaction) (k : IsTransaction txn) (own : IsOwn m txn) where
   -- a commit that is granted keeps the limit, and isn't too old
-  granted : (n : ℕ) → Committed n ≡ reply_due m txn → (is_too_old m txn ≡ false) × (nat_lt m.start.limit (length (table_with (newest_table m) (effects_of txn))) ≡ false)
+  granted : (n : ℕ) → Committed n ≡ reply_due m txn
+      → (is_too_old m txn ≡ false) × (nat_lt m.start.limit (length (table_with (newest_table m) (effects_of txn))) ≡ false)
   granted n due =
       let tests = granted_when (is_too_old m txn) (list_any (conflicts m.start.rule (effects_of txn)) (commits_since m txn))
       (nat_lt m.start.limit (length (table_with (newest_table m) (effects_of txn)))) (newest_number m) n due in
@@ -35,7 +36,12 @@ module _ (m : Managed) (h : IsManaged m) (txn : Transaction) (k : IsTransaction 
   granted_within n due = let fits = (granted n due).1 in grind (arith, nat_tests)
 
   added : (reply : CommitReply) → reply ≡ reply_due m txn →
-      granted_by (record { client = txn.client; begin = txn.begin; effects = effects_of_record m.schema m.start (managed.commits_in m) (record_of txn reply) }) reply ≡ granted_by (commit_of txn) reply
+      granted_by (record {
+        client = txn.client;
+        begin = txn.begin;
+        effects = effects_of_record m.schema m.start (managed.commits_in m) (record_of txn reply);
+      }) reply
+      ≡ granted_by (commit_of txn) reply
   added (Committed n) due =
       let above = above_base m txn own (granted n due).0 in
       (λ i. record { client = txn.client; begin = txn.begin; effects = recorded_is m h txn k own (Committed n) due above i } ∷ [])
@@ -43,7 +49,8 @@ module _ (m : Managed) (h : IsManaged m) (txn : Transaction) (k : IsTransaction 
   added (TooOld n) due = refl
   added (Full n) due = refl
 
-  pub commits_recorded : (reply : CommitReply) → reply ≡ reply_due m txn → commits_made (with_record m (record_of txn reply)) ≡ commits_made m ++ granted_by (commit_of txn) reply
+  pub commits_recorded : (reply : CommitReply) → reply ≡ reply_due m txn
+      → commits_made (with_record m (record_of txn reply)) ≡ commits_made m ++ granted_by (commit_of txn) reply
   commits_recorded reply due =
       commits_from_records-push m.schema m.start [] m.history (record_of txn reply)
       ∙ ap (λ (cs : List Commit). commits_made m ++ cs) (added reply due)
@@ -114,7 +121,10 @@ module _ (o : Managed) (list : List Item) where
         let n : base_in o list - o.start.base ≤ length (all_commits o list) = omega (arith, based) in
         let table : table_at o more (base_in o more) ≡ table_at o list (base_in o list) =
         ap (table_at o more) base_same
-        ∙ ap (table_with_all o.start.table) (effects_prefix (all_commits o list) (all_commits o more) (base_in o list - o.start.base) (all_commits-prefix o list more (item ∷ [], refl)) n) in
+        ∙ ap (table_with_all o.start.table)
+        (effects_prefix (all_commits o list) (all_commits o more) (base_in o list - o.start.base)
+        (all_commits-prefix o list more (item ∷ [], refl)) n)
+        in
         (λ i. record { table = table i; base = base_same i; limit = o.start.limit; recent = o.start.recent; rule = o.start.rule })
 
     since_more : base_in o list ≤ number_in o list → commits_since_start o more ≡ commits_since_start o list ++ commits_of_item item
@@ -124,7 +134,8 @@ module _ (o : Managed) (list : List Item) where
         ∙ drop-append-le (base_in o list - o.start.base) (all_commits o list) (commits_of_item item) n
 
     -- a manager that made the commits of the item since
-    listed_with : (m m' : Managed) → IsListed o list m → m'.schema ≡ m.schema → m'.start ≡ m.start → commits_made m' ≡ commits_made m ++ commits_of_item item → IsListed o more m'
+    listed_with : (m m' : Managed) → IsListed o list m → m'.schema ≡ m.schema → m'.start ≡ m.start
+        → commits_made m' ≡ commits_made m ++ commits_of_item item → IsListed o more m'
     listed_with m m' l schema start commits =
         let base = base_same in
         let from = l.from_base in
@@ -139,13 +150,15 @@ module _ (o : Managed) (list : List Item) where
         }
 
   -- the same table once more
-  pub listed_same : (v : LayeredVersion) (item : Item) → IsSame v item → (m : Managed) → IsListed o list m → IsListed o (list ++ item ∷ []) m
+  pub listed_same : (v : LayeredVersion) (item : Item) → IsSame v item → (m : Managed) → IsListed o list m
+      → IsListed o (list ++ item ∷ []) m
   listed_same v item is m l =
       listed_with item (same_base v item (base_in o list) is) m m l refl refl
       (sym (append-nil (commits_made m)) ∙ ap (λ (cs : List Commit). commits_made m ++ cs) (sym (same_commits v item is)))
 
   all_commits_quiet : (item : Item) → commits_of_item item ≡ [] → all_commits o (list ++ item ∷ []) ≡ all_commits o list
-  all_commits_quiet item none = all_commits-push o list item ∙ ap (λ (cs : List Commit). all_commits o list ++ cs) none ∙ append-nil (all_commits o list)
+  all_commits_quiet item none =
+      all_commits-push o list item ∙ ap (λ (cs : List Commit). all_commits o list ++ cs) none ∙ append-nil (all_commits o list)
 
   -- an item that is no commit leaves the version
   version_quiet : (item : Item) → commits_of_item item ≡ [] → version_in o list ≡ version_in o (list ++ item ∷ [])
@@ -174,7 +187,8 @@ module _ (o : Managed) (list : List Item) where
     pub of_list : IsOfList o list (history_of m)
     of_list = record { schema = l.schema; start = l.start; commits = l.commits }
 
-    pub listed_cut : (base : ℕ) (v : LayeredVersion) (item : Item) → IsCutAt base v item → base ≡ newest_number m → IsListed o (list ++ item ∷ []) (cut_of m)
+    pub listed_cut : (base : ℕ) (v : LayeredVersion) (item : Item) → IsCutAt base v item → base ≡ newest_number m
+        → IsListed o (list ++ item ∷ []) (cut_of m)
     listed_cut base v item cuts is =
         let more = list ++ item ∷ [] in
         let number = number_is o list m l in
@@ -189,7 +203,13 @@ module _ (o : Managed) (list : List Item) where
         record {
           schema = l.schema;
           start =
-              (λ i. record { table = table i; base = (sym is ∙ sym at) i; limit = (l.start i).limit; recent = (l.start i).recent; rule = (l.start i).rule });
+              (λ i. record {
+                table = table i;
+                base = (sym is ∙ sym at) i;
+                limit = (l.start i).limit;
+                recent = (l.start i).recent;
+                rule = (l.start i).rule;
+              });
           commits = sym (
               (λ i. drop (all i) (quiet i))
               ∙ ap (λ (cs : List Commit). drop (length (all_commits o list)) cs) (sym (append-nil (all_commits o list)))
@@ -202,17 +222,23 @@ module _ (o : Managed) (list : List Item) where
 
     module _ (h : IsManaged m) (txn : Transaction) (k : IsTransaction txn) (own : IsOwn m txn) where
       -- a reply that leaves the table leaves the list
-      pub listed_refused : (reply : CommitReply) → reply ≡ reply_due m txn → granted_by (commit_of txn) reply ≡ [] → IsListed o list (with_record m (record_of txn reply))
+      pub listed_refused : (reply : CommitReply) → reply ≡ reply_due m txn → granted_by (commit_of txn) reply ≡ []
+          → IsListed o list (with_record m (record_of txn reply))
       listed_refused reply due none = record {
         schema = l.schema;
         start = l.start;
-        commits = commits_recorded m h txn k own reply due ∙ ap (λ (cs : List Commit). commits_made m ++ cs) none ∙ append-nil (commits_made m) ∙ l.commits;
+        commits =
+            commits_recorded m h txn k own reply due
+            ∙ ap (λ (cs : List Commit). commits_made m ++ cs) none
+            ∙ append-nil (commits_made m)
+            ∙ l.commits;
         from_base = l.from_base;
         based = l.based;
       }
 
       -- a commit that is granted is the next item
-      pub listed_commit : (item : Item) → base_after (base_in o list) item ≡ base_in o list → commits_of_item item ≡ commit_of txn ∷ [] → (n : ℕ) → Committed n ≡ reply_due m txn →
+      pub listed_commit : (item : Item) → base_after (base_in o list) item ≡ base_in o list
+          → commits_of_item item ≡ commit_of txn ∷ [] → (n : ℕ) → Committed n ≡ reply_due m txn →
           IsListed o (list ++ item ∷ []) (with_record m (record_of txn (Committed n)))
       listed_commit item same is n due =
           listed_with item same m (with_record m (record_of txn (Committed n))) l refl refl
@@ -220,21 +246,28 @@ module _ (o : Managed) (list : List Item) where
 
     -- and the version after it is that of the list
     pub version_commit : (item : Item) (txn : Transaction) → commits_of_item item ≡ commit_of txn ∷ [] → (v : TableVersion) →
-        v ≡ record { schema = m.schema; table = table_with (newest_table m) (effects_of txn); number = suc (newest_number m) } → v ≡ version_in o (list ++ item ∷ [])
+        v ≡ record { schema = m.schema; table = table_with (newest_table m) (effects_of txn); number = suc (newest_number m) }
+        → v ≡ version_in o (list ++ item ∷ [])
     version_commit item txn is v granted =
         let more = list ++ item ∷ [] in
         let whole = all_effects (all_commits o list) in
-        let push : all_commits o more ≡ all_commits o list ++ commit_of txn ∷ [] = all_commits-push o list item ∙ ap (λ (cs : List Commit). all_commits o list ++ cs) is in
-        let effects : all_effects (all_commits o more) ≡ whole ++ effects_of txn ∷ [] = ap all_effects push ∙ all_effects-append (all_commits o list) (commit_of txn ∷ []) in
+        let push : all_commits o more ≡ all_commits o list ++ commit_of txn ∷ [] =
+        all_commits-push o list item ∙ ap (λ (cs : List Commit). all_commits o list ++ cs) is in
+        let effects : all_effects (all_commits o more) ≡ whole ++ effects_of txn ∷ [] =
+        ap all_effects push ∙ all_effects-append (all_commits o list) (commit_of txn ∷ []) in
         let number : suc (newest_number m) ≡ number_in o more =
-        (let a = number_is o list m l in let b = ap (λ (cs : List Commit). length cs) push in let c = length-append (all_commits o list) (commit_of txn ∷ []) in omega (arith, a, b, c)) in
+        (let a = number_is o list m l in
+        let b = ap (λ (cs : List Commit). length cs) push in
+        let c = length-append (all_commits o list) (commit_of txn ∷ []) in omega (arith, a, b, c))
+        in
         let len = length-all_effects (all_commits o more) in
         let n : number_in o more - o.start.base ≡ length (all_effects (all_commits o more)) = omega (arith, len) in
         let all : take (number_in o more - o.start.base) (all_effects (all_commits o more)) ≡ whole ++ effects_of txn ∷ [] =
         ap (λ j. take j (all_effects (all_commits o more))) n ∙ take_length (all_effects (all_commits o more)) ∙ effects in
         let len0 = length-all_effects (all_commits o list) in
         let n0 : number_in o list - o.start.base ≡ length whole = omega (arith, len0) in
-        let old : table_at o list (number_in o list) ≡ table_with_all o.start.table whole = ap (λ j. table_with_all o.start.table (take j whole)) n0 ∙ ap (table_with_all o.start.table) (take_length whole) in
+        let old : table_at o list (number_in o list) ≡ table_with_all o.start.table whole =
+        ap (λ j. table_with_all o.start.table (take j whole)) n0 ∙ ap (table_with_all o.start.table) (take_length whole) in
         let table : table_with (newest_table m) (effects_of txn) ≡ table_at o more (number_in o more) =
         ap (λ t. table_with t (effects_of txn)) (table_is o list m l ∙ old)
         ∙ sym (table_with_all-one o.start.table whole (effects_of txn))

@@ -29,7 +29,8 @@ module _ (o : Managed) where
         begun = omega (arith, begun, le);
         snapshot =
             b.snapshot
-            ∙ ap (table_with_all o.start.table) (sym (effects_prefix (all_commits o xs) (all_commits o ys) (txn.begin - o.start.base) p (omega (arith, begun))));
+            ∙ ap (table_with_all o.start.table)
+            (sym (effects_prefix (all_commits o xs) (all_commits o ys) (txn.begin - o.start.base) p (omega (arith, begun))));
       }
 
   -- it began in each longer list too
@@ -37,16 +38,26 @@ module _ (o : Managed) where
   begun_more xs ys txn p b = begun_by xs ys txn (all_commits-prefix o xs ys p) b
 
   -- of two beginnings of one list it began in the one with no fewer commits
-  pub begun_here : (xs ys both : List Item) (txn : Transaction) → IsPrefix xs both → IsPrefix ys both → number_in o xs ≤ number_in o ys → IsBegun o xs txn → IsBegun o ys txn
+  pub begun_here : (xs ys both : List Item) (txn : Transaction) → IsPrefix xs both → IsPrefix ys both
+      → number_in o xs ≤ number_in o ys → IsBegun o xs txn → IsBegun o ys txn
   begun_here xs ys both txn p q le b =
-      begun_by xs ys txn (prefix_shorter (all_commits o xs) (all_commits o ys) (all_commits o both) (all_commits-prefix o xs both p) (all_commits-prefix o ys both q) (omega (arith, le))) b
+      begun_by xs ys txn
+      (prefix_shorter (all_commits o xs) (all_commits o ys) (all_commits o both) (all_commits-prefix o xs both p)
+      (all_commits-prefix o ys both q) (omega (arith, le)))
+      b
 
   -- ---- the opening
 
   start_at_opening : o.start ≡ start_in o []
   start_at_opening =
       let none : o.start.base - o.start.base ≡ 0 = omega arith in
-      (λ i. record { table = table_with_all o.start.table (take (sym none i) (all_effects (all_commits o []))); base = o.start.base; limit = o.start.limit; recent = o.start.recent; rule = o.start.rule })
+      (λ i. record {
+        table = table_with_all o.start.table (take (sym none i) (all_effects (all_commits o [])));
+        base = o.start.base;
+        limit = o.start.limit;
+        recent = o.start.recent;
+        rule = o.start.rule;
+      })
 
   pub listed_at_opening : IsListed o [] o
   listed_at_opening =
@@ -77,7 +88,8 @@ module _ (o : Managed) where
     pub number_is : newest_number m ≡ number_in o list
     number_is =
         let base = base_is in
-        let count : length (managed.commits_in m) ≡ length whole - cut = ap (λ (es : List Effects). length es) commits_are ∙ length-drop cut whole in
+        let count : length (managed.commits_in m) ≡ length whole - cut =
+        ap (λ (es : List Effects). length es) commits_are ∙ length-drop cut whole in
         let len = length-all_effects (all_commits o list) in
         let from = l.from_base in
         let based = l.based in
@@ -120,5 +132,6 @@ module _ (o : Managed) where
     -- the reply that is due to it is that of the list
     pub reply_here : (txn : Transaction) → reply_due m txn ≡ reply_at o list txn
     reply_here txn =
-        let effects : managed.commits_in m ≡ all_effects (commits_since_start o list) = effects_of_commits m.schema m.start [] m.history ∙ ap all_effects l.commits in
+        let effects : managed.commits_in m ≡ all_effects (commits_since_start o list) =
+        effects_of_commits m.schema m.start [] m.history ∙ ap all_effects l.commits in
         (λ i. due_reply (l.start i) (effects i) txn.begin (effects_of txn))

@@ -67,17 +67,24 @@ entries_sync : IsSync DeltaTree.the_row
 entries_sync = search (tree_sync, sendable, crosses) depth 60
 
 pub version_send : IsSend Version.the_row
-version_send = let a = entries_send in let b = entries_sync in let c = stable.the_send in let d = stable.the_sync in search (crosses, sendable) depth 40
+version_send =
+    let a = entries_send in
+    let b = entries_sync in let c = stable.the_send in let d = stable.the_sync in search (crosses, sendable) depth 40
 
 pub version_sync : IsSync Version.the_row
-version_sync = let a = entries_send in let b = entries_sync in let c = stable.the_send in let d = stable.the_sync in search (crosses, sendable) depth 40
+version_sync =
+    let a = entries_send in
+    let b = entries_sync in let c = stable.the_send in let d = stable.the_sync in search (crosses, sendable) depth 40
 
 txn_send : IsSend Txn.the_row
 txn_send =
     let a = entries_send in let b = version_send in let c = place.the_send in let d = write.the_send in
     view_send _ _ _ _ _ (declared_send inside.the_type (
       search (crosses, sendable) depth 20,
-      (as_row_send Version.the_field b, (search (crosses, sendable) depth 20, (as_row_send DeltaTree.the_field a, (search (crosses, sendable) depth 20, (c, tt))))),
+      (
+        as_row_send Version.the_field b,
+        (search (crosses, sendable) depth 20, (as_row_send DeltaTree.the_field a, (search (crosses, sendable) depth 20, (c, tt)))),
+      ),
     ))
 
 pub published_send : IsSend Published.the_row
@@ -86,9 +93,13 @@ published_send = let a = version_send in let b = list.the_send in search (crosse
 pub published_sync : IsSync Published.the_row
 published_sync = let a = version_sync in let b = list.the_sync in search (crosses, sendable) depth 40
 
-reader_send : IsSend (Reader.the_row Published.the_row (Option.the_row SeenList.the_row) Publishing.the_row Global.the_row protocol.ghosts heap.ghosts)
+reader_send :
+    IsSend (Reader.the_row Published.the_row (Option.the_row SeenList.the_row) Publishing.the_row Global.the_row protocol.ghosts
+    heap.ghosts)
 reader_send =
-    let a = published_send in let b = published_sync in let c = list.the_send in let d = list.the_sync in search (reader.the_send, crosses, sendable) depth 40
+    let a =
+    published_send in let b = published_sync in let c = list.the_send in let d = list.the_sync in search
+    (reader.the_send, crosses, sendable) depth 40
 
 history_send : IsSend History.the_row
 history_send =
@@ -97,12 +108,21 @@ history_send =
       search (crosses, sendable) depth 20,
       (
         search sendable depth 20,
-        (rules.the_send, (as_row_send (LinkedList.the_field Record.the_row Global.the_row heap.ghosts) (linked.the_send Record.the_row Global.the_row heap.ghosts record_of.the_send global.the_send frees), tt)),
+        (
+          rules.the_send,
+          (
+            as_row_send (LinkedList.the_field Record.the_row Global.the_row heap.ghosts)
+                (linked.the_send Record.the_row Global.the_row heap.ghosts record_of.the_send global.the_send frees),
+            tt,
+          ),
+        ),
       ),
     ))
 
 held_send : IsSend Held.the_row
-held_send = let a = entries_send in let b = entries_sync in let c = stable.the_send in let d = stable.the_sync in search (crosses, sendable) depth 40
+held_send =
+    let a = entries_send in
+    let b = entries_sync in let c = stable.the_send in let d = stable.the_sync in search (crosses, sendable) depth 40
 
 manager_send : IsSend Manager.the_row
 manager_send = view_send _ _ _ _ _ (declared_send manager.the_type (
@@ -114,7 +134,8 @@ manager_send = view_send _ _ _ _ _ (declared_send manager.the_type (
       (
         as_row_send Version.the_field version_send,
         (
-          as_row_send (Ring.the_field DeltaTree.the_row Global.the_row heap.ghosts) (ring.the_send DeltaTree.the_row Global.the_row heap.ghosts entries_send global.the_send frees),
+          as_row_send (Ring.the_field DeltaTree.the_row Global.the_row heap.ghosts)
+              (ring.the_send DeltaTree.the_row Global.the_row heap.ghosts entries_send global.the_send frees),
           (search sendable depth 20, tt),
         ),
       ),
@@ -123,11 +144,14 @@ manager_send = view_send _ _ _ _ _ (declared_send manager.the_type (
 ))
 
 abbrev writer_row : RattleType
-writer_row = Writer.the_row Published.the_row Published.the_row (Option.the_row SeenList.the_row) Publishing.the_row Global.the_row SeenList.the_row absorbs.ghosts protocol.ghosts heap.ghosts
+writer_row =
+    Writer.the_row Published.the_row Published.the_row (Option.the_row SeenList.the_row) Publishing.the_row Global.the_row
+    SeenList.the_row absorbs.ghosts protocol.ghosts heap.ghosts
 
 writer_send : IsSend writer_row
 writer_send =
-    writer.the_send Published.the_row Published.the_row (Option.the_row SeenList.the_row) Publishing.the_row Global.the_row SeenList.the_row absorbs.ghosts protocol.ghosts heap.ghosts
+    writer.the_send Published.the_row Published.the_row (Option.the_row SeenList.the_row) Publishing.the_row Global.the_row
+    SeenList.the_row absorbs.ghosts protocol.ghosts heap.ghosts
     published_send published_send global.the_send published_sync global.the_sync frees
 
 writer_place_send : IsSend (Option.the_row writer_row)
@@ -153,7 +177,13 @@ module _ (O : RattleType) (g : opening.Ghosts O.Denot) (h : ledger.Ghosts O.Deno
               search (crosses, sendable, as_row_send) depth 20,
               (
                 search (crosses, sendable, as_row_send) depth 20,
-                (as_row_send SeenList.the_field c, (search (crosses, sendable, as_row_send) depth 20, (search (crosses, sendable) depth 20, (search (crosses, sendable) depth 20, tt)))),
+                (
+                  as_row_send SeenList.the_field c,
+                  (
+                    search (crosses, sendable, as_row_send) depth 20,
+                    (search (crosses, sendable) depth 20, (search (crosses, sendable) depth 20, tt)),
+                  ),
+                ),
               ),
             ),
           ),

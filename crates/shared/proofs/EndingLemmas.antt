@@ -23,14 +23,16 @@ count_commits-append : (xs ys : List Record) → count_commits (xs ++ ys) ≡ co
 count_commits-append [] ys = omega arith
 count_commits-append (r ∷ xs) ys = let rest = count_commits-append xs ys in omega (arith, rest)
 
-length-commits_with : (before : List Effects) (effects : Effects) (reply : CommitReply) → length (commits_with before effects reply) ≡ length before + commits_by reply
+length-commits_with : (before : List Effects) (effects : Effects) (reply : CommitReply)
+    → length (commits_with before effects reply) ≡ length before + commits_by reply
 length-commits_with before effects (Committed n) = length-append before (effects ∷ [])
 length-commits_with before effects (Conflict n) = omega arith
 length-commits_with before effects (TooOld n) = omega arith
 length-commits_with before effects (Full n) = omega arith
 
 module _ (schema : Columns) (start : Start) where
-  length-commits_from : (before : List Effects) (history : List Record) → length (commits_from schema start before history) ≡ length before + count_commits history
+  length-commits_from : (before : List Effects) (history : List Record)
+      → length (commits_from schema start before history) ≡ length before + count_commits history
   length-commits_from before [] = omega arith
   length-commits_from before (r ∷ history) =
       let one = length-commits_with before (effects_of_record schema start before r) r.reply in
@@ -90,7 +92,8 @@ no_records [] none = refl
 no_records (x ∷ xs) none = absurd (omega (arith, none))
 
 -- where no cut took a record
-pub keeps_all : (o : Managed) (seats : List Seat) (m : Managed) → IsClosed o seats m → length o.history + m.made ≡ length m.history + o.made →
+pub keeps_all : (o : Managed) (seats : List Seat) (m : Managed) → IsClosed o seats m
+    → length o.history + m.made ≡ length m.history + o.made →
     (m.start ≡ o.start) × IsPrefix o.history m.history
 keeps_all o seats m c all =
     let g = c.goes_on in
@@ -115,9 +118,12 @@ keeps_all o seats m c all =
 
 -- nothing has happened since the opening
 pub closed_at_opening : (o : Managed) → IsClosed o [] o
-closed_at_opening o = record { list = []; listed = listed_at_opening o; seen = All-nil (λ (s : Seat). AreOfOneList s.seen []); goes_on = goes_on-self o }
+closed_at_opening o =
+    record
+    { list = []; listed = listed_at_opening o; seen = All-nil (λ (s : Seat). AreOfOneList s.seen []); goes_on = goes_on-self o }
 
 -- what a cut hands out under the lock is of the opening
-pub handed_on : {E : Type 0} (o : Managed) (list : List Item) (r : Result Recorded E) → IfOk r (λ h. IsOfList o list h) → IfOk r (λ h. IsHandedOut o h)
+pub handed_on : {E : Type 0} (o : Managed) (list : List Item) (r : Result Recorded E) → IfOk r (λ h. IsOfList o list h)
+    → IfOk r (λ h. IsHandedOut o h)
 handed_on o list (Ok h) is = (list, is)
 handed_on o list (Err e) is = tt

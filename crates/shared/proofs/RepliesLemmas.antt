@@ -18,7 +18,8 @@ use Rattle.shared.specs.Sessions.{HasNumber, IsReplied, StandsAt, number_of}
 use Rattle.shared.specs.Stands.{IsGrown}
 
 -- the number in a reply that is due
-due_numbered : (old clash full : Bool) (n : ℕ) (reply : CommitReply) → reply ≡ cond old (TooOld n) (cond clash (Conflict n) (cond full (Full n) (Committed (suc n)))) → HasNumber reply n
+due_numbered : (old clash full : Bool) (n : ℕ) (reply : CommitReply)
+    → reply ≡ cond old (TooOld n) (cond clash (Conflict n) (cond full (Full n) (Committed (suc n)))) → HasNumber reply n
 due_numbered true clash full n reply is = subst (λ (r : CommitReply). HasNumber r n) (sym is) refl
 due_numbered false true full n reply is = subst (λ (r : CommitReply). HasNumber r n) (sym is) refl
 due_numbered false false true n reply is = subst (λ (r : CommitReply). HasNumber r n) (sym is) refl
@@ -45,10 +46,12 @@ module _ (o : Managed) where
   number_prefix ys zs p = let le = prefix_length (all_commits o ys) (all_commits o zs) (all_commits-prefix o ys zs p) in omega (arith, le)
 
   -- a commit is the last one of the list that it left
-  pushed : (ys zs : List Item) (txn : Transaction) (n : ℕ) → IsGrown ys zs txn (Committed n) → all_commits o zs ≡ all_commits o ys ++ commit_of txn ∷ []
+  pushed : (ys zs : List Item) (txn : Transaction) (n : ℕ) → IsGrown ys zs txn (Committed n)
+      → all_commits o zs ≡ all_commits o ys ++ commit_of txn ∷ []
   pushed ys zs txn n g = ap (all_commits o) g.1 ∙ all_commits-push o ys g.0 ∙ ap (λ (cs : List Commit). all_commits o ys ++ cs) g.2
 
-  grown_number : (ys zs : List Item) (txn : Transaction) (reply : CommitReply) → HasNumber reply (number_in o ys) → IsGrown ys zs txn reply → number_of reply ≤ number_in o zs
+  grown_number : (ys zs : List Item) (txn : Transaction) (reply : CommitReply) → HasNumber reply (number_in o ys)
+      → IsGrown ys zs txn reply → number_of reply ≤ number_in o zs
   grown_number ys zs txn (Committed n) h g =
       let len = ap (λ (cs : List Commit). length cs) (pushed ys zs txn n g) in
       let one = length-append (all_commits o ys) (commit_of txn ∷ []) in
@@ -57,7 +60,8 @@ module _ (o : Managed) where
   grown_number ys zs txn (TooOld n) h g = let e = ap (number_in o) g in omega (arith, h, e)
   grown_number ys zs txn (Full n) h g = let e = ap (number_in o) g in omega (arith, h, e)
 
-  grown_stands : (ys zs : List Item) (txn : Transaction) (reply : CommitReply) → HasNumber reply (number_in o ys) → IsGrown ys zs txn reply → StandsAt o zs (commit_of txn) reply
+  grown_stands : (ys zs : List Item) (txn : Transaction) (reply : CommitReply) → HasNumber reply (number_in o ys)
+      → IsGrown ys zs txn reply → StandsAt o zs (commit_of txn) reply
   grown_stands ys zs txn (Committed n) h g =
       let at : n - suc o.start.base ≡ length (all_commits o ys) = omega (arith, h) in
       (λ i. slice_get (pushed ys zs txn n g i) (at i)) ∙ at_end (all_commits o ys) (commit_of txn)
@@ -66,7 +70,8 @@ module _ (o : Managed) where
   grown_stands ys zs txn (Full n) h g = tt
 
   stands_more : (ys zs : List Item) (c : Commit) (reply : CommitReply) → IsPrefix ys zs → StandsAt o ys c reply → StandsAt o zs c reply
-  stands_more ys zs c (Committed n) p at = prefix_get (all_commits o ys) (all_commits o zs) (n - suc o.start.base) c (all_commits-prefix o ys zs p) at
+  stands_more ys zs c (Committed n) p at =
+      prefix_get (all_commits o ys) (all_commits o zs) (n - suc o.start.base) c (all_commits-prefix o ys zs p) at
   stands_more ys zs c (Conflict n) p at = tt
   stands_more ys zs c (TooOld n) p at = tt
   stands_more ys zs c (Full n) p at = tt
@@ -74,7 +79,8 @@ module _ (o : Managed) where
   -- the list that a reply left has its number
   pub reached_by : (ys zs : List Item) (m : Managed) (txn : Transaction) (reply : CommitReply) → IsListed o ys m → reply ≡ reply_due m txn →
       IsGrown ys zs txn reply → number_of reply ≤ number_in o zs
-  reached_by ys zs m txn reply l due g = grown_number ys zs txn reply (subst (HasNumber reply) (number_is o ys m l) (numbered_due m txn reply due)) g
+  reached_by ys zs m txn reply l due g =
+      grown_number ys zs txn reply (subst (HasNumber reply) (number_is o ys m l) (numbered_due m txn reply due)) g
 
   -- the session had seen xs; the manager's list was ys, and is ys'; the session then has seen zs
   pub replied : (xs ys both ys' zs : List Item) (m : Managed) (txn : Transaction) (reply : CommitReply) →
@@ -99,7 +105,8 @@ module _ (o : Managed) where
       }
 
   -- a session that begins again after its commit begins past it
-  pub begins_after : (xs ys zs : List Item) (txn : Transaction) (n : ℕ) → IsReplied o xs ys txn (Committed n) → IsPrefix ys zs → txn.begin < number_in o zs
+  pub begins_after : (xs ys zs : List Item) (txn : Transaction) (n : ℕ) → IsReplied o xs ys txn (Committed n) → IsPrefix ys zs
+      → txn.begin < number_in o zs
   begins_after xs ys zs txn n r p =
       let more = number_prefix ys zs p in
       omega (arith, r.begun, r.caught_up, r.numbered, r.reached, more)

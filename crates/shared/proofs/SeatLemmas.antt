@@ -15,7 +15,8 @@ use Rattle.shared.specs.Faults.{fault_of_reading}
 use Rattle.shared.specs.Sessions.{IsOfSeat, IsNote}
 use Rattle.shared.specs.declared.fault.BeginFault.TheVariants.{AlreadyOpen}
 
-pub seat_more : (o : Managed) (client : ℕ) (xs ys : List Item) (t : Option Transaction) → IsPrefix xs ys → IsOfSeat o client xs t → IsOfSeat o client ys t
+pub seat_more : (o : Managed) (client : ℕ) (xs ys : List Item) (t : Option Transaction) → IsPrefix xs ys → IsOfSeat o client xs t
+    → IsOfSeat o client ys t
 seat_more o client xs ys (Some txn) p s = (begun_more o xs ys txn p s.0, s.1)
 seat_more o client xs ys None p s = tt
 

@@ -30,22 +30,26 @@ leaves_none c (Conflict n) h = refl
 leaves_none c (TooOld n) h = refl
 leaves_none c (Full n) h = refl
 
-pub shown_none : (o : Managed) (layers : Lower) (x : Effects) (list : List Item) (reply : CommitReply) → LeavesTable reply → IsShownAfter o layers x reply list
+pub shown_none : (o : Managed) (layers : Lower) (x : Effects) (list : List Item) (reply : CommitReply) → LeavesTable reply
+    → IsShownAfter o layers x reply list
 shown_none o layers x list (Committed n) h = absurd h
 shown_none o layers x list (Conflict n) h = tt
 shown_none o layers x list (TooOld n) h = tt
 shown_none o layers x list (Full n) h = tt
 
 -- and one with a version is under the layers that the commit makes
-pub written_when : (m : Managed) (txn : Transaction) (reply : CommitReply) (g : Option Granted) (v : LayeredVersion) → IsInstalled m txn reply g →
+pub written_when : (m : Managed) (txn : Transaction) (reply : CommitReply) (g : Option Granted) (v : LayeredVersion)
+    → IsInstalled m txn reply g →
     option_map (λ g. g.version) g ≡ Some v → AreWritten m.layers (effects_of txn) v.layers
 written_when m txn reply (Some g) v h some =
     let same : g.version ≡ v = cc some in
-    subst (AreWritten m.layers (effects_of txn)) (sym (ap (λ (w : LayeredVersion). w.layers) h.1.layers_are) ∙ ap (λ (w : LayeredVersion). w.layers) same) h.1.written
+    subst (AreWritten m.layers (effects_of txn))
+    (sym (ap (λ (w : LayeredVersion). w.layers) h.1.layers_are) ∙ ap (λ (w : LayeredVersion). w.layers) same) h.1.written
 written_when m txn reply None v h some = cc some
 
 -- and one with a version is Committed
-pub granted_when : (m : Managed) (txn : Transaction) (reply : CommitReply) (g : Option Granted) (v : LayeredVersion) → IsInstalled m txn reply g →
+pub granted_when : (m : Managed) (txn : Transaction) (reply : CommitReply) (g : Option Granted) (v : LayeredVersion)
+    → IsInstalled m txn reply g →
     option_map (λ g. g.version) g ≡ Some v →
     (reply ≡ Committed (suc (newest_number m)))
     × (table_version v ≡ record { schema = m.schema; table = table_with (newest_table m) (effects_of txn); number = suc (newest_number m) })
@@ -63,7 +67,8 @@ ok_more X Y P (Ok x) h f = f h
 ok_more X Y P (Err e) h f = h
 
 -- what was published before the devices were asked, whatever they answer
-pub shown_before : (old new : List Item) (v : LayeredVersion) (answer : Result ℕ CheckpointFault) → IsShownAgain old v new → IsShownBefore old v answer new
+pub shown_before : (old new : List Item) (v : LayeredVersion) (answer : Result ℕ CheckpointFault) → IsShownAgain old v new
+    → IsShownBefore old v answer new
 shown_before old new v (Ok generation) h = h
 shown_before old new v (Err StoreFailed) h = inr h
 shown_before old new v (Err GenerationsSpent) h = inr h
@@ -71,7 +76,8 @@ shown_before old new v (Err NoMemory) h = inr h
 shown_before old new v (Err (DeviceFailed i)) h = h
 
 -- a store that isn't ready leaves what is published
-pub unready_shows : (old new : List Item) (v : LayeredVersion) (next : ℕ) (fault : CheckpointFault) → IsUnready next fault → new ≡ old → IsShownBefore old v (Err fault) new
+pub unready_shows : (old new : List Item) (v : LayeredVersion) (next : ℕ) (fault : CheckpointFault) → IsUnready next fault
+    → new ≡ old → IsShownBefore old v (Err fault) new
 unready_shows old new v next StoreFailed h same = inl same
 unready_shows old new v next GenerationsSpent h same = inl same
 unready_shows old new v next NoMemory h same = absurd h

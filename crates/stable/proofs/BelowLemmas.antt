@@ -24,15 +24,22 @@ key_cell n row i v lt e =
     ∙ ap Some (get_or-take n row i v lt ∙ get_or_from_slice_get row i v v e)
 
 -- the comparison from cell `i` on
-pub step : (own key : List Value) (i : ℕ) (x y : Value) (o : Ordering) → slice_get own i ≡ Some x → slice_get key i ≡ Some y → value_cmp x y ≡ o → key_cmp (drop i own) (drop i key) ≡ ordering_then o (key_cmp (drop (i + 1) own) (drop (i + 1) key))
+pub step : (own key : List Value) (i : ℕ) (x y : Value) (o : Ordering) → slice_get own i ≡ Some x → slice_get key i ≡ Some y
+    → value_cmp x y ≡ o → key_cmp (drop i own) (drop i key) ≡ ordering_then o (key_cmp (drop (i + 1) own) (drop (i + 1) key))
 step own key i x y o p q e =
     (λ k. key_cmp (drop_at own i x p k) (drop_at key i y q k))
     ∙ ap (λ r. ordering_then r (key_cmp (drop (i + 1) own) (drop (i + 1) key))) e
 
 -- the comparison with a key whose cells were lent, where the cells before `i` tie
-pub compared : (n : ℕ) (row : Row) (key : Key) (cells : List Value) (i : ℕ) (x y cell : Value) (o : Ordering) → cells ≡ key → i < n → i < length cells → slice_get row i ≡ Some x → cell ≡ get_or cells i cell → y ≡ cell → value_cmp x y ≡ o → key_cmp (take n row) key ≡ key_cmp (drop i (take n row)) (drop i key) → key_cmp (take n row) key ≡ ordering_then o (key_cmp (drop (i + 1) (take n row)) (drop (i + 1) key))
+pub compared : (n : ℕ) (row : Row) (key : Key) (cells : List Value) (i : ℕ) (x y cell : Value) (o : Ordering) → cells ≡ key
+    → i < n → i < length cells → slice_get row i ≡ Some x → cell ≡ get_or cells i cell → y ≡ cell → value_cmp x y ≡ o
+    → key_cmp (take n row) key ≡ key_cmp (drop i (take n row)) (drop i key)
+    → key_cmp (take n row) key ≡ ordering_then o (key_cmp (drop (i + 1) (take n row)) (drop (i + 1) key))
 compared n row key cells i x y cell o lent lt within here read is e so_far =
-    let there : slice_get key i ≡ Some y = ap (λ (ys : List Value). slice_get ys i) (sym lent) ∙ slice_get_read cells (length cells) i cell refl within read ∙ ap Some (sym is) in
+    let there : slice_get key i ≡ Some y =
+    ap (λ (ys : List Value). slice_get ys i) (sym lent)
+    ∙ slice_get_read cells (length cells) i cell refl within read
+    ∙ ap Some (sym is) in
     so_far ∙ step (take n row) key i x y o (key_cell n row i x lt here) there e
 
 -- a comparison that doesn't tie is the answer
@@ -61,7 +68,8 @@ some_above_none : (a : ℕ) → nat_cmp (suc a) 0 ≡ Greater
 some_above_none a = sym (nat_cmp_is (suc a) 0 Greater (omega arith))
 
 -- where all cells of the shorter tie, the lengths decide
-pub ended : (own key : List Value) (i : ℕ) → i ≡ min (length own) (length key) → nat_cmp (length own) (length key) ≡ key_cmp (drop i own) (drop i key)
+pub ended : (own key : List Value) (i : ℕ) → i ≡ min (length own) (length key)
+    → nat_cmp (length own) (length key) ≡ key_cmp (drop i own) (drop i key)
 ended [] [] zero e = sym (nat_cmp_is 0 0 Equal refl)
 ended [] (y ∷ key) zero e = none_below_some (length key)
 ended (x ∷ own) [] zero e = some_above_none (length own)
@@ -72,11 +80,16 @@ ended (x ∷ own) (y ∷ key) (suc i) e = cmp_more (length own) (length key) ∙
 
 -- ---- halving
 
-module _ (key_cols : ℕ) (key : Key) (rows : List Row) (sorted : T (is_sorted key_cmp (table_of key_cols rows))) (middle : ℕ) (within : middle < length rows) where
-  pub low_part : is_below_key key_cols key (get_or rows middle []) ≡ true → (k : ℕ) (d : Row) → k ≤ middle → is_below_key key_cols key (get_or rows k d) ≡ true
-  low_part is k d le = parted key_cols key rows sorted k middle d le within (ap (is_below_key key_cols key) (get_or_default rows middle d [] within) ∙ is)
+module _ (key_cols : ℕ) (key : Key) (rows : List Row) (sorted : T (is_sorted key_cmp (table_of key_cols rows))) (middle : ℕ)
+    (within : middle < length rows) where
+  pub low_part : is_below_key key_cols key (get_or rows middle []) ≡ true → (k : ℕ) (d : Row) → k ≤ middle
+      → is_below_key key_cols key (get_or rows k d) ≡ true
+  low_part is k d le =
+      parted key_cols key rows sorted k middle d le within
+      (ap (is_below_key key_cols key) (get_or_default rows middle d [] within) ∙ is)
 
-  pub high_part : is_below_key key_cols key (get_or rows middle []) ≡ false → (k : ℕ) (d : Row) → middle ≤ k → k < length rows → is_below_key key_cols key (get_or rows k d) ≡ false
+  pub high_part : is_below_key key_cols key (get_or rows middle []) ≡ false → (k : ℕ) (d : Row) → middle ≤ k → k < length rows
+      → is_below_key key_cols key (get_or rows k d) ≡ false
   high_part is k d le lt =
       false_from_ne_true (is_below_key key_cols key (get_or rows k d)) (λ passes.
       let there = parted key_cols key rows sorted middle k d le lt passes in

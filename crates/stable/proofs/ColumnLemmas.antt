@@ -24,14 +24,17 @@ take_split (suc m) n zero xs e = absurd (omega (arith, e))
 take_split (suc m) n (suc j) [] e = take_none n
 take_split (suc m) n (suc j) (x ∷ xs) e = ap (λ ys. x ∷ ys) (take_split m n j xs (omega (arith, e)))
 
-joined_from : (ty : ColumnType) (values : List Value) (a k : ℕ) → joined (map (block_at ty values) (range_with_len a k)) ≡ take (1024 * k) (drop (1024 * a) values)
+joined_from : (ty : ColumnType) (values : List Value) (a k : ℕ)
+    → joined (map (block_at ty values) (range_with_len a k)) ≡ take (1024 * k) (drop (1024 * a) values)
 joined_from ty values a zero =
     let none : 1024 * zero ≡ zero = omega arith in
     sym (ap (λ n. take n (drop (1024 * a) values)) none)
 joined_from ty values a (suc k) =
     let here = drop (1024 * a) values in
     let next : 1024 * a + 1024 ≡ 1024 * (a + 1) = omega arith in
-    ap (λ rest. take 1024 here ++ rest) (joined_from ty values (a + 1) k ∙ ap (λ n. take (1024 * k) (drop n values)) (sym next) ∙ ap (take (1024 * k)) (sym (drop-drop 1024 (1024 * a) values)))
+    ap (λ rest. take 1024 here ++ rest) (joined_from ty values (a + 1) k
+    ∙ ap (λ n. take (1024 * k) (drop n values)) (sym next)
+    ∙ ap (take (1024 * k)) (sym (drop-drop 1024 (1024 * a) values)))
     ∙ take_split 1024 (1024 * k) (1024 * suc k) here (omega arith)
 
 -- the blocks of the values hold just these
@@ -41,7 +44,8 @@ joined_all ty values =
     let none : 1024 * 0 ≡ 0 = omega arith in
     joined_from ty values 0 n ∙ ap (λ m. take (1024 * n) (drop m values)) none ∙ take_all (1024 * n) values (omega arith)
 
-pub in_blocks : (ty : ColumnType) (values : List Value) (blocks : List Column) → blocks ≡ first_blocks ty values (block_count (length values)) → IsInBlocks ty (length values) blocks
+pub in_blocks : (ty : ColumnType) (values : List Value) (blocks : List Column)
+    → blocks ≡ first_blocks ty values (block_count (length values)) → IsInBlocks ty (length values) blocks
 in_blocks ty values blocks e =
     let same : joined blocks ≡ values = ap joined e ∙ joined_all ty values in
     record { counted = ap length same; cut = e ∙ ap (λ vs. first_blocks ty vs (block_count (length values))) (sym same) }
@@ -54,7 +58,10 @@ module _ (ty : ColumnType) (count : ℕ) (blocks : List Column) (h : IsInBlocks 
 
   -- a block, by its number
   pub block_here : (k : ℕ) (b : Column) → b ≡ get_or blocks k b → k < block_count count → b ≡ block_at ty (joined blocks) k
-  block_here k b is lt = is ∙ ap (λ bs. get_or bs k b) h.cut ∙ get_or-map-range_with_len (block_at ty (joined blocks)) 0 (block_count count) k k b lt (omega arith)
+  block_here k b is lt =
+      is
+      ∙ ap (λ bs. get_or bs k b) h.cut
+      ∙ get_or-map-range_with_len (block_at ty (joined blocks)) 0 (block_count count) k k b lt (omega arith)
 
   module _ (i : ℕ) (within : i < count) where
     pub has_block : i / 1024 < length blocks
@@ -67,7 +74,14 @@ module _ (ty : ColumnType) (count : ℕ) (blocks : List Column) (h : IsInBlocks 
       pub has_place : i % 1024 < length b.values
       has_place =
           let k = i / 1024 in
-          omega (arith, ap (λ c. length c.values) block_is, length-take 1024 (drop (1024 * k) (joined blocks)), length-drop (1024 * k) (joined blocks), h.counted, within)
+          omega (
+            arith,
+            ap (λ c. length c.values) block_is,
+            length-take 1024 (drop (1024 * k) (joined blocks)),
+            length-drop (1024 * k) (joined blocks),
+            h.counted,
+            within,
+          )
 
       pub finds : (v : Value) → slice_get b.values (i % 1024) ≡ Some v → slice_get (joined blocks) i ≡ Some v
       finds v e =
@@ -77,5 +91,9 @@ module _ (ty : ColumnType) (count : ℕ) (blocks : List Column) (h : IsInBlocks 
           let at : 1024 * k + m ≡ i = omega arith in
           let small : m < 1024 = omega arith in
           let here : get_or values i v ≡ v =
-          ap (λ n. get_or values n v) (sym at) ∙ sym (get_or-drop (1024 * k) values m v) ∙ sym (get_or-take 1024 (drop (1024 * k) values) m v small) ∙ ap (λ c. get_or c.values m v) (sym block_is) ∙ get_or_from_slice_get b.values m v v e in
+          ap (λ n. get_or values n v) (sym at)
+          ∙ sym (get_or-drop (1024 * k) values m v)
+          ∙ sym (get_or-take 1024 (drop (1024 * k) values) m v small)
+          ∙ ap (λ c. get_or c.values m v) (sym block_is)
+          ∙ get_or_from_slice_get b.values m v v e in
           slice_get-get_or values i v (omega (arith, h.counted, within)) ∙ ap Some here

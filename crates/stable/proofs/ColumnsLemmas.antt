@@ -27,29 +27,36 @@ use Rattle.stable.proofs.RowsLemmas.{length_rows}
 -- ---- two rows compared
 
 -- the keys of two rows are those of the key's columns
-pub keys_of : (n i j : ℕ) (columns : List Column) → key_cmp (key_of n (row_at columns i)) (key_of n (row_at columns j)) ≡ key_cmp (map (cell_at i) (take n columns)) (map (cell_at j) (take n columns))
+pub keys_of : (n i j : ℕ) (columns : List Column) → key_cmp (key_of n (row_at columns i)) (key_of n (row_at columns j))
+    ≡ key_cmp (map (cell_at i) (take n columns)) (map (cell_at j) (take n columns))
 keys_of n i j columns = (λ k. key_cmp (take-map (cell_at i) n columns k) (take-map (cell_at j) n columns k))
 
 -- one column more of two rows
-pub compared_at : (i j : ℕ) (columns : List Column) (n : ℕ) (c : Column) (x y : Value) (o : Ordering) → n < length columns → c ≡ get_or columns n c → slice_get c.values i ≡ Some x → slice_get c.values j ≡ Some y → value_cmp x y ≡ o
-    → key_cmp (map (cell_at i) (drop n columns)) (map (cell_at j) (drop n columns)) ≡ ordering_then o (key_cmp (map (cell_at i) (drop (n + 1) columns)) (map (cell_at j) (drop (n + 1) columns)))
+pub compared_at : (i j : ℕ) (columns : List Column) (n : ℕ) (c : Column) (x y : Value) (o : Ordering) → n < length columns
+    → c ≡ get_or columns n c → slice_get c.values i ≡ Some x → slice_get c.values j ≡ Some y → value_cmp x y ≡ o
+    → key_cmp (map (cell_at i) (drop n columns)) (map (cell_at j) (drop n columns))
+    ≡ ordering_then o (key_cmp (map (cell_at i) (drop (n + 1) columns)) (map (cell_at j) (drop (n + 1) columns)))
 compared_at i j columns n c x y o lt is p q e =
     let cut : drop n columns ≡ c ∷ drop (n + 1) columns = drop_more columns n c lt ∙ ap (λ d. d ∷ drop (n + 1) columns) (sym is) in
     let one : cell_at i c ≡ x = get_or_from_slice_get c.values i x (Truth false) p in
     let other : cell_at j c ≡ y = get_or_from_slice_get c.values j y (Truth false) q in
     ap (λ cs. key_cmp (map (cell_at i) cs) (map (cell_at j) cs)) cut
-    ∙ (λ k. ordering_then (value_cmp (one k) (other k)) (key_cmp (map (cell_at i) (drop (n + 1) columns)) (map (cell_at j) (drop (n + 1) columns))))
+    ∙ (λ k. ordering_then (value_cmp (one k) (other k))
+    (key_cmp (map (cell_at i) (drop (n + 1) columns)) (map (cell_at j) (drop (n + 1) columns))))
     ∙ ap (λ r. ordering_then r (key_cmp (map (cell_at i) (drop (n + 1) columns)) (map (cell_at j) (drop (n + 1) columns)))) e
 
 -- ---- the rows fit
 
-cell_fits : (ty : ColumnType) (col : ℕ) (v : Value) (a b : Bool) → has_type ty v ≡ a → is_too_long v ≡ b → (a && not b) ≡ true → value_fault ty col v ≡ None
+cell_fits : (ty : ColumnType) (col : ℕ) (v : Value) (a b : Bool) → has_type ty v ≡ a → is_too_long v ≡ b → (a && not b) ≡ true
+    → value_fault ty col v ≡ None
 cell_fits ty col v true false p q h = (λ i. cond (p i) (cond (q i) (Some (TextTooLong col)) None) (Some (WrongType col)))
 cell_fits ty col v true true p q h = cc h
 cell_fits ty col v false b p q h = cc h
 
 -- the cells of a row that columns show have no fault
-cells_fit : (n : ℕ) (columns : List Column) (sid : ℕ) → All (λ c. all_may_stand c.ty c.values) columns → ((col : ℕ) (d : Column) → col < length columns → sid < length (get_or columns col d).values) → values_fault n (map (λ c. c.ty) columns) (row_at columns sid) ≡ None
+cells_fit : (n : ℕ) (columns : List Column) (sid : ℕ) → All (λ c. all_may_stand c.ty c.values) columns
+    → ((col : ℕ) (d : Column) → col < length columns → sid < length (get_or columns col d).values)
+    → values_fault n (map (λ c. c.ty) columns) (row_at columns sid) ≡ None
 cells_fit n [] sid fit filled = refl
 cells_fit n (c ∷ columns) sid fit filled =
     let may = AllPass-from_list_all (may_stand c.ty) c.values (fit 0 c (omega arith)) sid (Truth false) (filled 0 c (omega arith)) in
@@ -75,10 +82,12 @@ module _ (schema : Columns) (count : ℕ) (columns : List Column) where
 module _ (schema : Columns) (count : ℕ) (columns : List Column) (h : AreColumns schema count columns) where
   row_fits : (sid : ℕ) → sid < count → row_fault schema (row_at columns sid) ≡ None
   row_fits sid lt =
-      let filled : (col : ℕ) (d : Column) → col < length columns → sid < length (get_or columns col d).values = λ col d within. omega (arith, h.filled col d within, lt) in
+      let filled : (col : ℕ) (d : Column) → col < length columns → sid < length (get_or columns col d).values =
+      λ col d within. omega (arith, h.filled col d within, lt) in
       let wide = length-map columns (cell_at sid) ∙ sym (length-map columns (λ c. c.ty)) in
       ap (λ types. list_fault types (row_at columns sid)) (sym h.typed)
-      ∙ ap (λ same. cond same (values_fault 0 (map (λ c. c.ty) columns) (row_at columns sid)) (Some WrongCount)) (equal (length (row_at columns sid)) (length (map (λ c. c.ty) columns)) wide)
+      ∙ ap (λ same. cond same (values_fault 0 (map (λ c. c.ty) columns) (row_at columns sid)) (Some WrongCount))
+      (equal (length (row_at columns sid)) (length (map (λ c. c.ty) columns)) wide)
       ∙ cells_fit 0 columns sid h.fit filled
 
   abbrev rows : List Row
@@ -89,36 +98,51 @@ module _ (schema : Columns) (count : ℕ) (columns : List Column) (h : AreColumn
       drop_more rows sid [] (omega (arith, lt, length_rows count columns))
       ∙ ap (λ (r : Row). r ∷ drop (sid + 1) rows) (get_or-map-range_with_len (row_at columns) 0 count sid sid [] lt (omega arith))
 
-  pub next_faults : (sid : ℕ) → sid < count → faults_from schema count columns sid ≡ table.or_fault (table.shape_or_order sid (is_above schema count columns sid) None) (faults_from schema count columns (sid + 1))
+  pub next_faults : (sid : ℕ) → sid < count
+      → faults_from schema count columns sid ≡ table.or_fault (table.shape_or_order sid (is_above schema count columns sid) None)
+      (faults_from schema count columns (sid + 1))
   next_faults sid lt =
       let same : sid + 1 - 1 ≡ sid = omega arith in
       let next : sid + 1 ≡ suc sid = omega arith in
       ap (table.rows_fault schema sid (Some (row_at columns (sid - 1)))) (cut sid lt)
-      ∙ ap (λ f. table.or_fault (table.shape_or_order sid (is_above schema count columns sid) f) (table.rows_fault schema (suc sid) (Some (row_at columns sid)) (drop (sid + 1) rows))) (row_fits sid lt)
-      ∙ sym (λ i. table.or_fault (table.shape_or_order sid (is_above schema count columns sid) None) (table.rows_fault schema (next i) (Some (row_at columns (same i))) (drop (sid + 1) rows)))
+      ∙ ap (λ f. table.or_fault (table.shape_or_order sid (is_above schema count columns sid) f)
+      (table.rows_fault schema (suc sid) (Some (row_at columns sid)) (drop (sid + 1) rows))) (row_fits sid lt)
+      ∙ sym (λ i. table.or_fault (table.shape_or_order sid (is_above schema count columns sid) None)
+      (table.rows_fault schema (next i) (Some (row_at columns (same i))) (drop (sid + 1) rows)))
 
   pub ended : (sid : ℕ) → count ≤ sid → faults_from schema count columns sid ≡ None
-  ended sid le = ap (table.rows_fault schema sid (Some (row_at columns (sid - 1)))) (drop_all sid rows (omega (arith, le, length_rows count columns)))
+  ended sid le =
+      ap (table.rows_fault schema sid (Some (row_at columns (sid - 1))))
+      (drop_all sid rows (omega (arith, le, length_rows count columns)))
 
   pub counted_few : count ≤ MAX_ROWS → table.build_fault schema rows ≡ table.rows_fault schema 0 None rows
-  counted_few le = ap (λ many. cond many (Some TooManyRows) (table.rows_fault schema 0 None rows)) (not_more MAX_ROWS (length rows) (omega (arith, le, length_rows count columns)))
+  counted_few le =
+      ap (λ many. cond many (Some TooManyRows) (table.rows_fault schema 0 None rows))
+      (not_more MAX_ROWS (length rows) (omega (arith, le, length_rows count columns)))
 
   pub counted_many : MAX_ROWS < count → table.build_fault schema rows ≡ Some TooManyRows
-  counted_many lt = ap (λ many. cond many (Some TooManyRows) (table.rows_fault schema 0 None rows)) (many MAX_ROWS (length rows) (omega (arith, lt, length_rows count columns)))
+  counted_many lt =
+      ap (λ many. cond many (Some TooManyRows) (table.rows_fault schema 0 None rows))
+      (many MAX_ROWS (length rows) (omega (arith, lt, length_rows count columns)))
     where
       many : (a b : ℕ) → a < b → nat_lt a b ≡ true
       many a b l = grind (arith, nat_tests, l)
 
 -- the first row has no row before it
-pub first_faults : (schema : Columns) (count : ℕ) (columns : List Column) → AreColumns schema count columns → table.rows_fault schema 0 None (rows_of count columns) ≡ table.rows_fault schema 1 (Some (row_at columns 0)) (drop 1 (rows_of count columns))
+pub first_faults : (schema : Columns) (count : ℕ) (columns : List Column) → AreColumns schema count columns
+    → table.rows_fault schema 0 None (rows_of count columns)
+    ≡ table.rows_fault schema 1 (Some (row_at columns 0)) (drop 1 (rows_of count columns))
 first_faults schema zero columns h = refl
 first_faults schema (suc n) columns h =
-    ap (λ f. table.or_fault (table.shape_or_order 0 true f) (table.rows_fault schema 1 (Some (row_at columns 0)) (drop 1 (rows_of (suc n) columns)))) (row_fits schema (suc n) columns h 0 (omega arith))
+    ap (λ f. table.or_fault (table.shape_or_order 0 true f)
+    (table.rows_fault schema 1 (Some (row_at columns 0)) (drop 1 (rows_of (suc n) columns))))
+    (row_fits schema (suc n) columns h 0 (omega arith))
 
 -- ---- even columns
 
 -- one column more
-pub count_more : (columns : List Column) (n : ℕ) (c : Column) → AreEven columns → n < length columns → c ≡ get_or columns n c → length c.values ≡ row_count (take (n + 1) columns)
+pub count_more : (columns : List Column) (n : ℕ) (c : Column) → AreEven columns → n < length columns → c ≡ get_or columns n c
+    → length c.values ≡ row_count (take (n + 1) columns)
 count_more [] n c even lt is = absurd (omega arith)
 count_more (x ∷ columns) n c even lt is =
     let next : n + 1 ≡ suc n = omega arith in

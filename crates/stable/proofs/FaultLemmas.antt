@@ -32,32 +32,41 @@ module _ (schema : Columns) where
   abbrev all_fitting : List Row → Type 0
   all_fitting rows = T (list_all (λ e. fits_schema schema e.1) (table_of schema.key_cols rows))
 
-  no_fault_after : (i : ℕ) (before : Row) (rows : List Row) → T (below_all key_cmp (key_of schema.key_cols before) (table_of schema.key_cols rows)) → T (is_sorted key_cmp (table_of schema.key_cols rows)) → all_fitting rows → rows_fault schema i (Some before) rows ≡ None
+  no_fault_after : (i : ℕ) (before : Row) (rows : List Row)
+      → T (below_all key_cmp (key_of schema.key_cols before) (table_of schema.key_cols rows))
+      → T (is_sorted key_cmp (table_of schema.key_cols rows)) → all_fitting rows → rows_fault schema i (Some before) rows ≡ None
   no_fault_after i before [] b h f = refl
   no_fault_after i before (row ∷ rows) b h f =
       let key_cols = schema.key_cols in
       no_faults (row_fault_at schema i (Some before) row) (rows_fault schema (suc i) (Some row) rows)
-      (no_fault_here i (ascends key_cols (Some before) row) (row_fault schema row) (first (is_lt (key_cmp (key_of key_cols before) (key_of key_cols row))) _ b) (first (fits_schema schema row) _ f))
-      (no_fault_after (suc i) row rows (first (below_all key_cmp (key_of key_cols row) (table_of key_cols rows)) _ h) (second (below_all key_cmp (key_of key_cols row) (table_of key_cols rows)) _ h) (second (fits_schema schema row) _ f))
+      (no_fault_here i (ascends key_cols (Some before) row) (row_fault schema row)
+      (first (is_lt (key_cmp (key_of key_cols before) (key_of key_cols row))) _ b) (first (fits_schema schema row) _ f))
+      (no_fault_after (suc i) row rows (first (below_all key_cmp (key_of key_cols row) (table_of key_cols rows)) _ h)
+      (second (below_all key_cmp (key_of key_cols row) (table_of key_cols rows)) _ h) (second (fits_schema schema row) _ f))
 
-  no_row_fault : (rows : List Row) → T (is_sorted key_cmp (table_of schema.key_cols rows)) → all_fitting rows → rows_fault schema 0 None rows ≡ None
+  no_row_fault : (rows : List Row) → T (is_sorted key_cmp (table_of schema.key_cols rows)) → all_fitting rows
+      → rows_fault schema 0 None rows ≡ None
   no_row_fault [] h f = refl
   no_row_fault (row ∷ rows) h f =
       let key_cols = schema.key_cols in
       no_faults (row_fault_at schema 0 None row) (rows_fault schema 1 (Some row) rows)
       (no_fault_here 0 true (row_fault schema row) tt (first (fits_schema schema row) _ f))
-      (no_fault_after 1 row rows (first (below_all key_cmp (key_of key_cols row) (table_of key_cols rows)) _ h) (second (below_all key_cmp (key_of key_cols row) (table_of key_cols rows)) _ h) (second (fits_schema schema row) _ f))
+      (no_fault_after 1 row rows (first (below_all key_cmp (key_of key_cols row) (table_of key_cols rows)) _ h)
+      (second (below_all key_cmp (key_of key_cols row) (table_of key_cols rows)) _ h) (second (fits_schema schema row) _ f))
 
   -- the rows of a table have no fault
   pub no_build_fault : (rows : List Row) → IsStable (record { schema = schema; rows = rows }) → build_fault schema rows ≡ None
   no_build_fault rows h =
       let few : nat_lt MAX_ROWS (length rows) ≡ false = not_less MAX_ROWS (length rows) h.few in
       ap (λ many. cond many (Some TooManyRows) (rows_fault schema 0 None rows)) few
-      ∙ no_row_fault rows (stable_sorted (record { schema = schema; rows = rows }) h) (T_from_true (list_all (λ e. fits_schema schema e.1) (table_of schema.key_cols rows)) h.table.fitting)
+      ∙ no_row_fault rows (stable_sorted (record { schema = schema; rows = rows }) h)
+      (T_from_true (list_all (λ e. fits_schema schema e.1) (table_of schema.key_cols rows)) h.table.fitting)
     where
       not_less : (a b : ℕ) → b ≤ a → nat_lt a b ≡ false
       not_less a b le = grind (arith, nat_tests, le)
 
 -- each row has a value for each column
-pub stable_width : (s : Stable) → IsStable s → (sid : ℕ) (d : Row) → sid < length s.rows → length (get_or s.rows sid d) ≡ length s.schema.types
-stable_width s h sid d lt = width_of s.schema.types (get_or s.rows sid d) (all_shaped s.schema s.rows (no_build_fault s.schema s.rows h) sid d lt)
+pub stable_width : (s : Stable) → IsStable s → (sid : ℕ) (d : Row) → sid < length s.rows
+    → length (get_or s.rows sid d) ≡ length s.schema.types
+stable_width s h sid d lt =
+    width_of s.schema.types (get_or s.rows sid d) (all_shaped s.schema s.rows (no_build_fault s.schema s.rows h) sid d lt)

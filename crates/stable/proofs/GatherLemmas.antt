@@ -27,7 +27,9 @@ module _ (ty : ColumnType) (count : ℕ) (blocks : List Column) (h : IsInBlocks 
     within = has_place ty count blocks h i lt (block_of blocks i) here
 
     found : slice_get (joined blocks) i ≡ Some (value_at blocks i)
-    found = finds ty count blocks h i lt (block_of blocks i) here (value_at blocks i) (slice_get-get_or (block_of blocks i).values (i % 1024) (Truth false) within)
+    found =
+        finds ty count blocks h i lt (block_of blocks i) here (value_at blocks i)
+        (slice_get-get_or (block_of blocks i).values (i % 1024) (Truth false) within)
 
     -- at a place the blocks have the column's value
     value-is : value_at blocks i ≡ get_or (joined blocks) i (Truth false)
@@ -38,7 +40,8 @@ module _ (ty : ColumnType) (count : ℕ) (blocks : List Column) (h : IsInBlocks 
         let stands = stands_at ty (joined blocks) i (value_at blocks i) found fit in
         record { there = has_block ty count blocks h i lt; within = within; typed = stands.0; short = stands.1 }
 
-  pub values-are : (places : List ℕ) → All (λ place. place < count) places → map (value_at blocks) places ≡ map (λ place. get_or (joined blocks) place (Truth false)) places
+  pub values-are : (places : List ℕ) → All (λ place. place < count) places
+      → map (value_at blocks) places ≡ map (λ place. get_or (joined blocks) place (Truth false)) places
   values-are [] all = refl
   values-are (p ∷ places) all =
       let one = value-is p (All-head (λ place. place < count) p places all) in
@@ -51,6 +54,7 @@ pub part-more : (places : List ℕ) (n to : ℕ) → 1024 * n ≤ to → to ≤ 
 part-more places n to low high last =
     sym (take-add (1024 * n) (to - 1024 * n) places)
     ∙ elim (cases_lt to (1024 * n + 1024)) [
-      | inl l ↦ take_all (1024 * n + (to - 1024 * n)) places (omega (arith, low, last l)) ∙ sym (take_all (1024 * (n + 1)) places (omega (arith, l, last l)))
+      | inl l ↦ take_all (1024 * n + (to - 1024 * n)) places (omega (arith, low, last l))
+          ∙ sym (take_all (1024 * (n + 1)) places (omega (arith, l, last l)))
       | inr g ↦ ap (λ k. take k places) (omega (arith, low, high, g))
     ]

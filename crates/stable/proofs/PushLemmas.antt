@@ -15,19 +15,23 @@ module _ (ty : ColumnType) (values more : List Value) where
   block_kept k le =
       let at = 1024 * k in
       ap (λ vs. record { ty = ty; values = vs })
-      (ap (take 1024) (drop-append-le at values more (omega (arith, le))) ∙ take-append-le 1024 (drop at values) more (omega (arith, le, length-drop at values)))
+      (ap (take 1024) (drop-append-le at values more (omega (arith, le)))
+      ∙ take-append-le 1024 (drop at values) more (omega (arith, le, length-drop at values)))
 
   blocks_kept : (q : ℕ) → 1024 * q ≤ length values → first_blocks ty (values ++ more) q ≡ first_blocks ty values q
   blocks_kept zero le = refl
   blocks_kept (suc q) le =
       let next : q + 1 ≡ suc q = omega arith in
-      let one_more = λ (vs : List Value). ap (first_blocks ty vs) (sym next) ∙ map-range_with_len_more (block_at ty vs) 0 q q (omega arith) in
+      let one_more =
+      λ (vs : List Value). ap (first_blocks ty vs) (sym next) ∙ map-range_with_len_more (block_at ty vs) 0 q q (omega arith) in
       one_more (values ++ more)
       ∙ (λ i. blocks_kept q (omega (arith, le)) i ++ block_kept q (omega (arith, le)) i ∷ [])
       ∙ sym (one_more values)
 
   -- the blocks of the values and of a part of a block more
-  blocks_more : (q : ℕ) → 1024 * q ≤ length values → length values + length more ≤ 1024 * (q + 1) → 1024 * q < length values + length more → all_blocks ty (values ++ more) ≡ first_blocks ty values q ++ block_at ty (values ++ more) q ∷ []
+  blocks_more : (q : ℕ) → 1024 * q ≤ length values → length values + length more ≤ 1024 * (q + 1)
+      → 1024 * q < length values + length more
+      → all_blocks ty (values ++ more) ≡ first_blocks ty values q ++ block_at ty (values ++ more) q ∷ []
   blocks_more q low high some =
       let count : block_count (length (values ++ more)) ≡ q + 1 = omega (arith, length-append values more, low, high, some) in
       ap (first_blocks ty (values ++ more)) count
@@ -50,7 +54,8 @@ module _ (ty : ColumnType) (count : ℕ) (blocks : List Column) (h : IsInBlocks 
       subst (λ k. IsInBlocks ty k longer) whole (in_blocks ty (values ++ more) longer is)
 
   -- in a block of their own where the last is full
-  pub in_new : count % 1024 ≡ 0 → length more ≤ 1024 → 0 < length more → blocks ++ (record { ty = ty; values = more }) ∷ [] ≡ all_blocks ty (values ++ more)
+  pub in_new : count % 1024 ≡ 0 → length more ≤ 1024 → 0 < length more
+      → blocks ++ (record { ty = ty; values = more }) ∷ [] ≡ all_blocks ty (values ++ more)
   in_new full few some =
       let q = count / 1024 in
       let all : 1024 * q ≡ length values = omega (arith, full, h.counted) in
@@ -80,26 +85,40 @@ module _ (ty : ColumnType) (count : ℕ) (blocks : List Column) (h : IsInBlocks 
       front = length-map-range_with_len (block_at ty values) 0 place
 
       pub last_is : b ≡ block_at ty values place
-      last_is = is ∙ ap (λ bs. get_or bs place b) h.cut ∙ get_or-map-range_with_len (block_at ty values) 0 (block_count count) place place b (omega (arith, counts)) (omega arith)
+      last_is =
+          is
+          ∙ ap (λ bs. get_or bs place b) h.cut
+          ∙ get_or-map-range_with_len (block_at ty values) 0 (block_count count) place place b (omega (arith, counts))
+          (omega arith)
 
       rest : drop (1024 * place) values ≡ take 1024 (drop (1024 * place) values)
       rest = sym (take_all 1024 (drop (1024 * place) values) (omega (arith, length-drop (1024 * place) values, h.counted)))
 
       pub last_filled : length b.values ≡ count % 1024
       last_filled =
-          omega (arith, ap (λ (c : Column). length c.values) last_is, length-take 1024 (drop (1024 * place) values), length-drop (1024 * place) values, h.counted, part)
+          omega (
+            arith,
+            ap (λ (c : Column). length c.values) last_is,
+            length-take 1024 (drop (1024 * place) values),
+            length-drop (1024 * place) values,
+            h.counted,
+            part,
+          )
 
-      pub in_last : 0 < length more → count % 1024 + length more ≤ 1024 → slice_set blocks place (record b { values = b.values ++ more }) ≡ all_blocks ty (values ++ more)
+      pub in_last : 0 < length more → count % 1024 + length more ≤ 1024
+          → slice_set blocks place (record b { values = b.values ++ more }) ≡ all_blocks ty (values ++ more)
       in_last some fits =
           let low : 1024 * place ≤ length values = omega (arith, h.counted) in
           let filled : block_at ty (values ++ more) place ≡ record b { values = b.values ++ more } =
           ap (λ vs. record { ty = ty; values = vs })
           (ap (take 1024) (drop-append-le (1024 * place) values more low)
-          ∙ take_all 1024 (drop (1024 * place) values ++ more) (omega (arith, length-append (drop (1024 * place) values) more, length-drop (1024 * place) values, h.counted, fits, part))
+          ∙ take_all 1024 (drop (1024 * place) values ++ more) (omega
+          (arith, length-append (drop (1024 * place) values) more, length-drop (1024 * place) values, h.counted, fits, part))
           ∙ ap (λ vs. vs ++ more) rest)
           ∙ ap (λ (c : Column). record c { values = c.values ++ more }) (sym last_is) in
           ap (λ bs. slice_set bs place (record b { values = b.values ++ more })) split
-          ∙ ap (λ n. slice_set (first_blocks ty values place ++ block_at ty values place ∷ []) n (record b { values = b.values ++ more })) (sym front)
+          ∙ ap (λ n. slice_set (first_blocks ty values place ++ block_at ty values place ∷ []) n
+          (record b { values = b.values ++ more })) (sym front)
           ∙ set-append_seam (first_blocks ty values place) (block_at ty values place) [] (record b { values = b.values ++ more })
           ∙ ap (λ c. first_blocks ty values place ++ c ∷ []) (sym filled)
           ∙ sym (blocks_more ty values more place low (omega (arith, h.counted, fits, part)) (omega (arith, h.counted, some)))

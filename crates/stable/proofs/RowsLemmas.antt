@@ -27,7 +27,8 @@ pub record IsFit (ty : ColumnType) (v : Value) : Type 0 where
   pub typed : has_type ty v ≡ true
   pub short : is_too_long v ≡ false
 
-fit_from : (ty : ColumnType) (v : Value) (a b : Bool) (x y : ShapeFault) → has_type ty v ≡ a → is_too_long v ≡ b → cond a (cond b (Some x) None) (Some y) ≡ None → IsFit ty v
+fit_from : (ty : ColumnType) (v : Value) (a b : Bool) (x y : ShapeFault) → has_type ty v ≡ a → is_too_long v ≡ b
+    → cond a (cond b (Some x) None) (Some y) ≡ None → IsFit ty v
 fit_from ty v true true x y p q h = cc h
 fit_from ty v true false x y p q h = record { typed = p; short = q }
 fit_from ty v false b x y p q h = cc h
@@ -36,11 +37,16 @@ neither : (a b : Option ShapeFault) → or_fault a b ≡ None → (a ≡ None) �
 neither None b h = (refl, h)
 neither (Some fault) b h = cc h
 
-cells_fit : (n : ℕ) (types : List ColumnType) (values : List Value) (col : ℕ) → length values ≡ length types → col < length types → values_fault n types values ≡ None → IsFit (get_or types col column.Int) (get_or values col (Truth false))
+cells_fit : (n : ℕ) (types : List ColumnType) (values : List Value) (col : ℕ) → length values ≡ length types → col < length types
+    → values_fault n types values ≡ None → IsFit (get_or types col column.Int) (get_or values col (Truth false))
 cells_fit n [] values col same lt h = absurd (omega arith)
 cells_fit n (ty ∷ types) [] col same lt h = absurd (omega (arith, same))
-cells_fit n (ty ∷ types) (v ∷ values) zero same lt h = fit_from ty v (has_type ty v) (is_too_long v) _ _ refl refl (neither (value_fault ty n v) (values_fault (suc n) types values) h).0
-cells_fit n (ty ∷ types) (v ∷ values) (suc col) same lt h = cells_fit (suc n) types values col (omega (arith, same)) (omega (arith, lt)) (neither (value_fault ty n v) (values_fault (suc n) types values) h).1
+cells_fit n (ty ∷ types) (v ∷ values) zero same lt h =
+    fit_from ty v (has_type ty v) (is_too_long v) _ _ refl refl
+    (neither (value_fault ty n v) (values_fault (suc n) types values) h).0
+cells_fit n (ty ∷ types) (v ∷ values) (suc col) same lt h =
+    cells_fit (suc n) types values col (omega (arith, same)) (omega (arith, lt))
+    (neither (value_fault ty n v) (values_fault (suc n) types values) h).1
 
 counted : (a : Bool) (f : Option ShapeFault) → cond a f (Some WrongCount) ≡ None → (a ≡ true) × (f ≡ None)
 counted true f h = (refl, h)
@@ -50,7 +56,8 @@ same_count : (a b : ℕ) → (a == b) ≡ true → a ≡ b
 same_count a b is = grind (arith, nat_tests)
 
 -- a cell of a row that fits
-pub fit_at : (types : List ColumnType) (row : Row) (col : ℕ) → col < length types → list_fault types row ≡ None → IsFit (get_or types col column.Int) (get_or row col (Truth false))
+pub fit_at : (types : List ColumnType) (row : Row) (col : ℕ) → col < length types → list_fault types row ≡ None
+    → IsFit (get_or types col column.Int) (get_or row col (Truth false))
 fit_at types row col lt h =
     let is = counted (length row == length types) (values_fault 0 types row) h in
     cells_fit 0 types row col (same_count (length row) (length types) is.0) lt is.1
@@ -72,11 +79,15 @@ module _ (types : List ColumnType) (col : ℕ) (lt : col < length types) where
 
   pub column_typed : (rows : List Row) → All Fits rows → list_all (has_type (get_or types col column.Int)) (column_values col rows) ≡ true
   column_typed [] h = refl
-  column_typed (row ∷ rows) h = both_true (has_type (get_or types col column.Int) (get_or row col (Truth false))) _ (fit_at types row col lt (All-head Fits row rows h)).typed (column_typed rows (All-tail Fits row rows h))
+  column_typed (row ∷ rows) h =
+      both_true (has_type (get_or types col column.Int) (get_or row col (Truth false))) _
+      (fit_at types row col lt (All-head Fits row rows h)).typed (column_typed rows (All-tail Fits row rows h))
 
   pub column_short : (rows : List Row) → All Fits rows → list_any is_too_long (column_values col rows) ≡ false
   column_short [] h = refl
-  column_short (row ∷ rows) h = both_false (is_too_long (get_or row col (Truth false))) _ (fit_at types row col lt (All-head Fits row rows h)).short (column_short rows (All-tail Fits row rows h))
+  column_short (row ∷ rows) h =
+      both_false (is_too_long (get_or row col (Truth false))) _ (fit_at types row col lt (All-head Fits row rows h)).short
+      (column_short rows (All-tail Fits row rows h))
 
 -- ---- what a table keeps
 
@@ -88,20 +99,28 @@ module _ (schema : Columns) (count : ℕ) (columns : List Column) (h : IsKept sc
   width = sym (length-map columns (λ c. c.ty)) ∙ ap length h.typed
 
   -- a column holds the rows' cells of its number
-  pub finds_column : (col : ℕ) (x : Column) → x ≡ get_or columns col x → col < length schema.types → x ≡ column_at schema.types (rows_of count columns) col
+  pub finds_column : (col : ℕ) (x : Column) → x ≡ get_or columns col x → col < length schema.types
+      → x ≡ column_at schema.types (rows_of count columns) col
   finds_column col x is lt =
       let here : col < length columns = omega (arith, width, lt) in
       let typed : x.ty ≡ get_or schema.types col column.Int =
-      ap (λ (c : Column). c.ty) is ∙ sym (get_or-map (λ (c : Column). c.ty) columns col x column.Int here) ∙ ap (λ types. get_or types col column.Int) h.typed in
+      ap (λ (c : Column). c.ty) is
+      ∙ sym (get_or-map (λ (c : Column). c.ty) columns col x column.Int here)
+      ∙ ap (λ types. get_or types col column.Int) h.typed in
       let filled : length x.values ≡ count = ap (λ (c : Column). length c.values) is ∙ h.filled col x here in
       let cells : x.values ≡ column_values col (rows_of count columns) =
-      fill_by_all (λ sid. get_or (row_at columns sid) col (Truth false)) x.values count (Truth false) filled (λ k _. sym (get_or-map (cell_at k) columns col x (Truth false) here ∙ ap (cell_at k) (sym is)))
+      fill_by_all (λ sid. get_or (row_at columns sid) col (Truth false)) x.values count (Truth false) filled
+      (λ k _. sym (get_or-map (cell_at k) columns col x (Truth false) here ∙ ap (cell_at k) (sym is)))
       ∙ sym (map-map (λ (row : Row). get_or row col (Truth false)) (row_at columns) (range_with_len 0 count)) in
-      ap (λ ty. record { ty = ty; values = x.values }) typed ∙ ap (λ values. record { ty = get_or schema.types col column.Int; values = values }) cells
+      ap (λ ty. record { ty = ty; values = x.values }) typed
+      ∙ ap (λ values. record { ty = get_or schema.types col column.Int; values = values }) cells
 
   -- each row has a value for each column
   pub row_width : (sid : ℕ) → sid < count → length (get_or (rows_of count columns) sid []) ≡ length schema.types
-  row_width sid within = ap (λ (row : Row). length row) (get_or-map-range_with_len (row_at columns) 0 count sid sid [] within (omega arith)) ∙ length-map columns (cell_at sid) ∙ width
+  row_width sid within =
+      ap (λ (row : Row). length row) (get_or-map-range_with_len (row_at columns) 0 count sid sid [] within (omega arith))
+      ∙ length-map columns (cell_at sid)
+      ∙ width
 
   module _ (sid col : ℕ) (x : Column) (is : x ≡ get_or columns col x) (lt : col < length schema.types) (within : sid < count) where
     pub has_value : sid < length x.values
@@ -114,17 +133,22 @@ module _ (schema : Columns) (count : ℕ) (columns : List Column) (h : IsKept sc
         let here : col < length columns = omega (arith, width, lt) in
         ap (λ (row : Row). slice_get row col) (get_or-map-range_with_len (row_at columns) 0 count sid sid [] within (omega arith))
         ∙ slice_get-get_or (map (cell_at sid) columns) col v (omega (arith, length-map columns (cell_at sid), here))
-        ∙ ap Some (get_or-map (cell_at sid) columns col x v here ∙ ap (cell_at sid) (sym is) ∙ get_or_from_slice_get x.values sid v (Truth false) e)
+        ∙ ap Some (get_or-map (cell_at sid) columns col x v here
+        ∙ ap (cell_at sid) (sym is)
+        ∙ get_or_from_slice_get x.values sid v (Truth false) e)
 
 -- ---- the table of rows without a fault
 
-module _ (schema : Columns) (rows : List Row) (h : build_fault schema rows ≡ None) (count : ℕ) (counts : count ≡ length rows) (columns : List Column) (e : columns ≡ first_columns schema.types rows (length schema.types)) where
+module _ (schema : Columns) (rows : List Row) (h : build_fault schema rows ≡ None) (count : ℕ) (counts : count ≡ length rows)
+    (columns : List Column) (e : columns ≡ first_columns schema.types rows (length schema.types)) where
   row_again : (k : ℕ) (d : Row) → k < length rows → get_or rows k d ≡ row_at columns k
   row_again k d lt =
       let types = schema.types in
       let row = get_or rows k d in
       let w = length types in
-      fill_by_all (λ j. cell_at k (column_at types rows j)) row w (Truth false) (width_of types row (all_shaped schema rows h k d lt)) (λ j _. sym (get_or-map (λ (r : Row). get_or r j (Truth false)) rows k d (Truth false) lt))
+      fill_by_all (λ j. cell_at k (column_at types rows j)) row w (Truth false)
+      (width_of types row (all_shaped schema rows h k d lt))
+      (λ j _. sym (get_or-map (λ (r : Row). get_or r j (Truth false)) rows k d (Truth false) lt))
       ∙ sym (map-map (cell_at k) (column_at types rows) (range_with_len 0 w))
       ∙ ap (map (cell_at k)) (sym e)
 
@@ -137,7 +161,15 @@ module _ (schema : Columns) (rows : List Row) (h : build_fault schema rows ≡ N
       let w = length types in
       let wide : length columns ≡ w = ap length e ∙ length-map-range_with_len (column_at types rows) 0 w in
       record {
-        typed = ap (map (λ (c : Column). c.ty)) e ∙ map-map (λ (c : Column). c.ty) (column_at types rows) (range_with_len 0 w) ∙ sym (fill_by_all (λ j. get_or types j column.Int) types w column.Int refl (λ k lt. refl));
-        filled = λ col d lt. ap (λ (cs : List Column). length (get_or cs col d).values) e ∙ ap (λ (c : Column). length c.values) (get_or-map-range_with_len (column_at types rows) 0 w col col d (omega (arith, wide, lt)) (omega arith)) ∙ length-map rows (λ (row : Row). get_or row col (Truth false)) ∙ sym counts;
+        typed =
+            ap (map (λ (c : Column). c.ty)) e
+            ∙ map-map (λ (c : Column). c.ty) (column_at types rows) (range_with_len 0 w)
+            ∙ sym (fill_by_all (λ j. get_or types j column.Int) types w column.Int refl (λ k lt. refl));
+        filled =
+            λ col d lt. ap (λ (cs : List Column). length (get_or cs col d).values) e
+            ∙ ap (λ (c : Column). length c.values)
+            (get_or-map-range_with_len (column_at types rows) 0 w col col d (omega (arith, wide, lt)) (omega arith))
+            ∙ length-map rows (λ (row : Row). get_or row col (Truth false))
+            ∙ sym counts;
         stable = subst (λ rs. IsStable (record { schema = schema; rows = rs })) (sym shown) (is_stable schema rows h);
       }

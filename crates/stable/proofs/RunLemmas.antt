@@ -9,7 +9,8 @@ pub length-run : (values : List Value) (start run : ℕ) → start + run ≤ len
 length-run values start run within = omega (arith, length-take run (drop start values), length-drop start values)
 
 -- a run of the block that has a place is a run of the values from there on
-run_of_block : (values : List Value) (at run : ℕ) → at % 1024 + run ≤ 1024 → take run (drop (at % 1024) (take 1024 (drop (1024 * (at / 1024)) values))) ≡ take run (drop at values)
+run_of_block : (values : List Value) (at run : ℕ) → at % 1024 + run ≤ 1024
+    → take run (drop (at % 1024) (take 1024 (drop (1024 * (at / 1024)) values))) ≡ take run (drop at values)
 run_of_block values at run fits =
     let q = at / 1024 in
     let r = at % 1024 in
@@ -23,9 +24,12 @@ run_of_block values at run fits =
 
 -- the values so far, and the next run of them
 pub run_more : (old values : List Value) (from moved run : ℕ) → (from + moved) % 1024 + run ≤ 1024
-    → (old ++ take moved (drop from values)) ++ take run (drop ((from + moved) % 1024) (take 1024 (drop (1024 * ((from + moved) / 1024)) values))) ≡ old ++ take (moved + run) (drop from values)
+    → (old ++ take moved (drop from values))
+    ++ take run (drop ((from + moved) % 1024) (take 1024 (drop (1024 * ((from + moved) / 1024)) values)))
+    ≡ old ++ take (moved + run) (drop from values)
 run_more old values from moved run fits =
     append_assoc old (take moved (drop from values)) _
     ∙ ap (λ more. old ++ more)
-    (ap (λ more. take moved (drop from values) ++ more) (run_of_block values (from + moved) run fits ∙ ap (take run) (sym (drop-drop moved from values)))
+    (ap (λ more. take moved (drop from values) ++ more)
+    (run_of_block values (from + moved) run fits ∙ ap (take run) (sym (drop-drop moved from values)))
     ∙ sym (take-add moved run (drop from values)))

@@ -38,30 +38,41 @@ fine i false None h = cc h
 module _ (schema : Columns) where
   module _ (i : ℕ) (before : Option Row) (row : Row) (rows : List Row) (h : rows_fault schema i before (row ∷ rows) ≡ None) where
     here : IsFine (ascends schema.key_cols before row) (row_fault schema row)
-    here = fine i (ascends schema.key_cols before row) (row_fault schema row) (neither (row_fault_at schema i before row) (rows_fault schema (suc i) (Some row) rows) h).0
+    here =
+        fine i (ascends schema.key_cols before row) (row_fault schema row)
+        (neither (row_fault_at schema i before row) (rows_fault schema (suc i) (Some row) rows) h).0
 
     rest : rows_fault schema (suc i) (Some row) rows ≡ None
     rest = (neither (row_fault_at schema i before row) (rows_fault schema (suc i) (Some row) rows) h).1
 
-  all_fit : (i : ℕ) (before : Option Row) (rows : List Row) → rows_fault schema i before rows ≡ None → T (list_all (λ e. fits_schema schema e.1) (table_of schema.key_cols rows))
+  all_fit : (i : ℕ) (before : Option Row) (rows : List Row) → rows_fault schema i before rows ≡ None
+      → T (list_all (λ e. fits_schema schema e.1) (table_of schema.key_cols rows))
   all_fit i before [] h = tt
   all_fit i before (row ∷ rows) h =
-      both (fits_schema schema row) _ (subst (λ f. T (is_none f)) (sym (here i before row rows h).fits) tt) (all_fit (suc i) (Some row) rows (rest i before row rows h))
+      both (fits_schema schema row) _ (subst (λ f. T (is_none f)) (sym (here i before row rows h).fits) tt)
+      (all_fit (suc i) (Some row) rows (rest i before row rows h))
 
-  fits_at : (i : ℕ) (before : Option Row) (rows : List Row) → rows_fault schema i before rows ≡ None → (k : ℕ) (d : Row) → k < length rows → row_fault schema (get_or rows k d) ≡ None
+  fits_at : (i : ℕ) (before : Option Row) (rows : List Row) → rows_fault schema i before rows ≡ None → (k : ℕ) (d : Row)
+      → k < length rows → row_fault schema (get_or rows k d) ≡ None
   fits_at i before [] h k d lt = absurd (omega arith)
   fits_at i before (row ∷ rows) h zero d lt = (here i before row rows h).fits
   fits_at i before (row ∷ rows) h (suc k) d lt = fits_at (suc i) (Some row) rows (rest i before row rows h) k d (omega arith)
 
   -- the rows after one that have no fault ascend from it
-  above : (i : ℕ) (before : Row) (rows : List Row) → rows_fault schema i (Some before) rows ≡ None → T (below_all key_cmp (key_of schema.key_cols before) (table_of schema.key_cols rows)) × T (is_sorted key_cmp (table_of schema.key_cols rows))
+  above : (i : ℕ) (before : Row) (rows : List Row) → rows_fault schema i (Some before) rows ≡ None
+      → T (below_all key_cmp (key_of schema.key_cols before) (table_of schema.key_cols rows))
+      × T (is_sorted key_cmp (table_of schema.key_cols rows))
   above i before [] h = (tt, tt)
   above i before (row ∷ rows) h =
       let key_cols = schema.key_cols in
       let after = above (suc i) row rows (rest i (Some before) row rows h) in
       let ascent = (here i (Some before) row rows h).ascends in
-      let further = below_less key_cmp_total (key_of key_cols before) (key_of key_cols row) (table_of key_cols rows) (less (key_cmp (key_of key_cols before) (key_of key_cols row)) ascent) after.0 in
-      (both (is_lt (key_cmp (key_of key_cols before) (key_of key_cols row))) _ ascent further, both (below_all key_cmp (key_of key_cols row) (table_of key_cols rows)) _ after.0 after.1)
+      let further =
+      below_less key_cmp_total (key_of key_cols before) (key_of key_cols row) (table_of key_cols rows)
+      (less (key_cmp (key_of key_cols before) (key_of key_cols row)) ascent) after.0 in (
+        both (is_lt (key_cmp (key_of key_cols before) (key_of key_cols row))) _ ascent further,
+        both (below_all key_cmp (key_of key_cols row) (table_of key_cols rows)) _ after.0 after.1,
+      )
 
   sorted : (rows : List Row) → rows_fault schema 0 None rows ≡ None → T (is_sorted key_cmp (table_of schema.key_cols rows))
   sorted [] h = tt
@@ -87,7 +98,8 @@ module _ (schema : Columns) where
       few is = grind (arith, nat_tests)
 
   -- each row of rows without a fault fits the schema
-  pub all_shaped : (rows : List Row) → build_fault schema rows ≡ None → (k : ℕ) (d : Row) → k < length rows → row_fault schema (get_or rows k d) ≡ None
+  pub all_shaped : (rows : List Row) → build_fault schema rows ≡ None → (k : ℕ) (d : Row) → k < length rows
+      → row_fault schema (get_or rows k d) ≡ None
   all_shaped rows h = fits_at 0 None rows (parts (nat_lt MAX_ROWS (length rows)) (rows_fault schema 0 None rows) h).1
 
 -- ---- a table

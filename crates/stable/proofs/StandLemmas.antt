@@ -25,8 +25,10 @@ stands false b p q = p
 pub one_stands : (ty : ColumnType) (v : Value) → has_type ty v ≡ true → is_too_long v ≡ false → all_may_stand ty (v ∷ [])
 one_stands ty v typed short = all_true (may_stand ty v) true (stands (has_type ty v) (is_too_long v) typed short) refl
 
-pub more_stand : (ty : ColumnType) (values more : List Value) → all_may_stand ty values → all_may_stand ty more → all_may_stand ty (values ++ more)
-more_stand ty values more h k = list_all-append (may_stand ty) values more ∙ all_true (list_all (may_stand ty) values) (list_all (may_stand ty) more) h k
+pub more_stand : (ty : ColumnType) (values more : List Value) → all_may_stand ty values → all_may_stand ty more
+    → all_may_stand ty (values ++ more)
+more_stand ty values more h k =
+    list_all-append (may_stand ty) values more ∙ all_true (list_all (may_stand ty) values) (list_all (may_stand ty) more) h k
 
 fit_stands : (ty : ColumnType) (v : Value) → Fits ty v → may_stand ty v ≡ true
 fit_stands column.Int (Int x) h = refl
@@ -45,4 +47,5 @@ fit_stands column.Bool (Text t) h = absurd h
 -- and so may those of a block
 pub block_stands : (ty : ColumnType) (values : List Value) → AllFit ty values → all_may_stand ty values
 block_stands ty [] h = refl
-block_stands ty (v ∷ values) h = all_true (may_stand ty v) (list_all (may_stand ty) values) (fit_stands ty v h.0) (block_stands ty values h.1)
+block_stands ty (v ∷ values) h =
+    all_true (may_stand ty v) (list_all (may_stand ty) values) (fit_stands ty v h.0) (block_stands ty values h.1)

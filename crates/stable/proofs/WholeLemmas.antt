@@ -9,7 +9,8 @@ use Rattle.stable.specs.Rows.{AreEven, IsKept, first_columns, row_count, rows_of
 use Rattle.stable.proofs.FaultLemmas.{no_build_fault}
 use Rattle.stable.proofs.RowsLemmas.{kept, shown, width}
 
-pub row_count_is : (columns : List Column) (n : ℕ) → 0 < length columns → ((col : ℕ) (d : Column) → col < length columns → length (get_or columns col d).values ≡ n) → row_count columns ≡ n
+pub row_count_is : (columns : List Column) (n : ℕ) → 0 < length columns
+    → ((col : ℕ) (d : Column) → col < length columns → length (get_or columns col d).values ≡ n) → row_count columns ≡ n
 row_count_is [] n some f = absurd (omega (arith, some))
 row_count_is (c ∷ columns) n some f = f 0 c (omega arith)
 
@@ -21,7 +22,9 @@ pub record AreWhole (schema : Columns) (rows : List Row) (columns : List Column)
 
 -- the columns are whole when there are as many as the schema has
 module _ (schema lent : Columns) (rows : List Row) (columns : List Column) (width col : ℕ) where
-  pub whole : lent ≡ schema → width ≡ length lent.types → IsSchema lent → width ≤ col → col ≤ width → IsStable (record { schema = schema; rows = rows }) → columns ≡ first_columns schema.types rows col → AreWhole schema rows columns
+  pub whole : lent ≡ schema → width ≡ length lent.types → IsSchema lent → width ≤ col → col ≤ width
+      → IsStable (record { schema = schema; rows = rows }) → columns ≡ first_columns schema.types rows col
+      → AreWhole schema rows columns
   whole is wide lawful least most h e =
       let same : length lent.types ≡ length schema.types = ap (λ (x : Columns). length x.types) is in
       let all : col ≡ length schema.types = omega (arith, least, most, wide, same) in
@@ -34,7 +37,8 @@ module _ (schema lent : Columns) (rows : List Row) (columns : List Column) (widt
 -- the columns that rows fill, all under types that are the schema's, are whole
 module _ (schema lent : Columns) (types : List ColumnType) (rows : List Row) (columns : List Column) where
   pub all_whole : IsSchema lent → length lent.types ≡ length schema.types → types ≡ schema.types
-      → IsStable (record { schema = schema; rows = rows }) → columns ≡ first_columns types rows (length types) → AreWhole schema rows columns
+      → IsStable (record { schema = schema; rows = rows }) → columns ≡ first_columns types rows (length types)
+      → AreWhole schema rows columns
   all_whole lawful same are h filled = record {
     stable = h;
     some = omega (arith, lawful.keyed, lawful.key_within, same);
@@ -56,7 +60,9 @@ module _ (schema : Columns) (rows : List Row) (columns : List Column) (h : AreWh
   all_even = λ col d lt. keeps.filled col d lt ∙ sym counts
 
   pub all_rows : rows_of (row_count columns) columns ≡ rows
-  all_rows = ap (λ n. rows_of n columns) counts ∙ shown schema rows (no_build_fault schema rows h.stable) (length rows) refl columns h.filled
+  all_rows =
+      ap (λ n. rows_of n columns) counts
+      ∙ shown schema rows (no_build_fault schema rows h.stable) (length rows) refl columns h.filled
 
   pub all_stable : IsStable (record { schema = schema; rows = rows_of (row_count columns) columns })
   all_stable = subst (λ (rs : List Row). IsStable (record { schema = schema; rows = rs })) (sym all_rows) h.stable

@@ -21,6 +21,13 @@ history_send =
       search (crosses, sendable) depth 20,
       (
         search sendable depth 20,
-        (rules.the_send, (as_row_send (LinkedList.the_field Record.the_row Global.the_row heap.ghosts) (linked.the_send Record.the_row Global.the_row heap.ghosts record_of.the_send global.the_send frees), tt)),
+        (
+          rules.the_send,
+          (
+            as_row_send (LinkedList.the_field Record.the_row Global.the_row heap.ghosts)
+                (linked.the_send Record.the_row Global.the_row heap.ghosts record_of.the_send global.the_send frees),
+            tt,
+          ),
+        ),
       ),
     ))

@@ -22,13 +22,17 @@ use Rattle.merge.proofs.CallerLemmas.{over-canonical_entries}
 
 module _ (schema : Columns) (t : Table) (x : Effects) where
   -- writes that fit the schema leave effects over the table
-  pub over_writes : (writes : List Write) (limit key_cols : ℕ) (none : Effects) → IsTable schema t → list_all (write_fits_schema schema) writes ≡ true → key_cols ≡ schema.key_cols → x ≡ effects_after_all key_cols limit t none writes → none ≡ [] → AreOver schema t x
+  pub over_writes : (writes : List Write) (limit key_cols : ℕ) (none : Effects) → IsTable schema t
+      → list_all (write_fits_schema schema) writes ≡ true → key_cols ≡ schema.key_cols
+      → x ≡ effects_after_all key_cols limit t none writes → none ≡ [] → AreOver schema t x
   over_writes writes limit key_cols none table fit keys is empty =
       let start : AreOver schema t [] = record { table = table; effects_are = record { keyed = refl; fitting = refl }; fit = refl } in
-      subst (AreOver schema t) (sym (is ∙ (λ i. effects_after_all (keys i) limit t (empty i) writes))) (all_keep schema limit t [] writes start fit)
+      subst (AreOver schema t) (sym (is ∙ (λ i. effects_after_all (keys i) limit t (empty i) writes)))
+      (all_keep schema limit t [] writes start fit)
 
   -- their entries are lawful, where there aren't too many rows or entries
-  pub lawful_layer : AreOver schema t x → (entries : List Entry) (key_cols : ℕ) → key_cols ≡ schema.key_cols → entries ≡ canonical_entries t x → length t < 2 ^ 32 → length entries ≤ 2 ^ 40 → IsLawful key_cols entries
+  pub lawful_layer : AreOver schema t x → (entries : List Entry) (key_cols : ℕ) → key_cols ≡ schema.key_cols
+      → entries ≡ canonical_entries t x → length t < 2 ^ 32 → length entries ≤ 2 ^ 40 → IsLawful key_cols entries
   lawful_layer over entries key_cols keys is few short =
       let h = over-canonical_entries schema t x over in
       let placed = canonical_entries-placed t x in
@@ -40,7 +44,8 @@ module _ (schema : Columns) (t : Table) (x : Effects) where
       subst (λ n. IsLawful n entries) (sym keys) (subst (IsLawful schema.key_cols) (sym is) whole)
 
 -- a layer over an equal table
-abbrev move_layer : (schema other : Columns) (t u : Table) (tree : Tree) → schema ≡ other → t ≡ u → IsLayer schema t tree → IsLayer other u tree
+abbrev move_layer : (schema other : Columns) (t u : Table) (tree : Tree) → schema ≡ other → t ≡ u → IsLayer schema t tree
+    → IsLayer other u tree
 move_layer schema other t u tree s_is t_is l = record {
   key_cols = l.key_cols ∙ ap (λ (c : Columns). c.key_cols) s_is;
   effects = l.effects;
@@ -49,17 +54,22 @@ move_layer schema other t u tree s_is t_is l = record {
 }
 
 -- layers, each over the table after the one below, are stacked
-pub are_stacked : (stable : Stable) (schema : Columns) (read write trans : Tree) (t u v : Table) → schema ≡ stable.schema → t ≡ table_in stable → (l : IsLayer schema t read) → u ≡ table_with t l.effects → (m : IsLayer schema u write) → v ≡ table_with u m.effects → IsLayer schema v trans → AreStacked stable read write trans
+pub are_stacked : (stable : Stable) (schema : Columns) (read write trans : Tree) (t u v : Table) → schema ≡ stable.schema
+    → t ≡ table_in stable → (l : IsLayer schema t read) → u ≡ table_with t l.effects → (m : IsLayer schema u write)
+    → v ≡ table_with u m.effects → IsLayer schema v trans → AreStacked stable read write trans
 are_stacked stable schema read write trans t u v s_is t_is l u_is m v_is n =
     let u_there = u_is ∙ ap (λ w. table_with w l.effects) t_is in
     record {
       lower = move_layer schema stable.schema t (table_in stable) read s_is t_is l;
       middle = move_layer schema stable.schema u (table_with (table_in stable) l.effects) write s_is u_there m;
-      upper = move_layer schema stable.schema v (table_with (table_with (table_in stable) l.effects) m.effects) trans s_is (v_is ∙ ap (λ w. table_with w m.effects) u_there) n;
+      upper =
+          move_layer schema stable.schema v (table_with (table_with (table_in stable) l.effects) m.effects) trans s_is
+          (v_is ∙ ap (λ w. table_with w m.effects) u_there) n;
     }
 
 -- the rows of a stable table make the same table by key
-pub same_table : (s : Stable) (key_cols : ℕ) (rows : List Row) (table : Table) → IsStable s → key_cols ≡ s.schema.key_cols → rows ≡ s.rows → (IsTrue (is_sorted key_cmp (table_of key_cols rows)) → table ≡ table_of key_cols rows) → table ≡ table_in s
+pub same_table : (s : Stable) (key_cols : ℕ) (rows : List Row) (table : Table) → IsStable s → key_cols ≡ s.schema.key_cols
+    → rows ≡ s.rows → (IsTrue (is_sorted key_cmp (table_of key_cols rows)) → table ≡ table_of key_cols rows) → table ≡ table_in s
 same_table s key_cols rows table h keys same put =
     let is : table_of key_cols rows ≡ table_in s = λ i. table_of (keys i) (same i) in
     let sorted = first (is_sorted key_cmp (table_in s)) _ (passes (is_keyed_table s.schema.key_cols (table_in s)) h.table.keyed) in

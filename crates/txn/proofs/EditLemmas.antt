@@ -29,7 +29,9 @@ cell_of col (Ins row) h = h
 cell_of col (Del key) h = absurd h
 cell_of col (Mod other value) h = absurd h
 
-module _ (k sid n : ℕ) (es : List Entry) (ordered : IsTrue (are_ordered k es)) (inserted : Bool) (yes : inserted ≡ true) (write : Write) (split : IsSplit (stands_before (insert_cmp k (key_of_write k write)) sid) es n) (may : MayBeEdited k sid inserted write es) (done : Bool) (is_done : done ≡ true) where
+module _ (k sid n : ℕ) (es : List Entry) (ordered : IsTrue (are_ordered k es)) (inserted : Bool) (yes : inserted ≡ true)
+    (write : Write) (split : IsSplit (stands_before (insert_cmp k (key_of_write k write)) sid) es n)
+    (may : MayBeEdited k sid inserted write es) (done : Bool) (is_done : done ≡ true) where
   -- a delete takes the insert away
   module _ (key : Key) (is : write ≡ Delete key) where
     pub taken : HasInsert k sid key es n
@@ -55,7 +57,10 @@ module _ (k sid n : ℕ) (es : List Entry) (ordered : IsTrue (are_ordered k es))
     pub cell_there : (e : Entry) → slice_get es n ≡ Some e → has_cell col e.change
     cell_there e at =
         subst (λ (e : Entry). has_cell col e.change) (get_or_from_slice_get es n e nothing at)
-        (cell_of col (get_or es n nothing).change (subst (λ (o : Option Row). IsSomeAnd o (λ row. col < length row)) found.row_is may_set.0))
+        (cell_of col (get_or es n nothing).change
+        (subst (λ (o : Option Row). IsSomeAnd o (λ row. col < length row)) found.row_is may_set.0))
 
-    pub set_is : set es n (entry_at (get_or es n nothing).sid (change_with_cell col value (get_or es n nothing).change)) ≡ cond done (edited k sid inserted write es) es
+    pub set_is :
+        set es n (entry_at (get_or es n nothing).sid (change_with_cell col value (get_or es n nothing).change))
+        ≡ cond done (edited k sid inserted write es) es
     set_is = sym ((λ i. cond (is_done i) (edited k sid (yes i) (is i) es) es) ∙ found.with_cell col value)

@@ -19,10 +19,12 @@ list_all-take p (suc n) [] h = tt
 list_all-take p (suc n) (x ∷ xs) h = both (p x) _ (first (p x) _ h) (list_all-take p n xs (second (p x) _ h))
 
 -- the replies to the first writes are the first replies
-replies_to-take : (key_cols limit : ℕ) (t : Table) (n : ℕ) (x : Effects) (writes : List Write) → take n (replies_to key_cols limit t x writes) ≡ replies_to key_cols limit t x (take n writes)
+replies_to-take : (key_cols limit : ℕ) (t : Table) (n : ℕ) (x : Effects) (writes : List Write)
+    → take n (replies_to key_cols limit t x writes) ≡ replies_to key_cols limit t x (take n writes)
 replies_to-take key_cols limit t zero x writes = refl
 replies_to-take key_cols limit t (suc n) x [] = refl
-replies_to-take key_cols limit t (suc n) x (w ∷ writes) = ap (λ rs. reply_to key_cols limit t x w ∷ rs) (replies_to-take key_cols limit t n (effects_after key_cols limit t x w) writes)
+replies_to-take key_cols limit t (suc n) x (w ∷ writes) =
+    ap (λ rs. reply_to key_cols limit t x w ∷ rs) (replies_to-take key_cols limit t n (effects_after key_cols limit t x w) writes)
 
 module _ (txn : Transaction) (h : IsTransaction txn) (count : ℕ) where
   abbrev asked-first : asked_of (with_first count txn) ≡ take count (asked_of txn)
@@ -34,7 +36,10 @@ module _ (txn : Transaction) (h : IsTransaction txn) (count : ℕ) where
     table = h.table;
     within = h.within;
     limited = h.limited;
-    fitting = ap (list_all (write_fits_schema txn.schema)) asked-first ∙ is_true _ (list_all-take (write_fits_schema txn.schema) count (asked_of txn) (T_from_true (list_all (write_fits_schema txn.schema) (asked_of txn)) h.fitting));
+    fitting =
+        ap (list_all (write_fits_schema txn.schema)) asked-first
+        ∙ is_true _ (list_all-take (write_fits_schema txn.schema) count (asked_of txn)
+        (T_from_true (list_all (write_fits_schema txn.schema) (asked_of txn)) h.fitting));
     answered =
         sym (take-map (λ (w : Write × WriteReply). w.1) count txn.writes)
         ∙ ap (take count) h.answered
@@ -59,7 +64,8 @@ written_IsMark mark old new m g = subst (IsMark mark) (sym g.new_is) (record {
   tree_is = m.tree_is ∙ ap (λ ws. tree_of (with_writes old ws)) (sym (take-append-le mark.count old.writes g.later m.within));
 })
 
-pub gone_back_IsMark : (mark : Marked) (txn : Transaction) (count : ℕ) → IsMark mark txn → mark.count ≤ count → IsMark mark (with_first count txn)
+pub gone_back_IsMark : (mark : Marked) (txn : Transaction) (count : ℕ) → IsMark mark txn → mark.count ≤ count
+    → IsMark mark (with_first count txn)
 gone_back_IsMark mark txn count m le = record {
   within = fits;
   tree_is = m.tree_is ∙ ap (λ ws. tree_of (with_writes txn ws)) (sym (take-take mark.count count txn.writes le));
@@ -80,7 +86,8 @@ marks_stand = record { made = made_IsMark; written = written_IsMark; gone_back =
 -- ---- the fields of a transaction that goes back
 
 -- they are kept where its writes are the first ones, and its tree is that of the mark
-pub back_kept : (txn self : Transaction) (view : txn ≡ self) (h : IsTransaction txn) (mark args : Marked) (same : mark ≡ args) → IsMark args self → (writes : List (Write × WriteReply)) → writes ≡ take mark.count txn.writes
+pub back_kept : (txn self : Transaction) (view : txn ≡ self) (h : IsTransaction txn) (mark args : Marked) (same : mark ≡ args)
+    → IsMark args self → (writes : List (Write × WriteReply)) → writes ≡ take mark.count txn.writes
     → IsTransaction (with_writes txn writes) × (mark.tree ≡ tree_of (with_writes txn writes))
 back_kept txn self view h mark args same m writes items =
     let tree : mark.tree ≡ tree_of (with_first mark.count txn) =
@@ -100,5 +107,6 @@ goes_further first second third g h = record {
 }
 
 -- a mark that stands where the next one is made isn't younger, and stands where the transaction goes back to that
-pub back_keeps : (mark : Marked) (then now : Transaction) → IsMark mark then → GoesOn then now → IsMark mark (with_first (mark_of then).count now)
+pub back_keeps : (mark : Marked) (then now : Transaction) → IsMark mark then → GoesOn then now
+    → IsMark mark (with_first (mark_of then).count now)
 back_keeps mark then now m g = gone_back_IsMark mark now (length then.writes) (written_IsMark mark then now m g) m.within

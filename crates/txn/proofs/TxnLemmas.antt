@@ -36,7 +36,8 @@ is_true false h = absurd h
 -- ---- the edit, by whether the row was inserted
 
 module _ (key_cols sid : ℕ) where
-  edited-edited_entries : (write : Write) (old : Option Effect) (entries : List Entry) → edited key_cols sid (is_some (row_inserted old)) write entries ≡ edited_entries key_cols sid write old entries
+  edited-edited_entries : (write : Write) (old : Option Effect) (entries : List Entry)
+      → edited key_cols sid (is_some (row_inserted old)) write entries ≡ edited_entries key_cols sid write old entries
   edited-edited_entries (Insert row) old entries = refl
   edited-edited_entries (Delete key) None entries = refl
   edited-edited_entries (Delete key) (Some (effect.Ins row)) entries = refl
@@ -49,7 +50,8 @@ module _ (key_cols sid : ℕ) where
   edited-edited_entries (Set key col value) (Some (effect.Mod cells)) entries = refl
   edited-edited_entries (Set key col value) (Some (effect.Rep row)) entries = refl
 
-  may_be-may : (write : Write) (old : Option Effect) (entries : List Entry) → MayEdit key_cols sid write old entries → MayBeEdited key_cols sid (is_some (row_inserted old)) write entries
+  may_be-may : (write : Write) (old : Option Effect) (entries : List Entry) → MayEdit key_cols sid write old entries
+      → MayBeEdited key_cols sid (is_some (row_inserted old)) write entries
   may_be-may (Insert row) old entries h = h
   may_be-may (Delete key) None entries h = h
   may_be-may (Delete key) (Some (effect.Ins row)) entries h = h
@@ -65,20 +67,28 @@ module _ (key_cols sid : ℕ) where
 -- ---- one write after the others
 
 module _ (key_cols limit : ℕ) (t : Table) where
-  pub effects_after_all-append : (x : Effects) (writes : List Write) (write : Write) → effects_after_all key_cols limit t x (writes ++ write ∷ []) ≡ effects_after key_cols limit t (effects_after_all key_cols limit t x writes) write
+  pub effects_after_all-append : (x : Effects) (writes : List Write) (write : Write)
+      → effects_after_all key_cols limit t x (writes ++ write ∷ [])
+      ≡ effects_after key_cols limit t (effects_after_all key_cols limit t x writes) write
   effects_after_all-append x [] write = refl
   effects_after_all-append x (w ∷ writes) write = effects_after_all-append (effects_after key_cols limit t x w) writes write
 
-  pub replies_to-append : (x : Effects) (writes : List Write) (write : Write) → replies_to key_cols limit t x (writes ++ write ∷ []) ≡ replies_to key_cols limit t x writes ++ reply_to key_cols limit t (effects_after_all key_cols limit t x writes) write ∷ []
+  pub replies_to-append : (x : Effects) (writes : List Write) (write : Write)
+      → replies_to key_cols limit t x (writes ++ write ∷ [])
+      ≡ replies_to key_cols limit t x writes ++ reply_to key_cols limit t (effects_after_all key_cols limit t x writes) write
+      ∷ []
   replies_to-append x [] write = refl
-  replies_to-append x (w ∷ writes) write = ap (λ rs. reply_to key_cols limit t x w ∷ rs) (replies_to-append (effects_after key_cols limit t x w) writes write)
+  replies_to-append x (w ∷ writes) write =
+      ap (λ rs. reply_to key_cols limit t x w ∷ rs) (replies_to-append (effects_after key_cols limit t x w) writes write)
 
 list_all-append : {A : Type 0} (p : A → Bool) (xs : List A) (x : A) → T (list_all p xs) → T (p x) → T (list_all p (xs ++ x ∷ []))
 list_all-append p [] x h k = both (p x) true k tt
 list_all-append p (y ∷ xs) x h k = both (p y) _ (first (p y) _ h) (list_all-append p xs x (second (p y) _ h) k)
 
 -- no write takes the image past the limit
-limit_kept : (schema : Columns) (limit : ℕ) (t : Table) (x : Effects) (writes : List Write) → AreOver schema t x → T (list_all (write_fits_schema schema) writes) → length (table_with t x) ≤ limit → length (table_with t (effects_after_all schema.key_cols limit t x writes)) ≤ limit
+limit_kept : (schema : Columns) (limit : ℕ) (t : Table) (x : Effects) (writes : List Write) → AreOver schema t x
+    → T (list_all (write_fits_schema schema) writes) → length (table_with t x) ≤ limit
+    → length (table_with t (effects_after_all schema.key_cols limit t x writes)) ≤ limit
 limit_kept schema limit t x [] over fit within = within
 limit_kept schema limit t x (w ∷ writes) over fit within =
     limit_kept schema limit t (effects_after schema.key_cols limit t x w) writes
@@ -87,7 +97,8 @@ limit_kept schema limit t x (w ∷ writes) over fit within =
     (length-effects_after schema limit t x w over within)
 
 -- whether a key is there after an effect that fits
-presence : (f : Option Effect) (old : Option Row) → T (holds_at (fits old) f) → is_some (changed_by row_after f old) ≡ (is_some (row_inserted f) || (is_some old && not (deletes_row f)))
+presence : (f : Option Effect) (old : Option Row) → T (holds_at (fits old) f)
+    → is_some (changed_by row_after f old) ≡ (is_some (row_inserted f) || (is_some old && not (deletes_row f)))
 presence None None h = refl
 presence None (Some row) h = refl
 presence (Some (effect.Ins new)) None h = refl
@@ -106,19 +117,26 @@ where_there false d e h = refl
 
 module _ (txn : Transaction) (h : IsTransaction txn) where
   pub over : AreOver txn.schema txn.table (effects_of txn)
-  over = all_keep txn.schema txn.limit txn.table [] (asked_of txn) (record { table = h.table; effects_are = record { keyed = refl; fitting = refl }; fit = refl }) h.fitting
+  over =
+      all_keep txn.schema txn.limit txn.table [] (asked_of txn)
+      (record { table = h.table; effects_are = record { keyed = refl; fitting = refl }; fit = refl }) h.fitting
 
   table_sorted : T (is_sorted key_cmp txn.table)
   table_sorted = first (is_sorted key_cmp txn.table) _ (T_from_true (is_keyed_table txn.schema.key_cols txn.table) h.table.keyed)
 
   effects_sorted : T (is_sorted key_cmp (effects_of txn))
-  effects_sorted = first (is_sorted key_cmp (effects_of txn)) _ (T_from_true (are_keyed_effects txn.schema.key_cols (effects_of txn)) over.effects_are.keyed)
+  effects_sorted =
+      first (is_sorted key_cmp (effects_of txn)) _
+      (T_from_true (are_keyed_effects txn.schema.key_cols (effects_of txn)) over.effects_are.keyed)
 
   effects_fit : T (all_fit txn.table (effects_of txn))
   effects_fit = T_from_true (all_fit txn.table (effects_of txn)) over.fit
 
   pub image_within : length (image_of txn) ≤ txn.limit
-  image_within = limit_kept txn.schema txn.limit txn.table [] (asked_of txn) (record { table = h.table; effects_are = record { keyed = refl; fitting = refl }; fit = refl }) (T_from_true (list_all (write_fits_schema txn.schema) (asked_of txn)) h.fitting) h.within
+  image_within =
+      limit_kept txn.schema txn.limit txn.table [] (asked_of txn)
+      (record { table = h.table; effects_are = record { keyed = refl; fitting = refl }; fit = refl })
+      (T_from_true (list_all (write_fits_schema txn.schema) (asked_of txn)) h.fitting) h.within
 
   pub entries_few : length (entries_of txn) ≤ 2 ^ 40
   entries_few =
@@ -152,31 +170,47 @@ module _ (txn : Transaction) (h : IsTransaction txn) where
     pub is_next : IsTransaction next
     is_next =
         let replies = λ (writes : List Write). replies_to txn.schema.key_cols txn.limit txn.table [] writes in
-        let fit = list_all-append (write_fits_schema txn.schema) (asked_of txn) write (T_from_true (list_all (write_fits_schema txn.schema) (asked_of txn)) h.fitting) (T_from_true (write_fits_schema txn.schema write) fits_it) in
+        let fit =
+        list_all-append (write_fits_schema txn.schema) (asked_of txn) write
+        (T_from_true (list_all (write_fits_schema txn.schema) (asked_of txn)) h.fitting)
+        (T_from_true (write_fits_schema txn.schema write) fits_it) in
         record {
           lawful = h.lawful;
           table = h.table;
           within = h.within;
           limited = h.limited;
           fitting = ap (list_all (write_fits_schema txn.schema)) asked-next ∙ is_true _ fit;
-          answered = answers-next ∙ ap (λ rs. rs ++ answer_to txn write ∷ []) h.answered ∙ sym (replies_to-append txn.schema.key_cols txn.limit txn.table [] (asked_of txn) write) ∙ ap replies (sym asked-next);
+          answered =
+              answers-next
+              ∙ ap (λ rs. rs ++ answer_to txn write ∷ []) h.answered
+              ∙ sym (replies_to-append txn.schema.key_cols txn.limit txn.table [] (asked_of txn) write)
+              ∙ ap replies (sym asked-next);
         }
 
     effects_of-next : effects_of next ≡ effects_after txn.schema.key_cols txn.limit txn.table (effects_of txn) write
-    effects_of-next = ap (effects_after_all txn.schema.key_cols txn.limit txn.table []) asked-next ∙ effects_after_all-append txn.schema.key_cols txn.limit txn.table [] (asked_of txn) write
+    effects_of-next =
+        ap (effects_after_all txn.schema.key_cols txn.limit txn.table []) asked-next
+        ∙ effects_after_all-append txn.schema.key_cols txn.limit txn.table [] (asked_of txn) write
 
     abbrev pub was_inserted : Bool
     was_inserted = is_some (row_inserted (find key_cmp key (effects_of txn)))
 
     -- its entries are those before, with the one change where it is done
-    pub entries_of-next : entries_of next ≡ cond (is_done (answer_to txn write)) (edited txn.schema.key_cols (rank key txn.table) was_inserted write (entries_of txn)) (entries_of txn)
+    pub entries_of-next :
+        entries_of next ≡ cond (is_done (answer_to txn write))
+        (edited txn.schema.key_cols (rank key txn.table) was_inserted write (entries_of txn)) (entries_of txn)
     entries_of-next =
         ap (canonical_entries txn.table) effects_of-next
         ∙ edits txn.schema txn.limit txn.table (effects_of txn) write over
-        ∙ ap (λ es. cond (is_done (answer_to txn write)) es (entries_of txn)) (sym (edited-edited_entries txn.schema.key_cols (rank key txn.table) write (find key_cmp key (effects_of txn)) (entries_of txn)))
+        ∙ ap (λ es. cond (is_done (answer_to txn write)) es (entries_of txn))
+        (sym (edited-edited_entries txn.schema.key_cols (rank key txn.table) write (find key_cmp key (effects_of txn))
+        (entries_of txn)))
 
-    pub may : IsTrue (is_done (answer_to txn write)) → MayBeEdited txn.schema.key_cols (rank key txn.table) was_inserted write (entries_of txn)
-    may done = may_be-may txn.schema.key_cols (rank key txn.table) write (find key_cmp key (effects_of txn)) (entries_of txn) (may_call txn.schema txn.limit txn.table (effects_of txn) write over fits_it done)
+    pub may : IsTrue (is_done (answer_to txn write))
+        → MayBeEdited txn.schema.key_cols (rank key txn.table) was_inserted write (entries_of txn)
+    may done =
+        may_be-may txn.schema.key_cols (rank key txn.table) write (find key_cmp key (effects_of txn)) (entries_of txn)
+        (may_call txn.schema txn.limit txn.table (effects_of txn) write over fits_it done)
 
 -- ---- a write as the code makes it
 
@@ -188,13 +222,19 @@ pub record IsSeen (txn : Transaction) (write : Write) (sid : ℕ) (inserted : Bo
   pub due : reply ≡ answer_to txn write
 
 -- it is seen by what was found at its key and by how many rows the image has
-pub seen : (txn self : Transaction) (view : txn ≡ self) (write : Write) (columns : Columns) (key_cols : ℕ) (key : Key) (sid count : ℕ) (there inserted : Bool) (reply : WriteReply) → IsTrue (write_fits_schema self.schema write)
-    → columns ≡ self.schema → key_cols ≡ columns.key_cols → key ≡ key_of_write key_cols write → IsFound self key sid there inserted → count ≡ length (image_of self) → reply ≡ reply_where txn.limit there count write → IsSeen txn write sid inserted reply
+pub seen : (txn self : Transaction) (view : txn ≡ self) (write : Write) (columns : Columns) (key_cols : ℕ) (key : Key)
+    (sid count : ℕ) (there inserted : Bool) (reply : WriteReply)
+    → IsTrue (write_fits_schema self.schema write)
+    → columns ≡ self.schema → key_cols ≡ columns.key_cols → key ≡ key_of_write key_cols write
+    → IsFound self key sid there inserted → count ≡ length (image_of self) → reply ≡ reply_where txn.limit there count write
+    → IsSeen txn write sid inserted reply
 seen txn self view write columns key_cols key sid count there inserted reply fits_it columns_are cols_is key_is found_is count_is reply_is =
-    let same : key ≡ key_of_write self.schema.key_cols write = key_is ∙ ap (λ k. key_of_write k write) (cols_is ∙ ap (λ (t : Columns). t.key_cols) columns_are) in
+    let same : key ≡ key_of_write self.schema.key_cols write =
+    key_is ∙ ap (λ k. key_of_write k write) (cols_is ∙ ap (λ (t : Columns). t.key_cols) columns_are) in
     let here = subst (λ (k : Key). IsFound self k sid there inserted) same found_is in
     let due : reply ≡ answer_to self write = reply_is ∙ (λ i. reply_where (view i).limit (here.there_is i) (count_is i) write) in
-    subst (λ (t : Transaction). IsSeen t write sid inserted reply) (sym view) (record { fits = fits_it; sid_is = here.sid_is; inserted_is = here.inserted_is; due = due })
+    subst (λ (t : Transaction). IsSeen t write sid inserted reply) (sym view)
+    (record { fits = fits_it; sid_is = here.sid_is; inserted_is = here.inserted_is; due = due })
 
 rank-le : (key : Key) (t : Table) → rank key t ≤ length t
 rank-le key t = omega (arith, length-filter (λ e. is_lt (key_cmp e.0 key)) t, count_by-le-length (λ e. is_lt (key_cmp e.0 key)) t)
@@ -202,17 +242,27 @@ rank-le key t = omega (arith, length-filter (λ e. is_lt (key_cmp e.0 key)) t, c
 -- its tree is in order, and what is found of a key's place is of it
 module _ (txn : Transaction) (h : IsTransaction txn) (tree : Tree) (tree_is : tree ≡ tree_of txn) where
   pub tree_ordered : IsTrue (are_ordered tree.key_cols tree.entries)
-  tree_ordered = subst (λ (t : Tree). IsTrue (are_ordered t.key_cols t.entries)) (sym tree_is) (is_true _ (ordered-canonical_entries txn.schema.key_cols txn.table (effects_of txn) (T_from_true _ (over txn h).effects_are.keyed) (effects_fit txn h)))
+  tree_ordered =
+      subst (λ (t : Tree). IsTrue (are_ordered t.key_cols t.entries)) (sym tree_is)
+      (is_true _ (ordered-canonical_entries txn.schema.key_cols txn.table (effects_of txn)
+      (T_from_true _ (over txn h).effects_are.keyed) (effects_fit txn h)))
 
-  pub tree_split : (self : Transaction) (view : txn ≡ self) (write : Write) (columns : Columns) (key_cols : ℕ) (key : Key) (sid n : ℕ) → columns ≡ self.schema → key_cols ≡ columns.key_cols → key ≡ key_of_write key_cols write
-      → IsSplit (stands_before (insert_cmp self.schema.key_cols key) sid) (entries_of self) n → IsSplit (stands_before (insert_cmp tree.key_cols (key_of_write tree.key_cols write)) sid) tree.entries n
+  pub tree_split : (self : Transaction) (view : txn ≡ self) (write : Write) (columns : Columns) (key_cols : ℕ) (key : Key)
+      (sid n : ℕ)
+      → columns ≡ self.schema → key_cols ≡ columns.key_cols → key ≡ key_of_write key_cols write
+      → IsSplit (stands_before (insert_cmp self.schema.key_cols key) sid) (entries_of self) n
+      → IsSplit (stands_before (insert_cmp tree.key_cols (key_of_write tree.key_cols write)) sid) tree.entries n
   tree_split self view write columns key_cols key sid n columns_are cols_is key_is split =
-      let same : key ≡ key_of_write self.schema.key_cols write = key_is ∙ ap (λ k. key_of_write k write) (cols_is ∙ ap (λ (t : Columns). t.key_cols) columns_are) in
+      let same : key ≡ key_of_write self.schema.key_cols write =
+      key_is ∙ ap (λ k. key_of_write k write) (cols_is ∙ ap (λ (t : Columns). t.key_cols) columns_are) in
       subst (λ (t : Tree). IsSplit (stands_before (insert_cmp t.key_cols (key_of_write t.key_cols write)) sid) t.entries n) (sym tree_is)
-      (subst (λ (t : Transaction). IsSplit (stands_before (insert_cmp t.schema.key_cols (key_of_write t.schema.key_cols write)) sid) (entries_of t) n) (sym view)
+      (subst
+      (λ (t : Transaction). IsSplit (stands_before (insert_cmp t.schema.key_cols (key_of_write t.schema.key_cols write)) sid) (entries_of t) n)
+      (sym view)
       (subst (λ (k : Key). IsSplit (stands_before (insert_cmp self.schema.key_cols k) sid) (entries_of self) n) same split))
 
-module _ (txn : Transaction) (h : IsTransaction txn) (tree : Tree) (tree_is : tree ≡ tree_of txn) (write : Write) (sid : ℕ) (inserted : Bool) (reply : WriteReply) (s : IsSeen txn write sid inserted reply) where
+module _ (txn : Transaction) (h : IsTransaction txn) (tree : Tree) (tree_is : tree ≡ tree_of txn) (write : Write) (sid : ℕ)
+    (inserted : Bool) (reply : WriteReply) (s : IsSeen txn write sid inserted reply) where
   pub seen_place : sid ≤ 2147483647
   seen_place =
       let limited : txn.limit ≤ 2147483647 = h.limited in
@@ -221,13 +271,17 @@ module _ (txn : Transaction) (h : IsTransaction txn) (tree : Tree) (tree_is : tr
   abbrev edited_tree : Tree → ℕ → Bool → List Entry
   edited_tree t n b = edited t.key_cols n b write t.entries
 
-  edit_is : edited_tree tree sid inserted ≡ edited txn.schema.key_cols (rank (key_of_write txn.schema.key_cols write) txn.table) (was_inserted txn h write s.fits) write (entries_of txn)
+  edit_is :
+      edited_tree tree sid inserted
+      ≡ edited txn.schema.key_cols (rank (key_of_write txn.schema.key_cols write) txn.table) (was_inserted txn h write s.fits)
+      write (entries_of txn)
   edit_is i = edited_tree (tree_is i) (s.sid_is i) (s.inserted_is i)
 
   pub seen_may : IsTrue (is_done reply) → MayBeEdited tree.key_cols sid inserted write tree.entries
   seen_may done =
       let told = may txn h write s.fits (sym (ap is_done s.due) ∙ done) in
-      subst (λ (e : Tree × (ℕ × Bool)). MayBeEdited e.0.key_cols e.1.0 e.1.1 write e.0.entries) (sym (λ i. (tree_is i, (s.sid_is i, s.inserted_is i)))) told
+      subst (λ (e : Tree × (ℕ × Bool)). MayBeEdited e.0.key_cols e.1.0 e.1.1 write e.0.entries)
+      (sym (λ i. (tree_is i, (s.sid_is i, s.inserted_is i)))) told
 
   -- the entries afterwards
   next_entries : cond (is_done reply) (edited_tree tree sid inserted) tree.entries ≡ entries_of (with_write txn write reply)
@@ -241,8 +295,11 @@ module _ (txn : Transaction) (h : IsTransaction txn) (tree : Tree) (tree_is : tr
 
   pub seen_room : IsTrue (is_done reply) → length (edited_tree tree sid inserted) ≤ 2 ^ 40
   seen_room done =
-      let same : edited_tree tree sid inserted ≡ entries_of (with_write txn write reply) = sym (ap (λ b. cond b (edited_tree tree sid inserted) tree.entries) done) ∙ next_entries in
+      let same : edited_tree tree sid inserted ≡ entries_of (with_write txn write reply) =
+      sym (ap (λ b. cond b (edited_tree tree sid inserted) tree.entries) done) ∙ next_entries in
       subst (λ (es : List Entry). length es ≤ 2 ^ 40) (sym same) (entries_few (with_write txn write reply) seen_next)
 
-  pub seen_tree : record tree { entries = cond (is_done reply) (edited_tree tree sid inserted) tree.entries } ≡ tree_of (with_write txn write reply)
+  pub seen_tree :
+      record tree { entries = cond (is_done reply) (edited_tree tree sid inserted) tree.entries }
+      ≡ tree_of (with_write txn write reply)
   seen_tree i = record { key_cols = (tree_is i).key_cols; entries = next_entries i }

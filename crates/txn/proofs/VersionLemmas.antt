@@ -51,8 +51,10 @@ module _ (l : Lower) (h : AreLower l) where
 
   lower_rows_is : lower_rows l ≡ rows_of effects_table
   lower_rows_is =
-      layer_rows l.stable.schema (table_with (table_in l.stable) h.lower.effects) l.write h.middle (merged_rows l.stable.rows l.read.entries)
-      (layer_rows l.stable.schema (table_in l.stable) l.read h.lower l.stable.rows (sym (rows_of-table_of l.stable.schema.key_cols l.stable.rows)))
+      layer_rows l.stable.schema (table_with (table_in l.stable) h.lower.effects) l.write h.middle
+      (merged_rows l.stable.rows l.read.entries)
+      (layer_rows l.stable.schema (table_in l.stable) l.read h.lower l.stable.rows
+      (sym (rows_of-table_of l.stable.schema.key_cols l.stable.rows)))
 
   effects_IsTable : IsTable l.stable.schema effects_table
   effects_IsTable = leaves l.stable.schema (table_with (table_in l.stable) h.lower.effects) h.middle.effects h.middle.over
@@ -60,7 +62,8 @@ module _ (l : Lower) (h : AreLower l) where
   pub lower_table_is : lower_table l ≡ effects_table
   lower_table_is =
       ap (table_of l.stable.schema.key_cols) lower_rows_is
-      ∙ table_of-rows_of l.stable.schema.key_cols effects_table (passes (is_keyed_table l.stable.schema.key_cols effects_table) effects_IsTable.keyed)
+      ∙ table_of-rows_of l.stable.schema.key_cols effects_table
+      (passes (is_keyed_table l.stable.schema.key_cols effects_table) effects_IsTable.keyed)
 
   pub lower_IsTable : IsTable l.stable.schema (lower_table l)
   lower_IsTable = subst (IsTable l.stable.schema) (sym lower_table_is) effects_IsTable
@@ -74,5 +77,7 @@ module _ (l : Lower) (h : AreLower l) where
   }
 
 -- the rows with a tree on top
-pub layered_rows : (l : Lower) (trans : Tree) → image_rows (stack_of l.stable l.read l.write trans) ≡ merged_rows (rows_of (lower_table l)) trans.entries
-layered_rows l trans = ap (λ (rows : List Row). merged_rows rows trans.entries) (sym (rows_of-table_of l.stable.schema.key_cols (lower_rows l)))
+pub layered_rows : (l : Lower) (trans : Tree)
+    → image_rows (stack_of l.stable l.read l.write trans) ≡ merged_rows (rows_of (lower_table l)) trans.entries
+layered_rows l trans =
+    ap (λ (rows : List Row). merged_rows rows trans.entries) (sym (rows_of-table_of l.stable.schema.key_cols (lower_rows l)))

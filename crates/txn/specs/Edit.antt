@@ -33,12 +33,14 @@ module _ (key_cols sid : ℕ) where
   abbrev pub edited : Bool → Write → List Entry → List Entry
   edited inserted (Insert row) entries = put_ins key_cols sid row entries
   edited inserted (Delete key) entries = cond inserted (take_ins key_cols sid key entries) (put_del key_cols sid key entries)
-  edited inserted (Set key col value) entries = cond inserted (set_ins key_cols sid key col value entries) (put_mod key_cols sid col value entries)
+  edited inserted (Set key col value) entries =
+      cond inserted (set_ins key_cols sid key col value entries) (put_mod key_cols sid col value entries)
 
   -- what the change asks of the entries
   abbrev pub MayBeEdited : Bool → Write → List Entry → Type 0
   MayBeEdited inserted (Insert row) entries = IsNone (inserted_row key_cols sid (key_of key_cols row) entries)
   MayBeEdited true (Delete key) entries = IsSome (inserted_row key_cols sid key entries)
   MayBeEdited false (Delete key) entries = IsFalse (has_delete sid entries)
-  MayBeEdited true (Set key col value) entries = IsSomeAnd (inserted_row key_cols sid key entries) (λ row. col < length row) × (key_cols ≤ col)
+  MayBeEdited true (Set key col value) entries =
+      IsSomeAnd (inserted_row key_cols sid key entries) (λ row. col < length row) × (key_cols ≤ col)
   MayBeEdited false (Set key col value) entries = IsFalse (has_delete sid entries)

@@ -34,4 +34,5 @@ pub record GoesOn (old new : Transaction) : Type 0 where
 pub record MarksStand : Type 0 where
   pub made : (txn : Transaction) → IsMark (mark_of txn) txn
   pub written : (mark : Marked) (old new : Transaction) → IsMark mark old → GoesOn old new → IsMark mark new
-  pub gone_back : (mark : Marked) (txn : Transaction) (count : ℕ) → IsMark mark txn → mark.count ≤ count → IsMark mark (with_first count txn)
+  pub gone_back : (mark : Marked) (txn : Transaction) (count : ℕ) → IsMark mark txn → mark.count ≤ count
+      → IsMark mark (with_first count txn)

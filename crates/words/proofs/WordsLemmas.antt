@@ -25,12 +25,14 @@ unfolding clap_on_literals
 usage-free = refl
 
 -- the same command, with the same words for each argument
-pub AreOf-same : (a b : Option Text) (f g : Text → Option Text) → a ≡ b → ((id : Text) → f id ≡ g id) → (settings : Settings) → AreOf a f settings → AreOf b g settings
+pub AreOf-same : (a b : Option Text) (f g : Text → Option Text) → a ≡ b → ((id : Text) → f id ≡ g id) → (settings : Settings)
+    → AreOf a f settings → AreOf b g settings
 AreOf-same a b f g command same (Recover dir) h = (sym command ∙ h.0, sym (same (codes "dir")) ∙ h.1)
 AreOf-same a b f g command same (Run table script threads store recent limit conflicts) h =
     rw (← command, ← same (codes "table"), ← same (codes "script"), ← same (codes "threads"), ← same (codes "store"), ← same (codes "recent"), ← same (codes "limit"), ← same (codes "conflicts")) h
 
-pub if-AreOf-same : (a b : Option Text) (f g : Text → Option Text) → a ≡ b → ((id : Text) → f id ≡ g id) → (o : Option Settings) → IfSome o (AreOf a f) → IfSome o (AreOf b g)
+pub if-AreOf-same : (a b : Option Text) (f g : Text → Option Text) → a ≡ b → ((id : Text) → f id ≡ g id) → (o : Option Settings)
+    → IfSome o (AreOf a f) → IfSome o (AreOf b g)
 if-AreOf-same a b f g command same None h = h
 if-AreOf-same a b f g command same (Some settings) h = AreOf-same a b f g command same settings h
 
@@ -45,7 +47,8 @@ if-told (Ok x) P Q f h = tt
 if-told (Err e) P Q f h = f e h
 
 -- the command that was read has one name
-named_in : {Z : Type 0} (o : Option (Box SubCommand Z)) → option_map (λ b. (out-SubCommand (box_value b)).name.now) o ≡ option_map (λ p. p.0) (subcommand_rows o)
+named_in : {Z : Type 0} (o : Option (Box SubCommand Z))
+    → option_map (λ b. (out-SubCommand (box_value b)).name.now) o ≡ option_map (λ p. p.0) (subcommand_rows o)
 named_in None = refl
 named_in (Some b) = refl
 

@@ -7,7 +7,14 @@ use Rattle.blocks.proofs.bits.add_run.Goals as goal
 pub overflow_sub-room : goal.overflow_sub-room
 overflow_sub-room c =
     let truths = c.requires.packed in
-    omega (arith, c.len.ensures, c.byte_count.ensures, ap length truths.2, length-packed (byte_count c.args.count) truths.0, c.args.bytes.now.ok)
+    omega (
+      arith,
+      c.len.ensures,
+      c.byte_count.ensures,
+      ap length truths.2,
+      length-packed (byte_count c.args.count) truths.0,
+      c.args.bytes.now.ok,
+    )
 
 pub loop-i-preserved : goal.loop-i-preserved
 loop-i-preserved c =
@@ -16,7 +23,9 @@ loop-i-preserved c =
     let next : c.args.count + i + 1 ≡ c.args.count + (i + 1) = omega arith in
     record {
       spelt = λ (bs : List Bool) is packs.
-          c.in_ok-add_bit.ensures.ok (bs ++ take i (drop c.args.start others)) (length-with_run bs others c.args.start i (omega (arith, c.requires.within, c.loop-i-test.true)) ∙ ap (λ n. n + i) is) (c.loop-i.invariant.spelt bs is packs)
+          c.in_ok-add_bit.ensures.ok (bs ++ take i (drop c.args.start others))
+          (length-with_run bs others c.args.start i (omega (arith, c.requires.within, c.loop-i-test.true)) ∙ ap (λ n. n + i) is)
+          (c.loop-i.invariant.spelt bs is packs)
           ∙ ap (λ n. packed (byte_count n) ((bs ++ take i (drop c.args.start others)) ++ c.get.result ∷ [])) next
           ∙ ap (packed (byte_count (c.args.count + (i + 1)))) (run_more bs others c.args.start i c.get.result c.get.ensures);
       room = omega (arith, c.loop-i.invariant.room, c.in_ok-add_bit.ensures.capacity);

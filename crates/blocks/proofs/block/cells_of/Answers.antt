@@ -9,11 +9,15 @@ use Rattle.blocks.proofs.block.cells_of.Goals as goal
 
 pub returns-in_ok-from_values-in-Bool-clause-same : goal.returns-in_ok-from_values-in-Bool-clause-same
 returns-in_ok-from_values-in-Bool-clause-same c =
-    let fit = truths_fit c.args.values.now (subst (λ ty. IsTrue (list_all (has_type ty) c.args.values.now)) c.in-Bool.is c.requires.typed) in
+    let fit =
+    truths_fit c.args.values.now
+    (subst (λ ty. IsTrue (list_all (has_type ty) c.args.values.now)) c.in-Bool.is c.requires.typed) in
     let same = ap (map Truth) c.in_ok-from_values-in-Bool.ensures ∙ map-Truth c.args.values.now fit in
     rw (same, c.in-Bool.is) refl
 
 pub returns-in_ok-from_values-in-Bool-clause-fit : goal.returns-in_ok-from_values-in-Bool-clause-fit
 returns-in_ok-from_values-in-Bool-clause-fit c =
-    let fit = truths_fit c.args.values.now (subst (λ ty. IsTrue (list_all (has_type ty) c.args.values.now)) c.in-Bool.is c.requires.typed) in
+    let fit =
+    truths_fit c.args.values.now
+    (subst (λ ty. IsTrue (list_all (has_type ty) c.args.values.now)) c.in-Bool.is c.requires.typed) in
     subst (λ ty. AllFit ty c.args.values.now) (sym c.in-Bool.is) fit

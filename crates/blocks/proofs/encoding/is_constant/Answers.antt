@@ -14,7 +14,8 @@ returns-then-ne c =
     let read : get_or values i first ≡ value_of c.get.result = get_or_from_slice_get values i (value_of c.get.result) first c.get.ensures in
     let begins : get_or values 0 first ≡ first = get_or_from_slice_get values 0 first first c.get-first.ensures in
     let differs : same first (value_of c.get.result) ≡ false = not_not _ ∙ ap not (sym c.ne.ensures ∙ c.if-ne.true) in
-    sym (list_all_at (same first) values i first (omega (arith, c.loop-i-test.true, c.len-i-end.ensures.len)) (ap (same first) read ∙ differs))
+    sym (list_all_at (same first) values i first (omega (arith, c.loop-i-test.true, c.len-i-end.ensures.len))
+    (ap (same first) read ∙ differs))
     ∙ ap (λ v. list_all (same v) values) (sym begins) ∙ all_first values first (omega (arith, c.if-len-lt2.false, c.len.ensures.len))
 
 pub loop-i-preserved : goal.loop-i-preserved

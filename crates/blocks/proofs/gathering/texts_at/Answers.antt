@@ -9,4 +9,5 @@ use Rattle.blocks.proofs.gathering.texts_at.Goals as goal
 pub returns-clause-fit : goal.returns-clause-fit
 returns-clause-fit c =
     let whole = take_all c.loop-place.place-index c.args.places.now c.loop-place-test.false in
-    subst (AllFit column.Text) (c.loop-place.invariant.same ∙ ap (map (value_at c.args.blocks.now)) whole) (texts_fit c.loop-place.texts c.loop-place.invariant.fit)
+    subst (AllFit column.Text) (c.loop-place.invariant.same ∙ ap (map (value_at c.args.blocks.now)) whole)
+    (texts_fit c.loop-place.texts c.loop-place.invariant.fit)

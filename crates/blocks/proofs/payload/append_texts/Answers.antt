@@ -16,9 +16,14 @@ loop-i-preserved c =
     let within : i < length texts = omega (arith, c.requires.there, c.loop-i-test.true) in
     let front = flat_map spelling (map Text (take i texts)) in
     let more : flat_map spelling (map Text (take (i + 1) texts)) ≡ front ++ spelling (Text t) =
-    ap (flat_map spelling) (map_more Text texts i [] within ∙ ap (λ s. map Text (take i texts) ++ Text s ∷ []) read) ∙ sym (flat_map_more spelling [] (map Text (take i texts)) (Text t)) in
+    ap (flat_map spelling) (map_more Text texts i [] within ∙ ap (λ s. map Text (take i texts) ++ Text s ∷ []) read)
+    ∙ sym (flat_map_more spelling [] (map Text (take i texts)) (Text t)) in
     let word = c.to_be_bytes.result in
     let put : c.extend_from_slice-in-loop-i.new.self.items ≡ ((old ++ front) ++ word) ++ t =
     c.in_ok-extend_from_slice-2.ensures.items ∙ ap (λ xs. c.extend_from_slice.new.self.items ++ xs) c.as_bytes.ensures.value
     ∙ ap (λ xs. xs ++ t) (c.in_ok-extend_from_slice.ensures.items ∙ ap (λ xs. xs ++ word) c.loop-i.invariant) in
-    put ∙ append_assoc (old ++ front) word t ∙ append_assoc old front (word ++ t) ∙ ap (λ w. old ++ (front ++ (w ++ t))) c.to_be_bytes.ensures ∙ ap (λ xs. old ++ xs) (sym more)
+    put
+    ∙ append_assoc (old ++ front) word t
+    ∙ append_assoc old front (word ++ t)
+    ∙ ap (λ w. old ++ (front ++ (w ++ t))) c.to_be_bytes.ensures
+    ∙ ap (λ xs. old ++ xs) (sym more)

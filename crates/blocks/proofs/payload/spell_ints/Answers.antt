@@ -16,13 +16,35 @@ loop-i-preserved c =
     let word = c.copy_from_slice.new.self in
     let kept = c.loop-i.invariant in
     let fits : FitsSigned w64 (get_or ints i (pos 0)) = search rules in
-    let spelt : word ≡ spelling (Int (get_or ints i (pos 0))) = c.copy_from_slice.ensures.after ∙ c.to_be_bytes.ensures ∙ ap (λ x. to_be_bytes w64 (cast_unsigned w64 x)) (to_z-of_z w64 (get_or ints i (pos 0)) fits) in
+    let spelt : word ≡ spelling (Int (get_or ints i (pos 0))) =
+    c.copy_from_slice.ensures.after
+    ∙ c.to_be_bytes.ensures
+    ∙ ap (λ x. to_be_bytes w64 (cast_unsigned w64 x)) (to_z-of_z w64 (get_or ints i (pos 0)) fits) in
     let within : i < length ints = omega arith in
     let eight : length word ≡ 8 = ap length spelt in
     let front = take (8 * i) room in
-    let more : flat_map spelling (map Int (take (i + 1) ints)) ≡ flat_map spelling (map Int (take i ints)) ++ spelling (Int (get_or ints i (pos 0))) =
-    ap (flat_map spelling) (map_more Int ints i (pos 0) within) ∙ sym (flat_map_more spelling [] (map Int (take i ints)) (Int (get_or ints i (pos 0)))) in
+    let more :
+    flat_map spelling (map Int (take (i + 1) ints))
+    ≡ flat_map spelling (map Int (take i ints)) ++ spelling (Int (get_or ints i (pos 0))) =
+    ap (flat_map spelling) (map_more Int ints i (pos 0) within)
+    ∙ sym (flat_map_more spelling [] (map Int (take i ints)) (Int (get_or ints i (pos 0)))) in
     record {
-      room = omega (arith, kept.room, within, eight, length-append front (word ++ drop (8 * i + 8 - 8 * i) (drop (8 * i) room)), length-append word (drop (8 * i + 8 - 8 * i) (drop (8 * i) room)), length-take (8 * i) room, length-drop (8 * i + 8 - 8 * i) (drop (8 * i) room), length-drop (8 * i) room);
-      spelt = take-put_mid (8 * i) (8 * i + 8 - 8 * i) room word (8 * (i + 1)) (omega (arith, eight)) (omega (arith, kept.room, within)) ∙ ap (λ xs. xs ++ word) kept.spelt ∙ ap (λ xs. flat_map spelling (map Int (take i ints)) ++ xs) spelt ∙ sym more;
+      room =
+          omega (
+            arith,
+            kept.room,
+            within,
+            eight,
+            length-append front (word ++ drop (8 * i + 8 - 8 * i) (drop (8 * i) room)),
+            length-append word (drop (8 * i + 8 - 8 * i) (drop (8 * i) room)),
+            length-take (8 * i) room,
+            length-drop (8 * i + 8 - 8 * i) (drop (8 * i) room),
+            length-drop (8 * i) room,
+          );
+      spelt =
+          take-put_mid (8 * i) (8 * i + 8 - 8 * i) room word (8 * (i + 1)) (omega (arith, eight))
+          (omega (arith, kept.room, within))
+          ∙ ap (λ xs. xs ++ word) kept.spelt
+          ∙ ap (λ xs. flat_map spelling (map Int (take i ints)) ++ xs) spelt
+          ∙ sym more;
     }

@@ -15,4 +15,5 @@ returns-in_ok-push-in-Truths-clause-ok c =
       | else-get w ↦ w.push-is ∙ sym (ap (λ b. cond b 128 0) w.if-get.false)
     ] in
     c.in_ok-push-in-Truths.ensures.items
-    ∙ ap (λ bytes. c.args.out.now.items ++ bytes) (ap (λ b. b ∷ []) byte ∙ sym first ∙ ap (λ column. payload_of column.ty (take 1 column.values)) block-is)
+    ∙ ap (λ bytes. c.args.out.now.items ++ bytes)
+    (ap (λ b. b ∷ []) byte ∙ sym first ∙ ap (λ column. payload_of column.ty (take 1 column.values)) block-is)

@@ -10,7 +10,8 @@ use Rattle.blocks.proofs.reading.read_block.Goals as goal
 pub returns-in_err-cells-clause-only : goal.returns-in_err-cells-clause-only
 returns-in_err-cells-clause-only c = λ values p.
     let e = err_from_is_err_and c.from_residual.result c.from_residual.ensures.1 in
-    rw (e.1, e.2) (subst (Fails c.in_err-cells.field-0.0) (payload_reads c.args.ty c.args.count c.args.bytes.now values p) c.in_err-cells.ensures.first)
+    rw (e.1, e.2) (subst (Fails c.in_err-cells.field-0.0) (payload_reads c.args.ty c.args.count c.args.bytes.now values p)
+    c.in_err-cells.ensures.first)
 
 pub invariant_of-result : goal.invariant_of-result
 invariant_of-result c =
@@ -21,8 +22,10 @@ invariant_of-result c =
 
 pub returns-clause-found : goal.returns-clause-found
 returns-clause-found c =
-    let small : AreBytes c.args.bytes.now = λ i. omega (arith, c.type_inv.bytes i) in
-    (c.in_ok-cells.ensures.ty, is_payload c.args.ty c.args.count c.args.bytes.now (column_of c.in_ok-cells.cells).values small c.in_ok-cells.ensures.first)
+    let small : AreBytes c.args.bytes.now = λ i. omega (arith, c.type_inv.bytes i) in (
+      c.in_ok-cells.ensures.ty,
+      is_payload c.args.ty c.args.count c.args.bytes.now (column_of c.in_ok-cells.cells).values small c.in_ok-cells.ensures.first,
+    )
 
 pub returns-clause-only : goal.returns-clause-only
 returns-clause-only c = λ values p. sym (payload_reads c.args.ty c.args.count c.args.bytes.now values p) ∙ c.in_ok-cells.ensures.first

@@ -22,4 +22,6 @@ returns c =
     let words = length c.args.bytes.now / 8 in
     let counted : words ≡ c.args.count = omega (arith, c.as_chunks.ensures.front_len) in
     ints_exact 0 c.args.count c.args.bytes.now (omega (arith, c.as_chunks.ensures.front_len))
-    ∙ ap (λ n. Ok (map int_of (first_chunks 8 n c.args.bytes.now))) (sym counted) ∙ sym (ap (λ xs. Ok (map Int xs)) (c.in_ok-ints_of.ensures ∙ ap (map number_of) c.as_chunks.ensures.front) ∙ ap (λ values. Ok values) (map-int_of (first_chunks 8 words c.args.bytes.now)))
+    ∙ ap (λ n. Ok (map int_of (first_chunks 8 n c.args.bytes.now))) (sym counted)
+    ∙ sym (ap (λ xs. Ok (map Int xs)) (c.in_ok-ints_of.ensures ∙ ap (map number_of) c.as_chunks.ensures.front)
+    ∙ ap (λ values. Ok values) (map-int_of (first_chunks 8 words c.args.bytes.now)))

@@ -29,7 +29,10 @@ leads-requires-clause-below g c =
 
 pub overflow_add-up : goal.overflow_add-up
 overflow_add-up g c =
-    let more = total-more c.args.entries.now c.loop-index.index c.index-entries-index-in-loop-index.result c.weight-up.result c.loop-index-test.true (c.weight-up.ensures ∙ ap (λ (a : Entry). weight_of a.change) c.index-entries-index-in-loop-index.is) in
+    let more =
+    total-more c.args.entries.now c.loop-index.index c.index-entries-index-in-loop-index.result c.weight-up.result
+    c.loop-index-test.true
+    (c.weight-up.ensures ∙ ap (λ (a : Entry). weight_of a.change) c.index-entries-index-in-loop-index.is) in
     let next = total_within (take (c.loop-index.index + 1) c.args.entries.now) in
     let up = c.loop-index.invariant.up in
     omega (arith, ints, c.requires.above, c.requires.below, length-take (c.loop-index.index + 1) c.args.entries.now)

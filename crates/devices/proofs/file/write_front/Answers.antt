@@ -16,5 +16,7 @@ loop-at-preserved g c =
     subst (λ (xs : List ℕ). Appends (g.W.Write.contents c.loop-at.file) new (take count xs)) (take_rest bytes at) c.in-Ok.ensures.bytes in
     record {
       within = grind (arith, c.in-Ok.ensures.bound, take_rest bytes at, c.loop-at-test.true);
-      taken = subst (λ (xs : List ℕ). Appends first new xs) (sym (take-add at count bytes)) (Appends-trans _ _ _ _ _ c.loop-at.invariant.taken more);
+      taken =
+          subst (λ (xs : List ℕ). Appends first new xs) (sym (take-add at count bytes))
+          (Appends-trans _ _ _ _ _ c.loop-at.invariant.taken more);
     }

@@ -15,11 +15,15 @@ loop-col-preserved c =
     let table = c.args.table.now in
     let made = c.write_column.new.out in
     let piece : made.items ≡ piece_at generation table c.loop-col.col =
-    c.in_ok-write_column.ensures.bytes ∙ ap (λ (x : List ℕ). x ++ column_bytes (image_frames generation c.column.result.now)) c.new-piece.ensures.items
+    c.in_ok-write_column.ensures.bytes
+    ∙ ap (λ (x : List ℕ). x ++ column_bytes (image_frames generation c.column.result.now)) c.new-piece.ensures.items
     ∙ ap (λ (d : Column). column_bytes (image_frames generation d)) c.column.ensures in
     record {
       pieces = ap (map items) c.in_ok-push.ensures.items ∙ map_push items c.loop-col.pieces.items made
           ∙ ap (λ (ps : List (List ℕ)). ps ++ made.items ∷ []) c.loop-col.invariant.pieces
-          ∙ ap (λ (p : List ℕ). first_pieces generation table c.loop-col.col ++ p ∷ []) piece ∙ sym (pieces_more generation table c.loop-col.col);
-      blocks = columns_more table c.loop-col.col c.column.result.now c.loop-col.invariant.blocks c.in_ok-write_column.ensures.blocks c.column.ensures;
+          ∙ ap (λ (p : List ℕ). first_pieces generation table c.loop-col.col ++ p ∷ []) piece
+          ∙ sym (pieces_more generation table c.loop-col.col);
+      blocks =
+          columns_more table c.loop-col.col c.column.result.now c.loop-col.invariant.blocks c.in_ok-write_column.ensures.blocks
+          c.column.ensures;
     }

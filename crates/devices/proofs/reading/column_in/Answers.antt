@@ -13,7 +13,8 @@ push_block-requires-clause-filled c =
     let split : c.loop-part.yielded ++ c.in-Some.part ∷ rest ≡ c.args.parts.items =
     ap (λ (ps : List Part). c.loop-part.yielded ++ ps) (sym c.in-Some.ensures.steps.0) ∙ c.loop-part.invariant.taken in
     let block =
-    stacked c.args.ty c.args.generation c.args.parts.items c.loop-part.yielded rest c.in-Some.part c.requires split c.if-part-generation.true in
+    stacked c.args.ty c.args.generation c.args.parts.items c.loop-part.yielded rest c.in-Some.part c.requires split
+    c.if-part-generation.true in
     omega (arith, block.full, ap (λ (x : Column). length x.values) c.loop-part.invariant.column)
 
 pub push_block-requires-clause-room : goal.push_block-requires-clause-room
@@ -22,7 +23,8 @@ push_block-requires-clause-room c =
     let split : c.loop-part.yielded ++ c.in-Some.part ∷ rest ≡ c.args.parts.items =
     ap (λ (ps : List Part). c.loop-part.yielded ++ ps) (sym c.in-Some.ensures.steps.0) ∙ c.loop-part.invariant.taken in
     let block =
-    stacked c.args.ty c.args.generation c.args.parts.items c.loop-part.yielded rest c.in-Some.part c.requires split c.if-part-generation.true in
+    stacked c.args.ty c.args.generation c.args.parts.items c.loop-part.yielded rest c.in-Some.part c.requires split
+    c.if-part-generation.true in
     omega (arith, block.full, block.is.numbered, ap (λ (x : Column). length x.values) c.loop-part.invariant.column)
 
 pub push_block-requires-clause-typed : goal.push_block-requires-clause-typed
@@ -31,7 +33,8 @@ push_block-requires-clause-typed c =
     let split : c.loop-part.yielded ++ c.in-Some.part ∷ rest ≡ c.args.parts.items =
     ap (λ (ps : List Part). c.loop-part.yielded ++ ps) (sym c.in-Some.ensures.steps.0) ∙ c.loop-part.invariant.taken in
     let block =
-    stacked c.args.ty c.args.generation c.args.parts.items c.loop-part.yielded rest c.in-Some.part c.requires split c.if-part-generation.true in
+    stacked c.args.ty c.args.generation c.args.parts.items c.loop-part.yielded rest c.in-Some.part c.requires split
+    c.if-part-generation.true in
     ap (λ (b : Column). b.ty) c.in_ok-read.ensures ∙ block.is.typed ∙ sym (ap (λ (x : Column). x.ty) c.loop-part.invariant.column)
 
 pub loop-part-preserved-then-len-gt0 : goal.loop-part-preserved-then-len-gt0
@@ -58,8 +61,10 @@ loop-part-preserved c =
     let split : front ++ part ∷ rest ≡ c.args.parts.items =
     ap (λ (ps : List Part). front ++ ps) (sym c.in-Some.ensures.steps.0) ∙ c.loop-part.invariant.taken in
     let same : values_in c.args.generation (front ++ part ∷ []) ≡ values_in c.args.generation front = elim c.else-part-generation.branch [
-      | else-part-generation-via-then-part-generation+else-len-gt0 w ↦ values_none c.args.generation front part (omega (arith, w.len.ensures.len, w.if-len-gt0.false))
-      | else-part-generation-via-else-part-generation w ↦ values_other c.args.generation front part (λ e. absurd (w.if-part-generation.false e))
+      | else-part-generation-via-then-part-generation+else-len-gt0 w ↦ values_none c.args.generation front part
+          (omega (arith, w.len.ensures.len, w.if-len-gt0.false))
+      | else-part-generation-via-else-part-generation w ↦ values_other c.args.generation front part
+          (λ e. absurd (w.if-part-generation.false e))
     ] in
     record {
       taken = taken_on c.args.parts.items front rest part split;

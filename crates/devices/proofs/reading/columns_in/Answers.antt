@@ -18,9 +18,11 @@ bounds-types-len c =
     let split : front ++ c.in-Some.parts ∷ c.next.new.self.rest.items ≡ c.args.columns.items =
     ap (λ (ps : List (Vec Part Global)). front ++ ps) (sym c.in-Some.ensures.steps.0) ∙ c.loop-parts.invariant.taken in
     let few =
-    so_far_few blocks_in c.args.generation c.args.types.now c.args.columns.items front c.next.new.self.rest.items c.in-Some.parts c.requires.even split in
+    so_far_few blocks_in c.args.generation c.args.types.now c.args.columns.items front c.next.new.self.rest.items c.in-Some.parts
+    c.requires.even split in
     let made =
-    length-made blocks_in c.args.generation c.args.types.now c.args.columns.items front c.next.new.self.rest.items c.in-Some.parts c.requires.even split c.loop-parts.made.items c.loop-parts.invariant.made in
+    length-made blocks_in c.args.generation c.args.types.now c.args.columns.items front c.next.new.self.rest.items c.in-Some.parts
+    c.requires.even split c.loop-parts.made.items c.loop-parts.invariant.made in
     omega (arith, few, made, c.len.ensures, c.loop-parts.made.ok.0)
 
 pub column_in-requires : goal.column_in-requires
@@ -30,7 +32,8 @@ column_in-requires c =
     ap (λ (ps : List (Vec Part Global)). front ++ ps) (sym c.in-Some.ensures.steps.0) ∙ c.loop-parts.invariant.taken in
     let counted : length c.loop-parts.made.items ≡ c.len.result = omega (arith, c.len.ensures, c.loop-parts.made.ok.0) in
     subst (λ (n : ℕ). AreInTurn (get_or c.args.types.now n column.Int) c.in-Some.parts.items) counted
-    (next_in_turn blocks_in c.args.generation c.args.types.now c.args.columns.items front c.next.new.self.rest.items c.in-Some.parts c.requires.even split c.loop-parts.made.items c.loop-parts.invariant.made c.requires.turn)
+    (next_in_turn blocks_in c.args.generation c.args.types.now c.args.columns.items front c.next.new.self.rest.items
+    c.in-Some.parts c.requires.even split c.loop-parts.made.items c.loop-parts.invariant.made c.requires.turn)
 
 pub loop-parts-preserved : goal.loop-parts-preserved
 loop-parts-preserved c =
@@ -41,10 +44,13 @@ loop-parts-preserved c =
     let split : front ++ parts ∷ rest ≡ c.args.columns.items =
     ap (λ (ps : List (Vec Part Global)). front ++ ps) (sym c.in-Some.ensures.steps.0) ∙ c.loop-parts.invariant.taken in
     let counted : c.len.result ≡ length c.loop-parts.made.items = omega (arith, c.len.ensures, c.loop-parts.made.ok.0) in
-    let one : c.in_ok-column_in.field-0 ≡ column_of c.args.generation (get_or types (length c.loop-parts.made.items) column.Int) parts.items =
+    let one :
+    c.in_ok-column_in.field-0
+    ≡ column_of c.args.generation (get_or types (length c.loop-parts.made.items) column.Int) parts.items =
     c.in_ok-column_in.ensures ∙ ap (λ (n : ℕ). column_of c.args.generation (get_or types n column.Int) parts.items) counted in
     record {
       taken = columns_taken blocks_in c.args.generation types c.args.columns.items front rest parts c.requires.even split;
       made = c.in_ok-push.ensures.items ∙ ap (λ (column : Column). c.loop-parts.made.items ++ column ∷ []) one
-          ∙ made_on blocks_in c.args.generation types c.args.columns.items front rest parts c.requires.even split c.loop-parts.made.items c.loop-parts.invariant.made;
+          ∙ made_on blocks_in c.args.generation types c.args.columns.items front rest parts c.requires.even split
+          c.loop-parts.made.items c.loop-parts.invariant.made;
     }

@@ -30,7 +30,8 @@ returns-in_err-read_in_turn-clause-parts c =
     let fault = c.in_err-read_in_turn.field-0.0 in
     let few : col < length types = omega (arith, c.requires) in
     let even : length columns ≡ length types = omega (arith, c.requires, length-map c.args.columns.now bytes_in) in
-    let bytes : get_or columns col [] ≡ (get_or c.args.columns.now col no_bytes).now = get_or-map bytes_in c.args.columns.now col no_bytes in
+    let bytes : get_or columns col [] ≡ (get_or c.args.columns.now col no_bytes).now =
+    get_or-map bytes_in c.args.columns.now col no_bytes in
     rw (e.1, e.2) (columns_fault types columns col column.Int [] (map blocks_in c.loop-col.parts.items)
     (all_parts 0 types columns) few even c.loop-col.invariant.read fault
     (subst (λ (bs : List ℕ). Fails fault (parts_after [] (frames_of col (Some (get_or types col column.Int)) bs)))
@@ -44,8 +45,10 @@ loop-col-preserved c =
     let parts = c.in_ok-read_in_turn.field-0 in
     let few : col < length types = omega (arith, c.requires) in
     let even : length columns ≡ length types = omega (arith, c.requires, length-map c.args.columns.now bytes_in) in
-    let bytes : get_or columns col [] ≡ (get_or c.args.columns.now col no_bytes).now = get_or-map bytes_in c.args.columns.now col no_bytes in
-    let pushed : map blocks_in c.push.new.self.items ≡ map blocks_in c.loop-col.parts.items ++ parts.items ∷ [] = ap (map blocks_in) c.in_ok-push.ensures.items ∙ map_push blocks_in c.loop-col.parts.items parts in
+    let bytes : get_or columns col [] ≡ (get_or c.args.columns.now col no_bytes).now =
+    get_or-map bytes_in c.args.columns.now col no_bytes in
+    let pushed : map blocks_in c.push.new.self.items ≡ map blocks_in c.loop-col.parts.items ++ parts.items ∷ [] =
+    ap (map blocks_in) c.in_ok-push.ensures.items ∙ map_push blocks_in c.loop-col.parts.items parts in
     let read = c.in_ok-read_in_turn.ensures.turn in
     let next : AreInTurn (get_or types (length (map blocks_in c.loop-col.parts.items)) column.Int) parts.items =
     subst (λ (n : ℕ). AreInTurn (get_or types n column.Int) parts.items)
@@ -55,7 +58,8 @@ loop-col-preserved c =
           (all_parts (col + 1) (drop (col + 1) types) (drop (col + 1) columns))) pushed
           ∙ columns_on types columns col column.Int [] (map blocks_in c.loop-col.parts.items)
           (all_parts 0 types columns) few even c.loop-col.invariant.read parts.items
-          (ap (λ (bs : List ℕ). parts_after [] (frames_of col (Some (get_or types col column.Int)) bs)) bytes ∙ c.in_ok-read_in_turn.ensures.parts);
+          (ap (λ (bs : List ℕ). parts_after [] (frames_of col (Some (get_or types col column.Int)) bs)) bytes
+          ∙ c.in_ok-read_in_turn.ensures.parts);
       turn = subst (AreAllInTurn types) (sym pushed) (all_in_turn_push types
           (map blocks_in c.loop-col.parts.items) parts.items c.loop-col.invariant.turn next);
       count = ap (λ (ps : List (Vec Part Global)). length ps) c.in_ok-push.ensures.items ∙ length_push c.loop-col.parts.items parts ∙

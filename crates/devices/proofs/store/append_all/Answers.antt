@@ -13,7 +13,8 @@ append-requires g c =
     let failures = g.D.ColumnDevice.failures in
     let lt : c.loop-i.i < length c.loop-i.devices = omega arith in
     sym (get_or-map failures c.loop-i.devices c.loop-i.i c.index-devices-i.result 0 lt)
-    ∙ ap (λ (ns : List ℕ). get_or ns c.loop-i.i 0) c.loop-i.invariant.failures ∙ none_at (map failures c.args.devices.now) c.loop-i.i c.requires.sound
+    ∙ ap (λ (ns : List ℕ). get_or ns c.loop-i.i 0) c.loop-i.invariant.failures
+    ∙ none_at (map failures c.args.devices.now) c.loop-i.i c.requires.sound
 
 pub returns-in-Err-clause-stopped : goal.returns-in-Err-clause-stopped
 returns-in-Err-clause-stopped g c =
@@ -29,7 +30,8 @@ returns-in-Err-clause-stopped g c =
     let piece : c.as_slice.result.now ≡ get_or (map items pieces) i [] =
     c.as_slice.ensures.value ∙ ap items c.index-pieces-i.is ∙ sym (get_or-map items pieces i c.index-pieces-i.result [] few) in (
       n,
-      put_device contents failures items c.loop-i.devices pieces old i c.index-devices-i.result c.append.new.self (take n c.as_slice.result.now) lt even (omega arith) c.loop-i.invariant.contents c.in-Err.ensures.part.1
+      put_device contents failures items c.loop-i.devices pieces old i c.index-devices-i.result c.append.new.self
+          (take n c.as_slice.result.now) lt even (omega arith) c.loop-i.invariant.contents c.in-Err.ensures.part.1
           ∙ ap (λ (p : List ℕ). appended old (take i (map items pieces) ++ take n p ∷ [])) piece,
     )
 
@@ -41,7 +43,8 @@ returns-in-Err-clause-failed g c =
     let lt : i < length c.loop-i.devices = omega arith in
     let now = set c.loop-i.devices i c.append.new.self in
     let at : get_or (map failures now) i 0 ≡ failures c.append.new.self =
-    get_or-map failures now i d 0 (omega (arith, length-set c.loop-i.devices i c.append.new.self)) ∙ ap failures (get_or-set_same c.loop-i.devices i c.append.new.self d lt) in
+    get_or-map failures now i d 0 (omega (arith, length-set c.loop-i.devices i c.append.new.self))
+    ∙ ap failures (get_or-set_same c.loop-i.devices i c.append.new.self d lt) in
     some_at (map failures now) i (omega (arith, at, c.in-Err.ensures.counted))
 
 pub loop-i-preserved : goal.loop-i-preserved
@@ -56,8 +59,12 @@ loop-i-preserved g c =
     let few : i < length pieces = omega (arith, c.requires.even) in
     let even : length c.loop-i.devices ≡ length old = omega (arith, length-map c.args.devices.now contents) in
     let took : contents c.append.new.self ≡ contents (get_or c.loop-i.devices i d) ++ items (get_or pieces i c.index-pieces-i.result) =
-    c.in-Ok.ensures.whole ∙ ap (λ (x : List ℕ). contents (get_or c.loop-i.devices i d) ++ x) (c.as_slice.ensures.value ∙ ap items c.index-pieces-i.is) in
+    c.in-Ok.ensures.whole
+    ∙ ap (λ (x : List ℕ). contents (get_or c.loop-i.devices i d) ++ x) (c.as_slice.ensures.value ∙ ap items c.index-pieces-i.is)
+    in
     record {
-      contents = put_piece contents failures items c.loop-i.devices pieces old i d c.append.new.self c.index-pieces-i.result lt even few c.loop-i.invariant.contents took;
+      contents =
+          put_piece contents failures items c.loop-i.devices pieces old i d c.append.new.self c.index-pieces-i.result lt even few
+          c.loop-i.invariant.contents took;
       failures = map-set_same failures c.loop-i.devices i c.append.new.self d c.in-Ok.ensures.sound ∙ c.loop-i.invariant.failures;
     }

@@ -12,10 +12,16 @@ unreachable-requires c = field-there (fields_of c.args.fields.now) c.args.at (rw
 
 pub returns-in-Some-read_position : goal.returns-in-Some-read_position
 returns-in-Some-read_position c =
-    let here = field-is (fields_of c.args.fields.now) _ c.args.at c.in-Some.bytes.now (field-drop (fields_of c.args.fields.now) c.args.at c.in-Some.bytes.now (rw c.in-Some.is at c.get.ensures.value)) in
-    sym (ap (position_at c.args.number c.args.at) here ∙ ap (or_else (BadArgument c.args.number c.args.at)) (sym c.read_position.ensures ∙ c.in-Some-read_position.is))
+    let here =
+    field-is (fields_of c.args.fields.now) _ c.args.at c.in-Some.bytes.now
+    (field-drop (fields_of c.args.fields.now) c.args.at c.in-Some.bytes.now (rw c.in-Some.is at c.get.ensures.value)) in
+    sym (ap (position_at c.args.number c.args.at) here
+    ∙ ap (or_else (BadArgument c.args.number c.args.at)) (sym c.read_position.ensures ∙ c.in-Some-read_position.is))
 
 pub returns-in-None-read_position : goal.returns-in-None-read_position
 returns-in-None-read_position c =
-    let here = field-is (fields_of c.args.fields.now) _ c.args.at c.in-Some.bytes.now (field-drop (fields_of c.args.fields.now) c.args.at c.in-Some.bytes.now (rw c.in-Some.is at c.get.ensures.value)) in
-    sym (ap (position_at c.args.number c.args.at) here ∙ ap (or_else (BadArgument c.args.number c.args.at)) (sym c.read_position.ensures ∙ c.in-None-read_position.is))
+    let here =
+    field-is (fields_of c.args.fields.now) _ c.args.at c.in-Some.bytes.now
+    (field-drop (fields_of c.args.fields.now) c.args.at c.in-Some.bytes.now (rw c.in-Some.is at c.get.ensures.value)) in
+    sym (ap (position_at c.args.number c.args.at) here
+    ∙ ap (or_else (BadArgument c.args.number c.args.at)) (sym c.read_position.ensures ∙ c.in-None-read_position.is))

@@ -10,7 +10,9 @@ pub returns-in-None-2-clause-err : goal.returns-in-None-2-clause-err
 returns-in-None-2-clause-err c ne =
     let f = field-drop (fields_of c.args.fields.now) (2 + c.loop-i.i) c.in-Some.bytes.now (rw c.in-Some.is at c.get.ensures.value) in
     let k = drop-cons c.args.types.now c.loop-i.i _ c.loop-i-test.true in
-    c.loop-i.invariant ∙ values_of-fault c.args.number c.loop-i.i c.args.types.now (fields_of c.args.fields.now) _ c.in-Some.bytes.now c.loop-i.values.items k f (sym c.in_ok-value.ensures ∙ c.in-None-2.is)
+    c.loop-i.invariant
+    ∙ values_of-fault c.args.number c.loop-i.i c.args.types.now (fields_of c.args.fields.now) _ c.in-Some.bytes.now
+    c.loop-i.values.items k f (sym c.in_ok-value.ensures ∙ c.in-None-2.is)
 
 pub loop-i-preserved : goal.loop-i-preserved
 loop-i-preserved c =
@@ -18,7 +20,9 @@ loop-i-preserved c =
     let k = drop-cons c.args.types.now c.loop-i.i _ c.loop-i-test.true in
     let good : is_ok c.push.result ≡ true = search rules in
     let items = rw good at c.push.ensures.items in
-    rw items (c.loop-i.invariant ∙ values_of-step c.args.number c.loop-i.i c.args.types.now (fields_of c.args.fields.now) _ c.in-Some.bytes.now c.loop-i.values.items k f c.in-Some-2.value (sym c.in_ok-value.ensures ∙ c.in-Some-2.is))
+    rw items (c.loop-i.invariant
+    ∙ values_of-step c.args.number c.loop-i.i c.args.types.now (fields_of c.args.fields.now) _ c.in-Some.bytes.now
+    c.loop-i.values.items k f c.in-Some-2.value (sym c.in_ok-value.ensures ∙ c.in-Some-2.is))
 
 pub unreachable-requires : goal.unreachable-requires
 unreachable-requires c =

@@ -8,7 +8,8 @@ use Rattle.inputs.proofs.ascent.columns_in_order.Goals as goal
 pub gather-requires-clause-within : goal.gather-requires-clause-within
 gather-requires-clause-within c =
     let mine = c.column-item.result in
-    subst (λ (x : Column). All (λ place. place < length x.values) c.args.places.now) (sym c.column-item.is) (c.requires.within c.loop-column.column-index mine c.loop-column-test.true)
+    subst (λ (x : Column). All (λ place. place < length x.values) c.args.places.now) (sym c.column-item.is)
+    (c.requires.within c.loop-column.column-index mine c.loop-column-test.true)
 
 pub loop-column-preserved : goal.loop-column-preserved
 loop-column-preserved c =
@@ -25,4 +26,6 @@ loop-column-preserved c =
     ∙ ap (map put) (sym (take_more columns i mine c.loop-column-test.true))
 
 pub returns : goal.returns
-returns c = c.loop-column.invariant ∙ ap (map (gathered c.args.places.now)) (take_all c.loop-column.column-index c.args.columns.now c.loop-column-test.false)
+returns c =
+    c.loop-column.invariant
+    ∙ ap (map (gathered c.args.places.now)) (take_all c.loop-column.column-index c.args.columns.now c.loop-column-test.false)

@@ -12,7 +12,8 @@ returns-then-is_ascending-clause-distinct c =
     let columns = c.args.columns.items in
     let up = rw c.as_slice.ensures.value at (c.is_ascending.ensures c.if-is_ascending.true) in
     let rows = rows_in count columns in
-    repeats-none k rows rows (IsPermutation-refl rows) (rows_numbered count columns) (ascent-IsInOrder k count columns up) (ascent-none k count columns up)
+    repeats-none k rows rows (IsPermutation-refl rows) (rows_numbered count columns) (ascent-IsInOrder k count columns up)
+    (ascent-none k count columns up)
 
 pub returns-then-is_ascending-clause-each_once : goal.returns-then-is_ascending-clause-each_once
 returns-then-is_ascending-clause-each_once c = IsPermutation-refl (rows_of c.args.count c.args.columns.items)

@@ -16,12 +16,17 @@ loop-i-preserved c =
     let place = get_or places (i + 1) 0 in
     let below : i + 1 < length places = omega arith in
     let long = length-rows_at columns places in
-    let at : row_in columns before ≡ get_or (rows_at columns places) i (row_in columns before) = sym (rows_at-get columns places i (row_in columns before) (omega (arith, below))) in
-    let next : row_in columns place ≡ get_or (rows_at columns places) (i + 1) (row_in columns place) = sym (rows_at-get columns places (i + 1) (row_in columns place) below) in
-    rw c.least_after-least.ensures (IsLeastRepeat-step c.args.key_cols (rows_at columns places) i (row_in columns before) (row_in columns place) (omega (arith, below, long)) at next c.loop-i.least c.loop-i.invariant)
+    let at : row_in columns before ≡ get_or (rows_at columns places) i (row_in columns before) =
+    sym (rows_at-get columns places i (row_in columns before) (omega (arith, below))) in
+    let next : row_in columns place ≡ get_or (rows_at columns places) (i + 1) (row_in columns place) =
+    sym (rows_at-get columns places (i + 1) (row_in columns place) below) in
+    rw c.least_after-least.ensures
+    (IsLeastRepeat-step c.args.key_cols (rows_at columns places) i (row_in columns before) (row_in columns place)
+    (omega (arith, below, long)) at next c.loop-i.least c.loop-i.invariant)
 
 pub returns : goal.returns
 returns c =
     let rows = rows_at c.args.columns.now c.args.places.now in
     let long = length-rows_at c.args.columns.now c.args.places.now in
-    rw (sym long) (IsLeastRepeat-end c.args.key_cols rows c.loop-i.i c.loop-i.least (omega (arith, long)) (omega (arith, long)) c.loop-i.invariant)
+    rw (sym long) (IsLeastRepeat-end c.args.key_cols rows c.loop-i.i c.loop-i.least (omega (arith, long)) (omega (arith, long))
+    c.loop-i.invariant)

@@ -9,9 +9,13 @@ returns-clause-each_once c =
 pub returns-clause-sorted : goal.returns-clause-sorted
 returns-clause-sorted c =
     let moved = rw c.in_ok-keyed.ensures at c.in_ok-apart.ensures.each_once in
-    rw (c.in_ok-places.ensures, c.as_slice.ensures.value) (places-sorted c.args.column.now c.args.count c.requires.int c.requires.filled c.len-known.ensures.fit _ moved c.in_ok-apart.ensures.sorted)
+    rw (c.in_ok-places.ensures, c.as_slice.ensures.value)
+    (places-sorted c.args.column.now c.args.count c.requires.int c.requires.filled c.len-known.ensures.fit _ moved
+    c.in_ok-apart.ensures.sorted)
 
 pub returns-clause-apart : goal.returns-clause-apart
 returns-clause-apart c is =
     let moved = rw c.in_ok-keyed.ensures at c.in_ok-apart.ensures.each_once in
-    rw (c.in_ok-places.ensures, c.as_slice.ensures.value) (apart-places c.args.column.now c.args.count c.requires.int c.requires.filled c.len-known.ensures.fit _ moved (c.in_ok-apart.ensures.apart is))
+    rw (c.in_ok-places.ensures, c.as_slice.ensures.value)
+    (apart-places c.args.column.now c.args.count c.requires.int c.requires.filled c.len-known.ensures.fit _ moved
+    (c.in_ok-apart.ensures.apart is))

@@ -16,7 +16,8 @@ columns_in_order-requires-clause-few c =
 pub columns_in_order-requires-clause-within : goal.columns_in_order-requires-clause-within
 columns_in_order-requires-clause-within c =
     let within = places_within c.args.count c.in_ok-order.order.places.items c.in_ok-order.ensures.each_once in
-    rw c.as_slice.ensures.value (λ col d lt k p le. let long = c.requires.filled col d lt in let here = within k p le in omega (arith, long, here))
+    rw c.as_slice.ensures.value
+    (λ col d lt k p le. let long = c.requires.filled col d lt in let here = within k p le in omega (arith, long, here))
 
 pub returns-in-Some-clause-err : goal.returns-in-Some-clause-err
 returns-in-Some-clause-err c ne =
@@ -26,7 +27,9 @@ returns-in-Some-clause-err c ne =
     let places = c.in_ok-order.order.places.items in
     let moved = c.in_ok-order.ensures.each_once in
     let least = rw (sym (length-rows_at columns places)) at c.in-Some.ensures in
-    let first = repeats-least k (rows_in count columns) (rows_at columns places) (rows_at-moved count places moved columns) (rows_numbered count columns) (rows_at-in_order columns places k c.in_ok-order.ensures.sorted) c.in-Some.number least in
+    let first =
+    repeats-least k (rows_in count columns) (rows_at columns places) (rows_at-moved count places moved columns)
+    (rows_numbered count columns) (rows_at-in_order columns places k c.in_ok-order.ensures.sorted) c.in-Some.number least in
     (first.0, first.1, ap RepeatedKey (sym first.2))
 
 pub returns-clause-distinct : goal.returns-clause-distinct
@@ -36,7 +39,9 @@ returns-clause-distinct c =
     let columns = c.args.columns.now in
     let places = c.in_ok-order.order.places.items in
     let least = rw (sym (length-rows_at columns places)) at c.in-None.ensures in
-    repeats-none k (rows_in count columns) (rows_at columns places) (rows_at-moved count places c.in_ok-order.ensures.each_once columns) (rows_numbered count columns) (rows_at-in_order columns places k c.in_ok-order.ensures.sorted) least
+    repeats-none k (rows_in count columns) (rows_at columns places)
+    (rows_at-moved count places c.in_ok-order.ensures.each_once columns) (rows_numbered count columns)
+    (rows_at-in_order columns places k c.in_ok-order.ensures.sorted) least
 
 pub returns-clause-each_once : goal.returns-clause-each_once
 returns-clause-each_once c =
@@ -45,7 +50,9 @@ returns-clause-each_once c =
     let places = c.in_ok-order.order.places.items in
     let moved = c.in_ok-order.ensures.each_once in
     let is = rw c.as_slice.ensures.value at c.in_ok-columns_in_order-in-None.ensures in
-    let shown = ap (λ n. rows_of n (map (gathered places) columns)) (sym (length-places count places moved)) ∙ rows_of-sorted columns places in
+    let shown =
+    ap (λ n. rows_of n (map (gathered places) columns)) (sym (length-places count places moved))
+    ∙ rows_of-sorted columns places in
     rw is (rw shown (rows_of-moved count places moved columns))
 
 pub returns-clause-ascending : goal.returns-clause-ascending
@@ -56,7 +63,9 @@ returns-clause-ascending c =
     let places = c.in_ok-order.order.places.items in
     let moved = c.in_ok-order.ensures.each_once in
     let is = rw c.as_slice.ensures.value at c.in_ok-columns_in_order-in-None.ensures in
-    let shown = ap (λ n. rows_of n (map (gathered places) columns)) (sym (length-places count places moved)) ∙ rows_of-sorted columns places in
+    let shown =
+    ap (λ n. rows_of n (map (gathered places) columns)) (sym (length-places count places moved))
+    ∙ rows_of-sorted columns places in
     let least = rw (sym (length-rows_at columns places)) at c.in-None.ensures in
     let up = ascends k (rows_at columns places) (rows_at-in_order columns places k c.in_ok-order.ensures.sorted) least in
     rw is (rw shown (subst (IsAscending k) (rows_at-alone columns places) up))
@@ -73,4 +82,6 @@ returns-clause-filled c =
     let columns = c.args.columns.now in
     let places = c.in_ok-order.order.places.items in
     let is = rw c.as_slice.ensures.value at c.in_ok-columns_in_order-in-None.ensures in
-    rw is (subst (λ n. AreLong n (map (gathered places) columns)) (length-places c.args.count places c.in_ok-order.ensures.each_once) (AreLong-sorted columns places))
+    rw is
+    (subst (λ n. AreLong n (map (gathered places) columns)) (length-places c.args.count places c.in_ok-order.ensures.each_once)
+    (AreLong-sorted columns places))

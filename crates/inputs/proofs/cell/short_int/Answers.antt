@@ -10,7 +10,8 @@ returns-in-Some c =
     let digits = rw rest at c.in-Some.ensures.digits in
     let value = rw rest at c.in-Some.ensures.value in
     let small = rw rest at c.in-Some.ensures.small in
-    int_of-minus bs (sym c.begins_with.ensures ∙ c.if-begins_with.true) digits small ∙ ap Some (sym (value-negated _ c.in-Some.number value small))
+    int_of-minus bs (sym c.begins_with.ensures ∙ c.if-begins_with.true) digits small
+    ∙ ap Some (sym (value-negated _ c.in-Some.number value small))
 
 pub returns-else-begins_with : goal.returns-else-begins_with
 returns-else-begins_with c =

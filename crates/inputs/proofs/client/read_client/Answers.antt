@@ -18,10 +18,13 @@ pub returns-then-client-clause-err : goal.returns-then-client-clause-err
 returns-then-client-clause-err c =
     let here = field-drop (fields_of c.args.fields.now) 0 c.in-Some.name.now (rw c.in-Some.is at c.get.ensures.value) in
     let yes : is_client c.in-Some.name.now ≡ true = search rules in
-    client_of-too_many c.args.clients.now c.args.number (fields_of c.args.fields.now) _ c.in-Some.name.now here yes (rw c.find_client-client.ensures at c.if-client.true)
+    client_of-too_many c.args.clients.now c.args.number (fields_of c.args.fields.now) _ c.in-Some.name.now here yes
+    (rw c.find_client-client.ensures at c.if-client.true)
 
 pub returns-clause-ok : goal.returns-clause-ok
 returns-clause-ok c =
     let here = field-drop (fields_of c.args.fields.now) 0 c.in-Some.name.now (rw c.in-Some.is at c.get.ensures.value) in
     let yes : is_client c.in-Some.name.now ≡ true = search rules in
-    rw c.find_client-client.ensures (client_of-ok c.args.clients.now c.args.number (fields_of c.args.fields.now) _ c.in-Some.name.now here yes (rw c.find_client-client.ensures at c.if-client.false))
+    rw c.find_client-client.ensures
+    (client_of-ok c.args.clients.now c.args.number (fields_of c.args.fields.now) _ c.in-Some.name.now here yes
+    (rw c.find_client-client.ensures at c.if-client.false))

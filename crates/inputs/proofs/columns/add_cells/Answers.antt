@@ -29,7 +29,8 @@ add_cell-requires c =
     let inv = c.loop-i.invariant in
     let lt = c.loop-i-test.true in
     let wide : length c.loop-i.columns.items ≡ length old = ap (λ (cs : List Column). length cs) inv.2 ∙ length-extended old inv.0 in
-    let is : mine ≡ get_or old i mine = c.index_mut.ensures.value ∙ ap (λ (cs : List Column). get_or cs i mine) inv.2 ∙ extended-at old inv.0 i mine inv.1 in
+    let is : mine ≡ get_or old i mine =
+    c.index_mut.ensures.value ∙ ap (λ (cs : List Column). get_or cs i mine) inv.2 ∙ extended-at old inv.0 i mine inv.1 in
     let short = c.requires.room i mine (omega (arith, lt, wide)) in
     rw (sym is) at short
 
@@ -41,7 +42,8 @@ returns-in_err-add_cell-clause-err c =
     let inv = c.loop-i.invariant in
     let lt = c.loop-i-test.true in
     let wide : length c.loop-i.columns.items ≡ length old = ap (λ (cs : List Column). length cs) inv.2 ∙ length-extended old inv.0 in
-    let is : mine ≡ get_or old i mine = c.index_mut.ensures.value ∙ ap (λ (cs : List Column). get_or cs i mine) inv.2 ∙ extended-at old inv.0 i mine inv.1 in
+    let is : mine ≡ get_or old i mine =
+    c.index_mut.ensures.value ∙ ap (λ (cs : List Column). get_or cs i mine) inv.2 ∙ extended-at old inv.0 i mine inv.1 in
     let f = field-drop (fields_of c.args.fields.now) i c.in-Some.bytes.now (rw c.in-Some.is at c.get.ensures.value) in
     let k = type-drop old i mine (omega (arith, lt, wide)) is in
     passed-up c.from_residual.result _ _ c.from_residual.ensures.1
@@ -55,7 +57,8 @@ loop-i-preserved c =
     let inv = c.loop-i.invariant in
     let lt = c.loop-i-test.true in
     let wide : length c.loop-i.columns.items ≡ length old = ap (λ (cs : List Column). length cs) inv.2 ∙ length-extended old inv.0 in
-    let is : mine ≡ get_or old i mine = c.index_mut.ensures.value ∙ ap (λ (cs : List Column). get_or cs i mine) inv.2 ∙ extended-at old inv.0 i mine inv.1 in
+    let is : mine ≡ get_or old i mine =
+    c.index_mut.ensures.value ∙ ap (λ (cs : List Column). get_or cs i mine) inv.2 ∙ extended-at old inv.0 i mine inv.1 in
     let f = field-drop (fields_of c.args.fields.now) i c.in-Some.bytes.now (rw c.in-Some.is at c.get.ensures.value) in
     let k = type-drop old i mine (omega (arith, lt, wide)) is in
     let added = c.in_ok-add_cell.ensures.ok in (

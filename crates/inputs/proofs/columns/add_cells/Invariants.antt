@@ -10,4 +10,5 @@ use Rattle.inputs.proofs.columns.add_cells.Given as goal
 abbrev pub invariant-loop-i : goal.invariant-loop-i
 invariant-loop-i l =
     (cells : List Value) × (length cells ≡ l.i) × (l.columns.items ≡ extended l.fn.columns.items cells)
-    × (cells_of l.number 0 (types_in l.fn.columns.items) (fields_of l.fields) ≡ prepend cells (cells_of l.number l.i (drop l.i (types_in l.fn.columns.items)) (drop l.i (fields_of l.fields))))
+    × (cells_of l.number 0 (types_in l.fn.columns.items) (fields_of l.fields)
+    ≡ prepend cells (cells_of l.number l.i (drop l.i (types_in l.fn.columns.items)) (drop l.i (fields_of l.fields))))

@@ -73,10 +73,14 @@ loop-number-preserved c =
     let told = rw inv.typed at added.said in
     let made : List Column = extended columns added.cells in
     let newer : rows_in (number - 2) columns ++ record { number = number; row = added.cells } ∷ [] ≡ rows_in (number + 1 - 2) made =
-    ap (λ n. rows_in (number - 2) columns ++ record { number = n; row = added.cells } ∷ []) (sym back) ∙ sym rows ∙ ap (λ n. rows_in n made) next in
+    ap (λ n. rows_in (number - 2) columns ++ record { number = n; row = added.cells } ∷ []) (sym back)
+    ∙ sym rows
+    ∙ ap (λ n. rows_in n made) next in
     let read = at.1 ++ fields_of c.next_record.new.fields ∷ [] in
     let types = c.loop-number.schema.types in
-    let step = subst (λ (rs : List Numbered). (more : List Fields) → said.numbered_rows types 2 (read ++ more) ≡ prepend rs (said.numbered_rows types (number + 1) more)) newer
+    let step =
+    subst (λ (rs : List Numbered). (more : List Fields)
+    → said.numbered_rows types 2 (read ++ more) ≡ prepend rs (said.numbered_rows types (number + 1) more)) newer
     (numbered_rows-step types at.1 number _ (record { number = number; row = added.cells }) (rows_in (number - 2) columns) at.4 told) in
     rw added.filled (record {
       some = omega (arith, inv.some);
@@ -110,14 +114,17 @@ returns-in_err-sorted-clause-err c =
     (λ ne text start all g.
     let whole = rw none at (c.in_ok-more.ensures text (at.0 ∷ at.1) (at.2 text start)) in
     let found = rw c.key_cols.ensures.count at (c.in_err-sorted.ensures.err ne) in
-    rw found.2 (table_of-repeat text at.0 at.1 all c.loop-number.schema (rows_in (c.loop-number.number - 2) c.loop-number.columns.items) c.loop-number.number found.0 whole at.3 at.4 found.1 g))
+    rw found.2
+    (table_of-repeat text at.0 at.1 all c.loop-number.schema (rows_in (c.loop-number.number - 2) c.loop-number.columns.items)
+    c.loop-number.number found.0 whole at.3 at.4 found.1 g))
 
 pub of_columns-requires-clause-typed : goal.of_columns-requires-clause-typed
 of_columns-requires-clause-typed c = c.in_ok-sorted.ensures.typed ∙ c.loop-number.invariant.typed
 
 pub of_columns-requires-clause-even : goal.of_columns-requires-clause-even
 of_columns-requires-clause-even c =
-    columns-even c.loop-number.schema c.key_cols.ensures.lawful (c.loop-number.number - 2) c.in_ok-sorted.sorted.items (c.in_ok-sorted.ensures.typed ∙ c.loop-number.invariant.typed) c.in_ok-sorted.ensures.filled
+    columns-even c.loop-number.schema c.key_cols.ensures.lawful (c.loop-number.number - 2) c.in_ok-sorted.sorted.items
+    (c.in_ok-sorted.ensures.typed ∙ c.loop-number.invariant.typed) c.in_ok-sorted.ensures.filled
 
 pub of_columns-requires-clause-table : goal.of_columns-requires-clause-table
 of_columns-requires-clause-table c =
@@ -131,8 +138,11 @@ of_columns-requires-clause-table c =
     let text = c.requires.0 in
     let whole = rw none at (c.in_ok-more.ensures text (at.0 ∷ at.1) (at.2 text c.requires.1)) in
     let key = c.key_cols.ensures.count in
-    let count = columns-count schema c.key_cols.ensures.lawful (number - 2) sorted (c.in_ok-sorted.ensures.typed ∙ inv.typed) c.in_ok-sorted.ensures.filled in
-    loaded-stable text at.0 at.1 schema columns sorted number whole at.3 at.4 (rw key at c.in_ok-sorted.ensures.distinct) c.in_ok-sorted.ensures.each_once (rw key at c.in_ok-sorted.ensures.ascending) (row_count sorted) count inv.few
+    let count =
+    columns-count schema c.key_cols.ensures.lawful (number - 2) sorted (c.in_ok-sorted.ensures.typed ∙ inv.typed)
+    c.in_ok-sorted.ensures.filled in
+    loaded-stable text at.0 at.1 schema columns sorted number whole at.3 at.4 (rw key at c.in_ok-sorted.ensures.distinct)
+    c.in_ok-sorted.ensures.each_once (rw key at c.in_ok-sorted.ensures.ascending) (row_count sorted) count inv.few
 
 pub returns-then-not-more-clause-ok : goal.returns-then-not-more-clause-ok
 returns-then-not-more-clause-ok c text start =
@@ -145,8 +155,12 @@ returns-then-not-more-clause-ok c text start =
     let none : c.in_ok-more.more ≡ false = search rules in
     let whole = rw none at (c.in_ok-more.ensures text (at.0 ∷ at.1) (at.2 text start)) in
     let key = c.key_cols.ensures.count in
-    let count = columns-count schema c.key_cols.ensures.lawful (number - 2) sorted (c.in_ok-sorted.ensures.typed ∙ inv.typed) c.in_ok-sorted.ensures.filled in
-    rw c.of_columns.ensures (loaded-table text at.0 at.1 schema columns sorted number whole at.3 at.4 (rw key at c.in_ok-sorted.ensures.distinct) c.in_ok-sorted.ensures.each_once (rw key at c.in_ok-sorted.ensures.ascending) (row_count sorted) count)
+    let count =
+    columns-count schema c.key_cols.ensures.lawful (number - 2) sorted (c.in_ok-sorted.ensures.typed ∙ inv.typed)
+    c.in_ok-sorted.ensures.filled in
+    rw c.of_columns.ensures
+    (loaded-table text at.0 at.1 schema columns sorted number whole at.3 at.4 (rw key at c.in_ok-sorted.ensures.distinct)
+    c.in_ok-sorted.ensures.each_once (rw key at c.in_ok-sorted.ensures.ascending) (row_count sorted) count)
 
 pub unreachable-requires : goal.unreachable-requires
 unreachable-requires c =

@@ -15,6 +15,10 @@ invariant-loop-number l = record {
   few : l.number ≤ MAX_ROWS + 2;
   typed : types_in l.columns.items ≡ l.schema.types;
   long : AreLong (l.number - 2) l.columns.items;
-  reading : (header : Fields) × (read : List Fields) × ((text : List ℕ) → IsReading text [] l.fn.reader → IsReading text (header ∷ read) l.reader) × (schema_of header ≡ Ok l.schema)
-      × ((more : List Fields) → numbered_rows l.schema.types 2 (read ++ more) ≡ prepend (rows_in (l.number - 2) l.columns.items) (numbered_rows l.schema.types l.number more));
+  reading :
+      (header : Fields) × (read : List Fields)
+      × ((text : List ℕ) → IsReading text [] l.fn.reader → IsReading text (header ∷ read) l.reader)
+      × (schema_of header ≡ Ok l.schema)
+      × ((more : List Fields) → numbered_rows l.schema.types 2 (read ++ more)
+      ≡ prepend (rows_in (l.number - 2) l.columns.items) (numbered_rows l.schema.types l.number more));
 }

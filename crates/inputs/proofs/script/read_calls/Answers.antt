@@ -11,7 +11,8 @@ use Rattle.inputs.proofs.script.read_calls.Goals as goal
 
 pub loop-number-init : goal.loop-number-init
 loop-number-init c =
-    rw (c.new-clients.ensures.items, c.new-calls.ensures.items) (record { count = refl; reading = ([], λ text start. start, λ more. refl, λ more. sym (prepend-nil _)) })
+    rw (c.new-clients.ensures.items, c.new-calls.ensures.items)
+    (record { count = refl; reading = ([], λ text start. start, λ more. refl, λ more. sym (prepend-nil _)) })
 
 pub next_record-requires : goal.next_record-requires
 next_record-requires c =
@@ -36,7 +37,8 @@ returns-in_err-call-clause-err c =
 
 pub returns-in_err-add_client-clause-err : goal.returns-in_err-add_client-clause-err
 returns-in_err-add_client-clause-err c =
-    passed-up c.from_residual-in_err-add_client.result _ _ c.from_residual-in_err-add_client.ensures.1 (λ ne. absurd (ne c.in_err-add_client.ensures.err))
+    passed-up c.from_residual-in_err-add_client.result _ _ c.from_residual-in_err-add_client.ensures.1
+    (λ ne. absurd (ne c.in_err-add_client.ensures.err))
 
 pub returns-in_err-push-clause-err : goal.returns-in_err-push-clause-err
 returns-in_err-push-clause-err c =

@@ -11,5 +11,6 @@ invariant-loop-number l = record {
   count : l.number ≡ length l.calls.items + 1;
   reading : (read : List Fields) × ((text : List ℕ) → IsReading text [] l.fn.reader → IsReading text read l.reader)
       × ((more : List Fields) → clients_of [] (read ++ more) ≡ clients_of l.clients.items more)
-      × ((more : List Fields) → calls_of l.schema [] 1 (read ++ more) ≡ prepend l.calls.items (calls_of l.schema l.clients.items l.number more));
+      × ((more : List Fields)
+      → calls_of l.schema [] 1 (read ++ more) ≡ prepend l.calls.items (calls_of l.schema l.clients.items l.number more));
 }

@@ -19,5 +19,6 @@ returns-clause-ok c = c.in_ok-clients.ensures.ok c.args.text.now c.records_of-re
 
 pub invariant_of-result : goal.invariant_of-result
 invariant_of-result c =
-    subst (λ (under : Columns). IsTyped (record { schema = under; clients = c.in_ok-clients.clients.items; calls = c.in_ok-clients.calls.items }))
+    subst
+    (λ (under : Columns). IsTyped (record { schema = under; clients = c.in_ok-clients.clients.items; calls = c.in_ok-clients.calls.items }))
     (sym c.in_ok-under.ensures) c.in_ok-clients.ensures.typed

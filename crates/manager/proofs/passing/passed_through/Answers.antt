@@ -16,10 +16,12 @@ loop-index-init c =
 pub pass-requires : goal.pass-requires
 pass-requires c =
     let kept = c.args.kept.now.items in
-    let at : slice_get kept c.loop-index.index ≡ Some c.unwrap-other.result.now = sym c.get.ensures ∙ ap option_copied c.unwrap-other.ensures in
+    let at : slice_get kept c.loop-index.index ≡ Some c.unwrap-other.result.now =
+    sym c.get.ensures ∙ ap option_copied c.unwrap-other.ensures in
     let w = c.requires in
     let way = c.loop-index.invariant w in
-    aligned _ w.schema w.x w.rest _ w.lawful kept c.loop-index.passage c.loop-index.index _ at way (met _ w.schema w.x w.rest _ w.lawful kept c.loop-index.passage c.loop-index.index _ at way)
+    aligned _ w.schema w.x w.rest _ w.lawful kept c.loop-index.passage c.loop-index.index _ at way
+    (met _ w.schema w.x w.rest _ w.lawful kept c.loop-index.passage c.loop-index.index _ at way)
 
 pub returns-in-Conflict : goal.returns-in-Conflict
 returns-in-Conflict c =
@@ -53,5 +55,7 @@ returns c =
     let n = c.loop-index.index in
     let end : length kept ≤ n = omega (arith, c.len-index-end.ensures.len, c.loop-index-test.false) in
     λ (w : MayPass c.args.conflicts (drop c.args.first kept) c.args.tree).
-    let all = ended _ w.schema w.x w.rest _ w.lawful (drop n kept) c.loop-index.passage (nothing_past kept n end) (c.loop-index.invariant w) in
+    let all =
+    ended _ w.schema w.x w.rest _ w.lawful (drop n kept) c.loop-index.passage (nothing_past kept n end)
+    (c.loop-index.invariant w) in
     (all.0, c.in_ok-into_tree.ensures ∙ all.1)

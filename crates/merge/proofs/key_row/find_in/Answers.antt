@@ -22,11 +22,13 @@ returns-clause-row c =
     let t = table_in stable in
     let key = c.args.key.now in
     let there = c.locate-rank.ensures.there in
-    let sorted : T (is_sorted key_cmp t) = first (is_sorted key_cmp t) _ (passes (is_keyed_table stable.schema.key_cols t) c.requires.keyed) in
+    let sorted : T (is_sorted key_cmp t) =
+    first (is_sorted key_cmp t) _ (passes (is_keyed_table stable.schema.key_cols t) c.requires.keyed) in
     elim c.if-is_there.branch [
       | then-is_there w ↦
           ap (option_map row_of) w.row-is
           ∙ ap (λ (row : Row). Some row) w.stable.ensures.row
-          ∙ get_or-rank key t stable.rows c.locate-rank.result.0 (sym (rows_of-table_of stable.schema.key_cols stable.rows)) c.locate-rank.ensures.rank sorted (passes (is_some (row_at t key)) (sym there ∙ w.if-is_there.true))
+          ∙ get_or-rank key t stable.rows c.locate-rank.result.0 (sym (rows_of-table_of stable.schema.key_cols stable.rows))
+          c.locate-rank.ensures.rank sorted (passes (is_some (row_at t key)) (sym there ∙ w.if-is_there.true))
       | else-is_there w ↦ ap (option_map row_of) w.row-is ∙ none_of (row_at t key) (sym there ∙ w.if-is_there.false)
     ]

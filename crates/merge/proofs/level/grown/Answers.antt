@@ -4,13 +4,41 @@ use Rattle.delta.proofs.CallerLemmas.{counts-le}
 use Rattle.merge.proofs.level.grown.Goals as goal
 
 pub overflow_add-result : goal.overflow_add-result
-overflow_add-result c = omega (arith, ints, c.requires.few, c.total.ensures.total, counts-le c.args.tree.now.entries, c.total.ensures.lawful.counted)
+overflow_add-result c =
+    omega (arith, ints, c.requires.few, c.total.ensures.total, counts-le c.args.tree.now.entries, c.total.ensures.lawful.counted)
 
 pub overflow_cast-result-2 : goal.overflow_cast-result-2
-overflow_cast-result-2 c = omega (arith, ints, c.requires.few, c.requires.enough, c.total.ensures.total, counts-le c.args.tree.now.entries, c.total.ensures.lawful.counted)
+overflow_cast-result-2 c =
+    omega (
+      arith,
+      ints,
+      c.requires.few,
+      c.requires.enough,
+      c.total.ensures.total,
+      counts-le c.args.tree.now.entries,
+      c.total.ensures.lawful.counted,
+    )
 
 pub returns-clause-sum : goal.returns-clause-sum
-returns-clause-sum c = omega (arith, ints, c.requires.few, c.requires.enough, c.total.ensures.total, counts-le c.args.tree.now.entries, c.total.ensures.lawful.counted)
+returns-clause-sum c =
+    omega (
+      arith,
+      ints,
+      c.requires.few,
+      c.requires.enough,
+      c.total.ensures.total,
+      counts-le c.args.tree.now.entries,
+      c.total.ensures.lawful.counted,
+    )
 
 pub returns-clause-most : goal.returns-clause-most
-returns-clause-most c = omega (arith, ints, c.requires.few, c.requires.enough, c.total.ensures.total, counts-le c.args.tree.now.entries, c.total.ensures.lawful.counted)
+returns-clause-most c =
+    omega (
+      arith,
+      ints,
+      c.requires.few,
+      c.requires.enough,
+      c.total.ensures.total,
+      counts-le c.args.tree.now.entries,
+      c.total.ensures.lawful.counted,
+    )

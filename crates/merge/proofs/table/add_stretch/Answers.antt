@@ -13,24 +13,32 @@ use Rattle.merge.proofs.table.add_stretch.Goals as goal
 
 pub prove-unreachable-requires : goal.prove-unreachable-requires
 prove-unreachable-requires c =
-    let has = has_column c.args.column.now.ty c.args.col c.in-Stable.stretch (subst (IsStretch 3) c.in-Stable.is c.requires.is) c.schema.ensures.lawful (subst (λ (r : Stretch). All (StandsAt c.args.column.now.ty c.args.col) (stretch_rows r)) c.in-Stable.is c.requires.stand) in
+    let has =
+    has_column c.args.column.now.ty c.args.col c.in-Stable.stretch (subst (IsStretch 3) c.in-Stable.is c.requires.is)
+    c.schema.ensures.lawful
+    (subst (λ (r : Stretch). All (StandsAt c.args.column.now.ty c.args.col) (stretch_rows r)) c.in-Stable.is
+    c.requires.stand)
+    in
     omega (arith, has, c.if-prove.true, c.width-width.ensures.columns, ap (λ (s : Columns). length s.types) c.schema.ensures.columns)
 
 pub extend_from-requires-clause-typed : goal.extend_from-requires-clause-typed
 extend_from-requires-clause-typed c =
     let ty = c.args.column.now.ty in
     ap (λ (x : Column). x.ty) c.column.ensures
-    ∙ column_type ty c.args.col c.in-Stable.stretch (subst (IsStretch 3) c.in-Stable.is c.requires.is) c.schema.ensures.lawful (subst (λ (r : Stretch). All (StandsAt ty c.args.col) (stretch_rows r)) c.in-Stable.is c.requires.stand)
+    ∙ column_type ty c.args.col c.in-Stable.stretch (subst (IsStretch 3) c.in-Stable.is c.requires.is) c.schema.ensures.lawful
+    (subst (λ (r : Stretch). All (StandsAt ty c.args.col) (stretch_rows r)) c.in-Stable.is c.requires.stand)
 
 pub push-requires-clause-typed : goal.push-requires-clause-typed
 push-requires-clause-typed c =
     let ty = c.args.column.now.ty in
-    view_typed ty c.args.col c.in-Row.view (value_of c.value.result) (subst (λ (r : Stretch). All (StandsAt ty c.args.col) (stretch_rows r)) c.in-Row.is c.requires.stand) c.value.ensures
+    view_typed ty c.args.col c.in-Row.view (value_of c.value.result)
+    (subst (λ (r : Stretch). All (StandsAt ty c.args.col) (stretch_rows r)) c.in-Row.is c.requires.stand) c.value.ensures
 
 pub push-requires-clause-short : goal.push-requires-clause-short
 push-requires-clause-short c =
     let ty = c.args.column.now.ty in
-    view_short ty c.args.col c.in-Row.view (value_of c.value.result) (subst (λ (r : Stretch). All (StandsAt ty c.args.col) (stretch_rows r)) c.in-Row.is c.requires.stand) c.value.ensures
+    view_short ty c.args.col c.in-Row.view (value_of c.value.result)
+    (subst (λ (r : Stretch). All (StandsAt ty c.args.col) (stretch_rows r)) c.in-Row.is c.requires.stand) c.value.ensures
 
 pub returns-in-Stable : goal.returns-in-Stable
 returns-in-Stable c =
@@ -52,6 +60,7 @@ returns-in-Row c =
     let old = c.args.column.now.values in
     let v = value_of c.value.result in
     let same : v ∷ [] ≡ column_values col (stretch_rows c.args.stretch) =
-    view_values ty col c.in-Row.view v (subst (λ (r : Stretch). All (StandsAt ty col) (stretch_rows r)) c.in-Row.is c.requires.stand) c.value.ensures
+    view_values ty col c.in-Row.view v
+    (subst (λ (r : Stretch). All (StandsAt ty col) (stretch_rows r)) c.in-Row.is c.requires.stand) c.value.ensures
     ∙ ap (λ (r : Stretch). column_values col (stretch_rows r)) (sym c.in-Row.is) in
     on_ok_weaker c.push.result (λ e. e ∙ ap (λ more. record { ty = ty; values = old ++ more }) same) c.push.ensures.ok

@@ -13,4 +13,5 @@ abbrev pub invariant-loop-entry : goal.invariant-loop-entry
 invariant-loop-entry l =
     T (are_ordered l.tree.key_cols l.entry-iterator)
     × T (list_all (λ e. not (stands_before base_cmp l.sid e)) l.entry-iterator)
-    × (last_cell l.col (option_map value_of l.found) (cells_at l.sid l.entry-iterator) ≡ last_cell l.col None (cells_at l.sid l.tree.entries))
+    × (last_cell l.col (option_map value_of l.found) (cells_at l.sid l.entry-iterator)
+    ≡ last_cell l.col None (cells_at l.sid l.tree.entries))

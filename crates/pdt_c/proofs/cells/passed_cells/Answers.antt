@@ -11,7 +11,13 @@ loop-col-preserved c =
     let col = c.loop-col.col in
     let grown = c.in_ok-push.ensures.items in
     let read = c.in_ok-cell.ensures in (
-      ap (map type_of) grown ∙ map_more type_of cells cell c.args.types.now col _ (omega (arith, c.loop-col-test.true, c.loop-col.auto.col-end)) c.loop-col.invariant.0 read.typed,
-      ap (map number_of) grown ∙ map_more number_of cells cell c.args.numbers.now col _ (omega (arith, c.loop-col-test.true, c.loop-col.auto.col-end, c.if-numbers-types.false)) c.loop-col.invariant.1 read.number,
-      ap (λ xs. flat_map bytes_of xs ++ c.in_ok-cell.left.now) grown ∙ bytes_move cells cell c.loop-col.rest.now c.in_ok-cell.left.now c.args.texts.now c.loop-col.invariant.2 read.text,
+      ap (map type_of) grown
+          ∙ map_more type_of cells cell c.args.types.now col _ (omega (arith, c.loop-col-test.true, c.loop-col.auto.col-end))
+          c.loop-col.invariant.0 read.typed,
+      ap (map number_of) grown
+          ∙ map_more number_of cells cell c.args.numbers.now col _
+          (omega (arith, c.loop-col-test.true, c.loop-col.auto.col-end, c.if-numbers-types.false)) c.loop-col.invariant.1
+          read.number,
+      ap (λ xs. flat_map bytes_of xs ++ c.in_ok-cell.left.now) grown
+          ∙ bytes_move cells cell c.loop-col.rest.now c.in_ok-cell.left.now c.args.texts.now c.loop-col.invariant.2 read.text,
     )

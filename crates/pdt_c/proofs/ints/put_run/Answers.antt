@@ -17,5 +17,7 @@ returns-in-Ints-clause-numbers c =
     let put = c.copy_from_slice.new.self in
     let many = ap (λ (xs : List ℤ). length xs) c.copy_from_slice.ensures.after in
     let run = ap (λ (r : Run). length (run_values r)) c.in-Ints.is in
-    take-put_mid done (done + length ints - done) out put (done + length ints) (omega (arith, many)) (omega (arith, c.requires.room, run, length-map ints Int))
-    ∙ ap (λ xs. take done out ++ xs) (c.copy_from_slice.ensures.after ∙ sym (numbers_int ints) ∙ ap (λ (r : Run). numbers_of (run_values r)) (sym c.in-Ints.is))
+    take-put_mid done (done + length ints - done) out put (done + length ints) (omega (arith, many))
+    (omega (arith, c.requires.room, run, length-map ints Int))
+    ∙ ap (λ xs. take done out ++ xs)
+    (c.copy_from_slice.ensures.after ∙ sym (numbers_int ints) ∙ ap (λ (r : Run). numbers_of (run_values r)) (sym c.in-Ints.is))

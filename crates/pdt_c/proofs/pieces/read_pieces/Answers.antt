@@ -25,9 +25,12 @@ returns-then-filled-out c =
     let cut = take_cut c.args.to c.min-end.result rows
     (λ le. omega (arith, le, many, c.len.ensures, c.min-end.ensures))
     (λ le. omega (arith, le, many, c.len.ensures, c.min-end.ensures)) in
-    handed (numbers_between txn col from c.args.to) inv.3 (numbers_of c.loop-run.run-iterator.values) (length c.args.out.now) c.loop-run.filled.pieces c.loop-run.filled.rows
+    handed (numbers_between txn col from c.args.to) inv.3 (numbers_of c.loop-run.run-iterator.values) (length c.args.out.now)
+    c.loop-run.filled.pieces c.loop-run.filled.rows
     c.loop-run.out inv.1 inv.4 inv.5
-    (inv.6 ∙ ap (λ rs. numbers_of (column_values col (drop from rs))) cut ∙ ap (λ (b : Bool). cond b (numbers_of (column_between txn col from c.args.to)) []) (sym has))
+    (inv.6
+    ∙ ap (λ rs. numbers_of (column_values col (drop from rs))) cut
+    ∙ ap (λ (b : Bool). cond b (numbers_of (column_between txn col from c.args.to)) []) (sym has))
     (λ lt. absurd (omega (arith, lt, inv.0, c.if-filled-out.true)))
 
 pub overflow_add-filled-in-loop-run : goal.overflow_add-filled-in-loop-run
@@ -70,7 +73,8 @@ loop-run-preserved c =
       sym (ap (λ (x : Column). x.ty) c.in-Some.ensures.steps.0) ∙ inv.2,
       inv.3 ++ numbers_of own,
       omega (arith, inv.4, c.piece_of-piece.ensures.counted, length-append inv.3 (numbers_of own)),
-      subst (λ (ps : List Piece). AreShown ps (inv.3 ++ numbers_of own)) (sym (take_more_set out at piece (omega (arith, c.if-filled-out.false))))
+      subst (λ (ps : List Piece). AreShown ps (inv.3 ++ numbers_of own))
+          (sym (take_more_set out at piece (omega (arith, c.if-filled-out.false))))
           (shown_more (take at out) piece inv.3 (numbers_of own) inv.5 c.piece_of-piece.ensures),
       numbers_move inv.3 own rest all (ap (λ (vs : List Value). inv.3 ++ numbers_of vs) (sym is) ∙ inv.6),
     )

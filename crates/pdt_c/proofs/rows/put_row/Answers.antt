@@ -15,7 +15,8 @@ loop-col-preserved c =
     let so_far = c.loop-col.invariant in
     let row = row_of c.args.view in
     let v = value_of c.value-value.result in
-    let number : _ ≡ number_of v = to_z-of_z w64 c.number_of-number.result (record { sfits = c.number_of-number.type_inv }) ∙ c.number_of-number.ensures in
+    let number : _ ≡ number_of v =
+    to_z-of_z w64 c.number_of-number.result (record { sfits = c.number_of-number.type_inv }) ∙ c.number_of-number.ensures in
     let within : col < length numbers = omega (arith, so_far.0, c.loop-col-test.true, c.if-width-numbers.false) in (
       length-set numbers col _ ∙ so_far.0,
       c.put_bytes-end.ensures.length ∙ so_far.1,

@@ -13,8 +13,11 @@ use Rattle.pdtcli.proofs.client.run_client.Goals as goal
 use Rattle.pdtcli.proofs.client.run_client.Goals.{then-asked-client, else-asked-client}
 
 -- a call of the client is left before its last one is made
-left_one : (client : ℕ) (calls : List ClientCall) (i left : ℕ) (asked : ClientCall) → i < length calls → asked ≡ get_or calls i asked → (asked.client == client) ≡ true → length (calls_of client (take i calls)) + left ≡ length (calls_of client calls) → 1 ≤ left
-left_one client calls i left asked inside is own here = omega (arith, own_left client calls i asked inside is own, own_most client calls (i + 1), here)
+left_one : (client : ℕ) (calls : List ClientCall) (i left : ℕ) (asked : ClientCall) → i < length calls
+    → asked ≡ get_or calls i asked → (asked.client == client) ≡ true
+    → length (calls_of client (take i calls)) + left ≡ length (calls_of client calls) → 1 ≤ left
+left_one client calls i left asked inside is own here =
+    omega (arith, own_left client calls i asked inside is own, own_most client calls (i + 1), here)
 
 is_own : (a b c : ℕ) → a ≡ b → b ≡ c → (a == c) ≡ true
 is_own a b c h k = grind (arith, nat_tests)
@@ -34,14 +37,17 @@ pub push_reserved-requires : goal.push_reserved-requires
 push_reserved-requires g c =
     let asked = c.asked-item.result in
     let own = is_own asked.client c.client-client.result c.args.session.client c.if-asked-client.true c.client-client.ensures in
-    let one = left_one c.args.session.client c.args.calls.now c.loop-asked.asked-index c.loop-asked.left asked c.loop-asked-test.true c.asked-item.is own c.loop-asked.invariant.left in
+    let one =
+    left_one c.args.session.client c.args.calls.now c.loop-asked.asked-index c.loop-asked.left asked c.loop-asked-test.true
+    c.asked-item.is own c.loop-asked.invariant.left in
     omega (arith, c.serve-reply.ensures.room, one)
 
 pub overflow_sub-left : goal.overflow_sub-left
 overflow_sub-left g c =
     let asked = c.asked-item.result in
     let own = is_own asked.client c.client-client.result c.args.session.client c.if-asked-client.true c.client-client.ensures in
-    left_one c.args.session.client c.args.calls.now c.loop-asked.asked-index c.loop-asked.left asked c.loop-asked-test.true c.asked-item.is own c.loop-asked.invariant.left
+    left_one c.args.session.client c.args.calls.now c.loop-asked.asked-index c.loop-asked.left asked c.loop-asked-test.true
+    c.asked-item.is own c.loop-asked.invariant.left
 
 pub loop-asked-preserved : goal.loop-asked-preserved
 loop-asked-preserved g c =
@@ -65,7 +71,9 @@ loop-asked-preserved g c =
           w.push_reserved.ensures.items
           ∙ (λ j. served.2 j ++ w.line_of.ensures j ∷ [])
           ∙ append_assoc before (shown_lines asked rows) (line_of asked reply ∷ []) in
-          let made = made_more o start c.loop-asked.session w.serve-reply.new.session calls i before asked rows reply inside here own inv.made served.1 in
+          let made =
+          made_more o start c.loop-asked.session w.serve-reply.new.session calls i before asked rows reply inside here own
+          inv.made served.1 in
           let more = own_left start.client calls i asked inside here own in
           rw (w.session-is, w.lines-is, w.left-is, w.number-is) (record {
             made = subst (λ (ls : List ReplyLine). HasMade o start (take (i + 1) calls) ls w.serve-reply.new.session) (sym told) made;

@@ -13,9 +13,12 @@ loop-session-preserved g c =
     let left = into_iter_items c.next.new.self in
     let step : rest ≡ c.in-Some.session ∷ left = let s = c.in-Some.ensures.steps in search rules in
     let made = c.in_ok-start.ensures.started in (
-      started_more (λ h. (h.promise.start.value, h.promise.calls.now)) c.args.calls.now c.loop-session.handles.items c.push_reserved.new.self.items
-          rest left c.args.sessions.items c.in_ok-start.field-0 c.in-Some.session step (λ i. (made.0 i, made.1 i)) c.push_reserved.ensures.items was.0,
+      started_more (λ h. (h.promise.start.value, h.promise.calls.now)) c.args.calls.now c.loop-session.handles.items
+          c.push_reserved.new.self.items
+          rest left c.args.sessions.items c.in_ok-start.field-0 c.in-Some.session step (λ i. (made.0 i, made.1 i))
+          c.push_reserved.ensures.items was.0,
       search rules,
       search rules,
-      All-tail (λ (s : Seat). s.client < g.O.Opening.clients) c.in-Some.session left (subst (All (λ (s : Seat). s.client < g.O.Opening.clients)) step was.3),
+      All-tail (λ (s : Seat). s.client < g.O.Opening.clients) c.in-Some.session left
+          (subst (All (λ (s : Seat). s.client < g.O.Opening.clients)) step was.3),
     )

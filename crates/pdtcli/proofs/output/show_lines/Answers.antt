@@ -21,7 +21,8 @@ loop-chunk-preserved g c =
         inv.sent.0 ++ lines_text c.args.clients.now chunk,
         Appends-trans _ _ _ _ _ inv.sent.1 sent,
         append_assoc inv.sent.0 _ _
-            ∙ ap (λ (z : List ℕ). inv.sent.0 ++ z) (sym (lines_text-append c.args.clients.now chunk (chunks_rest c.next.new.self)) ∙ ap (lines_text c.args.clients.now) (sym steps.1.0))
+            ∙ ap (λ (z : List ℕ). inv.sent.0 ++ z) (sym (lines_text-append c.args.clients.now chunk (chunks_rest c.next.new.self))
+            ∙ ap (lines_text c.args.clients.now) (sym steps.1.0))
             ∙ inv.sent.2,
       );
     }

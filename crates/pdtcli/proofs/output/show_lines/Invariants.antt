@@ -12,5 +12,7 @@ invariant-loop-chunk g l = record {
   can_next : (goal.iterator-loop-chunk g).can_next l.chunk-iterator;
   finite : (goal.iterator-loop-chunk g).is_finite l.chunk-iterator;
   empty : l.text.items ≡ [];
-  sent : (done : List ℕ) × Appends (g.W.Write.contents l.initial.out) (g.W.Write.contents l.out) done × (done ++ lines_text l.clients (chunks_rest l.chunk-iterator) ≡ lines_text l.clients l.fn.lines);
+  sent :
+      (done : List ℕ) × Appends (g.W.Write.contents l.initial.out) (g.W.Write.contents l.out) done
+      × (done ++ lines_text l.clients (chunks_rest l.chunk-iterator) ≡ lines_text l.clients l.fn.lines);
 }

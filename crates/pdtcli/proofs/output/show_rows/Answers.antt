@@ -26,12 +26,15 @@ loop-shown-preserved g c =
     let further : shown + (next - shown) ≡ next = omega (arith, c.min-next.ensures, c.loop-shown-test.true) in
     let scanned : drop shown (take next rows) ≡ take (next - shown) (drop shown rows) =
     ap (λ n. drop shown (take n rows)) (sym further) ∙ drop-take shown (next - shown) rows in
-    let parts : take next rows ≡ take shown rows ++ take (next - shown) (drop shown rows) = ap (λ n. take n rows) (sym further) ∙ take-add shown (next - shown) rows in
+    let parts : take next rows ≡ take shown rows ++ take (next - shown) (drop shown rows) =
+    ap (λ n. take n rows) (sym further) ∙ take-add shown (next - shown) rows in
     let text = rw (inv.empty, c.scan.ensures, scanned) at c.in_ok-text.ensures in
     let sent = rw text at c.in_ok-send.ensures.bytes in
     record {
       within = within;
       empty = c.in_ok-send.ensures.empty;
-      sent = subst (Appends (g.W.Write.contents c.args.out.now) (g.W.Write.contents c.send.new.out)) (sym (ap rows_text parts ∙ rows_text-append (take shown rows) (take (next - shown) (drop shown rows))))
+      sent =
+          subst (Appends (g.W.Write.contents c.args.out.now) (g.W.Write.contents c.send.new.out))
+          (sym (ap rows_text parts ∙ rows_text-append (take shown rows) (take (next - shown) (drop shown rows))))
           (Appends-trans _ _ _ _ _ inv.sent sent);
     }

@@ -6,7 +6,8 @@ use Rattle.pdtcli.proofs.program.open_texts.Goals as goal
 
 pub returns-in_err-manager-clause-refused : goal.returns-in_err-manager-clause-refused
 returns-in_err-manager-clause-refused c =
-    let inputs : Inputs = record { stable = c.in_ok-stable.stable; clients = c.in_ok-script.script.clients; calls = c.in_ok-script.script.calls } in
+    let inputs : Inputs =
+    record { stable = c.in_ok-stable.stable; clients = c.in_ok-script.script.clients; calls = c.in_ok-script.script.calls } in
     let read : AreInputs (bytes_of c.args.table) (bytes_of c.args.script) inputs =
     record { table_read = c.in_ok-stable.ensures.ok; script_read = rw c.schema.ensures.columns at c.in_ok-script.ensures.ok } in
     passed_up c.from_residual-in_err-manager.result (Open c.in_err-manager.field-0.0) _ c.from_residual-in_err-manager.ensures.1 (

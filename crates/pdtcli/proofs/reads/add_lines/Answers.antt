@@ -22,7 +22,8 @@ loop-sid-preserved c =
     let n = c.loop-sid.sid in
     let before : List ReplyLine = c.args.lines.now.items in
     let inv = c.loop-sid.invariant in
-    let inside : n < length all = omega (arith, c.loop-sid-test.true, c.len-count.ensures.count, ap (λ (t : Stable). length t.rows) c.deref.ensures) in
+    let inside : n < length all =
+    omega (arith, c.loop-sid-test.true, c.len-count.ensures.count, ap (λ (t : Stable). length t.rows) c.deref.ensures) in
     let row : Row = get_or all n [] in
     let same : c.in-Ok.shared.value ≡ c.args.rows.now.value = c.in-Ok.ensures.cases in
     let line = ap line_to (c.among-row.ensures ∙ ap (λ (t : Stable). get_or t.rows n []) same) in
@@ -31,12 +32,18 @@ loop-sid-preserved c =
       shown = c.push_reserved.ensures.items
           ∙ (λ i. (c.try_reserve.ensures.items ∙ inv.shown) i ++ line i ∷ [])
           ∙ append_assoc before (scan_lines client (take n all)) (line_to row ∷ [])
-          ∙ ap (λ (ls : List ReplyLine). before ++ ls) (shown_more client (take n all) row ∙ ap (scan_lines client) (sym (take_more all n [] inside)));
+          ∙ ap (λ (ls : List ReplyLine). before ++ ls)
+          (shown_more client (take n all) row ∙ ap (scan_lines client) (sym (take_more all n [] inside)));
       room = omega (arith, room, c.push_reserved.ensures.len, c.push_reserved.ensures.capacity, c.try_reserve.ensures.len);
     }
 
 pub returns-clause-step : goal.returns-clause-step
 returns-clause-step c =
     let all : List Row = c.args.rows.now.value.rows in
-    let whole : c.len-count.result ≡ length all = c.len-count.ensures.count ∙ ap (λ (t : Stable). length t.rows) c.deref.ensures in
-    (all, (refl, whole), c.loop-sid.invariant.shown ∙ ap (λ (xs : List Row). c.args.lines.now.items ++ scan_lines c.args.client xs) (take_all c.loop-sid.sid all (omega (arith, whole, c.loop-sid-test.false))))
+    let whole : c.len-count.result ≡ length all = c.len-count.ensures.count ∙ ap (λ (t : Stable). length t.rows) c.deref.ensures in (
+      all,
+      (refl, whole),
+      c.loop-sid.invariant.shown
+          ∙ ap (λ (xs : List Row). c.args.lines.now.items ++ scan_lines c.args.client xs)
+          (take_all c.loop-sid.sid all (omega (arith, whole, c.loop-sid-test.false))),
+    )

@@ -20,7 +20,8 @@ client_bound : (calls before rest : List ClientCall) (clients : ℕ) (asked : Cl
     → All (λ (a : ClientCall). a.client < clients) calls → before ++ asked ∷ rest ≡ calls
     → asked.client < clients
 client_bound calls before rest clients asked numbered split =
-    let here : get_or calls (length before) asked ≡ asked = ap (λ (xs : List ClientCall). get_or xs (length before) asked) (sym split) ∙ get_or-append_seam before asked rest asked in
+    let here : get_or calls (length before) asked ≡ asked =
+    ap (λ (xs : List ClientCall). get_or xs (length before) asked) (sym split) ∙ get_or-append_seam before asked rest asked in
     subst (λ (a : ClientCall). a.client < clients) here
     (numbered (length before) asked (omega (arith, length-append before (asked ∷ rest), ap (λ (xs : List ClientCall). length xs) split)))
 
@@ -44,7 +45,8 @@ count_reply-requires-clause-few g c =
     ap (λ (xs : List ClientCall). c.loop-asked.yielded ++ xs) (sym c.in-Some.ensures.steps.0) ∙ c.loop-asked.invariant.split in
     let bound = client_bound c.args.script.calls c.loop-asked.yielded rest clients asked c.into_parts-names.ensures.lawful.numbered split in
     let counted : get_or c.loop-asked.counts.items asked.client 0 ≡ decided_count lines.items asked.client =
-    ap (λ (ns : List ℕ). get_or ns asked.client 0) c.loop-asked.invariant.counts ∙ get_or-counts_of lines.items clients asked.client bound in
+    ap (λ (ns : List ℕ). get_or ns asked.client 0) c.loop-asked.invariant.counts
+    ∙ get_or-counts_of lines.items clients asked.client bound in
     let left = ap (λ (xs : List ClientCall). length xs) c.in-Some.ensures.steps.0 in
     omega (
       arith,
@@ -69,48 +71,72 @@ loop-asked-preserved g c =
     let mine = c.index_mut.result.now in
     let after : Side = record { manager = c.serve-reply.new.manager; own = c.serve-reply.new.self } in
     let reply = c.serve-reply.result in
-    let split : done ++ asked ∷ rest ≡ calls = ap (λ (xs : List ClientCall). done ++ xs) (sym c.in-Some.ensures.steps.0) ∙ c.loop-asked.invariant.split in
+    let split : done ++ asked ∷ rest ≡ calls =
+    ap (λ (xs : List ClientCall). done ++ xs) (sym c.in-Some.ensures.steps.0) ∙ c.loop-asked.invariant.split in
     let bound = client_bound calls done rest clients asked c.into_parts-names.ensures.lawful.numbered split in
     let client : asked.client < length callers = omega (arith, bound, c.loop-asked.invariant.ready.many) in
     let found : mine ≡ get_or callers asked.client mine = c.index_mut.ensures.value in
-    let own : IfSome mine (IsOwn m) = subst (λ (o : Option Transaction). IfSome o (IsOwn m)) (sym found) (c.loop-asked.invariant.ready.own asked.client mine client) in
-    let looked_up : joined (slice_get callers asked.client) ≡ mine = ap joined (slice_get-get_or callers asked.client mine client) ∙ sym found in
+    let own : IfSome mine (IsOwn m) =
+    subst (λ (o : Option Transaction). IfSome o (IsOwn m)) (sym found)
+    (c.loop-asked.invariant.ready.own asked.client mine client) in
+    let looked_up : joined (slice_get callers asked.client) ≡ mine =
+    ap joined (slice_get-get_or callers asked.client mine client) ∙ sym found in
     let served = c.serve-reply.ensures.step in
     let rows : List Row = served.0 in
     let step : SideStep asked.client asked.call (record { manager = m; own = mine }) rows reply after = served.1 in
     let these : List ReplyLine = lines_of asked rows reply in
-    let taken_of = taken_by (λ b. (goal.ColumnDevice-dyn g (b.vtable, b.value)).contents b.value) (λ b. (goal.ColumnDevice-dyn g (b.vtable, b.value)).failures b.value) in
+    let taken_of =
+    taken_by (λ b. (goal.ColumnDevice-dyn g (b.vtable, b.value)).contents b.value)
+    (λ b. (goal.ColumnDevice-dyn g (b.vtable, b.value)).failures b.value) in
     let before_it : Taken = taken_of c.loop-asked.store.devices.items c.loop-asked.store.next in
     let after_it : Taken = taken_of c.serve-reply.new.store.devices.items c.serve-reply.new.store.next in
     let at_first : Taken = taken_of c.args.store.devices.items c.args.store.next in
-    let taken : Step (record { manager = m; transactions = callers; store = before_it }) asked these (record { manager = after.manager; transactions = set callers asked.client after.own; store = after_it }) = record {
+    let taken :
+    Step (record { manager = m; transactions = callers; store = before_it }) asked these
+    (record { manager = after.manager; transactions = set callers asked.client after.own; store = after_it }) =
+    record {
       rows = rows;
       reply = reply;
       side = after;
       store = after_it;
       writes = c.serve-reply.ensures.stored;
-      steps = subst (λ (o : Option Transaction). SideStep asked.client asked.call (record { manager = m; own = o }) rows reply after) (sym looked_up) step;
+      steps =
+          subst (λ (o : Option Transaction). SideStep asked.client asked.call (record { manager = m; own = o }) rows reply after)
+          (sym looked_up) step;
       told = refl;
       left = refl;
     } in
     let before : List ReplyLine = c.loop-asked.lines.items in
     let line : ReplyLine = record { client = asked.client; verb = c.verb_of_call-verb.result; reply = reply } in
-    let same : line ≡ line_of asked reply = ap (λ v. record { client = asked.client; verb = v; reply = reply }) c.verb_of_call-verb.ensures in
+    let same : line ≡ line_of asked reply =
+    ap (λ v. record { client = asked.client; verb = v; reply = reply }) c.verb_of_call-verb.ensures in
     let told : c.push_reserved.new.self.items ≡ before ++ these =
     c.push_reserved.ensures.items
     ∙ (λ j. served.2 j ++ same j ∷ [])
     ∙ append_assoc before (shown_lines asked rows) (line_of asked reply ∷ []) in
     let start : State = record { manager = c.args.manager; transactions = replicate clients None; store = at_first } in
     let next : State = record { manager = after.manager; transactions = set callers asked.client after.own; store = after_it } in
-    let more = IsRun-more start (record { manager = m; transactions = callers; store = before_it }) next done before asked these c.loop-asked.invariant.run taken in
+    let more =
+    IsRun-more start (record { manager = m; transactions = callers; store = before_it }) next done before asked these
+    c.loop-asked.invariant.run taken in
     let left = ap (λ (xs : List ClientCall). length xs) c.in-Some.ensures.steps.0 in
     record {
       split = append_assoc done (asked ∷ []) rest ∙ split;
       run = subst (λ (ls : List ReplyLine). IsRun start (done ++ asked ∷ []) ls next) (sym told) more;
       schema = c.serve-reply.ensures.schema ∙ c.loop-asked.invariant.schema;
-      ready = ready_again c.args.manager.schema clients m callers c.loop-asked.invariant.ready asked.client asked.call mine after rows reply own step;
+      ready =
+          ready_again c.args.manager.schema clients m callers c.loop-asked.invariant.ready asked.client asked.call mine after rows
+          reply own step;
       left = omega (arith, c.loop-asked.invariant.left, left);
-      room = omega (arith, c.push_reserved.ensures.len, c.push_reserved.ensures.capacity, c.serve-reply.ensures.room, c.loop-asked.invariant.left, left);
+      room =
+          omega (
+            arith,
+            c.push_reserved.ensures.len,
+            c.push_reserved.ensures.capacity,
+            c.serve-reply.ensures.room,
+            c.loop-asked.invariant.left,
+            left,
+          );
       made = made_again c.args.manager m asked.client asked.call mine after rows reply own c.loop-asked.invariant.made step;
       counts = c.count_reply.ensures
           ∙ ap (counts_after asked.client reply) c.loop-asked.invariant.counts

@@ -9,10 +9,16 @@ use Rattle.pdtcli.proofs.serial.run_serial.Given as goal
 -- the lines so far are a run of the calls so far and counted, each client is ready for the next, and there is room for the rest
 abbrev pub invariant-loop-asked : goal.invariant-loop-asked
 invariant-loop-asked g l =
-    let taken = taken_by (λ b. (goal.ColumnDevice-dyn g (b.vtable, b.value)).contents b.value) (λ b. (goal.ColumnDevice-dyn g (b.vtable, b.value)).failures b.value) in record {
+    let taken =
+    taken_by (λ b. (goal.ColumnDevice-dyn g (b.vtable, b.value)).contents b.value)
+    (λ b. (goal.ColumnDevice-dyn g (b.vtable, b.value)).failures b.value) in record {
       split : l.yielded ++ l.asked-iterator.rest.items ≡ l.fn.script.calls;
       run : IsRun
-          (record { manager = l.fn.manager; transactions = replicate (length l.fn.script.clients) None; store = taken l.fn.store.devices.items l.fn.store.next })
+          (record {
+            manager = l.fn.manager;
+            transactions = replicate (length l.fn.script.clients) None;
+            store = taken l.fn.store.devices.items l.fn.store.next;
+          })
           l.yielded l.lines.items
           (record { manager = l.manager; transactions = l.callers.items; store = taken l.store.devices.items l.store.next });
       schema : l.store.schema ≡ l.fn.manager.schema;

@@ -1,8 +1,7 @@
 use Rattle.std.proofs.Common.{◌≡◌, ℕ, refl, sym, ◌∙◌}
 use Rattle.values.specs.declared.fault.ShapeFault.{ShapeFault}
 use Rattle.values.specs.declared.fault.ShapeFault.TheVariants.{WrongCount, WrongType, TextTooLong, NoSuchColumn, KeyColumn}
-use Rattle.pdtcli.specs.Told.{IsToldShape}
-use Rattle.pdtcli.proofs.ToldLemmas.{told_of}
+use Rattle.pdtcli.proofs.ToldLemmas.{IsToldShape, told_of}
 use Rattle.pdtcli.proofs.shape.refused_shape.Goals as goal
 
 -- no other fault is told

@@ -8,7 +8,8 @@ use Rattle.publishing.proofs.reading.newest_seen.Goals as goal
 pub returns-in-Err-clause-reader : goal.returns-in-Err-clause-reader
 returns-in-Err-clause-reader c =
     let opening = c.args.list.now.opening in
-    c.look-reader.ensures.kept opening (subst (λ o. IfSome o (λ r. IsOf opening (view r.place))) (sym c.take.ensures.value ∙ c.in-Some.is) c.requires.reader)
+    c.look-reader.ensures.kept opening
+    (subst (λ o. IfSome o (λ r. IsOf opening (view r.place))) (sym c.take.ensures.value ∙ c.in-Some.is) c.requires.reader)
 
 pub returns-clause-seen : goal.returns-clause-seen
 returns-clause-seen c =

@@ -12,7 +12,8 @@ publish_as-requires g c next is =
     let list = ap (λ k. k.list) op in
     let old = drop c.args.writer.behind c.args.writer.log.items in
     sees w.desk.place.id w.desk.place.me.0.client w.desk.shown.value next
-    (grows c.args.list.now w.desk.shown.value next c.new-operation.result c.args.item old (drop w.behind w.log.items) shown c.in-Ok.ensures.pending opening list is).1
+    (grows c.args.list.now w.desk.shown.value next c.new-operation.result c.args.item old (drop w.behind w.log.items) shown
+    c.in-Ok.ensures.pending opening list is).1
 
 pub new-operation-requires-clause-shown : goal.new-operation-requires-clause-shown
 new-operation-requires-clause-shown g c =

@@ -11,7 +11,10 @@ new-requires-clause-version c =
     let m = c.args.manager.now in
     let same : c.again.result.opening.manager ≡ m = ap (λ (k : Known). k.opening.manager) c.again.ensures ∙ c.requires.0 in
     let none : c.again.result.list ≡ [] = ap (λ (k : Known). k.list) c.again.ensures ∙ c.requires.1 in
-    ap table_version c.in_ok-copy.ensures ∙ c.version.ensures.table ∙ version_is m [] m (listed_at_opening m) ∙ sym (λ i. version_in (same i) (none i))
+    ap table_version c.in_ok-copy.ensures
+    ∙ c.version.ensures.table
+    ∙ version_is m [] m (listed_at_opening m)
+    ∙ sym (λ i. version_in (same i) (none i))
 
 pub new-requires-clause-within : goal.new-requires-clause-within
 new-requires-clause-within c =

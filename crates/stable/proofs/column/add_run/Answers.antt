@@ -12,11 +12,19 @@ index_mut-requires c =
 
 pub push_run-requires-clause-few : goal.push_run-requires-clause-few
 push_run-requires-clause-few c =
-    omega (arith, c.requires.fits, last_filled c.args.ty c.args.count c.args.blocks.now.items c.requires.kept [] c.if-count-eq0.false c.index_mut.result.now c.index_mut.ensures.value)
+    omega (
+      arith,
+      c.requires.fits,
+      last_filled c.args.ty c.args.count c.args.blocks.now.items c.requires.kept [] c.if-count-eq0.false c.index_mut.result.now
+          c.index_mut.ensures.value,
+    )
 
 pub push_run-requires-clause-typed : goal.push_run-requires-clause-typed
 push_run-requires-clause-typed c =
-    c.requires.typed ∙ sym (ap (λ (b : Column). b.ty) (last_is c.args.ty c.args.count c.args.blocks.now.items c.requires.kept [] c.if-count-eq0.false c.index_mut.result.now c.index_mut.ensures.value))
+    c.requires.typed
+    ∙ sym (ap (λ (b : Column). b.ty)
+    (last_is c.args.ty c.args.count c.args.blocks.now.items c.requires.kept [] c.if-count-eq0.false
+    c.index_mut.result.now c.index_mut.ensures.value))
 
 pub returns-in_ok-push-clause-ok : goal.returns-in_ok-push-clause-ok
 returns-in_ok-push-clause-ok c =
@@ -24,7 +32,8 @@ returns-in_ok-push-clause-ok c =
     let long : length run ≡ c.args.run = length-run c.args.block.now.values c.args.start c.args.run c.requires.within in
     c.in_ok-push.ensures.items
     ∙ ap (λ (b : Column). c.args.blocks.now.items ++ b ∷ []) c.in_ok-run_of.ensures
-    ∙ in_new c.args.ty c.args.count c.args.blocks.now.items c.requires.kept run c.if-count-eq0.true (omega (arith, long, c.requires.fits)) (omega (arith, long, c.requires.some))
+    ∙ in_new c.args.ty c.args.count c.args.blocks.now.items c.requires.kept run c.if-count-eq0.true
+    (omega (arith, long, c.requires.fits)) (omega (arith, long, c.requires.some))
 
 pub returns-else-count-eq0-clause-ok : goal.returns-else-count-eq0-clause-ok
 returns-else-count-eq0-clause-ok c =

@@ -9,16 +9,24 @@ use Rattle.stable.proofs.column.add_value.Goals as goal
 
 pub index_mut-requires : goal.index_mut-requires
 index_mut-requires c =
-    let there = last_there c.args.ty c.args.count c.args.blocks.now.items c.requires.kept (value_of c.args.value ∷ []) c.if-count-eq0.false in
+    let there =
+    last_there c.args.ty c.args.count c.args.blocks.now.items c.requires.kept (value_of c.args.value ∷ [])
+    c.if-count-eq0.false in
     omega (arith, there, c.args.blocks.now.ok)
 
 pub push-requires-else-count-eq0-clause-few : goal.push-requires-else-count-eq0-clause-few
 push-requires-else-count-eq0-clause-few c =
-    omega (arith, last_filled c.args.ty c.args.count c.args.blocks.now.items c.requires.kept (value_of c.args.value ∷ []) c.if-count-eq0.false c.index_mut.result.now c.index_mut.ensures.value)
+    omega (
+      arith,
+      last_filled c.args.ty c.args.count c.args.blocks.now.items c.requires.kept (value_of c.args.value ∷ [])
+          c.if-count-eq0.false c.index_mut.result.now c.index_mut.ensures.value,
+    )
 
 pub push-requires-else-count-eq0-clause-typed : goal.push-requires-else-count-eq0-clause-typed
 push-requires-else-count-eq0-clause-typed c =
-    let is = last_is c.args.ty c.args.count c.args.blocks.now.items c.requires.kept (value_of c.args.value ∷ []) c.if-count-eq0.false c.index_mut.result.now c.index_mut.ensures.value in
+    let is =
+    last_is c.args.ty c.args.count c.args.blocks.now.items c.requires.kept (value_of c.args.value ∷ []) c.if-count-eq0.false
+    c.index_mut.result.now c.index_mut.ensures.value in
     subst (λ (ty : ColumnType). IsTrue (has_type ty (value_of c.args.value))) (sym (ap (λ (b : Column). b.ty) is)) c.requires.typed
 
 pub returns-in_ok-push-clause-ok : goal.returns-in_ok-push-clause-ok

@@ -14,12 +14,15 @@ returns-in_default c =
     let j = c.args.j in
     let columns : List Column = take c.args.key_cols c.args.columns.now in
     let n = c.loop-column.column-index in
-    let here = compared_at i j columns n c.column-item.result (value_of c.get.result) (value_of c.get-in-loop-column.result) c.cmp.result c.loop-column-test.true c.column-item.is c.get.ensures c.get-in-loop-column.ensures (sym c.cmp.ensures) in
+    let here =
+    compared_at i j columns n c.column-item.result (value_of c.get.result) (value_of c.get-in-loop-column.result) c.cmp.result
+    c.loop-column-test.true c.column-item.is c.get.ensures c.get-in-loop-column.ensures (sym c.cmp.ensures) in
     sym
     (keys_of c.args.key_cols i j c.args.columns.now
     ∙ c.loop-column.invariant
     ∙ here
-    ∙ decided c.cmp.result (key_cmp (map (cell_at i) (drop (n + 1) columns)) (map (cell_at j) (drop (n + 1) columns))) c.in_default.not-Equal)
+    ∙ decided c.cmp.result (key_cmp (map (cell_at i) (drop (n + 1) columns)) (map (cell_at j) (drop (n + 1) columns)))
+    c.in_default.not-Equal)
 
 pub loop-column-preserved : goal.loop-column-preserved
 loop-column-preserved c =
@@ -28,7 +31,8 @@ loop-column-preserved c =
     let columns : List Column = take c.args.key_cols c.args.columns.now in
     let n = c.loop-column.column-index in
     c.loop-column.invariant
-    ∙ compared_at i j columns n c.column-item.result (value_of c.get.result) (value_of c.get-in-loop-column.result) Equal c.loop-column-test.true c.column-item.is c.get.ensures c.get-in-loop-column.ensures (sym c.cmp.ensures ∙ c.in-Equal.is)
+    ∙ compared_at i j columns n c.column-item.result (value_of c.get.result) (value_of c.get-in-loop-column.result) Equal
+    c.loop-column-test.true c.column-item.is c.get.ensures c.get-in-loop-column.ensures (sym c.cmp.ensures ∙ c.in-Equal.is)
 
 pub returns : goal.returns
 returns c =
@@ -36,4 +40,6 @@ returns c =
     let j = c.args.j in
     let columns : List Column = take c.args.key_cols c.args.columns.now in
     let none = drop_all c.loop-column.column-index columns c.loop-column-test.false in
-    sym (keys_of c.args.key_cols i j c.args.columns.now ∙ c.loop-column.invariant ∙ ap (λ (cs : List Column). key_cmp (map (cell_at i) cs) (map (cell_at j) cs)) none)
+    sym (keys_of c.args.key_cols i j c.args.columns.now
+    ∙ c.loop-column.invariant
+    ∙ ap (λ (cs : List Column). key_cmp (map (cell_at i) cs) (map (cell_at j) cs)) none)

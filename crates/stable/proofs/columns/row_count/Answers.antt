@@ -15,12 +15,18 @@ loop-column-preserved c =
     let column = c.column-item.result in
     record {
       counted = c.len-count.ensures.count ∙ count_more columns n column c.requires.even c.loop-column-test.true c.column-item.is;
-      fit = All-more (λ (x : Column). all_may_stand x.ty x.values) columns n column c.loop-column-test.true c.loop-column.invariant.fit (subst (λ (x : Column). all_may_stand x.ty x.values) c.column-item.is c.len-count.ensures.fit);
+      fit =
+          All-more (λ (x : Column). all_may_stand x.ty x.values) columns n column c.loop-column-test.true
+          c.loop-column.invariant.fit
+          (subst (λ (x : Column). all_may_stand x.ty x.values) c.column-item.is c.len-count.ensures.fit);
     }
 
 pub returns-clause-count : goal.returns-clause-count
-returns-clause-count c = c.loop-column.invariant.counted ∙ ap row_count (take_all c.loop-column.column-index c.args.columns.now c.loop-column-test.false)
+returns-clause-count c =
+    c.loop-column.invariant.counted
+    ∙ ap row_count (take_all c.loop-column.column-index c.args.columns.now c.loop-column-test.false)
 
 pub returns-clause-fit : goal.returns-clause-fit
 returns-clause-fit c =
-    subst (All (λ (x : Column). all_may_stand x.ty x.values)) (take_all c.loop-column.column-index c.args.columns.now c.loop-column-test.false) c.loop-column.invariant.fit
+    subst (All (λ (x : Column). all_may_stand x.ty x.values))
+    (take_all c.loop-column.column-index c.args.columns.now c.loop-column-test.false) c.loop-column.invariant.fit

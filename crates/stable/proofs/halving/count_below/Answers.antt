@@ -14,21 +14,29 @@ returns-then-after-eq0-clause-point c =
     let blocks = c.args.blocks.now in
     let after = c.partition_point-after.result in
     let cut : IsPartitionPoint (λ b. begins n b ≡ true) (λ b. begins n b ≡ false) blocks after =
-    IsPartitionPoint-from_clause (begins n) blocks after c.partition_point-after.ensures.partitioned (blocks_parted n blocks c.requires.blocked c.requires.parted) (λ a r f k.
+    IsPartitionPoint-from_clause (begins n) blocks after c.partition_point-after.ensures.partitioned
+    (blocks_parted n blocks c.requires.blocked c.requires.parted) (λ a r f k.
     search rules) in
     none_below n blocks c.requires.blocked c.requires.parted after cut c.if-after-eq0.true
 
 pub overflow_mul-result : goal.overflow_mul-result
 overflow_mul-result c =
     let blocks = c.args.blocks.now in
-    omega (arith, c.if-after-eq0.false, c.partition_point-after.ensures.bound, c.requires.room, length_blocks column.Int (length (joined blocks)) blocks c.requires.blocked)
+    omega (
+      arith,
+      c.if-after-eq0.false,
+      c.partition_point-after.ensures.bound,
+      c.requires.room,
+      length_blocks column.Int (length (joined blocks)) blocks c.requires.blocked,
+    )
 
 pub count_in-requires-clause-typed : goal.count_in-requires-clause-typed
 count_in-requires-clause-typed c =
     let n = c.args.number in
     let blocks = c.args.blocks.now in
     let some : 0 < c.partition_point-after.result = omega (arith, c.if-after-eq0.false) in
-    typed n blocks c.requires.blocked c.requires.parted (c.partition_point-after.result - 1) c.index-blocks-before.result c.index-blocks-before.is (omega (arith, some, c.partition_point-after.ensures.bound))
+    typed n blocks c.requires.blocked c.requires.parted (c.partition_point-after.result - 1) c.index-blocks-before.result
+    c.index-blocks-before.is (omega (arith, some, c.partition_point-after.ensures.bound))
 
 pub count_in-requires-clause-parted : goal.count_in-requires-clause-parted
 count_in-requires-clause-parted c =
@@ -37,14 +45,17 @@ count_in-requires-clause-parted c =
     let some : 0 < c.partition_point-after.result = omega (arith, c.if-after-eq0.false) in
     let same : to_z w64 (of_z w64 n) ≡ n = to_z-of_z w64 n c.ranges.number in
     subst (λ m. IsPartitionedBy (is_below m) c.index-blocks-before.result.values) (sym same)
-    (block_parted n blocks c.requires.blocked c.requires.parted (c.partition_point-after.result - 1) c.index-blocks-before.result c.index-blocks-before.is (omega (arith, some, c.partition_point-after.ensures.bound)))
+    (block_parted n blocks c.requires.blocked c.requires.parted (c.partition_point-after.result - 1) c.index-blocks-before.result
+    c.index-blocks-before.is (omega (arith, some, c.partition_point-after.ensures.bound)))
 
 pub overflow_add-result : goal.overflow_add-result
 overflow_add-result c =
     let n = c.args.number in
     let blocks = c.args.blocks.now in
     let some : 0 < c.partition_point-after.result = omega (arith, c.if-after-eq0.false) in
-    let within = long n blocks c.requires.blocked c.requires.parted (c.partition_point-after.result - 1) c.index-blocks-before.result c.index-blocks-before.is (omega (arith, some, c.partition_point-after.ensures.bound)) in
+    let within =
+    long n blocks c.requires.blocked c.requires.parted (c.partition_point-after.result - 1) c.index-blocks-before.result
+    c.index-blocks-before.is (omega (arith, some, c.partition_point-after.ensures.bound)) in
     omega (arith, within, c.count_in.ensures.few, c.requires.room)
 
 pub returns-clause-few : goal.returns-clause-few
@@ -52,7 +63,9 @@ returns-clause-few c =
     let n = c.args.number in
     let blocks = c.args.blocks.now in
     let some : 0 < c.partition_point-after.result = omega (arith, c.if-after-eq0.false) in
-    let within = long n blocks c.requires.blocked c.requires.parted (c.partition_point-after.result - 1) c.index-blocks-before.result c.index-blocks-before.is (omega (arith, some, c.partition_point-after.ensures.bound)) in
+    let within =
+    long n blocks c.requires.blocked c.requires.parted (c.partition_point-after.result - 1) c.index-blocks-before.result
+    c.index-blocks-before.is (omega (arith, some, c.partition_point-after.ensures.bound)) in
     omega (arith, within, c.count_in.ensures.few)
 
 pub returns-clause-point : goal.returns-clause-point
@@ -62,9 +75,13 @@ returns-clause-point c =
     let after = c.partition_point-after.result in
     let some : 0 < after = omega (arith, c.if-after-eq0.false) in
     let cut : IsPartitionPoint (λ b. begins n b ≡ true) (λ b. begins n b ≡ false) blocks after =
-    IsPartitionPoint-from_clause (begins n) blocks after c.partition_point-after.ensures.partitioned (blocks_parted n blocks c.requires.blocked c.requires.parted) (λ a r f k.
+    IsPartitionPoint-from_clause (begins n) blocks after c.partition_point-after.ensures.partitioned
+    (blocks_parted n blocks c.requires.blocked c.requires.parted) (λ a r f k.
     search rules) in
     let same : to_z w64 (of_z w64 n) ≡ n = to_z-of_z w64 n c.ranges.number in
     let b = c.index-blocks-before.result in
-    let inside = subst (λ m. IsPartitionPoint (λ v. is_below m v ≡ true) (λ v. is_below m v ≡ false) b.values c.count_in.result) same c.count_in.ensures.point in
-    halved n blocks c.requires.blocked c.requires.parted after cut (after - 1) (omega (arith, some)) c.partition_point-after.ensures.bound b c.index-blocks-before.is c.count_in.result inside c.count_in.ensures.few
+    let inside =
+    subst (λ m. IsPartitionPoint (λ v. is_below m v ≡ true) (λ v. is_below m v ≡ false) b.values c.count_in.result) same
+    c.count_in.ensures.point in
+    halved n blocks c.requires.blocked c.requires.parted after cut (after - 1) (omega (arith, some))
+    c.partition_point-after.ensures.bound b c.index-blocks-before.is c.count_in.result inside c.count_in.ensures.few

@@ -12,6 +12,7 @@ returns-clause-point c =
     let lent = c.in-Ints.ensures in
     let m = c.partition_point.result in
     let cut : IsPartitionPoint (λ x. int_lt x n ≡ true) (λ x. int_lt x n ≡ false) xs m =
-    IsPartitionPoint-from_clause (λ x. int_lt x n) xs m c.partition_point.ensures.partitioned (numbers_parted n xs b lent c.requires.parted) (λ a r f k.
+    IsPartitionPoint-from_clause (λ x. int_lt x n) xs m c.partition_point.ensures.partitioned
+    (numbers_parted n xs b lent c.requires.parted) (λ a r f k.
     search rules) in
     values_parted n xs b lent m c.partition_point.ensures.bound cut

@@ -12,7 +12,9 @@ propagate-requires c =
     let lower = c.args.lower.now in
     let upper = c.in_ok-upper.upper.tree in
     let l : Lower = record { stable = s; read = lower; write = empty_tree s.schema.key_cols } in
-    let above = layer_of_version (table_version c.in_ok-image.image) (version_of l 1) upper upper (ap table_version c.in_ok-image.ensures) refl c.in_ok-upper.ensures in
+    let above =
+    layer_of_version (table_version c.in_ok-image.image) (version_of l 1) upper upper (ap table_version c.in_ok-image.ensures)
+    refl c.in_ok-upper.ensures in
     let few = c.if-not-are_few.false in
     let rows = c.are_few.ensures.rows few in
     let lawful = subst (λ (t : Stable). IsSchema t.schema) c.deref.ensures c.are_few.ensures.lawful in

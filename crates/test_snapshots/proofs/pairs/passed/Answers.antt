@@ -10,4 +10,5 @@ serialize-requires c =
     let few = c.if-not-are_few.false in
     let lawful = subst (λ (t : Stable). IsSchema t.schema) c.deref.ensures c.are_few.ensures.lawful in
     let rows = subst (λ (t : Stable). length t.rows < 1000000) c.deref.ensures (c.are_few.ensures.rows few) in
-    aligned_layers s lawful rows c.args.x.now c.args.y.now c.requires.first c.requires.second (c.are_few.ensures.one few) (c.are_few.ensures.other few)
+    aligned_layers s lawful rows c.args.x.now c.args.y.now c.requires.first c.requires.second (c.are_few.ensures.one few)
+    (c.are_few.ensures.other few)

@@ -9,7 +9,8 @@ all_push : (p : Value → Bool) (xs : List Value) (x : Value) → list_all p xs 
 all_push p [] x h px = rw px refl
 all_push p (y ∷ xs) x h px = by (p y) h (λ e. all_push p xs x e px)
   where
-    by : (b : Bool) → (b && list_all p xs) ≡ true → (list_all p xs ≡ true → list_all p (xs ++ x ∷ []) ≡ true) → (b && list_all p (xs ++ x ∷ [])) ≡ true
+    by : (b : Bool) → (b && list_all p xs) ≡ true → (list_all p xs ≡ true → list_all p (xs ++ x ∷ []) ≡ true)
+        → (b && list_all p (xs ++ x ∷ [])) ≡ true
     by true h push = push h
     by false h push = absurd cc
 
@@ -17,7 +18,8 @@ any_push : (p : Value → Bool) (xs : List Value) (x : Value) → list_any p xs 
 any_push p [] x h px = rw px refl
 any_push p (y ∷ xs) x h px = by (p y) h (λ e. any_push p xs x e px)
   where
-    by : (b : Bool) → (b || list_any p xs) ≡ false → (list_any p xs ≡ false → list_any p (xs ++ x ∷ []) ≡ false) → (b || list_any p (xs ++ x ∷ [])) ≡ false
+    by : (b : Bool) → (b || list_any p xs) ≡ false → (list_any p xs ≡ false → list_any p (xs ++ x ∷ []) ≡ false)
+        → (b || list_any p (xs ++ x ∷ [])) ≡ false
     by false h push = push h
     by true h push = absurd cc
 

@@ -12,7 +12,8 @@ has_delete-filter sid [] = refl
 has_delete-filter sid (e ∷ es) =
     let rest = has_delete-filter sid es in
     let others = filter (λ x. x.sid == sid) es in
-    elim (e.sid == sid) as (λ b. ((b && is_delete e.change) || has_delete sid es) ≡ list_any (λ x. is_delete x.change) (cond b (e ∷ others) others)) [
+    elim (e.sid == sid) as
+    (λ b. ((b && is_delete e.change) || has_delete sid es) ≡ list_any (λ x. is_delete x.change) (cond b (e ∷ others) others)) [
       | true ↦ ap (λ r. is_delete e.change || r) rest
       | false ↦ rest
     ]
@@ -20,4 +21,5 @@ has_delete-filter sid (e ∷ es) =
 pub loop-entry-init : goal.loop-entry-init
 loop-entry-init c =
     has_delete-filter c.args.sid c.args.tree.now.entries
-    ∙ ap (list_any (λ (e : Entry). is_delete e.change)) (sym (c.into_iter-entry-iterator.ensures.into_iter_gives ∙ c.entries_at-entry-items.ensures))
+    ∙ ap (list_any (λ (e : Entry). is_delete e.change))
+    (sym (c.into_iter-entry-iterator.ensures.into_iter_gives ∙ c.entries_at-entry-items.ensures))

@@ -11,7 +11,8 @@ returns-in-Some-clause-said c =
     let words = map (λ word. word.now) c.args.words.now in
     let read = (c.in_ok-matches.ensures.ok.2 (ap is_simple is ∙ usage-simple)).1 ∙ ap (λ (a : App). subcommand_of a words) is in
     let said = rw c.in-Some.is at c.command_settings.ensures.said in
-    AreOf-same _ _ _ _ (ap (λ o. option_map (λ p. p.0) o) read) (λ id. ap (λ o. word_in (option_map (λ p. p.1) o) id) read) c.in-Some.settings said
+    AreOf-same _ _ _ _ (ap (λ o. option_map (λ p. p.0) o) read) (λ id. ap (λ o. word_in (option_map (λ p. p.1) o) id) read)
+    c.in-Some.settings said
 
 pub returns-in_err-matches-clause-taken : goal.returns-in_err-matches-clause-taken
 returns-in_err-matches-clause-taken c =
@@ -23,7 +24,8 @@ returns-in_err-matches-clause-taken c =
 
 pub returns-in_err-error-in-None-clause-taken : goal.returns-in_err-error-in-None-clause-taken
 returns-in_err-error-in-None-clause-taken c =
-    if-told c.from_residual-in_err-error-in-None.result _ _ (λ error kind settings asked. kind) c.from_residual-in_err-error-in-None.ensures.1
+    if-told c.from_residual-in_err-error-in-None.result _ _ (λ error kind settings asked. kind)
+    c.from_residual-in_err-error-in-None.ensures.1
 
 pub returns-in-Some-clause-faultless : goal.returns-in-Some-clause-faultless
 returns-in-Some-clause-faultless c =

@@ -5,7 +5,8 @@ use Rattle.words.proofs.usage.flag.Goals as goal
 
 pub returns-clause-rule : goal.returns-clause-rule
 returns-clause-rule c =
-    rw (c.action.ensures, c.long.ensures, c.help.ensures) (ap (λ (r : Rule). record r { long = Some c.args.id.now; action = Some SetTrue }) c.new.ensures.rule)
+    rw (c.action.ensures, c.long.ensures, c.help.ensures)
+    (ap (λ (r : Rule). record r { long = Some c.args.id.now; action = Some SetTrue }) c.new.ensures.rule)
 
 pub returns-clause-local : goal.returns-clause-local
 returns-clause-local c = rw (c.action.ensures, c.long.ensures, c.help.ensures) c.new.ensures.optional.1

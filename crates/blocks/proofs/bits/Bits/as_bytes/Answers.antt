@@ -8,4 +8,7 @@ returns c =
     let kept = c.self.invariant in
     let spelt = packed-truths c.self.inside.count c.self.inside.bytes.items kept.small kept.whole kept.unused in
     let counted = sym (length-truths c.self.inside.count c.self.inside.bytes.items kept.whole) ∙ ap length c.self.view_is in
-    c.as_slice.ensures.value ∙ sym spelt ∙ ap (packed (byte_count c.self.inside.count)) c.self.view_is ∙ ap (λ n. packed (byte_count n) c.args.self.now) counted
+    c.as_slice.ensures.value
+    ∙ sym spelt
+    ∙ ap (packed (byte_count c.self.inside.count)) c.self.view_is
+    ∙ ap (λ n. packed (byte_count n) c.args.self.now) counted

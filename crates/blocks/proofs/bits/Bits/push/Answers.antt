@@ -14,13 +14,21 @@ add_bit-requires c =
 pub invariant_of-self-2 : goal.invariant_of-self-2
 invariant_of-self-2 c =
     let inside = c.self.inside in
-    let is = c.in_ok-add_bit.ensures.ok _ (length-truths inside.count inside.bytes.items c.self.invariant.whole) (sym (packed-truths inside.count inside.bytes.items c.self.invariant.small c.self.invariant.whole c.self.invariant.unused)) in
+    let is =
+    c.in_ok-add_bit.ensures.ok _ (length-truths inside.count inside.bytes.items c.self.invariant.whole)
+    (sym
+    (packed-truths inside.count inside.bytes.items c.self.invariant.small c.self.invariant.whole c.self.invariant.unused))
+    in
     longer_IsPacked inside.count inside.bytes.items c.self.invariant (c.args.truth ∷ []) c.add_bit.new.bytes.items is
     (omega (arith, c.requires.few, ap length c.self.view_is, length-truths inside.count inside.bytes.items c.self.invariant.whole))
 
 pub returns-clause-ok : goal.returns-clause-ok
 returns-clause-ok c =
     let inside = c.self.inside in
-    let is = c.in_ok-add_bit.ensures.ok _ (length-truths inside.count inside.bytes.items c.self.invariant.whole) (sym (packed-truths inside.count inside.bytes.items c.self.invariant.small c.self.invariant.whole c.self.invariant.unused)) in
+    let is =
+    c.in_ok-add_bit.ensures.ok _ (length-truths inside.count inside.bytes.items c.self.invariant.whole)
+    (sym
+    (packed-truths inside.count inside.bytes.items c.self.invariant.small c.self.invariant.whole c.self.invariant.unused))
+    in
     longer_truths inside.count inside.bytes.items c.self.invariant (c.args.truth ∷ []) c.add_bit.new.bytes.items is
     ∙ ap (λ (bs : List Bool). bs ++ c.args.truth ∷ []) c.self.view_is

@@ -20,18 +20,41 @@ invariant_of-self-2 c =
     let inside = c.self.inside in
     let run = take c.args.count (drop c.args.start c.args.others.now) in
     let long : length run ≡ c.args.count = length-run c.args.others.now c.args.start c.args.count c.requires.within in
-    let is = c.in_ok-add_run.ensures.ok _ (length-truths inside.count inside.bytes.items c.self.invariant.whole) (sym (packed-truths inside.count inside.bytes.items c.self.invariant.small c.self.invariant.whole c.self.invariant.unused)) in
-    let fits : inside.count + length run ≤ MAX_BLOCK_VALUES = omega (arith, c.requires.few, long, ap length c.self.view_is, length-truths inside.count inside.bytes.items c.self.invariant.whole) in
+    let is =
+    c.in_ok-add_run.ensures.ok _ (length-truths inside.count inside.bytes.items c.self.invariant.whole)
+    (sym
+    (packed-truths inside.count inside.bytes.items c.self.invariant.small c.self.invariant.whole c.self.invariant.unused))
+    in
+    let fits : inside.count + length run ≤ MAX_BLOCK_VALUES =
+    omega (
+      arith,
+      c.requires.few,
+      long,
+      ap length c.self.view_is,
+      length-truths inside.count inside.bytes.items c.self.invariant.whole,
+    ) in
     subst (λ n. IsPacked (inside.count + n) c.add_run.new.bytes.items) long
     (longer_IsPacked inside.count inside.bytes.items c.self.invariant run c.add_run.new.bytes.items
-    (subst (λ n. c.add_run.new.bytes.items ≡ packed (byte_count (inside.count + n)) (take inside.count (all_bits inside.bytes.items) ++ run)) (sym long) is) fits)
+    (subst (λ n. c.add_run.new.bytes.items
+    ≡ packed (byte_count (inside.count + n)) (take inside.count (all_bits inside.bytes.items) ++ run)) (sym long) is)
+    fits)
 
 pub returns-clause-ok : goal.returns-clause-ok
 returns-clause-ok c =
     let inside = c.self.inside in
     let run = take c.args.count (drop c.args.start c.args.others.now) in
     let long : length run ≡ c.args.count = length-run c.args.others.now c.args.start c.args.count c.requires.within in
-    let is = c.in_ok-add_run.ensures.ok _ (length-truths inside.count inside.bytes.items c.self.invariant.whole) (sym (packed-truths inside.count inside.bytes.items c.self.invariant.small c.self.invariant.whole c.self.invariant.unused)) in
-    let shows = longer_truths inside.count inside.bytes.items c.self.invariant run c.add_run.new.bytes.items (subst (λ n. c.add_run.new.bytes.items ≡ packed (byte_count (inside.count + n)) (take inside.count (all_bits inside.bytes.items) ++ run)) (sym long) is) in
-    subst (λ n. take (inside.count + n) (all_bits c.add_run.new.bytes.items) ≡ take inside.count (all_bits inside.bytes.items) ++ run) long shows
+    let is =
+    c.in_ok-add_run.ensures.ok _ (length-truths inside.count inside.bytes.items c.self.invariant.whole)
+    (sym
+    (packed-truths inside.count inside.bytes.items c.self.invariant.small c.self.invariant.whole c.self.invariant.unused))
+    in
+    let shows =
+    longer_truths inside.count inside.bytes.items c.self.invariant run c.add_run.new.bytes.items
+    (subst (λ n. c.add_run.new.bytes.items
+    ≡ packed (byte_count (inside.count + n)) (take inside.count (all_bits inside.bytes.items) ++ run)) (sym long) is)
+    in
+    subst
+    (λ n. take (inside.count + n) (all_bits c.add_run.new.bytes.items) ≡ take inside.count (all_bits inside.bytes.items) ++ run)
+    long shows
     ∙ ap (λ (bs : List Bool). bs ++ run) c.self.view_is

@@ -21,8 +21,15 @@ invariant_of-self-2 c =
     let theirs : IsBlock c.args.other.now = subst IsBlock c.other.view_is c.other.invariant in
     let longer : Column = record { ty = c.args.self.now.ty; values = c.args.self.now.values ++ run } in
     let kept : IsBlock longer = record {
-      few = omega (arith, c.requires.few, length-with_run c.args.self.now.values c.args.other.now.values c.args.start c.args.count c.requires.within);
-      fit = all_with_run (Fits c.args.self.now.ty) c.args.self.now.values c.args.other.now.values c.args.start c.args.count mine.fit (subst (λ ty. AllFit ty c.args.other.now.values) typed theirs.fit);
+      few =
+          omega (
+            arith,
+            c.requires.few,
+            length-with_run c.args.self.now.values c.args.other.now.values c.args.start c.args.count c.requires.within,
+          );
+      fit =
+          all_with_run (Fits c.args.self.now.ty) c.args.self.now.values c.args.other.now.values c.args.start c.args.count mine.fit
+          (subst (λ ty. AllFit ty c.args.other.now.values) typed theirs.fit);
     } in
     let ok : OnOk c.match-self.result (column_of c.match-self.self-inside.cells ≡ longer) =
     elim c.match-self.branch [

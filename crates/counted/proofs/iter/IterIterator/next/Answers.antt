@@ -13,7 +13,8 @@ returns-clause-steps c =
       | then-is_empty+then-self-gt0 w ↦
           let none : length c.self.inside.leaf.now ≡ 0 = grind (arith, nat_tests, w.if-is_empty.ensures) in
           sym c.self.view_is
-          ∙ refilled c.self.inside.leaf.now w.next_leaf.result.0.now c.self.inside.tree.now.entries c.self.inside.next c.self.inside.left none w.next_leaf.ensures.within w.next_leaf.ensures.rest
+          ∙ refilled c.self.inside.leaf.now w.next_leaf.result.0.now c.self.inside.tree.now.entries c.self.inside.next
+          c.self.inside.left none w.next_leaf.ensures.within w.next_leaf.ensures.rest
           ∙ sym (ap (λ i. i.leaf.now ++ take i.left (drop i.next i.tree.now.entries)) w.self-inside-is) ∙ shown
       | else-is_empty w ↦ sym c.self.view_is
           ∙ sym (ap (λ i. i.leaf.now ++ take i.left (drop i.next i.tree.now.entries)) w.self-inside-is) ∙ shown

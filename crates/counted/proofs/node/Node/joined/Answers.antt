@@ -35,8 +35,16 @@ returns-in_ok-both_leaves-in-Leaf-body c =
     let same : new ≡ c.args.self.now.items ++ c.args.right.now.items = c.in_ok-both_leaves-in-Leaf-body.ensures
     ∙ ap (λ xs. xs ++ c.deref-in-Leaf-body.result.now) left ∙ ap (λ xs. c.args.self.now.items ++ xs) right in
     let long = ap length same in
-    let wide : 8 ≤ length new = omega
-    (arith, c.requires.enough, one.width, two.width, ap length one.items, ap length two.items, length-append c.args.self.now.items c.args.right.now.items) in
+    let wide : 8 ≤ length new = omega (
+      arith,
+      c.requires.enough,
+      one.width,
+      two.width,
+      ap length one.items,
+      ap length two.items,
+      length-append c.args.self.now.items c.args.right.now.items,
+    )
+    in
     grown_result_same _ _ _ _ _ _ _ (sym one.depth) wide same c.grown_leaf.ensures
 
 pub returns-in_ok-both_inner-in-Inner-body-2 : goal.returns-in_ok-both_inner-in-Inner-body-2

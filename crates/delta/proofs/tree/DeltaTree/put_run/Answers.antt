@@ -2,9 +2,10 @@ use Rattle.std.proofs.Common.{◌≡◌, ℕ, List, length, sym, ap, ◌∙◌, 
 use Rattle.model.specs.declared.entry.Entry.{Entry}
 use Rattle.model.specs.Entries.{IsLawful}
 use Rattle.delta.specs.Tree.{Tree}
-use Rattle.delta.specs.Changes.{with_run, entries_with}
+use Rattle.delta.specs.Changes.{entries_with}
 use Rattle.delta.proofs.PutLemmas.{entries_with-run, run_within, IsLawful-entries_with}
 use Rattle.delta.proofs.tree.DeltaTree.put_run.Goals as goal
+use Rattle.delta.proofs.Words.{with_run}
 
 pub replace_shared-requires-clause-start_le_end : goal.replace_shared-requires-clause-start_le_end
 replace_shared-requires-clause-start_le_end c =

@@ -53,6 +53,10 @@ invariant_of-self-2 c =
     let x = c.get.result.now in
     let width : k ≡ c.args.self.now.key_cols = ap (λ (w : Tree). w.key_cols) c.self.view_is in
     let short : n < length es = omega (arith, c.requires.within, ap (λ (w : Tree). length w.entries) c.self.view_is) in
-    let entry = c.in_ok-entry.ensures ∙ ap (λ (y : Entry). entry_at y.sid (change_with_cell c.args.col c.args.value y.change)) (some_get es n x nothing c.get.ensures) in
+    let entry =
+    c.in_ok-entry.ensures
+    ∙ ap (λ (y : Entry). entry_at y.sid (change_with_cell c.args.col c.args.value y.change))
+    (some_get es n x nothing c.get.ensures) in
     let run = c.in_ok-replace_run.ensures.ok ∙ run_is_set es n (n + 1) c.in_ok-entry.entry refl short ∙ ap (set es n) entry in
-    subst (λ (xs : List Entry). IsLawful k xs) (sym run) (IsLawful-set k c.args.col c.args.value es n c.self.invariant short (omega (arith, c.requires.outside_key)))
+    subst (λ (xs : List Entry). IsLawful k xs) (sym run)
+    (IsLawful-set k c.args.col c.args.value es n c.self.invariant short (omega (arith, c.requires.outside_key)))

@@ -14,14 +14,20 @@ use Rattle.delta.proofs.tree.DeltaTree.set_ins.Goals as goal
 pub get-requires : goal.get-requires
 get-requires c =
     let t = c.args.self.now in
-    let found = found_in c.self.inside.key_cols c.self.inside.tree.entries t c.args.sid c.cells.result.now c.args.key.now c.index_of_insert-index.result c.self.view_is c.cells.ensures c.self.invariant.ordered c.index_of_insert-index.ensures (some_of _ _ c.requires.there) in
+    let found =
+    found_in c.self.inside.key_cols c.self.inside.tree.entries t c.args.sid c.cells.result.now c.args.key.now
+    c.index_of_insert-index.result c.self.view_is c.cells.ensures c.self.invariant.ordered c.index_of_insert-index.ensures
+    (some_of _ _ c.requires.there) in
     let list : c.self.inside.tree.entries ≡ t.entries = ap (λ (w : Tree). w.entries) c.self.view_is in
     omega (arith, found.short, ap length list)
 
 pub with_cell-requires : goal.with_cell-requires
 with_cell-requires c =
     let t = c.args.self.now in
-    let found = found_in c.self.inside.key_cols c.self.inside.tree.entries t c.args.sid c.cells.result.now c.args.key.now c.index_of_insert-index.result c.self.view_is c.cells.ensures c.self.invariant.ordered c.index_of_insert-index.ensures (some_of _ _ c.requires.there) in
+    let found =
+    found_in c.self.inside.key_cols c.self.inside.tree.entries t c.args.sid c.cells.result.now c.args.key.now
+    c.index_of_insert-index.result c.self.view_is c.cells.ensures c.self.invariant.ordered c.index_of_insert-index.ensures
+    (some_of _ _ c.requires.there) in
     let list : c.self.inside.tree.entries ≡ t.entries = ap (λ (w : Tree). w.entries) c.self.view_is in
     let n = c.index_of_insert-index.result in
     let x = c.get.result.now in
@@ -33,14 +39,20 @@ with_cell-requires c =
 pub replace_run-requires-clause-within : goal.replace_run-requires-clause-within
 replace_run-requires-clause-within c =
     let t = c.args.self.now in
-    let found = found_in c.self.inside.key_cols c.self.inside.tree.entries t c.args.sid c.cells.result.now c.args.key.now c.index_of_insert-index.result c.self.view_is c.cells.ensures c.self.invariant.ordered c.index_of_insert-index.ensures (some_of _ _ c.requires.there) in
+    let found =
+    found_in c.self.inside.key_cols c.self.inside.tree.entries t c.args.sid c.cells.result.now c.args.key.now
+    c.index_of_insert-index.result c.self.view_is c.cells.ensures c.self.invariant.ordered c.index_of_insert-index.ensures
+    (some_of _ _ c.requires.there) in
     let list : c.self.inside.tree.entries ≡ t.entries = ap (λ (w : Tree). w.entries) c.self.view_is in
     omega (arith, found.short, ap length list)
 
 pub returns-clause-ok : goal.returns-clause-ok
 returns-clause-ok c =
     let t = c.args.self.now in
-    let found = found_in c.self.inside.key_cols c.self.inside.tree.entries t c.args.sid c.cells.result.now c.args.key.now c.index_of_insert-index.result c.self.view_is c.cells.ensures c.self.invariant.ordered c.index_of_insert-index.ensures (some_of _ _ c.requires.there) in
+    let found =
+    found_in c.self.inside.key_cols c.self.inside.tree.entries t c.args.sid c.cells.result.now c.args.key.now
+    c.index_of_insert-index.result c.self.view_is c.cells.ensures c.self.invariant.ordered c.index_of_insert-index.ensures
+    (some_of _ _ c.requires.there) in
     let list : c.self.inside.tree.entries ≡ t.entries = ap (λ (w : Tree). w.entries) c.self.view_is in
     let n = c.index_of_insert-index.result in
     let x = c.get.result.now in
@@ -49,7 +61,8 @@ returns-clause-ok c =
     let width : c.self.inside.key_cols ≡ t.key_cols = ap (λ (w : Tree). w.key_cols) c.self.view_is in
     let entry = c.in_ok-entry.ensures ∙ ap (λ (e : Entry). entry_at e.sid (change_with_cell c.args.col c.args.value e.change)) item in
     let short : n < length c.self.inside.tree.entries = omega (arith, found.short, ap length list) in
-    let run : c.replace_run.new.self.entries ≡ set c.self.inside.tree.entries n c.in_ok-entry.entry = c.in_ok-replace_run.ensures.ok ∙ run_is_set c.self.inside.tree.entries n (n + 1) c.in_ok-entry.entry refl short in
+    let run : c.replace_run.new.self.entries ≡ set c.self.inside.tree.entries n c.in_ok-entry.entry =
+    c.in_ok-replace_run.ensures.ok ∙ run_is_set c.self.inside.tree.entries n (n + 1) c.in_ok-entry.entry refl short in
     let same : c.replace_run.new.self.entries ≡ set_ins t.key_cols c.args.sid c.args.key.now c.args.col c.args.value t.entries =
     run ∙ (λ i. set (list i) n (entry i)) ∙ sym (found.with_cell c.args.col c.args.value) in
     λ i. record { key_cols = width i; entries = same i }
@@ -57,7 +70,10 @@ returns-clause-ok c =
 pub invariant_of-self-2 : goal.invariant_of-self-2
 invariant_of-self-2 c =
     let t = c.args.self.now in
-    let found = found_in c.self.inside.key_cols c.self.inside.tree.entries t c.args.sid c.cells.result.now c.args.key.now c.index_of_insert-index.result c.self.view_is c.cells.ensures c.self.invariant.ordered c.index_of_insert-index.ensures (some_of _ _ c.requires.there) in
+    let found =
+    found_in c.self.inside.key_cols c.self.inside.tree.entries t c.args.sid c.cells.result.now c.args.key.now
+    c.index_of_insert-index.result c.self.view_is c.cells.ensures c.self.invariant.ordered c.index_of_insert-index.ensures
+    (some_of _ _ c.requires.there) in
     let list : c.self.inside.tree.entries ≡ t.entries = ap (λ (w : Tree). w.entries) c.self.view_is in
     let n = c.index_of_insert-index.result in
     let x = c.get.result.now in
@@ -66,9 +82,17 @@ invariant_of-self-2 c =
     let width : c.self.inside.key_cols ≡ t.key_cols = ap (λ (w : Tree). w.key_cols) c.self.view_is in
     let entry = c.in_ok-entry.ensures ∙ ap (λ (e : Entry). entry_at e.sid (change_with_cell c.args.col c.args.value e.change)) item in
     let short : n < length c.self.inside.tree.entries = omega (arith, found.short, ap length list) in
-    let run : c.replace_run.new.self.entries ≡ set c.self.inside.tree.entries n c.in_ok-entry.entry = c.in_ok-replace_run.ensures.ok ∙ run_is_set c.self.inside.tree.entries n (n + 1) c.in_ok-entry.entry refl short in
+    let run : c.replace_run.new.self.entries ≡ set c.self.inside.tree.entries n c.in_ok-entry.entry =
+    c.in_ok-replace_run.ensures.ok ∙ run_is_set c.self.inside.tree.entries n (n + 1) c.in_ok-entry.entry refl short in
     let new = c.replace_run.new.self.entries in
-    let written : new ≡ set t.entries n (entry_at y.sid (change_with_cell c.args.col c.args.value y.change)) = run ∙ (λ i. set (list i) n (entry i)) in
-    let lawful_before : IsLawful t.key_cols t.entries = subst (λ (w : Tree). IsLawful w.key_cols w.entries) c.self.view_is c.self.invariant in
-    let lawful : IsLawful c.self.inside.key_cols new = subst (λ (k : ℕ). IsLawful k new) (sym width) (subst (λ (xs : List Entry). IsLawful t.key_cols xs) (sym (written ∙ sym (found.with_cell c.args.col c.args.value))) (IsLawful-set_ins t.key_cols c.args.sid c.args.key.now c.args.col c.args.value t.entries n lawful_before found c.requires.outside_key)) in
+    let written : new ≡ set t.entries n (entry_at y.sid (change_with_cell c.args.col c.args.value y.change)) =
+    run ∙ (λ i. set (list i) n (entry i)) in
+    let lawful_before : IsLawful t.key_cols t.entries =
+    subst (λ (w : Tree). IsLawful w.key_cols w.entries) c.self.view_is c.self.invariant in
+    let lawful : IsLawful c.self.inside.key_cols new =
+    subst (λ (k : ℕ). IsLawful k new) (sym width)
+    (subst (λ (xs : List Entry). IsLawful t.key_cols xs) (sym (written ∙ sym (found.with_cell c.args.col c.args.value)))
+    (IsLawful-set_ins t.key_cols c.args.sid c.args.key.now c.args.col c.args.value t.entries n lawful_before found
+    c.requires.outside_key))
+    in
     lawful

@@ -10,11 +10,17 @@ use Rattle.delta.proofs.CountedLemmas.{total-is, shift-is, ordered_from_lawful}
 use Rattle.delta.proofs.tree.DeltaTree.shift_before.Goals as goal
 
 pub shift_before-requires : goal.shift_before-requires
-shift_before-requires g c = record { ordered = ordered_from_lawful c.self.inside.key_cols c.self.inside.tree.entries (T_from_true _ c.self.invariant.ordered) }
+shift_before-requires g c =
+    record
+    { ordered = ordered_from_lawful c.self.inside.key_cols c.self.inside.tree.entries (T_from_true _ c.self.invariant.ordered) }
 
 pub returns-clause-shift : goal.returns-clause-shift
 returns-clause-shift g c =
-    let e = c.shift_before.ensures.shift ∙ shift-is c.args.sid c.self.inside.tree.entries ∙ total-is (filter (λ e. nat_lt e.sid c.args.sid) c.self.inside.tree.entries) ∙ ap (λ (t : Tree). shift_before c.args.sid t.entries) c.self.view_is in
+    let e =
+    c.shift_before.ensures.shift
+    ∙ shift-is c.args.sid c.self.inside.tree.entries
+    ∙ total-is (filter (λ e. nat_lt e.sid c.args.sid) c.self.inside.tree.entries)
+    ∙ ap (λ (t : Tree). shift_before c.args.sid t.entries) c.self.view_is in
     let w = shift_within c.args.sid c.self.inside.tree.entries in
     let s = c.shift_before.ensures.shift in
     omega (arith, ints, c.self.invariant.counted)

@@ -15,11 +15,13 @@ returns-clause-ok c =
     let t = c.args.self.now in
     let width : c.self.inside.key_cols ≡ t.key_cols = ap (λ (w : Tree). w.key_cols) c.self.view_is in
     let list : c.self.inside.tree.entries ≡ t.entries = ap (λ (w : Tree). w.entries) c.self.view_is in
-    let same : c.remove.new.self.entries ≡ remove t.entries c.args.at = c.in_ok-remove.ensures.ok ∙ ap (λ (es : List Entry). remove es c.args.at) list in
+    let same : c.remove.new.self.entries ≡ remove t.entries c.args.at =
+    c.in_ok-remove.ensures.ok ∙ ap (λ (es : List Entry). remove es c.args.at) list in
     λ i. record { key_cols = width i; entries = same i }
 
 pub invariant_of-self-2 : goal.invariant_of-self-2
 invariant_of-self-2 c =
     let es = c.self.inside.tree.entries in
     let short : c.args.at < length es = omega (arith, c.requires, ap (λ (w : Tree). length w.entries) c.self.view_is) in
-    subst (λ (xs : List Entry). IsLawful c.self.inside.key_cols xs) (sym c.in_ok-remove.ensures.ok) (IsLawful-remove c.self.inside.key_cols es c.args.at c.self.invariant short)
+    subst (λ (xs : List Entry). IsLawful c.self.inside.key_cols xs) (sym c.in_ok-remove.ensures.ok)
+    (IsLawful-remove c.self.inside.key_cols es c.args.at c.self.invariant short)

@@ -11,5 +11,6 @@ open-requires-clause-within c =
     let h = c.self.invariant.0 in
     let m = managed_of i.history i.made (layers_of i.held) in
     let within = newest_within m h.lawful in
-    let same : length (lower_table c.in_ok-copy.field-0.layers) ≡ length (newest_table m) = ap (λ (v : TableVersion). length v.table) (ap table_version c.in_ok-copy.ensures ∙ h.newest_is) in
+    let same : length (lower_table c.in_ok-copy.field-0.layers) ≡ length (newest_table m) =
+    ap (λ (v : TableVersion). length v.table) (ap table_version c.in_ok-copy.ensures ∙ h.newest_is) in
     omega (arith, within, same)

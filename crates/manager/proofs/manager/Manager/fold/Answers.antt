@@ -4,4 +4,6 @@ use Rattle.manager.proofs.HistoryLemmas.{own_over}
 use Rattle.manager.proofs.manager.Manager.fold.Goals as goal
 
 pub returns-clause-own : goal.returns-clause-own
-returns-clause-own c = λ txn own. subst (λ (v : Managed). IsOwn v txn) (sym c.install_fold.ensures) (own_over c.args.self.now c.in_ok-folded.folded.layers txn own)
+returns-clause-own c =
+    λ txn own. subst (λ (v : Managed). IsOwn v txn) (sym c.install_fold.ensures)
+    (own_over c.args.self.now c.in_ok-folded.folded.layers txn own)

@@ -17,15 +17,18 @@ propagate-requires c =
     let l : Lower = record { stable = i.held.stable.value; read = i.held.read.value; write = i.held.write.value } in
     let m = c.args.self.now in
     let w = c.requires in
-    let h : HoldsNewest m l i.newest i.kept.items = subst (λ (v : Managed). HoldsNewest v l i.newest i.kept.items) c.self.view_is c.self.invariant.0 in
-    subst (λ (t : Tree). AreConsecutive t c.args.tree) (sym c.deref.ensures) (consecutive m l i.newest i.kept.items h w.x w.over w.room c.args.tree w.tree_is)
+    let h : HoldsNewest m l i.newest i.kept.items =
+    subst (λ (v : Managed). HoldsNewest v l i.newest i.kept.items) c.self.view_is c.self.invariant.0 in
+    subst (λ (t : Tree). AreConsecutive t c.args.tree) (sym c.deref.ensures)
+    (consecutive m l i.newest i.kept.items h w.x w.over w.room c.args.tree w.tree_is)
 
 pub overflow_add-number : goal.overflow_add-number
 overflow_add-number c =
     let i = c.self.inside in
     let l : Lower = record { stable = i.held.stable.value; read = i.held.read.value; write = i.held.write.value } in
     let m = c.args.self.now in
-    let h : HoldsNewest m l i.newest i.kept.items = subst (λ (v : Managed). HoldsNewest v l i.newest i.kept.items) c.self.view_is c.self.invariant.0 in
+    let h : HoldsNewest m l i.newest i.kept.items =
+    subst (λ (v : Managed). HoldsNewest v l i.newest i.kept.items) c.self.view_is c.self.invariant.0 in
     let number : i.newest.number ≡ newest_number m = ap (λ (v : TableVersion). v.number) h.newest_is in
     let fits = number_fits m h.lawful in
     let few = h.lawful.few in
@@ -37,9 +40,12 @@ version-requires c =
     let l : Lower = record { stable = i.held.stable.value; read = i.held.read.value; write = i.held.write.value } in
     let m = c.args.self.now in
     let w = c.requires in
-    let h : HoldsNewest m l i.newest i.kept.items = subst (λ (v : Managed). HoldsNewest v l i.newest i.kept.items) c.self.view_is c.self.invariant.0 in
+    let h : HoldsNewest m l i.newest i.kept.items =
+    subst (λ (v : Managed). HoldsNewest v l i.newest i.kept.items) c.self.view_is c.self.invariant.0 in
     let two = consecutive m l i.newest i.kept.items h w.x w.over w.room c.args.tree w.tree_is in
-    let written = folded_in c.deref.result.now l.write c.args.tree c.in_ok-propagate.field-0 c.deref.ensures c.in_ok-propagate.ensures two in
+    let written =
+    folded_in c.deref.result.now l.write c.args.tree c.in_ok-propagate.field-0 c.deref.ensures c.in_ok-propagate.ensures two
+    in
     let write : c.in_ok-write.write.value ≡ composed_tree l.write c.args.tree two = c.in_ok-write.ensures.ok ∙ written in
     let next = next_folded m l i.newest i.kept.items h w.x w.over w.room c.args.tree w.tree_is c.in_ok-write.write.value write in
     subst AreLower (sym (λ j. record {
@@ -54,12 +60,18 @@ returns c =
     let l : Lower = record { stable = i.held.stable.value; read = i.held.read.value; write = i.held.write.value } in
     let m = c.args.self.now in
     λ (w : MayGrant m c.args.tree).
-    let h : HoldsNewest m l i.newest i.kept.items = subst (λ (v : Managed). HoldsNewest v l i.newest i.kept.items) c.self.view_is c.self.invariant.0 in
+    let h : HoldsNewest m l i.newest i.kept.items =
+    subst (λ (v : Managed). HoldsNewest v l i.newest i.kept.items) c.self.view_is c.self.invariant.0 in
     let two = consecutive m l i.newest i.kept.items h w.x w.over w.room c.args.tree w.tree_is in
-    let written = folded_in c.deref.result.now l.write c.args.tree c.in_ok-propagate.field-0 c.deref.ensures c.in_ok-propagate.ensures two in
+    let written =
+    folded_in c.deref.result.now l.write c.args.tree c.in_ok-propagate.field-0 c.deref.ensures c.in_ok-propagate.ensures two
+    in
     let write : c.in_ok-write.write.value ≡ composed_tree l.write c.args.tree two = c.in_ok-write.ensures.ok ∙ written in
     let next = next_folded m l i.newest i.kept.items h w.x w.over w.room c.args.tree w.tree_is c.in_ok-write.write.value write in
-    let held : ◌≡◌ {A = Lower} (record { stable = c.in_ok-clone.field-0.value; read = c.in_ok-clone-2.field-0.value; write = c.in_ok-write.write.value }) (record l { write = c.in_ok-write.write.value }) =
+    let held :
+    ◌≡◌ {A = Lower} (record
+    { stable = c.in_ok-clone.field-0.value; read = c.in_ok-clone-2.field-0.value; write = c.in_ok-write.write.value })
+    (record l { write = c.in_ok-write.write.value }) =
     λ j. record { stable = c.in_ok-clone.ensures.cases j; read = c.in_ok-clone-2.ensures.cases j; write = c.in_ok-write.write.value } in
     let number : c.number.result + 1 ≡ suc (newest_number m) =
     let same : i.newest.number ≡ newest_number m = ap (λ (v : TableVersion). v.number) h.newest_is in
@@ -69,9 +81,13 @@ returns c =
       tree_is = w.tree_is;
       folded = subst AreFolded (sym held) next;
       written =
-          subst (λ (e : Lower). AreWritten e w.x (record { stable = c.in_ok-clone.field-0.value; read = c.in_ok-clone-2.field-0.value; write = c.in_ok-write.write.value }))
+          subst (λ (e : Lower). AreWritten e w.x (record
+          { stable = c.in_ok-clone.field-0.value; read = c.in_ok-clone-2.field-0.value; write = c.in_ok-write.write.value }))
           (ap (λ (v : Managed). v.layers) c.self.view_is)
           (record { lawful = h.folded.lower; stable = c.in_ok-clone.ensures.cases; read = c.in_ok-clone-2.ensures.cases; write = write });
-      version_is = ap table_version version ∙ next_version m l i.newest i.kept.items h w.x w.over w.room c.args.tree w.tree_is c.in_ok-write.write.value write (suc (newest_number m));
+      version_is =
+          ap table_version version
+          ∙ next_version m l i.newest i.kept.items h w.x w.over w.room c.args.tree w.tree_is c.in_ok-write.write.value write
+          (suc (newest_number m));
       layers_are = version ∙ sym (ap (λ (e : Lower). numbered e (suc (newest_number m))) held);
     }

@@ -21,7 +21,9 @@ enter-requires-clause-legal c =
     let txn = c.args.txn in
     let p : Prepared = record { reply = c.prepared.inside.reply; granted = c.prepared.inside.grant } in
     let own : IsOwn m txn = subst (λ (w : Managed). IsOwn w txn) (sym c.self.view_is) c.requires.own in
-    let prepared : IsPrepared m txn p = subst (λ (e : Managed × Prepared). IsPrepared e.0 txn e.1) (sym (λ j. (c.self.view_is j, c.prepared.view_is j))) c.requires.prepared in
+    let prepared : IsPrepared m txn p =
+    subst (λ (e : Managed × Prepared). IsPrepared e.0 txn e.1) (sym (λ j. (c.self.view_is j, c.prepared.view_is j)))
+    c.requires.prepared in
     subst (λ (rs : List Record). IsLegal i.history.schema i.history.start (i.history.records ++ rs)) (sym c.into_record.ensures.entry)
     (next_managed m c.self.invariant.0.lawful txn c.into_record.ensures.lawful own p.reply prepared.due prepared.few).legal
 
@@ -33,18 +35,27 @@ invariant_of-self c =
     let txn = c.args.txn in
     let p : Prepared = record { reply = c.prepared.inside.reply; granted = c.prepared.inside.grant } in
     let own : IsOwn m txn = subst (λ (w : Managed). IsOwn w txn) (sym c.self.view_is) c.requires.own in
-    let prepared : IsPrepared m txn p = subst (λ (e : Managed × Prepared). IsPrepared e.0 txn e.1) (sym (λ j. (c.self.view_is j, c.prepared.view_is j))) c.requires.prepared in
+    let prepared : IsPrepared m txn p =
+    subst (λ (e : Managed × Prepared). IsPrepared e.0 txn e.1) (sym (λ j. (c.self.view_is j, c.prepared.view_is j)))
+    c.requires.prepared in
     let g : Granted = record { tree = c.grant.inside.tree; layers = layers_of c.grant.inside.held; version = c.grant.inside.version } in
-    let installed : IsInstalled m txn p.reply (Some g) = subst (IsInstalled m txn p.reply) (c.in-Some.is ∙ ap Some (sym c.grant.view_is)) prepared.installed in
+    let installed : IsInstalled m txn p.reply (Some g) =
+    subst (IsInstalled m txn p.reply) (c.in-Some.is ∙ ap Some (sym c.grant.view_is)) prepared.installed in
     let reply = installed.0 in
-    let holds = granted_holds m l i.newest i.kept.items c.self.invariant.0 txn c.into_record.ensures.lawful own prepared.few g (sym reply ∙ prepared.due) installed.1 in
-    let entered : c.into_record.result ≡ record_of txn (Committed (suc (newest_number m))) ∷ [] = c.into_record.ensures.entry ∙ ap (λ (r : CommitReply). record_of txn r ∷ []) reply in
-    let history : c.enter.new.self ≡ record i.history { records = i.history.records ++ record_of txn (Committed (suc (newest_number m))) ∷ [] } =
+    let holds =
+    granted_holds m l i.newest i.kept.items c.self.invariant.0 txn c.into_record.ensures.lawful own prepared.few g
+    (sym reply ∙ prepared.due) installed.1 in
+    let entered : c.into_record.result ≡ record_of txn (Committed (suc (newest_number m))) ∷ [] =
+    c.into_record.ensures.entry ∙ ap (λ (r : CommitReply). record_of txn r ∷ []) reply in
+    let history :
+    c.enter.new.self
+    ≡ record i.history { records = i.history.records ++ record_of txn (Committed (suc (newest_number m))) ∷ [] } =
     c.enter.ensures ∙ (λ j. record i.history { records = i.history.records ++ entered j }) in
     let made : i.made + 1 ≡ suc i.made = omega arith in
     let kept : c.push_back.new.self.items ≡ keep_last i.history.start.recent (i.kept.items ++ g.tree ∷ []) =
     ap (λ (b : Buffer Tree). b.items) c.push_back.ensures.items ∙ ap (λ n. keep_last n (i.kept.items ++ g.tree ∷ [])) c.self.invariant.1 in
-    let same : c.push_back.new.self.capacity ≡ i.history.start.recent = ap (λ (b : Buffer Tree). b.capacity) c.push_back.ensures.items ∙ c.self.invariant.1 in
+    let same : c.push_back.new.self.capacity ≡ i.history.start.recent =
+    ap (λ (b : Buffer Tree). b.capacity) c.push_back.ensures.items ∙ c.self.invariant.1 in
     let P = λ (e : Recorded × (ℕ × List Tree)). HoldsNewest (managed_of e.0 e.1.0 g.layers) g.layers g.version e.1.1 in
     (subst P (sym (λ j. (history j, (made j, kept j)))) holds, same ∙ sym (ap (λ (h : Recorded). h.start.recent) history))
 
@@ -56,9 +67,13 @@ invariant_of-self-in_default c =
     let txn = c.args.txn in
     let p : Prepared = record { reply = c.prepared.inside.reply; granted = c.prepared.inside.grant } in
     let own : IsOwn m txn = subst (λ (w : Managed). IsOwn w txn) (sym c.self.view_is) c.requires.own in
-    let prepared : IsPrepared m txn p = subst (λ (e : Managed × Prepared). IsPrepared e.0 txn e.1) (sym (λ j. (c.self.view_is j, c.prepared.view_is j))) c.requires.prepared in
+    let prepared : IsPrepared m txn p =
+    subst (λ (e : Managed × Prepared). IsPrepared e.0 txn e.1) (sym (λ j. (c.self.view_is j, c.prepared.view_is j)))
+    c.requires.prepared in
     let installed : IsInstalled m txn p.reply None = subst (IsInstalled m txn p.reply) c.in_default.is prepared.installed in
-    let holds = refused_holds m l i.newest i.kept.items c.self.invariant.0 txn c.into_record.ensures.lawful own prepared.few p.reply prepared.due installed in
+    let holds =
+    refused_holds m l i.newest i.kept.items c.self.invariant.0 txn c.into_record.ensures.lawful own prepared.few p.reply
+    prepared.due installed in
     let history : c.enter.new.self ≡ record i.history { records = i.history.records ++ record_of txn p.reply ∷ [] } =
     c.enter.ensures ∙ (λ j. record i.history { records = i.history.records ++ c.into_record.ensures.entry j }) in
     let made : i.made + 1 ≡ suc i.made = omega arith in

@@ -12,7 +12,9 @@ use Rattle.manager.proofs.manager.Manager.newest.Goals as goal
 
 pub returns-clause-schema : goal.returns-clause-schema
 returns-clause-schema c =
-    c.image.ensures.schema ∙ ap (λ (v : TableVersion). v.schema) c.self.invariant.0.newest_is ∙ ap (λ (m : Managed). m.schema) c.self.view_is
+    c.image.ensures.schema
+    ∙ ap (λ (v : TableVersion). v.schema) c.self.invariant.0.newest_is
+    ∙ ap (λ (m : Managed). m.schema) c.self.view_is
 
 pub returns-clause-rows : goal.returns-clause-rows
 returns-clause-rows c =
@@ -23,7 +25,8 @@ returns-clause-few c =
     let i = c.self.inside in
     let h = c.self.invariant.0 in
     let m = managed_of i.history i.made (layers_of i.held) in
-    let rows : length (image_rows c.image.result) ≡ length (rows_of (newest_table m)) = ap (λ (rs : List Row). length rs) (c.image.ensures.rows ∙ ap (λ (v : TableVersion). rows_of v.table) h.newest_is) in
+    let rows : length (image_rows c.image.result) ≡ length (rows_of (newest_table m)) =
+    ap (λ (rs : List Row). length rs) (c.image.ensures.rows ∙ ap (λ (v : TableVersion). rows_of v.table) h.newest_is) in
     let count : length (rows_of (newest_table m)) ≡ length (newest_table m) = length-map _ _ in
     let most = limited m (length (newest_table m)) h.lawful (newest_within m h.lawful) in
     omega (arith, rows, count, most)

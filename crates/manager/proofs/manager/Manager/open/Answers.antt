@@ -18,10 +18,14 @@ invariant_of-result c =
     let layers = c.in_ok-held.ensures.layers in
     let version : c.in_ok-newest.newest ≡ numbered (alone s) 0 = c.in_ok-newest.ensures ∙ ap (λ (l : Lower). numbered l 0) layers in
     let history : c.new.result ≡ recorded_at (version_at s 0) c.args.row_limit c.args.recent c.args.conflicts [] =
-    c.new.ensures ∙ ap (λ (v : TableVersion). recorded_at v c.args.row_limit c.args.recent c.args.conflicts []) (ap table_version version ∙ version_of-alone s 0) in
+    c.new.ensures
+    ∙ ap (λ (v : TableVersion). recorded_at v c.args.row_limit c.args.recent c.args.conflicts [])
+    (ap table_version version ∙ version_of-alone s 0) in
     let within : length s.rows ≤ c.args.row_limit = omega (arith, c.len.ensures.count, c.if-len-row_limit.false) in
     let most = limit_fits c.args.recent c.args.row_limit (sym c.is_bad_limit.ensures ∙ c.if-is_bad_limit.false) in
-    let holds = opened_holds s c.args.row_limit c.args.recent c.args.conflicts c.in_ok-held.ensures.lawful c.in_ok-held.ensures.typed within most in
+    let holds =
+    opened_holds s c.args.row_limit c.args.recent c.args.conflicts c.in_ok-held.ensures.lawful c.in_ok-held.ensures.typed
+    within most in
     let kept : c.in_ok-with_capacity.field-0.items ≡ [] = ap (λ (b : Buffer Tree). b.items) c.in_ok-with_capacity.ensures in
     let P = λ (e : Recorded × (Lower × (LayeredVersion × List Tree))). HoldsNewest (managed_of e.0 0 e.1.0) e.1.0 e.1.1.0 e.1.1.1 in (
       subst P (sym (λ i. (history i, (layers i, (version i, kept i))))) holds,
@@ -31,7 +35,10 @@ invariant_of-result c =
 pub returns-clause-ok : goal.returns-clause-ok
 returns-clause-ok c =
     let s = c.args.table in
-    let version : c.in_ok-newest.newest ≡ numbered (alone s) 0 = c.in_ok-newest.ensures ∙ ap (λ (l : Lower). numbered l 0) c.in_ok-held.ensures.layers in
+    let version : c.in_ok-newest.newest ≡ numbered (alone s) 0 =
+    c.in_ok-newest.ensures ∙ ap (λ (l : Lower). numbered l 0) c.in_ok-held.ensures.layers in
     let history : c.new.result ≡ recorded_at (version_at s 0) c.args.row_limit c.args.recent c.args.conflicts [] =
-    c.new.ensures ∙ ap (λ (v : TableVersion). recorded_at v c.args.row_limit c.args.recent c.args.conflicts []) (ap table_version version ∙ version_of-alone s 0) in
+    c.new.ensures
+    ∙ ap (λ (v : TableVersion). recorded_at v c.args.row_limit c.args.recent c.args.conflicts [])
+    (ap table_version version ∙ version_of-alone s 0) in
     λ i. managed_of (history i) 0 (c.in_ok-held.ensures.layers i)

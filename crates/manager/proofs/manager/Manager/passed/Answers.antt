@@ -13,7 +13,8 @@ overflow_sub-first c =
     let i = c.self.inside in
     let l : Lower = record { stable = i.held.stable.value; read = i.held.read.value; write = i.held.write.value } in
     let m = c.args.self.now in
-    let h : HoldsNewest m l i.newest i.kept.items = subst (λ (v : Managed). HoldsNewest v l i.newest i.kept.items) c.self.view_is c.self.invariant.0 in
+    let h : HoldsNewest m l i.newest i.kept.items =
+    subst (λ (v : Managed). HoldsNewest v l i.newest i.kept.items) c.self.view_is c.self.invariant.0 in
     let number : i.newest.number ≡ newest_number m = ap (λ (v : TableVersion). v.number) h.newest_is in
     let inside = since_kept m l i.newest i.kept.items h c.args.txn.now c.requires.own c.requires.recent in
     omega (arith, number, inside, c.number.ensures, c.begin.ensures.number, c.len.ensures.len)
@@ -24,13 +25,18 @@ passed_through-requires c =
     let l : Lower = record { stable = i.held.stable.value; read = i.held.read.value; write = i.held.write.value } in
     let m = c.args.self.now in
     let txn = c.args.txn.now in
-    let h : HoldsNewest m l i.newest i.kept.items = subst (λ (v : Managed). HoldsNewest v l i.newest i.kept.items) c.self.view_is c.self.invariant.0 in
+    let h : HoldsNewest m l i.newest i.kept.items =
+    subst (λ (v : Managed). HoldsNewest v l i.newest i.kept.items) c.self.view_is c.self.invariant.0 in
     let number : i.newest.number ≡ newest_number m = ap (λ (v : TableVersion). v.number) h.newest_is in
     let first : c.len.result - (c.number.result - c.begin.result) ≡ length i.kept.items - (newest_number m - txn.begin) =
     omega (arith, number, c.number.ensures, c.begin.ensures.number, c.len.ensures.len) in
-    let rule : c.rules-conflicts.result.conflicts ≡ m.start.rule = c.rules-conflicts.ensures.conflicts ∙ ap (λ (v : Managed). v.start.rule) c.self.view_is in
-    subst (λ (r : ConflictRule). MayPass r (drop (c.len.result - (c.number.result - c.begin.result)) i.kept.items) c.in_ok-tree.tree) (sym rule)
-    (may_pass m l i.newest i.kept.items h txn c.requires.own c.requires.recent c.begin.ensures.lawful _ first c.in_ok-tree.tree (c.in_ok-tree.ensures ∙ c.tree.ensures))
+    let rule : c.rules-conflicts.result.conflicts ≡ m.start.rule =
+    c.rules-conflicts.ensures.conflicts ∙ ap (λ (v : Managed). v.start.rule) c.self.view_is in
+    subst
+    (λ (r : ConflictRule). MayPass r (drop (c.len.result - (c.number.result - c.begin.result)) i.kept.items) c.in_ok-tree.tree)
+    (sym rule)
+    (may_pass m l i.newest i.kept.items h txn c.requires.own c.requires.recent c.begin.ensures.lawful _ first c.in_ok-tree.tree
+    (c.in_ok-tree.ensures ∙ c.tree.ensures))
 
 pub returns : goal.returns
 returns c =
@@ -38,14 +44,23 @@ returns c =
     let l : Lower = record { stable = i.held.stable.value; read = i.held.read.value; write = i.held.write.value } in
     let m = c.args.self.now in
     let txn = c.args.txn.now in
-    let h : HoldsNewest m l i.newest i.kept.items = subst (λ (v : Managed). HoldsNewest v l i.newest i.kept.items) c.self.view_is c.self.invariant.0 in
+    let h : HoldsNewest m l i.newest i.kept.items =
+    subst (λ (v : Managed). HoldsNewest v l i.newest i.kept.items) c.self.view_is c.self.invariant.0 in
     let number : i.newest.number ≡ newest_number m = ap (λ (v : TableVersion). v.number) h.newest_is in
     let n = c.len.result - (c.number.result - c.begin.result) in
     let first : n ≡ length i.kept.items - (newest_number m - txn.begin) =
     omega (arith, number, c.number.ensures, c.begin.ensures.number, c.len.ensures.len) in
-    let rule : c.rules-conflicts.result.conflicts ≡ m.start.rule = c.rules-conflicts.ensures.conflicts ∙ ap (λ (v : Managed). v.start.rule) c.self.view_is in
+    let rule : c.rules-conflicts.result.conflicts ≡ m.start.rule =
+    c.rules-conflicts.ensures.conflicts ∙ ap (λ (v : Managed). v.start.rule) c.self.view_is in
     let own_tree = c.in_ok-tree.ensures ∙ c.tree.ensures in
-    let w = may_pass m l i.newest i.kept.items h txn c.requires.own c.requires.recent c.begin.ensures.lawful n first c.in_ok-tree.tree own_tree in
-    let P = λ (r : ConflictRule). IfOk c.passed_through.result (λ passed. (v : MayPass r (drop n i.kept.items) c.in_ok-tree.tree) → IsThrough r (drop n i.kept.items) c.in_ok-tree.tree v passed) in
+    let w =
+    may_pass m l i.newest i.kept.items h txn c.requires.own c.requires.recent c.begin.ensures.lawful n first c.in_ok-tree.tree
+    own_tree in
+    let P =
+    λ (r : ConflictRule). IfOk c.passed_through.result (λ passed. (v : MayPass r (drop n i.kept.items) c.in_ok-tree.tree)
+    → IsThrough r (drop n i.kept.items) c.in_ok-tree.tree v passed) in
     let all : P m.start.rule = subst P rule c.passed_through.ensures in
-    if_ok c.passed_through.result (λ passed told. led_on m l i.newest i.kept.items h txn c.requires.own c.requires.recent c.begin.ensures.lawful n first c.in_ok-tree.tree own_tree passed (told w)) all
+    if_ok c.passed_through.result
+    (λ passed told. led_on m l i.newest i.kept.items h txn c.requires.own c.requires.recent c.begin.ensures.lawful n first c.in_ok-tree.tree
+    own_tree passed (told w))
+    all

@@ -16,7 +16,8 @@ grown-requires-clause-few c =
     let i = c.self.inside in
     let l : Lower = record { stable = i.held.stable.value; read = i.held.read.value; write = i.held.write.value } in
     let m = c.args.self.now in
-    let h : HoldsNewest m l i.newest i.kept.items = subst (λ (v : Managed). HoldsNewest v l i.newest i.kept.items) c.self.view_is c.self.invariant.0 in
+    let h : HoldsNewest m l i.newest i.kept.items =
+    subst (λ (v : Managed). HoldsNewest v l i.newest i.kept.items) c.self.view_is c.self.invariant.0 in
     let rows : length (lower_table i.newest.layers) ≡ length (newest_table m) = ap (λ (v : TableVersion). length v.table) h.newest_is in
     let most = limited m (length (newest_table m)) h.lawful (newest_within m h.lawful) in
     omega (arith, c.len.ensures, rows, most)
@@ -27,7 +28,8 @@ grown-requires-clause-enough c =
     let l : Lower = record { stable = i.held.stable.value; read = i.held.read.value; write = i.held.write.value } in
     let m = c.args.self.now in
     let txn = c.args.txn.now in
-    let h : HoldsNewest m l i.newest i.kept.items = subst (λ (v : Managed). HoldsNewest v l i.newest i.kept.items) c.self.view_is c.self.invariant.0 in
+    let h : HoldsNewest m l i.newest i.kept.items =
+    subst (λ (v : Managed). HoldsNewest v l i.newest i.kept.items) c.self.view_is c.self.invariant.0 in
     let recent : is_too_old m txn ≡ false = sym c.is_too_old.ensures.old ∙ c.if-is_too_old.false in
     let passed = subst (IsPassed m txn) c.in-Some.is c.in_ok-tree.ensures in
     let over = over_newest m txn c.requires.own recent h.lawful c.is_too_old.ensures.lawful passed.0 in
@@ -40,7 +42,8 @@ returns-then-grown-row_limit-clause-prepared c =
     let l : Lower = record { stable = i.held.stable.value; read = i.held.read.value; write = i.held.write.value } in
     let m = c.args.self.now in
     let txn = c.args.txn.now in
-    let h : HoldsNewest m l i.newest i.kept.items = subst (λ (v : Managed). HoldsNewest v l i.newest i.kept.items) c.self.view_is c.self.invariant.0 in
+    let h : HoldsNewest m l i.newest i.kept.items =
+    subst (λ (v : Managed). HoldsNewest v l i.newest i.kept.items) c.self.view_is c.self.invariant.0 in
     let recent : is_too_old m txn ≡ false = sym c.is_too_old.ensures.old ∙ c.if-is_too_old.false in
     let passed = subst (IsPassed m txn) c.in-Some.is c.in_ok-tree.ensures in
     let over = over_newest m txn c.requires.own recent h.lawful c.is_too_old.ensures.lawful passed.0 in
@@ -64,7 +67,8 @@ grant-requires c =
     let l : Lower = record { stable = i.held.stable.value; read = i.held.read.value; write = i.held.write.value } in
     let m = c.args.self.now in
     let txn = c.args.txn.now in
-    let h : HoldsNewest m l i.newest i.kept.items = subst (λ (v : Managed). HoldsNewest v l i.newest i.kept.items) c.self.view_is c.self.invariant.0 in
+    let h : HoldsNewest m l i.newest i.kept.items =
+    subst (λ (v : Managed). HoldsNewest v l i.newest i.kept.items) c.self.view_is c.self.invariant.0 in
     let recent : is_too_old m txn ≡ false = sym c.is_too_old.ensures.old ∙ c.if-is_too_old.false in
     let passed = subst (IsPassed m txn) c.in-Some.is c.in_ok-tree.ensures in
     let over = over_newest m txn c.requires.own recent h.lawful c.is_too_old.ensures.lawful passed.0 in
@@ -84,7 +88,8 @@ returns-clause-prepared c =
     let l : Lower = record { stable = i.held.stable.value; read = i.held.read.value; write = i.held.write.value } in
     let m = c.args.self.now in
     let txn = c.args.txn.now in
-    let h : HoldsNewest m l i.newest i.kept.items = subst (λ (v : Managed). HoldsNewest v l i.newest i.kept.items) c.self.view_is c.self.invariant.0 in
+    let h : HoldsNewest m l i.newest i.kept.items =
+    subst (λ (v : Managed). HoldsNewest v l i.newest i.kept.items) c.self.view_is c.self.invariant.0 in
     let recent : is_too_old m txn ≡ false = sym c.is_too_old.ensures.old ∙ c.if-is_too_old.false in
     let passed = subst (IsPassed m txn) c.in-Some.is c.in_ok-tree.ensures in
     let over = over_newest m txn c.requires.own recent h.lawful c.is_too_old.ensures.lawful passed.0 in
@@ -95,7 +100,10 @@ returns-clause-prepared c =
     omega (arith, c.len.ensures, rows, limit, counted, c.grown.ensures.sum, c.if-grown-row_limit.false) in
     let w : MayGrant m c.in-Some.tree = record { x = effects_of txn; over = over; tree_is = passed.1; room = room } in
     let grant = c.in_ok-grant.ensures w in
-    let reply : reply.Committed c.number.result ≡ reply.Committed (suc (newest_number m)) = ap reply.Committed (c.number.ensures ∙ ap (λ (v : LayeredVersion). v.number) c.version.ensures ∙ ap (λ (v : TableVersion). v.number) grant.version_is) in
+    let reply : reply.Committed c.number.result ≡ reply.Committed (suc (newest_number m)) =
+    ap reply.Committed (c.number.ensures
+    ∙ ap (λ (v : LayeredVersion). v.number) c.version.ensures
+    ∙ ap (λ (v : TableVersion). v.number) grant.version_is) in
     let made : i.made ≡ m.made = ap (λ (v : Managed). v.made) c.self.view_is in
     record {
       few = omega (arith, made, c.if-self-ge-MAX_RECORDS.false);

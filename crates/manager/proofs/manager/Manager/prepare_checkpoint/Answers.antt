@@ -18,16 +18,23 @@ pub returns : goal.returns
 returns c =
     let i = c.self.inside in
     let m = c.args.self.now in
-    let table : c.in_ok-table.table ≡ newest_stable m = c.in_ok-table.ensures ∙ (λ j. record { schema = c.newest.ensures.schema j; rows = c.newest.ensures.rows j }) in
+    let table : c.in_ok-table.table ≡ newest_stable m =
+    c.in_ok-table.ensures ∙ (λ j. record { schema = c.newest.ensures.schema j; rows = c.newest.ensures.rows j }) in
     let layers = c.in_ok-held.ensures.layers ∙ ap alone table in
     let lawful : IsStable (newest_stable m) = subst IsStable table c.in_ok-held.ensures.lawful in
     let l : Lower = record { stable = i.held.stable.value; read = i.held.read.value; write = i.held.write.value } in
-    let h : HoldsNewest m l i.newest i.kept.items = subst (λ (v : Managed). HoldsNewest v l i.newest i.kept.items) c.self.view_is c.self.invariant.0 in
+    let h : HoldsNewest m l i.newest i.kept.items =
+    subst (λ (v : Managed). HoldsNewest v l i.newest i.kept.items) c.self.view_is c.self.invariant.0 in
     let number : c.number.result ≡ newest_number m = c.number.ensures ∙ ap (λ (v : TableVersion). v.number) h.newest_is in
-    let version : c.in_ok-version.version ≡ numbered (layers_of c.in_ok-held.held) (newest_number m) = c.in_ok-version.ensures ∙ ap (numbered (layers_of c.in_ok-held.held)) number in
+    let version : c.in_ok-version.version ≡ numbered (layers_of c.in_ok-held.held) (newest_number m) =
+    c.in_ok-version.ensures ∙ ap (numbered (layers_of c.in_ok-held.held)) number in
     record {
       lawful = subst AreFolded (sym layers) (alone_folded (newest_stable m) lawful);
       emptied = layers;
-      version_is = ap table_version version ∙ ap (λ (l : Lower). version_of l (newest_number m)) layers ∙ version_of-alone (newest_stable m) (newest_number m) ∙ version_at-newest m (newest_IsTable m l i.newest i.kept.items h);
+      version_is =
+          ap table_version version
+          ∙ ap (λ (l : Lower). version_of l (newest_number m)) layers
+          ∙ version_of-alone (newest_stable m) (newest_number m)
+          ∙ version_at-newest m (newest_IsTable m l i.newest i.kept.items h);
       layers_are = version;
     }

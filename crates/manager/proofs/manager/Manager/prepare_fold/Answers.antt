@@ -14,25 +14,32 @@ propagate-requires c =
     let i = c.self.inside in
     let l : Lower = record { stable = i.held.stable.value; read = i.held.read.value; write = i.held.write.value } in
     let m = c.args.self.now in
-    let h : HoldsNewest m l i.newest i.kept.items = subst (λ (v : Managed). HoldsNewest v l i.newest i.kept.items) c.self.view_is c.self.invariant.0 in
-    subst (λ (e : Tree × Tree). AreConsecutive e.0 e.1) (sym (λ j. (c.deref.ensures j, c.deref-2.ensures j))) (stacked_trees m l i.newest i.kept.items h)
+    let h : HoldsNewest m l i.newest i.kept.items =
+    subst (λ (v : Managed). HoldsNewest v l i.newest i.kept.items) c.self.view_is c.self.invariant.0 in
+    subst (λ (e : Tree × Tree). AreConsecutive e.0 e.1) (sym (λ j. (c.deref.ensures j, c.deref-2.ensures j)))
+    (stacked_trees m l i.newest i.kept.items h)
 
 pub version-requires : goal.version-requires
 version-requires c =
     let i = c.self.inside in
     let l : Lower = record { stable = i.held.stable.value; read = i.held.read.value; write = i.held.write.value } in
     let m = c.args.self.now in
-    let h : HoldsNewest m l i.newest i.kept.items = subst (λ (v : Managed). HoldsNewest v l i.newest i.kept.items) c.self.view_is c.self.invariant.0 in
+    let h : HoldsNewest m l i.newest i.kept.items =
+    subst (λ (v : Managed). HoldsNewest v l i.newest i.kept.items) c.self.view_is c.self.invariant.0 in
     let two = stacked_trees m l i.newest i.kept.items h in
     let read : c.in_ok-read.read.value ≡ composed_tree l.read l.write two =
     c.in_ok-read.ensures.ok
-    ∙ merged_in c.deref.result.now c.deref-2.result.now l.read l.write c.in_ok-propagate.field-0 c.deref.ensures c.deref-2.ensures c.in_ok-propagate.ensures two in
+    ∙ merged_in c.deref.result.now c.deref-2.result.now l.read l.write c.in_ok-propagate.field-0 c.deref.ensures c.deref-2.ensures
+    c.in_ok-propagate.ensures two in
     let key_cols : c.key_cols.result ≡ l.stable.schema.key_cols =
     c.key_cols.ensures ∙ ap (λ (t : Tree). t.key_cols) c.deref-3.ensures ∙ h.folded.lower.middle.key_cols in
     let write : c.in_ok-write.write.value ≡ empty_tree l.stable.schema.key_cols =
     c.in_ok-write.ensures.ok ∙ c.new-none.ensures ∙ ap empty_tree key_cols in
     let next = merged_folded m l i.newest i.kept.items h c.in_ok-read.read.value read in
-    let held : ◌≡◌ {A = Lower} (record { stable = c.in_ok-clone.field-0.value; read = c.in_ok-read.read.value; write = c.in_ok-write.write.value }) (merged m l i.newest i.kept.items h c.in_ok-read.read.value read) =
+    let held :
+    ◌≡◌ {A = Lower}
+    (record { stable = c.in_ok-clone.field-0.value; read = c.in_ok-read.read.value; write = c.in_ok-write.write.value })
+    (merged m l i.newest i.kept.items h c.in_ok-read.read.value read) =
     λ j. record { stable = c.in_ok-clone.ensures.cases j; read = c.in_ok-read.read.value; write = write j } in
     subst AreLower (sym held) next.lower
 
@@ -41,24 +48,30 @@ returns c =
     let i = c.self.inside in
     let l : Lower = record { stable = i.held.stable.value; read = i.held.read.value; write = i.held.write.value } in
     let m = c.args.self.now in
-    let h : HoldsNewest m l i.newest i.kept.items = subst (λ (v : Managed). HoldsNewest v l i.newest i.kept.items) c.self.view_is c.self.invariant.0 in
+    let h : HoldsNewest m l i.newest i.kept.items =
+    subst (λ (v : Managed). HoldsNewest v l i.newest i.kept.items) c.self.view_is c.self.invariant.0 in
     let two = stacked_trees m l i.newest i.kept.items h in
     let read : c.in_ok-read.read.value ≡ composed_tree l.read l.write two =
     c.in_ok-read.ensures.ok
-    ∙ merged_in c.deref.result.now c.deref-2.result.now l.read l.write c.in_ok-propagate.field-0 c.deref.ensures c.deref-2.ensures c.in_ok-propagate.ensures two in
+    ∙ merged_in c.deref.result.now c.deref-2.result.now l.read l.write c.in_ok-propagate.field-0 c.deref.ensures c.deref-2.ensures
+    c.in_ok-propagate.ensures two in
     let key_cols : c.key_cols.result ≡ l.stable.schema.key_cols =
     c.key_cols.ensures ∙ ap (λ (t : Tree). t.key_cols) c.deref-3.ensures ∙ h.folded.lower.middle.key_cols in
     let write : c.in_ok-write.write.value ≡ empty_tree l.stable.schema.key_cols =
     c.in_ok-write.ensures.ok ∙ c.new-none.ensures ∙ ap empty_tree key_cols in
     let next = merged_folded m l i.newest i.kept.items h c.in_ok-read.read.value read in
-    let held : ◌≡◌ {A = Lower} (record { stable = c.in_ok-clone.field-0.value; read = c.in_ok-read.read.value; write = c.in_ok-write.write.value }) (merged m l i.newest i.kept.items h c.in_ok-read.read.value read) =
+    let held :
+    ◌≡◌ {A = Lower}
+    (record { stable = c.in_ok-clone.field-0.value; read = c.in_ok-read.read.value; write = c.in_ok-write.write.value })
+    (merged m l i.newest i.kept.items h c.in_ok-read.read.value read) =
     λ j. record { stable = c.in_ok-clone.ensures.cases j; read = c.in_ok-read.read.value; write = write j } in
     let number : c.number.result ≡ newest_number m = c.number.ensures ∙ ap (λ (v : TableVersion). v.number) h.newest_is in
     let version = c.in_ok-version.ensures ∙ (λ j. numbered (held j) (number j)) in
     record {
       lawful = subst AreFolded (sym held) next;
       merged =
-          subst (λ (e : Lower). AreMerged e (record { stable = c.in_ok-clone.field-0.value; read = c.in_ok-read.read.value; write = c.in_ok-write.write.value }))
+          subst (λ (e : Lower). AreMerged e (record
+          { stable = c.in_ok-clone.field-0.value; read = c.in_ok-read.read.value; write = c.in_ok-write.write.value }))
           (ap (λ (v : Managed). v.layers) c.self.view_is)
           (record { lawful = h.folded.lower; stable = c.in_ok-clone.ensures.cases; read = read; write = write });
       version_is = ap table_version version ∙ merged_version m l i.newest i.kept.items h c.in_ok-read.read.value read (newest_number m);

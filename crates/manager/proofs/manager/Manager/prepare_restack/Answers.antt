@@ -13,15 +13,20 @@ version-requires c =
     let i = c.self.inside in
     let l : Lower = record { stable = i.held.stable.value; read = i.held.read.value; write = i.held.write.value } in
     let m = c.args.self.now in
-    let h : HoldsNewest m l i.newest i.kept.items = subst (λ (v : Managed). HoldsNewest v l i.newest i.kept.items) c.self.view_is c.self.invariant.0 in
+    let h : HoldsNewest m l i.newest i.kept.items =
+    subst (λ (v : Managed). HoldsNewest v l i.newest i.kept.items) c.self.view_is c.self.invariant.0 in
     let layers : l ≡ m.layers = ap (λ (v : Managed). v.layers) c.self.view_is in
     let below : c.args.table.now.value ≡ stable_below l = c.requires.below ∙ sym (ap stable_below layers) in
     let lent : c.deref.result.now ≡ stable_below l = c.deref.ensures ∙ below in
     let lawful : IsStable (stable_below l) = subst IsStable lent c.schema.ensures.lawful in
     let key_cols : c.key_cols.result ≡ l.stable.schema.key_cols =
     c.key_cols.ensures.count ∙ ap (λ (s : Columns). s.key_cols) c.schema.ensures.columns ∙ ap (λ (s : Stable). s.schema.key_cols) lent in
-    let read : c.in_ok-read.read.value ≡ empty_tree l.stable.schema.key_cols = c.in_ok-read.ensures.ok ∙ c.new-none.ensures ∙ ap empty_tree key_cols in
-    let held : ◌≡◌ {A = Lower} (record { stable = c.in_ok-clone.field-0.value; read = c.in_ok-read.read.value; write = c.in_ok-clone-2.field-0.value }) (restacked l) =
+    let read : c.in_ok-read.read.value ≡ empty_tree l.stable.schema.key_cols =
+    c.in_ok-read.ensures.ok ∙ c.new-none.ensures ∙ ap empty_tree key_cols in
+    let held :
+    ◌≡◌ {A = Lower}
+    (record { stable = c.in_ok-clone.field-0.value; read = c.in_ok-read.read.value; write = c.in_ok-clone-2.field-0.value })
+    (restacked l) =
     λ j. record { stable = (c.in_ok-clone.ensures.cases ∙ below) j; read = read j; write = c.in_ok-clone-2.ensures.cases j } in
     subst AreLower (sym held) (restacked_folded m l i.newest i.kept.items h lawful).lower
 
@@ -30,18 +35,24 @@ returns c =
     let i = c.self.inside in
     let l : Lower = record { stable = i.held.stable.value; read = i.held.read.value; write = i.held.write.value } in
     let m = c.args.self.now in
-    let h : HoldsNewest m l i.newest i.kept.items = subst (λ (v : Managed). HoldsNewest v l i.newest i.kept.items) c.self.view_is c.self.invariant.0 in
+    let h : HoldsNewest m l i.newest i.kept.items =
+    subst (λ (v : Managed). HoldsNewest v l i.newest i.kept.items) c.self.view_is c.self.invariant.0 in
     let layers : l ≡ m.layers = ap (λ (v : Managed). v.layers) c.self.view_is in
     let below : c.args.table.now.value ≡ stable_below l = c.requires.below ∙ sym (ap stable_below layers) in
     let lent : c.deref.result.now ≡ stable_below l = c.deref.ensures ∙ below in
     let lawful : IsStable (stable_below l) = subst IsStable lent c.schema.ensures.lawful in
     let key_cols : c.key_cols.result ≡ l.stable.schema.key_cols =
     c.key_cols.ensures.count ∙ ap (λ (s : Columns). s.key_cols) c.schema.ensures.columns ∙ ap (λ (s : Stable). s.schema.key_cols) lent in
-    let read : c.in_ok-read.read.value ≡ empty_tree l.stable.schema.key_cols = c.in_ok-read.ensures.ok ∙ c.new-none.ensures ∙ ap empty_tree key_cols in
-    let held : ◌≡◌ {A = Lower} (record { stable = c.in_ok-clone.field-0.value; read = c.in_ok-read.read.value; write = c.in_ok-clone-2.field-0.value }) (restacked l) =
+    let read : c.in_ok-read.read.value ≡ empty_tree l.stable.schema.key_cols =
+    c.in_ok-read.ensures.ok ∙ c.new-none.ensures ∙ ap empty_tree key_cols in
+    let held :
+    ◌≡◌ {A = Lower}
+    (record { stable = c.in_ok-clone.field-0.value; read = c.in_ok-read.read.value; write = c.in_ok-clone-2.field-0.value })
+    (restacked l) =
     λ j. record { stable = (c.in_ok-clone.ensures.cases ∙ below) j; read = read j; write = c.in_ok-clone-2.ensures.cases j } in
     let number : c.number.result ≡ newest_number m = c.number.ensures ∙ ap (λ (v : TableVersion). v.number) h.newest_is in
-    let version : c.in_ok-version.version ≡ numbered (restacked l) (newest_number m) = c.in_ok-version.ensures ∙ (λ j. numbered (held j) (number j)) in
+    let version : c.in_ok-version.version ≡ numbered (restacked l) (newest_number m) =
+    c.in_ok-version.ensures ∙ (λ j. numbered (held j) (number j)) in
     record {
       lawful = subst AreFolded (sym held) (restacked_folded m l i.newest i.kept.items h lawful);
       moved = held ∙ ap restacked layers;

@@ -11,17 +11,30 @@ use Rattle.merge.proofs.cursor.Cursor.pass_modifies.Goals as goal
 pub overflow_cast-sid : goal.overflow_cast-sid
 overflow_cast-sid c =
     let old = c.args.self.now in
-    omega (arith, c.sid-sid.ensures, c.requires.next.here, placed_at old.tree.key_cols old.tree.entries old.index c.args.entry.now c.requires.is.1.lawful c.requires.next.next)
+    omega (
+      arith,
+      c.sid-sid.ensures,
+      c.requires.next.here,
+      placed_at old.tree.key_cols old.tree.entries old.index c.args.entry.now c.requires.is.1.lawful c.requires.next.next,
+    )
 
 pub overflow_add-first : goal.overflow_add-first
 overflow_add-first c =
     let old = c.args.self.now in
-    omega (arith, c.index-first.ensures, place_fits old.tree.key_cols old.tree.entries old.index c.args.entry.now c.requires.is.1.lawful c.requires.next.next)
+    omega (
+      arith,
+      c.index-first.ensures,
+      place_fits old.tree.key_cols old.tree.entries old.index c.args.entry.now c.requires.is.1.lawful c.requires.next.next,
+    )
 
 pub overflow_add-first-in-Some-1 : goal.overflow_add-first-in-Some-1
 overflow_add-first-in-Some-1 c =
     let old = c.args.self.now in
-    omega (arith, c.index-first.ensures, place_fits old.tree.key_cols old.tree.entries old.index c.args.entry.now c.requires.is.1.lawful c.requires.next.next)
+    omega (
+      arith,
+      c.index-first.ensures,
+      place_fits old.tree.key_cols old.tree.entries old.index c.args.entry.now c.requires.is.1.lawful c.requires.next.next,
+    )
 
 pub returns-then-last-first-clause-passed : goal.returns-then-last-first-clause-passed
 returns-then-last-first-clause-passed c =

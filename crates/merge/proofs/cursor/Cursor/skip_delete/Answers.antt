@@ -5,4 +5,5 @@ use Rattle.merge.proofs.cursor.Cursor.skip_delete.Goals as goal
 
 pub returns-then-is_deleted-clause-skipped : goal.returns-then-is_deleted-clause-skipped
 returns-then-is_deleted-clause-skipped c = λ is.
-    deletes_test c.args.self.now c.pass.new.self (sym c.stands_at_delete-is_deleted.ensures ∙ is) (c.pass.ensures ∙ ap (moved 1) c.advance.ensures)
+    deletes_test c.args.self.now c.pass.new.self (sym c.stands_at_delete-is_deleted.ensures ∙ is)
+    (c.pass.ensures ∙ ap (moved 1) c.advance.ensures)

@@ -11,7 +11,10 @@ returns-in-None c =
 pub returns-then-sid : goal.returns-then-sid
 returns-then-sid c =
     let old = c.args.self.now in
-    c.is_delete.ensures ∙ sym (starts-same old.sid old.tree.entries old.index c.in-Some.entry.now (sym c.next_entry.ensures ∙ ap option_copied c.in-Some.is) (sym c.sid.ensures ∙ c.if-sid.true ∙ c.sid-in-Some.ensures))
+    c.is_delete.ensures
+    ∙ sym (starts-same old.sid old.tree.entries old.index c.in-Some.entry.now
+    (sym c.next_entry.ensures ∙ ap option_copied c.in-Some.is)
+    (sym c.sid.ensures ∙ c.if-sid.true ∙ c.sid-in-Some.ensures))
 
 pub returns-else-sid : goal.returns-else-sid
 returns-else-sid c =

@@ -20,9 +20,12 @@ new-requires c =
     let col = c.args.col in
     let rows = image_rows s in
     let table = subst (λ (s : Stack). IsTable s.schema (image_table s)) c.self.view_is
-    (image_is_table l.stable.now l.read.now l.write.now (tree_over l.stable.now.schema.key_cols (option_copied l.trans)) c.self.invariant.stacked) in
+    (image_is_table l.stable.now l.read.now l.write.now (tree_over l.stable.now.schema.key_cols (option_copied l.trans))
+    c.self.invariant.stacked)
+    in
     let ty = get_or s.schema.types col column.Int in
-    let same : c.column.result.now.ty ≡ ty = ap (λ (x : Column). x.ty) c.column.ensures ∙ ap (λ (s : Stack). get_or s.schema.types col column.Int) c.self.view_is in
+    let same : c.column.result.now.ty ≡ ty =
+    ap (λ (x : Column). x.ty) c.column.ensures ∙ ap (λ (s : Stack). get_or s.schema.types col column.Int) c.self.view_is in
     let Here : Row → Type 0 = StandsAt ty col in
     let stand : All Here (drop c.args.from (take c.args.to rows)) =
     All-drop Here c.args.from (take c.args.to rows) (All-take Here c.args.to rows (table_stands s.schema rows col table c.requires)) in

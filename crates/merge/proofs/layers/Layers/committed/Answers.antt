@@ -8,15 +8,25 @@ pub grown-under_read-requires-clause-enough : goal.grown-under_read-requires-cla
 grown-under_read-requires-clause-enough c =
     let none = tree_over c.args.stable.now.schema.key_cols None in
     let s = stack_of c.args.stable.now c.args.read.now c.args.write.now none in
-    let levels = are_levels c.args.stable.now c.args.read.now c.args.write.now none (none_stacked c.args.stable.now c.args.read.now c.args.write.now c.requires) in
+    let levels =
+    are_levels c.args.stable.now c.args.read.now c.args.write.now none
+    (none_stacked c.args.stable.now c.args.read.now c.args.write.now c.requires) in
     omega (arith, c.len.ensures.count, length-merged_rows s.schema.key_cols s.rows s.read levels.lower)
 
 pub grown-requires-clause-enough : goal.grown-requires-clause-enough
 grown-requires-clause-enough c =
     let none = tree_over c.args.stable.now.schema.key_cols None in
     let s = stack_of c.args.stable.now c.args.read.now c.args.write.now none in
-    let levels = are_levels c.args.stable.now c.args.read.now c.args.write.now none (none_stacked c.args.stable.now c.args.read.now c.args.write.now c.requires) in
-    omega (arith, c.len.ensures.count, c.grown-under_read.ensures.sum, length-merged_rows s.schema.key_cols s.rows s.read levels.lower, length-merged_rows s.schema.key_cols (read_rows s) s.write levels.middle)
+    let levels =
+    are_levels c.args.stable.now c.args.read.now c.args.write.now none
+    (none_stacked c.args.stable.now c.args.read.now c.args.write.now c.requires) in
+    omega (
+      arith,
+      c.len.ensures.count,
+      c.grown-under_read.ensures.sum,
+      length-merged_rows s.schema.key_cols s.rows s.read levels.lower,
+      length-merged_rows s.schema.key_cols (read_rows s) s.write levels.middle,
+    )
 
 pub invariant_of-result : goal.invariant_of-result
 invariant_of-result c =
@@ -35,7 +45,18 @@ invariant_of-result c =
       trans_lawful = nothing_lawful c.args.stable.now.schema.key_cols;
       few = few;
       read_few = omega (arith, few, first, c.len.ensures.count, c.grown-under_read.ensures.sum, c.grown-under_read.ensures.most);
-      write_few = omega (arith, few, first, second, c.len.ensures.count, c.grown-under_read.ensures.sum, c.grown-under_read.ensures.most, c.grown.ensures.sum, c.grown.ensures.most);
+      write_few =
+          omega (
+            arith,
+            few,
+            first,
+            second,
+            c.len.ensures.count,
+            c.grown-under_read.ensures.sum,
+            c.grown-under_read.ensures.most,
+            c.grown.ensures.sum,
+            c.grown.ensures.most,
+          );
       image_few = omega (arith, few, c.len.ensures.count, c.grown-under_read.ensures.most, c.grown.ensures.most);
       counted = omega (arith, first, second, third, c.len.ensures.count, c.grown-under_read.ensures.sum, c.grown.ensures.sum);
     }

@@ -9,18 +9,26 @@ pub at-read-requires : goal.at-read-requires
 at-read-requires c =
     let l = c.self.inside in
     let top = tree_over l.stable.now.schema.key_cols (option_copied l.trans) in
-    let low : c.args.rid ≤ length (write_rows (stack_of l.stable.now l.read.now l.write.now top)) = subst (λ (s : Stack). c.args.rid ≤ length (write_rows s)) (sym c.self.view_is) c.requires in
-    let w = write_at l.stable.now l.read.now l.write.now top l.len c.self.invariant c.args.rid c.at-write.result low c.at-write.ensures.at in
+    let low : c.args.rid ≤ length (write_rows (stack_of l.stable.now l.read.now l.write.now top)) =
+    subst (λ (s : Stack). c.args.rid ≤ length (write_rows s)) (sym c.self.view_is) c.requires in
+    let w =
+    write_at l.stable.now l.read.now l.write.now top l.len c.self.invariant c.args.rid c.at-write.result low
+    c.at-write.ensures.at in
     record { few = omega (arith, w.within, c.sid.ensures, c.self.invariant.read_few) }
 
 pub returns-clause-rows : goal.returns-clause-rows
 returns-clause-rows c =
     let l = c.self.inside in
     let top = tree_over l.stable.now.schema.key_cols (option_copied l.trans) in
-    let low : c.args.rid ≤ length (write_rows (stack_of l.stable.now l.read.now l.write.now top)) = subst (λ (s : Stack). c.args.rid ≤ length (write_rows s)) (sym c.self.view_is) c.requires in
-    let w = write_at l.stable.now l.read.now l.write.now top l.len c.self.invariant c.args.rid c.at-write.result low c.at-write.ensures.at in
+    let low : c.args.rid ≤ length (write_rows (stack_of l.stable.now l.read.now l.write.now top)) =
+    subst (λ (s : Stack). c.args.rid ≤ length (write_rows s)) (sym c.self.view_is) c.requires in
+    let w =
+    write_at l.stable.now l.read.now l.write.now top l.len c.self.invariant c.args.rid c.at-write.result low
+    c.at-write.ensures.at in
     let w_low = subst (λ n. n ≤ length (read_rows (stack_of l.stable.now l.read.now l.write.now top))) (sym c.sid.ensures) w.within in
-    let r = read_at l.stable.now l.read.now l.write.now top l.len c.self.invariant c.sid.result c.at-read.result w_low c.at-read.ensures.at in
+    let r =
+    read_at l.stable.now l.read.now l.write.now top l.len c.self.invariant c.sid.result c.at-read.result w_low
+    c.at-read.ensures.at in
     let r_here = subst (λ n. IsCursorAt l.stable.now.rows n c.at-read.result) c.sid.ensures r in
     let r_is = ap (λ x. x.entries) c.at-read.ensures.tree in
     let w_is = ap (λ x. x.entries) c.at-write.ensures.tree in
@@ -32,10 +40,15 @@ pub returns-clause-cursors : goal.returns-clause-cursors
 returns-clause-cursors c =
     let l = c.self.inside in
     let top = tree_over l.stable.now.schema.key_cols (option_copied l.trans) in
-    let low : c.args.rid ≤ length (write_rows (stack_of l.stable.now l.read.now l.write.now top)) = subst (λ (s : Stack). c.args.rid ≤ length (write_rows s)) (sym c.self.view_is) c.requires in
-    let w = write_at l.stable.now l.read.now l.write.now top l.len c.self.invariant c.args.rid c.at-write.result low c.at-write.ensures.at in
+    let low : c.args.rid ≤ length (write_rows (stack_of l.stable.now l.read.now l.write.now top)) =
+    subst (λ (s : Stack). c.args.rid ≤ length (write_rows s)) (sym c.self.view_is) c.requires in
+    let w =
+    write_at l.stable.now l.read.now l.write.now top l.len c.self.invariant c.args.rid c.at-write.result low
+    c.at-write.ensures.at in
     let w_low = subst (λ n. n ≤ length (read_rows (stack_of l.stable.now l.read.now l.write.now top))) (sym c.sid.ensures) w.within in
-    let r = read_at l.stable.now l.read.now l.write.now top l.len c.self.invariant c.sid.result c.at-read.result w_low c.at-read.ensures.at in
+    let r =
+    read_at l.stable.now l.read.now l.write.now top l.len c.self.invariant c.sid.result c.at-read.result w_low
+    c.at-read.ensures.at in
     let r_here = subst (λ n. IsCursorAt l.stable.now.rows n c.at-read.result) c.sid.ensures r in
     let r_is = ap (λ x. x.entries) c.at-read.ensures.tree in
     let w_is = ap (λ x. x.entries) c.at-write.ensures.tree in
@@ -43,7 +56,10 @@ returns-clause-cursors c =
     record {
       few = c.self.invariant.few;
       read = subst (λ n. IsCursor (length (drop n l.stable.now.rows)) c.at-read.result) here r.cursor;
-      write = subst (λ n. IsCursor (length (rows_left c.at-read.result (drop n l.stable.now.rows))) c.at-write.result) here (write_stands l.stable.now.rows l.read.now.entries l.write.now.entries c.at-read.result c.at-write.result c.args.rid r_here w r_is w_is);
+      write =
+          subst (λ n. IsCursor (length (rows_left c.at-read.result (drop n l.stable.now.rows))) c.at-write.result) here
+          (write_stands l.stable.now.rows l.read.now.entries l.write.now.entries c.at-read.result c.at-write.result c.args.rid
+          r_here w r_is w_is);
       read_layer = refl;
       write_layer = refl;
     }

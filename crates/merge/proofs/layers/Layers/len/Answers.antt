@@ -9,4 +9,5 @@ pub returns-clause-table : goal.returns-clause-table
 returns-clause-table c =
     let l = c.self.inside in
     subst (λ (s : Stack). IsTable s.schema (image_table s)) c.self.view_is
-    (image_is_table l.stable.now l.read.now l.write.now (tree_over l.stable.now.schema.key_cols (option_copied l.trans)) c.self.invariant.stacked)
+    (image_is_table l.stable.now l.read.now l.write.now (tree_over l.stable.now.schema.key_cols (option_copied l.trans))
+    c.self.invariant.stacked)

@@ -14,13 +14,27 @@ pub grown-under_write-requires-clause-enough : goal.grown-under_write-requires-c
 grown-under_write-requires-clause-enough c =
     let s = stack_of c.args.stable.now c.args.read.now c.args.write.now c.args.trans.now in
     let levels = are_levels c.args.stable.now c.args.read.now c.args.write.now c.args.trans.now c.requires in
-    omega (arith, c.len.ensures.count, c.grown-under_read.ensures.sum, length-merged_rows s.schema.key_cols s.rows s.read levels.lower, length-merged_rows s.schema.key_cols (read_rows s) s.write levels.middle)
+    omega (
+      arith,
+      c.len.ensures.count,
+      c.grown-under_read.ensures.sum,
+      length-merged_rows s.schema.key_cols s.rows s.read levels.lower,
+      length-merged_rows s.schema.key_cols (read_rows s) s.write levels.middle,
+    )
 
 pub grown-requires-clause-enough : goal.grown-requires-clause-enough
 grown-requires-clause-enough c =
     let s = stack_of c.args.stable.now c.args.read.now c.args.write.now c.args.trans.now in
     let levels = are_levels c.args.stable.now c.args.read.now c.args.write.now c.args.trans.now c.requires in
-    omega (arith, c.len.ensures.count, c.grown-under_read.ensures.sum, c.grown-under_write.ensures.sum, length-merged_rows s.schema.key_cols s.rows s.read levels.lower, length-merged_rows s.schema.key_cols (read_rows s) s.write levels.middle, length-merged_rows s.schema.key_cols (write_rows s) s.trans levels.upper)
+    omega (
+      arith,
+      c.len.ensures.count,
+      c.grown-under_read.ensures.sum,
+      c.grown-under_write.ensures.sum,
+      length-merged_rows s.schema.key_cols s.rows s.read levels.lower,
+      length-merged_rows s.schema.key_cols (read_rows s) s.write levels.middle,
+      length-merged_rows s.schema.key_cols (write_rows s) s.trans levels.upper,
+    )
 
 pub invariant_of-result : goal.invariant_of-result
 invariant_of-result c =
@@ -37,7 +51,36 @@ invariant_of-result c =
       trans_lawful = c.grown.ensures.lawful;
       few = few;
       read_few = omega (arith, few, first, c.len.ensures.count, c.grown-under_read.ensures.sum, c.grown-under_read.ensures.most);
-      write_few = omega (arith, few, first, second, c.len.ensures.count, c.grown-under_read.ensures.sum, c.grown-under_read.ensures.most, c.grown-under_write.ensures.sum, c.grown-under_write.ensures.most);
-      image_few = omega (arith, few, c.len.ensures.count, c.grown-under_read.ensures.most, c.grown-under_write.ensures.most, c.grown.ensures.most);
-      counted = omega (arith, first, second, third, c.len.ensures.count, c.grown-under_read.ensures.sum, c.grown-under_write.ensures.sum, c.grown.ensures.sum);
+      write_few =
+          omega (
+            arith,
+            few,
+            first,
+            second,
+            c.len.ensures.count,
+            c.grown-under_read.ensures.sum,
+            c.grown-under_read.ensures.most,
+            c.grown-under_write.ensures.sum,
+            c.grown-under_write.ensures.most,
+          );
+      image_few =
+          omega (
+            arith,
+            few,
+            c.len.ensures.count,
+            c.grown-under_read.ensures.most,
+            c.grown-under_write.ensures.most,
+            c.grown.ensures.most,
+          );
+      counted =
+          omega (
+            arith,
+            first,
+            second,
+            third,
+            c.len.ensures.count,
+            c.grown-under_read.ensures.sum,
+            c.grown-under_write.ensures.sum,
+            c.grown.ensures.sum,
+          );
     }

@@ -13,11 +13,15 @@ returns-then-rid-self c =
     let rows = image_rows c.args.self.now in
     let stretch = stretch_rows c.next_stretch.result in
     let left : List Row = image_left c.next_stretch.new.self in
-    let next : drop c.args.rid rows ≡ row_of c.first.result ∷ (drop 1 stretch ++ left) = sym c.rows_from-rows.ensures.rows ∙ c.next_stretch.ensures.rows ∙ ap (λ (xs : List Row). xs ++ left) c.first.ensures.row in
+    let next : drop c.args.rid rows ≡ row_of c.first.result ∷ (drop 1 stretch ++ left) =
+    sym c.rows_from-rows.ensures.rows
+    ∙ c.next_stretch.ensures.rows
+    ∙ ap (λ (xs : List Row). xs ++ left) c.first.ensures.row in
     sym (slice_get-drop rows c.args.rid (row_of c.first.result) (drop 1 stretch ++ left) next)
 
 pub returns-else-rid-self : goal.returns-else-rid-self
 returns-else-rid-self c =
     let rows = image_rows c.args.self.now in
-    let past : length rows ≤ c.args.rid = omega (arith, ap (λ (s : Stack). length (image_rows s)) c.self.view_is, c.self.invariant.counted, c.if-rid-self.false) in
+    let past : length rows ≤ c.args.rid =
+    omega (arith, ap (λ (s : Stack). length (image_rows s)) c.self.view_is, c.self.invariant.counted, c.if-rid-self.false) in
     sym (slice_get_past rows c.args.rid past)

@@ -7,4 +7,5 @@ pub returns-clause-rows : goal.returns-clause-rows
 returns-clause-rows c =
     let rows = c.args.self.now.table.now.rows in
     let left : List Cells = drop c.args.self.now.sid rows in
-    sym (take-append-drop c.args.most left) ∙ ap (λ (ys : List Cells). take c.args.most left ++ ys) (drop-drop c.args.most c.args.self.now.sid rows)
+    sym (take-append-drop c.args.most left)
+    ∙ ap (λ (ys : List Cells). take c.args.most left ++ ys) (drop-drop c.args.most c.args.self.now.sid rows)

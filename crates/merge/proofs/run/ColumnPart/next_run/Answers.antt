@@ -11,7 +11,14 @@ run_of-requires c =
     let part = c.args.self.now in
     let values = part.column.now.values in
     let begin = 1024 * (part.first / 1024) in
-    omega (arith, c.requires.within, c.min-count.ensures, ap (λ (b : Column). length b.values) c.block-block.ensures, length-take 1024 (drop begin values), length-drop begin values)
+    omega (
+      arith,
+      c.requires.within,
+      c.min-count.ensures,
+      ap (λ (b : Column). length b.values) c.block-block.ensures,
+      length-take 1024 (drop begin values),
+      length-drop begin values,
+    )
 
 pub returns-clause-values : goal.returns-clause-values
 returns-clause-values c =

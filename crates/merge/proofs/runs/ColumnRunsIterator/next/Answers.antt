@@ -55,7 +55,8 @@ returns-in-Row-clause-steps c =
     let stand = left_stand ty col own rest inside.stretches is c.self.invariant.1 in (
       sym c.self.view_is
           ∙ ap (λ (vs : List Value). record { ty = ty; values = vs })
-          (values_next col inside.part own rest inside.stretches (v ∷ []) c.if-self-gt0.false is (view_values ty col view v stand c.value.ensures)
+          (values_next col inside.part own rest inside.stretches (v ∷ []) c.if-self-gt0.false is
+          (view_values ty col view v stand c.value.ensures)
           ∙ ap (λ (vs : List Value). v ∷ (vs ++ column_values col rest)) (sym (nothing_left inside.part c.if-self-gt0.false))),
       omega arith,
       view_typed ty col view v stand c.value.ensures,
@@ -77,7 +78,9 @@ returns-in-Stable-clause-steps c =
       sym c.self.view_is
           ∙ (λ i. record {
             ty = sym same i;
-            values = (values_next col inside.part own rest inside.stretches (part_values c.of_stretch-part.result) c.if-self-gt0.false is c.of_stretch-part.ensures.values
+            values =
+                (values_next col inside.part own rest inside.stretches (part_values c.of_stretch-part.result) c.if-self-gt0.false
+                is c.of_stretch-part.ensures.values
                 ∙ ap (λ (vs : List Value). vs ++ column_values col rest) c.next_run-run.ensures.values
                 ∙ append_assoc run left (column_values col rest)) i;
           }),

@@ -11,7 +11,8 @@ none (x ∷ xs) e = absurd (omega arith)
 
 pub returns-clause-ascending : goal.returns-clause-ascending
 returns-clause-ascending c ascending =
-    let none_left : c.loop-row.row-iterator.rest.items ≡ [] = none (c.loop-row.row-iterator.rest.items) (sym c.loop-row.row-iterator.rest.ok.0 ∙ c.in-None.ensures.steps.0) in
+    let none_left : c.loop-row.row-iterator.rest.items ≡ [] =
+    none (c.loop-row.row-iterator.rest.items) (sym c.loop-row.row-iterator.rest.ok.0 ∙ c.in-None.ensures.steps.0) in
     let rows = table_of c.args.key_cols c.args.rows.items in
     sym (ap (λ left. alter_all key_cmp (λ row old. Some row) (table_of c.args.key_cols left) c.loop-row.by_key.entries) none_left)
     ∙ c.loop-row.invariant

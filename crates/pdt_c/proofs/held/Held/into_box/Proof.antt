@@ -73,7 +73,8 @@ into_box_spec 𝓤 𝓛 𝓜 𝓡 wired T A L LA g d dx dd allocator glue glued 
     let from : Shape = shape (held.the_type R Z g) in
     let from_raw = triple_of 𝓛 (callee.signature T A g d dd) (callee.spec T A g d dd 𝓛 𝓜.mem 𝓡.returns) in
     let stays : Stays En.signature.params En.kept = (stay_dropped (plain (λ _. From)) no, tt) in
-    proved_at 𝓛 En stays c 𝓜 𝓡 (Goes-blank 𝓛 2 (plain (λ _. From)) no (λ κs x f. tt), tt) (#self at_types) fn (code.unfolded 𝓤 H 𝓜 𝓡 wired (T, (A, tt)) d dx dd) (λ y are.
+    proved_at 𝓛 En stays c 𝓜 𝓡 (Goes-blank 𝓛 2 (plain (λ _. From)) no (λ κs x f. tt), tt) (#self at_types) fn
+    (code.unfolded 𝓤 H 𝓜 𝓡 wired (T, (A, tt)) d dx dd) (λ y are.
     let κs = y.0.0 in
     let qs = y.0.1 in
     let given = y.0.3.0 in
@@ -83,11 +84,14 @@ into_box_spec 𝓤 𝓛 𝓜 𝓡 wired T A L LA g d dx dd allocator glue glued 
     let Runs : List Val → SProp 𝓤 = λ ws. WpFn 𝓤 H 𝓣.C 𝓣.Λ fn ws Post in
     let alive = ‵ (flft κs.0 qs.0) ⊛ ‵ (flft κs.1.0 qs.1.0) ⊛ ‵ ftrue in
     let asked = raw ((c κs y.0.3).requires y.1) in
-    qed 𝓛 ((alive ⊛ ‵ (owns (types_at En.signature.params κs) y.0.3 y.0.4)) ∷ asked ∷ []) ∵ split ! $ move ! (1 ∷ []) $ fsplit ! $ fsplit ! $
+    qed 𝓛 ((alive ⊛ ‵ (owns (types_at En.signature.params κs) y.0.3 y.0.4)) ∷ asked ∷ []) ∵ split ! $ move ! (1 ∷ []) $ fsplit ! $
+    fsplit ! $
     word_out Z LZ g from.name from.args from.types ! p a y.0.4.0 (λ h is fits.
     -- [the allocator; what stands behind the pointer; nothing; alive; the bounds and the `requires`]
-    move ! (4 ∷ []) $ use1 𝓛 (raw (fact 𝓤 (κs.0 ⊑ T.lives)) ⊛ raw (fact 𝓤 (κs.1.0 ⊑ A.lives)) ⊛ raw (fact 𝓤 (IsSome given.value))) (id⊢ 𝓤 _) $ split3 ! $
-    move ! (2 ∷ []) $ heard ! (IsSome given.value) (λ is_some. move ! (3 ∷ []) $ standing ! (g.dealloc_token a) R p given.value is_some (λ x stands.
+    move ! (4 ∷ []) $ use1 𝓛 (raw (fact 𝓤 (κs.0 ⊑ T.lives)) ⊛ raw (fact 𝓤 (κs.1.0 ⊑ A.lives)) ⊛ raw (fact 𝓤 (IsSome given.value)))
+    (id⊢ 𝓤 _) $ split3 ! $
+    move ! (2 ∷ []) $ heard ! (IsSome given.value)
+    (λ is_some. move ! (3 ∷ []) $ standing ! (g.dealloc_token a) R p given.value is_some (λ x stands.
     let w : Val = word p h in
     let typed = word_typed Z LZ g p h fits in
     let asks : from_raw.Ghost = ((κs, qs, tt, (a, (p, tt)), (h ∷ [], (ptr_val p ∷ [], tt))), x) in
@@ -95,19 +99,27 @@ into_box_spec 𝓤 𝓛 𝓜 𝓡 wired T A L LA g d dx dd allocator glue glued 
     move ! (2 ∷ 0 ∷ []) $ join ! $ move ! (1 ∷ 0 ∷ []) $ join ! $
     move ! (2 ∷ []) $ feq_i ! (List Val) (ptr_val p ∷ []) (ptr_val p ∷ []) refl $ fjoin ! $ move ! (2 ∷ 0 ∷ []) $ fjoin ! $
     move ! (2 ∷ 0 ∷ []) $ join ! $ join ! $ use1 𝓛 (raw (from_raw.pre asks)) (id⊢ 𝓤 _) $
-    suffices ! (Runs (w ∷ [])) (subst (λ (us : List Val). ent 𝓤 (Runs (w ∷ [])) (Runs us)) (sym (λ i. is i ++ [])) (id⊢ 𝓤 (Runs (w ∷ [])))) $
+    suffices ! (Runs (w ∷ []))
+    (subst (λ (us : List Val). ent 𝓤 (Runs (w ∷ [])) (Runs us)) (sym (λ i. is i ++ [])) (id⊢ 𝓤 (Runs (w ∷ [])))) $
     enter ! 𝓣.C 𝓣.Λ fn (w ∷ []) Post $ alloc_all ! (λ l. pass_all ! refl (typed, tt) $
     let Ev = env fn.locals l in
     sets ! (of_opd ! (get_in ! (fld ! refl (stop !)) (sub ! 0 refl (whole !)))) refl (pointer_typed p) $
     sets ! (of_opd ! (get_in ! (fld ! refl (stop !)) (sub ! 1 refl (whole !)))) refl fits $
     first ! $ blocks ! $ sets ! (of_opd ! (get ! refl)) refl fits $
-    calls_at_last ! (fm 𝓛 𝓜 𝓡) from_raw (met 𝓤 𝓛 𝓜 𝓡 (code.calls-std_alloc::boxed::Box::from_raw 𝓡.env wired) T A L LA g d dd allocator glued) asks (and_then ! (get ! refl) (and_then ! (get ! refl) (no_more !))) (λ v.
-    use1 𝓛 (later (some (λ (r : B.Denot). (alive ⊛ ‵ (B.own_val r (v ∷ []))) ⊛ some (λ (ends : Lasts (callee.ended T A g d dd) κs asks.0.3). ‵ (lasts (callee.ended T A g d dd) κs asks.0.3 ends)
+    calls_at_last ! (fm 𝓛 𝓜 𝓡) from_raw
+    (met 𝓤 𝓛 𝓜 𝓡 (code.calls-std_alloc::boxed::Box::from_raw 𝓡.env wired) T A L LA g d dd allocator glued) asks
+    (and_then ! (get ! refl) (and_then ! (get ! refl) (no_more !))) (λ v.
+    use1 𝓛 (later (some (λ (r : B.Denot). (alive ⊛ ‵ (B.own_val r (v ∷ []))) ⊛ some
+    (λ (ends : Lasts (callee.ended T A g d dd) κs asks.0.3). ‵ (lasts (callee.ended T A g d dd) κs asks.0.3 ends)
     ⊛ (raw (fact 𝓤 (r.value ≡ x)) ⊛ raw (fact 𝓤 (r.alloc ≡ a))))))) (id⊢ 𝓤 (from_raw.post asks v)) $
-    await ! tt $ pick ! (λ r. split ! $ move ! (1 ∷ []) $ pick ! (λ _. split3 ! $ drop ! $ heard ! (r.value ≡ x) (λ same. drop ! $ split ! $ move ! (1 ∷ []) $
-    box_out E ! r (v ∷ []) (λ b o h' at is' fits'. box_in E ! r b o r.value at refl $ rewrite ! 0 (λ (us : List Val). ‵ (B.own_val r us)) (sym is') refl $
+    await ! tt $ pick ! (λ r. split ! $ move ! (1 ∷ []) $ pick !
+    (λ _. split3 ! $ drop ! $ heard ! (r.value ≡ x) (λ same. drop ! $ split ! $ move ! (1 ∷ []) $
+    box_out E ! r (v ∷ [])
+    (λ b o h' at is' fits'. box_in E ! r b o r.value at refl $ rewrite ! 0 (λ (us : List Val). ‵ (B.own_val r us)) (sym is') refl $
     let good : Good (layout B) v = subst (Good (layout B)) (sym (ap only is')) (word_typed Z LZ g (block_ptr b o) h' fits') in
     lands_last ! refl good $ exec ! 𝓣.C 𝓣.Λ Ev (after 3 fn.body) (at_ret Ev Post) $ sets ! (of_opd ! (get ! refl)) refl good $
-    use0 𝓛 (raw (fact 𝓤 (given.value ≡ Some r.value))) (fact_i 𝓤 (given.value ≡ Some r.value) (emp 𝓤) (stands ∙ ap (λ (z : T.Denot). Some z) (sym same))) $ nothing ! $ nothing ! $ fjoin ! $
+    use0 𝓛 (raw (fact 𝓤 (given.value ≡ Some r.value)))
+    (fact_i 𝓤 (given.value ≡ Some r.value) (emp 𝓤) (stands ∙ ap (λ (z : T.Denot). Some z) (sym same))) $ nothing ! $ nothing ! $
+    fjoin ! $
     returns ! (look_at ! 0 refl) $ free_all ! refl $ keep ! (3 ∷ 0 ∷ 2 ∷ 1 ∷ []) $
     by ! (leaves 𝓛 En stays c y v r ((tt, (tt, tt)), tt) (tt, tt))))))))))))

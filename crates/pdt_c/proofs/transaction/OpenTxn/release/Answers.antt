@@ -7,4 +7,5 @@ use Rattle.pdt_c.proofs.transaction.OpenTxn.release.Goals as goal
 pub invariant_of-self : goal.invariant_of-self
 invariant_of-self c =
     let inside = c.self.inside in
-    subst (λ (marks : List Marked). AreMarks inside.txn marks) (sym c.truncate.ensures.items) (first_marks inside.txn inside.marks.items c.args.level c.self.invariant)
+    subst (λ (marks : List Marked). AreMarks inside.txn marks) (sym c.truncate.ensures.items)
+    (first_marks inside.txn inside.marks.items c.args.level c.self.invariant)

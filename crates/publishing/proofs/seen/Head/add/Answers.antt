@@ -13,5 +13,6 @@ compare_exchange-found-requires g c =
       mine ∙ sym (ap (λ w. w.book) h),
       pen.0 ∙ (mine ∙ sym (ap (λ w. w.book) h)),
       offer.0,
-      rw (ap (λ w. w.key) h, pen.1, offer.1, offer.3) (adds_moves c.again-seen.result.log c.args.item c.list.inside.items (ap (λ s. length s.log) seen ∙ c.list.invariant.0)),
+      rw (ap (λ w. w.key) h, pen.1, offer.1, offer.3)
+          (adds_moves c.again-seen.result.log c.args.item c.list.inside.items (ap (λ s. length s.log) seen ∙ c.list.invariant.0)),
     )

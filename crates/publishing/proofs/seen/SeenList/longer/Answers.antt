@@ -16,7 +16,8 @@ returns-then-self-other-clause-this c =
     let less : length s ≤ length o = omega (arith, i, j) in
     let some : 0 < length s = omega (arith, i) in
     let p = items_in-prefix s o some (prefix_shorter s o both this c.learn.ensures.3 less) in
-    let q : IsPrefix c.args.self.now.list (items_in o) = subst (λ (l : List Item). IsPrefix l (items_in o)) (ap (λ k. k.list) c.self.view_is) p in
+    let q : IsPrefix c.args.self.now.list (items_in o) =
+    subst (λ (l : List Item). IsPrefix l (items_in o)) (ap (λ k. k.list) c.self.view_is) p in
     subst (λ (l : List Item). IsPrefix c.args.self.now.list l) (ap (λ k. k.list) c.other.view_is ∙ sym (ap (λ k. k.list) c.again.ensures)) q
 
 pub returns-clause-that : goal.returns-clause-that
@@ -30,5 +31,7 @@ returns-clause-that c =
     let less : length o ≤ length s = omega (arith, i, j) in
     let some : 0 < length o = omega (arith, j) in
     let p = items_in-prefix o s some (prefix_shorter o s both c.learn.ensures.3 this less) in
-    let q : IsPrefix c.args.other.now.list (items_in s) = subst (λ (l : List Item). IsPrefix l (items_in s)) (ap (λ k. k.list) c.other.view_is) p in
-    subst (λ (l : List Item). IsPrefix c.args.other.now.list l) (ap (λ k. k.list) c.self.view_is ∙ sym (ap (λ k. k.list) c.again-else-self-other.ensures)) q
+    let q : IsPrefix c.args.other.now.list (items_in s) =
+    subst (λ (l : List Item). IsPrefix l (items_in s)) (ap (λ k. k.list) c.other.view_is) p in
+    subst (λ (l : List Item). IsPrefix c.args.other.now.list l)
+    (ap (λ k. k.list) c.self.view_is ∙ sym (ap (λ k. k.list) c.again-else-self-other.ensures)) q

@@ -31,7 +31,9 @@ invariant_of-self-2 g c =
 
 pub returns-clause-manager : goal.returns-clause-manager
 returns-clause-manager g c =
-    subst (λ (s : Stand). MatchResult c.take.result (λ _. c.take.new.manager ≡ rebuilt_of s.manager) (λ _. c.take.new.manager ≡ s.manager)) c.self.view_is
+    subst
+    (λ (s : Stand). MatchResult c.take.result (λ _. c.take.new.manager ≡ rebuilt_of s.manager) (λ _. c.take.new.manager ≡ s.manager))
+    c.self.view_is
     c.take.ensures.manager
 
 pub returns-clause-list : goal.returns-clause-list

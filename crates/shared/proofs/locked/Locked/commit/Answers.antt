@@ -21,7 +21,9 @@ prepare-requires g c =
     let both = c.longer-both in
     let le = c.is_behind.ensures.no c.if-is_behind.false in
     record {
-      own = own_held g.O.Opening.opened.manager _ _ both.result.list c.self.inside.manager c.args.txn both.ensures.this both.ensures.that le i.0 c.requires.seen.1;
+      own =
+          own_held g.O.Opening.opened.manager _ _ both.result.list c.self.inside.manager c.args.txn both.ensures.this
+          both.ensures.that le i.0 c.requires.seen.1;
     }
 
 pub show_commit-requires-clause-own : goal.show_commit-requires-clause-own
@@ -29,14 +31,16 @@ show_commit-requires-clause-own g c =
     let i = c.self.invariant in
     let both = c.longer-both in
     let le = c.is_behind.ensures.no c.if-is_behind.false in
-    own_held g.O.Opening.opened.manager _ _ both.result.list c.self.inside.manager c.args.txn both.ensures.this both.ensures.that le i.0 c.requires.seen.1
+    own_held g.O.Opening.opened.manager _ _ both.result.list c.self.inside.manager c.args.txn both.ensures.this both.ensures.that
+    le i.0 c.requires.seen.1
 
 pub install-reply-requires-clause-own : goal.install-reply-requires-clause-own
 install-reply-requires-clause-own g c =
     let i = c.self.invariant in
     let both = c.longer-both in
     let le = c.is_behind.ensures.no c.if-is_behind.false in
-    own_held g.O.Opening.opened.manager _ _ both.result.list c.self.inside.manager c.args.txn both.ensures.this both.ensures.that le i.0 c.requires.seen.1
+    own_held g.O.Opening.opened.manager _ _ both.result.list c.self.inside.manager c.args.txn both.ensures.this both.ensures.that
+    le i.0 c.requires.seen.1
 
 pub returns-clause-replied : goal.returns-clause-replied
 returns-clause-replied g c =
@@ -83,7 +87,8 @@ invariant_of-self-2 g c =
       omega (arith, made, i.1, c.count_reply.ensures.total),
       i.2,
       i.3 ∙ sym (ap (λ (n : Managed). n.schema) kept),
-      subst (λ (n : Managed). GoesOn o n) (sym kept) (goes_on-over o (with_record m (record_of txn reply)) (goes_on-record o m i.4 (record_of txn reply)) layers),
+      subst (λ (n : Managed). GoesOn o n) (sym kept)
+          (goes_on-over o (with_record m (record_of txn reply)) (goes_on-record o m i.4 (record_of txn reply)) layers),
     )
 
 pub returns-clause-grown : goal.returns-clause-grown

@@ -24,7 +24,8 @@ returns-clause-of_list g c =
     let o = g.O.Opening.opened.manager in
     let list = c.self.inside.publisher in
     let of = of_list o list c.self.inside.manager c.self.invariant.0 in
-    subst (λ (s : Stand). IsOfList o s.list c.cut-history.result) c.self.view_is (subst (IsOfList o list) (sym c.cut-history.ensures.handed) of)
+    subst (λ (s : Stand). IsOfList o s.list c.cut-history.result) c.self.view_is
+    (subst (IsOfList o list) (sym c.cut-history.ensures.handed) of)
 
 pub returns-clause-list : goal.returns-clause-list
 returns-clause-list g c =

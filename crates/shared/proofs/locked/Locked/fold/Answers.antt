@@ -34,6 +34,7 @@ pub returns-clause-list : goal.returns-clause-list
 returns-clause-list g c =
     let shown = c.in_ok-show_same.ensures.list in
     let new = c.install_fold.new.self in
-    let version : c.version.result.now ≡ layered_version new = c.version.ensures ∙ c.in_ok-folded.ensures.layers_are ∙ sym (ap layered_version c.install_fold.ensures) in
+    let version : c.version.result.now ≡ layered_version new =
+    c.version.ensures ∙ c.in_ok-folded.ensures.layers_are ∙ sym (ap layered_version c.install_fold.ensures) in
     subst (λ (s : Stand). IsShownAgain s.list (layered_version new) c.show_same.new.self) c.self.view_is
     (subst (λ (v : LayeredVersion). IsShownAgain c.self.inside.publisher v c.show_same.new.self) version shown)

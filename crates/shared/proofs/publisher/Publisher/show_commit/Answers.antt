@@ -32,7 +32,8 @@ show-requires-clause-version g c =
     let some = sym c.version.ensures ∙ ap option_copied c.in-Some.is in
     let granted = granted_when m txn p.reply p.granted c.in-Some.version.now c.requires.prepared.installed some in
     let is = ap (λ (t : Transaction). commit_of t ∷ []) c.of.ensures in
-    version_commit g.O.Opening.opened.manager c.args.self.now m c.requires.listed (Commits c.of.result c.of-shown.result) txn is (table_version c.in_ok-copy.copy) (ap table_version c.in_ok-copy.ensures ∙ granted.1)
+    version_commit g.O.Opening.opened.manager c.args.self.now m c.requires.listed (Commits c.of.result c.of-shown.result) txn is
+    (table_version c.in_ok-copy.copy) (ap table_version c.in_ok-copy.ensures ∙ granted.1)
 
 pub show-requires-clause-within : goal.show-requires-clause-within
 show-requires-clause-within g c =
@@ -59,9 +60,12 @@ returns-clause-listed g c =
     let granted = granted_when m txn p.reply p.granted c.in-Some.version.now c.requires.prepared.installed some in
     let due = sym granted.0 ∙ c.requires.prepared.due in
     let is = ap (λ (t : Transaction). commit_of t ∷ []) c.of.ensures in
-    let next = listed_commit o list m c.requires.listed c.kept.ensures txn c.begin.ensures.lawful c.requires.own item refl is (suc (newest_number m)) due in
+    let next =
+    listed_commit o list m c.requires.listed c.kept.ensures txn c.begin.ensures.lawful c.requires.own item refl is
+    (suc (newest_number m)) due in
     let now = subst (λ (r : CommitReply). IsListed o (list ++ item ∷ []) (with_record m (record_of txn r))) (sym granted.0) next in
-    on_ok _ _ _ c.show.result c.show.ensures (λ more. subst (λ (l : List Item). IsListed o l (with_record m (record_of txn p.reply))) (sym more) now)
+    on_ok _ _ _ c.show.result c.show.ensures
+    (λ more. subst (λ (l : List Item). IsListed o l (with_record m (record_of txn p.reply))) (sym more) now)
 
 pub returns-clause-grown : goal.returns-clause-grown
 returns-clause-grown g c =
@@ -86,7 +90,8 @@ returns-in_default-clause-shown g c =
     let txn = c.args.txn.now in
     let p = c.args.prepared.now in
     let none = sym c.version.ensures ∙ ap option_copied c.in_default.is in
-    shown_none g.O.Opening.opened.manager m.layers (effects_of txn) c.args.self.now p.reply (leaves_when m txn p.reply p.granted c.requires.prepared.installed none)
+    shown_none g.O.Opening.opened.manager m.layers (effects_of txn) c.args.self.now p.reply
+    (leaves_when m txn p.reply p.granted c.requires.prepared.installed none)
 
 pub returns-clause-shown : goal.returns-clause-shown
 returns-clause-shown g c =
@@ -99,7 +104,8 @@ returns-clause-shown g c =
     let some = sym c.version.ensures ∙ ap option_copied c.in-Some.is in
     let granted = granted_when m txn p.reply p.granted c.in-Some.version.now c.requires.prepared.installed some in
     let written = written_when m txn p.reply p.granted c.in-Some.version.now c.requires.prepared.installed some in
-    let last = λ (more : c.show.new.self ≡ list ++ item ∷ []). ap (shown_in o) more ∙ shown_in-push o list item ∙ c.of-shown.ensures ∙ c.in_ok-copy.ensures in
+    let last =
+    λ (more : c.show.new.self ≡ list ++ item ∷ []). ap (shown_in o) more ∙ shown_in-push o list item ∙ c.of-shown.ensures ∙ c.in_ok-copy.ensures in
     let shown = λ (more : c.show.new.self ≡ list ++ item ∷ []).
     subst (λ (r : CommitReply). IsShownAfter o m.layers (effects_of txn) r c.show.new.self) (sym granted.0)
     (subst (AreWritten m.layers (effects_of txn)) (sym (ap (λ (v : LayeredVersion). v.layers) (last more))) written) in

@@ -15,7 +15,8 @@ show-requires-clause-version g c =
     let m = c.args.manager.now in
     let list = c.args.self.now in
     ap table_version c.in_ok-version.ensures ∙ c.version.ensures.table ∙ version_is o list m c.requires
-    ∙ version_cut o list c.number-base.result c.in_ok-version.version (Cuts c.number-base.result c.of-shown.result) (refl, c.of-shown.ensures)
+    ∙ version_cut o list c.number-base.result c.in_ok-version.version (Cuts c.number-base.result c.of-shown.result)
+    (refl, c.of-shown.ensures)
 
 pub show-requires-clause-within : goal.show-requires-clause-within
 show-requires-clause-within g c =
@@ -29,7 +30,9 @@ show-requires-clause-item g c = sym c.of-shown.ensures
 
 pub returns-clause-list : goal.returns-clause-list
 returns-clause-list g c =
-    let number = c.number-base.ensures ∙ ap (λ (v : TableVersion). v.number) (ap table_version c.in_ok-version.ensures ∙ c.version.ensures.table) in
+    let number =
+    c.number-base.ensures
+    ∙ ap (λ (v : TableVersion). v.number) (ap table_version c.in_ok-version.ensures ∙ c.version.ensures.table) in
     let version = c.of-shown.ensures ∙ c.in_ok-version.ensures ∙ c.version.ensures.layers in
     ok_more _ _ _ c.show.result c.show.ensures (λ more. (Cuts c.number-base.result c.of-shown.result, (number, version), more))
 
@@ -37,7 +40,11 @@ pub returns-clause-listed : goal.returns-clause-listed
 returns-clause-listed g c =
     let o = g.O.Opening.opened.manager in
     let m = c.args.manager.now in
-    let number = c.number-base.ensures ∙ ap (λ (v : TableVersion). v.number) (ap table_version c.in_ok-version.ensures ∙ c.version.ensures.table) in
+    let number =
+    c.number-base.ensures
+    ∙ ap (λ (v : TableVersion). v.number) (ap table_version c.in_ok-version.ensures ∙ c.version.ensures.table) in
     let item = Cuts c.number-base.result c.of-shown.result in
-    let cut = listed_cut o c.args.self.now m c.requires c.number-base.result c.in_ok-version.version item (refl, c.of-shown.ensures) number in
+    let cut =
+    listed_cut o c.args.self.now m c.requires c.number-base.result c.in_ok-version.version item (refl, c.of-shown.ensures)
+    number in
     on_ok _ _ _ c.show.result c.show.ensures (λ more. subst (λ (l : List Item). IsListed o l (cut_of m)) (sym more) cut)

@@ -27,14 +27,17 @@ loop-session-preserved g c =
       amount = grind (arith, common_steps);
       counts = grind (arith, common_steps);
       room = grind (arith, common_steps);
-      seen = All-push (λ (s : Seat). AreOfOneList s.seen list) c.loop-session.yielded s c.loop-session.invariant.seen (both, seen, c.longer-both.ensures.that);
+      seen =
+          All-push (λ (s : Seat). AreOfOneList s.seen list) c.loop-session.yielded s c.loop-session.invariant.seen
+          (both, seen, c.longer-both.ensures.that);
     }
 
 pub returns-clause-closed : goal.returns-clause-closed
 returns-clause-closed g c =
     let all : c.loop-session.yielded ≡ c.args.sessions.items =
     sym (map-id _)
-    ∙ (YieldsList-end (YieldsList-from_vec c.args.sessions.items (search rules) (search rules)) c.loop-session.yielded _ c.loop-session.yielded_by _ c.next.new.self c.in-None.is
+    ∙ (YieldsList-end (YieldsList-from_vec c.args.sessions.items (search rules) (search rules)) c.loop-session.yielded _
+    c.loop-session.yielded_by _ c.next.new.self c.in-None.is
     c.next.ensures.steps).0 in
     let e = c.close-manager.ensures in
     let list = c.close-manager.result.4.list in
@@ -49,14 +52,16 @@ pub returns-clause-lists : goal.returns-clause-lists
 returns-clause-lists g c =
     let all : c.loop-session.yielded ≡ c.args.sessions.items =
     sym (map-id _)
-    ∙ (YieldsList-end (YieldsList-from_vec c.args.sessions.items (search rules) (search rules)) c.loop-session.yielded _ c.loop-session.yielded_by _ c.next.new.self c.in-None.is
+    ∙ (YieldsList-end (YieldsList-from_vec c.args.sessions.items (search rules) (search rules)) c.loop-session.yielded _
+    c.loop-session.yielded_by _ c.next.new.self c.in-None.is
     c.next.ensures.steps).0 in
     let o = g.O.Opening.opened.manager in
     let e = c.close-manager.ensures in
     let m = c.close-manager.result.0 in
     let list = c.close-manager.result.4.list in
     let listed = subst (λ (l : List Item). IsListed o l m) (sym e.list.0) e.listed in
-    all_are_beginnings o list m listed c.args.sessions.items (subst (All (λ (s : Seat). AreOfOneList s.seen list)) all c.loop-session.invariant.seen)
+    all_are_beginnings o list m listed c.args.sessions.items
+    (subst (All (λ (s : Seat). AreOfOneList s.seen list)) all c.loop-session.invariant.seen)
 
 pub returns-clause-handed : goal.returns-clause-handed
 returns-clause-handed g c = goes_on-made g.O.Opening.opened.manager c.close-manager.result.0 c.close-manager.ensures.goes_on

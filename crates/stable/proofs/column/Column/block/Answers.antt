@@ -8,12 +8,20 @@ pub index-requires : goal.index-requires
 index-requires c =
     let inside = c.self.inside in
     let blocked = c.self.invariant.blocked in
-    omega (arith, c.requires, blocked.counted, ap (λ (s : Column). length s.values) c.self.view_is, length_blocks inside.ty inside.count inside.blocks.items blocked, inside.blocks.ok.0)
+    omega (
+      arith,
+      c.requires,
+      blocked.counted,
+      ap (λ (s : Column). length s.values) c.self.view_is,
+      length_blocks inside.ty inside.count inside.blocks.items blocked,
+      inside.blocks.ok.0,
+    )
 
 pub returns : goal.returns
 returns c =
     let inside = c.self.inside in
     let blocked = c.self.invariant.blocked in
-    let counted : c.args.i < block_count inside.count = omega (arith, c.requires, blocked.counted, ap (λ (s : Column). length s.values) c.self.view_is) in
+    let counted : c.args.i < block_count inside.count =
+    omega (arith, c.requires, blocked.counted, ap (λ (s : Column). length s.values) c.self.view_is) in
     block_here inside.ty inside.count inside.blocks.items blocked c.args.i c.index.result.now c.index.ensures counted
     ∙ ap (λ (s : Column). block_at s.ty s.values c.args.i) c.self.view_is

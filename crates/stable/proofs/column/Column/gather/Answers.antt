@@ -19,7 +19,8 @@ gather-requires-clause-there c =
     let there : All Here places = λ k d lt. omega (arith, c.requires.within k d lt, c.self.invariant.blocked.counted, long) in
     let from = 1024 * c.loop-number.number in
     let part = All-take Here (c.min-to.result - from) (drop from places) (All-drop Here from places there) in
-    rw c.as_slice.ensures.value (λ k d lt. place-is inside.ty inside.count inside.blocks.items c.self.invariant.blocked _ (part k d lt) c.self.invariant.fit)
+    rw c.as_slice.ensures.value
+    (λ k d lt. place-is inside.ty inside.count inside.blocks.items c.self.invariant.blocked _ (part k d lt) c.self.invariant.fit)
 
 pub loop-number-preserved : goal.loop-number-preserved
 loop-number-preserved c =
@@ -48,4 +49,5 @@ loop-number-preserved c =
     c.in_ok-push_block.ensures.ok
     ∙ ap (λ (x : Column). record { ty = x.ty; values = x.values ++ c.in_ok-block.block.values }) c.loop-number.invariant
     ∙ ap (λ (vs : List Value). record { ty = mine.ty; values = map value (take from places) ++ vs }) more
-    ∙ ap (λ (vs : List Value). record { ty = mine.ty; values = vs }) (sym (map-append value (take from places) part) ∙ ap (map value) (part-more places n to low high last))
+    ∙ ap (λ (vs : List Value). record { ty = mine.ty; values = vs })
+    (sym (map-append value (take from places) part) ∙ ap (map value) (part-more places n to low high last))

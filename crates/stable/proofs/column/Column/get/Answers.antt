@@ -7,19 +7,23 @@ use Rattle.stable.proofs.column.Column.get.Goals as goal
 pub index-requires : goal.index-requires
 index-requires c =
     let blocks = c.self.inside.blocks.items in
-    let within : c.args.i < c.self.inside.count = omega (arith, c.requires, c.self.invariant.blocked.counted, ap (λ (s : Column). length s.values) c.self.view_is) in
+    let within : c.args.i < c.self.inside.count =
+    omega (arith, c.requires, c.self.invariant.blocked.counted, ap (λ (s : Column). length s.values) c.self.view_is) in
     let found = has_block c.self.inside.ty c.self.inside.count blocks c.self.invariant.blocked c.args.i within in
     omega (arith, found, c.self.inside.blocks.ok.0)
 
 pub get-requires : goal.get-requires
 get-requires c =
     let blocks = c.self.inside.blocks.items in
-    let within : c.args.i < c.self.inside.count = omega (arith, c.requires, c.self.invariant.blocked.counted, ap (λ (s : Column). length s.values) c.self.view_is) in
+    let within : c.args.i < c.self.inside.count =
+    omega (arith, c.requires, c.self.invariant.blocked.counted, ap (λ (s : Column). length s.values) c.self.view_is) in
     has_place c.self.inside.ty c.self.inside.count blocks c.self.invariant.blocked c.args.i within c.index.result.now c.index.ensures
 
 pub returns : goal.returns
 returns c =
     let blocks = c.self.inside.blocks.items in
-    let within : c.args.i < c.self.inside.count = omega (arith, c.requires, c.self.invariant.blocked.counted, ap (λ (s : Column). length s.values) c.self.view_is) in
+    let within : c.args.i < c.self.inside.count =
+    omega (arith, c.requires, c.self.invariant.blocked.counted, ap (λ (s : Column). length s.values) c.self.view_is) in
     ap (λ (s : Column). slice_get s.values c.args.i) (sym c.self.view_is)
-    ∙ finds c.self.inside.ty c.self.inside.count blocks c.self.invariant.blocked c.args.i within c.index.result.now c.index.ensures (value_of c.get.result) c.get.ensures
+    ∙ finds c.self.inside.ty c.self.inside.count blocks c.self.invariant.blocked c.args.i within c.index.result.now
+    c.index.ensures (value_of c.get.result) c.get.ensures

@@ -14,8 +14,13 @@ invariant_of-self-2 c =
     let longer = c.in_ok-add_value.ensures.ok in
     let typed : has_type inside.ty v ≡ true = ap (λ (x : Column). has_type x.ty v) c.self.view_is ∙ c.requires.typed in
     record {
-      blocked = kept inside.ty inside.count inside.blocks.items c.self.invariant.blocked (v ∷ []) c.add_value.new.blocks.items longer (inside.count + 1) refl;
-      fit = subst (all_may_stand inside.ty) (sym (shown inside.ty inside.count inside.blocks.items c.self.invariant.blocked (v ∷ []) c.add_value.new.blocks.items longer))
+      blocked =
+          kept inside.ty inside.count inside.blocks.items c.self.invariant.blocked (v ∷ []) c.add_value.new.blocks.items longer
+          (inside.count + 1) refl;
+      fit =
+          subst (all_may_stand inside.ty)
+          (sym (shown inside.ty inside.count inside.blocks.items c.self.invariant.blocked (v ∷ []) c.add_value.new.blocks.items
+          longer))
           (more_stand inside.ty (joined inside.blocks.items) (v ∷ []) c.self.invariant.fit (one_stands inside.ty v typed c.requires.short));
     }
 
@@ -23,5 +28,7 @@ pub returns-clause-ok : goal.returns-clause-ok
 returns-clause-ok c =
     let inside = c.self.inside in
     let v = value_of c.args.value in
-    ap (λ vs. record { ty = inside.ty; values = vs }) (shown inside.ty inside.count inside.blocks.items c.self.invariant.blocked (v ∷ []) c.add_value.new.blocks.items c.in_ok-add_value.ensures.ok)
+    ap (λ vs. record { ty = inside.ty; values = vs })
+    (shown inside.ty inside.count inside.blocks.items c.self.invariant.blocked (v ∷ []) c.add_value.new.blocks.items
+    c.in_ok-add_value.ensures.ok)
     ∙ ap (λ (x : Column). record { ty = x.ty; values = x.values ++ v ∷ [] }) c.self.view_is

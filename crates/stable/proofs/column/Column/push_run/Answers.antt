@@ -11,7 +11,8 @@ pub add_run-requires-clause-typed : goal.add_run-requires-clause-typed
 add_run-requires-clause-typed c = c.requires.typed ∙ sym (ap (λ (x : Column). x.ty) c.self.view_is)
 
 pub add_run-requires-clause-fits : goal.add_run-requires-clause-fits
-add_run-requires-clause-fits c = omega (arith, c.requires.fits, ap (λ (x : Column). length x.values) c.self.view_is, c.self.invariant.blocked.counted)
+add_run-requires-clause-fits c =
+    omega (arith, c.requires.fits, ap (λ (x : Column). length x.values) c.self.view_is, c.self.invariant.blocked.counted)
 
 pub invariant_of-self-2 : goal.invariant_of-self-2
 invariant_of-self-2 c =
@@ -19,16 +20,26 @@ invariant_of-self-2 c =
     let run = take c.args.run (drop c.args.start c.args.block.now.values) in
     let long : length run ≡ c.args.run = length-run c.args.block.now.values c.args.start c.args.run c.requires.within in
     let longer = c.in_ok-add_run.ensures.ok in
-    let fit : AllFit inside.ty c.args.block.now.values = subst (λ ty. AllFit ty c.args.block.now.values) (c.requires.typed ∙ sym (ap (λ (x : Column). x.ty) c.self.view_is)) c.len-length.ensures.fit in
+    let fit : AllFit inside.ty c.args.block.now.values =
+    subst (λ ty. AllFit ty c.args.block.now.values) (c.requires.typed ∙ sym (ap (λ (x : Column). x.ty) c.self.view_is))
+    c.len-length.ensures.fit in
     record {
-      blocked = kept inside.ty inside.count inside.blocks.items c.self.invariant.blocked run c.add_run.new.blocks.items longer (inside.count + c.args.run) (ap (λ n. inside.count + n) (sym long));
-      fit = subst (all_may_stand inside.ty) (sym (shown inside.ty inside.count inside.blocks.items c.self.invariant.blocked run c.add_run.new.blocks.items longer))
-          (more_stand inside.ty (joined inside.blocks.items) run c.self.invariant.fit (block_stands inside.ty run (all_take (Fits inside.ty) c.args.run (drop c.args.start c.args.block.now.values) (all_drop (Fits inside.ty) c.args.start c.args.block.now.values fit))));
+      blocked =
+          kept inside.ty inside.count inside.blocks.items c.self.invariant.blocked run c.add_run.new.blocks.items longer
+          (inside.count + c.args.run) (ap (λ n. inside.count + n) (sym long));
+      fit =
+          subst (all_may_stand inside.ty)
+          (sym (shown inside.ty inside.count inside.blocks.items c.self.invariant.blocked run c.add_run.new.blocks.items longer))
+          (more_stand inside.ty (joined inside.blocks.items) run c.self.invariant.fit
+          (block_stands inside.ty run (all_take (Fits inside.ty) c.args.run (drop c.args.start c.args.block.now.values)
+          (all_drop (Fits inside.ty) c.args.start c.args.block.now.values fit))));
     }
 
 pub returns-clause-ok : goal.returns-clause-ok
 returns-clause-ok c =
     let inside = c.self.inside in
     let run = take c.args.run (drop c.args.start c.args.block.now.values) in
-    ap (λ vs. record { ty = inside.ty; values = vs }) (shown inside.ty inside.count inside.blocks.items c.self.invariant.blocked run c.add_run.new.blocks.items c.in_ok-add_run.ensures.ok)
+    ap (λ vs. record { ty = inside.ty; values = vs })
+    (shown inside.ty inside.count inside.blocks.items c.self.invariant.blocked run c.add_run.new.blocks.items
+    c.in_ok-add_run.ensures.ok)
     ∙ ap (λ (x : Column). record { ty = x.ty; values = x.values ++ run }) c.self.view_is

@@ -7,11 +7,18 @@ use Rattle.stable.proofs.table.StableTable.column.Goals as goal
 pub index-requires : goal.index-requires
 index-requires c =
     let inside = c.self.inside in
-    omega (arith, c.requires, ap (λ (s : Stable). length s.schema.types) c.self.view_is, width inside.schema inside.count inside.columns.items c.self.invariant, inside.columns.ok.0)
+    omega (
+      arith,
+      c.requires,
+      ap (λ (s : Stable). length s.schema.types) c.self.view_is,
+      width inside.schema inside.count inside.columns.items c.self.invariant,
+      inside.columns.ok.0,
+    )
 
 pub returns : goal.returns
 returns c =
     let inside = c.self.inside in
-    let lt : c.args.col < length inside.schema.types = omega (arith, c.requires, ap (λ (s : Stable). length s.schema.types) c.self.view_is) in
+    let lt : c.args.col < length inside.schema.types =
+    omega (arith, c.requires, ap (λ (s : Stable). length s.schema.types) c.self.view_is) in
     finds_column inside.schema inside.count inside.columns.items c.self.invariant c.args.col c.index.result.now c.index.ensures lt
     ∙ ap (λ (s : Stable). column_at s.schema.types s.rows c.args.col) c.self.view_is

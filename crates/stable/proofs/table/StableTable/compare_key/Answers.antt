@@ -18,7 +18,9 @@ returns-in_default c =
     let lt : col < s.schema.key_cols = omega (arith, counted, c.loop-col-test.true, c.min-col-end.ensures) in
     let within : col < length key = omega (arith, c.loop-col-test.true, c.min-col-end.ensures) in
     sym
-    (compared s.schema.key_cols row key key col (value_of c.value.result) (value_of c.as_ref-cell.result) c.index-key-col.result c.cmp.result refl lt within c.value.ensures c.index-key-col.is c.as_ref-cell.ensures (sym c.cmp.ensures) c.loop-col.invariant
+    (compared s.schema.key_cols row key key col (value_of c.value.result) (value_of c.as_ref-cell.result) c.index-key-col.result
+    c.cmp.result refl lt within c.value.ensures c.index-key-col.is c.as_ref-cell.ensures (sym c.cmp.ensures)
+    c.loop-col.invariant
     ∙ decided c.cmp.result (key_cmp (drop (col + 1) (take s.schema.key_cols row)) (drop (col + 1) key)) c.in_default.not-Equal)
 
 pub loop-col-preserved : goal.loop-col-preserved
@@ -29,7 +31,9 @@ loop-col-preserved c =
     let counted = c.key_cols-key_cols.ensures.count ∙ ap (λ (s : Stable). s.schema.key_cols) c.self.view_is in
     let lt : col < s.schema.key_cols = omega (arith, counted, c.loop-col-test.true, c.min-col-end.ensures) in
     let within : col < length key = omega (arith, c.loop-col-test.true, c.min-col-end.ensures) in
-    compared s.schema.key_cols (get_or s.rows c.args.sid []) key key col (value_of c.value.result) (value_of c.as_ref-cell.result) c.index-key-col.result Equal refl lt within c.value.ensures c.index-key-col.is c.as_ref-cell.ensures (sym c.cmp.ensures ∙ c.in-Equal.is) c.loop-col.invariant
+    compared s.schema.key_cols (get_or s.rows c.args.sid []) key key col (value_of c.value.result) (value_of c.as_ref-cell.result)
+    c.index-key-col.result Equal refl lt within c.value.ensures c.index-key-col.is c.as_ref-cell.ensures
+    (sym c.cmp.ensures ∙ c.in-Equal.is) c.loop-col.invariant
 
 pub returns : goal.returns
 returns c =
@@ -38,10 +42,23 @@ returns c =
     let row = get_or s.rows c.args.sid [] in
     let n = s.schema.key_cols in
     let counted = c.key_cols-key_cols.ensures.count ∙ ap (λ (s : Stable). s.schema.key_cols) c.self.view_is in
-    let present : c.args.sid < inside.count = omega (arith, c.requires, ap (λ (s : Stable). length s.rows) c.self.view_is, length_rows inside.count inside.columns.items) in
-    let wide = ap (λ (s : Stable). length (get_or s.rows c.args.sid [])) (sym c.self.view_is) ∙ row_width inside.schema inside.count inside.columns.items c.self.invariant c.args.sid present in
-    let whole : c.key_cols-key_cols.result ≡ length (take n row) = omega (arith, counted, length-take n row, wide, c.key_cols-key_cols.ensures.count, c.key_cols-key_cols.ensures.lawful.key_within) in
+    let present : c.args.sid < inside.count =
+    omega
+    (arith, c.requires, ap (λ (s : Stable). length s.rows) c.self.view_is, length_rows inside.count inside.columns.items) in
+    let wide =
+    ap (λ (s : Stable). length (get_or s.rows c.args.sid [])) (sym c.self.view_is)
+    ∙ row_width inside.schema inside.count inside.columns.items c.self.invariant c.args.sid present in
+    let whole : c.key_cols-key_cols.result ≡ length (take n row) =
+    omega (
+      arith,
+      counted,
+      length-take n row,
+      wide,
+      c.key_cols-key_cols.ensures.count,
+      c.key_cols-key_cols.ensures.lawful.key_within,
+    ) in
     c.cmp-2.ensures
     ∙ ap (λ m. nat_cmp m (length c.args.key.now)) whole
-    ∙ ended (take n row) c.args.key.now c.loop-col.col (omega (arith, whole, c.min-col-end.ensures, c.loop-col.auto.col-end, c.loop-col-test.false))
+    ∙ ended (take n row) c.args.key.now c.loop-col.col
+    (omega (arith, whole, c.min-col-end.ensures, c.loop-col.auto.col-end, c.loop-col-test.false))
     ∙ sym c.loop-col.invariant

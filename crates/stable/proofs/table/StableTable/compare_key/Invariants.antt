@@ -6,4 +6,5 @@ use Rattle.stable.proofs.table.StableTable.compare_key.Given as goal
 -- the cells so far tie
 abbrev pub invariant-loop-col : goal.invariant-loop-col
 invariant-loop-col l =
-    key_cmp (key_of l.self.schema.key_cols (get_or l.self.rows l.sid [])) l.key ≡ key_cmp (drop l.col (key_of l.self.schema.key_cols (get_or l.self.rows l.sid []))) (drop l.col l.key)
+    key_cmp (key_of l.self.schema.key_cols (get_or l.self.rows l.sid [])) l.key
+    ≡ key_cmp (drop l.col (key_of l.self.schema.key_cols (get_or l.self.rows l.sid []))) (drop l.col l.key)

@@ -19,7 +19,9 @@ of_columns-requires-clause-typed c =
     let rows = c.args.rows.now in
     let columns = c.in_ok-columns.columns.items in
     let same = ap (λ (s : Columns). length s.types) c.schema.view_is in
-    let all = all_whole schema _ c.types.result.now rows columns c.schema.invariant same c.types.ensures c.requires c.in_ok-columns.ensures in
+    let all =
+    all_whole schema _ c.types.result.now rows columns c.schema.invariant same c.types.ensures c.requires
+    c.in_ok-columns.ensures in
     all_typed schema rows columns all
 
 pub of_columns-requires-clause-even : goal.of_columns-requires-clause-even
@@ -28,7 +30,9 @@ of_columns-requires-clause-even c =
     let rows = c.args.rows.now in
     let columns = c.in_ok-columns.columns.items in
     let same = ap (λ (s : Columns). length s.types) c.schema.view_is in
-    let all = all_whole schema _ c.types.result.now rows columns c.schema.invariant same c.types.ensures c.requires c.in_ok-columns.ensures in
+    let all =
+    all_whole schema _ c.types.result.now rows columns c.schema.invariant same c.types.ensures c.requires
+    c.in_ok-columns.ensures in
     all_even schema rows columns all
 
 pub of_columns-requires-clause-table : goal.of_columns-requires-clause-table
@@ -37,7 +41,9 @@ of_columns-requires-clause-table c =
     let rows = c.args.rows.now in
     let columns = c.in_ok-columns.columns.items in
     let same = ap (λ (s : Columns). length s.types) c.schema.view_is in
-    let all = all_whole schema _ c.types.result.now rows columns c.schema.invariant same c.types.ensures c.requires c.in_ok-columns.ensures in
+    let all =
+    all_whole schema _ c.types.result.now rows columns c.schema.invariant same c.types.ensures c.requires
+    c.in_ok-columns.ensures in
     all_stable schema rows columns all
 
 pub returns : goal.returns
@@ -46,5 +52,7 @@ returns c =
     let rows = c.args.rows.now in
     let columns = c.in_ok-columns.columns.items in
     let same = ap (λ (s : Columns). length s.types) c.schema.view_is in
-    let all = all_whole schema _ c.types.result.now rows columns c.schema.invariant same c.types.ensures c.requires c.in_ok-columns.ensures in
+    let all =
+    all_whole schema _ c.types.result.now rows columns c.schema.invariant same c.types.ensures c.requires
+    c.in_ok-columns.ensures in
     c.of_columns.ensures ∙ ap (λ (rs : List Row). record { schema = schema; rows = rs }) (all_rows schema rows columns all)

@@ -19,13 +19,21 @@ use Rattle.stable.proofs.table.StableTable.rank_of.Goals as goal
 pub index-requires : goal.index-requires
 index-requires c =
     let inside = c.self.inside in
-    omega (arith, c.in-Some.ensures.there, ap (λ (s : Stable). length s.schema.types) c.self.view_is, width inside.schema inside.count inside.columns.items c.self.invariant, inside.columns.ok.0)
+    omega (
+      arith,
+      c.in-Some.ensures.there,
+      ap (λ (s : Stable). length s.schema.types) c.self.view_is,
+      width inside.schema inside.count inside.columns.items c.self.invariant,
+      inside.columns.ok.0,
+    )
 
 pub count_below-requires-clause-typed : goal.count_below-requires-clause-typed
 count_below-requires-clause-typed c =
     let inside = c.self.inside in
-    let some : 0 < length inside.schema.types = omega (arith, c.in-Some.ensures.there, ap (λ (s : Stable). length s.schema.types) c.self.view_is) in
-    ap (λ (x : Column). x.ty) (finds_column inside.schema inside.count inside.columns.items c.self.invariant 0 c.index.result.now c.index.ensures some)
+    let some : 0 < length inside.schema.types =
+    omega (arith, c.in-Some.ensures.there, ap (λ (s : Stable). length s.schema.types) c.self.view_is) in
+    ap (λ (x : Column). x.ty)
+    (finds_column inside.schema inside.count inside.columns.items c.self.invariant 0 c.index.result.now c.index.ensures some)
     ∙ ap (λ (s : Stable). get_or s.schema.types 0 column.Int) c.self.view_is
     ∙ c.in-Some.ensures.typed
 
@@ -35,11 +43,17 @@ count_below-requires-clause-parted c =
     let rows = rows_of inside.count inside.columns.items in
     let number = c.in-Some.number in
     let fits : FitsSigned w64 number = search rules in
-    let some : 0 < length inside.schema.types = omega (arith, c.in-Some.ensures.there, ap (λ (s : Stable). length s.schema.types) c.self.view_is) in
-    let found = ap (λ (x : Column). x.values) (finds_column inside.schema inside.count inside.columns.items c.self.invariant 0 c.index.result.now c.index.ensures some) in
+    let some : 0 < length inside.schema.types =
+    omega (arith, c.in-Some.ensures.there, ap (λ (s : Stable). length s.schema.types) c.self.view_is) in
+    let found =
+    ap (λ (x : Column). x.values)
+    (finds_column inside.schema inside.count inside.columns.items c.self.invariant 0 c.index.result.now c.index.ensures some)
+    in
     let filled = rows_filled inside.schema inside.count inside.columns.items c.self.invariant some in
     let one : inside.schema.key_cols ≡ 1 = ap (λ (s : Stable). s.schema.key_cols) c.self.view_is ∙ c.in-Some.ensures.one in
-    let sorted = subst (λ n. T (is_sorted key_cmp (table_of n rows))) one (stable_sorted (record { schema = inside.schema; rows = rows }) c.self.invariant.stable) in
+    let sorted =
+    subst (λ n. T (is_sorted key_cmp (table_of n rows))) one
+    (stable_sorted (record { schema = inside.schema; rows = rows }) c.self.invariant.stable) in
     subst (λ n. IsPartitionedBy (is_below n) c.index.result.now.values) (sym (to_z-of_z w64 number fits))
     (subst (λ vs. IsPartitionedBy (is_below number) vs) (sym found) (column_parted number rows filled sorted))
 
@@ -50,12 +64,19 @@ returns-in-Some-clause-rank c =
     let number = c.in-Some.number in
     let fits : FitsSigned w64 number = search rules in
     let r = c.count_below.result in
-    let some : 0 < length inside.schema.types = omega (arith, c.in-Some.ensures.there, ap (λ (s : Stable). length s.schema.types) c.self.view_is) in
-    let found = ap (λ (x : Column). x.values) (finds_column inside.schema inside.count inside.columns.items c.self.invariant 0 c.index.result.now c.index.ensures some) in
+    let some : 0 < length inside.schema.types =
+    omega (arith, c.in-Some.ensures.there, ap (λ (s : Stable). length s.schema.types) c.self.view_is) in
+    let found =
+    ap (λ (x : Column). x.values)
+    (finds_column inside.schema inside.count inside.columns.items c.self.invariant 0 c.index.result.now c.index.ensures some)
+    in
     let filled = rows_filled inside.schema inside.count inside.columns.items c.self.invariant some in
-    let point = subst (λ n. IsPartitionPoint (λ v. is_below n v ≡ true) (λ v. is_below n v ≡ false) c.index.result.now.values r) (to_z-of_z w64 number fits) c.count_below.ensures.point in
+    let point =
+    subst (λ n. IsPartitionPoint (λ v. is_below n v ≡ true) (λ v. is_below n v ≡ false) c.index.result.now.values r)
+    (to_z-of_z w64 number fits) c.count_below.ensures.point in
     let there = subst (λ vs. IsPartitionPoint (λ v. is_below number v ≡ true) (λ v. is_below number v ≡ false) vs r) found point in
-    let few : r ≤ length rows = omega (arith, c.count_below.ensures.few, ap (λ (vs : List Value). length vs) found, as_many number rows filled) in
+    let few : r ≤ length rows =
+    omega (arith, c.count_below.ensures.few, ap (λ (vs : List Value). length vs) found, as_many number rows filled) in
     let one : inside.schema.key_cols ≡ 1 = ap (λ (s : Stable). s.schema.key_cols) c.self.view_is ∙ c.in-Some.ensures.one in
     rank-column number rows filled r few there
     ∙ ap (λ (key : Key). rank key (table_of 1 rows)) (sym c.in-Some.ensures.is)
@@ -66,6 +87,16 @@ pub returns-in-Some-clause-few : goal.returns-in-Some-clause-few
 returns-in-Some-clause-few c =
     let inside = c.self.inside in
     let few = c.self.invariant.stable.few in
-    let some : 0 < length inside.schema.types = omega (arith, c.in-Some.ensures.there, ap (λ (s : Stable). length s.schema.types) c.self.view_is) in
-    let filled = c.self.invariant.filled 0 c.index.result.now (omega (arith, some, width inside.schema inside.count inside.columns.items c.self.invariant)) in
-    omega (arith, c.count_below.ensures.few, filled, ap (λ (x : Column). length x.values) c.index.ensures, few, length_rows inside.count inside.columns.items)
+    let some : 0 < length inside.schema.types =
+    omega (arith, c.in-Some.ensures.there, ap (λ (s : Stable). length s.schema.types) c.self.view_is) in
+    let filled =
+    c.self.invariant.filled 0 c.index.result.now
+    (omega (arith, some, width inside.schema inside.count inside.columns.items c.self.invariant)) in
+    omega (
+      arith,
+      c.count_below.ensures.few,
+      filled,
+      ap (λ (x : Column). length x.values) c.index.ensures,
+      few,
+      length_rows inside.count inside.columns.items,
+    )

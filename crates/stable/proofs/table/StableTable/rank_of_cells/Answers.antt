@@ -12,7 +12,9 @@ loop-low-preserved-then-is_lt c =
     record {
       ordered = omega (arith, c.loop-low-test.true);
       within = c.loop-low.invariant.within;
-      below = λ k d lt. low_part s.schema.key_cols c.args.key.now s.rows (stable_sorted s c.len-high.ensures.lawful) middle within (ap is_lt (sym c.compare_key.ensures) ∙ sym c.is_lt.ensures ∙ c.if-is_lt.true) k d (omega (arith, lt));
+      below =
+          λ k d lt. low_part s.schema.key_cols c.args.key.now s.rows (stable_sorted s c.len-high.ensures.lawful) middle within
+          (ap is_lt (sym c.compare_key.ensures) ∙ sym c.is_lt.ensures ∙ c.if-is_lt.true) k d (omega (arith, lt));
       above = c.loop-low.invariant.above;
     }
 
@@ -25,7 +27,9 @@ loop-low-preserved c =
       ordered = omega (arith, c.loop-low-test.true);
       within = omega (arith, within);
       below = c.loop-low.invariant.below;
-      above = λ k d le lt. high_part s.schema.key_cols c.args.key.now s.rows (stable_sorted s c.len-high.ensures.lawful) middle within (ap is_lt (sym c.compare_key.ensures) ∙ sym c.is_lt.ensures ∙ c.if-is_lt.false) k d le lt;
+      above =
+          λ k d le lt. high_part s.schema.key_cols c.args.key.now s.rows (stable_sorted s c.len-high.ensures.lawful) middle within
+          (ap is_lt (sym c.compare_key.ensures) ∙ sym c.is_lt.ensures ∙ c.if-is_lt.false) k d le lt;
     }
 
 pub returns-clause-rank : goal.returns-clause-rank

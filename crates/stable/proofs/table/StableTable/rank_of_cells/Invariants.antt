@@ -9,7 +9,8 @@ invariant-loop-low l = record {
   ordered : l.low ≤ l.high;
   within : l.high ≤ length l.self.rows;
   below : (k : ℕ) (d : Row) → k < l.low → is_below_key l.self.schema.key_cols l.key (get_or l.self.rows k d) ≡ true;
-  above : (k : ℕ) (d : Row) → l.high ≤ k → k < length l.self.rows → is_below_key l.self.schema.key_cols l.key (get_or l.self.rows k d) ≡ false;
+  above : (k : ℕ) (d : Row) → l.high ≤ k → k < length l.self.rows
+      → is_below_key l.self.schema.key_cols l.key (get_or l.self.rows k d) ≡ false;
 }
 
 abbrev pub decreases-loop-low : goal.decreases-loop-low

@@ -22,8 +22,14 @@ returns c =
     let inside = c.self.inside in
     let s = c.args.self.now in
     let row : Row = get_or s.rows c.args.sid [] in
-    let present : c.args.sid < inside.count = omega (arith, c.requires, ap (λ (t : Stable). length t.rows) c.self.view_is, length_rows inside.count inside.columns.items) in
-    let wide = ap (λ (t : Stable). length (get_or t.rows c.args.sid [])) (sym c.self.view_is) ∙ row_width inside.schema inside.count inside.columns.items c.self.invariant c.args.sid present in
+    let present : c.args.sid < inside.count =
+    omega
+    (arith, c.requires, ap (λ (t : Stable). length t.rows) c.self.view_is, length_rows inside.count inside.columns.items) in
+    let wide =
+    ap (λ (t : Stable). length (get_or t.rows c.args.sid [])) (sym c.self.view_is)
+    ∙ row_width inside.schema inside.count inside.columns.items c.self.invariant c.args.sid present in
     slice_get-get_or s.rows c.args.sid [] c.requires
     ∙ ap Some
-    (sym (c.new.ensures ∙ c.loop-col.invariant ∙ take_all c.loop-col.col row (omega (arith, wide, c.width-width.ensures.columns, c.loop-col-test.false))))
+    (sym (c.new.ensures
+    ∙ c.loop-col.invariant
+    ∙ take_all c.loop-col.col row (omega (arith, wide, c.width-width.ensures.columns, c.loop-col-test.false))))

@@ -8,14 +8,24 @@ use Rattle.stable.proofs.table.StableTable.value.Goals as goal
 pub get-requires : goal.get-requires
 get-requires c =
     let inside = c.self.inside in
-    let within : c.args.sid < inside.count = omega (arith, c.requires.row, ap (λ (s : Stable). length s.rows) c.self.view_is, length_rows inside.count inside.columns.items) in
-    let lt : c.args.col < length inside.schema.types = omega (arith, c.requires.column, ap (λ (s : Stable). length s.schema.types) c.self.view_is) in
-    has_value inside.schema inside.count inside.columns.items c.self.invariant c.args.sid c.args.col c.index.result.now c.index.ensures lt within
+    let within : c.args.sid < inside.count =
+    omega
+    (arith, c.requires.row, ap (λ (s : Stable). length s.rows) c.self.view_is, length_rows inside.count inside.columns.items)
+    in
+    let lt : c.args.col < length inside.schema.types =
+    omega (arith, c.requires.column, ap (λ (s : Stable). length s.schema.types) c.self.view_is) in
+    has_value inside.schema inside.count inside.columns.items c.self.invariant c.args.sid c.args.col c.index.result.now
+    c.index.ensures lt within
 
 pub returns : goal.returns
 returns c =
     let inside = c.self.inside in
-    let within : c.args.sid < inside.count = omega (arith, c.requires.row, ap (λ (s : Stable). length s.rows) c.self.view_is, length_rows inside.count inside.columns.items) in
-    let lt : c.args.col < length inside.schema.types = omega (arith, c.requires.column, ap (λ (s : Stable). length s.schema.types) c.self.view_is) in
+    let within : c.args.sid < inside.count =
+    omega
+    (arith, c.requires.row, ap (λ (s : Stable). length s.rows) c.self.view_is, length_rows inside.count inside.columns.items)
+    in
+    let lt : c.args.col < length inside.schema.types =
+    omega (arith, c.requires.column, ap (λ (s : Stable). length s.schema.types) c.self.view_is) in
     ap (λ (s : Stable). cell_of s c.args.sid c.args.col) (sym c.self.view_is)
-    ∙ finds_cell inside.schema inside.count inside.columns.items c.self.invariant c.args.sid c.args.col c.index.result.now c.index.ensures lt within (value_of c.get.result) c.get.ensures
+    ∙ finds_cell inside.schema inside.count inside.columns.items c.self.invariant c.args.sid c.args.col c.index.result.now
+    c.index.ensures lt within (value_of c.get.result) c.get.ensures

@@ -33,7 +33,8 @@ returns-clause-table c =
     let inside = c.self.inside in
     let txn : Transaction = transaction_at (table_version inside.version) inside.row_limit inside.client inside.writes.items in
     let columns : c.layers.result.schema ≡ txn.schema = c.layers.ensures.schema in
-    let back : rows_of (image_of c.args.self.now) ≡ rows_of (image_of txn) = sym (ap (λ (t : Transaction). rows_of (image_of t)) c.self.view_is) in
+    let back : rows_of (image_of c.args.self.now) ≡ rows_of (image_of txn) =
+    sym (ap (λ (t : Transaction). rows_of (image_of t)) c.self.view_is) in
     ap (table_of c.layers.result.schema.key_cols) (shown c ∙ back)
     ∙ ap (λ (s : Columns). table_of s.key_cols (rows_of (image_of txn))) columns
     ∙ image_table_is txn c.self.invariant.0

@@ -16,7 +16,11 @@ invariant_of-result c =
     let limit = c.args.row_limit in
     let client = c.args.client in
     let columns : c.schema.result.now ≡ v.schema = c.schema.ensures.columns in
-    let tree : c.new.result ≡ tree_of (transaction_at v limit client []) = c.new.ensures ∙ (λ i. record { key_cols = (c.key_cols-key_cols.ensures.count ∙ ap (λ (t : Columns). t.key_cols) columns) i; entries = [] }) in
+    let tree : c.new.result ≡ tree_of (transaction_at v limit client []) =
+    c.new.ensures
+    ∙ (λ i. record
+    { key_cols = (c.key_cols-key_cols.ensures.count ∙ ap (λ (t : Columns). t.key_cols) columns) i; entries = [] })
+    in
     let kept : IsTransaction (transaction_at v limit client []) = record {
       lawful = subst IsSchema columns c.key_cols-key_cols.ensures.lawful;
       table = c.schema.ensures.lawful;
@@ -25,4 +29,5 @@ invariant_of-result c =
       fitting = refl;
       answered = refl;
     } in
-    subst (λ (ws : List (Write × WriteReply)). Kept c.new.result (transaction_at v limit client ws)) (sym c.new-2.ensures.items) (kept, tree)
+    subst (λ (ws : List (Write × WriteReply)). Kept c.new.result (transaction_at v limit client ws)) (sym c.new-2.ensures.items)
+    (kept, tree)

@@ -10,5 +10,8 @@ pub new-requires : goal.new-requires
 new-requires c =
     let inside = c.self.inside in
     let l : Lower = record { stable = inside.stable.value; read = inside.read.value; write = inside.write.value } in
-    let over : IsLayer l.stable.schema (lower_table l) c.args.trans.now = subst (λ (m : Lower). IsLayer m.stable.schema (lower_table m) c.args.trans.now) (sym c.self.view_is) c.requires in
-    subst (λ (e : Stable × (Tree × Tree)). AreStacked e.0 e.1.0 e.1.1 c.args.trans.now) (sym (λ i. (c.deref.ensures i, (c.deref-2.ensures i, c.deref-3.ensures i)))) (stacked l c.self.invariant c.args.trans.now over)
+    let over : IsLayer l.stable.schema (lower_table l) c.args.trans.now =
+    subst (λ (m : Lower). IsLayer m.stable.schema (lower_table m) c.args.trans.now) (sym c.self.view_is) c.requires in
+    subst (λ (e : Stable × (Tree × Tree)). AreStacked e.0 e.1.0 e.1.1 c.args.trans.now)
+    (sym (λ i. (c.deref.ensures i, (c.deref-2.ensures i, c.deref-3.ensures i))))
+    (stacked l c.self.invariant c.args.trans.now over)

@@ -7,7 +7,8 @@ use Rattle.txn.proofs.VersionLemmas.{are_alone}
 use Rattle.txn.proofs.version.Version.new.Goals as goal
 
 -- the trees have no entries
-abbrev unwritten : (s : Stable) (read write : Tree) → read ≡ empty_tree s.schema.key_cols → write ≡ empty_tree s.schema.key_cols → ◌≡◌ {A = Lower} (record { stable = s; read = read; write = write }) (alone s)
+abbrev unwritten : (s : Stable) (read write : Tree) → read ≡ empty_tree s.schema.key_cols → write ≡ empty_tree s.schema.key_cols
+    → ◌≡◌ {A = Lower} (record { stable = s; read = read; write = write }) (alone s)
 unwritten s read write p q = λ i. record { stable = s; read = p i; write = q i }
 
 pub stacked-requires : goal.stacked-requires
@@ -15,7 +16,9 @@ stacked-requires c =
     let s = c.args.stable.value in
     let lawful : IsStable s = subst IsStable c.deref.ensures c.schema.ensures.lawful in
     let count : c.key_cols-key_cols.result ≡ s.schema.key_cols =
-    c.key_cols-key_cols.ensures.count ∙ ap (λ (t : Columns). t.key_cols) c.schema.ensures.columns ∙ ap (λ (t : Stable). t.schema.key_cols) c.deref.ensures in
+    c.key_cols-key_cols.ensures.count
+    ∙ ap (λ (t : Columns). t.key_cols) c.schema.ensures.columns
+    ∙ ap (λ (t : Stable). t.schema.key_cols) c.deref.ensures in
     let read : c.in_ok-read.read.value ≡ empty_tree s.schema.key_cols = c.in_ok-read.ensures.ok ∙ c.new.ensures ∙ ap empty_tree count in
     let write : c.in_ok-write.write.value ≡ empty_tree s.schema.key_cols = c.in_ok-write.ensures.cases ∙ read in
     subst AreLower (sym (unwritten s c.in_ok-read.read.value c.in_ok-write.write.value read write)) (are_alone s lawful)
@@ -24,7 +27,9 @@ pub returns : goal.returns
 returns c =
     let s = c.args.stable.value in
     let count : c.key_cols-key_cols.result ≡ s.schema.key_cols =
-    c.key_cols-key_cols.ensures.count ∙ ap (λ (t : Columns). t.key_cols) c.schema.ensures.columns ∙ ap (λ (t : Stable). t.schema.key_cols) c.deref.ensures in
+    c.key_cols-key_cols.ensures.count
+    ∙ ap (λ (t : Columns). t.key_cols) c.schema.ensures.columns
+    ∙ ap (λ (t : Stable). t.schema.key_cols) c.deref.ensures in
     let read : c.in_ok-read.read.value ≡ empty_tree s.schema.key_cols = c.in_ok-read.ensures.ok ∙ c.new.ensures ∙ ap empty_tree count in
     let write : c.in_ok-write.write.value ≡ empty_tree s.schema.key_cols = c.in_ok-write.ensures.cases ∙ read in
     let number = c.args.number in
