@@ -9,6 +9,7 @@
 #include <errno.h>
 #include <fcntl.h>
 #include <pthread.h>
+#include <stdatomic.h>
 #include <stdio.h>
 #include <stdlib.h>
 #include <string.h>
@@ -94,7 +95,7 @@ extern void pdtr_table_close(handle *);
 struct pdt_store {
   handle raw;
   pthread_mutex_t lock; /* held in each call on raw but the opening and the closing */
-  size_t open;          /* how many transactions are open; under the lock */
+  atomic_size_t open;   /* how many transactions are open: an abort lowers it without the lock */
   size_t snapshots;     /* how many checkpoints have begun and not ended; under the lock */
   uint64_t rebuilt;     /* how often what stands below the Write-PDT was made anew; under the lock */
   size_t width, key;    /* the columns never change, and are read without the lock */
@@ -289,11 +290,9 @@ int pdt_begin(pdt_store *store, uint32_t client, pdt_txn **out) {
 void pdt_abort(pdt_txn *txn) {
   if (!txn || (txn->decision.at && pdt_give_up(txn))) return; /* another thread has it prepared, and goes on with it */
   pdt_store *store = txn->store;
-  pdtr_abort(&txn->raw);
+  pdtr_abort(&txn->raw); /* what it shares with the store is counted atomically */
   free(txn);
-  int held = enter(store); /* by this thread, where another transaction of its own is prepared */
-  store->open--;
-  if (!held) leave(store);
+  atomic_fetch_sub_explicit(&store->open, 1, memory_order_release); /* the last touch: the store may be closed from now on */
 }
 
 int pdt_commit(pdt_txn *txn, uint64_t *commits) {

@@ -4,7 +4,7 @@
    known by their address, and let go by a call: pdt_close; pdt_commit or pdt_abort.
 
    Threads. Calls on one pdt_store may come from several threads: each takes the store's lock. A pdt_txn is used by one
-   thread at a time; transactions of several threads read and write side by side and take no lock but to begin and to end.
+   thread at a time; transactions of several threads read and write side by side, and take no lock but to begin and to commit.
    A thread that has a commit prepared keeps the store's lock until it is installed or given up, and doesn't end before.
    Threads that then make calls on other stores do so in one order of the stores, or each may wait for the other for ever.
    No call is made in a signal handler.
@@ -207,7 +207,7 @@ void pdt_checkpoint_end(pdt_snapshot *snapshot);
 int pdt_begin(pdt_store *store, uint32_t client, pdt_txn **txn);
 
 /* Ends a transaction and leaves no record of it, also one whose commit this thread has prepared. One that another thread has
-   prepared stays as it is. Null is no error. */
+   prepared stays as it is. Null is no error. It takes no lock. */
 void pdt_abort(pdt_txn *txn);
 
 /* Commits a transaction: PDT_OK, PDT_CONFLICT, PDT_TOO_OLD or PDT_FULL, and it is over; *commits, if not null, is the
@@ -219,7 +219,7 @@ int pdt_commit(pdt_txn *txn, uint64_t *commits);
 /* Decides a commit and makes all that it wants, so that it can't fail any more: PDT_OK, and *commits, if not null, is the
    number that it will have. pdt_install, pdt_give_up or pdt_abort follows, on the same thread, and until then nothing has
    changed. PDT_CONFLICT, PDT_TOO_OLD, PDT_FULL, PDT_NOMEM: as of pdt_commit. PDT_MISUSE.
-   From PDT_OK on the store's lock is kept: other threads' calls on the store wait, and their begins, commits and aborts.
+   From PDT_OK on the store's lock is kept: other threads' calls on the store wait, and their begins and commits.
    This thread's are PDT_MISUSE but for pdt_size, pdt_abort and pdt_checkpoint_end, and so are writes and marks of the
    transaction; reads of transactions are not. */
 int pdt_prepare(pdt_txn *txn, uint64_t *commits);

@@ -121,6 +121,7 @@ static void prepares(void) {
 typedef struct {
   pdt_store *store;
   pdt_txn *prepared; /* by another thread */
+  pdt_txn *open;     /* by another thread too */
   pthread_mutex_t lock;
   int has_begun;
   long long seen;
@@ -128,6 +129,7 @@ typedef struct {
 
 static void *ends_anothers(void *arg) {
   waiting *w = arg;
+  pdt_abort(w->open);
   is("install of another thread's", PDT_MISUSE, pdt_install(w->prepared));
   is("give up of another thread's", PDT_MISUSE, pdt_give_up(w->prepared));
   pdt_abort(w->prepared);
@@ -145,14 +147,19 @@ static void *waits(void *arg) {
   return NULL;
 }
 
-/* Another thread can't end what is prepared; its begin waits, and sees the commit. */
+/* Another thread can't end what is prepared, and its abort of what isn't waits for nothing; its begin waits, and sees the
+   commit. */
 static void begins_wait(void) {
-  waiting w = {opened(), NULL, PTHREAD_MUTEX_INITIALIZER, 0, -1};
+  waiting w = {opened(), NULL, NULL, PTHREAD_MUTEX_INITIALIZER, 0, -1};
   w.prepared = setting(w.store, 10, 5);
+  w.open = begun(w.store);
   pthread_t thread;
   is("prepare", PDT_OK, pdt_prepare(w.prepared, NULL));
   if (pthread_create(&thread, NULL, ends_anothers, &w)) exit(1);
   pthread_join(thread, NULL);
+  pdt_sizes sizes;
+  is("size", PDT_OK, pdt_size(w.store, &sizes));
+  is("open are", 1, (long long)sizes.open_transactions);
   if (pthread_create(&thread, NULL, waits, &w)) exit(1);
   nanosleep(&(struct timespec){0, 50000000}, NULL);
   pthread_mutex_lock(&w.lock);
