@@ -24,7 +24,7 @@ use Rattle.layers.specs.Propagation.{composed_tree}
 use Rattle.layers.proofs.RestLemmas.{entries_few}
 use Rattle.layers.specs.declared.meeting.Meeting.{Meeting as Met}
 use Rattle.layers.specs.declared.meeting.Meeting.TheVariants as met
-use Rattle.layers.specs.Walk.{kind_of, changed_by}
+use Rattle.layers.specs.Walk.{meeting_of, changed_by}
 
 -- the first entry and the others
 pub ahead_is : (us : List Entry) (u : Entry) → slice_get us 0 ≡ Some u → us ≡ u ∷ drop 1 us
@@ -102,7 +102,7 @@ module _ (key_cols added gone : ℕ) (own u : Entry) (lowers us : List Entry) wh
   IsMet met.Neither = both_ahead ≡ passed us
   IsMet met.Into = both_ahead ≡ fold_from key_cols (entry_at own.sid (changed_by own.change u.change) ∷ lowers) added gone us
 
-  pub meets : (kind : Met) → kind ≡ kind_of (meet key_cols added gone own u) → IsMet kind
+  pub meets : (kind : Met) → kind ≡ meeting_of (meet key_cols added gone own u) → IsMet kind
   meets kind is = subst IsMet (sym is) (by (meet key_cols added gone own u) refl)
     where
       rest : ℕ → ℕ → List Entry → List Entry
@@ -118,7 +118,7 @@ module _ (key_cols added gone : ℕ) (own u : Entry) (lowers us : List Entry) wh
             | Into change ↦ fold_one key_cols (entry_at own.sid change) rest added gone us
           ]
 
-      by : (m : Meeting) → meet key_cols added gone own u ≡ m → IsMet (kind_of m)
+      by : (m : Meeting) → meet key_cols added gone own u ≡ m → IsMet (meeting_of m)
       by Upper e = ap outcome e
       by Lower e = ap outcome e
       by Over e = ap outcome e
@@ -144,7 +144,7 @@ module _ (key_cols added gone : ℕ) (own : Entry) (out us : List Entry) where
 
   module _ (u : Entry) (at : slice_get us 0 ≡ Some u) where
     abbrev pub Meets : Met → Type 0
-    Meets kind = kind ≡ kind_of (meet key_cols added gone own u)
+    Meets kind = kind ≡ meeting_of (meet key_cols added gone own u)
 
     all_is : (lowers : List Entry) →
         fold_from key_cols (own ∷ lowers) added gone us ≡ fold_from key_cols (own ∷ lowers) added gone (u ∷ drop 1 us)

@@ -15,12 +15,12 @@ entries_ahead None rest = []
 entries_ahead (Some e) rest = e ∷ rest
 
 -- which kind of meeting it is
-abbrev pub kind_of : Meeting → Met
-kind_of fold.Upper = Upper
-kind_of fold.Lower = Lower
-kind_of fold.Over = Over
-kind_of fold.Neither = Neither
-kind_of (fold.Into change) = Into
+abbrev pub meeting_of : Meeting → Met
+meeting_of fold.Upper = Upper
+meeting_of fold.Lower = Lower
+meeting_of fold.Over = Over
+meeting_of fold.Neither = Neither
+meeting_of (fold.Into change) = Into
 
 -- the lower change with what the upper one makes of it, where that is another cell
 abbrev pub changed_by : Change → Change → Change

@@ -6,7 +6,7 @@ ghost use Rattle.values.specs.Orders.{key_cmp};
 ghost use Rattle.values.specs.Shape.{key_of};
 ghost use Rattle.model.specs.Entries.{entry_at};
 ghost use Rattle.model.specs.Folding.{changes_meet, columns_meet, meet};
-ghost use Rattle.layers.specs.Walk.{kind_of, changed_by};
+ghost use Rattle.layers.specs.Walk.{meeting_of, changed_by};
 
 use delta::{Change, ChangeRef, Entry, SharedEntry};
 use std::alloc::Global;
@@ -38,7 +38,7 @@ pub(crate) fn meet(
     requires gone { gone < 2 ^ 41 }
     requires lower { lower.now.sid < 2 ^ 32 }
     requires upper { upper.now.sid < 2 ^ 32 }
-    ensures { result ≡ kind_of (meet key_cols added gone lower.now upper.now) }
+    ensures { result ≡ meeting_of (meet key_cols added gone lower.now upper.now) }
 {
     match (upper.sid() + gone).cmp(&(lower.sid() + added)) {
         Ordering::Less => Meeting::Upper,
@@ -49,7 +49,7 @@ pub(crate) fn meet(
 
 /// How two changes at one position meet.
 fn changes_meet(key_cols: usize, lower: ChangeRef<'_>, upper: ChangeRef<'_>) -> Meeting
-    ensures { result ≡ kind_of (changes_meet key_cols (change_of lower.entry) (change_of upper.entry)) }
+    ensures { result ≡ meeting_of (changes_meet key_cols (change_of lower.entry) (change_of upper.entry)) }
 {
     match lower {
         ChangeRef::Ins(_) => match upper {
@@ -75,7 +75,7 @@ fn changes_meet(key_cols: usize, lower: ChangeRef<'_>, upper: ChangeRef<'_>) -> 
 
 /// How an upper modify of a column meets a lower one of the same row.
 fn columns_meet(upper: usize, lower: usize) -> Meeting
-    ensures { result ≡ kind_of (columns_meet (nat_cmp upper lower)) }
+    ensures { result ≡ meeting_of (columns_meet (nat_cmp upper lower)) }
 {
     match upper.cmp(&lower) {
         Ordering::Less => Meeting::Upper,

@@ -4,7 +4,7 @@ use Rattle.std.specs.Option.{option_copied}
 use Rattle.model.specs.declared.entry.Entry.{Entry}
 use Rattle.model.specs.Entries.{entry_at}
 use Rattle.model.specs.Folding.{added_by, gone_by, fold_from, lowered_entry, meet}
-use Rattle.layers.specs.Walk.{kind_of, changed_by}
+use Rattle.layers.specs.Walk.{meeting_of, changed_by}
 use Rattle.layers.proofs.WalkLemmas.{none_ahead, placed_left, upper_put, lower_put, lower_over, neither_put, into_own, puts_last}
 use Rattle.layers.proofs.walk.Walk.fold.Goals as goal
 use Rattle.layers.proofs.walk.Walk.fold.Goals.{in-Some+in-Lower, in_default}
@@ -17,7 +17,7 @@ loop-upper-preserved-in-Continue-branch-2 c =
     let inv = c.loop-upper.invariant in
     let u = c.in-Some.upper.now in
     let at = sym c.first.ensures ∙ ap option_copied c.in-Some.is in
-    let met = sym c.in-Upper.is ∙ c.meet.ensures ∙ (λ i. kind_of (meet (inv.key_cols i) (inv.added i) (inv.gone i) own u)) in
+    let met = sym c.in-Upper.is ∙ c.meet.ensures ∙ (λ i. meeting_of (meet (inv.key_cols i) (inv.added i) (inv.gone i) own u)) in
     let lowered : lowered_entry here.added here.gone u ≡ lowered_entry old.added old.gone u =
     λ i. lowered_entry (inv.added i) (inv.gone i) u in
     let out = c.in_ok-put_upper-in-Upper.ensures.out ∙ ap (λ (e : Entry). here.out.items ++ e ∷ []) lowered in
@@ -42,7 +42,7 @@ returns-in-Over-clause-folded c =
     let inv = c.loop-upper.invariant in
     let u = c.in-Some.upper.now in
     let at = sym c.first.ensures ∙ ap option_copied c.in-Some.is in
-    let met = sym c.in-Over.is ∙ c.meet.ensures ∙ (λ i. kind_of (meet (inv.key_cols i) (inv.added i) (inv.gone i) own u)) in
+    let met = sym c.in-Over.is ∙ c.meet.ensures ∙ (λ i. meeting_of (meet (inv.key_cols i) (inv.added i) (inv.gone i) own u)) in
     λ (lowers : List Entry).
     (λ i. here.out.items ++ fold_from (inv.key_cols i) lowers (inv.added i) (inv.gone i) here.uppers)
     ∙ lower_over old.key_cols old.added old.gone own here.out.items here.uppers u at met lowers
@@ -56,7 +56,7 @@ returns-in-Neither-clause-folded c =
     let inv = c.loop-upper.invariant in
     let u = c.in-Some.upper.now in
     let at = sym c.first.ensures ∙ ap option_copied c.in-Some.is in
-    let met = sym c.in-Neither.is ∙ c.meet.ensures ∙ (λ i. kind_of (meet (inv.key_cols i) (inv.added i) (inv.gone i) own u)) in
+    let met = sym c.in-Neither.is ∙ c.meet.ensures ∙ (λ i. meeting_of (meet (inv.key_cols i) (inv.added i) (inv.gone i) own u)) in
     let change = c.change.ensures in
     let left : c.count.new.self.uppers ≡ drop 1 here.uppers = c.count.ensures.uppers ∙ c.pass.ensures in
     let key_cols : c.count.new.self.key_cols ≡ old.key_cols = c.count.ensures.key_cols ∙ inv.key_cols in
@@ -81,7 +81,7 @@ loop-upper-preserved c =
     let inv = c.loop-upper.invariant in
     let u = c.in-Some.upper.now in
     let at = sym c.first.ensures ∙ ap option_copied c.in-Some.is in
-    let met = sym c.in-Into.is ∙ c.meet.ensures ∙ (λ i. kind_of (meet (inv.key_cols i) (inv.added i) (inv.gone i) own u)) in
+    let met = sym c.in-Into.is ∙ c.meet.ensures ∙ (λ i. meeting_of (meet (inv.key_cols i) (inv.added i) (inv.gone i) own u)) in
     let next : c.in_ok-own-in-Into.own ≡ entry_at own.sid (changed_by own.change u.change) = c.in_ok-own-in-Into.ensures in
     let left : c.pass-in-Into.new.self ≡ drop 1 here.uppers = c.pass-in-Into.ensures in
     record {
@@ -115,7 +115,7 @@ returns-clause-folded c =
       | in-Some+in-Lower w ↦
           let at = sym c.first.ensures ∙ ap option_copied w.in-Some.is in
           let u = w.in-Some.upper.now in
-          let met = sym w.in-Lower.is ∙ w.meet.ensures ∙ (λ i. kind_of (meet (inv.key_cols i) (inv.added i) (inv.gone i) own u)) in
+          let met = sym w.in-Lower.is ∙ w.meet.ensures ∙ (λ i. meeting_of (meet (inv.key_cols i) (inv.added i) (inv.gone i) own u)) in
           lower_put old.key_cols old.added old.gone own here.out.items us u at met
       | in_default w ↦
           let at = sym c.first.ensures ∙ ap option_copied w.in_default.is in
