@@ -11,8 +11,8 @@ use crate::cursor::Cursor;
 use delta::{DeltaTree, SharedEntry, Sought};
 use model::{Clash, ConflictRule};
 
-/// A descent for each entry is taken where the tree has at least so many times as many.
-pub(crate) const FEW: usize = 10;
+/// A tree is searched for each entry of another one, and not walked, where it has at least so many times as many.
+pub(crate) const SEARCH_RATIO: usize = 10;
 
 /// What a tree makes of an entry of another one.
 #[derive(Drop)]
@@ -38,7 +38,7 @@ impl<'a> Search<'a> {
         ensures tree { searched_tree result ≡ tree.now }
         ensures ready { (rule : ConflictRule) (e : Entry) → IsReady rule result e }
     {
-        if count > tree.len() / FEW {
+        if count > tree.len() / SEARCH_RATIO {
             Search::Walk(Cursor::of(tree))
         } else {
             Search::Descents(tree)

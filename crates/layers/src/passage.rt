@@ -3,7 +3,7 @@ ghost use Rattle.std.specs.Prelude.{◌≡◌, IfOk};
 ghost use Rattle.layers.specs.Over.{AreAligned};
 ghost use Rattle.layers.specs.Passage.{IsPassed};
 
-use crate::beside::FEW;
+use crate::beside::SEARCH_RATIO;
 use crate::list::EntryList;
 use crate::rebase::{Serialized, moves_none, serialize};
 use delta::DeltaTree;
@@ -102,7 +102,7 @@ fn pass_tree(
     requires { AreAligned tree other.now }
     ensures { IfOk result (λ passed. (w : AreAligned tree other.now) → IsPassed rule tree other.now w passed) }
 {
-    if other.len() <= tree.len() / FEW && !moves_none(&tree, other) {
+    if other.len() <= tree.len() / SEARCH_RATIO && !moves_none(&tree, other) {
         return Ok(pass_list(EntryList::of(alloc, &tree)?, other, rule));
     }
     match serialize(alloc, &tree, other, rule)? {

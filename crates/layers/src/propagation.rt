@@ -10,8 +10,8 @@ use smallvec::SmallVec;
 use std::alloc::Global;
 use values::NoMemory;
 
-/// Upper entries are edited in where the lower tree has at least so many times as many.
-const FEW: usize = 16;
+/// Each upper entry is edited into the lower tree, and no tree built, where that has at least so many times as many.
+const EDIT_RATIO: usize = 16;
 
 /// The entries of an upper tree. So many are gathered without taking memory.
 type Uppers<'a> = SmallVec<Option<&'a SharedEntry>, 31>;
@@ -27,7 +27,7 @@ pub fn propagate(alloc: Global, lower: &DeltaTree, upper: &DeltaTree) -> Result<
     requires { AreConsecutive lower.now upper.now }
     ensures { IfOk result (λ tree. (w : AreConsecutive lower.now upper.now) → tree ≡ composed_tree lower.now upper.now w) }
 {
-    if upper.len() > lower.len() / FEW {
+    if upper.len() > lower.len() / EDIT_RATIO {
         fold_all(alloc, lower, upper)
     } else {
         fold_each(alloc, lower, upper)

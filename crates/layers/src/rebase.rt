@@ -7,7 +7,7 @@ ghost use Rattle.layers.specs.Over.{AreAligned};
 ghost use Rattle.layers.specs.Passing.{put_entries};
 ghost use Rattle.layers.specs.Serialization.{IsSerialized};
 
-use crate::beside::{FEW, Search, first_clash};
+use crate::beside::{SEARCH_RATIO, Search, first_clash};
 use crate::clash::turned;
 use delta::{ChangeRef, DeltaTree, SharedEntry, Sought};
 use model::{Clash, ConflictRule};
@@ -41,7 +41,7 @@ pub fn serialize(
     requires { AreAligned x.now y.now }
     ensures { IfOk result (λ serialized. (w : AreAligned x.now y.now) → IsSerialized rule x.now y.now w serialized) }
 {
-    if y.len() <= x.len() / FEW && moves_none(x, y) {
+    if y.len() <= x.len() / SEARCH_RATIO && moves_none(x, y) {
         return beside_still(rule, x, y);
     }
     let mut search = Search::of(y, x.len());
