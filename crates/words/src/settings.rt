@@ -104,8 +104,8 @@ fn run_settings<'a>(run: &ArgMatches<'a>) -> Option<Settings<'a>>
     let threads = flag_in(run.get_str("threads"))?;
     let store = store_in(run.get_str("store"))?;
     let most = MAX_RECENT_COMMITS as u64;
-    let recent = number_in(run.get_str("recent"), RECENT_COMMITS, most)? as usize;
-    let limit = number_in(run.get_str("limit"), MAX_ROWS, MAX_ROWS)?;
+    let recent = count_in(run.get_str("recent"), RECENT_COMMITS, most)? as usize;
+    let limit = count_in(run.get_str("limit"), MAX_ROWS, MAX_ROWS)?;
     let conflicts = rule_in(run.get_str("conflicts"))?;
     Some(Settings::Run {
         table,
@@ -160,8 +160,8 @@ fn flag_in(word: Option<&str>) -> Option<bool>
     }
 }
 
-/// The number that a word writes, or the usual one where there is no word; none where it isn't 1 to the largest.
-fn number_in(word: Option<&str>, usual: u64, largest: u64) -> Option<u64>
+/// The count that a word writes, or the usual one where there is no word; none where it isn't 1 to the largest.
+fn count_in(word: Option<&str>, usual: u64, largest: u64) -> Option<u64>
     requires least { 1 ≤ usual }
     requires most { usual ≤ largest }
     ensures said { IfSome result (IsNumberOf usual (option_map (λ w. w.now) word.entry)) }
