@@ -98,7 +98,7 @@ fn has_entries(tree: &DeltaTree, entries: &[Entry]) -> bool {
 }
 
 /// How two entries over one table clash.
-fn kind_of(rule: ConflictRule, x: &SharedEntry, y: &SharedEntry) -> Option<ClashKind> {
+fn clash_kind(rule: ConflictRule, x: &SharedEntry, y: &SharedEntry) -> Option<ClashKind> {
     match (x.change(), y.change()) {
         (ChangeRef::Ins(row), ChangeRef::Ins(other)) => {
             (row.key(1) == other.key(1)).then_some(ClashKind::InsertInsert)
@@ -117,7 +117,7 @@ fn kind_of(rule: ConflictRule, x: &SharedEntry, y: &SharedEntry) -> Option<Clash
 fn first_clash(rule: ConflictRule, xs: &DeltaTree, ys: &DeltaTree) -> Option<Clash> {
     for (x, one) in (0..xs.len()).zip(xs.iter()) {
         for (y, other) in (0..ys.len()).zip(ys.iter()) {
-            if let Some(kind) = kind_of(rule, one, other) {
+            if let Some(kind) = clash_kind(rule, one, other) {
                 return Some(Clash { kind, x, y });
             }
         }
