@@ -2,7 +2,6 @@ pub mod History
 pub mod Layers
 pub mod Managed
 pub mod Kept
-pub mod Held
 pub mod Layered
 pub mod Checkpoint
 pub mod Restacked

@@ -7,27 +7,26 @@ ghost use Rattle.manager.specs.Managed.{IsOwn, newest_stable, rebuilt_of};
 ghost use Rattle.txn.specs.Txn.{Transaction};
 
 use crate::fault::CheckpointFault;
-use crate::manager::{Held, Manager};
+use crate::manager::Manager;
 use devices::{ColumnDevice, Store, StoreFault};
 use stable::StableTable;
 use std::marker::Model;
+use std::sync::Arc;
 use txn::Version;
 use values::NoMemory;
 
 /// The newest version with its image as the stable table and no entries above it, made before anything changes.
 #[derive(Drop)]
 pub struct Rebuilt {
-    held: Held,
     version: Version,
 }
 
 impl Model for Rebuilt {
-    ghost use Rattle.manager.specs.Held.{layers_of};
     ghost use Rattle.manager.specs.Layered.{Layered};
 
     ghost Value = { Layered };
 
-    ghost view = { λ r. record { layers = layers_of r.held; version = r.version } };
+    ghost view = { λ r. record { layers = r.version.layers; version = r.version } };
 }
 
 impl Rebuilt {
@@ -42,7 +41,7 @@ impl Rebuilt {
     pub fn table(&self) -> &StableTable
         ensures { result.now ≡ self.now.layers.stable }
     {
-        &self.held.stable
+        self.version.stable()
     }
 }
 
@@ -101,9 +100,9 @@ impl Manager {
         ensures { IfOk result (λ rebuilt. IsRebuilt self.now rebuilt) }
     {
         let table = self.newest().to_table(self.alloc)?;
-        let held = Held::alone(self.alloc, table)?;
-        let version = held.version(self.alloc, self.newest.number())?;
-        Ok(Rebuilt { held, version })
+        let stable = Arc::new(self.alloc, table)?;
+        let version = Version::new(self.alloc, stable, self.newest.number())?;
+        Ok(Rebuilt { version })
     }
 
     /// Installs a checkpoint that was prepared while the history was as it is. Whoever calls it has had a store take its
@@ -112,8 +111,7 @@ impl Manager {
         requires { IsRebuilt self.old rebuilt }
         ensures { self.new ≡ rebuilt_of self.old }
     {
-        let Rebuilt { held, version } = rebuilt;
-        self.held = held;
+        let Rebuilt { version } = rebuilt;
         self.newest = version;
     }
 }

@@ -4,7 +4,7 @@ ghost use Rattle.std.specs.Prelude.{◌≡◌, ◌<◌, ◌^◌, IsFalse, IsTrue
 ghost use Rattle.std.specs.Option.{option_copied};
 ghost use Rattle.txn.specs.Txn.{IsTransaction};
 
-use crate::manager::{Held, Manager};
+use crate::manager::Manager;
 use crate::passing::passed_through;
 use delta::DeltaTree;
 use layers::propagate;
@@ -39,7 +39,6 @@ impl Model for Prepared {
 struct Grant {
     /// The commit's tree, over the table that it found.
     tree: DeltaTree,
-    held: Held,
     version: Version,
 }
 
@@ -48,9 +47,7 @@ impl Model for Grant {
 
     ghost Value = { Granted };
 
-    ghost use Rattle.manager.specs.Held.{layers_of};
-
-    ghost view = { λ g. record { tree = g.tree; layers = layers_of g.held; version = g.version } };
+    ghost view = { λ g. record { tree = g.tree; layers = g.version.layers; version = g.version } };
 }
 
 impl Prepared {
@@ -157,13 +154,8 @@ impl Manager {
         self.history.enter(txn.into_record(reply));
         self.made += 1;
         if let Some(grant) = grant {
-            let Grant {
-                tree,
-                held,
-                version,
-            } = grant;
+            let Grant { tree, version } = grant;
             self.kept.push_back(tree);
-            self.held = held;
             self.newest = version;
         }
         reply
@@ -198,17 +190,15 @@ impl Manager {
         requires { MayGrant self.now tree }
         ensures { IfOk result (λ grant. (w : MayGrant self.now tree) → IsGrant self.now w.x grant) }
     {
-        let write = Arc::new(self.alloc, propagate(self.alloc, &self.held.write, &tree)?)?;
-        let held = Held {
-            stable: self.held.stable.clone()?,
-            read: self.held.read.clone()?,
-            write,
-        };
-        let version = held.version(self.alloc, self.newest.number() + 1)?;
-        Ok(Grant {
-            tree,
-            held,
-            version,
-        })
+        let newest = &self.newest;
+        let write = Arc::new(
+            self.alloc,
+            propagate(self.alloc, newest.write_tree(), &tree)?,
+        )?;
+        let stable = newest.stable().clone()?;
+        let read = newest.read_tree().clone()?;
+        let number = newest.number() + 1;
+        let version = Version::stacked(self.alloc, stable, read, write, number)?;
+        Ok(Grant { tree, version })
     }
 }

@@ -2,7 +2,7 @@
 ghost use Rattle.std.specs.Prelude.{◌≡◌, IfOk, MatchResult};
 ghost use Rattle.txn.specs.Txn.{Transaction};
 
-use crate::manager::{Held, Manager};
+use crate::manager::Manager;
 use delta::DeltaTree;
 use layers::propagate;
 use std::marker::Model;
@@ -13,7 +13,6 @@ use values::NoMemory;
 /// The newest version with its Write-PDT folded into its Read-PDT, made before anything changes.
 #[derive(Drop)]
 pub struct Folded {
-    held: Held,
     version: Version,
 }
 
@@ -22,9 +21,7 @@ impl Model for Folded {
 
     ghost Value = { Layered };
 
-    ghost use Rattle.manager.specs.Held.{layers_of};
-
-    ghost view = { λ f. record { layers = layers_of f.held; version = f.version } };
+    ghost view = { λ f. record { layers = f.version.layers; version = f.version } };
 }
 
 impl Folded {
@@ -64,19 +61,16 @@ impl Manager {
     pub fn prepare_fold(&self) -> Result<Folded, NoMemory>
         ensures { IfOk result (λ folded. IsFolded self.now folded) }
     {
+        let newest = &self.newest;
         let read = Arc::new(
             self.alloc,
-            propagate(self.alloc, &self.held.read, &self.held.write)?,
+            propagate(self.alloc, newest.read_tree(), newest.write_tree())?,
         )?;
-        let none = DeltaTree::new(self.alloc, self.held.write.key_cols());
+        let none = DeltaTree::new(self.alloc, newest.write_tree().key_cols());
         let write = Arc::new(self.alloc, none)?;
-        let held = Held {
-            stable: self.held.stable.clone()?,
-            read,
-            write,
-        };
-        let version = held.version(self.alloc, self.newest.number())?;
-        Ok(Folded { held, version })
+        let stable = newest.stable().clone()?;
+        let version = Version::stacked(self.alloc, stable, read, write, newest.number())?;
+        Ok(Folded { version })
     }
 
     /// Installs a fold that was prepared while the history was as it is. Takes no memory, and no time but for what goes.
@@ -84,8 +78,7 @@ impl Manager {
         requires prepared { IsFolded self.old folded }
         ensures { self.new ≡ with_layers self.old folded.layers }
     {
-        let Folded { held, version } = folded;
-        self.held = held;
+        let Folded { version } = folded;
         self.newest = version;
     }
 }

@@ -4,9 +4,7 @@ ghost use Rattle.manager.specs.declared.fault.OpenFault.{OpenFault};
 ghost use Rattle.manager.specs.Managed.{is_bad_limit};
 ghost use Rattle.merge.specs.Image.{image_rows, stack_below};
 ghost use Rattle.model.specs.Table.{rows_of};
-ghost use Rattle.stable.specs.Stable.{IsStable};
-ghost use Rattle.txn.specs.Version.{AreLower, alone, numbered, table_version};
-ghost use Rattle.values.specs.Shape.{IsSchema};
+ghost use Rattle.txn.specs.Version.{numbered, table_version};
 ghost use Rattle.values.specs.declared.limits.TheConstants.{MAX_ROWS};
 
 use crate::fault::OpenFault;
@@ -23,57 +21,12 @@ use txn::{Txn, Version};
 use values::NoMemory;
 use values::limits::{MAX_RECENT_COMMITS, MAX_ROWS};
 
-/// A stable table under its Read- and its Write-PDT.
-#[derive(Drop)]
-pub struct Held {
-    pub(crate) stable: Arc<StableTable>,
-    pub(crate) read: Arc<DeltaTree>,
-    pub(crate) write: Arc<DeltaTree>,
-}
-
-impl Held {
-    ghost use Rattle.manager.specs.Held.{layers_of};
-
-    /// A stable table under trees with no entries.
-    pub(crate) fn alone(alloc: Global, table: StableTable) -> Result<Held, NoMemory>
-        ensures layers { IfOk result (λ held. layers_of held ≡ alone table) }
-        ensures lawful { IsStable table }
-        ensures typed { IsSchema table.schema }
-    {
-        let key_cols = table.schema().key_cols();
-        let stable = Arc::new(alloc, table)?;
-        let read = Arc::new(alloc, DeltaTree::new(alloc, key_cols))?;
-        let write = read.clone()?;
-        Ok(Held {
-            stable,
-            read,
-            write,
-        })
-    }
-
-    /// The version over these layers, which so many commits made.
-    pub(crate) fn version(&self, alloc: Global, number: u64) -> Result<Version, NoMemory>
-        requires { AreLower (layers_of self.now) }
-        ensures { IfOk result (λ version. version ≡ numbered (layers_of self.now) number) }
-    {
-        Version::stacked(
-            alloc,
-            self.stable.clone()?,
-            self.read.clone()?,
-            self.write.clone()?,
-            number,
-        )
-    }
-}
-
 /// The newest version of a table, and the history of the transactions that asked to commit.
 #[derive(Drop)]
 pub struct Manager {
     pub(crate) history: History,
     /// How many records were made since the opening.
     pub(crate) made: u64,
-    /// The layers of the newest version.
-    pub(crate) held: Held,
     pub(crate) newest: Version,
     /// The trees of the last commits, each over the table that its commit found.
     pub(crate) kept: HeapCircularBuffer<DeltaTree>,
@@ -83,14 +36,13 @@ pub struct Manager {
 impl Model for Manager {
     ghost use Rattle.std.specs.Prelude.{◌≡◌};
     ghost use Rattle.manager.specs.Managed.{Managed, managed_of};
-    ghost use Rattle.manager.specs.Held.{layers_of};
     ghost use Rattle.manager.specs.Kept.{HoldsNewest};
 
     ghost Value = { Managed };
 
-    ghost view = { λ m. managed_of m.history m.made (layers_of m.held) };
+    ghost view = { λ m. managed_of m.history m.made m.newest.layers };
 
-    ghost invariant = { λ m. HoldsNewest (managed_of m.history m.made (layers_of m.held)) (layers_of m.held) m.newest m.kept.items
+    ghost invariant = { λ m. HoldsNewest (managed_of m.history m.made m.newest.layers) m.newest.layers m.newest m.kept.items
         × (m.kept.capacity ≡ m.history.start.recent) };
 }
 
@@ -120,8 +72,7 @@ impl Manager {
         if table.len() > row_limit {
             return Err(OpenFault::TooManyRows);
         }
-        let held = Held::alone(alloc, table)?;
-        let newest = held.version(alloc, 0)?;
+        let newest = Version::new(alloc, Arc::new(alloc, table)?, 0)?;
         let rules = Rules {
             row_limit,
             recent,
@@ -130,7 +81,6 @@ impl Manager {
         Ok(Manager {
             history: History::new(alloc, &newest, rules),
             made: 0,
-            held,
             newest,
             kept: HeapCircularBuffer::with_capacity(alloc, recent)?,
             alloc,
@@ -175,21 +125,21 @@ impl Manager {
     pub fn stable(&self) -> &StableTable
         ensures { result.now ≡ self.now.layers.stable }
     {
-        &self.held.stable
+        self.newest.stable()
     }
 
     /// The Read-PDT of the newest version. Takes no memory.
     pub fn read_tree(&self) -> &DeltaTree
         ensures { result.now ≡ self.now.layers.read }
     {
-        &self.held.read
+        self.newest.read_tree()
     }
 
     /// The Write-PDT of the newest version. Takes no memory.
     pub fn write_tree(&self) -> &DeltaTree
         ensures { result.now ≡ self.now.layers.write }
     {
-        &self.held.write
+        self.newest.write_tree()
     }
 
     /// The newest version. Takes no memory.

@@ -3,7 +3,7 @@
 ghost use Rattle.std.specs.Prelude.{◌≡◌, IfOk, MatchResult};
 ghost use Rattle.txn.specs.Txn.{Transaction};
 
-use crate::manager::{Held, Manager};
+use crate::manager::Manager;
 use delta::DeltaTree;
 use stable::StableTable;
 use std::marker::Model;
@@ -14,17 +14,15 @@ use values::NoMemory;
 /// The newest version over another stable table, made before anything changes.
 #[derive(Drop)]
 pub struct Restacked {
-    held: Held,
     version: Version,
 }
 
 impl Model for Restacked {
-    ghost use Rattle.manager.specs.Held.{layers_of};
     ghost use Rattle.manager.specs.Layered.{Layered};
 
     ghost Value = { Layered };
 
-    ghost view = { λ r. record { layers = layers_of r.held; version = r.version } };
+    ghost view = { λ r. record { layers = r.version.layers; version = r.version } };
 }
 
 impl Restacked {
@@ -71,13 +69,11 @@ impl Manager {
     {
         let none = DeltaTree::new(self.alloc, table.schema().key_cols());
         let read = Arc::new(self.alloc, none)?;
-        let held = Held {
-            stable: table.clone()?,
-            read,
-            write: self.held.write.clone()?,
-        };
-        let version = held.version(self.alloc, self.newest.number())?;
-        Ok(Restacked { held, version })
+        let newest = &self.newest;
+        let stable = table.clone()?;
+        let write = newest.write_tree().clone()?;
+        let version = Version::stacked(self.alloc, stable, read, write, newest.number())?;
+        Ok(Restacked { version })
     }
 
     /// Installs what was prepared while the history and the layers were as they are. Takes no memory, and no time but for
@@ -86,8 +82,7 @@ impl Manager {
         requires prepared { IsRestacked self.old restacked }
         ensures { self.new ≡ restacked_of self.old }
     {
-        let Restacked { held, version } = restacked;
-        self.held = held;
+        let Restacked { version } = restacked;
         self.newest = version;
     }
 }

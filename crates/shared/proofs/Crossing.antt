@@ -39,7 +39,6 @@ use Rattle.txn.proofs.place.RecordPlace.TheSendSync as place
 use Rattle.manager.specs.contracts.history.History as History
 use Rattle.manager.specs.contracts.history.History.TheInside as history
 use Rattle.manager.proofs.history.Rules.TheSendSync as rules
-use Rattle.manager.specs.contracts.manager.Held as Held
 use Rattle.manager.specs.contracts.manager.Manager as Manager
 use Rattle.manager.specs.contracts.manager.Manager.TheInside as manager
 use Rattle.publishing.specs.declared.opening.Opening as opening
@@ -119,25 +118,17 @@ history_send =
       ),
     ))
 
-held_send : IsSend Held.the_row
-held_send =
-    let a = entries_send in
-    let b = entries_sync in let c = stable.the_send in let d = stable.the_sync in search (crosses, sendable) depth 40
-
 manager_send : IsSend Manager.the_row
 manager_send = view_send _ _ _ _ _ (declared_send manager.the_type (
   as_row_send History.the_field history_send,
   (
     search sendable depth 20,
     (
-      held_send,
+      as_row_send Version.the_field version_send,
       (
-        as_row_send Version.the_field version_send,
-        (
-          as_row_send (Ring.the_field DeltaTree.the_row Global.the_row heap.ghosts)
-              (ring.the_send DeltaTree.the_row Global.the_row heap.ghosts entries_send global.the_send frees),
-          (search sendable depth 20, tt),
-        ),
+        as_row_send (Ring.the_field DeltaTree.the_row Global.the_row heap.ghosts)
+            (ring.the_send DeltaTree.the_row Global.the_row heap.ghosts entries_send global.the_send frees),
+        (search sendable depth 20, tt),
       ),
     ),
   ),

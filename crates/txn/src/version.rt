@@ -3,6 +3,8 @@ ghost use Rattle.std.specs.Prelude.{◌≡◌, IfOk, is_some, length};
 ghost use Rattle.model.specs.Table.{IsTable, rank, row_at, rows_of};
 ghost use Rattle.model.specs.Merging.{merged_rows};
 ghost use Rattle.merge.specs.Image.{IsLayer, image_rows, image_table, stack_below, stack_of};
+ghost use Rattle.stable.specs.Stable.{IsStable};
+ghost use Rattle.values.specs.Shape.{IsSchema};
 
 use delta::DeltaTree;
 use merge::Layers;
@@ -32,6 +34,24 @@ impl Model for Base {
 
 impl Base {
     ghost use Rattle.txn.specs.Version.{lower_table};
+
+    fn stable(&self) -> &Arc<StableTable>
+        ensures { result.now.value ≡ self.now.stable }
+    {
+        &self.stable
+    }
+
+    fn read(&self) -> &Arc<DeltaTree>
+        ensures { result.now.value ≡ self.now.read }
+    {
+        &self.read
+    }
+
+    fn write(&self) -> &Arc<DeltaTree>
+        ensures { result.now.value ≡ self.now.write }
+    {
+        &self.write
+    }
 
     /// The columns of the table.
     fn schema(&self) -> &Schema
@@ -99,7 +119,9 @@ impl Version {
     ///
     /// `NoMemory` where a growth is refused.
     pub fn new(alloc: Global, stable: Arc<StableTable>, number: u64) -> Result<Version, NoMemory>
-        ensures { IfOk result (λ version. version ≡ numbered (alone stable.value) number) }
+        ensures version { IfOk result (λ version. version ≡ numbered (alone stable.value) number) }
+        ensures lawful { IsStable stable.value }
+        ensures typed { IsSchema stable.value.schema }
     {
         let key_cols = stable.schema().key_cols();
         let read = Arc::new(alloc, DeltaTree::new(alloc, key_cols))?;
@@ -145,6 +167,27 @@ impl Version {
             base: self.base.clone()?,
             number: self.number,
         })
+    }
+
+    /// The stable table, which the versions over it share. Takes no memory.
+    pub fn stable(&self) -> &Arc<StableTable>
+        ensures { result.now.value ≡ self.now.layers.stable }
+    {
+        self.base.stable()
+    }
+
+    /// The Read-PDT, which the versions over it share. Takes no memory.
+    pub fn read_tree(&self) -> &Arc<DeltaTree>
+        ensures { result.now.value ≡ self.now.layers.read }
+    {
+        self.base.read()
+    }
+
+    /// The Write-PDT. Takes no memory.
+    pub fn write_tree(&self) -> &Arc<DeltaTree>
+        ensures { result.now.value ≡ self.now.layers.write }
+    {
+        self.base.write()
     }
 
     /// How many commits made it.

@@ -9,7 +9,7 @@ pub returns : goal.returns
 returns c =
     let s = c.args.stable.now.value in
     let opened =
-    ap table_version c.in_ok-opening.ensures
+    ap table_version c.in_ok-opening.ensures.version
     ∙ version_of-alone c.in_ok-clone.field-0.value 0
     ∙ ap (λ (t : Stable). version_at t 0) c.in_ok-clone.ensures.cases in
     let tree = c.in_ok-written.field-0.tree in

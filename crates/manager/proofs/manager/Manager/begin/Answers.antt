@@ -1,6 +1,5 @@
 use Rattle.std.proofs.Common.{◌≡◌, length, ap, ◌∙◌, arith}
 use Rattle.txn.specs.Version.{TableVersion, lower_table, table_version}
-use Rattle.manager.specs.Held.{layers_of}
 use Rattle.manager.specs.Managed.{managed_of, newest_table}
 use Rattle.manager.proofs.HistoryLemmas.{newest_within}
 use Rattle.manager.proofs.manager.Manager.begin.Goals as goal
@@ -9,7 +8,7 @@ pub open-requires-clause-within : goal.open-requires-clause-within
 open-requires-clause-within c =
     let i = c.self.inside in
     let h = c.self.invariant.0 in
-    let m = managed_of i.history i.made (layers_of i.held) in
+    let m = managed_of i.history i.made i.newest.layers in
     let within = newest_within m h.lawful in
     let same : length (lower_table c.in_ok-copy.field-0.layers) ≡ length (newest_table m) =
     ap (λ (v : TableVersion). length v.table) (ap table_version c.in_ok-copy.ensures ∙ h.newest_is) in

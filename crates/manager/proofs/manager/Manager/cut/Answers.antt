@@ -3,7 +3,6 @@ use Rattle.circular_buffer.specs.Buffer.{Buffer}
 use Rattle.delta.specs.Tree.{Tree}
 use Rattle.txn.specs.Version.{Lower}
 use Rattle.manager.specs.History.{Recorded, recorded_at}
-use Rattle.manager.specs.Held.{layers_of}
 use Rattle.manager.specs.Managed.{Managed, managed_of, history_of, cut_of, IsOwn}
 use Rattle.manager.specs.Kept.{HoldsNewest}
 use Rattle.manager.proofs.CutLemmas.{cut_holds, IsOwn-cut_of}
@@ -12,8 +11,8 @@ use Rattle.manager.proofs.manager.Manager.cut.Goals as goal
 pub invariant_of-self : goal.invariant_of-self
 invariant_of-self c =
     let i = c.self.inside in
-    let m : Managed = managed_of i.history i.made (layers_of i.held) in
-    let l : Lower = record { stable = i.held.stable.value; read = i.held.read.value; write = i.held.write.value } in
+    let m : Managed = managed_of i.history i.made i.newest.layers in
+    let l : Lower = i.newest.layers in
     let h = c.self.invariant.0 in
     let holds = cut_holds m l i.newest i.kept.items h in
     let history : c.replace.new.dest ≡ history_of (cut_of m) =
@@ -28,12 +27,12 @@ invariant_of-self c =
 pub returns-clause-own : goal.returns-clause-own
 returns-clause-own c =
     let i = c.self.inside in
-    let m : Managed = managed_of i.history i.made (layers_of i.held) in
+    let m : Managed = managed_of i.history i.made i.newest.layers in
     let h = c.self.invariant.0 in
     let history : c.replace.new.dest ≡ history_of (cut_of m) =
     c.replace.ensures.after
     ∙ c.new-next.ensures
     ∙ (λ j. recorded_at (h.newest_is j) (c.rules.ensures.limit j) (c.rules.ensures.recent j) (c.rules.ensures.conflicts j) []) in
-    let next : managed_of c.replace.new.dest i.made (layers_of i.held) ≡ cut_of c.args.self.now =
-    ap (λ (r : Recorded). managed_of r i.made (layers_of i.held)) history ∙ ap cut_of c.self.view_is in
+    let next : managed_of c.replace.new.dest i.made i.newest.layers ≡ cut_of c.args.self.now =
+    ap (λ (r : Recorded). managed_of r i.made i.newest.layers) history ∙ ap cut_of c.self.view_is in
     λ txn own. subst (λ (v : Managed). IsOwn v txn) (sym next) (IsOwn-cut_of c.args.self.now txn own)

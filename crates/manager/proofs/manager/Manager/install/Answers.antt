@@ -6,7 +6,6 @@ use Rattle.model.specs.History.{Record, IsLegal}
 use Rattle.delta.specs.Tree.{Tree}
 use Rattle.txn.specs.Version.{Lower}
 use Rattle.manager.specs.History.{Recorded}
-use Rattle.manager.specs.Held.{layers_of}
 use Rattle.manager.specs.Managed.{Managed, managed_of, newest_number, IsOwn, record_of}
 use Rattle.manager.specs.Kept.{HoldsNewest}
 use Rattle.manager.specs.Prepared.{Prepared, Granted, IsPrepared, IsInstalled}
@@ -17,7 +16,7 @@ use Rattle.manager.proofs.manager.Manager.install.Goals as goal
 pub enter-requires-clause-legal : goal.enter-requires-clause-legal
 enter-requires-clause-legal c =
     let i = c.self.inside in
-    let m : Managed = managed_of i.history i.made (layers_of i.held) in
+    let m : Managed = managed_of i.history i.made i.newest.layers in
     let txn = c.args.txn in
     let p : Prepared = record { reply = c.prepared.inside.reply; granted = c.prepared.inside.grant } in
     let own : IsOwn m txn = subst (λ (w : Managed). IsOwn w txn) (sym c.self.view_is) c.requires.own in
@@ -30,15 +29,16 @@ enter-requires-clause-legal c =
 pub invariant_of-self : goal.invariant_of-self
 invariant_of-self c =
     let i = c.self.inside in
-    let m : Managed = managed_of i.history i.made (layers_of i.held) in
-    let l : Lower = record { stable = i.held.stable.value; read = i.held.read.value; write = i.held.write.value } in
+    let m : Managed = managed_of i.history i.made i.newest.layers in
+    let l : Lower = i.newest.layers in
     let txn = c.args.txn in
     let p : Prepared = record { reply = c.prepared.inside.reply; granted = c.prepared.inside.grant } in
     let own : IsOwn m txn = subst (λ (w : Managed). IsOwn w txn) (sym c.self.view_is) c.requires.own in
     let prepared : IsPrepared m txn p =
     subst (λ (e : Managed × Prepared). IsPrepared e.0 txn e.1) (sym (λ j. (c.self.view_is j, c.prepared.view_is j)))
     c.requires.prepared in
-    let g : Granted = record { tree = c.grant.inside.tree; layers = layers_of c.grant.inside.held; version = c.grant.inside.version } in
+    let v = c.grant.inside.version in
+    let g : Granted = record { tree = c.grant.inside.tree; layers = v.layers; version = v } in
     let installed : IsInstalled m txn p.reply (Some g) =
     subst (IsInstalled m txn p.reply) (c.in-Some.is ∙ ap Some (sym c.grant.view_is)) prepared.installed in
     let reply = installed.0 in
@@ -62,8 +62,8 @@ invariant_of-self c =
 pub invariant_of-self-in_default : goal.invariant_of-self-in_default
 invariant_of-self-in_default c =
     let i = c.self.inside in
-    let m : Managed = managed_of i.history i.made (layers_of i.held) in
-    let l : Lower = record { stable = i.held.stable.value; read = i.held.read.value; write = i.held.write.value } in
+    let m : Managed = managed_of i.history i.made i.newest.layers in
+    let l : Lower = i.newest.layers in
     let txn = c.args.txn in
     let p : Prepared = record { reply = c.prepared.inside.reply; granted = c.prepared.inside.grant } in
     let own : IsOwn m txn = subst (λ (w : Managed). IsOwn w txn) (sym c.self.view_is) c.requires.own in

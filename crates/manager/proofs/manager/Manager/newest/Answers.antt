@@ -4,7 +4,6 @@ use Rattle.values.specs.declared.row.Row.{Row}
 use Rattle.model.specs.Table.{rows_of}
 use Rattle.merge.specs.Image.{image_rows, stack_below}
 use Rattle.txn.specs.Version.{LayeredVersion, TableVersion}
-use Rattle.manager.specs.Held.{layers_of}
 use Rattle.manager.specs.Managed.{Managed, managed_of, newest_table, newest_version}
 use Rattle.manager.proofs.GrantLemmas.{limited}
 use Rattle.manager.proofs.HistoryLemmas.{newest_within}
@@ -24,7 +23,7 @@ pub returns-clause-few : goal.returns-clause-few
 returns-clause-few c =
     let i = c.self.inside in
     let h = c.self.invariant.0 in
-    let m = managed_of i.history i.made (layers_of i.held) in
+    let m = managed_of i.history i.made i.newest.layers in
     let rows : length (image_rows c.image.result) ≡ length (rows_of (newest_table m)) =
     ap (λ (rs : List Row). length rs) (c.image.ensures.rows ∙ ap (λ (v : TableVersion). rows_of v.table) h.newest_is) in
     let count : length (rows_of (newest_table m)) ≡ length (newest_table m) = length-map _ _ in

@@ -2,33 +2,33 @@ use Rattle.std.proofs.Common.{◌≡◌, ◌≤◌, List, [], length, sym, ap, �
 use Rattle.circular_buffer.specs.Buffer.{Buffer}
 use Rattle.manager.specs.History.{Recorded, recorded_at}
 use Rattle.delta.specs.Tree.{Tree}
-use Rattle.txn.specs.Version.{Lower, AreLower, LayeredVersion, TableVersion, alone, numbered, table_version, version_at}
-use Rattle.txn.proofs.CallerLemmas.{are_alone, version_of-alone}
+use Rattle.values.specs.Shape.{IsSchema}
+use Rattle.stable.specs.Stable.{Stable, IsStable}
+use Rattle.txn.specs.Version.{LayeredVersion, TableVersion, alone, numbered, table_version, version_at}
+use Rattle.txn.proofs.CallerLemmas.{version_of-alone}
 use Rattle.manager.specs.Managed.{managed_of}
 use Rattle.manager.specs.Kept.{HoldsNewest}
 use Rattle.manager.proofs.GrantLemmas.{limit_fits, opened_holds}
 use Rattle.manager.proofs.manager.Manager.open.Goals as goal
 
-pub version-requires : goal.version-requires
-version-requires c = subst AreLower (sym c.in_ok-held.ensures.layers) (are_alone c.args.table c.in_ok-held.ensures.lawful)
-
 pub invariant_of-result : goal.invariant_of-result
 invariant_of-result c =
     let s = c.args.table in
-    let layers = c.in_ok-held.ensures.layers in
-    let version : c.in_ok-newest.newest ≡ numbered (alone s) 0 = c.in_ok-newest.ensures ∙ ap (λ (l : Lower). numbered l 0) layers in
-    let history : c.new.result ≡ recorded_at (version_at s 0) c.args.row_limit c.args.recent c.args.conflicts [] =
-    c.new.ensures
+    let stable : c.in_ok-new.field-0.value ≡ s = c.in_ok-new.ensures.ok in
+    let version : c.in_ok-newest.newest ≡ numbered (alone s) 0 =
+    c.in_ok-newest.ensures.version ∙ ap (λ (t : Stable). numbered (alone t) 0) stable in
+    let history : c.new-3.result ≡ recorded_at (version_at s 0) c.args.row_limit c.args.recent c.args.conflicts [] =
+    c.new-3.ensures
     ∙ ap (λ (v : TableVersion). recorded_at v c.args.row_limit c.args.recent c.args.conflicts [])
     (ap table_version version ∙ version_of-alone s 0) in
     let within : length s.rows ≤ c.args.row_limit = omega (arith, c.len.ensures.count, c.if-len-row_limit.false) in
     let most = limit_fits c.args.recent c.args.row_limit (sym c.is_bad_limit.ensures ∙ c.if-is_bad_limit.false) in
     let holds =
-    opened_holds s c.args.row_limit c.args.recent c.args.conflicts c.in_ok-held.ensures.lawful c.in_ok-held.ensures.typed
-    within most in
+    opened_holds s c.args.row_limit c.args.recent c.args.conflicts (subst IsStable stable c.in_ok-newest.ensures.lawful)
+    (subst (λ (t : Stable). IsSchema t.schema) stable c.in_ok-newest.ensures.typed) within most in
     let kept : c.in_ok-with_capacity.field-0.items ≡ [] = ap (λ (b : Buffer Tree). b.items) c.in_ok-with_capacity.ensures in
-    let P = λ (e : Recorded × (Lower × (LayeredVersion × List Tree))). HoldsNewest (managed_of e.0 0 e.1.0) e.1.0 e.1.1.0 e.1.1.1 in (
-      subst P (sym (λ i. (history i, (layers i, (version i, kept i))))) holds,
+    let P = λ (e : Recorded × (LayeredVersion × List Tree)). HoldsNewest (managed_of e.0 0 e.1.0.layers) e.1.0.layers e.1.0 e.1.1 in (
+      subst P (sym (λ i. (history i, (version i, kept i)))) holds,
       ap (λ (b : Buffer Tree). b.capacity) c.in_ok-with_capacity.ensures ∙ sym (ap (λ (h : Recorded). h.start.recent) history),
     )
 
@@ -36,9 +36,9 @@ pub returns-clause-ok : goal.returns-clause-ok
 returns-clause-ok c =
     let s = c.args.table in
     let version : c.in_ok-newest.newest ≡ numbered (alone s) 0 =
-    c.in_ok-newest.ensures ∙ ap (λ (l : Lower). numbered l 0) c.in_ok-held.ensures.layers in
-    let history : c.new.result ≡ recorded_at (version_at s 0) c.args.row_limit c.args.recent c.args.conflicts [] =
-    c.new.ensures
+    c.in_ok-newest.ensures.version ∙ ap (λ (t : Stable). numbered (alone t) 0) c.in_ok-new.ensures.ok in
+    let history : c.new-3.result ≡ recorded_at (version_at s 0) c.args.row_limit c.args.recent c.args.conflicts [] =
+    c.new-3.ensures
     ∙ ap (λ (v : TableVersion). recorded_at v c.args.row_limit c.args.recent c.args.conflicts [])
     (ap table_version version ∙ version_of-alone s 0) in
-    λ i. managed_of (history i) 0 (c.in_ok-held.ensures.layers i)
+    λ i. managed_of (history i) 0 (version i).layers

@@ -11,7 +11,7 @@ use Rattle.manager.proofs.manager.Manager.passed.Goals as goal
 pub overflow_sub-first : goal.overflow_sub-first
 overflow_sub-first c =
     let i = c.self.inside in
-    let l : Lower = record { stable = i.held.stable.value; read = i.held.read.value; write = i.held.write.value } in
+    let l : Lower = i.newest.layers in
     let m = c.args.self.now in
     let h : HoldsNewest m l i.newest i.kept.items =
     subst (λ (v : Managed). HoldsNewest v l i.newest i.kept.items) c.self.view_is c.self.invariant.0 in
@@ -22,7 +22,7 @@ overflow_sub-first c =
 pub passed_through-requires : goal.passed_through-requires
 passed_through-requires c =
     let i = c.self.inside in
-    let l : Lower = record { stable = i.held.stable.value; read = i.held.read.value; write = i.held.write.value } in
+    let l : Lower = i.newest.layers in
     let m = c.args.self.now in
     let txn = c.args.txn.now in
     let h : HoldsNewest m l i.newest i.kept.items =
@@ -41,7 +41,7 @@ passed_through-requires c =
 pub returns : goal.returns
 returns c =
     let i = c.self.inside in
-    let l : Lower = record { stable = i.held.stable.value; read = i.held.read.value; write = i.held.write.value } in
+    let l : Lower = i.newest.layers in
     let m = c.args.self.now in
     let txn = c.args.txn.now in
     let h : HoldsNewest m l i.newest i.kept.items =

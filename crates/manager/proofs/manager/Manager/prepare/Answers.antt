@@ -14,7 +14,7 @@ use Rattle.manager.proofs.manager.Manager.prepare.Goals as goal
 pub grown-requires-clause-few : goal.grown-requires-clause-few
 grown-requires-clause-few c =
     let i = c.self.inside in
-    let l : Lower = record { stable = i.held.stable.value; read = i.held.read.value; write = i.held.write.value } in
+    let l : Lower = i.newest.layers in
     let m = c.args.self.now in
     let h : HoldsNewest m l i.newest i.kept.items =
     subst (λ (v : Managed). HoldsNewest v l i.newest i.kept.items) c.self.view_is c.self.invariant.0 in
@@ -25,7 +25,7 @@ grown-requires-clause-few c =
 pub grown-requires-clause-enough : goal.grown-requires-clause-enough
 grown-requires-clause-enough c =
     let i = c.self.inside in
-    let l : Lower = record { stable = i.held.stable.value; read = i.held.read.value; write = i.held.write.value } in
+    let l : Lower = i.newest.layers in
     let m = c.args.self.now in
     let txn = c.args.txn.now in
     let h : HoldsNewest m l i.newest i.kept.items =
@@ -39,7 +39,7 @@ grown-requires-clause-enough c =
 pub returns-then-grown-row_limit-clause-prepared : goal.returns-then-grown-row_limit-clause-prepared
 returns-then-grown-row_limit-clause-prepared c =
     let i = c.self.inside in
-    let l : Lower = record { stable = i.held.stable.value; read = i.held.read.value; write = i.held.write.value } in
+    let l : Lower = i.newest.layers in
     let m = c.args.self.now in
     let txn = c.args.txn.now in
     let h : HoldsNewest m l i.newest i.kept.items =
@@ -64,7 +64,7 @@ returns-then-grown-row_limit-clause-prepared c =
 pub grant-requires : goal.grant-requires
 grant-requires c =
     let i = c.self.inside in
-    let l : Lower = record { stable = i.held.stable.value; read = i.held.read.value; write = i.held.write.value } in
+    let l : Lower = i.newest.layers in
     let m = c.args.self.now in
     let txn = c.args.txn.now in
     let h : HoldsNewest m l i.newest i.kept.items =
@@ -85,7 +85,7 @@ grant-requires c =
 pub returns-clause-prepared : goal.returns-clause-prepared
 returns-clause-prepared c =
     let i = c.self.inside in
-    let l : Lower = record { stable = i.held.stable.value; read = i.held.read.value; write = i.held.write.value } in
+    let l : Lower = i.newest.layers in
     let m = c.args.self.now in
     let txn = c.args.txn.now in
     let h : HoldsNewest m l i.newest i.kept.items =

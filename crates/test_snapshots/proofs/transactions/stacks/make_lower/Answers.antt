@@ -20,7 +20,7 @@ stacked-requires c =
     ∙ ap (λ (t : Stable). t.schema.key_cols) c.deref.ensures in
     let none : l.write ≡ empty_tree s.schema.key_cols = c.in_ok-none.ensures.ok ∙ c.new-2.ensures ∙ ap empty_tree count in
     let opened =
-    ap table_version c.in_ok-opening.ensures
+    ap table_version c.in_ok-opening.ensures.version
     ∙ version_of-alone c.in_ok-clone.field-0.value 0
     ∙ ap (λ (t : Stable). version_at t 0) c.in_ok-clone.ensures.cases in
     let read =
@@ -40,7 +40,7 @@ returns c =
     ∙ ap (λ (t : Stable). t.schema.key_cols) c.deref.ensures in
     let none : l.write ≡ empty_tree s.schema.key_cols = c.in_ok-none.ensures.ok ∙ c.new-2.ensures ∙ ap empty_tree count in
     let opened =
-    ap table_version c.in_ok-opening.ensures
+    ap table_version c.in_ok-opening.ensures.version
     ∙ version_of-alone c.in_ok-clone.field-0.value 0
     ∙ ap (λ (t : Stable). version_at t 0) c.in_ok-clone.ensures.cases in
     let read =

@@ -23,8 +23,8 @@ stacked-requires c =
     let write : c.in_ok-write.write.value ≡ empty_tree s.schema.key_cols = c.in_ok-write.ensures.cases ∙ read in
     subst AreLower (sym (unwritten s c.in_ok-read.read.value c.in_ok-write.write.value read write)) (are_alone s lawful)
 
-pub returns : goal.returns
-returns c =
+pub returns-clause-version : goal.returns-clause-version
+returns-clause-version c =
     let s = c.args.stable.value in
     let count : c.key_cols-key_cols.result ≡ s.schema.key_cols =
     c.key_cols-key_cols.ensures.count
@@ -36,3 +36,6 @@ returns c =
     subst (λ (l : Lower). IfOk c.stacked.result (λ version. version ≡ numbered l number))
     (unwritten s c.in_ok-read.read.value c.in_ok-write.write.value read write)
     c.stacked.ensures
+
+pub returns-clause-lawful : goal.returns-clause-lawful
+returns-clause-lawful c = subst IsStable c.deref.ensures c.schema.ensures.lawful
