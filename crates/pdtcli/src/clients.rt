@@ -1,10 +1,10 @@
 //! A run of a script's clients, each on a thread of its own.
-ghost use Rattle.std.specs.Prelude.{◌≡◌, ◌⊎◌, ◌+◌, ◌<◌, ◌≤◌, ◌++◌, ℕ, [], All, IfErr, IfOk, IsTrue, OnOk, length, map, sum, vec_items, vec_len, vec_capacity};
+ghost use Rattle.std.specs.Prelude.{◌≡◌, ◌⊎◌, ◌+◌, ◌<◌, ◌≤◌, ◌++◌, ℕ, [], All, IfErr, IfOk, IsTrue, OnOk, length, map, vec_items, vec_len, vec_capacity};
 ghost use Rattle.std.specs.List.{range_with_len};
 ghost use Rattle.inputs.specs.Typed.{is_typed_call};
-ghost use Rattle.manager.specs.Managed.{IsManaged};
 ghost use Rattle.shared.specs.Sessions.{new_seat};
-ghost use Rattle.pdtcli.specs.Clients.{HasMade, HaveMade, IsClientsRefusal, IsLeft, IsStartRefusal, calls_of, each_with, joined_lines};
+ghost use Rattle.pdtcli.specs.Clients.{HasMade, HaveMade, IsClientsRefusal, IsStartRefusal, calls_of, each_with, joined_lines};
+ghost use Rattle.pdtcli.specs.Program.{IsRunOnThreads};
 ghost use Rattle.pdtcli.specs.Run.{AreHanded};
 ghost use Rattle.pdtcli.specs.declared.clients.RunFault.TheVariants as run_fault;
 
@@ -18,7 +18,7 @@ use manager::Manager;
 use publishing::Opening;
 use shared::{Closed, ImageStore, NewOpening, Session, ShareFault, Shared, open};
 use std::alloc::{AllocError, Global};
-use std::marker::Brand;
+use std::marker::{Brand, Model};
 use std::snapshot::Snapshot;
 use std::sync::Wait;
 use std::thread;
@@ -69,6 +69,32 @@ impl<'e, O: Opening> Promise<(Session<O>, Vec<ReplyLine>)> for Making<'e, O> {
     ghost kept_by = { λ p r. HasMade O.opened.manager p.start.value p.calls.now r.1.items r.0 };
 }
 
+/// A thread that makes a session's calls.
+type Running<'e, O> = PromisedHandle<(Session<O>, Vec<ReplyLine>), Making<'e, O>>;
+
+/// What the clients' threads are lent. Contracts see the calls, which are typed under the schema of the opening.
+#[derive(Drop)]
+struct Clients<'e, O: Opening, S: ImageStore, G, R> {
+    rt: &'e R,
+    alloc: Global,
+    shared: &'e Shared<O, S>,
+    gate: &'e G,
+    /// The calls of all clients, in the script's order.
+    calls: &'e [ClientCall],
+}
+
+impl<'e, O: Opening, S: ImageStore, G, R> Model for Clients<'e, O, S, G, R> {
+    ghost use Rattle.std.specs.Prelude.{All, IsTrue, List};
+    ghost use Rattle.inputs.specs.Typed.{is_typed_call};
+    ghost use Rattle.inputs.specs.declared.call.ClientCall.{ClientCall};
+
+    ghost Value = { List ClientCall };
+
+    ghost view = { λ c. c.calls.now };
+
+    ghost invariant = { λ c. All (λ asked. IsTrue (is_typed_call O.opened.manager.schema asked.call)) c.calls.now };
+}
+
 /// Makes a script's calls, each client's on a thread of its own and in their order, from a manager with no transaction
 /// open; its checkpoints go to the store. The gate is called round each. The reply lines are grouped by client, in the
 /// order of the clients. Transactions that are open at the end are ended without a line. Waits for the lock and the threads.
@@ -88,10 +114,7 @@ pub fn run_clients<S: ImageStore + Send, G: Gate, R: Threads + Wait + Sync>(
     // The calls were read under the manager's schema, which is the store's.
     requires script { script.now.schema ≡ manager.schema }
     requires store { S.columns store ≡ manager.schema }
-    ensures made { IfOk result (λ outcome. IsLeft manager script.now.calls (length script.now.clients) outcome.left) }
-    ensures clients { IfOk result (λ outcome. outcome.left.clients ≡ script.now.clients) }
-    ensures records { IfOk result (λ outcome. outcome.left.manager.made ≡ manager.made + sum outcome.left.counts) }
-    ensures lawful { IfOk result (λ outcome. IsManaged outcome.left.manager) }
+    ensures run { IfOk result (λ outcome. IsRunOnThreads manager script.now outcome.left) }
     ensures handed { IfOk result (λ outcome. AreHanded manager outcome.left.manager outcome.left.handed) }
     ensures store { IfOk result (λ outcome. S.columns outcome.store ≡ outcome.left.manager.schema) }
     ensures refused { IfErr result (IsClientsRefusal (length script.now.clients)) }
@@ -123,14 +146,12 @@ fn run_shared<O: Opening + Send + Sync, S: ImageStore + Send, G: Gate, R: Thread
     requires opening { (fresh.book.list.opening ≡ O.opened) × (fresh.book.list.list ≡ []) × (O.opened.manager ≡ manager) }
     requires script { script.now.schema ≡ manager.schema }
     requires store { S.columns store ≡ manager.schema }
+    requires names { (names.items ≡ script.now.clients) × (clients ≡ length script.now.clients) }
     requires some { 1 ≤ clients }
-    ensures made { IfOk result (λ outcome. IsLeft manager script.now.calls clients outcome.left) }
-    ensures clients { IfOk result (λ outcome. outcome.left.clients ≡ names.items) }
-    ensures records { IfOk result (λ outcome. outcome.left.manager.made ≡ manager.made + sum outcome.left.counts) }
-    ensures lawful { IfOk result (λ outcome. IsManaged outcome.left.manager) }
+    ensures run { IfOk result (λ outcome. IsRunOnThreads manager script.now outcome.left) }
     ensures handed { IfOk result (λ outcome. AreHanded manager outcome.left.manager outcome.left.handed) }
     ensures store { IfOk result (λ outcome. S.columns outcome.store ≡ outcome.left.manager.schema) }
-    ensures refused { IfErr result (IsClientsRefusal clients) }
+    ensures refused { IfErr result (IsClientsRefusal (length script.now.clients)) }
 {
     let alloc = *names.allocator();
     let handed_before = handed_out(&manager);
@@ -138,7 +159,14 @@ fn run_shared<O: Opening + Send + Sync, S: ImageStore + Send, G: Gate, R: Thread
         Ok(opened) => opened,
         Err(fault) => return Err(RunFault::Open(fault)),
     };
-    match run_all(rt, alloc, &shared, gate, sessions, script.calls()) {
+    let lent = Clients {
+        rt,
+        alloc,
+        shared: &shared,
+        gate,
+        calls: script.calls(),
+    };
+    match lent.run_all(sessions) {
         Ok((back, groups)) => {
             let closed = shared.close(back, rt);
             Ok(outcome_of(alloc, names, groups, closed, handed_before)?)
@@ -181,149 +209,121 @@ fn outcome_of<S: ImageStore>(
     Ok(Outcome { left, store })
 }
 
-/// Has each session make its calls on a thread of its own. The sessions and their lines come back in the same order.
-fn run_all<O: Opening + Send + Sync, S: ImageStore + Send, G: Gate, R: Threads + Wait + Sync>(
-    rt: &R,
-    alloc: Global,
-    shared: &Shared<O, S>,
-    gate: &G,
-    sessions: Vec<Session<O>>,
-    calls: &[ClientCall],
-) -> Result<(Vec<Session<O>>, Vec<Vec<ReplyLine>>), RunFault>
-    requires typed { All (λ asked. IsTrue (is_typed_call O.opened.manager.schema asked.call)) calls.now }
-    requires numbered { All (λ session. session.client < O.clients) sessions.items }
-    ensures made { IfOk result (λ r. HaveMade O.opened.manager (each_with calls.now sessions.items) (map vec_items r.1.items) r.0.items) }
-    ensures refused { IfErr result (IsStartRefusal O.clients) }
-{
-    thread::scope(
-        thread::scope_env(),
-        rt,
-        |scope| -> Result<(Vec<Session<O>>, Vec<Vec<ReplyLine>>), RunFault>
-            requires typed { All (λ asked. IsTrue (is_typed_call O.opened.manager.schema asked.call)) calls.now }
-            requires numbered { All (λ session. session.client < O.clients) sessions.items }
-            ensures made { IfOk result (λ r. HaveMade O.opened.manager (each_with calls.entry.now sessions.items) (map vec_items r.1.items) r.0.items) }
-            ensures refused { IfErr result (IsStartRefusal O.clients) }
-        { run_in(scope, rt, alloc, shared, gate, sessions, calls) },
-    )
-}
-
-/// Starts the threads in the scope, and waits for those that were started.
-fn run_in<
-    's,
-    'e: 's,
+impl<'e, O, S, G, R> Clients<'e, O, S, G, R>
+where
     O: Opening + Send + Sync,
     S: ImageStore + Send,
     G: Gate,
     R: Threads + Wait + Sync,
->(
-    scope: &'s Scope<'s, &'e ()>,
-    rt: &'e R,
-    alloc: Global,
-    shared: &'e Shared<O, S>,
-    gate: &'e G,
-    sessions: Vec<Session<O>>,
-    calls: &'e [ClientCall],
-) -> Result<(Vec<Session<O>>, Vec<Vec<ReplyLine>>), RunFault>
-    requires typed { All (λ asked. IsTrue (is_typed_call O.opened.manager.schema asked.call)) calls.now }
-    requires numbered { All (λ session. session.client < O.clients) sessions.items }
-    ensures made { IfOk result (λ r. HaveMade O.opened.manager (each_with calls.now sessions.items) (map vec_items r.1.items) r.0.items) }
-    ensures refused { IfErr result (IsStartRefusal O.clients) }
 {
-    let count = sessions.len();
-    let mut handles = Vec::with_capacity(alloc, count)?;
-    let back = Vec::with_capacity(alloc, count)?;
-    let groups = Vec::with_capacity(alloc, count)?;
-    let started = start_all(
-        scope,
-        rt,
-        alloc,
-        shared,
-        gate,
-        sessions,
-        calls,
-        &mut handles,
-    );
-    let (back, groups) = join_all(rt, handles, back, groups);
-    match started {
-        Ok(()) => Ok((back, groups)),
-        Err(fault) => Err(fault),
+    /// Has each session make its calls on a thread of its own. The sessions and their lines come back in the same order.
+    fn run_all(
+        self,
+        sessions: Vec<Session<O>>,
+    ) -> Result<(Vec<Session<O>>, Vec<Vec<ReplyLine>>), RunFault>
+        requires numbered { All (λ session. session.client < O.clients) sessions.items }
+        ensures made { IfOk result (λ r. HaveMade O.opened.manager (each_with self.entry sessions.items)
+            (map vec_items r.1.items) r.0.items) }
+        ensures refused { IfErr result (IsStartRefusal O.clients) }
+    {
+        let lent = &self;
+        thread::scope(
+            thread::scope_env(),
+            self.rt,
+            |scope| -> Result<(Vec<Session<O>>, Vec<Vec<ReplyLine>>), RunFault>
+                requires numbered { All (λ session. session.client < O.clients) sessions.items }
+                ensures made { IfOk result (λ r. HaveMade O.opened.manager (each_with lent.entry.now sessions.items)
+                    (map vec_items r.1.items) r.0.items) }
+                ensures refused { IfErr result (IsStartRefusal O.clients) }
+            { lent.run_in(scope, sessions) },
+        )
     }
-}
 
-/// Starts a thread for each session, up to the first for which none could be made.
-fn start_all<
-    's,
-    'e: 's,
-    O: Opening + Send + Sync,
-    S: ImageStore + Send,
-    G: Gate,
-    R: Threads + Wait + Sync,
->(
-    scope: &'s Scope<'s, &'e ()>,
-    rt: &'e R,
-    alloc: Global,
-    shared: &'e Shared<O, S>,
-    gate: &'e G,
-    sessions: Vec<Session<O>>,
-    calls: &'e [ClientCall],
-    handles: &mut Vec<PromisedHandle<(Session<O>, Vec<ReplyLine>), Making<'e, O>>>,
-) -> Result<(), RunFault>
-    requires typed { All (λ asked. IsTrue (is_typed_call O.opened.manager.schema asked.call)) calls.now }
-    requires numbered { All (λ session. session.client < O.clients) sessions.items }
-    requires empty { handles.old.items ≡ [] }
-    requires room { vec_len sessions ≤ vec_capacity handles.old }
-    ensures started { OnOk result (map (λ h. (h.promise.start.value, h.promise.calls.now)) handles.new.items ≡ each_with calls.now sessions.items) }
-    ensures len { vec_len handles.new ≤ vec_len sessions }
-    ensures refused { IfErr result (IsStartRefusal O.clients) }
-{
-    for session in sessions {
-        handles.push_reserved(start(scope, rt, alloc, shared, gate, session, calls)?);
+    /// Starts the threads in the scope, and waits for those that were started.
+    fn run_in<'s>(
+        &self,
+        scope: &'s Scope<'s, &'e ()>,
+        sessions: Vec<Session<O>>,
+    ) -> Result<(Vec<Session<O>>, Vec<Vec<ReplyLine>>), RunFault>
+    where
+        'e: 's,
+        requires numbered { All (λ session. session.client < O.clients) sessions.items }
+        ensures made { IfOk result (λ r. HaveMade O.opened.manager (each_with self.now sessions.items)
+            (map vec_items r.1.items) r.0.items) }
+        ensures refused { IfErr result (IsStartRefusal O.clients) }
+    {
+        let count = sessions.len();
+        let mut handles = Vec::with_capacity(self.alloc, count)?;
+        let back = Vec::with_capacity(self.alloc, count)?;
+        let groups = Vec::with_capacity(self.alloc, count)?;
+        let started = self.start_all(scope, sessions, &mut handles);
+        let (back, groups) = join_all(self.rt, handles, back, groups);
+        match started {
+            Ok(()) => Ok((back, groups)),
+            Err(fault) => Err(fault),
+        }
     }
-    Ok(())
-}
 
-/// Starts one client's thread.
-fn start<
-    's,
-    'e: 's,
-    O: Opening + Send + Sync,
-    S: ImageStore + Send,
-    G: Gate,
-    R: Threads + Wait + Sync,
->(
-    scope: &'s Scope<'s, &'e ()>,
-    rt: &'e R,
-    alloc: Global,
-    shared: &'e Shared<O, S>,
-    gate: &'e G,
-    session: Session<O>,
-    calls: &'e [ClientCall],
-) -> Result<PromisedHandle<(Session<O>, Vec<ReplyLine>), Making<'e, O>>, RunFault>
-    requires typed { All (λ asked. IsTrue (is_typed_call O.opened.manager.schema asked.call)) calls.now }
-    ensures started { IfOk result (λ h. (h.promise.start.value ≡ session) × (h.promise.calls.now ≡ calls.now)) }
-    ensures refused { IfErr result (λ fault. (fault ≡ run_fault.NoMemory) ⊎ (fault ≡ run_fault.NoThread session.client)) }
-{
-    let client = session.client();
-    let lines = Vec::with_capacity(alloc, count_calls(calls, client))?;
-    let promise = Making {
-        start: Snapshot::of(&session),
-        calls,
-    };
-    let run = move || -> (Session<O>, Vec<ReplyLine>)
-        requires { (lines.items ≡ []) × (length (calls_of session.client calls.now) ≤ vec_capacity lines)
-            × All (λ asked. IsTrue (is_typed_call O.opened.manager.schema asked.call)) calls.now }
-        ensures { HasMade O.opened.manager session calls.entry.now result.1.items result.0 }
-    { run_client(rt, shared, gate, session, calls, lines) };
-    match scope.spawn_with(promise, run) {
-        Ok(handle) => Ok(handle),
-        Err(_refused) => Err(RunFault::NoThread(client)),
+    /// Starts a thread for each session, up to the first for which none could be made.
+    fn start_all<'s>(
+        &self,
+        scope: &'s Scope<'s, &'e ()>,
+        sessions: Vec<Session<O>>,
+        handles: &mut Vec<Running<'e, O>>,
+    ) -> Result<(), RunFault>
+    where
+        'e: 's,
+        requires numbered { All (λ session. session.client < O.clients) sessions.items }
+        requires empty { handles.old.items ≡ [] }
+        requires room { vec_len sessions ≤ vec_capacity handles.old }
+        ensures started { OnOk result (map (λ h. (h.promise.start.value, h.promise.calls.now)) handles.new.items
+            ≡ each_with self.now sessions.items) }
+        ensures len { vec_len handles.new ≤ vec_len sessions }
+        ensures refused { IfErr result (IsStartRefusal O.clients) }
+    {
+        for session in sessions {
+            handles.push_reserved(self.start(scope, session)?);
+        }
+        Ok(())
+    }
+
+    /// Starts one client's thread.
+    fn start<'s>(
+        &self,
+        scope: &'s Scope<'s, &'e ()>,
+        session: Session<O>,
+    ) -> Result<Running<'e, O>, RunFault>
+    where
+        'e: 's,
+        ensures started { IfOk result (λ h. (h.promise.start.value ≡ session) × (h.promise.calls.now ≡ self.now)) }
+        ensures refused { IfErr result (λ fault. (fault ≡ run_fault.NoMemory) ⊎ (fault ≡ run_fault.NoThread session.client)) }
+    {
+        let rt = self.rt;
+        let shared = self.shared;
+        let gate = self.gate;
+        let calls = self.calls;
+        let client = session.client();
+        let lines = Vec::with_capacity(self.alloc, count_calls(calls, client))?;
+        let promise = Making {
+            start: Snapshot::of(&session),
+            calls,
+        };
+        let run = move || -> (Session<O>, Vec<ReplyLine>)
+            requires { (lines.items ≡ []) × (length (calls_of session.client calls.now) ≤ vec_capacity lines)
+                × All (λ asked. IsTrue (is_typed_call O.opened.manager.schema asked.call)) calls.now }
+            ensures { HasMade O.opened.manager session calls.entry.now result.1.items result.0 }
+        { run_client(rt, shared, gate, session, calls, lines) };
+        match scope.spawn_with(promise, run) {
+            Ok(handle) => Ok(handle),
+            Err(_refused) => Err(RunFault::NoThread(client)),
+        }
     }
 }
 
 /// Waits for each thread.
 fn join_all<'e, O: Opening, R: Threads>(
     rt: &R,
-    handles: Vec<PromisedHandle<(Session<O>, Vec<ReplyLine>), Making<'e, O>>>,
+    handles: Vec<Running<'e, O>>,
     mut back: Vec<Session<O>>,
     mut groups: Vec<Vec<ReplyLine>>,
 ) -> (Vec<Session<O>>, Vec<Vec<ReplyLine>>)
