@@ -11,6 +11,7 @@ mod StretchLemmas
 mod KeyLemmas
 mod TableLemmas
 mod RunLemmas
+mod PartLemmas
 mod ColumnsLemmas
 mod BetweenLemmas
 mod KeyRowLemmas

@@ -8,3 +8,4 @@ pub mod Fitting
 pub mod KeyRow
 pub mod Columns
 pub mod Runs
+pub mod Parts

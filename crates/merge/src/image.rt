@@ -2,8 +2,10 @@
 ghost use Rattle.std.specs.Prelude.{◌≡◌, ◌<◌, ◌≤◌, ◌++◌, length};
 ghost use Rattle.merge.specs.Left.{AreCursors, image_left};
 ghost use Rattle.merge.specs.Stretches.{IsStretch, stretch_rows};
+ghost use Rattle.merge.specs.Parts.{HasFirst, PassesPart, part_count};
 
 use crate::level::{Level, Rows, StableRows};
+use crate::part::Part;
 use crate::stretch::Stretch;
 
 /// The rows under the Read- and the Write-PDT.
@@ -31,6 +33,22 @@ impl<'a> Image<'a> {
         match self {
             Image::Committed(rows) => rows.next_stretch(most),
             Image::Own(rows) => rows.next_stretch(most),
+        }
+    }
+    /// The next values of a column that come from one place: at least one, and at most so many.
+    #[inline(always)]
+    pub(crate) fn next_part(&mut self, col: usize, most: u64) -> Part<'a>
+        requires cursors { AreCursors self.old }
+        requires some { 0 < most }
+        requires most { most ≤ length (image_left self.old) }
+        requires first { HasFirst col (image_left self.old) }
+        ensures part { PassesPart col (image_left self.old) result (image_left self.new) }
+        ensures most { part_count result ≤ most }
+        ensures cursors { AreCursors self.new }
+    {
+        match self {
+            Image::Committed(rows) => rows.next_part(col, most),
+            Image::Own(rows) => rows.next_part(col, most),
         }
     }
 }

@@ -11,16 +11,20 @@ ghost use Rattle.model.specs.Places.{insert_count, delete_count};
 ghost use Rattle.merge.specs.Image.{IsLayer};
 ghost use Rattle.merge.specs.Cursor.{IsCursor, DeletesNone, rows_left};
 ghost use Rattle.merge.specs.View.{layer_number};
-ghost use Rattle.merge.specs.Stretches.{IsStretch, stretch_rows};
+ghost use Rattle.merge.specs.Stretches.{IsStableStretch, IsStretch, stretch_rows};
+ghost use Rattle.merge.specs.Left.{stable_left};
+ghost use Rattle.merge.specs.Parts.{HasFirst, PassesPart, PassesRow, part_count};
+ghost use Rattle.merge.specs.declared.stretch.Stretch.TheVariants.{Stable};
 
 use crate::cursor::{Cursor, Step};
+use crate::part::Part;
 use crate::stretch::{StableStretch, Stretch};
 use crate::view::{Layer, RowView};
 use delta::{DeltaTree, Sought};
 use stable::StableTable;
 use values::Value;
 
-/// Rows that are left, handed out stretch by stretch.
+/// Rows that are left, handed out stretch by stretch, or one column of them part by part.
 pub(crate) trait Rows<'a> {
     /// The rows that are left.
     ghost rows: { Self → List Cells };
@@ -41,6 +45,25 @@ pub(crate) trait Rows<'a> {
         ensures most { length (stretch_rows result) ≤ most }
         ensures depth { depth self.new ≡ depth self.old }
         ensures sound { is_sound self.new };
+
+    /// The next values of a column that come from one place: at least one, and at most so many. No row is made on the way.
+    fn next_part(&mut self, col: usize, most: u64) -> Part<'a>
+        requires sound { is_sound self.old }
+        requires some { 0 < most }
+        requires most { most ≤ length (rows self.old) }
+        requires first { HasFirst col (rows self.old) }
+        ensures part { PassesPart col (rows self.old) result (rows self.new) }
+        ensures most { part_count result ≤ most }
+        ensures depth { depth self.new ≡ depth self.old }
+        ensures sound { is_sound self.new };
+
+    /// Goes past the next row.
+    fn pass_row(&mut self)
+        requires sound { is_sound self.old }
+        requires some { 0 < length (rows self.old) }
+        ensures rows { PassesRow (rows self.old) (rows self.new) }
+        ensures depth { depth self.new ≡ depth self.old }
+        ensures sound { is_sound self.new };
 }
 
 /// The stable rows from a SID on.
@@ -48,6 +71,28 @@ pub(crate) trait Rows<'a> {
 pub(crate) struct StableRows<'a> {
     pub table: &'a StableTable,
     pub sid: u64,
+}
+
+impl<'a> StableRows<'a> {
+    /// The next so many rows.
+    #[inline(always)]
+    fn next_rows(&mut self, most: u64) -> StableStretch<'a>
+        requires few { length self.old.table.now.rows ≤ MAX_ROWS }
+        requires some { 0 < most }
+        requires most { most ≤ length (stable_left self.old) }
+        ensures rows { stable_left self.old ≡ stretch_rows (Stable result) ++ stable_left self.new }
+        ensures is { IsStableStretch result }
+        ensures len { result.len ≡ most }
+        ensures table { self.new.table ≡ self.old.table }
+    {
+        let stretch = StableStretch {
+            table: self.table,
+            sid: self.sid,
+            len: most,
+        };
+        self.sid += most;
+        stretch
+    }
 }
 
 impl<'a> Rows<'a> for StableRows<'a> {
@@ -59,13 +104,17 @@ impl<'a> Rows<'a> for StableRows<'a> {
 
     #[inline(always)]
     fn next_stretch(&mut self, most: u64) -> Stretch<'a> {
-        let stretch = StableStretch {
-            table: self.table,
-            sid: self.sid,
-            len: most,
-        };
-        self.sid += most;
-        Stretch::Stable(stretch)
+        Stretch::Stable(self.next_rows(most))
+    }
+
+    #[inline(always)]
+    fn next_part(&mut self, _col: usize, most: u64) -> Part<'a> {
+        Part::Stable(self.next_rows(most))
+    }
+
+    #[inline(always)]
+    fn pass_row(&mut self) {
+        self.sid += 1;
     }
 }
 
@@ -91,7 +140,7 @@ impl<'a, B: Rows<'a> + Drop> Level<'a, B> {
         ensures none { DeletesNone self.new.cursor }
     {
         while self.cursor.skip_delete() {
-            self.below.next_stretch(1);
+            self.below.pass_row();
         }
     }
 }
@@ -116,6 +165,39 @@ impl<'a, B: Rows<'a> + Drop> Rows<'a> for Level<'a, B> {
                 let stretch = self.below.next_stretch(count);
                 self.cursor.pass(stretch.count());
                 stretch
+            }
+        }
+    }
+
+    #[inline(always)]
+    fn next_part(&mut self, col: usize, most: u64) -> Part<'a> {
+        self.skip_deleted();
+        match self.cursor.step(most) {
+            Step::Inserted(row) => Part::Value(row.cells()[col].as_ref()),
+            Step::Modified(modifies) => match modifies.value(col) {
+                Some(value) => {
+                    self.below.pass_row();
+                    Part::Value(value)
+                }
+                None => self.below.next_part(col, 1),
+            },
+            Step::Kept(count) => {
+                let part = self.below.next_part(col, count);
+                self.cursor.pass(part.count());
+                part
+            }
+        }
+    }
+
+    #[inline(always)]
+    fn pass_row(&mut self) {
+        self.skip_deleted();
+        match self.cursor.step(1) {
+            Step::Inserted(_) => {}
+            Step::Modified(_) => self.below.pass_row(),
+            Step::Kept(_) => {
+                self.below.pass_row();
+                self.cursor.pass(1);
             }
         }
     }

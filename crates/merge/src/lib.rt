@@ -13,6 +13,7 @@ mod image;
 mod key_row;
 mod layers;
 mod level;
+mod part;
 mod run;
 mod runs;
 mod scan;

@@ -6,9 +6,9 @@ ghost use Rattle.stable.specs.Rows.{column_values};
 ghost use Rattle.merge.specs.Fitting.{StandsAt};
 ghost use Rattle.merge.specs.Runs.{YieldsRun};
 
+use crate::part::Part;
 use crate::run::{ColumnPart, Run};
 use crate::scan::Stretches;
-use crate::stretch::Stretch;
 use stable::Column;
 use std::iter::FusedIterator;
 use std::marker::Model;
@@ -75,9 +75,9 @@ impl<'a> Iterator for ColumnRuns<'a> {
         if self.part.count > 0 {
             return Some(self.part.next_run());
         }
-        match self.stretches.next()? {
-            Stretch::Row(view) => Some(Run::Value(view.value(self.col))),
-            Stretch::Stable(stretch) => {
+        match self.stretches.next_part(self.col)? {
+            Part::Value(value) => Some(Run::Value(value)),
+            Part::Stable(stretch) => {
                 let mut part = ColumnPart::of_stretch(stretch, self.col);
                 let run = part.next_run();
                 self.part = part;

@@ -56,7 +56,7 @@ pub(crate) enum Layer {
 impl<'a> Modifies<'a> {
     /// The value that the modifies give the column, if they give it one.
     #[inline(always)]
-    fn value(&self, col: usize) -> Option<ValueRef<'a>>
+    pub(crate) fn value(&self, col: usize) -> Option<ValueRef<'a>>
         ensures { option_map value_of result ≡ last_cell col None (layer_cells self.now) }
     {
         match *self {

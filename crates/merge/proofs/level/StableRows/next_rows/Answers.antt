@@ -1,7 +1,7 @@
 use Rattle.std.proofs.Common.{◌∙◌, ◌++◌, List, take, drop, sym, ap, take-append-drop}
 use Rattle.std.proofs.lemmas.List.{drop-drop}
 use Rattle.values.specs.declared.row.Row.{Row as Cells}
-use Rattle.merge.proofs.level.StableRowsRows.next_stretch.Goals as goal
+use Rattle.merge.proofs.level.StableRows.next_rows.Goals as goal
 
 pub returns-clause-rows : goal.returns-clause-rows
 returns-clause-rows c =
