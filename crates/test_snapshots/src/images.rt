@@ -10,6 +10,7 @@ ghost use Rattle.model.specs.Effects.{table_with};
 ghost use Rattle.model.specs.Writes.{write_fits_schema};
 ghost use Rattle.merge.specs.Image.{AreStacked, IsLayer};
 
+mod columns;
 mod drawn;
 
 use crate::assertions::{assert_holds, assert_text, assert_text_at};

@@ -83,15 +83,15 @@ fn old_rows(alloc: Global) -> Result<Vec<Row>, NoMemory> {
     Ok(rows)
 }
 
-/// Those rows under the writes of three transactions.
-fn drawn_stack(alloc: Global) -> Result<Stack, Fail>
+/// Those rows under so many writes of each of three transactions.
+pub(super) fn drawn_stack(alloc: Global, count: u64) -> Result<Stack, Fail>
     ensures { IfOk result (λ made. AreStacked made.stable made.read.tree made.write.tree made.trans.tree) }
 {
     let rows = old_rows(alloc)?;
     let mut draws = Draws::new(2_010);
-    let read = drawn_writes(alloc, &mut draws, 24)?;
-    let write = drawn_writes(alloc, &mut draws, 24)?;
-    let trans = drawn_writes(alloc, &mut draws, 24)?;
+    let read = drawn_writes(alloc, &mut draws, count)?;
+    let write = drawn_writes(alloc, &mut draws, count)?;
+    let trans = drawn_writes(alloc, &mut draws, count)?;
     stacked(
         alloc,
         rows.as_slice(),
@@ -134,6 +134,6 @@ fn assert_rows(rt: &impl Abort, alloc: Global, stack: &Stack) -> Result<(), Fail
 
 #[test]
 fn a_thousand_rows_are_as_the_plain_program_merges_them(rt: HostRuntime) -> Result<(), Fail> {
-    let stack = drawn_stack(rt.alloc())?;
+    let stack = drawn_stack(rt.alloc(), 24)?;
     assert_rows(&rt, rt.alloc(), &stack)
 }
