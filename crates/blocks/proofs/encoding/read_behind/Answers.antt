@@ -1,4 +1,4 @@
-use Rattle.std.proofs.Common.{◌+◌, ◌<◌, arith}
+use Rattle.std.proofs.Common.{arith}
 use Rattle.blocks.proofs.EncodingLemmas.{fault_within}
 use Rattle.blocks.proofs.encoding.read_behind.Goals as goal
 

@@ -1,4 +1,4 @@
-use Rattle.std.proofs.Common.{◌≡◌, ◌++◌, ◌∷◌, [], take, cond, true, false, sym, ap, ◌∙◌}
+use Rattle.std.proofs.Common.{◌≡◌, ◌++◌, ◌∷◌, [], take, cond, sym, ap, ◌∙◌}
 use Rattle.blocks.specs.Cells.{column_of}
 use Rattle.blocks.specs.Payload.{payload_of}
 use Rattle.blocks.proofs.EncodingLemmas.{first_truth}

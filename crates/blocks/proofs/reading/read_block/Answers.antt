@@ -2,9 +2,10 @@ use Rattle.std.proofs.Common.{sym, subst, ◌∙◌, arith}
 use Rattle.std.proofs.lemmas.Result.{err_from_is_err_and}
 use Rattle.blocks.specs.Cells.{column_of}
 use Rattle.blocks.specs.Column.{AllFit}
-use Rattle.blocks.specs.Payload.{AreBytes}
+use Rattle.blocks.specs.Laws.{IsPayload}
 use Rattle.blocks.specs.Reading.{Fails}
 use Rattle.blocks.proofs.LawsLemmas.{is_payload, payload_reads}
+use Rattle.blocks.proofs.reading.read_block.Goals.{In_ok-cells}
 use Rattle.blocks.proofs.reading.read_block.Goals as goal
 
 pub returns-in_err-cells-clause-only : goal.returns-in_err-cells-clause-only
@@ -13,19 +14,20 @@ returns-in_err-cells-clause-only c = λ values p.
     rw (e.1, e.2) (subst (Fails c.in_err-cells.field-0.0) (payload_reads c.args.ty c.args.count c.args.bytes.now values p)
     c.in_err-cells.ensures.first)
 
+-- the bytes are the payload of what was read
+payload : (c : In_ok-cells) → IsPayload c.args.ty c.args.count c.args.bytes.now (column_of c.in_ok-cells.cells).values
+payload c =
+    is_payload c.args.ty c.args.count c.args.bytes.now (column_of c.in_ok-cells.cells).values
+    (λ i. omega (arith, c.type_inv.bytes i)) c.in_ok-cells.ensures.first
+
 pub invariant_of-result : goal.invariant_of-result
 invariant_of-result c =
     let values = (column_of c.in_ok-cells.cells).values in
-    let small : AreBytes c.args.bytes.now = λ i. omega (arith, c.type_inv.bytes i) in
-    let p = is_payload c.args.ty c.args.count c.args.bytes.now values small c.in_ok-cells.ensures.first in
+    let p = payload c in
     record { few = omega (arith, p.counted, c.requires); fit = subst (λ ty. AllFit ty values) (sym c.in_ok-cells.ensures.ty) p.fit }
 
 pub returns-clause-found : goal.returns-clause-found
-returns-clause-found c =
-    let small : AreBytes c.args.bytes.now = λ i. omega (arith, c.type_inv.bytes i) in (
-      c.in_ok-cells.ensures.ty,
-      is_payload c.args.ty c.args.count c.args.bytes.now (column_of c.in_ok-cells.cells).values small c.in_ok-cells.ensures.first,
-    )
+returns-clause-found c = (c.in_ok-cells.ensures.ty, payload c)
 
 pub returns-clause-only : goal.returns-clause-only
 returns-clause-only c = λ values p. sym (payload_reads c.args.ty c.args.count c.args.bytes.now values p) ∙ c.in_ok-cells.ensures.first

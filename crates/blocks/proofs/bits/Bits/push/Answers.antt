@@ -1,6 +1,8 @@
-use Rattle.std.proofs.Common.{◌++◌, ◌∷◌, [], Bool, List, length, ap, sym, ◌∙◌, arith}
+use Rattle.std.proofs.Common.{◌≡◌, ◌+◌, ◌++◌, ◌∷◌, [], Bool, List, length, take, ap, sym, ◌∙◌, arith}
+use Rattle.blocks.specs.Payload.{all_bits, byte_count, packed}
 use Rattle.blocks.proofs.BitsLemmas.{length-truths, packed-truths}
 use Rattle.blocks.proofs.PushLemmas.{are_packed, longer_IsPacked, longer_truths}
+use Rattle.blocks.proofs.bits.Bits.push.Goals.{In_ok-add_bit}
 use Rattle.blocks.proofs.bits.Bits.push.Goals as goal
 
 pub add_bit-requires : goal.add_bit-requires
@@ -11,24 +13,23 @@ add_bit-requires c =
       packed = are_packed inside.count inside.bytes.items c.self.invariant;
     }
 
+-- the bytes are those of the truths with the one more
+spelt : (c : In_ok-add_bit) → c.add_bit.new.bytes.items
+    ≡ packed (byte_count (c.self.inside.count + 1)) (take c.self.inside.count (all_bits c.self.inside.bytes.items) ++ c.args.truth ∷ [])
+spelt c =
+    let inside = c.self.inside in
+    let kept = c.self.invariant in
+    c.in_ok-add_bit.ensures.ok _ (length-truths inside.count inside.bytes.items kept.whole)
+    (sym (packed-truths inside.count inside.bytes.items kept.small kept.whole kept.unused))
+
 pub invariant_of-self-2 : goal.invariant_of-self-2
 invariant_of-self-2 c =
     let inside = c.self.inside in
-    let is =
-    c.in_ok-add_bit.ensures.ok _ (length-truths inside.count inside.bytes.items c.self.invariant.whole)
-    (sym
-    (packed-truths inside.count inside.bytes.items c.self.invariant.small c.self.invariant.whole c.self.invariant.unused))
-    in
-    longer_IsPacked inside.count inside.bytes.items c.self.invariant (c.args.truth ∷ []) c.add_bit.new.bytes.items is
+    longer_IsPacked inside.count inside.bytes.items c.self.invariant (c.args.truth ∷ []) c.add_bit.new.bytes.items (spelt c)
     (omega (arith, c.requires.few, ap length c.self.view_is, length-truths inside.count inside.bytes.items c.self.invariant.whole))
 
 pub returns-clause-ok : goal.returns-clause-ok
 returns-clause-ok c =
     let inside = c.self.inside in
-    let is =
-    c.in_ok-add_bit.ensures.ok _ (length-truths inside.count inside.bytes.items c.self.invariant.whole)
-    (sym
-    (packed-truths inside.count inside.bytes.items c.self.invariant.small c.self.invariant.whole c.self.invariant.unused))
-    in
-    longer_truths inside.count inside.bytes.items c.self.invariant (c.args.truth ∷ []) c.add_bit.new.bytes.items is
+    longer_truths inside.count inside.bytes.items c.self.invariant (c.args.truth ∷ []) c.add_bit.new.bytes.items (spelt c)
     ∙ ap (λ (bs : List Bool). bs ++ c.args.truth ∷ []) c.self.view_is

@@ -4,6 +4,7 @@ use Rattle.values.specs.declared.limits.TheConstants.{MAX_BLOCK_VALUES}
 use Rattle.blocks.proofs.BitsLemmas.{length-truths, packed-truths}
 use Rattle.blocks.proofs.PushLemmas.{are_packed, longer_IsPacked, longer_truths}
 use Rattle.blocks.proofs.RunLemmas.{length-run}
+use Rattle.blocks.proofs.bits.Bits.push_run.Goals.{In_ok-add_run}
 use Rattle.blocks.proofs.bits.Bits.push_run.Goals as goal
 
 pub add_run-requires : goal.add_run-requires
@@ -15,46 +16,44 @@ add_run-requires c =
       within = c.requires.within;
     }
 
+-- the run has as many truths as were asked for
+long : (c : In_ok-add_run) → length (take c.args.count (drop c.args.start c.args.others.now)) ≡ c.args.count
+long c = length-run c.args.others.now c.args.start c.args.count c.requires.within
+
+-- the bytes are those of the truths with the run
+spelt : (c : In_ok-add_run) →
+    let run = take c.args.count (drop c.args.start c.args.others.now) in
+    c.add_run.new.bytes.items
+    ≡ packed (byte_count (c.self.inside.count + length run)) (take c.self.inside.count (all_bits c.self.inside.bytes.items) ++ run)
+spelt c =
+    let inside = c.self.inside in
+    let kept = c.self.invariant in
+    let run = take c.args.count (drop c.args.start c.args.others.now) in
+    subst (λ n. c.add_run.new.bytes.items
+    ≡ packed (byte_count (inside.count + n)) (take inside.count (all_bits inside.bytes.items) ++ run)) (sym (long c))
+    (c.in_ok-add_run.ensures.ok _ (length-truths inside.count inside.bytes.items kept.whole)
+    (sym (packed-truths inside.count inside.bytes.items kept.small kept.whole kept.unused)))
+
 pub invariant_of-self-2 : goal.invariant_of-self-2
 invariant_of-self-2 c =
     let inside = c.self.inside in
     let run = take c.args.count (drop c.args.start c.args.others.now) in
-    let long : length run ≡ c.args.count = length-run c.args.others.now c.args.start c.args.count c.requires.within in
-    let is =
-    c.in_ok-add_run.ensures.ok _ (length-truths inside.count inside.bytes.items c.self.invariant.whole)
-    (sym
-    (packed-truths inside.count inside.bytes.items c.self.invariant.small c.self.invariant.whole c.self.invariant.unused))
-    in
     let fits : inside.count + length run ≤ MAX_BLOCK_VALUES =
     omega (
       arith,
       c.requires.few,
-      long,
+      long c,
       ap length c.self.view_is,
       length-truths inside.count inside.bytes.items c.self.invariant.whole,
     ) in
-    subst (λ n. IsPacked (inside.count + n) c.add_run.new.bytes.items) long
-    (longer_IsPacked inside.count inside.bytes.items c.self.invariant run c.add_run.new.bytes.items
-    (subst (λ n. c.add_run.new.bytes.items
-    ≡ packed (byte_count (inside.count + n)) (take inside.count (all_bits inside.bytes.items) ++ run)) (sym long) is)
-    fits)
+    subst (λ n. IsPacked (inside.count + n) c.add_run.new.bytes.items) (long c)
+    (longer_IsPacked inside.count inside.bytes.items c.self.invariant run c.add_run.new.bytes.items (spelt c) fits)
 
 pub returns-clause-ok : goal.returns-clause-ok
 returns-clause-ok c =
     let inside = c.self.inside in
     let run = take c.args.count (drop c.args.start c.args.others.now) in
-    let long : length run ≡ c.args.count = length-run c.args.others.now c.args.start c.args.count c.requires.within in
-    let is =
-    c.in_ok-add_run.ensures.ok _ (length-truths inside.count inside.bytes.items c.self.invariant.whole)
-    (sym
-    (packed-truths inside.count inside.bytes.items c.self.invariant.small c.self.invariant.whole c.self.invariant.unused))
-    in
-    let shows =
-    longer_truths inside.count inside.bytes.items c.self.invariant run c.add_run.new.bytes.items
-    (subst (λ n. c.add_run.new.bytes.items
-    ≡ packed (byte_count (inside.count + n)) (take inside.count (all_bits inside.bytes.items) ++ run)) (sym long) is)
-    in
     subst
     (λ n. take (inside.count + n) (all_bits c.add_run.new.bytes.items) ≡ take inside.count (all_bits inside.bytes.items) ++ run)
-    long shows
+    (long c) (longer_truths inside.count inside.bytes.items c.self.invariant run c.add_run.new.bytes.items (spelt c))
     ∙ ap (λ (bs : List Bool). bs ++ run) c.self.view_is
