@@ -1,11 +1,11 @@
 -- What stands before and behind a position.
-use Rattle.std.proofs.Common.{◌≡◌, ℕ, inl, inr, Bool, List, subst, ap, sym, ◌∙◌, arith, to_z, of_z, w64}
-use Rattle.std.specs.Prelude.{ℤ, Some, slice_get}
+use Rattle.std.proofs.Common.{◌≡◌, ℕ, ◌^◌, ◌≤◌, inl, inr, Bool, List, length, subst, ap, sym, ◌∙◌, arith, to_z, of_z, w64}
+use Rattle.std.specs.Prelude.{ℤ, pos, ◌+ℤ◌, ◌≤ℤ◌, Some, slice_get}
 use Rattle.std.proofs.lemmas.Option.{get_or_from_slice_get}
 use Rattle.counted.specs.declared.entry.Head.{Head}
 use Rattle.counted.specs.Heads.{head_of}
-use Rattle.counted.specs.Sums.{weight_of}
-use Rattle.counted.proofs.Totals.{weight_within}
+use Rattle.counted.specs.Sums.{total, weight_of}
+use Rattle.counted.proofs.Totals.{total_within, weight_within}
 use Rattle.std.proofs.lemmas.Int.{ints}
 use Rattle.model.specs.declared.entry.Entry.{Entry}
 use Rattle.model.specs.declared.entry.Change.{Change}
@@ -24,6 +24,19 @@ module _ (after : Change → Bool) (rid : ℤ) where
 
   pub follows_same : (e x : Entry) (up z : ℤ) → e ≡ x → up ≡ z → Follows after rid e up → Follows after rid x z
   follows_same e x up z same is h = subst (λ (y : Entry). Follows after rid y z) same (subst (λ (w : ℤ). Follows after rid e w) is h)
+
+-- what comes behind these entries stands `up` above the rows below, and that is a small number
+pub record IsUp (up : ℤ) (entries : List Entry) (shift : ℤ) : Type 0 where
+  pub is : up ≡ total entries +ℤ shift
+  pub above : up ≤ℤ pos (2 ^ 61)
+  pub below : pos 0 ≤ℤ (up +ℤ pos (2 ^ 61))
+
+-- it is small where all entries are few
+pub is_up : (up shift : ℤ) (entries whole : List Entry) → up ≡ total entries +ℤ shift → length entries ≤ length whole
+    → (shift +ℤ pos (length whole)) ≤ℤ pos (2 ^ 61) → pos (length whole) ≤ℤ (shift +ℤ pos (2 ^ 61)) → IsUp up entries shift
+is_up up shift entries whole is few above below =
+    let sum = total_within entries in
+    record { is = is; above = omega (arith, ints, above, below); below = omega (arith, ints, above, below) }
 
 -- what the head of an entry tells
 pub head_sid : (h : Head) (e : Entry) → h ≡ head_of e → h.sid ≡ e.sid

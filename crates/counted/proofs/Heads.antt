@@ -1,6 +1,7 @@
 -- The first entries of children, and the entry at a place where lists meet.
 use Rattle.std.proofs.Common.{◌≡◌, ℕ, zero, suc, ◌+◌, ◌<◌, ◌≤◌, List, [], ◌∷◌, ◌++◌, length, drop, get_or, refl, ap, sym, ◌∙◌, arith}
 use Rattle.std.specs.Prelude.{Some, slice_get}
+use Rattle.std.proofs.lemmas.List.{get_or_default}
 use Rattle.model.specs.declared.entry.Entry.{Entry}
 use Rattle.counted.specs.declared.entry.Head.{Head}
 use Rattle.counted.specs.declared.node.Child.{Child}
@@ -16,6 +17,13 @@ get-past (x ∷ xs) ys m (suc k) is = get-past xs ys m k (omega arith)
 pub leaf_head : (xs : List Entry) (d : Entry) → 1 ≤ length xs → slice_get xs 0 ≡ Some (get_or xs 0 d)
 leaf_head [] d some = absurd (omega arith)
 leaf_head (x ∷ xs) d some = refl
+
+-- the first entry of a child that was read
+pub first_entry : (children : List Child) (i : ℕ) (x d : Child) (e : Entry) → AreChildren children → i < length children
+    → x ≡ get_or children i x → slice_get (items_of x) 0 ≡ Some (get_or (items_of (get_or children i d)) 0 e)
+first_entry children i x d e h lt is =
+    ap (λ (y : Child). slice_get (items_of y) 0) (is ∙ get_or_default children i x d lt)
+    ∙ leaf_head (items_of (get_or children i d)) e (child_some _ _ (h.each i d lt))
 
 head_front : (es rest : List Entry) (h : Head) → 1 ≤ length es → ((e : Entry) → slice_get es 0 ≡ Some e → h ≡ head_of e)
     → head_at (es ++ rest) 0 ≡ Some h

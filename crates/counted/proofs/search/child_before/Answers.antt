@@ -1,9 +1,5 @@
-use Rattle.std.proofs.Common.{◌+◌, ◌-◌, ◌/◌, ◌<◌, length, get_or, ap, ◌∙◌, arith}
-use Rattle.std.specs.Prelude.{slice_get}
-use Rattle.std.proofs.lemmas.List.{get_or_default}
-use Rattle.counted.specs.declared.node.Child.{Child}
-use Rattle.counted.specs.Shapes.{items_of}
-use Rattle.counted.proofs.Heads.{leaf_head}
+use Rattle.std.proofs.Common.{◌+◌, ◌-◌, ◌/◌, ◌<◌, length, ◌∙◌, arith}
+use Rattle.counted.proofs.Heads.{first_entry}
 use Rattle.counted.proofs.Places.{child_read, child_some}
 use Rattle.counted.proofs.search.child_before.Goals as goal
 
@@ -26,10 +22,8 @@ loop-low-preserved-then-begins_before g c =
       within = omega arith;
       short = c.loop-low.invariant.short;
       low = λ d e some'.
-          let same = c.index-children-middle.is ∙ get_or_default cs m x d lt in
-          let some = child_some _ _ (c.requires.children.each m d lt) in
-          let first = ap (λ (y : Child). slice_get (items_of y) 0) same ∙ leaf_head (items_of (get_or cs m d)) e some in
-          c.begins_before.ensures.before _ first ∙ c.if-begins_before.true;
+          c.begins_before.ensures.before _ (first_entry cs m x d e c.requires.children lt c.index-children-middle.is)
+          ∙ c.if-begins_before.true;
       high = c.loop-low.invariant.high;
       steps = λ plain. c.begins_before.ensures.steps plain ∙ c.loop-low.invariant.steps plain;
     }
@@ -45,9 +39,7 @@ loop-low-preserved g c =
       short = omega arith;
       low = c.loop-low.invariant.low;
       high = λ d e lt'.
-          let same = c.index-children-middle.is ∙ get_or_default cs m x d lt in
-          let some = child_some _ _ (c.requires.children.each m d lt) in
-          let first = ap (λ (y : Child). slice_get (items_of y) 0) same ∙ leaf_head (items_of (get_or cs m d)) e some in
-          c.begins_before.ensures.before _ first ∙ c.if-begins_before.false;
+          c.begins_before.ensures.before _ (first_entry cs m x d e c.requires.children lt c.index-children-middle.is)
+          ∙ c.if-begins_before.false;
       steps = λ plain. c.begins_before.ensures.steps plain ∙ c.loop-low.invariant.steps plain;
     }
