@@ -1,5 +1,5 @@
 -- A change keeps the list lawful.
-use Rattle.std.proofs.Common.{is_lt, take-append-drop, ◌≡◌, ℕ, suc, ◌+◌, ◌<◌, ◌≤◌, ◌^◌, not, ◌&&◌, T, is_some, List, ◌∷◌, length, take, drop, set, get_or, remove, sym, subst, arith, length-append, length-take, length-drop}
+use Rattle.std.proofs.Common.{is_lt, take-append-drop, ◌≡◌, ℕ, suc, ◌+◌, ◌<◌, ◌≤◌, ◌^◌, not, ◌&&◌, T, is_some, List, ◌∷◌, length, take, drop, set, get_or, remove, sym, ap, subst, arith, length-append, length-take, length-drop}
 use Rattle.std.specs.Prelude.{◌==◌, false}
 use Rattle.std.proofs.lemmas.Float.{T_from_true}
 use Rattle.std.proofs.lemmas.List.{length-set, drop-drop}
@@ -13,6 +13,7 @@ use Rattle.model.specs.declared.entry.Entry.{Entry}
 use Rattle.model.specs.declared.entry.Change.TheVariants.{Ins, Del, Mod}
 use Rattle.model.specs.Entries.{entry_at, is_delete, entry_cmp, are_ordered, IsLawful}
 use Rattle.model.specs.Edits.{change_with_cell, put_ins, put_del, put_mod, take_ins, set_ins}
+use Rattle.delta.specs.Tree.{Tree}
 use Rattle.delta.specs.Search.{insert_cmp, base_cmp, modify_cmp, past_cmp, stands_before, IsSplit}
 use Rattle.delta.specs.Lookups.{has_delete, inserted_row, is_insert_at}
 use Rattle.delta.specs.Changes.{modify_count}
@@ -118,3 +119,17 @@ module _ (key_cols : ℕ) where
       → HasInsert key_cols sid key es n → key_cols ≤ col → IsLawful key_cols (set_ins key_cols sid key col value es)
   IsLawful-set_ins sid key col value es n h found outside =
       subst (IsLawful key_cols) (sym (found.with_cell col value)) (IsLawful-set col value es n h found.short outside)
+
+-- a tree whose list of entries was changed shows the changed list, which is lawful
+pub record IsEdited (k : ℕ) (new : List Entry) (t : Tree) (xs : List Entry) : Type 0 where
+  pub shows : ◌≡◌ {A = Tree} (record { key_cols = k; entries = new }) (record { key_cols = t.key_cols; entries = xs })
+  pub lawful : IsLawful k new
+
+pub edited : (k : ℕ) (es new xs : List Entry) (t : Tree) → ◌≡◌ {A = Tree} (record { key_cols = k; entries = es }) t → new ≡ xs
+    → IsLawful t.key_cols xs → IsEdited k new t xs
+edited k es new xs t view same lawful =
+    let width : k ≡ t.key_cols = ap (λ (w : Tree). w.key_cols) view in
+    record {
+      shows = λ i. record { key_cols = width i; entries = same i };
+      lawful = subst (λ j. IsLawful j new) (sym width) (subst (IsLawful t.key_cols) (sym same) lawful);
+    }

@@ -1,6 +1,9 @@
-use Rattle.std.proofs.Common.{ℕ, List, sym, ap, ◌∙◌, subst}
+use Rattle.std.proofs.Common.{◌≡◌, ℕ, ◌+◌, ◌&&◌, false, List, drop, sym, ap, ◌∙◌, subst}
+use Rattle.std.specs.Prelude.{◌==◌, Some, slice_get}
+use Rattle.std.specs.Option.{option_copied}
 use Rattle.std.proofs.lemmas.Float.{T_from_true}
 use Rattle.model.specs.declared.entry.Entry.{Entry}
+use Rattle.model.specs.Entries.{is_insert}
 use Rattle.model.specs.declared.entry.Change.{Change}
 use Rattle.model.specs.declared.entry.Change.TheVariants.{Ins, Del, Mod}
 use Rattle.counted.specs.Changes.{change_of}
@@ -12,6 +15,7 @@ use Rattle.delta.specs.Starts.{place_at}
 use Rattle.delta.proofs.AheadLemmas.{next_is}
 use Rattle.delta.proofs.PositionsLemmas.{row_only}
 use Rattle.delta.proofs.RowLemmas.{row_is, base_is, base_split, no_insert}
+use Rattle.delta.proofs.tree.DeltaTree.find_row.Goals.{After-next-next, In-Base}
 use Rattle.delta.proofs.tree.DeltaTree.find_row.Goals as goal
 
 -- a change of an insert replaces no others
@@ -20,14 +24,29 @@ run_none key_cols es (Ins row) n = tt
 run_none key_cols es (Del key) n = tt
 run_none key_cols es (Mod col value) n = tt
 
+-- what was read is the entry at the start, and what is left comes behind it
+next : (c : After-next-next) →
+    let n = c.find_start-index.result.index in
+    (option_copied c.next-next.result ≡ slice_get c.args.self.now.entries n)
+    × (c.next-next.new.self ≡ drop (n + 1) c.args.self.now.entries)
+next c =
+    let start = c.find_start-index in
+    next_is c.args.self.now.entries start.result.index start.result.entries c.next-next.new.self c.next-next.result start.ensures.rest
+    c.next-next.ensures.steps
+
+-- where the row is a base row, no insert stands there
+base : (c : In-Base) (e : Entry) → slice_get c.args.self.now.entries c.find_start-index.result.index ≡ Some e
+    → ((e.sid == c.find_start-index.result.sid) && is_insert e.change) ≡ false
+base c e is =
+    let start = c.find_start-index in
+    let read = (next (goal.at.run_from-requires-clause-split c).After-next-next).0 in
+    no_insert start.result.index start.result.sid c.in-Base.field-0 _ (sym c.row_at.ensures ∙ c.in-Base.is) e (read ∙ is)
+
 pub run_from-requires-clause-ahead : goal.run_from-requires-clause-ahead
 run_from-requires-clause-ahead c =
-    let start = c.find_start-index in
-    let next =
-    next_is c.args.self.now.entries start.result.index start.result.entries c.next-next.new.self c.next-next.result start.ensures.rest
-    c.next-next.ensures.steps in
+    let next = next (goal.at.run_from-requires-clause-ahead c).After-next-next in
     record {
-      within = start.ensures.start.within;
+      within = c.find_start-index.ensures.start.within;
       next_is = next.0;
       rest_is = next.1;
     }
@@ -36,12 +55,8 @@ pub run_from-requires-clause-split : goal.run_from-requires-clause-split
 run_from-requires-clause-split c =
     let t = c.args.self.now in
     let start = c.find_start-index in
-    let n = start.result.index in
-    let s = start.result.sid in
-    let next =
-    next_is t.entries n start.result.entries c.next-next.new.self c.next-next.result start.ensures.rest c.next-next.ensures.steps in
-    base_split t.key_cols c.args.rid s t.entries n (T_from_true _ start.ensures.lawful.ordered) start.ensures.start
-    (λ e is. no_insert n s c.in-Base.field-0 _ (sym c.row_at.ensures ∙ c.in-Base.is) e (next.0 ∙ is))
+    base_split t.key_cols c.args.rid start.result.sid t.entries start.result.index (T_from_true _ start.ensures.lawful.ordered)
+    start.ensures.start (base c)
 
 pub returns-in-Inserted : goal.returns-in-Inserted
 returns-in-Inserted c =
@@ -49,10 +64,9 @@ returns-in-Inserted c =
     let start = c.find_start-index in
     let n = start.result.index in
     let s = start.result.sid in
-    let next =
-    next_is t.entries n start.result.entries c.next-next.new.self c.next-next.result start.ensures.rest c.next-next.ensures.steps in
     let ordered = T_from_true _ start.ensures.lawful.ordered in
-    let found = ap (place_at n s) (sym next.0) ∙ sym c.row_at.ensures ∙ c.in-Inserted.is in
+    let read = (next (goal.at.returns-in-Inserted c).After-next-next).0 in
+    let found = ap (place_at n s) (sym read) ∙ sym c.row_at.ensures ∙ c.in-Inserted.is in
     let at =
     subst (λ (place : Place). IsAtRid t.entries c.args.rid place) found
     (row_is t.key_cols c.args.rid s t.entries n ordered start.ensures.start) in
@@ -66,15 +80,11 @@ pub returns-in-Base : goal.returns-in-Base
 returns-in-Base c =
     let t = c.args.self.now in
     let start = c.find_start-index in
-    let n = start.result.index in
-    let s = start.result.sid in
-    let next =
-    next_is t.entries n start.result.entries c.next-next.new.self c.next-next.result start.ensures.rest c.next-next.ensures.steps in
     let ordered = T_from_true _ start.ensures.lawful.ordered in
-    let base =
-    base_is t.key_cols c.args.rid s t.entries n ordered start.ensures.start
-    (λ e is. no_insert n s c.in-Base.field-0 _ (sym c.row_at.ensures ∙ c.in-Base.is) e (next.0 ∙ is)) in
-    let at = subst (λ (place : Place). IsAtRid t.entries c.args.rid place) (sym c.run_from.ensures.row) base in
+    let at =
+    subst (λ (place : Place). IsAtRid t.entries c.args.rid place) (sym c.run_from.ensures.row)
+    (base_is t.key_cols c.args.rid start.result.sid t.entries start.result.index ordered start.ensures.start
+    (base (goal.at.returns-in-Base c).In-Base)) in
     record {
       at = at;
       only = λ place there. row_only t.key_cols t.entries ordered c.args.rid place _ there at;

@@ -1,9 +1,10 @@
-use Rattle.std.proofs.Common.{◌≡◌, ℕ, List, length, sym, ap, ◌∙◌, subst, arith}
-use Rattle.model.specs.declared.entry.Entry.{Entry}
+use Rattle.std.proofs.Common.{length, sym, ap, ◌∙◌, subst, arith}
 use Rattle.model.specs.Entries.{IsLawful}
 use Rattle.delta.specs.Tree.{Tree}
 use Rattle.delta.specs.Changes.{entries_with}
+use Rattle.delta.proofs.LawfulLemmas.{IsEdited, edited}
 use Rattle.delta.proofs.PutLemmas.{entries_with-run, run_within, IsLawful-entries_with}
+use Rattle.delta.proofs.tree.DeltaTree.put_run.Goals.{In_ok-replace_shared}
 use Rattle.delta.proofs.tree.DeltaTree.put_run.Goals as goal
 use Rattle.delta.proofs.Words.{with_run}
 
@@ -18,29 +19,22 @@ replace_shared-requires-clause-within c =
     let list = ap (λ (w : Tree). length w.entries) c.self.view_is in
     omega (arith, (run_within t.key_cols c.args.entry.sid c.args.entry.change t.entries c.args.start c.args.end c.requires.run).1)
 
-pub returns-clause-ok : goal.returns-clause-ok
-returns-clause-ok c =
+-- the tree with the entry in place of the run
+put : (c : In_ok-replace_shared) → IsEdited c.self.inside.key_cols c.replace_shared.new.self.entries c.args.self.now
+    (entries_with c.args.self.now.key_cols c.args.entry.sid c.args.entry.change c.args.self.now.entries)
+put c =
     let t = c.args.self.now in
     let e = c.args.entry in
-    let width : c.self.inside.key_cols ≡ t.key_cols = ap (λ (w : Tree). w.key_cols) c.self.view_is in
-    let list : c.self.inside.tree.entries ≡ t.entries = ap (λ (w : Tree). w.entries) c.self.view_is in
-    let same : c.replace_shared.new.self.entries ≡ entries_with t.key_cols e.sid e.change t.entries =
-    c.in_ok-replace_shared.ensures.ok ∙ ap (λ (es : List Entry). with_run es c.args.start c.args.end e) list
-    ∙ sym (entries_with-run t.key_cols e.sid e.change t.entries c.args.start c.args.end c.requires.run c.requires.free) in
-    λ i. record { key_cols = width i; entries = same i }
+    edited c.self.inside.key_cols c.self.inside.tree.entries c.replace_shared.new.self.entries
+    (entries_with t.key_cols e.sid e.change t.entries) t c.self.view_is
+    (c.in_ok-replace_shared.ensures.ok ∙ ap (λ (w : Tree). with_run w.entries c.args.start c.args.end e) c.self.view_is
+    ∙ sym (entries_with-run t.key_cols e.sid e.change t.entries c.args.start c.args.end c.requires.run c.requires.free))
+    (IsLawful-entries_with t.key_cols e.sid e.change t.entries c.args.start c.args.end
+    (subst (λ (w : Tree). IsLawful w.key_cols w.entries) c.self.view_is c.self.invariant) c.requires.run c.requires.free
+    c.requires.small c.requires.room)
+
+pub returns-clause-ok : goal.returns-clause-ok
+returns-clause-ok c = (put c).shows
 
 pub invariant_of-self-2 : goal.invariant_of-self-2
-invariant_of-self-2 c =
-    let t = c.args.self.now in
-    let e = c.args.entry in
-    let width : c.self.inside.key_cols ≡ t.key_cols = ap (λ (w : Tree). w.key_cols) c.self.view_is in
-    let list : c.self.inside.tree.entries ≡ t.entries = ap (λ (w : Tree). w.entries) c.self.view_is in
-    let new = c.replace_shared.new.self.entries in
-    let same : new ≡ entries_with t.key_cols e.sid e.change t.entries =
-    c.in_ok-replace_shared.ensures.ok ∙ ap (λ (es : List Entry). with_run es c.args.start c.args.end e) list
-    ∙ sym (entries_with-run t.key_cols e.sid e.change t.entries c.args.start c.args.end c.requires.run c.requires.free) in
-    let before : IsLawful t.key_cols t.entries = subst (λ (w : Tree). IsLawful w.key_cols w.entries) c.self.view_is c.self.invariant in
-    let after =
-    IsLawful-entries_with t.key_cols e.sid e.change t.entries c.args.start c.args.end before c.requires.run c.requires.free
-    c.requires.small c.requires.room in
-    subst (λ (k : ℕ). IsLawful k new) (sym width) (subst (λ (xs : List Entry). IsLawful t.key_cols xs) (sym same) after)
+invariant_of-self-2 c = (put c).lawful

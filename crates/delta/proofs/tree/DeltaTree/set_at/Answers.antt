@@ -1,4 +1,4 @@
-use Rattle.std.proofs.Common.{◌≡◌, ◌<◌, ◌+◌, List, length, set, refl, sym, ap, ◌∙◌, subst, arith}
+use Rattle.std.proofs.Common.{◌≡◌, ◌<◌, ◌+◌, length, set, refl, sym, ap, ◌∙◌, subst, arith}
 use Rattle.std.specs.Prelude.{Some, slice_get}
 use Rattle.model.specs.declared.entry.Entry.{Entry}
 use Rattle.model.specs.Entries.{entry_at, IsLawful}
@@ -6,8 +6,13 @@ use Rattle.model.specs.Edits.{change_with_cell}
 use Rattle.delta.specs.Tree.{Tree}
 use Rattle.delta.proofs.ChangesLemmas.{nothing}
 use Rattle.delta.proofs.CountedLemmas.{some_get, run_is_set}
-use Rattle.delta.proofs.LawfulLemmas.{IsLawful-set}
+use Rattle.delta.proofs.LawfulLemmas.{IsEdited, edited, IsLawful-set}
+use Rattle.delta.proofs.tree.DeltaTree.set_at.Goals.{After-get, In_ok-replace_run}
 use Rattle.delta.proofs.tree.DeltaTree.set_at.Goals as goal
+
+-- the entry that was read is the one at the place
+read : (c : After-get) → Some c.get.result.now ≡ slice_get c.args.self.now.entries c.args.at
+read c = c.get.ensures ∙ ap (λ (w : Tree). slice_get w.entries c.args.at) c.self.view_is
 
 pub get-requires : goal.get-requires
 get-requires c =
@@ -15,48 +20,37 @@ get-requires c =
     omega (arith, c.requires.within)
 
 pub with_cell-requires : goal.with_cell-requires
-with_cell-requires c =
-    let t = c.args.self.now in
-    let n = c.args.at in
-    let es = c.self.inside.tree.entries in
-    let x = c.get.result.now in
-    let list : es ≡ t.entries = ap (λ (w : Tree). w.entries) c.self.view_is in
-    let here : Some x ≡ slice_get t.entries n = c.get.ensures ∙ ap (λ (xs : List Entry). slice_get xs n) list in
-    c.requires.there x (sym here)
+with_cell-requires c = c.requires.there c.get.result.now (sym (read c))
 
 pub replace_run-requires-clause-within : goal.replace_run-requires-clause-within
 replace_run-requires-clause-within c =
     let list = ap (λ (w : Tree). length w.entries) c.self.view_is in
     omega (arith, c.requires.within)
 
-pub returns-clause-ok : goal.returns-clause-ok
-returns-clause-ok c = λ e at.
+-- the tree with the entry's value changed
+written : (c : In_ok-replace_run) (e : Entry) → slice_get c.args.self.now.entries c.args.at ≡ Some e
+    → IsEdited c.self.inside.key_cols c.replace_run.new.self.entries c.args.self.now
+    (set c.args.self.now.entries c.args.at (entry_at e.sid (change_with_cell c.args.col c.args.value e.change)))
+written c e at =
     let t = c.args.self.now in
     let n = c.args.at in
     let es = c.self.inside.tree.entries in
     let x = c.get.result.now in
     let list : es ≡ t.entries = ap (λ (w : Tree). w.entries) c.self.view_is in
-    let here : Some x ≡ slice_get t.entries n = c.get.ensures ∙ ap (λ (xs : List Entry). slice_get xs n) list in
-    let width : c.self.inside.key_cols ≡ t.key_cols = ap (λ (w : Tree). w.key_cols) c.self.view_is in
-    let item : x ≡ e = some_get t.entries n x x here ∙ sym (some_get t.entries n e x (sym at)) in
+    let short : n < length t.entries = omega (arith, c.requires.within) in
+    let item : x ≡ e = some_get t.entries n x x (read (goal.at.returns-clause-ok c).After-get) ∙ sym (some_get t.entries n e x (sym at)) in
     let entry = c.in_ok-entry.ensures ∙ ap (λ (y : Entry). entry_at y.sid (change_with_cell c.args.col c.args.value y.change)) item in
-    let short : n < length es = omega (arith, c.requires.within, ap length list) in
-    let same : c.replace_run.new.self.entries ≡ set t.entries n (entry_at e.sid (change_with_cell c.args.col c.args.value e.change)) =
-    c.in_ok-replace_run.ensures.ok ∙ run_is_set es n (n + 1) c.in_ok-entry.entry refl short ∙ (λ i. set (list i) n (entry i)) in
-    λ i. record { key_cols = width i; entries = same i }
+    let run = run_is_set es n (n + 1) c.in_ok-entry.entry refl (omega (arith, short, ap length list)) in
+    edited c.self.inside.key_cols es c.replace_run.new.self.entries
+    (set t.entries n (entry_at e.sid (change_with_cell c.args.col c.args.value e.change))) t c.self.view_is
+    (c.in_ok-replace_run.ensures.ok ∙ run ∙ (λ i. set (list i) n (entry i)))
+    (subst (λ (y : Entry). IsLawful t.key_cols (set t.entries n (entry_at y.sid (change_with_cell c.args.col c.args.value y.change))))
+    (sym (some_get t.entries n e nothing (sym at)))
+    (IsLawful-set t.key_cols c.args.col c.args.value t.entries n
+    (subst (λ (w : Tree). IsLawful w.key_cols w.entries) c.self.view_is c.self.invariant) short c.requires.outside_key))
+
+pub returns-clause-ok : goal.returns-clause-ok
+returns-clause-ok c = λ e at. (written c e at).shows
 
 pub invariant_of-self-2 : goal.invariant_of-self-2
-invariant_of-self-2 c =
-    let n = c.args.at in
-    let k = c.self.inside.key_cols in
-    let es = c.self.inside.tree.entries in
-    let x = c.get.result.now in
-    let width : k ≡ c.args.self.now.key_cols = ap (λ (w : Tree). w.key_cols) c.self.view_is in
-    let short : n < length es = omega (arith, c.requires.within, ap (λ (w : Tree). length w.entries) c.self.view_is) in
-    let entry =
-    c.in_ok-entry.ensures
-    ∙ ap (λ (y : Entry). entry_at y.sid (change_with_cell c.args.col c.args.value y.change))
-    (some_get es n x nothing c.get.ensures) in
-    let run = c.in_ok-replace_run.ensures.ok ∙ run_is_set es n (n + 1) c.in_ok-entry.entry refl short ∙ ap (set es n) entry in
-    subst (λ (xs : List Entry). IsLawful k xs) (sym run)
-    (IsLawful-set k c.args.col c.args.value es n c.self.invariant short (omega (arith, c.requires.outside_key)))
+invariant_of-self-2 c = (written c c.get.result.now (sym (read (goal.at.invariant_of-self-2 c).After-get))).lawful

@@ -1,8 +1,8 @@
-use Rattle.std.proofs.Common.{◌≡◌, ◌<◌, List, length, remove, sym, ap, ◌∙◌, subst, arith}
-use Rattle.model.specs.declared.entry.Entry.{Entry}
+use Rattle.std.proofs.Common.{length, remove, ap, ◌∙◌, subst, arith}
 use Rattle.model.specs.Entries.{IsLawful}
 use Rattle.delta.specs.Tree.{Tree}
-use Rattle.delta.proofs.LawfulLemmas.{IsLawful-remove}
+use Rattle.delta.proofs.LawfulLemmas.{IsEdited, edited, IsLawful-remove}
+use Rattle.delta.proofs.tree.DeltaTree.take_at.Goals.{In_ok-remove}
 use Rattle.delta.proofs.tree.DeltaTree.take_at.Goals as goal
 
 pub remove-requires-clause-within : goal.remove-requires-clause-within
@@ -10,18 +10,18 @@ remove-requires-clause-within c =
     let list = ap (λ (w : Tree). length w.entries) c.self.view_is in
     omega (arith, c.requires)
 
-pub returns-clause-ok : goal.returns-clause-ok
-returns-clause-ok c =
+-- the tree without the entry
+taken : (c : In_ok-remove)
+    → IsEdited c.self.inside.key_cols c.remove.new.self.entries c.args.self.now (remove c.args.self.now.entries c.args.at)
+taken c =
     let t = c.args.self.now in
-    let width : c.self.inside.key_cols ≡ t.key_cols = ap (λ (w : Tree). w.key_cols) c.self.view_is in
-    let list : c.self.inside.tree.entries ≡ t.entries = ap (λ (w : Tree). w.entries) c.self.view_is in
-    let same : c.remove.new.self.entries ≡ remove t.entries c.args.at =
-    c.in_ok-remove.ensures.ok ∙ ap (λ (es : List Entry). remove es c.args.at) list in
-    λ i. record { key_cols = width i; entries = same i }
+    edited c.self.inside.key_cols c.self.inside.tree.entries c.remove.new.self.entries (remove t.entries c.args.at) t c.self.view_is
+    (c.in_ok-remove.ensures.ok ∙ ap (λ (w : Tree). remove w.entries c.args.at) c.self.view_is)
+    (IsLawful-remove t.key_cols t.entries c.args.at (subst (λ (w : Tree). IsLawful w.key_cols w.entries) c.self.view_is c.self.invariant)
+    (omega (arith, c.requires)))
+
+pub returns-clause-ok : goal.returns-clause-ok
+returns-clause-ok c = (taken c).shows
 
 pub invariant_of-self-2 : goal.invariant_of-self-2
-invariant_of-self-2 c =
-    let es = c.self.inside.tree.entries in
-    let short : c.args.at < length es = omega (arith, c.requires, ap (λ (w : Tree). length w.entries) c.self.view_is) in
-    subst (λ (xs : List Entry). IsLawful c.self.inside.key_cols xs) (sym c.in_ok-remove.ensures.ok)
-    (IsLawful-remove c.self.inside.key_cols es c.args.at c.self.invariant short)
+invariant_of-self-2 c = (taken c).lawful
