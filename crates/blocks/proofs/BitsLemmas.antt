@@ -134,6 +134,7 @@ pub length-all_bits : (bytes : List ℕ) → length (all_bits bytes) ≡ 8 * len
 length-all_bits [] = refl
 length-all_bits (byte ∷ bytes) = omega (arith, length-all_bits bytes)
 
+-- packed truths have as many bytes as were asked for
 pub length-packed : (n : ℕ) (bs : List Bool) → length (packed n bs) ≡ n
 length-packed zero bs = refl
 length-packed (suc n) bs = ap suc (length-packed n (drop 8 bs))

@@ -256,6 +256,7 @@ constant_takes ty count bytes values small e =
     subst (IsEncoded ty count (CONSTANT ∷ bytes)) (ok_is (copies_of count b.0) values b.2)
     (copies_take ty count bytes b.0 (ltb-false _ _ g.0) p)
 
+-- bytes that decode to values are an encoding of them
 pub is_encoded : WhatDecodesIsAnEncoding
 is_encoded ty count [] values small e = absurd cc
 is_encoded ty count (encoding ∷ bytes) values small e =
@@ -300,6 +301,7 @@ encoded_reads ty [] true is fit = absurd cc
 encoded_reads ty (value ∷ []) true is fit = absurd cc
 encoded_reads ty (value ∷ other ∷ values) true is fit = rw is (constant_read ty value other values fit is)
 
+-- the encoding of values decodes to them
 pub encoding_reads_back : AnEncodingReadsBack
 encoding_reads_back ty values fit = encoded_reads ty values (is_constant values) refl fit
 

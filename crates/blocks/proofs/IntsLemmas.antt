@@ -18,9 +18,11 @@ use Rattle.blocks.specs.Column.{Fits, AllFit}
 use Rattle.blocks.specs.Payload.{AreBytes, spelling}
 use Rattle.blocks.specs.Reading.{◌>>=◌, and_then, end_at, number_of, int_of, ints_at}
 
+-- what is left of bytes is bytes
 pub AreBytes-drop : (n : ℕ) (bytes : List ℕ) → AreBytes bytes → AreBytes (drop n bytes)
 AreBytes-drop n bytes small i = rw get_or-drop (small (n + i))
 
+-- so are the first of them
 pub AreBytes-take : (n : ℕ) (bytes : List ℕ) → AreBytes bytes → AreBytes (take n bytes)
 AreBytes-take n bytes small i =
     elim (cases_lt i n) [

@@ -84,11 +84,13 @@ payload-truths bs =
 
 -- ---- the laws
 
+-- the payload of values reads back as them
 pub reads_back : APayloadReadsBack
 reads_back column.Int values fit = ints_again 0 values fit
 reads_back column.Text values fit = texts_again 0 0 values fit
 reads_back column.Bool values fit = truths_again values fit
 
+-- bytes that read as values are their payload
 pub is_payload : WhatReadsIsAPayload
 is_payload column.Int count bytes values small e =
     let taken = ints_take 0 count bytes values small e in

@@ -36,11 +36,13 @@ pub all_append : {X : Type 0} (P : X → Type 0) (xs ys : List X) → AllByRecur
 all_append P [] ys h k = k
 all_append P (x ∷ xs) ys h k = (h.0, all_append P xs ys h.1 k)
 
+-- what holds of each holds of each of the first ones
 pub all_take : {X : Type 0} (P : X → Type 0) (i : ℕ) (xs : List X) → AllByRecursion P xs → AllByRecursion P (take i xs)
 all_take P zero xs h = tt
 all_take P (suc i) [] h = tt
 all_take P (suc i) (x ∷ xs) h = (h.0, all_take P i xs h.1)
 
+-- and of each that comes behind them
 pub all_drop : {X : Type 0} (P : X → Type 0) (i : ℕ) (xs : List X) → AllByRecursion P xs → AllByRecursion P (drop i xs)
 all_drop P zero xs h = h
 all_drop P (suc i) [] h = tt

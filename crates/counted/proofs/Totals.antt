@@ -28,6 +28,7 @@ next_sid-le sid (Ins row) = omega arith
 next_sid-le sid (Del key) = omega arith
 next_sid-le sid (Mod col value) = omega arith
 
+-- entries add no more than there are of them, and take away no more
 pub total_within : (entries : List Entry) → IsWithin (total entries) (length entries)
 total_within [] = record { above = omega (arith, ints); below = omega (arith, ints) }
 total_within (e ∷ entries) =
@@ -43,6 +44,7 @@ pub shift_before-append : (sid : ℕ) (xs ys : List Entry) → shift_before sid 
 shift_before-append sid [] ys = omega (arith, ints)
 shift_before-append sid (e ∷ xs) ys = let rest = shift_before-append sid xs ys in omega (arith, ints)
 
+-- neither do those before a SID
 pub shift_within : (sid : ℕ) (entries : List Entry) → IsWithin (shift_before sid entries) (length entries)
 shift_within sid [] = record { above = omega (arith, ints); below = omega (arith, ints) }
 shift_within sid (e ∷ entries) =

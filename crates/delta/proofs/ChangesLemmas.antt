@@ -57,6 +57,7 @@ none_any p (x ∷ xs) h =
       | false ↦ λ g. none_any p xs g
     ] h
 
+-- a filter that all pass keeps the list
 pub filter_all : {A : Type 0} (p : A → Bool) (xs : List A) → T (list_all p xs) → filter p xs ≡ xs
 filter_all p [] h = refl
 filter_all p (x ∷ xs) h =
@@ -65,6 +66,7 @@ filter_all p (x ∷ xs) h =
       | false ↦ λ g. absurd (first false (list_all p xs) g)
     ] h
 
+-- and one that none passes leaves nothing
 pub filter_none : {A : Type 0} (p : A → Bool) (xs : List A) → T (list_all (λ x. not (p x)) xs) → filter p xs ≡ []
 filter_none p [] h = refl
 filter_none p (x ∷ xs) h =
@@ -126,6 +128,7 @@ module _ (key_cols sid : ℕ) (change : Change) (cmp : Change → Ordering) (sam
       ∙ put_entry-past (take n es) (drop n es) h.before
       ∙ ap (λ zs. take n es ++ zs) (put_entry-before (drop n es) h.after ∙ ap (λ zs. put ∷ zs) (drop-drop (tie_count (drop n es)) n es))
 
+-- an entry to read where a list has none
 abbrev pub nothing : Entry
 nothing = entry_at 0 (Del [])
 
@@ -564,6 +567,7 @@ module _ (key_cols sid : ℕ) where
       pub with_cell : (col : ℕ) (value : Value) → set_ins key_cols sid key col value es
           ≡ set es n (entry_at (get_or es n nothing).sid (change_with_cell col value (get_or es n nothing).change))
 
+    -- where a row of the key is inserted, its insert is at the place of one
     pub has_insert : (es : List Entry) (n : ℕ) → T (are_ordered key_cols es)
         → IsSplit (stands_before (insert_cmp key_cols key) sid) es n → is_some (inserted_row key_cols sid key es) ≡ true
         → HasInsert es n

@@ -7,16 +7,19 @@ use Rattle.model.specs.declared.entry.Change.TheVariants.{Ins, Del, Mod}
 use Rattle.model.specs.Merging.{inserted_rows}
 use Rattle.model.specs.Places.{deleted_keys, insert_count, delete_count}
 
+-- how many rows a change inserts
 abbrev pub insert_worth : Change → ℕ
 insert_worth (Ins row) = 1
 insert_worth (Del key) = 0
 insert_worth (Mod col value) = 0
 
+-- and how many it deletes
 abbrev pub delete_worth : Change → ℕ
 delete_worth (Ins row) = 0
 delete_worth (Del key) = 1
 delete_worth (Mod col value) = 0
 
+-- one entry in front adds what its change is worth
 pub insert_count-cons : (e : Entry) (es : List Entry) → insert_count (e ∷ es) ≡ insert_worth e.change + insert_count es
 insert_count-cons e es = by e.change
   where
@@ -25,6 +28,7 @@ insert_count-cons e es = by e.change
     by (Del key) = omega arith
     by (Mod col value) = omega arith
 
+-- among the deletes too
 pub delete_count-cons : (e : Entry) (es : List Entry) → delete_count (e ∷ es) ≡ delete_worth e.change + delete_count es
 delete_count-cons e es = by e.change
   where
@@ -36,12 +40,14 @@ delete_count-cons e es = by e.change
 step_add : (w a b n m : ℕ) → n ≡ w + m → m ≡ a + b → n ≡ (w + a) + b
 step_add w a b n m p q = omega arith
 
+-- lists have as many inserts as their parts together
 pub insert_count-append : (xs ys : List Entry) → insert_count (xs ++ ys) ≡ insert_count xs + insert_count ys
 insert_count-append [] ys = sym (zero-add (insert_count ys))
 insert_count-append (x ∷ xs) ys =
     step_add (insert_worth x.change) (insert_count xs) (insert_count ys) _ _ (insert_count-cons x (xs ++ ys)) (insert_count-append xs ys)
     ∙ ap (λ n. n + insert_count ys) (sym (insert_count-cons x xs))
 
+-- and as many deletes
 pub delete_count-append : (xs ys : List Entry) → delete_count (xs ++ ys) ≡ delete_count xs + delete_count ys
 delete_count-append [] ys = sym (zero-add (delete_count ys))
 delete_count-append (x ∷ xs) ys =

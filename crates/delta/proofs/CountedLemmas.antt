@@ -135,6 +135,7 @@ next_passes test (x ∷ xs) (suc n) e h is = next_passes test xs n e h is
 
 -- ---- single entries
 
+-- an entry that is there is one alone
 pub some_is : (x y : Entry) → ◌≡◌ {A = Option Entry} (Some x) (Some y) → x ≡ y
 some_is x y h = cc
 
@@ -153,6 +154,7 @@ run_is_set (y ∷ es) n zero x e lt = absurd (omega arith)
 run_is_set (y ∷ es) zero (suc m) x e lt = ap (λ k. x ∷ drop k es) (let f : m ≡ 0 = omega arith in f)
 run_is_set (y ∷ es) (suc n) (suc m) x e lt = ap (λ zs. y ∷ zs) (run_is_set es n m x (omega arith) (omega arith))
 
+-- a place with an entry lies within the list
 pub some_within : (es : List Entry) (n : ℕ) (x : Entry) → Some x ≡ slice_get es n → n < length es
 some_within [] zero x h = cc
 some_within [] (suc n) x h = cc

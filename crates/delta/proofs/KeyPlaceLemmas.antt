@@ -183,6 +183,7 @@ module _ (key : Key) (t : Table) where
     less_of Equal e = cc
     less_of Greater e = cc
 
+    -- the entries of smaller keys stand before an insert of the key
     pub low_all : (x : Effects) → T (list_all (λ e. is_keyed_effect key_cols e.0 e.1) x) → T (all_fit t x)
         → T (list_all test (canonical_entries t (low x)))
     low_all [] own fit = tt
@@ -197,6 +198,7 @@ module _ (key : Key) (t : Table) where
           | false ↦ λ q. rest
         ] refl
 
+    -- and those of the other keys behind it
     pub high_all : (x : Effects) → T (list_all (λ e. is_keyed_effect key_cols e.0 e.1) x)
         → T (list_all (λ e. not (test e)) (canonical_entries t (high x)))
     high_all [] own = tt
@@ -220,17 +222,21 @@ split_is p es n h =
     append_none (x ∷ xs) = ap (λ ys. x ∷ ys) (append_none xs)
 
 module _ (schema : Columns) (t : Table) (x : Effects) (h : AreOver schema t x) (key : Key) where
+  -- each effect is of its key
   pub own : T (list_all (λ e. is_keyed_effect schema.key_cols e.0 e.1) x)
   own = second (is_sorted key_cmp x) _ (passes (are_keyed_effects schema.key_cols x) h.effects_are.keyed)
 
+  -- the effects ascend by key
   pub sorted_effects : T (is_sorted key_cmp x)
   sorted_effects =
       first (is_sorted key_cmp x) (list_all (λ e. is_keyed_effect schema.key_cols e.0 e.1) x)
       (passes (are_keyed_effects schema.key_cols x) h.effects_are.keyed)
 
+  -- so do the rows
   pub sorted_table : T (is_sorted key_cmp t)
   sorted_table = first (is_sorted key_cmp t) _ (passes (is_keyed_table schema.key_cols t) h.table.keyed)
 
+  -- each effect fits the row that it finds
   pub fitting : T (all_fit t x)
   fitting = passes (all_fit t x) h.fit
 

@@ -55,6 +55,7 @@ module _ (key_cols : ℕ) where
       both (before_all x xs) _ (before_left x xs ys (first (before_all x (xs ++ ys)) _ h))
       (ordered_left xs ys (second (before_all x (xs ++ ys)) _ h))
 
+  -- the last part of an ordered list is ordered
   pub ordered_right : (xs ys : List Entry) → T (are_ordered key_cols (xs ++ ys)) → T (are_ordered key_cols ys)
   ordered_right [] ys h = h
   ordered_right (x ∷ xs) ys h = ordered_right xs ys (second (before_all x (xs ++ ys)) _ h)
@@ -166,6 +167,7 @@ module _ (key_cols : ℕ) where
   change_cmp-trans (Mod a v) (Mod b w) (Del c) p q = cc
   change_cmp-trans (Mod a v) (Mod b w) (Mod c u) p q = nat_cmp_total.trans a b c p q
 
+  -- the order of entries is transitive
   pub entry_cmp-trans : (x y z : Entry) → entry_cmp key_cols x y ≡ Less → entry_cmp key_cols y z ≡ Less → entry_cmp key_cols x z ≡ Less
   entry_cmp-trans x y z p q =
       elim (nat_cmp x.sid y.sid) as (λ r. nat_cmp x.sid y.sid ≡ r → ordering_then r (change_cmp key_cols x.change y.change) ≡ Less

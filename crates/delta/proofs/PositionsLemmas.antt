@@ -415,6 +415,7 @@ module _ (cmp : Change → Ordering) (no_delete : (gone : Key) → cmp (Del gone
       split.before in
       omega (arith, deletes_to sid 0 n es (ascends key_cols es ordered) start each)
 
+-- before the place of an insert no more rows are deleted than its SID says
 pub deletes-before-insert : (key_cols sid : ℕ) (key : Key) (es : List Entry) (n : ℕ) → T (are_ordered key_cols es)
     → IsSplit (stands_before (insert_cmp key_cols key) sid) es n → delete_count (take n es) ≤ sid
 deletes-before-insert key_cols sid key es n ordered split =

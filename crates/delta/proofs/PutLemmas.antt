@@ -114,6 +114,7 @@ module _ (key_cols sid : ℕ) where
       → IsSplit (stands_before past_cmp sid) es n → IsRun key_cols sid (Del gone) es n n
   run-del gone key es n split end = (past-inserts base_cmp (λ row. refl) key es n split end, end)
 
+  -- a modify of the row stands there, and replaces nothing
   pub run-mod : (col : ℕ) (value : Value) (key : Key) (es : List Entry) (n : ℕ)
       → IsSplit (stands_before (insert_cmp key_cols key) sid) es n → IsSplit (stands_before past_cmp sid) es n
       → IsRun key_cols sid (Mod col value) es n n

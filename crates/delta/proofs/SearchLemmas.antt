@@ -15,6 +15,7 @@ use Rattle.model.specs.Entries.{change_cmp, entry_cmp, are_ordered}
 use Rattle.model.proofs.CallerLemmas.{both, first, second, less, turn_less, turn_greater}
 use Rattle.delta.specs.Search.{insert_cmp, first_cmp, base_cmp, modify_cmp, past_cmp, stands_before, IsSplit}
 
+-- a test that holds is true
 pub is_true : (b : Bool) → T b → b ≡ true
 is_true true h = refl
 is_true false h = absurd h

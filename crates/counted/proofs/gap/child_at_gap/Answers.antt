@@ -22,10 +22,11 @@ next g c =
     let i = c.loop-index.index in
     let d = c.index-children-index.result in
     let more = total_items-more cs i d c.requires.children c.loop-index.invariant.within in
-    let net = ((c.requires.children.each i d c.loop-index.invariant.within).net) in
+    let net = (c.requires.children.each i d c.loop-index.invariant.within).net in
     let up = c.loop-index.invariant.up in
-    is_up (to_z w64 c.loop-index.up-bits +ℤ to_z w64 (of_z w64 (get_or cs i d).net)) c.args.shift (all_items (take (i + 1) cs)) (all_items cs)
-    (omega (arith, ints, c.requires.above, c.requires.below)) (count_within cs (i + 1)) c.requires.above c.requires.below
+    is_up (to_z w64 c.loop-index.up-bits +ℤ to_z w64 (of_z w64 (get_or cs i d).net)) c.args.shift (all_items (take (i + 1) cs))
+    (all_items cs) (omega (arith, ints, c.requires.above, c.requires.below)) (count_within cs (i + 1)) c.requires.above
+    c.requires.below
 
 pub overflow_add-next : goal.overflow_add-next
 overflow_add-next g c =

@@ -57,9 +57,8 @@ written c =
     let here = found (goal.at.returns-clause-ok c).After-index_of_insert-index in
     let less = short (goal.at.returns-clause-ok c).After-index_of_insert-index in
     let list : es ≡ t.entries = ap (λ (w : Tree). w.entries) c.self.view_is in
-    let entry =
-    c.in_ok-entry.ensures
-    ∙ ap (λ (e : Entry). entry_at e.sid (change_with_cell c.args.col c.args.value e.change)) (read (goal.at.returns-clause-ok c).After-get) in
+    let item = read (goal.at.returns-clause-ok c).After-get in
+    let entry = c.in_ok-entry.ensures ∙ ap (λ (e : Entry). entry_at e.sid (change_with_cell c.args.col c.args.value e.change)) item in
     let run : c.replace_run.new.self.entries ≡ set es n c.in_ok-entry.entry =
     c.in_ok-replace_run.ensures.ok ∙ run_is_set es n (n + 1) c.in_ok-entry.entry refl less in
     edited c.self.inside.key_cols es c.replace_run.new.self.entries
