@@ -203,7 +203,7 @@ constant_again value zero many = absurd (omega arith)
 constant_again value (suc zero) many = absurd (omega arith)
 constant_again value (suc (suc count)) many = all_again value (suc count)
 
-both_held : (a b : Bool) → (a && b) ≡ true → (a ≡ true) × (b ≡ true)
+pub both_held : (a b : Bool) → (a && b) ≡ true → (a ≡ true) × (b ≡ true)
 both_held true b e = (refl, e)
 both_held false b e = absurd cc
 

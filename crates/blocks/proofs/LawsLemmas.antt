@@ -14,12 +14,9 @@ use Rattle.blocks.specs.Laws.{IsPayload, APayloadReadsBack, WhatReadsIsAPayload,
 use Rattle.blocks.proofs.BitsLemmas.{length-packed, length-truths, packed-truths, truths-packed, unused-packed}
 use Rattle.blocks.proofs.IntsLemmas.{guard_ok, ok_is, ints_take, ints_again}
 use Rattle.blocks.proofs.TextsLemmas.{texts_take, texts_again}
+use Rattle.blocks.proofs.FitLemmas.{bits_fit}
 
 -- ---- truths
-
-AllFit-truths : (bs : List Bool) → AllFit column.Bool (map Truth bs)
-AllFit-truths [] = tt
-AllFit-truths (b ∷ bs) = (tt, AllFit-truths bs)
 
 map-is_true : (bs : List Bool) → map is_true (map Truth bs) ≡ bs
 map-is_true [] = refl
@@ -52,7 +49,7 @@ truths_take count bytes values small e =
     let counted : length found ≡ count = length-map (take count (all_bits bytes)) Truth ∙ length-truths count bytes whole in
     let made : IsPayload column.Bool count bytes found = record {
       counted = counted;
-      fit = AllFit-truths (take count (all_bits bytes));
+      fit = bits_fit (take count (all_bits bytes));
       spelt =
           sym (ap (λ n. packed (byte_count n) (map is_true found)) counted
           ∙ ap (packed (byte_count count)) (map-is_true (take count (all_bits bytes)))

@@ -37,7 +37,7 @@ use Rattle.delta.specs.Laws.{row_inserted}
 use Rattle.delta.specs.declared.by_sid.BaseChange.TheVariants.{Kept, Modified, Deleted}
 use Rattle.delta.proofs.ChangesLemmas.{all_from}
 use Rattle.delta.proofs.PutLemmas.{by_insert}
-use Rattle.delta.proofs.KeyPlaceLemmas.{high, own, sorted_effects, before_key}
+use Rattle.delta.proofs.KeyPlaceLemmas.{high, keyed_effects, sorted_effects, before_key}
 use Rattle.delta.proofs.Words.{effect_on_base}
 
 -- no more deletes stand before what is looked for than base rows
@@ -156,7 +156,7 @@ pub base_change-effect : (schema : Columns) (t : Table) (x : Effects) (h : AreOv
     → base_change (rank key t) (slice_get (canonical_entries t x) n) ≡ effect_on_base (find key_cmp key x)
 base_change-effect schema t x h key n split there none =
     ap (base_change (rank key t)) (slice_get-first_of (canonical_entries t x) n ∙ ap first_of (from_key schema t x h key n split))
-    ∙ high_first schema.key_cols t key there x (sorted_effects schema t x h key) (own schema t x h key) none
+    ∙ high_first schema.key_cols t key there x (sorted_effects schema t x h key) (keyed_effects schema t x h key) none
 
 -- ---- a row that the table has and no effect is on
 

@@ -24,7 +24,7 @@ use Rattle.delta.proofs.CountedLemmas.{ordered_from_lawful, total-is, some_get, 
 
 -- ---- what is passed, by numbers
 
-below_passes : (next row : ℕ) (b : Bool) → next < row → (nat_lt next row || ((next == row) && b)) ≡ true
+pub below_passes : (next row : ℕ) (b : Bool) → next < row → (nat_lt next row || ((next == row) && b)) ≡ true
 below_passes next row b h = grind (arith, nat_tests)
 
 level_passes : (next row : ℕ) (b : Bool) → next ≡ row → b ≡ true → (nat_lt next row || ((next == row) && b)) ≡ true

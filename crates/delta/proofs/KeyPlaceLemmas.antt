@@ -222,9 +222,8 @@ split_is p es n h =
     append_none (x ∷ xs) = ap (λ ys. x ∷ ys) (append_none xs)
 
 module _ (schema : Columns) (t : Table) (x : Effects) (h : AreOver schema t x) (key : Key) where
-  -- each effect is of its key
-  pub own : T (list_all (λ e. is_keyed_effect schema.key_cols e.0 e.1) x)
-  own = second (is_sorted key_cmp x) _ (passes (are_keyed_effects schema.key_cols x) h.effects_are.keyed)
+  pub keyed_effects : T (list_all (λ e. is_keyed_effect schema.key_cols e.0 e.1) x)
+  keyed_effects = second (is_sorted key_cmp x) _ (passes (are_keyed_effects schema.key_cols x) h.effects_are.keyed)
 
   -- the effects ascend by key
   pub sorted_effects : T (is_sorted key_cmp x)
@@ -236,9 +235,8 @@ module _ (schema : Columns) (t : Table) (x : Effects) (h : AreOver schema t x) (
   pub sorted_table : T (is_sorted key_cmp t)
   sorted_table = first (is_sorted key_cmp t) _ (passes (is_keyed_table schema.key_cols t) h.table.keyed)
 
-  -- each effect fits the row that it finds
-  pub fitting : T (all_fit t x)
-  fitting = passes (all_fit t x) h.fit
+  pub fitting_effects : T (all_fit t x)
+  fitting_effects = passes (all_fit t x) h.fit
 
   abbrev pub entries : List Entry
   entries = canonical_entries t x
@@ -252,8 +250,8 @@ module _ (schema : Columns) (t : Table) (x : Effects) (h : AreOver schema t x) (
       sym (split_is p entries n split)
       ∙ ap (filter p) is
       ∙ filter-append p (canonical_entries t (low key t x)) (canonical_entries t (high key t x))
-      ∙ (λ i. filter_all p (canonical_entries t (low key t x)) (low_all key t schema.key_cols x own fitting) i
-      ++ filter_none p (canonical_entries t (high key t x)) (high_all key t schema.key_cols x own) i)
+      ∙ (λ i. filter_all p (canonical_entries t (low key t x)) (low_all key t schema.key_cols x keyed_effects fitting_effects) i
+      ++ filter_none p (canonical_entries t (high key t x)) (high_all key t schema.key_cols x keyed_effects) i)
       ∙ append_none (canonical_entries t (low key t x))
     where
       append_none : (xs : List Entry) → xs ++ [] ≡ xs
@@ -271,5 +269,5 @@ module _ (schema : Columns) (t : Table) (x : Effects) (h : AreOver schema t x) (
         ap delete_count before,
         inserts_below key t x,
         deletes_below key t x,
-        rank-table_with key t x sorted_table sorted_effects fitting,
+        rank-table_with key t x sorted_table sorted_effects fitting_effects,
       )

@@ -29,7 +29,7 @@ use Rattle.model.specs.Effects.{Cells, Effects, is_keyed_effect, are_keyed_effec
 use Rattle.model.specs.Writes.{write_fits_schema, key_of_write, effect_of_write, reply_to, is_done}
 use Rattle.model.specs.Entries.{entry_at, is_delete, is_modify, entries_of, canonical_entries, change_cmp, entry_cmp, are_ordered}
 use Rattle.model.specs.Merging.{changes_at, inserted_rows}
-use Rattle.model.proofs.CallerLemmas.{both, first, second, less, turn_greater, below_tied, changed_by, holds_at, each_at, row_at-table_with, done_fits, sets_no_key-fits, single_delete, is_placed, rank-lt}
+use Rattle.model.proofs.CallerLemmas.{both, first, second, less, turn_greater, below_tied, changed_by, holds_at, each_at, row_at-table_with, done_fits, sets_no_key-fits, single_delete, is_placed, rank-lt, equal, same_key}
 use Rattle.delta.specs.Lookups.{has_delete, inserted_row, is_insert_at}
 use Rattle.delta.specs.Changes.{is_delete_at}
 use Rattle.delta.specs.Laws.{InsertsAscendAtASid, row_inserted, deletes_row, CanonicalLookUps, MayEdit, AWriteIsOneCall}
@@ -142,16 +142,6 @@ shared key_cols entries sid lawful =
     }
 
 -- ---- the entries of other keys
-
--- a tie
-equal : (r : Ordering) → T (is_eq r) → r ≡ Equal
-equal Less p = absurd p
-equal Equal p = refl
-equal Greater p = absurd p
-
--- keys that tie are the same
-same_key : (x y : Key) → T (eq_by_cmp key_cmp x y) → x ≡ y
-same_key x y h = key_cmp-IsAntisymmetric x y (equal _ h)
 
 -- what isn't true
 not_true : (b : Bool) → b ≡ false → T (not b)
@@ -356,7 +346,7 @@ finds_effect schema t x key over =
 -- ---- the change that a write makes
 
 -- a row that fits has as many cells as there are columns
-length-fits : (schema : Columns) (row : Row) → T (fits_schema schema row) → length row ≡ length schema.types
+pub length-fits : (schema : Columns) (row : Row) → T (fits_schema schema row) → length row ≡ length schema.types
 length-fits schema row h =
     elim (length row == length schema.types) as
     (λ b. (length row == length schema.types) ≡ b → T (is_none (cond b (values_fault 0 schema.types row) (Some WrongCount)))

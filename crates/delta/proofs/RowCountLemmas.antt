@@ -21,7 +21,7 @@ use Rattle.model.specs.Table.{Table, row_at, rank, is_keyed_table}
 use Rattle.model.specs.Effects.{Cells, Effects, set_cells, fits, has_cells, row_after, all_fit, table_with, is_keyed_effect, are_keyed_effects, effect_fits_schema, AreOver}
 use Rattle.model.specs.Entries.{entry_at, entries_of, canonical_entries}
 use Rattle.model.specs.Places.{insert_count, delete_count}
-use Rattle.model.proofs.CallerLemmas.{first, second, less, without_below, below_tied, sorted-alter, inserts_of, deletes_of, fits_other}
+use Rattle.model.proofs.CallerLemmas.{first, second, less, without_below, below_tied, sorted-alter, inserts_of, deletes_of, fits_other, add_up}
 use Rattle.delta.proofs.CountLemmas.{insert_count-append, delete_count-append}
 
 -- ---- what one effect does to the number of rows
@@ -86,9 +86,6 @@ length-table_with t (e ∷ x) ht h fit =
     (length-table_with after x (sorted-alter key_cmp key_cmp_total e.0 (row_after e.1) t ht) (second _ _ h)
     (subst T (sym (fits_other e.0 (row_after e.1) t x (first _ _ h))) (second _ _ fit)))
     (length-alter e.0 e.1 t (row_at t e.0) refl ht (first _ _ fit))
-  where
-    add_up : (d e i j n m r : ℕ) → e + n ≡ j + m → d + m ≡ i + r → (d + e) + n ≡ (i + j) + r
-    add_up d e i j n m r p q = omega arith
 
 -- ---- the entries of effects, counted
 
@@ -125,9 +122,9 @@ delete_count-canonical_entries t (e ∷ x) =
     ∙ (λ i. delete_count-entries_of (rank e.0 t) e.0 e.1 i + delete_count-canonical_entries t x i)
 
 -- the inserts less the deletes are the rows that come
-pub counted : (t : Table) (x : Effects) → T (is_sorted key_cmp t) → T (is_sorted key_cmp x) → T (all_fit t x)
+pub inserts_less_deletes : (t : Table) (x : Effects) → T (is_sorted key_cmp t) → T (is_sorted key_cmp x) → T (all_fit t x)
     → delete_count (canonical_entries t x) + length (table_with t x) ≡ insert_count (canonical_entries t x) + length t
-counted t x ht h fit =
+inserts_less_deletes t x ht h fit =
     ap (λ n. n + length (table_with t x)) (delete_count-canonical_entries t x)
     ∙ length-table_with t x ht h fit
     ∙ ap (λ n. n + length t) (sym (insert_count-canonical_entries t x))
@@ -233,9 +230,9 @@ deletes_few (e ∷ x) = by e.1 (deletes_few x)
     by (Rep row) rest = omega (arith, rest)
 
 -- entries are no more than the rows of the image, and as many as columns and one for each row of the table
-pub few : (schema : Columns) (t : Table) (x : Effects) → IsSchema schema → AreOver schema t x
+pub length-entries_over : (schema : Columns) (t : Table) (x : Effects) → IsSchema schema → AreOver schema t x
     → length (canonical_entries t x) ≤ length (table_with t x) + 33 * length t
-few schema t x lawful h =
+length-entries_over schema t x lawful h =
     let keyed = T_from_true (are_keyed_effects schema.key_cols x) h.effects_are.keyed in
     let table = T_from_true (is_keyed_table schema.key_cols t) h.table.keyed in
     let fitting = T_from_true (list_all (λ e. effect_fits_schema schema e.1) x) h.effects_are.fitting in
@@ -271,4 +268,4 @@ pub rows_after : (schema : Columns) (t : Table) (x : Effects) → AreOver schema
 rows_after schema t x h =
     let keyed = T_from_true (are_keyed_effects schema.key_cols x) h.effects_are.keyed in
     let table = T_from_true (is_keyed_table schema.key_cols t) h.table.keyed in
-    counted t x (first (is_sorted key_cmp t) _ table) (first (is_sorted key_cmp x) _ keyed) (T_from_true (all_fit t x) h.fit)
+    inserts_less_deletes t x (first (is_sorted key_cmp t) _ table) (first (is_sorted key_cmp x) _ keyed) (T_from_true (all_fit t x) h.fit)

@@ -12,6 +12,7 @@ use Rattle.devices.specs.Laws.{IsWholeInAll, IsGreatest, NewestIsTheGreatest}
 use Rattle.devices.specs.Stored.{all_parts, ends_image, is_whole, newest_of, newest_whole}
 use Rattle.devices.specs.Turns.{IsNext, AreNext, AreInTurn}
 use Rattle.devices.proofs.GrammarLemmas.{read_in_turn}
+use Rattle.frames.proofs.WholeLemmas.{step_ok}
 
 -- the last block before which the newest is sought
 pub newest_of-push : (others : List (List Part)) (best : Option ℕ) (front : List Part) (part : Part)
@@ -160,12 +161,6 @@ greatest_first ty first others turn =
     from g h = inr (and_parts (is_whole g first) (list_all (is_whole g) others) h)
 
 -- ---- columns that were read
-
--- both steps of a reading that ended well
-step_ok : {A B : Type 0} (r : Result A ReadFault) (next : A → Result B ReadFault) (y : B) → (r >>= next) ≡ Ok y
-    → (x : A) × (r ≡ Ok x) × (next x ≡ Ok y)
-step_ok (Ok x) next y e = (x, refl, e)
-step_ok (Err fault) next y e = absurd cc
 
 -- columns, as they are read
 abbrev read : List (List Part) → Result (List (List Part)) ReadFault

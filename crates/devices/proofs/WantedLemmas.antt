@@ -14,6 +14,7 @@ use Rattle.frames.specs.declared.frame.Kind.{Kind}
 use Rattle.frames.specs.declared.seam.Seam.{Seam}
 use Rattle.frames.specs.Column.{head_at, may_stand, seam_after, start}
 use Rattle.frames.specs.Reading.{◌>>=◌, Found, AreWanted, found_then, format_of, type_of, frame_at, frames_at, frames_of, header_at, header_of, is_wanted, part_at, part_of, part_with}
+use Rattle.frames.proofs.WholeLemmas.{step_ok}
 
 -- a frame and the bytes after it, as they are found
 abbrev found : Frame → List ℕ → Result Found ReadFault
@@ -113,12 +114,6 @@ read frames = Ok frames
 -- what is read in one way is one list
 ok_is : (frames others : List Frame) → read frames ≡ read others → frames ≡ others
 ok_is frames others e = cc
-
--- both steps of a reading that ended well
-step_ok : {A B : Type 0} (r : Result A ReadFault) (next : A → Result B ReadFault) (y : B) → (r >>= next) ≡ Ok y
-    → (x : A) × (r ≡ Ok x) × (next x ≡ Ok y)
-step_ok (Ok x) next y e = (x, refl, e)
-step_ok (Err fault) next y e = absurd cc
 
 -- a frame that was found and those after it
 found_wanted : (wanted : Option ColumnType) (next : Frame → List ℕ → Result (List Frame) ReadFault) (frames : List Frame) (seen : Found)

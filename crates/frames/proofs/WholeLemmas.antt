@@ -79,7 +79,7 @@ rest_taken col at wanted seam first bytes e =
 
 -- ---- frames
 
-step_ok : {A B : Type 0} (r : Result A ReadFault) (next : A → Result B ReadFault) (y : B) → (r >>= next) ≡ Ok y
+pub step_ok : {A B : Type 0} (r : Result A ReadFault) (next : A → Result B ReadFault) (y : B) → (r >>= next) ≡ Ok y
     → (x : A) × (r ≡ Ok x) × (next x ≡ Ok y)
 step_ok (Ok x) next y e = (x, refl, e)
 step_ok (Err fault) next y e = absurd cc

@@ -19,6 +19,7 @@ use Rattle.values.specs.declared.value.Value.TheVariants.{Text}
 use Rattle.inputs.specs.Cells.{is_numeral, signed_number, int_of, value_of}
 use Rattle.inputs.specs.Input.{cell_of}
 use Rattle.inputs.specs.declared.fault.TableFault.TheVariants.{TextTooLong, BadText}
+use Rattle.blocks.proofs.CallerLemmas.{both_held}
 
 -- ---- texts
 
@@ -70,10 +71,6 @@ is_numeral-true (c ∷ ds) e h = e
 pub numeral-digits : (ds : List ℕ) → is_numeral ds ≡ true → (all_ascii_digits ds ≡ true) × (0 < length ds)
 numeral-digits [] e = cc e
 numeral-digits (c ∷ ds) e = (e, omega arith)
-
-pub and-parts : (a b : Bool) → (a && b) ≡ true → (a ≡ true) × (b ≡ true)
-and-parts true b e = (refl, e)
-and-parts false b e = cc e
 
 pub and-false : (a b : Bool) → (a ≡ true → b ≡ true → ⊥) → (a && b) ≡ false
 and-false true true h = absurd (h refl refl)
@@ -141,8 +138,8 @@ digit-ascii c h = grind (arith, nat_tests)
 
 pub digits-ascii : (ds : List ℕ) → all_ascii_digits ds ≡ true → (i : ℕ) → get_or ds i 0 < 128
 digits-ascii [] h i = lit< tt
-digits-ascii (c ∷ ds) h zero = digit-ascii c (and-parts (is_ascii_digit c) (all_ascii_digits ds) h).0
-digits-ascii (c ∷ ds) h (suc i) = digits-ascii ds (and-parts (is_ascii_digit c) (all_ascii_digits ds) h).1 i
+digits-ascii (c ∷ ds) h zero = digit-ascii c (both_held (is_ascii_digit c) (all_ascii_digits ds) h).0
+digits-ascii (c ∷ ds) h (suc i) = digits-ascii ds (both_held (is_ascii_digit c) (all_ascii_digits ds) h).1 i
 
 cons-ascii : (c : ℕ) (rest : List ℕ) → c < 128 → ((i : ℕ) → get_or rest i 0 < 128) → (i : ℕ) → get_or (c ∷ rest) i 0 < 128
 cons-ascii c rest h more zero = h
@@ -191,7 +188,7 @@ some-from (suc n) h = omega arith
 first-digit : (bs : List ℕ) → is_numeral bs ≡ true → (get_or bs 0 0 ≡ 43 → ⊥) × (get_or bs 0 0 ≡ 45 → ⊥)
 first-digit [] h = cc h
 first-digit (c ∷ ds) h =
-    let digit = (and-parts (is_ascii_digit c) (all_ascii_digits ds) h).0 in
+    let digit = (both_held (is_ascii_digit c) (all_ascii_digits ds) h).0 in
     (λ e. cc (rw e at digit), λ e. cc (rw e at digit))
 
 pub int_of-plain : (bs : List ℕ) → is_numeral bs ≡ true → digits_value 10 bs < 2 ^ 63 → int_of bs ≡ Some (pos (digits_value 10 bs))

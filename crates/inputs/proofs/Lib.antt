@@ -14,3 +14,4 @@ mod FillingLemmas
 mod AscentLemmas
 mod LoadLemmas
 mod NumberLemmas
+pub mod CallerLemmas

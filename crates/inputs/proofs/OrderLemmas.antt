@@ -18,6 +18,7 @@ use Rattle.values.specs.Shape.{key_of}
 use Rattle.inputs.specs.Input.{same_key, is_repeat, first_repeat, IsAscending}
 use Rattle.inputs.specs.Order.{AreNumbered, numbered_cmp, IsInOrder, IsLeastRepeat, lower_repeat}
 use Rattle.inputs.specs.Input.{Numbered}
+use Rattle.blocks.proofs.CallerLemmas.{both_held}
 
 -- within a list the default says nothing
 get-same : {X : Type 0} (xs : List X) (i : ℕ) (d e : X) → i < length xs → get_or xs i d ≡ get_or xs i e
@@ -60,10 +61,6 @@ above : (o p : Ordering) → p ≡ ordering_reverse o → (o ≡ Less → ⊥) �
 above Less p e h g = absurd (h refl)
 above Equal p e h g = cc (rw e at g)
 above Greater p e h g = e
-
-and-parts : (a b : Bool) → (a && b) ≡ true → (a ≡ true) × (b ≡ true)
-and-parts true b e = (refl, e)
-and-parts false b e = cc e
 
 lt_from : (a b : ℕ) → nat_lt a b ≡ true → a < b
 lt_from a b h = grind (arith, nat_tests)
@@ -297,7 +294,7 @@ module _ (k : ℕ) (rows sorted : List Numbered) (moved : IsPermutation rows sor
   repeat-behind row here e =
       let there = Contains-permutation rows sorted row moved here in
       let other = Any-from_list_any (λ other. nat_lt other.number row.number && same_key k other row) sorted (sym (same_repeats row) ∙ e) in
-      let tests = and-parts (nat_lt other.1.number row.number) (same_key k other.1 row) other.4 in
+      let tests = both_held (nat_lt other.1.number row.number) (same_key k other.1 row) other.4 in
       let lower : other.1.number < row.number = lt_from _ _ tests.0 in
       let at_other : (d : Numbered) → get_or sorted other.0 d ≡ other.1 = λ d. get-same sorted other.0 d other.1 other.2 ∙ other.3 in
       let at_row : (d : Numbered) → get_or sorted there.0 d ≡ row = λ d. get-same sorted there.0 d row there.1 ∙ there.2 in

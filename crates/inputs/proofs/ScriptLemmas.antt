@@ -21,8 +21,9 @@ use Rattle.inputs.specs.declared.call.ClientCall.{ClientCall}
 use Rattle.inputs.specs.declared.fault.ScriptFault.{ScriptFault}
 use Rattle.inputs.specs.declared.fault.ScriptFault.TheVariants.{BadClient, TooManyClients, BadCount, BadVerb, BadArgument}
 use Rattle.inputs.specs.declared.verb.Verb.{Verb}
-use Rattle.inputs.proofs.CellLemmas.{and-parts, lt_true, lt_false, le_true, le_false}
+use Rattle.inputs.proofs.CellLemmas.{lt_true, lt_false, le_true, le_false}
 use Rattle.inputs.proofs.ReadLemmas.{records-start, prepend-then_cons}
+use Rattle.blocks.proofs.CallerLemmas.{both_held}
 
 -- ---- places
 
@@ -77,7 +78,7 @@ clients_after-none clients fields e = rw e refl
 -- the first of fields that are text is text
 pub first-text : (fields rest : Fields) (name : List ℕ) → fields ≡ name ∷ rest → list_all is_utf8 fields ≡ true → ¬ (IsUtf8 name) → ⊥
 first-text fields rest name e all other =
-    other (IsUtf8-from_is_utf8 name (and-parts (is_utf8 name) (list_all is_utf8 rest) (rw e at all)).0)
+    other (IsUtf8-from_is_utf8 name (both_held (is_utf8 name) (list_all is_utf8 rest) (rw e at all)).0)
 
 -- ---- arguments
 

@@ -32,6 +32,7 @@ use Rattle.delta.specs.Search.{base_cmp, stands_before, IsSplit}
 use Rattle.delta.proofs.CallerLemmas.{insert_count-cons, delete_count-cons, insert_worth, delete_worth, entry_cmp-trans, ordered_right}
 use Rattle.delta.proofs.CallerLemmas.{split_is}
 use Rattle.layers.specs.Serialization.{row_cmp, clash_cmp, clash_with_head}
+use Rattle.layers.proofs.RowPlaceLemmas.{cond_length, inserts_cond, deletes_cond}
 
 -- ---- the first entry that is left
 
@@ -56,20 +57,6 @@ module _ (rule : ConflictRule) (key_cols i j : ℕ) (x : Entry) where
       by (suc n) (z ∷ zs) p = by n zs p
 
 -- ---- the position of an entry in the image of the tree
-
-cond_length : (b : Bool) (e : Entry) (es : List Entry) → length (cond b (e ∷ es) es) ≡ cond b 1 0 + length es
-cond_length true e es = omega arith
-cond_length false e es = omega arith
-
-inserts_cond : (b : Bool) (e : Entry) (es : List Entry)
-    → insert_count (cond b (e ∷ es) es) ≡ cond b (insert_worth e.change) 0 + insert_count es
-inserts_cond true e es = insert_count-cons e es
-inserts_cond false e es = omega arith
-
-deletes_cond : (b : Bool) (e : Entry) (es : List Entry)
-    → delete_count (cond b (e ∷ es) es) ≡ cond b (delete_worth e.change) 0 + delete_count es
-deletes_cond true e es = delete_count-cons e es
-deletes_cond false e es = omega arith
 
 zero_if : (b : Bool) → ◌≡◌ {A = ℕ} 0 (cond b 0 0)
 zero_if true = refl
@@ -172,7 +159,7 @@ is_true : (b : Bool) → T b → b ≡ true
 is_true true h = refl
 is_true false h = absurd h
 
-equal : (r : Ordering) → is_eq r ≡ true → r ≡ Equal
+pub equal : (r : Ordering) → is_eq r ≡ true → r ≡ Equal
 equal Less e = cc
 equal Equal e = refl
 equal Greater e = cc

@@ -24,7 +24,7 @@ use Rattle.model.specs.Places.{deleted_keys, insert_count, delete_count}
 use Rattle.model.proofs.CallerLemmas.{first, second, both, canonical_entries-at_key}
 use Rattle.delta.specs.Positions.{is_passed, keys_ascend, deletes_ascend, IsGapAt}
 use Rattle.delta.specs.Search.{insert_cmp, stands_before}
-use Rattle.delta.proofs.CallerLemmas.{deletes-before-insert, insert_count-cons, delete_count-cons, insert_worth, delete_worth}
+use Rattle.delta.proofs.CallerLemmas.{deletes-before-insert, insert_count-cons, delete_count-cons, insert_worth, delete_worth, below_passes}
 use Rattle.delta.proofs.CallerLemmas.{next_passes, rank_is}
 use Rattle.layers.proofs.RowPlaceLemmas.{key_place, key_split, in_order, take_first, drop_first}
 
@@ -85,9 +85,6 @@ last_counts (x ∷ es) (suc m) e is =
 
 -- ---- beside an insert of the key whose row comes to the position
 
-passes_lt : (next row : ℕ) (b : Bool) → next < row → (nat_lt next row || ((next == row) && b)) ≡ true
-passes_lt next row b lt = grind (arith, nat_tests)
-
 passes_le : (next row : ℕ) (b : Bool) → next ≤ row → T b → (nat_lt next row || ((next == row) && b)) ≡ true
 passes_le next row true le h = grind (arith, nat_tests)
 passes_le next row false le h = absurd h
@@ -114,10 +111,10 @@ module _ (key_cols sid : ℕ) (key : Key) where
       → T (deletes_only (λ k. is_lt (key_cmp k key)) c)
       → sid + (a + insert_worth c) ≡ rid + (d + delete_worth c) → is_passed key (n + a) (rid + d) c ≡ true
   leads (Ins row) n a d rid h only_it level =
-      let le = at_most n (key_cmp key (key_of key_cols row)) h in passes_lt (n + a) (rid + d) false (omega (arith, level))
+      let le = at_most n (key_cmp key (key_of key_cols row)) h in below_passes (n + a) (rid + d) false (omega (arith, level))
   leads (Del gone) n a d rid h only_it level =
       let lt = below n h in passes_le (n + a) (rid + d) (is_lt (key_cmp gone key)) (omega (arith, level)) only_it
-  leads (Mod col value) n a d rid h only_it level = let lt = below n h in passes_lt (n + a) (rid + d) false (omega (arith, level))
+  leads (Mod col value) n a d rid h only_it level = let lt = below n h in below_passes (n + a) (rid + d) false (omega (arith, level))
 
   -- and the one behind it follows
   follows : (c : Change) (n a d rid : ℕ) → T (not (is_gt (ordering_then (nat_cmp sid n) (insert_cmp key_cols key c))))

@@ -27,10 +27,11 @@ use Rattle.layers.specs.Passing.{IsCursor, AreBefore}
 use Rattle.layers.specs.Serialization.{clash_cmp, clash_with_head}
 use Rattle.model.proofs.CallerLemmas.{both, first, less, second}
 use Rattle.layers.proofs.ClashLemmas.{agrees, clash_order, rebased_place, unclashed_entry}
-use Rattle.layers.proofs.PassLemmas.{is_before, yields, tested, greater_sid, sids_greater, sids_less, split_none, split_some, all_still}
+use Rattle.layers.proofs.PassLemmas.{is_before, tested, greater_sid, sids_greater, sids_less, split_none, split_some, all_still}
 use Rattle.layers.proofs.SerialLemmas.{head_drop, clear_next, moved_next, none_left, all_taken, holds_at, agree, order_y, clash_is}
 use Rattle.layers.proofs.SerialLemmas.{in_order, small_sid}
 use Rattle.layers.proofs.StillLemmas.{stand_still}
+use Rattle.delta.proofs.CallerLemmas.{greater}
 
 -- lists that are the same from an index on have the same there
 pub same_at : (n : ℕ) (xs ys : List Entry) (e : Entry) → drop n xs ≡ drop n ys → slice_get xs n ≡ Some e → slice_get ys n ≡ Some e
@@ -149,7 +150,7 @@ module _ (key_cols : ℕ) (rule : ConflictRule) where
       by : (b : Bool) → is_before key_cols rule e y ≡ b → b ≡ false
       by false is = refl
       by true is =
-          let place = sids_greater e.sid y.sid (clash_cmp key_cols rule e.change y.change) (yields _ (subst T (sym is) tt)) in
+          let place = sids_greater e.sid y.sid (clash_cmp key_cols rule e.change y.change) (greater _ (subst T (sym is) tt)) in
           absurd (elim place [
             | inl gt ↦ omega arith
             | inr h ↦ let same = h.0 in omega (arith, same)

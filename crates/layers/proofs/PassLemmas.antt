@@ -22,7 +22,7 @@ use Rattle.model.specs.Entries.{change_cmp, entry_cmp, are_ordered}
 use Rattle.model.specs.Places.{insert_count, delete_count}
 use Rattle.model.proofs.CallerLemmas.{both, first, second, less, turn_less, turn_greater}
 use Rattle.delta.specs.Search.{base_cmp, stands_before, IsSplit}
-use Rattle.delta.proofs.CallerLemmas.{insert_worth, delete_worth, insert_count-cons, delete_count-cons, insert_count-append}
+use Rattle.delta.proofs.CallerLemmas.{insert_worth, delete_worth, insert_count-cons, delete_count-cons, insert_count-append, greater}
 use Rattle.delta.proofs.CallerLemmas.{delete_count-append, counts-le, ordered_right}
 use Rattle.layers.specs.declared.cursor.Cursor.{Cursor}
 use Rattle.layers.specs.declared.beside.Search.{Search}
@@ -194,11 +194,6 @@ module _ (key_cols : ℕ) where
 
 -- ---- entries in order
 
-pub yields : (r : Ordering) → T (is_gt r) → r ≡ Greater
-yields Less h = absurd h
-yields Equal h = absurd h
-yields Greater h = refl
-
 pub tested : (r : Ordering) → r ≡ Greater → T (is_gt r)
 tested r e = subst (λ (o : Ordering). T (is_gt o)) (sym e) tt
 
@@ -212,13 +207,13 @@ module _ (key_cols : ℕ) (rule : ConflictRule) where
       tested (ordering_then (nat_cmp e.sid y.sid) (cmp y.change))
       (elim (sids_less y.sid z.sid (change_cmp key_cols y.change z.change) below) [
         | inl lt ↦
-            elim (sids_greater e.sid z.sid (cmp z.change) (yields _ tests)) [
+            elim (sids_greater e.sid z.sid (cmp z.change) (greater _ tests)) [
               | inl gt ↦ greater_sid e.sid y.sid (cmp y.change) (omega arith)
               | inr h ↦ let same = h.0 in greater_sid e.sid y.sid (cmp y.change) (omega (arith, same))
             ]
         | inr s ↦
             let level = s.0 in
-            elim (sids_greater e.sid z.sid (cmp z.change) (yields _ tests)) [
+            elim (sids_greater e.sid z.sid (cmp z.change) (greater _ tests)) [
               | inl gt ↦ greater_sid e.sid y.sid (cmp y.change) (omega (arith, level))
               | inr h ↦
                   let same = h.0 in
@@ -233,13 +228,13 @@ module _ (key_cols : ℕ) (rule : ConflictRule) where
       tested (ordering_then (nat_cmp z.sid y.sid) (cmp y.change))
       (elim (sids_less e.sid z.sid (change_cmp key_cols e.change z.change) below) [
         | inl lt ↦
-            elim (sids_greater e.sid y.sid (own y.change) (yields _ tests)) [
+            elim (sids_greater e.sid y.sid (own y.change) (greater _ tests)) [
               | inl gt ↦ greater_sid z.sid y.sid (cmp y.change) (omega arith)
               | inr h ↦ let same = h.0 in greater_sid z.sid y.sid (cmp y.change) (omega (arith, same))
             ]
         | inr s ↦
             let level = s.0 in
-            elim (sids_greater e.sid y.sid (own y.change) (yields _ tests)) [
+            elim (sids_greater e.sid y.sid (own y.change) (greater _ tests)) [
               | inl gt ↦ greater_sid z.sid y.sid (cmp y.change) (omega (arith, level))
               | inr h ↦
                   let same = h.0 in

@@ -27,14 +27,15 @@ use Rattle.model.specs.Effects.{effect_fits_schema, fits, all_fit, row_after, ta
 use Rattle.model.specs.Composition.{over_cells, composed_effect, composed_effects}
 use Rattle.model.specs.Entries.{entry_at, entries_of, canonical_entries}
 use Rattle.model.specs.Places.{insert_count}
-use Rattle.model.proofs.CallerLemmas.{first, second, both, less, turn_less, is_below, changed_by, holds_at, each_at, find_below}
+use Rattle.model.proofs.CallerLemmas.{first, second, both, less, turn_less, is_below, changed_by, holds_at, each_at, find_below, set_cells_move, same_key}
 use Rattle.model.proofs.CallerLemmas.{find_first, find-alter, sorted-alter, same_map, cells_ascend, row_at-table_with}
 use Rattle.model.proofs.CallerLemmas.{effect_at-composed_effects, sorted-composed_effects, inserts_of, deletes_of, sum_below}
 use Rattle.model.proofs.CallerLemmas.{rank-table_with, composes}
 use Rattle.delta.specs.Tree.{Tree}
-use Rattle.delta.proofs.CallerLemmas.{insert_count-append, counted, few}
+use Rattle.delta.proofs.CallerLemmas.{insert_count-append, inserts_less_deletes, length-entries_over}
 use Rattle.layers.specs.Over.{tree_of, AreConsecutive}
 use Rattle.layers.specs.Propagation.{IsNext, IsOfKey, cell_fits, effect_of_change, effects_with, next_tree}
+use Rattle.layers.proofs.ClashLemmas.{equal}
 
 -- ---- effects below a key
 
@@ -188,13 +189,6 @@ put_first c (d ∷ cells) h =
 differ : (c d : ℕ) → nat_cmp c d ≡ Less → c ≡ d → ⊥
 differ c d p e = let q : nat_cmp c d ≡ Equal = ap (nat_cmp c) (sym e) ∙ tied_itself nat_cmp_total c in cc
 
-set_cells_move : (c : ℕ) (v : Value) (cells : Cells) (row : Row) → T (below_all nat_cmp c cells)
-    → set_cells cells (set row c v) ≡ set (set_cells cells row) c v
-set_cells_move c v [] row h = refl
-set_cells_move c v (d ∷ cells) row h =
-    ap (set_cells cells) (set_comm row c d.0 v d.1 (differ c d.0 (less _ (first (is_lt (nat_cmp c d.0)) _ h))))
-    ∙ set_cells_move c v cells (set row d.0 d.1) (second (is_lt (nat_cmp c d.0)) _ h)
-
 -- cells of two columns are put in alike in either order
 put-put : (c d : ℕ) (v u : Value) (m : Cells) → nat_cmp c d ≡ Less → T (is_sorted nat_cmp m)
     → put nat_cmp d u (put nat_cmp c v m) ≡ put nat_cmp c v (put nat_cmp d u m)
@@ -209,11 +203,6 @@ put-put c d v u m p h =
     ∙ sym (find-put nat_cmp nat_cmp_total q c v (put nat_cmp d u m)
     ∙ ap (cond (eq_by_cmp nat_cmp q c) (Some v)) (find-put nat_cmp nat_cmp_total q d u m)))
   where
-    equal : (r : Ordering) → is_eq r ≡ true → r ≡ Equal
-    equal Less e = cc
-    equal Equal e = refl
-    equal Greater e = cc
-
     either : (q : ℕ) (x y : Bool) → eq_by_cmp nat_cmp q c ≡ x → eq_by_cmp nat_cmp q d ≡ y
         → cond y (Some u) (cond x (Some v) (find nat_cmp q m)) ≡ cond x (Some v) (cond y (Some u) (find nat_cmp q m))
     either q true true e f =
@@ -275,21 +264,11 @@ fits-first key_cols k (effect.Rep new) None h fit = absurd fit
 fits-first key_cols k (effect.Rep new) (Some r) h fit = tt
 
 own-first : (key_cols : ℕ) (k : Key) (g : Effect) → T (is_keyed_effect key_cols k g) → IsOfKey key_cols k (first_change k g)
-own-first key_cols k (effect.Ins row) h = sym (key_cmp-IsAntisymmetric k (key_of key_cols row) (equal (key_cmp k (key_of key_cols row)) h))
-  where
-    equal : (r : Ordering) → T (is_eq r) → r ≡ Equal
-    equal Less p = absurd p
-    equal Equal p = refl
-    equal Greater p = absurd p
+own-first key_cols k (effect.Ins row) h = sym (same_key k (key_of key_cols row) h)
 own-first key_cols k effect.Del h = refl
 own-first key_cols k (effect.Mod []) h = refl
 own-first key_cols k (effect.Mod (c ∷ cells)) h = tt
-own-first key_cols k (effect.Rep row) h = sym (key_cmp-IsAntisymmetric k (key_of key_cols row) (equal (key_cmp k (key_of key_cols row)) h))
-  where
-    equal : (r : Ordering) → T (is_eq r) → r ≡ Equal
-    equal Less p = absurd p
-    equal Equal p = refl
-    equal Greater p = absurd p
+own-first key_cols k (effect.Rep row) h = sym (same_key k (key_of key_cols row) h)
 
 cell-first : (schema : Columns) (k : Key) (g : Effect) → T (effect_fits_schema schema g) → T (cell_fits schema (first_change k g))
 cell-first schema k (effect.Ins row) h = tt
@@ -390,11 +369,6 @@ module _ (schema : Columns) (t : Table) (x : Effects) (hx : AreOver schema t x) 
 
   abbrev change : Change
   change = first_change e.0 e.1
-
-  equal : (r : Ordering) → is_eq r ≡ true → r ≡ Equal
-  equal Less q = cc
-  equal Equal q = refl
-  equal Greater q = cc
 
   -- all effects are those of the rest, and then of the first entry
   pub composed_is : composed_effects x (e ∷ f) ≡ effects_with before e.0 change
@@ -538,7 +512,7 @@ module _ (lower upper : Tree) (w : AreConsecutive lower upper) where
       let t_sorted = first (is_sorted key_cmp w.t) _ (passes (is_keyed_table w.schema.key_cols w.t) tests.table.keyed) in
       let x_sorted = first (is_sorted key_cmp w.x) (list_all (λ y. is_keyed_effect w.schema.key_cols y.0 y.1) w.x)
       (passes (are_keyed_effects w.schema.key_cols w.x) tests.effects_are.keyed) in
-      let moved = counted w.t w.x t_sorted x_sorted (passes (all_fit w.t w.x) tests.fit) in
+      let moved = inserts_less_deletes w.t w.x t_sorted x_sorted (passes (all_fit w.t w.x) tests.fit) in
       let same = ap (λ (r : Tree). insert_count r.entries) w.below.tree_is in
       omega (arith, moved, same, w.below.few, w.small.rows)
 
@@ -549,7 +523,7 @@ module _ (lower upper : Tree) (w : AreConsecutive lower upper) where
       let f_sorted = first (is_sorted key_cmp (left_from n))
       (list_all (λ y. is_keyed_effect w.schema.key_cols y.0 y.1) (left_from n))
       (passes (are_keyed_effects w.schema.key_cols (left_from n)) tests.effects_are.keyed) in
-      let moved = counted over_image (left_from n) t_sorted f_sorted (passes (all_fit over_image (left_from n)) tests.fit) in
+      let moved = inserts_less_deletes over_image (left_from n) t_sorted f_sorted (passes (all_fit over_image (left_from n)) tests.fit) in
       let same = ap insert_count (entries_from n) in
       omega (arith, moved, same, fewer_inserts n upper.entries, w.above.few, image_few)
 
@@ -561,7 +535,7 @@ module _ (lower upper : Tree) (w : AreConsecutive lower upper) where
   pub entries_few : (n : ℕ) → length (canonical_entries w.t (composed_effects w.x (left_from n))) ≤ 2 ^ 40
   entries_few n =
       let over = (composes w.schema w.t w.x (left_from n) w.below.over (over_left n)).0 in
-      let bound = few w.schema w.t (composed_effects w.x (left_from n)) w.small.lawful over in
+      let bound = length-entries_over w.schema w.t (composed_effects w.x (left_from n)) w.small.lawful over in
       omega (arith, bound, composed_few n, w.small.rows)
 
   -- ---- one step

@@ -33,7 +33,7 @@ use Rattle.delta.specs.Search.{insert_cmp, stands_before, IsSplit}
 use Rattle.delta.specs.Positions.{IsAtRid}
 use Rattle.delta.specs.Laws.{row_inserted, deletes_row}
 use Rattle.delta.proofs.CallerLemmas.{nothing, has_insert, HasInsert, insert_count-cons, delete_count-cons, insert_worth}
-use Rattle.delta.proofs.CallerLemmas.{delete_worth, finds_effect, own, sorted_effects, sorted_table, fitting, low_all, high_all}
+use Rattle.delta.proofs.CallerLemmas.{delete_worth, finds_effect, keyed_effects, sorted_effects, sorted_table, fitting_effects, low_all, high_all}
 use Rattle.delta.proofs.CallerLemmas.{rank_is}
 
 -- ---- a list split in two
@@ -60,16 +60,16 @@ split_first p xs ys h g = record {
 
 -- ---- counts of entries up to a SID
 
-cond_length : (b : Bool) (e : Entry) (es : List Entry) → length (cond b (e ∷ es) es) ≡ cond b 1 0 + length es
+pub cond_length : (b : Bool) (e : Entry) (es : List Entry) → length (cond b (e ∷ es) es) ≡ cond b 1 0 + length es
 cond_length true e es = omega arith
 cond_length false e es = omega arith
 
-inserts_cond : (b : Bool) (e : Entry) (es : List Entry)
+pub inserts_cond : (b : Bool) (e : Entry) (es : List Entry)
     → insert_count (cond b (e ∷ es) es) ≡ cond b (insert_worth e.change) 0 + insert_count es
 inserts_cond true e es = insert_count-cons e es
 inserts_cond false e es = omega arith
 
-deletes_cond : (b : Bool) (e : Entry) (es : List Entry)
+pub deletes_cond : (b : Bool) (e : Entry) (es : List Entry)
     → delete_count (cond b (e ∷ es) es) ≡ cond b (delete_worth e.change) 0 + delete_count es
 deletes_cond true e es = delete_count-cons e es
 deletes_cond false e es = omega arith
@@ -177,8 +177,8 @@ module _ (schema : Columns) (t : Table) (x : Effects) (h : AreOver schema t x) (
       let p = stands_before (insert_cmp schema.key_cols key) sid in
       subst (λ zs. IsSplit p zs key_place) (sym (canonical_entries-at_key schema t x key h.effects_are))
       (split_first p (canonical_entries t before) (canonical_entries t after)
-      (low_all key t schema.key_cols x (own schema t x h key) (fitting schema t x h key))
-      (high_all key t schema.key_cols x (own schema t x h key)))
+      (low_all key t schema.key_cols x (keyed_effects schema t x h key) (fitting_effects schema t x h key))
+      (high_all key t schema.key_cols x (keyed_effects schema t x h key)))
 
   -- what an insert of the key is
   abbrev pub IsInsertOf : Change → Type 0
@@ -238,7 +238,7 @@ module _ (schema : Columns) (t : Table) (x : Effects) (h : AreOver schema t x) (
       let here = passes (is_some (row_at t key)) kept.0 in
       let apart = spread adds_none key x (sorted_effects schema t x h key) kept.2 in
       let keyed = passes (are_keyed_effects schema.key_cols x) h.effects_are.keyed in
-      let moved = moved_one schema.key_cols t key (Del key) here x (sorted_table schema t x h key) keyed (fitting schema t x h key) apart in
+      let moved = moved_one schema.key_cols t key (Del key) here x (sorted_table schema t x h key) keyed (fitting_effects schema t x h key) apart in
       let at : rid_of_base es sid ≡ rid = rid_of_base-rebased schema.key_cols sid key es ∙ ap (λ (e : Entry). e.sid) moved ∙ sym rid_is in
       ((found.delete kept.0 ∙ kept.1, at), (refl, none))
 

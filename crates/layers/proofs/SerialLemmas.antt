@@ -26,7 +26,7 @@ use Rattle.delta.specs.Tree.{Tree}
 use Rattle.layers.specs.Over.{IsTreeOf, AreAligned}
 use Rattle.layers.specs.Passing.{put_entries}
 use Rattle.layers.specs.Serialization.{clash_cmp, clash_with_head, rebased_tree}
-use Rattle.delta.proofs.CallerLemmas.{counted, few}
+use Rattle.delta.proofs.CallerLemmas.{inserts_less_deletes, length-entries_over}
 use Rattle.layers.proofs.ClashLemmas.{agrees, is_ranked, agree_all, ranked-canonical_entries, clash_place}
 
 pub head_drop : (n : ℕ) (es : List Entry) (e : Entry) → slice_get es n ≡ Some e → drop n es ≡ e ∷ drop (n + 1) es
@@ -179,7 +179,7 @@ module _ (schema : Columns) (t : Table) (x : Effects) (tree : Tree) (h : IsTreeO
   rows_after =
       let t_sorted = first (is_sorted key_cmp t) _ (passes (is_keyed_table schema.key_cols t) h.over.table.keyed) in
       let x_sorted = first (is_sorted key_cmp x) (list_all (λ e. is_keyed_effect schema.key_cols e.0 e.1) x) keyed in
-      let moved = counted t x t_sorted x_sorted (passes (all_fit t x) h.over.fit) in
+      let moved = inserts_less_deletes t x t_sorted x_sorted (passes (all_fit t x) h.over.fit) in
       let same = ap (λ (r : Tree). insert_count r.entries) h.tree_is in
       omega (arith, moved, same, h.few, rows)
 
@@ -283,7 +283,7 @@ module _ (rule : ConflictRule) (x y : Tree) (w : AreAligned x y) where
       let after = table_with w.t w.y in
       let entries = ordered w.schema after w.x over in
       let rows = rows_after w.schema w.t w.y y w.y_is w.small.rows in
-      let short = few w.schema w.t w.x w.small.lawful w.x_is.over in
+      let short = length-entries_over w.schema w.t w.x w.small.lawful w.x_is.over in
       let same : length (rebased_entries y.key_cols y.entries x.entries) ≡ length x.entries = length-map _ _ in
       let moved : length (canonical_entries after w.x) ≡ length (canonical_entries w.t w.x) = ap length (sym (rebased_list none)) ∙ same
       ∙ ap length list_x in

@@ -23,7 +23,7 @@ use Rattle.model.specs.Effects.{are_keyed_effects, fits, all_fit, row_after, tab
 use Rattle.std.proofs.lemmas.Option.{get_or_from_slice_get, slice_get-get_or}
 use Rattle.model.specs.Entries.{entry_at, canonical_entries}
 use Rattle.model.specs.Edits.{put_ins, put_del, put_mod, take_ins, set_ins, change_with_cell, edited_entries}
-use Rattle.model.proofs.CallerLemmas.{first, changed_by, holds_at, rank-le-length, inserted, deleted, modified, fit_so_far, here}
+use Rattle.model.proofs.CallerLemmas.{first, changed_by, holds_at, rank-le-length, inserted, deleted, modified, fit_so_far, fits_here}
 use Rattle.delta.specs.declared.places.Place.{Place}
 use Rattle.delta.specs.declared.places.Place.TheVariants.{Inserted, Base}
 use Rattle.delta.specs.Lookups.{has_delete, inserted_row, row_of}
@@ -133,7 +133,7 @@ module _ (tree : Tree) (entry : Entry) (w : IsNext tree entry) where
   at_key = known w.schema 0 w.t w.x w.over w.key
 
   fit_old : T (fits (changed_by row_after (find key_cmp w.key w.x) (row_at w.t w.key)) (effect_of_change entry.change))
-  fit_old = here w.schema.key_cols 0 w.t w.x keyed_table keyed fitting w.key (effect_of_change entry.change) fit_now
+  fit_old = fits_here w.schema.key_cols 0 w.t w.x keyed_table keyed fitting w.key (effect_of_change entry.change) fit_now
 
   fit_before : T (holds_at (fits (row_at w.t w.key)) (find key_cmp w.key w.x))
   fit_before = fit_so_far w.schema.key_cols 0 w.t w.x keyed_table keyed fitting w.key
@@ -179,7 +179,7 @@ module _ (tree : Tree) (s : ℕ) (row : Row) (w : IsNext tree (entry_at s (Ins r
       subst (λ (k : Key). canonical_entries w.t (effects_with w.x k (Ins row)) ≡ put_ins w.schema.key_cols (rank k w.t) row
       (canonical_entries w.t w.x)) w.own
       (inserted w.schema.key_cols 0 w.t w.x ht he fe row (find key_cmp k0 w.x) refl
-      (fit_so_far w.schema.key_cols 0 w.t w.x ht he fe k0) (here w.schema.key_cols 0 w.t w.x ht he fe k0 (effect.Ins row) now))
+      (fit_so_far w.schema.key_cols 0 w.t w.x ht he fe k0) (fits_here w.schema.key_cols 0 w.t w.x ht he fe k0 (effect.Ins row) now))
 
   free_is : is_some (inserted_row w.schema.key_cols (rank w.key w.t) w.key (canonical_entries w.t w.x)) ≡ false
   free_is =

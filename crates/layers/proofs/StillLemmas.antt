@@ -13,7 +13,8 @@ use Rattle.model.specs.declared.entry.Change.TheVariants.{Ins, Del, Mod}
 use Rattle.model.specs.Entries.{entry_at, change_cmp, entry_cmp, are_ordered, is_insert, is_delete, is_modify}
 use Rattle.model.specs.Rebasing.{stands_first, inserts_before, deletes_before, rebased_entry, rebased_entries}
 use Rattle.model.proofs.CallerLemmas.{both, first, second, less}
-use Rattle.layers.proofs.PassLemmas.{is_before, yields, sids_greater, still}
+use Rattle.layers.proofs.PassLemmas.{is_before, sids_greater, still}
+use Rattle.delta.proofs.CallerLemmas.{greater}
 
 not_insert : (c : Change) → is_modify c ≡ true → is_insert c ≡ false
 not_insert (Ins row) h = cc
@@ -84,7 +85,7 @@ module _ (key_cols : ℕ) where
     where
       places : (y : Entry) → T (is_before key_cols ByColumn y x)
           → (x.sid < y.sid) ⊎ ((y.sid ≡ x.sid) × (change_cmp key_cols y.change x.change ≡ Greater))
-      places y b = sids_greater y.sid x.sid (change_cmp key_cols y.change x.change) (yields _ b)
+      places y b = sids_greater y.sid x.sid (change_cmp key_cols y.change x.change) (greater _ b)
 
       inserts : (zs : List Entry) → T (list_all (λ y. is_before key_cols ByColumn y x) zs)
           → length (filter (inserts_before key_cols x) zs) ≡ 0

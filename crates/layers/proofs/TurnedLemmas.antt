@@ -27,8 +27,9 @@ use Rattle.layers.specs.Over.{AreAligned}
 use Rattle.layers.specs.Serialization.{turned_clash}
 use Rattle.layers.proofs.ClashLemmas.{agrees, is_ranked, agree_all, ranked-canonical_entries, clash_order, clash_order-trans}
 use Rattle.layers.proofs.ClashLemmas.{unclashed_entry, tied_entry}
-use Rattle.layers.proofs.PassLemmas.{yields, tested, still}
+use Rattle.layers.proofs.PassLemmas.{tested, still}
 use Rattle.layers.proofs.SerialLemmas.{holds_at, each, cols_x, cols_y, list_x, list_y, conflicting}
+use Rattle.delta.proofs.CallerLemmas.{greater}
 
 -- ---- clashes are the same either way
 
@@ -104,7 +105,7 @@ module _ (rule : ConflictRule) (key_cols : ℕ) where
           cc
       by Equal e = let some = sym (tied_entry key_cols rule a p e) ∙ ap is_some none in cc
       by Greater e =
-          let off = yields (clash_order key_cols rule b p) (still key_cols rule a b p ab (tested (clash_order key_cols rule a p) e)) in
+          let off = greater (clash_order key_cols rule b p) (still key_cols rule a b p ab (tested (clash_order key_cols rule a p) e)) in
           let free = unclashed_entry key_cols rule b p bp (λ tie. cc) in
           cc
 

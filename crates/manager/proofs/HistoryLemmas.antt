@@ -13,7 +13,7 @@ use Rattle.model.specs.Clashes.{conflicts}
 use Rattle.model.specs.Writes.{write_fits_schema, replies_to, effects_after_all}
 use Rattle.model.specs.Laws.{AreCommits}
 use Rattle.model.specs.History.{Start, Record, table_with_all, table_after, due_reply, commits_with, commits_after, commits_from, effects_of_record, IsLegalRecord, IsLegalFrom}
-use Rattle.model.proofs.CallerLemmas.{fits_newest, commits_fit, length-table_after, due_reply-cut, AreCommits-drop, table_with_all-drop}
+use Rattle.model.proofs.CallerLemmas.{fits_newest, commits_fit, length-table_after, due_reply-cut, AreCommits-drop, table_with_all-drop, left_false, right_false}
 use Rattle.txn.specs.Txn.{Transaction, effects_of, asked_of, IsTransaction}
 use Rattle.txn.specs.Version.{Lower}
 use Rattle.txn.proofs.CallerLemmas.{over}
@@ -104,21 +104,13 @@ module _ (m : Managed) (h : IsManaged m) where
 lt_false : (a b : ℕ) → nat_lt a b ≡ false → b ≤ a
 lt_false a b h = grind (arith, nat_tests)
 
-or_left : (a b : Bool) → (a || b) ≡ false → a ≡ false
-or_left true b h = cc
-or_left false b h = refl
-
-or_right : (a b : Bool) → (a || b) ≡ false → b ≡ false
-or_right true b h = cc
-or_right false b h = h
-
 module _ (m : Managed) (txn : Transaction) (own : IsOwn m txn) (recent : is_too_old m txn ≡ false) where
   pub above_base : m.start.base ≤ txn.begin
-  above_base = lt_false txn.begin m.start.base (or_left _ _ recent)
+  above_base = lt_false txn.begin m.start.base (left_false _ _ recent)
 
   -- so many commits come after its begin, none but kept ones
   pub since_few : newest_number m - txn.begin ≤ m.start.recent
-  since_few = lt_false m.start.recent (newest_number m - txn.begin) (or_right (nat_lt txn.begin m.start.base) _ recent)
+  since_few = lt_false m.start.recent (newest_number m - txn.begin) (right_false (nat_lt txn.begin m.start.base) _ recent)
 
   pub snapshot_is : table_with_all m.start.table (take (txn.begin - m.start.base) (commits_in m)) ≡ txn.table
   snapshot_is = sym (own.snapshot above_base)

@@ -19,6 +19,7 @@ use Rattle.merge.specs.Level.{stands_within, IsOver}
 use Rattle.merge.specs.View.{modified_cells, cells_at}
 use Rattle.merge.specs.Cursor.{TreeCursor, entries_left, is_past, IsCursor, entries_past, starts_with_delete, DeletesNext, InsertsNext}
 use Rattle.merge.proofs.LevelLemmas.{le_of, all_from, all_from-after, after_delete}
+use Rattle.delta.proofs.CallerLemmas.{next_is}
 
 pub same_of : (a b : ℕ) → (a == b) ≡ true → a ≡ b
 same_of a b h = grind (arith, nat_tests)
@@ -70,21 +71,6 @@ get-nothing [] zero is = refl
 get-nothing [] (suc n) is = refl
 get-nothing (x ∷ xs) zero is = cc
 get-nothing (x ∷ xs) (suc n) is = get-nothing xs n is
-
--- an iterator over the elements from an index on gives the one at it, and goes on after it
-pub next_is : (es : List Entry) (n : ℕ) (s t : List Entry) (r : Option (Bor Entry)) → s ≡ drop n es
-    → YieldsFirstRef {A = Entry} (λ xs. xs) s r t →
-    (option_copied r ≡ slice_get es n) × (t ≡ drop (n + 1) es)
-next_is es n s t None is gives =
-    let none : drop n es ≡ [] = sym is ∙ gives.0 in
-    (sym (get-nothing es n none), gives.1 ∙ sym (drop-nothing es n none))
-next_is es n s t (Some x) is gives =
-    let here : drop n es ≡ x.now ∷ t = sym is ∙ gives in
-    let at = slice_get-drop es n x.now t here in
-    (sym at, rest_is (sym here ∙ drop-at es n x.now at))
-  where
-    rest_is : {x : Entry} {xs ys : List Entry} → x ∷ xs ≡ x ∷ ys → xs ≡ ys
-    rest_is e = cc
 
 all-append : {X : Type 0} (p : X → Bool) (xs ys : List X) → T (list_all p xs) → T (list_all p ys) → T (list_all p (xs ++ ys))
 all-append p [] ys h k = k

@@ -30,7 +30,7 @@ use Rattle.delta.specs.Tree.{Tree}
 use Rattle.delta.specs.BySid.{base_change, is_deleted}
 use Rattle.delta.specs.declared.by_sid.BaseChange.{BaseChange}
 use Rattle.delta.specs.declared.by_sid.BaseChange.TheVariants.{Kept, Modified, Deleted}
-use Rattle.delta.proofs.CallerLemmas.{base_change-effect, finds_effect, fitting, sorted_effects}
+use Rattle.delta.proofs.CallerLemmas.{base_change-effect, finds_effect, fitting_effects, sorted_effects}
 use Rattle.merge.specs.Image.{IsLayer}
 use Rattle.merge.specs.KeyRow.{row_above}
 use Rattle.merge.specs.View.{modified_cells, cells_at}
@@ -171,7 +171,7 @@ module _ (schema : Columns) (t : Table) (x : Effects) (h : AreOver schema t x) (
   by_effect (Some (effect.Mod cells)) is (Some row) at =
       ap (row_above (rank key t) es (Some row) None) (change_is (Some (effect.Mod cells)) is refl row at)
       ∙ ap (λ (cs : Cells). Some (set_cells cs row)) (cells_at-canonical_entries t key (there_if row at) x
-      (sorted_effects schema t x h key) (fitting schema t x h key) ∙ ap cells_of is)
+      (sorted_effects schema t x h key) (fitting_effects schema t x h key) ∙ ap cells_of is)
   by_effect (Some (effect.Rep new)) is old at = refl
 
   row_above-table_with : row_above (rank key t) es (row_at t key) (inserted_row schema.key_cols (rank key t) key es) change ≡ row_at

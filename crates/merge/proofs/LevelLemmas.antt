@@ -12,7 +12,7 @@ use Rattle.model.specs.declared.entry.Change.{Change}
 use Rattle.model.specs.declared.entry.Change.TheVariants.{Ins, Del, Mod}
 use Rattle.model.specs.Entries.{entry_at, change_cmp, entry_cmp, are_ordered}
 use Rattle.model.specs.Merging.{inserted_rows, left_of, merged_rows_from}
-use Rattle.model.proofs.CallerLemmas.{both, first, second, changes_at_here, all_after, lt_of, of_lt, merged_rows_from_past, merged_rows_from_none}
+use Rattle.model.proofs.CallerLemmas.{both, first, second, changes_at_here, all_after, lt_of, of_lt, merged_rows_from_past, merged_rows_from_none, first_place}
 
 -- ---- tests of places
 
@@ -54,26 +54,13 @@ all_from-append n (e ∷ es) fs p q =
 
 -- ---- the order
 
--- what stands first is at a smaller place, or first at the same one
-sid_first : (a b : ℕ) (o : Ordering) → T (is_lt (ordering_then (nat_cmp a b) o)) → (a < b) ⊎ ((a ≡ b) × T (is_lt o))
-sid_first a b o h =
-    elim (nat_lt a b) as (λ l. nat_lt a b ≡ l → T (is_lt (ordering_then (cond l Less (cond (a == b) Equal Greater)) o))
-    → (a < b) ⊎ ((a ≡ b) × T (is_lt o))) [
-      | true ↦ λ is g. inl (grind (arith, nat_tests))
-      | false ↦ λ is g.
-          elim (a == b) as (λ l. (a == b) ≡ l → T (is_lt (ordering_then (cond l Equal Greater) o)) → (a < b) ⊎ ((a ≡ b) × T (is_lt o))) [
-            | true ↦ λ same k. inr (grind (arith, nat_tests), k)
-            | false ↦ λ same k. absurd k
-          ] refl g
-    ] refl h
-
 module _ (key_cols : ℕ) where
   -- the entries past one in order are at its place or past it
   pub from_head : (x : Entry) (es : List Entry) → T (list_all (λ y. is_lt (entry_cmp key_cols x y)) es) → T (all_from x.sid es)
   from_head x [] h = tt
   from_head x (y ∷ es) h =
       both (nat_le x.sid y.sid) _ (of_le x.sid y.sid
-      (at_least (sid_first x.sid y.sid (change_cmp key_cols x.change y.change) (first (is_lt (entry_cmp key_cols x y)) _ h))))
+      (at_least (first_place x.sid y.sid (change_cmp key_cols x.change y.change) (first (is_lt (entry_cmp key_cols x y)) _ h))))
       (from_head x es (second (is_lt (entry_cmp key_cols x y)) _ h))
     where
       at_least : (x.sid < y.sid) ⊎ ((x.sid ≡ y.sid) × T (is_lt (change_cmp key_cols x.change y.change))) → x.sid ≤ y.sid
@@ -90,7 +77,7 @@ module _ (key_cols : ℕ) where
       → T (list_all (λ y. is_lt (entry_cmp key_cols (entry_at n (Del key)) y)) es) → T (all_after n es)
   after_delete n key [] h = tt
   after_delete n key (y ∷ es) h =
-      both (nat_lt n y.sid) _ (of_lt n y.sid (past (sid_first n y.sid (change_cmp key_cols (Del key) y.change)
+      both (nat_lt n y.sid) _ (of_lt n y.sid (past (first_place n y.sid (change_cmp key_cols (Del key) y.change)
       (first (is_lt (entry_cmp key_cols (entry_at n (Del key)) y)) _ h))))
       (after_delete n key es (second (is_lt (entry_cmp key_cols (entry_at n (Del key)) y)) _ h))
     where

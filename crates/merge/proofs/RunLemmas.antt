@@ -13,24 +13,10 @@ use Rattle.values.specs.declared.value.Value.TheVariants.{Bool as Truth}
 use Rattle.model.specs.Table.{table_of, IsTable}
 use Rattle.model.proofs.CallerLemmas.{first, second}
 use Rattle.stable.specs.Rows.{column_values}
-use Rattle.stable.proofs.CallerLemmas.{fit_at, width_of}
+use Rattle.stable.proofs.CallerLemmas.{fit_at, width_of, run_of_block}
 use Rattle.merge.specs.Fitting.{StandsAt}
 use Rattle.merge.specs.Runs.{part_values}
 use Rattle.merge.specs.declared.run.ColumnPart.{ColumnPart}
-
--- a run of the block that has a place is a run of the values from there on
-pub run_in_block : (values : List Value) (at run : ℕ) → at % 1024 + run ≤ 1024
-    → take run (drop (at % 1024) (take 1024 (drop (1024 * (at / 1024)) values))) ≡ take run (drop at values)
-run_in_block values at run fits =
-    let q = at / 1024 in
-    let r = at % 1024 in
-    let left = 1024 - r in
-    let cut : 1024 ≡ r + left = omega arith in
-    let here : 1024 * q + r ≡ at = omega arith in
-    ap (λ n. take run (drop r (take n (drop (1024 * q) values)))) cut
-    ∙ ap (take run) (drop-take r left (drop (1024 * q) values))
-    ∙ take-take run left (drop r (drop (1024 * q) values)) (omega (arith, fits))
-    ∙ ap (take run) (drop-drop r (1024 * q) values ∙ ap (λ n. drop n values) here)
 
 -- the first of so many values, and the others
 pub part_next : (values : List Value) (first count n : ℕ) → n ≤ count

@@ -175,7 +175,7 @@ module _ (stable : Stable) (read write trans : Tree) (h : AreStacked stable read
 
 -- ---- no tree on top
 
-merged_rows-nothing : (rows : List Row) → merged_rows rows [] ≡ rows
+pub merged_rows-nothing : (rows : List Row) → merged_rows rows [] ≡ rows
 merged_rows-nothing rows = merged_rows_from_nothing 0 rows
 
 pub image_rows-none : (stable : Stable) (read write : Tree)

@@ -31,6 +31,7 @@ use Rattle.merge.specs.View.{modified_cells, modified_values, cells_at, layer_ce
 use Rattle.merge.specs.View.{values_of, with_cells}
 use Rattle.merge.specs.declared.view.RowView.{RowView}
 use Rattle.merge.proofs.LevelLemmas.{all_from-ordered, all_after-from}
+use Rattle.delta.proofs.CallerLemmas.{length-fits}
 
 -- ---- cells
 
@@ -300,18 +301,10 @@ inside [] sid h = absurd (omega arith)
 inside (row ∷ rows) zero h = omega arith
 inside (row ∷ rows) (suc sid) h = let next = inside rows sid h in omega arith
 
-fitting_width : (schema : Columns) (row : Row) → T (fits_schema schema row) → length row ≡ length schema.types
-fitting_width schema row h =
-    elim (length row == length schema.types) as (λ b. (length row == length schema.types) ≡ b
-    → T (is_none (cond b (values_fault 0 schema.types row) (Some WrongCount))) → length row ≡ length schema.types) [
-      | true ↦ λ e g. same_of (length row) (length schema.types) e
-      | false ↦ λ e g. absurd g
-    ] refl h
-
 widths : (schema : Columns) (rows : List Row) → T (list_all (λ e. fits_schema schema e.1) (table_of schema.key_cols rows))
     → (sid : ℕ) → sid < length rows → length (get_or rows sid []) ≡ length schema.types
 widths schema [] h sid lt = absurd (omega arith)
-widths schema (row ∷ rows) h zero lt = fitting_width schema row (first (fits_schema schema row) _ h)
+widths schema (row ∷ rows) h zero lt = length-fits schema row (first (fits_schema schema row) _ h)
 widths schema (row ∷ rows) h (suc sid) lt =
     let shorter : sid < length rows = omega arith in widths schema rows (second (fits_schema schema row) _ h) sid shorter
 

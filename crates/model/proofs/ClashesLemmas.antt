@@ -27,7 +27,7 @@ use Rattle.model.specs.declared.effect.Effect.TheVariants as effect
 use Rattle.model.specs.Entries.{entry_at, entries_of, canonical_entries}
 use Rattle.model.specs.Clashes.{clashes, modifies_clash, conflicts}
 use Rattle.model.specs.Rebasing.{columns_clash, clash_of_entries, or_clash, clash_with, or_else, first_clash_from, first_clash}
-use Rattle.model.proofs.MapsLemmas.{both, first, second, turn_greater, holds_at, changed_by, each_at, find_below, below_tied}
+use Rattle.model.proofs.MapsLemmas.{both, first, second, turn_greater, holds_at, changed_by, each_at, find_below, below_tied, equal, left_false, right_false}
 use Rattle.model.proofs.CompositionLemmas.{row_at-table_with}
 use Rattle.model.proofs.RebasingLemmas.{is_placed, rank-lt}
 use Rattle.model.proofs.EditsLemmas.{maybe_entries}
@@ -56,14 +56,6 @@ unclashed_at rule (effect.Rep r) (Some (effect.Ins s)) old p q free = tt
 unclashed_at rule (effect.Rep r) (Some effect.Del) old p q free = cc
 unclashed_at rule (effect.Rep r) (Some (effect.Mod d)) old p q free = cc
 unclashed_at rule (effect.Rep r) (Some (effect.Rep s)) old p q free = tt
-
-left_false : (a b : Bool) → (a || b) ≡ false → a ≡ false
-left_false true b e = cc
-left_false false b e = refl
-
-right_false : (a b : Bool) → (a || b) ≡ false → b ≡ false
-right_false true b e = cc
-right_false false b e = e
 
 pub all_fit-unclashed : (rule : ConflictRule) (t : Table) (x y : Effects) → T (is_sorted key_cmp y) → T (all_fit t x) → T (all_fit t y) →
     conflicts rule x y ≡ false → T (all_fit (table_with t y) x)
@@ -112,11 +104,6 @@ module _ (rule : ConflictRule) (key_cols : ℕ) where
   module _ (t : Table) where
     same_key : (j : Key) (row : Row) → T (eq_by_cmp key_cmp j (key_of key_cols row)) → key_of key_cols row ≡ j
     same_key j row h = sym (key_cmp-IsAntisymmetric j (key_of key_cols row) (equal _ h))
-      where
-        equal : (r : Ordering) → T (is_eq r) → r ≡ Equal
-        equal Less p = absurd p
-        equal Equal p = refl
-        equal Greater p = absurd p
 
     other_rank : (k j : Key) → eq_by_cmp key_cmp k j ≡ false → T (is_some (row_at t k)) → T (is_some (row_at t j))
         → (rank k t == rank j t) ≡ false
@@ -188,11 +175,6 @@ module _ (rule : ConflictRule) (key_cols : ℕ) where
                 ∙ only_here y (second _ _ hs) (second _ _ he) (second _ _ hf)
           ] refl
         where
-          equal : (r : Ordering) → T (is_eq r) → r ≡ Equal
-          equal Less p = absurd p
-          equal Equal p = refl
-          equal Greater p = absurd p
-
           or_none : (b : Bool) → (b || false) ≡ b
           or_none true = refl
           or_none false = refl

@@ -22,7 +22,7 @@ use Rattle.model.proofs.MapsLemmas.{both, first, second, less, changed_by, find-
 differ : (c d : ℕ) → nat_cmp c d ≡ Less → c ≢ d
 differ c d p e = let q : nat_cmp c d ≡ Equal = ap (nat_cmp c) (sym e) ∙ tied_itself nat_cmp_total c in cc
 
-set_cells_move : (c : ℕ) (v : Value) (cells : Cells) (row : Row) → T (below_all nat_cmp c cells)
+pub set_cells_move : (c : ℕ) (v : Value) (cells : Cells) (row : Row) → T (below_all nat_cmp c cells)
     → set_cells cells (set row c v) ≡ set (set_cells cells row) c v
 set_cells_move c v [] row h = refl
 set_cells_move c v (d ∷ cells) row h =

@@ -24,7 +24,7 @@ use Rattle.model.specs.declared.effect.Effect.{Effect}
 use Rattle.model.specs.declared.effect.Effect.TheVariants as effect
 use Rattle.model.specs.Entries.{entry_at, is_modify, entries_of, canonical_entries, change_cmp, entry_cmp}
 use Rattle.model.specs.Edits.{put_entry, is_insert_of, change_with_cell, put_ins, put_mod, put_del, take_ins, set_ins}
-use Rattle.model.proofs.MapsLemmas.{both, first, second, less, turn_less, turn_greater, find_below, below_less, find_past, store_past, without_below}
+use Rattle.model.proofs.MapsLemmas.{both, first, second, less, turn_less, turn_greater, find_below, below_less, find_past, store_past, without_below, equal, same_key, cmp_greater}
 use Rattle.model.proofs.RebasingLemmas.{is_placed, rank-le, rank-lt}
 
 -- ---- one key's entries, in the list of all
@@ -104,17 +104,9 @@ module _ (key_cols : ℕ) (t : Table) where
   keys_in_order : (j k : Key) (row other : Row) → T (eq_by_cmp key_cmp j (key_of key_cols row))
       → T (eq_by_cmp key_cmp k (key_of key_cols other)) → key_cmp (key_of key_cols row) (key_of key_cols other) ≡ key_cmp j k
   keys_in_order j k row other p q =
-      let left = sym (same_keys j (key_of key_cols row) p) in
-      let right = sym (same_keys k (key_of key_cols other) q) in
+      let left = sym (same_key j (key_of key_cols row) p) in
+      let right = sym (same_key k (key_of key_cols other) q) in
       λ i. key_cmp (left i) (right i)
-    where
-      equal : (r : Ordering) → T (is_eq r) → r ≡ Equal
-      equal Less p = absurd p
-      equal Equal p = refl
-      equal Greater p = absurd p
-
-      same_keys : (x y : Key) → T (eq_by_cmp key_cmp x y) → x ≡ y
-      same_keys x y h = key_cmp-IsAntisymmetric x y (equal _ h)
 
   cmp_less : (x y : ℕ) → x < y → nat_cmp x y ≡ Less
   cmp_less x y h =
@@ -122,14 +114,6 @@ module _ (key_cols : ℕ) (t : Table) where
         | Less ↦ λ q. refl
         | Equal ↦ λ q. let e : x ≡ y = ranked x y Equal (sym q) in absurd (omega arith)
         | Greater ↦ λ q. let g : y < x = ranked x y Greater (sym q) in absurd (omega arith)
-      ] refl
-
-  cmp_greater : (x y : ℕ) → y < x → nat_cmp x y ≡ Greater
-  cmp_greater x y h =
-      elim (nat_cmp x y) as (λ r. nat_cmp x y ≡ r → r ≡ Greater) [
-        | Less ↦ λ q. let l : x < y = ranked x y Less (sym q) in absurd (omega arith)
-        | Equal ↦ λ q. let e : x ≡ y = ranked x y Equal (sym q) in absurd (omega arith)
-        | Greater ↦ λ q. refl
       ] refl
 
   at_least : (x y : ℕ) (o : Ordering) → x ≤ y → o ≡ Less → ordering_then (nat_cmp x y) o ≡ Less
@@ -243,14 +227,6 @@ module _ (key_cols : ℕ) (t : Table) where
     not_it j n (Ins row) h hc =
         and_false (n == rank k t) (eq_by_cmp key_cmp k (key_of key_cols row))
         (ap (λ i. eq_by_cmp key_cmp k i) (sym (same_key j (key_of key_cols row) hc)) ∙ h)
-      where
-        equal : (r : Ordering) → T (is_eq r) → r ≡ Equal
-        equal Less p = absurd p
-        equal Equal p = refl
-        equal Greater p = absurd p
-
-        same_key : (x y : Key) → T (eq_by_cmp key_cmp x y) → x ≡ y
-        same_key x y h = key_cmp-IsAntisymmetric x y (equal _ h)
     not_it j n (Del key) h hc = and_false (n == rank k t) false refl
     not_it j n (Mod col value) h hc = and_false (n == rank k t) false refl
 

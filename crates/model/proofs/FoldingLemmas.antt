@@ -20,7 +20,7 @@ use Rattle.model.specs.declared.effect.Effect.{Effect}
 use Rattle.model.specs.declared.effect.Effect.TheVariants as effect
 use Rattle.model.specs.Entries.{entry_at, entries_of, canonical_entries}
 use Rattle.model.specs.Folding.{Upper, Lower, changes_meet, positions_meet, meet, fold_from, folded_entries}
-use Rattle.model.proofs.MapsLemmas.{both, first, second, less, turn_greater, below_head, below_less, find_below, alter_all_past, find_first, changed_by}
+use Rattle.model.proofs.MapsLemmas.{both, first, second, less, turn_greater, below_head, below_less, find_below, alter_all_past, find_first, changed_by, equal}
 use Rattle.model.proofs.MergingLemmas.{all_after, canonical_entries_from, canonical_entries_from_zero, canonical_entries_from_past, canonical_entries_from_after, rank_below, put_below, all_fit_past, found_here, canon_here, apply_here, apply_deleted}
 use Rattle.model.proofs.CompositionLemmas.{cells_ascend, row_at-table_with}
 use Rattle.model.proofs.FoldingSteps.{met, lowered_here, upper_first, lower_first, upper_here, neither_here, mods, mods_upper, mods_lower, mods_deleted, mods_after_insert, mods_into, mods_merged}
@@ -153,11 +153,6 @@ module _ (key_cols : ℕ) where
 
   key_is : (k : Key) (row : Row) → T (is_keyed k row) → key_of key_cols row ≡ k
   key_is k row h = sym (key_cmp-IsAntisymmetric k (key_of key_cols row) (equal _ h))
-    where
-      equal : (r : Ordering) → T (is_eq r) → r ≡ Equal
-      equal Less p = absurd p
-      equal Equal p = refl
-      equal Greater p = absurd p
 
   -- an insert of a key stands before the delete of a key that isn't smaller, and after that of a smaller one
   insert_meets_delete : (k g : Key) (new : Row) (r : Ordering) → T (is_keyed k new) → key_cmp k g ≡ r

@@ -16,17 +16,11 @@ use Rattle.model.specs.Effects.{Cells, set_cells}
 use Rattle.model.specs.Composition.{over_cells}
 use Rattle.model.specs.Entries.{entry_at}
 use Rattle.model.specs.Folding.{Meeting, Upper, Lower, Over, Neither, Into, columns_meet, changes_meet, positions_meet, meet, added_by, gone_by, lowered_entry, fold_one, fold_from}
-use Rattle.model.proofs.MapsLemmas.{first, second, less, turn_less, turn_greater, below_less}
+use Rattle.model.proofs.MapsLemmas.{first, second, less, turn_less, turn_greater, below_less, cmp_greater}
 use Rattle.model.proofs.MergingLemmas.{all_after, lt_of}
 
 cmp_less : (x y : ℕ) → x < y → nat_cmp x y ≡ Less
 cmp_less x y h = let t : nat_lt x y ≡ true = grind (arith, nat_tests) in ap (λ b. cond b Less (cond (x == y) Equal Greater)) t
-
-cmp_greater : (x y : ℕ) → y < x → nat_cmp x y ≡ Greater
-cmp_greater x y h =
-    let t : nat_lt x y ≡ false = grind (arith, nat_tests) in
-    let s : (x == y) ≡ false = grind (arith, nat_tests) in
-    ap (λ b. cond b Less (cond (x == y) Equal Greater)) t ∙ ap (λ b. cond b Equal Greater) s
 
 cmp_equal : (x y : ℕ) → x ≡ y → nat_cmp x y ≡ Equal
 cmp_equal x y e = ap (λ z. nat_cmp x z) (sym e) ∙ tied_itself nat_cmp_total x

@@ -14,12 +14,12 @@ use Rattle.model.specs.Laws.{LeavesTable, WriteKeeps, WritesKeep, RebasesEntries
 use Rattle.model.proofs.TurnsLemmas.{over-table_with_all}
 
 -- the first of two tests that both hold
-left_true : (a b : Bool) → IsTrue (a && b) → IsTrue a
+pub left_true : (a b : Bool) → IsTrue (a && b) → IsTrue a
 left_true true b h = refl
 left_true false b h = h
 
 -- and the second
-right_true : (a b : Bool) → IsTrue (a && b) → IsTrue b
+pub right_true : (a b : Bool) → IsTrue (a && b) → IsTrue b
 right_true true b h = h
 right_true false b h = cc
 

@@ -29,7 +29,7 @@ same_of : (a b : ℕ) → (a == b) ≡ true → a ≡ b
 same_of a b h = grind (arith, nat_tests)
 
 -- what stands first is at a smaller place, or first at the same one
-first_place : (a b : ℕ) (o : Ordering) → T (is_lt (ordering_then (nat_cmp a b) o)) → (a < b) ⊎ ((a ≡ b) × T (is_lt o))
+pub first_place : (a b : ℕ) (o : Ordering) → T (is_lt (ordering_then (nat_cmp a b) o)) → (a < b) ⊎ ((a ≡ b) × T (is_lt o))
 first_place a b o h =
     elim (nat_lt a b) as (λ l. nat_lt a b ≡ l → T (is_lt (ordering_then (cond l Less (cond (a == b) Equal Greater)) o))
     → (a < b) ⊎ ((a ≡ b) × T (is_lt o))) [

@@ -143,7 +143,7 @@ fits_other j g t (e ∷ effects) h =
     let found = find-alter key_cmp key_cmp_total j g t e.0 ∙ ap (λ r. cond (is_eq r) (g (row_at t j)) (row_at t e.0)) apart in
     λ i. fits (found i) e.1 && fits_other j g t effects (second _ _ h) i
 
-add_up : (d e i j n m r : ℕ) → e + n ≡ j + m → d + m ≡ i + r → (d + e) + n ≡ (i + j) + r
+pub add_up : (d e i j n m r : ℕ) → e + n ≡ j + m → d + m ≡ i + r → (d + e) + n ≡ (i + j) + r
 add_up d e i j n m r p q = omega arith
 
 -- effects move a rank by their inserts less their deletes on smaller keys

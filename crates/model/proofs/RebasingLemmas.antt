@@ -23,7 +23,7 @@ use Rattle.model.specs.Entries.{entry_at, entries_of, canonical_entries}
 use Rattle.model.specs.declared.clash.ConflictRule.{ConflictRule}
 use Rattle.model.specs.Clashes.{clashes, conflicts}
 use Rattle.model.specs.Rebasing.{stands_first, inserts_before, deletes_before, rebased_entry, rebased_entries}
-use Rattle.model.proofs.MapsLemmas.{both, first, second, less, turn_greater, holds_at, each_at, find_below, below_tied}
+use Rattle.model.proofs.MapsLemmas.{both, first, second, less, turn_greater, holds_at, each_at, find_below, below_tied, equal, same_key, left_false, right_false}
 use Rattle.model.proofs.RankLemmas.{is_below, one_if, rank-cons, inserts_of, deletes_of, sum_below, rank-table_with}
 
 -- ---- ranks of greater keys
@@ -60,18 +60,8 @@ rank-lt j k (e ∷ t) p h =
           let rest = rank-lt j k t p g in
           omega (arith, rank-cons j e t, rank-cons k e t)
     ] refl h
-  where
-    equal : (r : Ordering) → T (is_eq r) → r ≡ Equal
-    equal Less p = absurd p
-    equal Equal p = refl
-    equal Greater p = absurd p
 
 -- ---- an entry against an entry
-
-equal : (r : Ordering) → T (is_eq r) → r ≡ Equal
-equal Less p = absurd p
-equal Equal p = refl
-equal Greater p = absurd p
 
 up_test : (a b : ℕ) (f : Bool) → a ≤ b → f ≡ true → (nat_lt a b || ((a == b) && f)) ≡ true
 up_test a b f le is = grind (arith, nat_tests)
@@ -88,9 +78,6 @@ lt_test a b lt = grind (arith, nat_tests)
 ge_test : (a b : ℕ) → b ≤ a → nat_lt a b ≡ false
 ge_test a b le = grind (arith, nat_tests)
 
-same_keys : (x y : Key) → T (eq_by_cmp key_cmp x y) → x ≡ y
-same_keys x y h = key_cmp-IsAntisymmetric x y (equal _ h)
-
 module _ (key_cols : ℕ) (t : Table) where
   -- whether the change may stand at the place of the key
   abbrev pub is_placed : Key → Change → Bool
@@ -101,8 +88,8 @@ module _ (key_cols : ℕ) (t : Table) where
   first_test : (j k : Key) (row other : Row) → T (eq_by_cmp key_cmp j (key_of key_cols row))
       → T (eq_by_cmp key_cmp k (key_of key_cols other)) → stands_first key_cols (Ins row) (Ins other) ≡ is_below j k
   first_test j k row other p q =
-      let left = sym (same_keys j (key_of key_cols row) p) in
-      let right = sym (same_keys k (key_of key_cols other) q) in
+      let left = sym (same_key j (key_of key_cols row) p) in
+      let right = sym (same_key k (key_of key_cols other) q) in
       λ i. is_below (left i) (right i)
 
   -- an insert of another key stands before a placed change where its key is smaller
@@ -270,14 +257,6 @@ spread p k (e ∷ y) h found =
           both _ _ g (spread p k y (second _ _ h) (subst (λ v. T (holds_at p v)) (sym none) tt))
       | false ↦ λ q g. spread p k y (second _ _ h) g
     ] refl found
-
-left_false : (a b : Bool) → (a || b) ≡ false → a ≡ false
-left_false true b e = cc
-left_false false b e = refl
-
-right_false : (a b : Bool) → (a || b) ≡ false → b ≡ false
-right_false true b e = cc
-right_false false b e = e
 
 module _ (key_cols : ℕ) (t : Table) (y : Effects) (ht : T (is_sorted key_cmp t)) (hy : T (are_keyed_effects key_cols y))
     (fy : T (all_fit t y)) where

@@ -8,12 +8,7 @@ use Rattle.values.specs.declared.row.Row.{Row}
 use Rattle.model.specs.Maps.{is_sorted}
 use Rattle.model.specs.Table.{Table, rows_of, is_keyed_table, table_of}
 use Rattle.values.specs.Shape.{key_of}
-use Rattle.model.proofs.MapsLemmas.{both, first, second}
-
-equal : (r : Ordering) → T (is_eq r) → r ≡ Equal
-equal Less p = absurd p
-equal Equal p = refl
-equal Greater p = absurd p
+use Rattle.model.proofs.MapsLemmas.{both, first, second, equal}
 
 module _ (key_cols : ℕ) where
   pub rows_of-table_of : (rs : List Row) → rows_of (table_of key_cols rs) ≡ rs

@@ -127,8 +127,8 @@ module _ (key_cols limit : ℕ) (t : Table) (es : Effects) (ht : T (is_keyed_tab
     pub fit_so_far : T (holds_at (fits (row_at t k)) (find key_cmp k es))
     fit_so_far = each_at key_cmp key_cmp_total key_cmp-IsAntisymmetric (λ j f. fits (row_at t j) f) es fe k
 
-    pub here : (f : Effect) → T (fits (row_at (table_with t es) k) f) → fits_now f
-    here f h = subst (λ old. T (fits old f)) (row_at-table_with t es k sorted) h
+    pub fits_here : (f : Effect) → T (fits (row_at (table_with t es) k) f) → fits_now f
+    fits_here f h = subst (λ old. T (fits old f)) (row_at-table_with t es k sorted) h
 
   by_write : (write : Write) → T (is_done (reply_to key_cols limit t es write))
       → canonical_entries t (alter key_cmp (key_of_write key_cols write) (composed_effect (effect_of_write write)) es)
@@ -136,14 +136,14 @@ module _ (key_cols limit : ℕ) (t : Table) (es : Effects) (ht : T (is_keyed_tab
       (canonical_entries t es)
   by_write (Insert row) done =
       let k = key_of key_cols row in
-      inserted row (find key_cmp k es) refl (fit_so_far k) (here k (Ins row)
+      inserted row (find key_cmp k es) refl (fit_so_far k) (fits_here k (Ins row)
       (done_fits key_cols limit t es ht he fe (row_at (table_with t es) k) (length (table_with t es)) (Insert row) done))
   by_write (Delete k) done =
-      deleted k (find key_cmp k es) refl (fit_so_far k) (here k Del
+      deleted k (find key_cmp k es) refl (fit_so_far k) (fits_here k Del
       (done_fits key_cols limit t es ht he fe (row_at (table_with t es) k) (length (table_with t es)) (Delete k) done))
   by_write (Set k col value) done =
       modified k col value (find key_cmp k es) refl (fit_so_far k)
-      (here k (Mod ((col, value) ∷ []))
+      (fits_here k (Mod ((col, value) ∷ []))
       (done_fits key_cols limit t es ht he fe (row_at (table_with t es) k) (length (table_with t es)) (Set k col value) done))
 
   -- a write that is done edits the tree at its key's place, and another leaves it

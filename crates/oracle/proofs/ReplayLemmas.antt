@@ -14,16 +14,8 @@ use Rattle.model.specs.declared.write.CommitReply.{CommitReply}
 use Rattle.model.specs.Maps.{alter}
 use Rattle.model.specs.Composition.{composed_effect}
 use Rattle.model.specs.Writes.{write_fits_schema, key_of_write, effect_of_write, is_done, effects_after, effects_after_all}
-use Rattle.model.proofs.CallerLemmas.{IsSnapshot-table_after, IsSnapshot-any, due_reply-cut}
+use Rattle.model.proofs.CallerLemmas.{IsSnapshot-table_after, IsSnapshot-any, due_reply-cut, left_true, right_true}
 use Rattle.oracle.specs.Replay.{GotDueReplies, effects_when, effects_when_all, keyed_by, snapshot_at, IsDue, IsDueAs, AreDueFrom, AllFitSchema, AreTables, AllBeginFrom}
-
-both_first : (a b : Bool) → IsTrue (a && b) → IsTrue a
-both_first true b h = refl
-both_first false b h = h
-
-both_second : (a b : Bool) → IsTrue (a && b) → IsTrue b
-both_second true b h = h
-both_second false b h = cc
 
 -- ---- one record
 
@@ -93,16 +85,16 @@ module _ (schema : Columns) (start : Start) (older : List Table) where
       AreDueFrom schema.key_cols start older commits history → IsLegalFrom schema start commits history
   legal-due commits [] fitting tables due = tt
   legal-due commits (r ∷ history) fitting tables due = (
-    to_legal commits r (both_first _ _ fitting) tables due.0,
-    legal-due (commits_after schema start commits r) history (both_second _ _ fitting) tables due.1,
+    to_legal commits r (left_true _ _ fitting) tables due.0,
+    legal-due (commits_after schema start commits r) history (right_true _ _ fitting) tables due.1,
   )
 
   pub due-legal : (commits : List Effects) (history : List Record) → AllBeginFrom start.base history →
       IsLegalFrom schema start commits history → AreDueFrom schema.key_cols start older commits history
   due-legal commits [] above legal = tt
   due-legal commits (r ∷ history) above legal = (
-    to_due commits r (both_first _ _ above) legal.0,
-    due-legal (commits_after schema start commits r) history (both_second _ _ above) legal.1,
+    to_due commits r (left_true _ _ above) legal.0,
+    due-legal (commits_after schema start commits r) history (right_true _ _ above) legal.1,
   )
 
 -- ---- the record at hand

@@ -16,12 +16,7 @@ use Rattle.blocks.specs.Column.{Column}
 use Rattle.stable.specs.Rows.{AreEven, row_count}
 use Rattle.stable.specs.declared.fault.BuildFault.{BuildFault}
 use Rattle.pdt_c.specs.Filling.{given_at, text_of, value_at, AllGiven, AreFirst, Given, IsFilled}
-
-not_utf8 : (bs : List ℕ) → ¬ (IsUtf8 bs) → is_utf8 bs ≡ false
-not_utf8 bs h = elim (cases_Bool (is_utf8 bs)) [
-  | inl e ↦ absurd (h (IsUtf8-from_is_utf8 bs e))
-  | inr e ↦ e
-]
+use Rattle.inputs.proofs.CallerLemmas.{not_utf8}
 
 lt_false : (a b : ℕ) → b ≤ a → nat_lt a b ≡ false
 lt_false a b h = grind (arith, nat_tests)

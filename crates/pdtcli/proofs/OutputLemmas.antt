@@ -21,6 +21,7 @@ use Rattle.pdtcli.specs.Shown.{row_fields}
 use Rattle.inputs.specs.Reading.{Fields}
 use Rattle.pdtcli.specs.Replies.{line_fields}
 use Rattle.pdtcli.specs.declared.reply.ReplyLine.{ReplyLine}
+use Rattle.inputs.proofs.CallerLemmas.{drop-slice_get}
 
 -- ---- texts
 
@@ -50,11 +51,6 @@ lines_text-more start clients lines line =
 
 -- ---- the header
 
-pub slice_get-drop : {X : Type 0} (xs : List X) (i : ℕ) (x : X) → slice_get xs i ≡ Some x → drop i xs ≡ x ∷ drop (suc i) xs
-slice_get-drop [] i x e = cc e
-slice_get-drop (y ∷ xs) zero x e = ap (λ z. z ∷ xs) (cc e)
-slice_get-drop (y ∷ xs) (suc i) x e = slice_get-drop xs i x e
-
 -- one header cell more
 pub header_cells-more :
     (before : Fields) (key_cols at : ℕ) (names : List (List ℕ)) (types : List ColumnType) (name : List ℕ) (type : ColumnType)
@@ -63,7 +59,7 @@ pub header_cells-more :
     ≡ (before ++ (name ++ kind_text type (nat_lt at key_cols)) ∷ [])
     ++ header_cells key_cols (suc at) (drop (suc at) names) (drop (suc at) types)
 header_cells-more before key_cols at names types name type n t =
-    rw (slice_get-drop names at name n, slice_get-drop types at type t)
+    rw (drop-slice_get names at name n, drop-slice_get types at type t)
     (sym (append_assoc before ((name ++ kind_text type (nat_lt at key_cols)) ∷ [])
     (header_cells key_cols (suc at) (drop (suc at) names) (drop (suc at) types))))
 

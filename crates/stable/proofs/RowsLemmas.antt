@@ -66,7 +66,7 @@ fit_at types row col lt h =
 pub width_of : (types : List ColumnType) (row : Row) → list_fault types row ≡ None → length row ≡ length types
 width_of types row h = same_count (length row) (length types) (counted (length row == length types) (values_fault 0 types row) h).0
 
-both_true : (a b : Bool) → a ≡ true → b ≡ true → (a && b) ≡ true
+pub both_true : (a b : Bool) → a ≡ true → b ≡ true → (a && b) ≡ true
 both_true true b p q = q
 both_true false b p q = p
 

@@ -9,7 +9,7 @@ pub length-run : (values : List Value) (start run : ℕ) → start + run ≤ len
 length-run values start run within = omega (arith, length-take run (drop start values), length-drop start values)
 
 -- a run of the block that has a place is a run of the values from there on
-run_of_block : (values : List Value) (at run : ℕ) → at % 1024 + run ≤ 1024
+pub run_of_block : (values : List Value) (at run : ℕ) → at % 1024 + run ≤ 1024
     → take run (drop (at % 1024) (take 1024 (drop (1024 * (at / 1024)) values))) ≡ take run (drop at values)
 run_of_block values at run fits =
     let q = at / 1024 in

@@ -11,10 +11,7 @@ use Rattle.values.specs.declared.value.Value.TheVariants.{Int, Text, Bool as Tru
 use Rattle.values.specs.declared.limits.TheConstants.{MAX_TEXT_BYTES}
 use Rattle.blocks.specs.Column.{Fits, AllFit}
 use Rattle.stable.specs.Column.{may_stand, all_may_stand}
-
-all_true : (a b : Bool) → a ≡ true → b ≡ true → (a && b) ≡ true
-all_true true b p q = q
-all_true false b p q = p
+use Rattle.stable.proofs.RowsLemmas.{both_true}
 
 stands : (a b : Bool) → a ≡ true → b ≡ false → (a && not b) ≡ true
 stands true false p q = refl
@@ -23,12 +20,12 @@ stands false b p q = p
 
 -- a value that is typed and short may stand
 pub one_stands : (ty : ColumnType) (v : Value) → has_type ty v ≡ true → is_too_long v ≡ false → all_may_stand ty (v ∷ [])
-one_stands ty v typed short = all_true (may_stand ty v) true (stands (has_type ty v) (is_too_long v) typed short) refl
+one_stands ty v typed short = both_true (may_stand ty v) true (stands (has_type ty v) (is_too_long v) typed short) refl
 
 pub more_stand : (ty : ColumnType) (values more : List Value) → all_may_stand ty values → all_may_stand ty more
     → all_may_stand ty (values ++ more)
 more_stand ty values more h k =
-    list_all-append (may_stand ty) values more ∙ all_true (list_all (may_stand ty) values) (list_all (may_stand ty) more) h k
+    list_all-append (may_stand ty) values more ∙ both_true (list_all (may_stand ty) values) (list_all (may_stand ty) more) h k
 
 fit_stands : (ty : ColumnType) (v : Value) → Fits ty v → may_stand ty v ≡ true
 fit_stands column.Int (Int x) h = refl
@@ -48,4 +45,4 @@ fit_stands column.Bool (Text t) h = absurd h
 pub block_stands : (ty : ColumnType) (values : List Value) → AllFit ty values → all_may_stand ty values
 block_stands ty [] h = refl
 block_stands ty (v ∷ values) h =
-    all_true (may_stand ty v) (list_all (may_stand ty) values) (fit_stands ty v h.0) (block_stands ty values h.1)
+    both_true (may_stand ty v) (list_all (may_stand ty) values) (fit_stands ty v h.0) (block_stands ty values h.1)

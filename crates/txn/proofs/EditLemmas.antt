@@ -17,17 +17,8 @@ use Rattle.model.specs.Writes.{key_of_write}
 use Rattle.delta.specs.Changes.{has_cell}
 use Rattle.delta.specs.Lookups.{row_of, inserted_row}
 use Rattle.delta.specs.Search.{insert_cmp, stands_before, IsSplit}
-use Rattle.delta.proofs.CallerLemmas.{HasInsert, has_insert, nothing}
+use Rattle.delta.proofs.CallerLemmas.{HasInsert, has_insert, nothing, some_of, cell_of}
 use Rattle.txn.specs.Edit.{edited, MayBeEdited}
-
-some_of : (o : Option Row) (P : Row → Type 0) → IsSomeAnd o P → is_some o ≡ true
-some_of None P h = absurd h
-some_of (Some row) P h = refl
-
-cell_of : (col : ℕ) (c : Change) → IsSomeAnd (row_of c) (λ row. col < length row) → has_cell col c
-cell_of col (Ins row) h = h
-cell_of col (Del key) h = absurd h
-cell_of col (Mod other value) h = absurd h
 
 module _ (k sid n : ℕ) (es : List Entry) (ordered : IsTrue (are_ordered k es)) (inserted : Bool) (yes : inserted ≡ true)
     (write : Write) (split : IsSplit (stands_before (insert_cmp k (key_of_write k write)) sid) es n)

@@ -12,11 +12,7 @@ use Rattle.model.proofs.CallerLemmas.{both, first, second}
 use Rattle.txn.specs.Txn.{Transaction, asked_of, tree_of, IsTransaction, IsAnswered}
 use Rattle.txn.specs.Marks.{Marked, mark_of, with_first, IsMark, GoesOn, MarksStand}
 use Rattle.txn.proofs.TxnLemmas.{is_true}
-
-list_all-take : {A : Type 0} (p : A → Bool) (n : ℕ) (xs : List A) → T (list_all p xs) → T (list_all p (take n xs))
-list_all-take p zero xs h = tt
-list_all-take p (suc n) [] h = tt
-list_all-take p (suc n) (x ∷ xs) h = both (p x) _ (first (p x) _ h) (list_all-take p n xs (second (p x) _ h))
+use Rattle.delta.proofs.CallerLemmas.{all_take}
 
 -- the replies to the first writes are the first replies
 replies_to-take : (key_cols limit : ℕ) (t : Table) (n : ℕ) (x : Effects) (writes : List Write)
@@ -38,7 +34,7 @@ module _ (txn : Transaction) (h : IsTransaction txn) (count : ℕ) where
     limited = h.limited;
     fitting =
         ap (list_all (write_fits_schema txn.schema)) asked-first
-        ∙ is_true _ (list_all-take (write_fits_schema txn.schema) count (asked_of txn)
+        ∙ is_true _ (all_take (write_fits_schema txn.schema) count (asked_of txn)
         (T_from_true (list_all (write_fits_schema txn.schema) (asked_of txn)) h.fitting));
     answered =
         sym (take-map (λ (w : Write × WriteReply). w.1) count txn.writes)

@@ -21,11 +21,11 @@ use Rattle.model.specs.Effects.{Effects, fits, row_after, all_fit, are_keyed_eff
 use Rattle.model.specs.Writes.{write_fits_schema, key_of_write, reply_where, reply_to, is_done, effects_after, replies_to, effects_after_all}
 use Rattle.model.specs.Entries.{are_ordered, canonical_entries}
 use Rattle.model.specs.Edits.{edited_entries}
-use Rattle.model.proofs.CallerLemmas.{both, first, second, changed_by, holds_at, all_keep, keeps, edits, length-effects_after, ordered-canonical_entries}
+use Rattle.model.proofs.CallerLemmas.{both, first, second, changed_by, holds_at, all_keep, keeps, edits, length-effects_after, ordered-canonical_entries, rank-le-length}
 use Rattle.delta.specs.Search.{insert_cmp, stands_before, IsSplit}
 use Rattle.delta.specs.Tree.{Tree}
 use Rattle.delta.specs.Laws.{row_inserted, deletes_row, FindsEffect, MayEdit}
-use Rattle.delta.proofs.CallerLemmas.{finds_effect, may_call, few}
+use Rattle.delta.proofs.CallerLemmas.{finds_effect, may_call, length-entries_over}
 use Rattle.txn.specs.Edit.{edited, MayBeEdited}
 use Rattle.txn.specs.Txn.{Transaction, asked_of, answers_of, effects_of, image_of, entries_of, tree_of, IsTransaction, IsFound, with_write, answer_to}
 
@@ -140,7 +140,7 @@ module _ (txn : Transaction) (h : IsTransaction txn) where
 
   pub entries_few : length (entries_of txn) ≤ 2 ^ 40
   entries_few =
-      let bound = few txn.schema txn.table (effects_of txn) h.lawful over in
+      let bound = length-entries_over txn.schema txn.table (effects_of txn) h.lawful over in
       let limited : txn.limit ≤ 2147483647 = h.limited in
       let within = image_within in
       let table = h.within in
@@ -236,9 +236,6 @@ seen txn self view write columns key_cols key sid count there inserted reply fit
     subst (λ (t : Transaction). IsSeen t write sid inserted reply) (sym view)
     (record { fits = fits_it; sid_is = here.sid_is; inserted_is = here.inserted_is; due = due })
 
-rank-le : (key : Key) (t : Table) → rank key t ≤ length t
-rank-le key t = omega (arith, length-filter (λ e. is_lt (key_cmp e.0 key)) t, count_by-le-length (λ e. is_lt (key_cmp e.0 key)) t)
-
 -- its tree is in order, and what is found of a key's place is of it
 module _ (txn : Transaction) (h : IsTransaction txn) (tree : Tree) (tree_is : tree ≡ tree_of txn) where
   pub tree_ordered : IsTrue (are_ordered tree.key_cols tree.entries)
@@ -266,7 +263,7 @@ module _ (txn : Transaction) (h : IsTransaction txn) (tree : Tree) (tree_is : tr
   pub seen_place : sid ≤ 2147483647
   seen_place =
       let limited : txn.limit ≤ 2147483647 = h.limited in
-      omega (arith, s.sid_is, rank-le (key_of_write txn.schema.key_cols write) txn.table, h.within, limited)
+      omega (arith, s.sid_is, rank-le-length (key_of_write txn.schema.key_cols write) txn.table, h.within, limited)
 
   abbrev edited_tree : Tree → ℕ → Bool → List Entry
   edited_tree t n b = edited t.key_cols n b write t.entries

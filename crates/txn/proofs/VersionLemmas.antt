@@ -10,13 +10,10 @@ use Rattle.model.proofs.CallerLemmas.{leaves, merged_rows_from_nothing, rows_of-
 use Rattle.delta.specs.Tree.{Tree}
 use Rattle.stable.specs.Stable.{Stable, IsStable, table_in}
 use Rattle.merge.specs.Image.{IsLayer, AreStacked, stack_of, stack_below, image_rows, image_table}
-use Rattle.merge.proofs.CallerLemmas.{layer_rows}
+use Rattle.merge.proofs.CallerLemmas.{layer_rows, merged_rows-nothing}
 use Rattle.txn.specs.Version.{Lower, lower_rows, lower_table, AreLower, alone, version_of, version_at, empty_tree}
 
 -- ---- no entries
-
-pub merged_rows-nothing : (rows : List Row) → merged_rows rows [] ≡ rows
-merged_rows-nothing rows = merged_rows_from_nothing 0 rows
 
 abbrev pub no_layer : (schema : Columns) (t : Table) → IsTable schema t → IsLayer schema t (empty_tree schema.key_cols)
 no_layer schema t h = record {

@@ -1,7 +1,7 @@
 use Rattle.std.proofs.Common.{◌≡◌, ◌+◌, ap, arith}
 use Rattle.merge.specs.Cursor.{TreeCursor}
-use Rattle.merge.proofs.CursorLemmas.{next_is}
 use Rattle.merge.proofs.cursor.Cursor.advance.Goals as goal
+use Rattle.delta.proofs.CallerLemmas.{next_is}
 
 pub overflow_add-self : goal.overflow_add-self
 overflow_add-self c =

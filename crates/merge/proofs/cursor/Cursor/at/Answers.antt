@@ -1,7 +1,7 @@
 use Rattle.merge.specs.Cursor.{TreeCursor}
 use Rattle.merge.proofs.PlaceLemmas.{start_found}
-use Rattle.merge.proofs.CursorLemmas.{next_is}
 use Rattle.merge.proofs.cursor.Cursor.at.Goals as goal
+use Rattle.delta.proofs.CallerLemmas.{next_is}
 
 pub invariant_of-result : goal.invariant_of-result
 invariant_of-result c =

@@ -3,8 +3,9 @@ use Rattle.std.proofs.lemmas.List.{length-drop, length-take}
 use Rattle.values.specs.declared.value.Value.{Value}
 use Rattle.blocks.specs.Column.{Column}
 use Rattle.merge.specs.Runs.{run_values}
-use Rattle.merge.proofs.RunLemmas.{run_in_block, part_next}
+use Rattle.merge.proofs.RunLemmas.{part_next}
 use Rattle.merge.proofs.run.ColumnPart.next_run.Goals as goal
+use Rattle.stable.proofs.CallerLemmas.{run_of_block}
 
 pub run_of-requires : goal.run_of-requires
 run_of-requires c =
@@ -28,7 +29,7 @@ returns-clause-values c =
     let run : run_values c.run_of.result ≡ take n (drop part.first values) =
     c.run_of.ensures.values
     ∙ ap (λ (b : Column). take n (drop (part.first % 1024) b.values)) c.block-block.ensures
-    ∙ run_in_block values part.first n (omega (arith, c.min-count.ensures)) in
+    ∙ run_of_block values part.first n (omega (arith, c.min-count.ensures)) in
     part_next values part.first part.count n (omega (arith, c.min-count.ensures))
     ∙ ap (λ vs. vs ++ take (part.count - n) (drop (part.first + n) values)) (sym run)
 

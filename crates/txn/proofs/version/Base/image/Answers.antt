@@ -4,8 +4,9 @@ use Rattle.delta.specs.Tree.{Tree}
 use Rattle.stable.specs.Stable.{Stable}
 use Rattle.merge.specs.Image.{AreBothStacked, image_rows, image_table, stack_below}
 use Rattle.txn.specs.Version.{Lower, lower_rows}
-use Rattle.txn.proofs.VersionLemmas.{image_table-below, merged_rows-nothing}
+use Rattle.txn.proofs.VersionLemmas.{image_table-below}
 use Rattle.txn.proofs.version.Base.image.Goals as goal
+use Rattle.merge.proofs.CallerLemmas.{merged_rows-nothing}
 
 pub committed-requires : goal.committed-requires
 committed-requires c =
