@@ -23,6 +23,7 @@ use Rattle.blocks.proofs.CallerLemmas.{both_held}
 
 -- ---- texts
 
+-- bytes that aren't UTF-8 fail the test for it
 pub not_utf8 : (bs : List ℕ) → ¬ (IsUtf8 bs) → is_utf8 bs ≡ false
 not_utf8 bs h = elim (cases_Bool (is_utf8 bs)) [
   | inl e ↦ absurd (h (IsUtf8-from_is_utf8 bs e))

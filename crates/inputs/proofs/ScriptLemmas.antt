@@ -34,6 +34,7 @@ drop-no_field [] i e = drop-nil i
 drop-no_field (f ∷ fields) zero e = cc e
 drop-no_field (f ∷ fields) (suc i) e = drop-no_field fields i e
 
+-- from a place on, a list is what stands there and what stands after it
 pub drop-slice_get : {X : Type 0} (xs : List X) (i : ℕ) (x : X) → slice_get xs i ≡ Some x → drop i xs ≡ x ∷ drop (suc i) xs
 drop-slice_get [] i x e = cc e
 drop-slice_get (y ∷ xs) zero x e = let same : y ≡ x = cc e in ap (λ z. z ∷ xs) same

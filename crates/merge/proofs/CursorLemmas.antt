@@ -38,6 +38,7 @@ apart a b h = grind (arith, nat_tests)
 
 -- ---- a list at a place
 
+-- from a place on, a list is what stands there and what stands after it
 pub drop-at : {X : Type 0} (xs : List X) (n : ℕ) (x : X) → slice_get xs n ≡ Some x → drop n xs ≡ x ∷ drop (n + 1) xs
 drop-at [] n x is = cc
 drop-at (y ∷ xs) zero x is = let same : y ≡ x = some_same y x is in ap (λ z. z ∷ xs) same

@@ -123,6 +123,7 @@ module _ (schema : Columns) where
         subst (λ n. IsOver schema.key_cols 0 n tree.entries) count
         (subst (IsOver schema.key_cols 0 (length t)) (sym h.entries) (over-canonical_entries t h.effects h.over))
 
+    -- the layer's entries make of those rows the rows of the table after its effects
     pub layer_rows : merged_rows rows tree.entries ≡ rows_of (table_with t h.effects)
     layer_rows = (λ i. merged_rows (same i) (h.entries i)) ∙ merges t h.effects h.over
 
@@ -175,6 +176,7 @@ module _ (stable : Stable) (read write trans : Tree) (h : AreStacked stable read
 
 -- ---- no tree on top
 
+-- no entries leave the rows as they are
 pub merged_rows-nothing : (rows : List Row) → merged_rows rows [] ≡ rows
 merged_rows-nothing rows = merged_rows_from_nothing 0 rows
 

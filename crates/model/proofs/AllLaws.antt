@@ -58,6 +58,7 @@ module _ (schema : Columns) where
   pub merges : MergesToTable schema
   merges t x h = let k = tests t x h in merged_rows-canonical_entries t x (first _ _ k.table) (first _ _ k.effects) k.fit
 
+  -- effects over a table leave a table of the schema
   pub leaves : LeavesTable schema
   leaves t x h =
       let k = tests t x h in
@@ -66,6 +67,7 @@ module _ (schema : Columns) where
         fitting = is_true _ (table_with-fits schema t x (first _ _ k.table) (first _ _ k.effects) k.rows_fit k.effects_fit);
       }
 
+  -- a transaction's effects and then another's, composed, are over the first table and leave what both leave in turn
   pub composes : ComposesInTurn schema
   composes t x f h g =
       let k = tests t x h in
@@ -91,6 +93,7 @@ module _ (schema : Columns) where
       (effect_of_write-fits schema write is)
   written_fit x write false sorted h is = h
 
+  -- the effects after a write that fits the schema are over the snapshot still
   pub keeps : WriteKeeps schema
   keeps limit t x write h is =
       let k = tests t x h in
@@ -104,15 +107,18 @@ module _ (schema : Columns) where
         fit = kept.fit;
       })
 
+  -- a write that is done is one edit of the entries, and any other leaves them
   pub edits : WriteEdits schema
   edits limit t x write h = let k = tests t x h in canonical_entries-written schema.key_cols limit t x k.table k.effects k.fit write
 
+  -- two transactions conflict just where a first clash of their entries is found
   pub finds : ConflictIsFound schema
   finds rule t x y h g =
       let k = tests t x h in
       let l = tests t y g in
       first_clash-canonical_entries rule schema.key_cols t x y k.effects l.effects k.fit l.fit
 
+  -- without a conflict the one's effects are over the table after the other's, and its rebased entries are those there
   pub rebases : RebasesEntries schema
   rebases rule t x y h g free =
       let k = tests t x h in
@@ -139,19 +145,23 @@ module _ (schema : Columns) where
         f_fits = l.fit;
       })
 
+  -- the entries of effects over a table stand in order, none past the last row
   pub ordered : EntriesAreOrdered schema
   ordered t x h =
       let k = tests t x h in
       record { ordered = is_true _ (ordered-canonical_entries schema.key_cols t x k.effects k.fit); placed = canonical_entries-placed t x }
 
+  -- the effects after writes in order, each fitting the schema, are over the snapshot still
   pub all_keep : WritesKeep schema
   all_keep = over-effects_after_all schema keeps
 
   pub decides : DecidesInTurn schema
   decides = passed_entries-trees_of schema rebases finds
 
+  -- effects that conflict with none of the commits since are over the newest table
   pub fits_newest : FitsTheNewest schema
   fits_newest = over-table_with_all schema rebases
 
+  -- the commits of a legal history are each over the table that it found
   pub commits_fit : LegalCommitsFit schema
   commits_fit = AreCommits-commits_of schema leaves keeps rebases

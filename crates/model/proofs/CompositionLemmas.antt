@@ -22,6 +22,7 @@ use Rattle.model.proofs.MapsLemmas.{both, first, second, less, changed_by, find-
 differ : (c d : ℕ) → nat_cmp c d ≡ Less → c ≢ d
 differ c d p e = let q : nat_cmp c d ≡ Equal = ap (nat_cmp c) (sym e) ∙ tied_itself nat_cmp_total c in cc
 
+-- a cell of a lower column than all the others may be set before or after them
 pub set_cells_move : (c : ℕ) (v : Value) (cells : Cells) (row : Row) → T (below_all nat_cmp c cells)
     → set_cells cells (set row c v) ≡ set (set_cells cells row) c v
 set_cells_move c v [] row h = refl
@@ -63,6 +64,7 @@ set_cells_over cells (c ∷ later) row h =
 
 -- ---- one key
 
+-- the cells that an effect sets stand in ascending column
 abbrev pub cells_ascend : Effect → Bool
 cells_ascend (Ins row) = true
 cells_ascend Del = true
@@ -122,6 +124,7 @@ pub row_at-table_with : (t : Table) (effects : Effects) (key : Key) → T (is_so
     → row_at (table_with t effects) key ≡ changed_by row_after (find key_cmp key effects) (row_at t key)
 row_at-table_with t effects key h = find-alter_all key_cmp key_cmp_total row_after effects t key h
 
+-- the composed effect on a key is that of the first, followed by that of the second where it has one
 pub effect_at-composed_effects : (x f : Effects) (key : Key) → T (is_sorted key_cmp f)
     → find key_cmp key (composed_effects x f) ≡ changed_by composed_effect (find key_cmp key f) (find key_cmp key x)
 effect_at-composed_effects x f key h = find-alter_all key_cmp key_cmp_total composed_effect f x key h
@@ -129,9 +132,11 @@ effect_at-composed_effects x f key h = find-alter_all key_cmp key_cmp_total comp
 pub sorted-table_with : (t : Table) (effects : Effects) → T (is_sorted key_cmp t) → T (is_sorted key_cmp (table_with t effects))
 sorted-table_with t effects h = sorted-alter_all key_cmp key_cmp_total row_after effects t h
 
+-- composed effects stand in ascending key where the first do
 pub sorted-composed_effects : (x f : Effects) → T (is_sorted key_cmp x) → T (is_sorted key_cmp (composed_effects x f))
 sorted-composed_effects x f h = sorted-alter_all key_cmp key_cmp_total composed_effect f x h
 
+-- of effects that all fit a table, the one on a key, if any, fits what stands there
 pub fits_at_key : (t : Table) (effects : Effects) → T (all_fit t effects) → (key : Key)
     → T (holds_at (fits (row_at t key)) (find key_cmp key effects))
 fits_at_key t effects h key = each_at key_cmp key_cmp_total key_cmp-IsAntisymmetric (λ k f. fits (row_at t k) f) effects h key

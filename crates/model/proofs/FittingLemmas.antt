@@ -213,6 +213,7 @@ module _ (schema : Columns) where
       let cells : T (cells_fit ((col, v) ∷ [])) = both (cell_fits_schema schema col v) _ cell tt in
       both (cells_fit ((col, v) ∷ [])) _ cells tt
 
+  -- a write that fits the schema sets no key column
   pub sets_no_key-fits : (write : Write) → T (write_fits_schema schema write) → T (sets_no_key schema.key_cols write)
   sets_no_key-fits (Insert row) h = tt
   sets_no_key-fits (Delete key) h = tt

@@ -28,11 +28,13 @@ same_number n = grind (arith, nat_tests)
 above_other : (n m : ℕ) → n < m → (m == n) ≡ false
 above_other n m lt = grind (arith, nat_tests)
 
+-- an entry at a place is the first change there, before those of the rest
 pub changes_at_here : (n : ℕ) (c : Change) (es : List Entry) → changes_at n (entry_at n c ∷ es) ≡ c ∷ changes_at n es
 changes_at_here n c es =
     ap (λ b. map (λ (e : Entry). e.change) (cond b (entry_at n c ∷ filter (λ e. e.sid == n) es) (filter (λ e. e.sid == n) es)))
     (same_number n)
 
+-- an entry at another place adds no change here
 pub changes_at_other : (n : ℕ) (e : Entry) (es : List Entry) → (e.sid == n) ≡ false → changes_at n (e ∷ es) ≡ changes_at n es
 changes_at_other n e es h =
     ap (λ b. map (λ (e : Entry). e.change) (cond b (e ∷ filter (λ e. e.sid == n) es) (filter (λ e. e.sid == n) es))) h
@@ -41,12 +43,15 @@ changes_at_other n e es h =
 abbrev pub all_after : ℕ → List Entry → Bool
 all_after n es = list_all (λ e. nat_lt n e.sid) es
 
+-- a number that tests as lower is lower
 pub lt_of : (n m : ℕ) → T (nat_lt n m) → n < m
 lt_of n m h = grind (arith, nat_tests)
 
+-- a number that is lower tests as lower
 pub of_lt : (n m : ℕ) → n < m → T (nat_lt n m)
 of_lt n m h = grind (arith, nat_tests)
 
+-- at a place before all entries there are no changes
 pub changes_at_after : (n : ℕ) (es : List Entry) → T (all_after n es) → changes_at n es ≡ []
 changes_at_after n [] h = refl
 changes_at_after n (e ∷ es) h =
@@ -56,6 +61,7 @@ changes_at_after n (e ∷ es) h =
 before_other : (n m : ℕ) → n < m → (n == m) ≡ false
 before_other n m lt = grind (arith, nat_tests)
 
+-- an entry before the place that the merge starts from changes nothing
 pub merged_rows_from_past : (n m : ℕ) (c : Change) (base : List Row) (es : List Entry) → n < m
     → merged_rows_from m base (entry_at n c ∷ es) ≡ merged_rows_from m base es
 merged_rows_from_past n m c [] es lt = ap inserted_rows (changes_at_other m (entry_at n c) es (before_other n m lt))
@@ -118,6 +124,7 @@ canonical_entries_from_zero t (e ∷ effects) =
 rank_past : (k : Key) (e : Key × Row) (t : Table) → key_cmp e.0 k ≡ Less → rank k (e ∷ t) ≡ suc (rank k t)
 rank_past k e t h = ap (λ r. length (cond (is_lt r) (e ∷ filter (λ e. is_lt (key_cmp e.0 k)) t) (filter (λ e. is_lt (key_cmp e.0 k)) t))) h
 
+-- a key below all keys of a table has rank zero
 pub rank_below : (k : Key) (t : Table) → T (below_all key_cmp k t) → rank k t ≡ 0
 rank_below k [] h = refl
 rank_below k (e ∷ t) h =

@@ -11,6 +11,7 @@ use Rattle.model.specs.declared.effect.Effect.{Effect}
 use Rattle.model.specs.declared.effect.Effect.TheVariants.{Ins, Del, Mod, Rep}
 use Rattle.model.proofs.MapsLemmas.{both, first, second, less, below_head, find_below, without_below, below_tied, find-alter, sorted-alter}
 
+-- the one key is below the other
 abbrev pub is_below : Key → Key → Bool
 is_below j k = is_lt (key_cmp j k)
 
@@ -22,6 +23,7 @@ count_cons : {A : Type 0} (b : Bool) (x : A) (xs : List A) → length (cond b (x
 count_cons true x xs = omega arith
 count_cons false x xs = omega arith
 
+-- a first row of a smaller key adds one to a rank, and another first row nothing
 pub rank-cons : (k : Key) (e : Key × Row) (t : Table) → rank k (e ∷ t) ≡ one_if (is_below e.0 k) + rank k t
 rank-cons k e t = count_cons (is_below e.0 k) e (filter (λ x. is_below x.0 k) t)
 
@@ -89,6 +91,7 @@ inserts_of Del = 0
 inserts_of (Mod cells) = 0
 inserts_of (Rep row) = 1
 
+-- how many of an effect's entries are deletes
 abbrev pub deletes_of : Effect → ℕ
 deletes_of (Ins row) = 0
 deletes_of Del = 1
@@ -143,6 +146,7 @@ fits_other j g t (e ∷ effects) h =
     let found = find-alter key_cmp key_cmp_total j g t e.0 ∙ ap (λ r. cond (is_eq r) (g (row_at t j)) (row_at t e.0)) apart in
     λ i. fits (found i) e.1 && fits_other j g t effects (second _ _ h) i
 
+-- two steps, each of which balances, balance together
 pub add_up : (d e i j n m r : ℕ) → e + n ≡ j + m → d + m ≡ i + r → (d + e) + n ≡ (i + j) + r
 add_up d e i j n m r p q = omega arith
 

@@ -36,6 +36,7 @@ one_le true true f = omega arith
 one_le true false f = absurd (f tt)
 one_le false b f = omega arith
 
+-- of two keys the smaller has no greater rank
 pub rank-le : (j k : Key) (t : Table) → key_cmp j k ≡ Less → rank j t ≤ rank k t
 rank-le j k [] p = omega arith
 rank-le j k (e ∷ t) p =
@@ -43,6 +44,7 @@ rank-le j k (e ∷ t) p =
     let rest = rank-le j k t p in
     omega (arith, rank-cons j e t, rank-cons k e t)
 
+-- of two keys the smaller has the lower rank where it is in the table
 pub rank-lt : (j k : Key) (t : Table) → key_cmp j k ≡ Less → T (is_some (row_at t j)) → rank j t < rank k t
 rank-lt j k [] p h = absurd h
 rank-lt j k (e ∷ t) p h =
@@ -143,6 +145,7 @@ zero_if : (b : Bool) → ◌≡◌ {A = ℕ} 0 (cond b 0 0)
 zero_if true = refl
 zero_if false = refl
 
+-- no entry of the effect is an insert
 abbrev pub adds_none : Effect → Bool
 adds_none (effect.Ins row) = false
 adds_none effect.Del = true
@@ -214,6 +217,7 @@ module _ (key_cols : ℕ) (t : Table) (k : Key) (c : Change) (here : T (is_place
   balance : (r r' i d : ℕ) → d + r' ≡ i + r → (r + i) - d ≡ r'
   balance r r' i d e = omega arith
 
+  -- an entry made consecutive to effects that insert no row of its key stands at its key's rank after them
   pub moved_one : (y : Effects) → T (is_sorted key_cmp t) → T (are_keyed_effects key_cols y) → T (all_fit t y)
       → T (list_all (λ e. is_apart e.0 e.1) y)
       → rebased_entry key_cols (canonical_entries t y) (entry_at (rank k t) c) ≡ entry_at (rank k (table_with t y)) c

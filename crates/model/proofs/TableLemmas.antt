@@ -11,6 +11,7 @@ use Rattle.values.specs.Shape.{key_of}
 use Rattle.model.proofs.MapsLemmas.{both, first, second, equal}
 
 module _ (key_cols : ℕ) where
+  -- the rows of the table of rows are those rows
   pub rows_of-table_of : (rs : List Row) → rows_of (table_of key_cols rs) ≡ rs
   rows_of-table_of [] = refl
   rows_of-table_of (r ∷ rs) = ap (λ xs. r ∷ xs) (rows_of-table_of rs)
@@ -22,6 +23,7 @@ module _ (key_cols : ℕ) where
       let rest = keyed t (second _ _ h) in
       λ i. (same i, e.1) ∷ rest i
 
+  -- a table whose rows stand under their own keys is the table of its rows
   pub table_of-rows_of : (t : Table) → T (is_keyed_table key_cols t) → table_of key_cols (rows_of t) ≡ t
   table_of-rows_of t h = keyed t (second _ _ h)
 

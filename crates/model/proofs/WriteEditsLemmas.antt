@@ -75,6 +75,7 @@ module _ (key_cols limit : ℕ) (t : Table) (es : Effects) (ht : T (is_keyed_tab
         subst (λ o. T (holds_at (is_keyed_effect key_cols k) o)) is
         (each_at key_cmp key_cmp_total key_cmp-IsAntisymmetric (is_keyed_effect key_cols) es (second _ _ he) k)
 
+    -- where a delete fits after the effect so far, the entries with it are the edit of the entries before it
     pub deleted : (old : Option Effect) → find key_cmp k es ≡ old → T (holds_at (fits (row_at t k)) old)
         → T (fits (changed_by row_after old (row_at t k)) Del) → canonical_entries t (alter key_cmp k (composed_effect Del) es)
         ≡ edited_entries key_cols (rank k t) (Delete k) old (canonical_entries t es)
@@ -96,6 +97,7 @@ module _ (key_cols limit : ℕ) (t : Table) (es : Effects) (ht : T (is_keyed_tab
         ∙ edited key_cols t k (edited_entries key_cols (rank k t) (Delete k) (Some (Rep row))) (Some Del) es (Some (Rep row)) is
         sorted lawful (take-past key_cols t k) (take-replaced key_cols t k row (at_key (Some (Rep row)) is))
 
+    -- where a set of a cell fits after the effect so far, the entries with it are the edit of the entries before it
     pub modified : (col : ℕ) (value : Value) (old : Option Effect) → find key_cmp k es ≡ old
         → T (holds_at (fits (row_at t k)) old) → T (fits (changed_by row_after old (row_at t k)) (Mod ((col, value) ∷ [])))
         → canonical_entries t (alter key_cmp k (composed_effect (Mod ((col, value) ∷ []))) es)
@@ -124,9 +126,11 @@ module _ (key_cols limit : ℕ) (t : Table) (es : Effects) (ht : T (is_keyed_tab
     abbrev pub fits_now : Effect → Type 0
     fits_now f = T (fits (changed_by row_after (find key_cmp k es) (row_at t k)) f)
 
+    -- the effect so far on the key, if any, fits what stands there in the table
     pub fit_so_far : T (holds_at (fits (row_at t k)) (find key_cmp k es))
     fit_so_far = each_at key_cmp key_cmp_total key_cmp-IsAntisymmetric (λ j f. fits (row_at t j) f) es fe k
 
+    -- an effect that fits the key in the table after the effects fits what the effect so far makes of the row there
     pub fits_here : (f : Effect) → T (fits (row_at (table_with t es) k) f) → fits_now f
     fits_here f h = subst (λ old. T (fits old f)) (row_at-table_with t es k sorted) h
 

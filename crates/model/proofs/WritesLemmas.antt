@@ -192,6 +192,7 @@ module _ (key_cols : ℕ) where
     alone-are_keyed_effects (Delete key) h = tt
     alone-are_keyed_effects (Set key col value) h = both _ _ (both _ _ h tt) tt
 
+    -- the effect of a write that is done fits what stood at its key
     pub done_fits : (old : Option Row) (count : ℕ) (write : Write) → T (is_done (reply_where limit (is_some old) count write))
         → T (fits old (effect_of_write write))
     done_fits None count (Insert row) h = tt

@@ -79,9 +79,11 @@ module _ (o : Managed) where
       ap (λ (cs : List Commit). commits_made o ++ cs) (commits_in-append xs ys)
       ∙ sym (append_assoc (commits_made o) (commits_in xs) (commits_in ys))
 
+  -- the commits of a beginning of a list are a beginning of the list's commits
   pub all_commits-prefix : (xs ys : List Item) → IsPrefix xs ys → IsPrefix (all_commits o xs) (all_commits o ys)
   all_commits-prefix xs ys p = (commits_in p.0, sym (all_commits-append xs p.0) ∙ ap (all_commits o) p.1)
 
+  -- an item more adds its commit, if it has one, to the commits of a list
   pub all_commits-push : (list : List Item) (item : Item) → all_commits o (list ++ item ∷ []) ≡ all_commits o list ++ commits_of_item item
   all_commits-push list item =
       all_commits-append list (item ∷ [])

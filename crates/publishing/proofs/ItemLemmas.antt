@@ -32,6 +32,7 @@ module _ (m : Managed) (h : IsManaged m) (txn : Transaction) (k : IsTransaction 
       (nat_lt m.start.limit (length (table_with (newest_table m) (effects_of txn)))) (newest_number m) n due in
       (tests.0, tests.1.1)
 
+  -- the table after a commit that is granted has no more rows than the limit
   pub granted_within : (n : ℕ) → Committed n ≡ reply_due m txn → length (table_with (newest_table m) (effects_of txn)) ≤ m.start.limit
   granted_within n due = let fits = (granted n due).1 in grind (arith, nat_tests)
 
@@ -68,6 +69,7 @@ same_base v (Commits txn version) base h = absurd h
 same_base v (Same version) base h = refl
 same_base v (Cuts at version) base h = absurd h
 
+-- an item that is this version of the same table has this version
 pub same_version : (v : LayeredVersion) (item : Item) → IsSame v item → version_of_item item ≡ v
 same_version v (Opens manager) h = absurd h
 same_version v (Commits txn version) h = absurd h
@@ -86,6 +88,7 @@ cut_base n v (Commits txn version) base h = absurd h
 cut_base n v (Same version) base h = absurd h
 cut_base n v (Cuts at version) base h = h.0
 
+-- an item that is a cut at this version has this version
 pub cut_version : (n : ℕ) (v : LayeredVersion) (item : Item) → IsCutAt n v item → version_of_item item ≡ v
 cut_version n v (Opens manager) h = absurd h
 cut_version n v (Commits txn version) h = absurd h
@@ -170,9 +173,11 @@ module _ (o : Managed) (list : List Item) where
         number = o.start.base + length (e i);
       })
 
+  -- an item of the same table leaves the newest version as it is
   pub version_same : (v : LayeredVersion) (item : Item) → IsSame v item → version_in o list ≡ version_in o (list ++ item ∷ [])
   version_same v item is = version_quiet item (same_commits v item is)
 
+  -- a cut leaves the newest version as it is
   pub version_cut : (n : ℕ) (v : LayeredVersion) (item : Item) → IsCutAt n v item → version_in o list ≡ version_in o (list ++ item ∷ [])
   version_cut n v item is = version_quiet item (cut_commits n v item is)
 
@@ -187,6 +192,7 @@ module _ (o : Managed) (list : List Item) where
     pub of_list : IsOfList o list (history_of m)
     of_list = record { schema = l.schema; start = l.start; commits = l.commits }
 
+    -- a manager cut at its newest number is that of the list with the cut
     pub listed_cut : (base : ℕ) (v : LayeredVersion) (item : Item) → IsCutAt base v item → base ≡ newest_number m
         → IsListed o (list ++ item ∷ []) (cut_of m)
     listed_cut base v item cuts is =

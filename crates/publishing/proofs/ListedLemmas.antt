@@ -59,6 +59,7 @@ module _ (o : Managed) where
         rule = o.start.rule;
       })
 
+  -- the manager at the opening is that of the empty list
   pub listed_at_opening : IsListed o [] o
   listed_at_opening =
       let none : o.start.base - o.start.base ≡ 0 = omega arith in
@@ -85,6 +86,7 @@ module _ (o : Managed) where
     base_is : m.start.base ≡ base_in o list
     base_is = ap (λ (s : Start). s.base) l.start
 
+    -- the manager's newest number is the list's
     pub number_is : newest_number m ≡ number_in o list
     number_is =
         let base = base_is in
@@ -107,6 +109,7 @@ module _ (o : Managed) where
         ∙ table_with_all-drop o.start.table whole cut
         ∙ sym (ap (table_with_all o.start.table) whole_taken)
 
+    -- the manager's newest version is the list's
     pub version_is : newest_version m ≡ version_in o list
     version_is = (λ i. record { schema = l.schema i; table = table_is i; number = number_is i })
 

@@ -9,6 +9,7 @@ use Rattle.publishing.specs.Lists.{Known}
 use Rattle.publishing.specs.Views.{AllBegin, Begins, BeginsIf, SeesAll}
 use Rattle.publishing.proofs.Beginnings.{prefix_self, prefix_trans}
 
+-- what is known begins with itself
 pub begins_self : (x : Known) → Begins x x
 begins_self x = (refl, prefix_self x.list)
 
@@ -67,6 +68,7 @@ grows front shown next op item old ops same pending book list is =
       ),
     )
 
+-- what is shown next is the last of the operations that are pending
 pub fold_last_is : (shown next op : Known) (old ops : List Known) → ops ≡ old ++ op ∷ []
     → next ≡ fold (λ (known p : Known). p) shown ops → next ≡ op
 fold_last_is shown next op old ops pending is =
