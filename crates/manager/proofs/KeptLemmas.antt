@@ -1,5 +1,5 @@
 -- The trees that a manager keeps of the last commits.
-use Rattle.std.proofs.Common.{◌≡◌, ℕ, zero, suc, ◌+◌, ◌-◌, ◌≤◌, List, [], ◌∷◌, ◌++◌, length, take, drop, refl, sym, ap, ◌∙◌, arith}
+use Rattle.std.proofs.Common.{◌≡◌, ℕ, zero, suc, ◌+◌, ◌-◌, ◌≤◌, List, [], ◌∷◌, ◌++◌, length, take, drop, refl, sym, ap, subst, ◌∙◌, arith}
 use Rattle.std.proofs.lemmas.List.{drop-drop, length-append, length-drop}
 use Rattle.circular_buffer.specs.Buffer.{keep_last}
 use Rattle.values.specs.Shape.{Columns}
@@ -8,7 +8,9 @@ use Rattle.model.specs.Effects.{Effects, table_with}
 use Rattle.model.specs.History.{table_with_all}
 use Rattle.delta.specs.Tree.{Tree}
 use Rattle.layers.specs.Over.{tree_of}
-use Rattle.manager.specs.Kept.{commit_trees}
+use Rattle.txn.specs.Version.{Lower, LayeredVersion}
+use Rattle.manager.specs.Managed.{Managed}
+use Rattle.manager.specs.Kept.{HoldsNewest, commit_trees}
 
 module _ (schema : Columns) where
   pub length-commit_trees : (t : Table) (commits : List Effects) → length (commit_trees schema t commits) ≡ length commits
@@ -69,3 +71,8 @@ kept_next schema t commits recent x tree is =
     keep_last-again recent (commit_trees schema t commits) tree
     ∙ ap (λ (u : Tree). keep_last recent (commit_trees schema t commits ++ u ∷ [])) is
     ∙ ap (keep_last recent) (sym (commit_trees-append schema t commits x))
+
+-- what a manager holds, it holds as it is seen
+pub holds : {m v : Managed} {l : Lower} {newest : LayeredVersion} {kept : List Tree} → m ≡ v → HoldsNewest m l newest kept
+    → HoldsNewest v l newest kept
+holds {l = l} {newest = newest} {kept = kept} same h = subst (λ (w : Managed). HoldsNewest w l newest kept) same h

@@ -1,15 +1,13 @@
 -- The layers of the newest version over another stable table.
-use Rattle.std.proofs.Common.{◌≡◌, ℕ, ◌≤◌, List, [], length, sym, ap, ◌∙◌, subst, arith}
+use Rattle.std.proofs.Common.{◌≡◌, ℕ, List, length, sym, ap, ◌∙◌, subst, arith}
 use Rattle.std.proofs.lemmas.List.{length-map}
-use Rattle.values.specs.Shape.{Columns}
-use Rattle.values.specs.declared.row.Row.{Row}
 use Rattle.model.specs.Table.{Table, table_of}
 use Rattle.model.specs.Effects.{AreOver, table_with}
 use Rattle.model.specs.Entries.{canonical_entries}
 use Rattle.model.specs.Merging.{merged_rows}
 use Rattle.model.proofs.CallerLemmas.{leaves, merged_rows_from_nothing}
 use Rattle.delta.specs.Tree.{Tree}
-use Rattle.stable.specs.Stable.{Stable, IsStable, table_in}
+use Rattle.stable.specs.Stable.{IsStable, table_in}
 use Rattle.txn.specs.Version.{Lower, AreLower, LayeredVersion, empty_tree, lower_table, version_of}
 use Rattle.txn.proofs.CallerLemmas.{lower_table_is, no_layer}
 use Rattle.manager.specs.Managed.{Managed, newest_table}

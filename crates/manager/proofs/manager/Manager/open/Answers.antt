@@ -9,18 +9,28 @@ use Rattle.txn.proofs.CallerLemmas.{version_of-alone}
 use Rattle.manager.specs.Managed.{managed_of}
 use Rattle.manager.specs.Kept.{HoldsNewest}
 use Rattle.manager.proofs.GrantLemmas.{limit_fits, opened_holds}
+use Rattle.manager.proofs.manager.Manager.open.Goals.{After-new-3}
 use Rattle.manager.proofs.manager.Manager.open.Goals as goal
+
+-- the newest version is that of the table alone
+version : (c : After-new-3) → c.in_ok-newest.newest ≡ numbered (alone c.args.table) 0
+version c = c.in_ok-newest.ensures.version ∙ ap (λ (t : Stable). numbered (alone t) 0) c.in_ok-new.ensures.ok
+
+-- and the history begins at it
+history : (c : After-new-3)
+    → c.new-3.result ≡ recorded_at (version_at c.args.table 0) c.args.row_limit c.args.recent c.args.conflicts []
+history c =
+    c.new-3.ensures
+    ∙ ap (λ (v : TableVersion). recorded_at v c.args.row_limit c.args.recent c.args.conflicts [])
+    (ap table_version (version c) ∙ version_of-alone c.args.table 0)
 
 pub invariant_of-result : goal.invariant_of-result
 invariant_of-result c =
     let s = c.args.table in
     let stable : c.in_ok-new.field-0.value ≡ s = c.in_ok-new.ensures.ok in
-    let version : c.in_ok-newest.newest ≡ numbered (alone s) 0 =
-    c.in_ok-newest.ensures.version ∙ ap (λ (t : Stable). numbered (alone t) 0) stable in
-    let history : c.new-3.result ≡ recorded_at (version_at s 0) c.args.row_limit c.args.recent c.args.conflicts [] =
-    c.new-3.ensures
-    ∙ ap (λ (v : TableVersion). recorded_at v c.args.row_limit c.args.recent c.args.conflicts [])
-    (ap table_version version ∙ version_of-alone s 0) in
+    let before = (goal.at.invariant_of-result c).After-new-3 in
+    let version = version before in
+    let history = history before in
     let within : length s.rows ≤ c.args.row_limit = omega (arith, c.len.ensures.count, c.if-len-row_limit.false) in
     let most = limit_fits c.args.recent c.args.row_limit (sym c.is_bad_limit.ensures ∙ c.if-is_bad_limit.false) in
     let holds =
@@ -34,11 +44,7 @@ invariant_of-result c =
 
 pub returns-clause-ok : goal.returns-clause-ok
 returns-clause-ok c =
-    let s = c.args.table in
-    let version : c.in_ok-newest.newest ≡ numbered (alone s) 0 =
-    c.in_ok-newest.ensures.version ∙ ap (λ (t : Stable). numbered (alone t) 0) c.in_ok-new.ensures.ok in
-    let history : c.new-3.result ≡ recorded_at (version_at s 0) c.args.row_limit c.args.recent c.args.conflicts [] =
-    c.new-3.ensures
-    ∙ ap (λ (v : TableVersion). recorded_at v c.args.row_limit c.args.recent c.args.conflicts [])
-    (ap table_version version ∙ version_of-alone s 0) in
+    let before = (goal.at.returns-clause-ok c).After-new-3 in
+    let version = version before in
+    let history = history before in
     λ i. managed_of (history i) 0 (version i).layers
