@@ -7,6 +7,7 @@ mod checkpoints;
 mod cuts;
 mod openings;
 mod refusals;
+mod restacks;
 
 use model::{CommitReply, ConflictRule, Write, WriteReply};
 use pdtcli::{Manager, Txn, WriteFault};
