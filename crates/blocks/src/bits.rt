@@ -160,7 +160,8 @@ pub(crate) fn byte_count(count: usize) -> usize
 fn add_bit(bytes: &mut Vec<u8>, count: usize, truth: bool) -> Result<(), NoMemory>
     requires few { count < MAX_BLOCK_VALUES }
     requires packed { ArePacked count bytes.old.items }
-    ensures ok { OnOk result ((bs : List Bool) → length bs ≡ count → bytes.old.items ≡ packed (byte_count count) bs → bytes.new.items ≡ packed (byte_count (count + 1)) (bs ++ truth ∷ [])) }
+    ensures ok { OnOk result ((bs : List Bool) → length bs ≡ count → bytes.old.items ≡ packed (byte_count count) bs
+        → bytes.new.items ≡ packed (byte_count (count + 1)) (bs ++ truth ∷ [])) }
     ensures err { OnErr result (bytes.new.items ≡ bytes.old.items) }
     ensures capacity { vec_capacity bytes.old ≤ vec_capacity bytes.new }
     ensures succeeds { byte_count (count + 1) ≤ vec_capacity bytes.old → IsOk result }
@@ -185,7 +186,8 @@ fn add_run(
     requires few { count + more ≤ MAX_BLOCK_VALUES }
     requires packed { ArePacked count bytes.old.items }
     requires within { start + more ≤ length others.now }
-    ensures ok { OnOk result ((bs : List Bool) → length bs ≡ count → bytes.old.items ≡ packed (byte_count count) bs → bytes.new.items ≡ packed (byte_count (count + more)) (bs ++ take more (drop start others.now))) }
+    ensures ok { OnOk result ((bs : List Bool) → length bs ≡ count → bytes.old.items ≡ packed (byte_count count) bs
+        → bytes.new.items ≡ packed (byte_count (count + more)) (bs ++ take more (drop start others.now))) }
     ensures err { OnErr result (bytes.new.items ≡ bytes.old.items) }
 {
     let length = others.len();

@@ -222,6 +222,7 @@ split_is p es n h =
     append_none (x ∷ xs) = ap (λ ys. x ∷ ys) (append_none xs)
 
 module _ (schema : Columns) (t : Table) (x : Effects) (h : AreOver schema t x) (key : Key) where
+  -- each effect is of its key
   pub keyed_effects : T (list_all (λ e. is_keyed_effect schema.key_cols e.0 e.1) x)
   keyed_effects = second (is_sorted key_cmp x) _ (passes (are_keyed_effects schema.key_cols x) h.effects_are.keyed)
 
@@ -235,6 +236,7 @@ module _ (schema : Columns) (t : Table) (x : Effects) (h : AreOver schema t x) (
   pub sorted_table : T (is_sorted key_cmp t)
   sorted_table = first (is_sorted key_cmp t) _ (passes (is_keyed_table schema.key_cols t) h.table.keyed)
 
+  -- each effect fits the row that it finds
   pub fitting_effects : T (all_fit t x)
   fitting_effects = passes (all_fit t x) h.fit
 

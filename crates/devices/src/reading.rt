@@ -31,7 +31,8 @@ pub fn read_store(
     schema: &Schema,
     columns: &[&[u8]],
 ) -> Result<StoredImage, ReadFault>
-    ensures { Gives (λ image. record { generation = image.generation; table = image.table }) result (stored_image schema.now (map (λ c. c.now) columns.now)) }
+    ensures { Gives (λ image. record { generation = image.generation; table = image.table }) result
+        (stored_image schema.now (map (λ c. c.now) columns.now)) }
 {
     if columns.len() != schema.width() {
         return Err(ReadFault::WrongCount);
@@ -51,7 +52,8 @@ fn image_of(
     columns: Vec<Column>,
 ) -> Result<StoredImage, ReadFault>
     requires { map (λ c. c.ty) columns.items ≡ schema.now.types }
-    ensures { Gives (λ image. record { generation = image.generation; table = image.table }) result (image_of schema.now generation columns.items) }
+    ensures { Gives (λ image. record { generation = image.generation; table = image.table }) result
+        (image_of schema.now generation columns.items) }
 {
     if !are_even(columns.as_slice()) {
         return Err(ReadFault::CountsDiffer);

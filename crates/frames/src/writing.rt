@@ -30,7 +30,8 @@ pub fn write_part(
     block: &Block,
     out: &mut Vec<u8>,
 ) -> Result<(), NoMemory>
-    ensures { OnOk result (out.new.items ≡ out.old.items ++ frame_bytes (Frame.Block (record { format = Format.Second; generation = generation; number = number; last = last; block = block.now }))) }
+    ensures { OnOk result (out.new.items ≡ out.old.items ++ frame_bytes (Frame.Block (record
+        { format = Format.Second; generation = generation; number = number; last = last; block = block.now }))) }
 {
     let head = Head {
         generation,

@@ -47,7 +47,8 @@ fn read_typed(
 ) -> Result<Call, ScriptFault>
     requires { length (fields_of fields.now) ≡ 2 + arguments_of schema.now verb }
     ensures ok { IfOk result (λ call. typed_call schema.now number verb (fields_of fields.now) ≡ Ok call) }
-    ensures err { IfErr result (λ fault. fault ≢ ScriptFault.NoMemory → typed_call schema.now number verb (fields_of fields.now) ≡ Err fault) }
+    ensures err { IfErr result
+        (λ fault. fault ≢ ScriptFault.NoMemory → typed_call schema.now number verb (fields_of fields.now) ≡ Err fault) }
 {
     match verb {
         Verb::Begin => Ok(Call::Begin),
@@ -110,7 +111,8 @@ fn read_key(
 ) -> Result<Key, ScriptFault>
     requires { 2 + schema.now.key_cols ≤ length (fields_of fields.now) }
     ensures ok { IfOk result (λ key. values_of number 2 (key_types schema.now) (drop 2 (fields_of fields.now)) ≡ Ok key) }
-    ensures err { IfErr result (λ fault. fault ≢ ScriptFault.NoMemory → values_of number 2 (key_types schema.now) (drop 2 (fields_of fields.now)) ≡ Err fault) }
+    ensures err { IfErr result
+        (λ fault. fault ≢ ScriptFault.NoMemory → values_of number 2 (key_types schema.now) (drop 2 (fields_of fields.now)) ≡ Err fault) }
 {
     let key_cols = schema.key_cols();
     let values = read_values(alloc, &schema.types()[..key_cols], number, fields)?;
@@ -126,7 +128,8 @@ fn read_values(
 ) -> Result<Vec<Value>, ScriptFault>
     requires { 2 + length types.now ≤ length (fields_of fields.now) }
     ensures ok { IfOk result (λ values. values_of number 2 types.now (drop 2 (fields_of fields.now)) ≡ Ok values.items) }
-    ensures err { IfErr result (λ fault. fault ≢ ScriptFault.NoMemory → values_of number 2 types.now (drop 2 (fields_of fields.now)) ≡ Err fault) }
+    ensures err { IfErr result
+        (λ fault. fault ≢ ScriptFault.NoMemory → values_of number 2 types.now (drop 2 (fields_of fields.now)) ≡ Err fault) }
 {
     let mut values = Vec::with_capacity(alloc, types.len())?;
     for i in 0..types.len() {
@@ -152,8 +155,12 @@ fn read_set(
     fields: &ByteRecord,
 ) -> Result<Call, ScriptFault>
     requires { length (fields_of fields.now) ≡ 4 + schema.now.key_cols }
-    ensures ok { IfOk result (λ call. set_cell schema.now number (2 + schema.now.key_cols) key (drop (2 + schema.now.key_cols) (fields_of fields.now)) ≡ Ok call) }
-    ensures err { IfErr result (λ fault. fault ≢ ScriptFault.NoMemory → set_cell schema.now number (2 + schema.now.key_cols) key (drop (2 + schema.now.key_cols) (fields_of fields.now)) ≡ Err fault) }
+    ensures ok { IfOk result
+        (λ call. set_cell schema.now number (2 + schema.now.key_cols) key (drop (2 + schema.now.key_cols) (fields_of fields.now))
+        ≡ Ok call) }
+    ensures err { IfErr result (λ fault. fault ≢ ScriptFault.NoMemory
+        → set_cell schema.now number (2 + schema.now.key_cols) key (drop (2 + schema.now.key_cols) (fields_of fields.now))
+        ≡ Err fault) }
 {
     let at = 2 + schema.key_cols();
     let name = match fields.get(at) {

@@ -88,7 +88,8 @@ fn sorted_by_key(
 /// Whether each of so many rows has a key above that of the row before.
 fn is_ascending(columns: &[Column], key_cols: usize, count: usize) -> bool
     requires { key_cols ≤ length columns.now }
-    ensures { IsTrue result → (k : ℕ) → k + 1 < count → key_cmp (key_of key_cols (row_at columns.now k)) (key_of key_cols (row_at columns.now (k + 1))) ≡ Less }
+    ensures { IsTrue result → (k : ℕ) → k + 1 < count
+        → key_cmp (key_of key_cols (row_at columns.now k)) (key_of key_cols (row_at columns.now (k + 1))) ≡ Less }
 {
     for i in 1..count {
         if !compare_keys(columns, key_cols, i - 1, i).is_lt() {

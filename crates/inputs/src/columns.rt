@@ -33,7 +33,8 @@ pub(crate) fn add_record(
 ) -> Result<(), TableFault>
     requires { All (λ c. length c.values + 2 ≡ number) columns.old.items }
     ensures ok { OnOk result (IsAdded columns.old.items number (fields_of fields.now) columns.new.items) }
-    ensures err { IfErr result (λ fault. fault ≢ TableFault.NoMemory → row_of (types_in columns.old.items) number (fields_of fields.now) ≡ Err fault) }
+    ensures err { IfErr result
+        (λ fault. fault ≢ TableFault.NoMemory → row_of (types_in columns.old.items) number (fields_of fields.now) ≡ Err fault) }
 {
     // The header is record 1, so that so many records before this one hold the most rows.
     if number > MAX_ROWS + 1 {
@@ -53,7 +54,8 @@ fn add_cells(columns: &mut Vec<Column>, number: u64, fields: &ByteRecord) -> Res
         × (cells_of number 0 (types_in columns.old.items) (fields_of fields.now) ≡ Ok cells)
         × (length cells ≡ length columns.old.items)
         × (columns.new.items ≡ extended columns.old.items cells)) }
-    ensures err { IfErr result (λ fault. fault ≢ TableFault.NoMemory → cells_of number 0 (types_in columns.old.items) (fields_of fields.now) ≡ Err fault) }
+    ensures err { IfErr result
+        (λ fault. fault ≢ TableFault.NoMemory → cells_of number 0 (types_in columns.old.items) (fields_of fields.now) ≡ Err fault) }
 {
     for i in 0..columns.len() {
         let bytes = match fields.get(i) {

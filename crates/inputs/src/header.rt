@@ -37,8 +37,10 @@ pub(crate) fn first_schema<'a>(
     fields: &mut ByteRecord,
 ) -> Result<Schema, TableFault>
     requires { (text : List ℕ) × IsReading text [] reader.old }
-    ensures ok { IfOk result (λ schema. (header : Fields) × (schema_of header ≡ Ok schema) × ((text : List ℕ) → IsReading text [] reader.old → IsReading text (header ∷ []) reader.new)) }
-    ensures err { IfErr result (λ fault. fault ≢ TableFault.NoMemory → (text : List ℕ) → IsReading text [] reader.old → IsFaultOf text fault) }
+    ensures ok { IfOk result (λ schema. (header : Fields) × (schema_of header ≡ Ok schema)
+        × ((text : List ℕ) → IsReading text [] reader.old → IsReading text (header ∷ []) reader.new)) }
+    ensures err { IfErr result
+        (λ fault. fault ≢ TableFault.NoMemory → (text : List ℕ) → IsReading text [] reader.old → IsFaultOf text fault) }
 {
     let found = next_record(reader, fields)?;
     if !found {

@@ -36,7 +36,8 @@ fn load_records<'a>(
 ) -> Result<StableTable, TableFault>
     requires { (text : List ℕ) × IsReading text [] reader.old }
     ensures ok { IfOk result (λ table. (text : List ℕ) → IsReading text [] reader.old → IsTableOf text table.schema table.rows) }
-    ensures err { IfErr result (λ fault. fault ≢ TableFault.NoMemory → (text : List ℕ) → IsReading text [] reader.old → IsFaultOf text fault) }
+    ensures err { IfErr result
+        (λ fault. fault ≢ TableFault.NoMemory → (text : List ℕ) → IsReading text [] reader.old → IsFaultOf text fault) }
 {
     let schema = first_schema(alloc, reader, fields)?;
     let mut columns = empty_columns(alloc, schema.types())?;

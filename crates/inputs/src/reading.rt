@@ -27,7 +27,8 @@ pub(crate) fn next_record<'a>(
     fields: &mut ByteRecord,
 ) -> Result<bool, NoMemory>
     requires { (text : List ℕ) × (read : List Fields) × IsReading text read reader.old }
-    ensures { IfOk result (λ found. (text : List ℕ) (read : List Fields) → IsReading text read reader.old → ReadsOne text read reader.new found (fields_of fields.new)) }
+    ensures { IfOk result (λ found. (text : List ℕ) (read : List Fields) → IsReading text read reader.old
+        → ReadsOne text read reader.new found (fields_of fields.new)) }
 {
     match reader.read_byte_record(fields) {
         Ok(found) => Ok(found),

@@ -110,7 +110,8 @@ fn read_calls<'a>(
     ensures ok { IfOk result (λ r. (text : List ℕ) → IsReading text [] reader.old → IsScriptOf schema.now text r.0.items r.1.items) }
     ensures typed { IfOk result (λ r. IsTyped (record { schema = schema.now; clients = r.0.items; calls = r.1.items })) }
     ensures few { IfOk result (λ r. length r.0.items ≤ MAX_CLIENTS) }
-    ensures err { IfErr result (λ fault. fault ≢ ScriptFault.NoMemory → (text : List ℕ) → IsReading text [] reader.old → IsScriptFaultOf schema.now text fault) }
+    ensures err { IfErr result
+        (λ fault. fault ≢ ScriptFault.NoMemory → (text : List ℕ) → IsReading text [] reader.old → IsScriptFaultOf schema.now text fault) }
 {
     let mut clients = Vec::new(alloc);
     let mut calls = Vec::new(alloc);
@@ -135,7 +136,8 @@ fn read_call(
     fields: &ByteRecord,
 ) -> Result<ClientCall, ScriptFault>
     ensures ok { IfOk result (λ call. call_of schema.now clients.now number (fields_of fields.now) ≡ Ok call) }
-    ensures err { IfErr result (λ fault. fault ≢ ScriptFault.NoMemory → call_of schema.now clients.now number (fields_of fields.now) ≡ Err fault) }
+    ensures err { IfErr result
+        (λ fault. fault ≢ ScriptFault.NoMemory → call_of schema.now clients.now number (fields_of fields.now) ≡ Err fault) }
 {
     if !is_all_text(fields) {
         return Err(ScriptFault::BadText(number));

@@ -68,7 +68,8 @@ impl<'a> Cursor<'a> {
     fn pass_before(&mut self, rule: ConflictRule, entry: &SharedEntry)
         requires cursor { IsCursor self.old }
         requires before { AreBefore rule self.old entry.now }
-        ensures split { IsSplit (stands_before (clash_cmp self.old.tree.now.key_cols rule entry.now.change) entry.now.sid) self.old.tree.now.entries self.new.passed }
+        ensures split { IsSplit (stands_before (clash_cmp self.old.tree.now.key_cols rule entry.now.change) entry.now.sid)
+            self.old.tree.now.entries self.new.passed }
         ensures tree { self.new.tree.now ≡ self.old.tree.now }
         ensures cursor { IsCursor self.new }
     {

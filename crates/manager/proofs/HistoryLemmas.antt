@@ -20,6 +20,7 @@ use Rattle.txn.proofs.CallerLemmas.{over}
 use Rattle.manager.specs.Managed.{Managed, commits_in, newest_table, newest_number, IsManaged, IsOwn, is_too_old, commits_since, reply_due, record_of, with_record, with_layers}
 use Rattle.manager.specs.Prepared.{LeavesTable}
 
+-- as many elements as a list has are the list
 pub take_length : {A : Type 0} (xs : List A) → take (length xs) xs ≡ xs
 take_length [] = refl
 take_length (x ∷ xs) = ap (λ ys. x ∷ ys) (take_length xs)
@@ -38,6 +39,7 @@ table_with_all-later t (x ∷ commits) (suc j) k =
     let e : suc (j + k) ≡ suc j + k = omega arith in
     table_with_all-later (table_with t x) commits j k ∙ ap (λ n. table_with_all t (take n (x ∷ commits))) e
 
+-- one commit more is applied to the table after the others
 pub table_with_all-one : (t : Table) (commits : List Effects) (x : Effects)
     → table_with_all t (commits ++ x ∷ []) ≡ table_with (table_with_all t commits) x
 table_with_all-one t [] x = refl
@@ -66,6 +68,7 @@ module _ (schema : Columns) (start : Start) where
   IsLegalFrom-append commits [] r h k = (k, tt)
   IsLegalFrom-append commits (s ∷ history) r h k = (h.0, IsLegalFrom-append (commits_after schema start commits s) history r h.1 k)
 
+  -- the commits of one record more are those after it
   pub commits_from-append : (commits : List Effects) (history : List Record) (r : Record) →
       commits_from schema start commits (history ++ r ∷ []) ≡ commits_after schema start (commits_from schema start commits history) r
   commits_from-append commits [] r = refl
@@ -89,6 +92,7 @@ module _ (m : Managed) (h : IsManaged m) where
       subst (λ j. length (table_with_all m.start.table (take j (commits_in m))) ≤ m.start.limit) e
       (length-table_after m.schema m.start m.history (m.start.base + k) h.within h.legal)
 
+  -- the newest table has no more rows than the limit
   pub newest_within : length (newest_table m) ≤ m.start.limit
   newest_within =
       subst (λ (cs : List Effects). length (table_with_all m.start.table cs) ≤ m.start.limit) (take_length (commits_in m))
@@ -105,6 +109,7 @@ lt_false : (a b : ℕ) → nat_lt a b ≡ false → b ≤ a
 lt_false a b h = grind (arith, nat_tests)
 
 module _ (m : Managed) (txn : Transaction) (own : IsOwn m txn) (recent : is_too_old m txn ≡ false) where
+  -- a transaction that is not too old begins at the base or later
   pub above_base : m.start.base ≤ txn.begin
   above_base = lt_false txn.begin m.start.base (left_false _ _ recent)
 

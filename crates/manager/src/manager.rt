@@ -64,7 +64,8 @@ impl Manager {
         conflicts: ConflictRule,
     ) -> Result<Manager, OpenFault>
         ensures ok { IfOk result (λ manager. manager ≡ opened table row_limit recent conflicts) }
-        ensures fault { MatchOption (fault_of_opening table recent row_limit) (IsOkUnless result OpenFault.NoMemory) (λ fault. result ≡ Err fault) }
+        ensures fault { MatchOption (fault_of_opening table recent row_limit) (IsOkUnless result OpenFault.NoMemory)
+            (λ fault. result ≡ Err fault) }
     {
         if is_bad_limit(recent, row_limit) {
             return Err(OpenFault::BadLimit);

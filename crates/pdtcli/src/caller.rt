@@ -90,7 +90,8 @@ impl Caller {
 
     /// Opens a transaction.
     fn begin(&mut self, client: u32, manager: &Manager) -> Reply
-        ensures { BeginStep client (record { manager = manager.now; own = self.old }) result (record { manager = manager.now; own = self.new }) }
+        ensures { BeginStep client (record { manager = manager.now; own = self.old }) result
+            (record { manager = manager.now; own = self.new }) }
     {
         if self.own.is_some() {
             return Reply::AlreadyOpen;
@@ -130,7 +131,8 @@ impl Caller {
     fn read(&self, client: u32, read: &Read, lines: &mut Vec<ReplyLine>, left: usize) -> Reply
         requires typed { IfSome self.now (λ txn. IsTrue (is_typed_read txn.schema read.now)) }
         requires room { vec_len lines.old + left ≤ vec_capacity lines.old }
-        ensures step { (rows : List Row) × ReadStep self.now read.now rows result × (lines.new.items ≡ lines.old.items ++ shown_lines (record { client = client; call = call.Read read.now }) rows) }
+        ensures step { (rows : List Row) × ReadStep self.now read.now rows result
+            × (lines.new.items ≡ lines.old.items ++ shown_lines (record { client = client; call = call.Read read.now }) rows) }
         ensures room { vec_len lines.new + left ≤ vec_capacity lines.new }
     {
         match &self.own {
@@ -142,7 +144,8 @@ impl Caller {
     /// Commits the open transaction. On want of memory it stays open.
     fn commit(&mut self, manager: &mut Manager) -> Reply
         requires own { IfSome self.old (IsOwn manager.old) }
-        ensures { CommitStep self.old (record { manager = manager.old; own = self.old }) result (record { manager = manager.new; own = self.new }) }
+        ensures { CommitStep self.old (record { manager = manager.old; own = self.old }) result
+            (record { manager = manager.new; own = self.new }) }
     {
         let Some(txn) = self.own.take() else {
             return Reply::NotOpen;
@@ -171,7 +174,8 @@ impl Caller {
 
 /// Folds the Write-PDT into the Read-PDT.
 fn fold(manager: &mut Manager) -> Reply
-    ensures { (own : Option Transaction) → FoldStep (record { manager = manager.old; own = own }) result (record { manager = manager.new; own = own }) }
+    ensures { (own : Option Transaction)
+        → FoldStep (record { manager = manager.old; own = own }) result (record { manager = manager.new; own = own }) }
 {
     match manager.fold() {
         Ok(()) => Reply::Folded,
@@ -206,7 +210,8 @@ pub(crate) fn reply_of(answer: Result<u32, CheckpointFault>) -> Reply
 
 /// Cuts the history, and drops what it hands out.
 fn cut(manager: &mut Manager) -> Reply
-    ensures { (own : Option Transaction) → CutStep (record { manager = manager.old; own = own }) result (record { manager = manager.new; own = own }) }
+    ensures { (own : Option Transaction)
+        → CutStep (record { manager = manager.old; own = own }) result (record { manager = manager.new; own = own }) }
 {
     Reply::Cut(manager.cut().records().len() as u64)
 }

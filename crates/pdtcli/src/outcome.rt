@@ -46,7 +46,8 @@ impl Left {
         counts: Vec<u64>,
         handed: u64,
     ) -> Left
-        ensures { result ≡ record { clients = clients.items; lines = lines.items; manager = manager; counts = counts.items; handed = handed } }
+        ensures { result
+            ≡ record { clients = clients.items; lines = lines.items; manager = manager; counts = counts.items; handed = handed } }
     {
         Left {
             clients,

@@ -127,7 +127,8 @@ fn copied_rows(alloc: Global, txn: &Txn, from: u64, to: u64) -> Result<Arc<Stabl
 /// Adds a line for each of the rows, and answers their number; on want of memory the rows so far stand.
 fn add_lines(rows: &Arc<StableTable>, client: u32, lines: &mut Vec<ReplyLine>, left: usize) -> Reply
     requires room { vec_len lines.old + left ≤ vec_capacity lines.old }
-    ensures step { (shown : List Cells) × IsScan rows.now.value.rows shown result × (lines.new.items ≡ lines.old.items ++ scan_lines client shown) }
+    ensures step { (shown : List Cells) × IsScan rows.now.value.rows shown result
+        × (lines.new.items ≡ lines.old.items ++ scan_lines client shown) }
     ensures room { vec_len lines.new + left ≤ vec_capacity lines.new }
 {
     let count = rows.len();

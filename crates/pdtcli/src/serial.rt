@@ -41,7 +41,8 @@ pub fn run_serial(
         })) }
     ensures schema { IfOk result (λ outcome. outcome.store.schema ≡ store.schema) }
     ensures clients { IfOk result (λ outcome. outcome.left.clients ≡ script.clients) }
-    ensures counts { IfOk result (λ outcome. outcome.left.counts ≡ map (decided_count outcome.left.lines) (range_with_len 0 (length script.clients))) }
+    ensures counts { IfOk result
+        (λ outcome. outcome.left.counts ≡ map (decided_count outcome.left.lines) (range_with_len 0 (length script.clients))) }
     ensures handed { IfOk result (λ outcome. AreHanded manager outcome.left.manager outcome.left.handed) }
 {
     let mut manager = manager;

@@ -26,7 +26,9 @@ impl<O: Opening> Session<O> {
     /// nothing changes.
     pub fn insert(&mut self, row: Row) -> Result<WriteReply, SessionFault>
         ensures ok { IfOk result (λ reply. HasWritten self.old (asked.Insert row) reply self.new) }
-        ensures fault { MatchOption self.old.txn (result ≡ Err fault.NotOpen) (λ txn. MatchOption (row_fault txn.schema row) (IsOkUnless result SessionFault.NoMemory) (λ found. result ≡ Err (fault.Shape found))) }
+        ensures fault { MatchOption self.old.txn (result ≡ Err fault.NotOpen)
+            (λ txn. MatchOption (row_fault txn.schema row) (IsOkUnless result SessionFault.NoMemory)
+            (λ found. result ≡ Err (fault.Shape found))) }
         ensures err { OnErr result (self.new ≡ self.old) }
     {
         match &mut self.txn {
@@ -43,7 +45,9 @@ impl<O: Opening> Session<O> {
     /// nothing changes.
     pub fn delete(&mut self, key: &Key) -> Result<WriteReply, SessionFault>
         ensures ok { IfOk result (λ reply. HasWritten self.old (asked.Delete key.now) reply self.new) }
-        ensures fault { MatchOption self.old.txn (result ≡ Err fault.NotOpen) (λ txn. MatchOption (key_fault txn.schema key.now) (IsOkUnless result SessionFault.NoMemory) (λ found. result ≡ Err (fault.Shape found))) }
+        ensures fault { MatchOption self.old.txn (result ≡ Err fault.NotOpen)
+            (λ txn. MatchOption (key_fault txn.schema key.now) (IsOkUnless result SessionFault.NoMemory)
+            (λ found. result ≡ Err (fault.Shape found))) }
         ensures err { OnErr result (self.new ≡ self.old) }
     {
         match &mut self.txn {
@@ -60,7 +64,9 @@ impl<O: Opening> Session<O> {
     /// where a growth is refused: nothing changes.
     pub fn set(&mut self, key: &Key, col: usize, value: Value) -> Result<WriteReply, SessionFault>
         ensures ok { IfOk result (λ reply. HasWritten self.old (asked.Set key.now col value) reply self.new) }
-        ensures fault { MatchOption self.old.txn (result ≡ Err fault.NotOpen) (λ txn. MatchOption (or_fault (key_fault txn.schema key.now) (cell_fault txn.schema col value)) (IsOkUnless result SessionFault.NoMemory) (λ found. result ≡ Err (fault.Shape found))) }
+        ensures fault { MatchOption self.old.txn (result ≡ Err fault.NotOpen)
+            (λ txn. MatchOption (or_fault (key_fault txn.schema key.now) (cell_fault txn.schema col value))
+            (IsOkUnless result SessionFault.NoMemory) (λ found. result ≡ Err (fault.Shape found))) }
         ensures err { OnErr result (self.new ≡ self.old) }
     {
         match &mut self.txn {
@@ -92,7 +98,8 @@ impl<O: Opening> Session<O> {
     ///
     /// `NotOpen` where no transaction is open.
     pub fn get(&self, key: &Key) -> Result<Option<RowView<'_>>, NotOpen>
-        ensures { MatchOption self.now.txn (IsErr result) (λ txn. IsOkAnd result (λ found. option_map row_of found ≡ row_at (image_of txn) key.now)) }
+        ensures { MatchOption self.now.txn (IsErr result)
+            (λ txn. IsOkAnd result (λ found. option_map row_of found ≡ row_at (image_of txn) key.now)) }
     {
         Ok(self.txn()?.get(key))
     }
@@ -103,7 +110,8 @@ impl<O: Opening> Session<O> {
     ///
     /// `NotOpen` where no transaction is open.
     pub fn row_at(&self, rid: u64) -> Result<Option<RowView<'_>>, NotOpen>
-        ensures { MatchOption self.now.txn (IsErr result) (λ txn. IsOkAnd result (λ found. option_map row_of found ≡ slice_get (rows_of (image_of txn)) rid)) }
+        ensures { MatchOption self.now.txn (IsErr result)
+            (λ txn. IsOkAnd result (λ found. option_map row_of found ≡ slice_get (rows_of (image_of txn)) rid)) }
     {
         Ok(self.txn()?.row_at(rid))
     }
@@ -114,7 +122,8 @@ impl<O: Opening> Session<O> {
     ///
     /// `NotOpen` where no transaction is open.
     pub fn rank(&self, key: &Key) -> Result<(u64, bool), NotOpen>
-        ensures { MatchOption self.now.txn (IsErr result) (λ txn. IsOkAnd result (λ found. (found.0 ≡ rank key.now (image_of txn)) × (found.1 ≡ is_some (row_at (image_of txn) key.now)))) }
+        ensures { MatchOption self.now.txn (IsErr result) (λ txn. IsOkAnd result
+            (λ found. (found.0 ≡ rank key.now (image_of txn)) × (found.1 ≡ is_some (row_at (image_of txn) key.now)))) }
     {
         Ok(self.txn()?.rank(key))
     }
@@ -125,7 +134,8 @@ impl<O: Opening> Session<O> {
     ///
     /// `NotOpen` where no transaction is open.
     pub fn scan(&self, from: u64, to: u64) -> Result<MergeScan<'_>, NotOpen>
-        ensures { MatchOption self.now.txn (IsErr result) (λ txn. IsOkAnd result (λ found. found ≡ drop from (take to (rows_of (image_of txn))))) }
+        ensures { MatchOption self.now.txn (IsErr result)
+            (λ txn. IsOkAnd result (λ found. found ≡ drop from (take to (rows_of (image_of txn))))) }
     {
         Ok(self.txn()?.scan(from, to))
     }

@@ -161,7 +161,8 @@ impl<O: Opening, S: ImageStore> Locked<O, S> {
     pub fn fold<R: Wait>(&mut self, rt: &R) -> Result<(), NoMemory>
         ensures manager { MatchResult result (λ _. HasFolded self.old.manager self.new.manager) (λ _. self.new.manager ≡ self.old.manager) }
         ensures next { self.new.next ≡ self.old.next }
-        ensures list { MatchResult result (λ _. IsShownAgain self.old.list (layered_version self.new.manager) self.new.list) (λ _. self.new.list ≡ self.old.list) }
+        ensures list { MatchResult result (λ _. IsShownAgain self.old.list (layered_version self.new.manager) self.new.list)
+            (λ _. self.new.list ≡ self.old.list) }
     {
         let Locked {
             manager,
@@ -213,7 +214,8 @@ impl<O: Opening, S: ImageStore> Locked<O, S> {
         ensures legal { IfOk result (λ history. IsLegal history.schema history.start history.records) }
         ensures next { self.new.next ≡ self.old.next }
         ensures of_list { IfOk result (λ history. IsOfList O.opened.manager self.old.list history) }
-        ensures list { OnOk result (IsCutAfter self.old.list (newest_number self.old.manager) (layered_version self.old.manager) self.new.list) }
+        ensures list { OnOk result
+            (IsCutAfter self.old.list (newest_number self.old.manager) (layered_version self.old.manager) self.new.list) }
         ensures err { OnErr result (self.new ≡ self.old) }
     {
         let Locked {
@@ -236,7 +238,8 @@ impl<O: Opening, S: ImageStore> Locked<O, S> {
     /// The given store, where it isn't for the manager's columns: nothing changes.
     pub fn swap(&mut self, store: S) -> Result<S, S>
         ensures same { (self.new.manager ≡ self.old.manager) × (self.new.list ≡ self.old.list) }
-        ensures swapped { MatchResult result (λ old. (S.next old ≡ self.old.next) × (self.new.next ≡ S.next store)) (λ _. self.new.next ≡ self.old.next) }
+        ensures swapped { MatchResult result (λ old. (S.next old ≡ self.old.next) × (self.new.next ≡ S.next store))
+            (λ _. self.new.next ≡ self.old.next) }
         ensures ok { IfOk result (λ old. (S.columns old ≡ O.opened.manager.schema) × (S.columns store ≡ O.opened.manager.schema)) }
         ensures err { IfErr result (λ back. (back ≡ store) × (S.columns store ≡ O.opened.manager.schema → ⊥)) }
     {

@@ -62,7 +62,8 @@ fn publish<O: Opening, R: Wait>(
     requires within { length (lower_table version.layers) ≤ O.opened.manager.start.limit }
     requires room { length list.now.list < 2 ^ 62 }
     requires item { version ≡ version_of_item item }
-    ensures { MatchResult result.1 (λ next. (next ≡ with_item list.now item) × (result.0.desk.shown.value ≡ next)) (λ _. result.0.desk.shown.value ≡ list.now) }
+    ensures { MatchResult result.1 (λ next. (next ≡ with_item list.now item) × (result.0.desk.shown.value ≡ next))
+        (λ _. result.0.desk.shown.value ≡ list.now) }
 {
     let Some(next) = head.add(list, item, version.number()) else {
         return (writer, Err(NoMemory));
@@ -202,7 +203,8 @@ impl<O: Opening> Publisher<O> {
     /// Publishes the newest version as the one that the next history starts at. At `Err` nothing changes.
     pub fn show_cut<R: Wait>(&mut self, rt: &R, manager: &Manager) -> Result<(), NoMemory>
         requires { IsListed O.opened.manager self.old manager.now }
-        ensures list { MatchResult result (λ _. IsCutAfter self.old (newest_number manager.now) (layered_version manager.now) self.new) (λ _. self.new ≡ self.old) }
+        ensures list { MatchResult result (λ _. IsCutAfter self.old (newest_number manager.now) (layered_version manager.now) self.new)
+            (λ _. self.new ≡ self.old) }
         ensures listed { OnOk result (IsListed O.opened.manager self.new (cut_of manager.now)) }
     {
         kept(manager);

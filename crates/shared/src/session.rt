@@ -192,7 +192,8 @@ impl<O: Opening> Session<O> {
 
     /// Takes out what the session was told at its last commit reply, unless that was taken out since. Takes no memory.
     pub fn tell(&mut self) -> Option<Told<O>>
-        ensures told { MatchOption result (self.old.note ≡ None) (λ told. (self.old.note ≡ Some told.list.list) × IsPrefix told.list.list self.old.seen) }
+        ensures told { MatchOption result (self.old.note ≡ None)
+            (λ told. (self.old.note ≡ Some told.list.list) × IsPrefix told.list.list self.old.seen) }
         ensures new { self.new ≡ record self.old { note = None } }
     {
         match self.note.take() {

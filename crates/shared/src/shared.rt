@@ -318,7 +318,9 @@ impl<O: Opening, S: ImageStore> Shared<O, S> {
         ensures handed { O.opened.manager.made + length result.manager.history ≤ length O.opened.manager.history + result.manager.made }
         ensures records { vec_len sessions ≡ O.clients → result.manager.made ≡ O.opened.manager.made + sum result.counts.items }
         ensures closed { IsClosed O.opened.manager sessions.items result.manager }
-        ensures lists { All (λ s. AreBeginnings (commits_above O.opened.manager s.seen result.manager.start.base) (commits_made result.manager)) sessions.items }
+        ensures lists { All
+            (λ s. AreBeginnings (commits_above O.opened.manager s.seen result.manager.start.base) (commits_made result.manager))
+            sessions.items }
         ensures store { S.columns result.store ≡ result.manager.schema }
     {
         let Shared { state, mut counts } = self;

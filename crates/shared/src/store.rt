@@ -68,7 +68,8 @@ impl ImageStore for Store {
 
 /// Puts a store into the place of one that is for these columns, where it is for them too; else it comes back.
 pub(crate) fn exchange<S: ImageStore>(place: &mut S, store: S, columns: &Schema) -> Result<S, S>
-    ensures { MatchResult result (λ old. (old ≡ place.old) × (place.new ≡ store) × (S.columns store ≡ columns.now)) (λ back. (back ≡ store) × (place.new ≡ place.old) × (S.columns store ≡ columns.now → ⊥)) }
+    ensures { MatchResult result (λ old. (old ≡ place.old) × (place.new ≡ store) × (S.columns store ≡ columns.now))
+        (λ back. (back ≡ store) × (place.new ≡ place.old) × (S.columns store ≡ columns.now → ⊥)) }
 {
     if are_same(store.schema(), columns) {
         Ok(mem::replace(place, store))

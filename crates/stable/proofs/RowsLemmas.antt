@@ -62,7 +62,7 @@ fit_at types row col lt h =
     let is = counted (length row == length types) (values_fault 0 types row) h in
     cells_fit 0 types row col (same_count (length row) (length types) is.0) lt is.1
 
--- a row that fits has as many cells as there are columns
+-- a row that fits has as many values as there are types
 pub width_of : (types : List ColumnType) (row : Row) → list_fault types row ≡ None → length row ≡ length types
 width_of types row h = same_count (length row) (length types) (counted (length row == length types) (values_fault 0 types row) h).0
 
@@ -92,7 +92,7 @@ module _ (types : List ColumnType) (col : ℕ) (lt : col < length types) where
 
 -- ---- what a table keeps
 
--- the rows of columns are as many as are asked for
+-- columns show as many rows as are asked for
 pub length_rows : (count : ℕ) (columns : List Column) → length (rows_of count columns) ≡ count
 length_rows count columns = length-map-range_with_len (row_at columns) 0 count
 

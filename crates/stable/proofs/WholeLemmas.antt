@@ -9,7 +9,7 @@ use Rattle.stable.specs.Rows.{AreEven, IsKept, first_columns, row_count, rows_of
 use Rattle.stable.proofs.FaultLemmas.{no_build_fault}
 use Rattle.stable.proofs.RowsLemmas.{kept, shown, width}
 
--- where each column has so many values, and there is one, they have so many rows
+-- columns that all have so many values have so many rows
 pub row_count_is : (columns : List Column) (n : ℕ) → 0 < length columns
     → ((col : ℕ) (d : Column) → col < length columns → length (get_or columns col d).values ≡ n) → row_count columns ≡ n
 row_count_is [] n some f = absurd (omega (arith, some))
@@ -54,20 +54,20 @@ module _ (schema : Columns) (rows : List Row) (columns : List Column) (h : AreWh
   counts : row_count columns ≡ length rows
   counts = row_count_is columns (length rows) (omega (arith, h.some, width schema (length rows) columns keeps)) keeps.filled
 
-  -- they have the schema's types
+  -- their types are the schema's
   pub all_typed : map (λ c. c.ty) columns ≡ schema.types
   all_typed = keeps.typed
 
-  -- each has as many values as the first
+  -- they are of one length
   pub all_even : AreEven columns
   all_even = λ col d lt. keeps.filled col d lt ∙ sym counts
 
-  -- their rows are the rows that filled them
+  -- the rows that they show are these
   pub all_rows : rows_of (row_count columns) columns ≡ rows
   all_rows =
       ap (λ n. rows_of n columns) counts
       ∙ shown schema rows (no_build_fault schema rows h.stable) (length rows) refl columns h.filled
 
-  -- and these rows are a stable table
+  -- and those are a table of the schema
   pub all_stable : IsStable (record { schema = schema; rows = rows_of (row_count columns) columns })
   all_stable = subst (λ (rs : List Row). IsStable (record { schema = schema; rows = rs })) (sym all_rows) h.stable

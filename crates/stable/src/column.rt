@@ -136,7 +136,8 @@ impl Column {
         requires typed { other.now.ty ≡ self.old.ty }
         requires within { from + count ≤ length other.now.values }
         ensures ok { OnOk result (self.new ≡ record self.old { values = self.old.values ++ take count (drop from other.now.values) }) }
-        ensures err { OnErr result ((some : ℕ) × (some ≤ count) × (self.new ≡ record self.old { values = self.old.values ++ take some (drop from other.now.values) })) }
+        ensures err { OnErr result ((some : ℕ) × (some ≤ count)
+            × (self.new ≡ record self.old { values = self.old.values ++ take some (drop from other.now.values) })) }
     {
         let length = other.len();
         prove!(from + count <= length);

@@ -70,7 +70,8 @@ impl StableTable {
         requires typed { map (λ c. c.ty) columns.items ≡ schema.types }
         requires even { AreEven columns.items }
         ensures ok { IfOk result (λ table. table ≡ record { schema = schema; rows = rows_of (row_count columns.items) columns.items }) }
-        ensures fault { MatchOption (build_fault schema (rows_of (row_count columns.items) columns.items)) (IsOk result) (λ fault. result ≡ Err fault) }
+        ensures fault { MatchOption (build_fault schema (rows_of (row_count columns.items) columns.items)) (IsOk result)
+            (λ fault. result ≡ Err fault) }
     {
         let count = row_count(columns.as_slice());
         match first_fault_of(&schema, columns.as_slice(), count) {

@@ -17,7 +17,8 @@ pub const BASE: [Item; 3] = [(10, "Ann", 1), (20, "Bob", 2), (30, "Cid", 3)];
 ///
 /// Where they make none, and where a growth is refused.
 pub fn schema(alloc: Global, cols: &[(&str, ColumnType)], key_cols: usize) -> Result<Schema, Fail>
-    ensures { IfOk result (λ schema. schema ≡ record { names = map (λ col. col.0.now) cols.now; types = map (λ col. col.1) cols.now; key_cols = key_cols }) }
+    ensures { IfOk result
+        (λ schema. schema ≡ record { names = map (λ col. col.0.now) cols.now; types = map (λ col. col.1) cols.now; key_cols = key_cols }) }
 {
     let mut named = Vec::with_capacity(alloc, cols.len())?;
     for (name, column) in cols {
@@ -48,7 +49,8 @@ pub fn item_columns(alloc: Global) -> Result<Schema, Fail>
 ///
 /// Where they make none, and where a growth is refused.
 pub fn item_table(alloc: Global, named: &[Item]) -> Result<StableTable, Fail>
-    ensures { IfOk result (λ table. table ≡ record { schema = base_columns; rows = map (λ named. item_cells named.0 named.1.now named.2) named.now }) }
+    ensures { IfOk result
+        (λ table. table ≡ record { schema = base_columns; rows = map (λ named. item_cells named.0 named.1.now named.2) named.now }) }
 {
     Ok(StableTable::build(alloc, item_columns(alloc)?, items(alloc, named)?)?)
 }

@@ -49,7 +49,8 @@ fn make_tree(
     writes: &[Write],
 ) -> Result<Made, Fail>
     requires { IsTable schema.now table.now }
-    ensures { IfOk result (λ made. (x : Effects) × IsTreeOf schema.now table.now x made.tree × (made.after ≡ table_with table.now x) × IsTable schema.now made.after × IsSmall schema.now table.now) }
+    ensures { IfOk result (λ made. (x : Effects) × IsTreeOf schema.now table.now x made.tree × (made.after ≡ table_with table.now x)
+        × IsTable schema.now made.after × IsSmall schema.now table.now) }
 {
     if !all_fit(schema, writes) {
         return Err(Fail::new("a write doesn't fit"));

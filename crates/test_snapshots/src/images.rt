@@ -79,7 +79,8 @@ fn make_layer(
     writes: &[Write],
 ) -> Result<Layered, Fail>
     requires { IsTable schema.now table.now }
-    ensures { IfOk result (λ made. (layer : IsLayer schema.now table.now made.tree) × (made.after ≡ table_with table.now layer.effects) × IsTable schema.now made.after) }
+    ensures { IfOk result (λ made. (layer : IsLayer schema.now table.now made.tree) × (made.after ≡ table_with table.now layer.effects)
+        × IsTable schema.now made.after) }
 {
     if !all_fit(schema, writes) {
         return Err(Fail::new("a write doesn't fit"));
@@ -112,7 +113,10 @@ fn make_layers(
     writes: [&[Write]; 3],
 ) -> Result<(Layered, Layered, Layered), Fail>
     requires { IsTable schema.now table.now }
-    ensures { IfOk result (λ made. (lower : IsLayer schema.now table.now made.0.tree) × (made.0.after ≡ table_with table.now lower.effects) × (middle : IsLayer schema.now made.0.after made.1.tree) × (made.1.after ≡ table_with made.0.after middle.effects) × IsLayer schema.now made.1.after made.2.tree) }
+    ensures { IfOk result
+        (λ made. (lower : IsLayer schema.now table.now made.0.tree) × (made.0.after ≡ table_with table.now lower.effects)
+        × (middle : IsLayer schema.now made.0.after made.1.tree) × (made.1.after ≡ table_with made.0.after middle.effects)
+        × IsLayer schema.now made.1.after made.2.tree) }
 {
     let read = make_layer(alloc, schema, table, writes[0])?;
     let write = make_layer(alloc, schema, &read.after, writes[1])?;

@@ -48,21 +48,21 @@ module _ (txn : Transaction) (h : IsTransaction txn) (count : ℕ) where
 abbrev with_writes : Transaction → List (Write × WriteReply) → Transaction
 with_writes txn writes = record txn { writes = writes }
 
--- a mark stands where it is made
+-- a mark that is made is one of its transaction
 pub made_IsMark : (txn : Transaction) → IsMark (mark_of txn) txn
 made_IsMark txn = record {
   within = omega arith;
   tree_is = ap (λ ws. tree_of (with_writes txn ws)) (sym (take_all (length txn.writes) txn.writes (omega arith)));
 }
 
--- a mark stands through further writes
+-- it stays one where further writes follow
 pub written_IsMark : (mark : Marked) (old new : Transaction) → IsMark mark old → GoesOn old new → IsMark mark new
 written_IsMark mark old new m g = subst (IsMark mark) (sym g.new_is) (record {
   within = omega (arith, m.within, length-append old.writes g.later);
   tree_is = m.tree_is ∙ ap (λ ws. tree_of (with_writes old ws)) (sym (take-append-le mark.count old.writes g.later m.within));
 })
 
--- a mark stands where the transaction goes back to no fewer writes than the mark has
+-- and where the transaction goes back to no fewer writes than the mark has
 pub gone_back_IsMark : (mark : Marked) (txn : Transaction) (count : ℕ) → IsMark mark txn → mark.count ≤ count
     → IsMark mark (with_first count txn)
 gone_back_IsMark mark txn count m le = record {
@@ -76,7 +76,7 @@ gone_back_IsMark mark txn count m le = record {
 pub answered_GoesOn : (old new : Transaction) (write : Write) (reply : WriteReply) → IsAnswered old write reply new → GoesOn old new
 answered_GoesOn old new write reply a = record { later = (write, reply) ∷ []; new_is = a.kept }
 
--- a transaction that stays as it was goes on, with no further writes
+-- a transaction that stays as it is goes on with no writes
 pub refused_GoesOn : (old new : Transaction) → new ≡ old → GoesOn old new
 refused_GoesOn old new same = record { later = []; new_is = same ∙ ap (with_writes old) (sym (append-nil old.writes)) }
 
@@ -97,7 +97,7 @@ back_kept txn self view h mark args same m writes items =
 
 -- ---- further writes after further writes
 
--- a transaction that goes on from one that went on goes on from the first
+-- further writes after further writes are further writes
 pub goes_further : (first second third : Transaction) → GoesOn first second → GoesOn second third → GoesOn first third
 goes_further first second third g h = record {
   later = g.later ++ h.later;

@@ -27,7 +27,7 @@ nothing_in None h = refl
 nothing_in (Some row) h = cc
 
 module _ (txn : Transaction) (h : IsTransaction txn) where
-  -- the transaction's tree is a layer over its snapshot
+  -- a transaction's tree is a layer over its table
   pub is_layer : IsLayer txn.schema txn.table (tree_of txn)
   is_layer = record { key_cols = refl; effects = effects_of txn; over = over txn h; entries = refl }
 

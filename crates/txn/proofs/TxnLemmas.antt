@@ -116,7 +116,7 @@ where_there true d e h = ap not (h refl)
 where_there false d e h = refl
 
 module _ (txn : Transaction) (h : IsTransaction txn) where
-  -- the transaction's effects are over its snapshot
+  -- the effects of a transaction fit its table
   pub over : AreOver txn.schema txn.table (effects_of txn)
   over =
       all_keep txn.schema txn.limit txn.table [] (asked_of txn)
@@ -133,7 +133,7 @@ module _ (txn : Transaction) (h : IsTransaction txn) where
   effects_fit : T (all_fit txn.table (effects_of txn))
   effects_fit = T_from_true (all_fit txn.table (effects_of txn)) over.fit
 
-  -- the transaction's image has no more rows than its limit
+  -- its image has no more rows than the limit
   pub image_within : length (image_of txn) ≤ txn.limit
   image_within =
       limit_kept txn.schema txn.limit txn.table [] (asked_of txn)

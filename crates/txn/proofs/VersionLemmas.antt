@@ -15,7 +15,7 @@ use Rattle.txn.specs.Version.{Lower, lower_rows, lower_table, AreLower, alone, v
 
 -- ---- no entries
 
--- a tree with no entries is a layer over any table of the schema
+-- a tree with no entries is a layer over any table
 abbrev pub no_layer : (schema : Columns) (t : Table) → IsTable schema t → IsLayer schema t (empty_tree schema.key_cols)
 no_layer schema t h = record {
   key_cols = refl;
@@ -26,14 +26,14 @@ no_layer schema t h = record {
 
 -- ---- a stable table alone
 
--- over a stable table two trees with no entries are layers, the one over the other
+-- a stable table and two trees with no entries are lawful layers
 pub are_alone : (s : Stable) → IsStable s → AreLower (alone s)
 are_alone s h = record {
   lower = no_layer s.schema (table_in s) h.table;
   middle = no_layer s.schema (table_in s) h.table;
 }
 
--- the version of a stable table under trees with no entries is that of the table alone
+-- and its version is that of its rows
 pub version_of-alone : (s : Stable) (number : ℕ) → version_of (alone s) number ≡ version_at s number
 version_of-alone s number =
     let rows : merged_rows (merged_rows s.rows []) [] ≡ s.rows = merged_rows-nothing (merged_rows s.rows []) ∙ merged_rows-nothing s.rows in
@@ -59,7 +59,7 @@ module _ (l : Lower) (h : AreLower l) where
   effects_IsTable : IsTable l.stable.schema effects_table
   effects_IsTable = leaves l.stable.schema (table_with (table_in l.stable) h.lower.effects) h.middle.effects h.middle.over
 
-  -- the table under both trees is the stable table after the effects of the one and then of the other
+  -- the table that the layers show is the stable one with both trees' effects
   pub lower_table_is : lower_table l ≡ effects_table
   lower_table_is =
       ap (table_of l.stable.schema.key_cols) lower_rows_is

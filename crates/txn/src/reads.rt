@@ -79,7 +79,8 @@ impl Txn {
     ///
     /// `NoMemory` where a growth is refused.
     pub fn table_between(&self, alloc: Global, from: u64, to: u64) -> Result<StableTable, NoMemory>
-        ensures { IfOk result (λ table. table ≡ record { schema = self.now.schema; rows = drop from (take to (rows_of (image_of self.now))) }) }
+        ensures { IfOk result
+            (λ table. table ≡ record { schema = self.now.schema; rows = drop from (take to (rows_of (image_of self.now))) }) }
     {
         self.layers().table_between(alloc, from, to)
     }

@@ -142,7 +142,8 @@ impl Version {
         number: u64,
     ) -> Result<Version, NoMemory>
         requires { AreLower (record { stable = stable.value; read = read.value; write = write.value }) }
-        ensures { IfOk result (λ version. version ≡ numbered (record { stable = stable.value; read = read.value; write = write.value }) number) }
+        ensures { IfOk result
+            (λ version. version ≡ numbered (record { stable = stable.value; read = read.value; write = write.value }) number) }
     {
         let base = Base {
             stable,

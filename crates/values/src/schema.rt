@@ -51,7 +51,8 @@ impl Schema {
         ensures ok { IfOk result (λ schema. schema ≡ columns_of cols.items key_cols) }
 
         // Memory is wanted only where no fault stands.
-        ensures fault { MatchOption (schema_fault (columns_of cols.items key_cols)) (IsOkUnless result SchemaFault.NoMemory) (λ fault. result ≡ Err fault) }
+        ensures fault { MatchOption (schema_fault (columns_of cols.items key_cols)) (IsOkUnless result SchemaFault.NoMemory)
+            (λ fault. result ≡ Err fault) }
     {
         if let Some(fault) = first_fault(&cols, key_cols) {
             return Err(fault);

@@ -55,7 +55,8 @@ pub fn read_words<'a>(alloc: Global, words: &'a [&'a str]) -> Result<Settings<'a
     ensures said { IfOk result (AreOf (command_for (map (λ word. word.now) words.now)) (word_for (map (λ word. word.now) words.now))) }
     ensures within { IfOk result (λ settings. IsWithinLimits settings) }
     ensures faultless { IfOk result (λ settings. fault_of usage (map (λ word. word.now) words.now) ≡ []) }
-    ensures taken { IfErr result (λ error. (settings : Asked) → AreAsked (map (λ word. word.now) words.now) settings → kind_of error ≡ OutOfMemory) }
+    ensures taken { IfErr result
+        (λ error. (settings : Asked) → AreAsked (map (λ word. word.now) words.now) settings → kind_of error ≡ OutOfMemory) }
 {
     let mut command = program(alloc)?;
     settings_by(&mut command, words)
@@ -67,7 +68,8 @@ fn settings_by<'a>(command: &mut Command<'a>, words: &'a [&'a str]) -> Result<Se
     ensures said { IfOk result (AreOf (command_for (map (λ word. word.now) words.now)) (word_for (map (λ word. word.now) words.now))) }
     ensures within { IfOk result (λ settings. IsWithinLimits settings) }
     ensures faultless { IfOk result (λ settings. fault_of usage (map (λ word. word.now) words.now) ≡ []) }
-    ensures taken { IfErr result (λ error. (settings : Asked) → AreAsked (map (λ word. word.now) words.now) settings → kind_of error ≡ OutOfMemory) }
+    ensures taken { IfErr result
+        (λ error. (settings : Asked) → AreAsked (map (λ word. word.now) words.now) settings → kind_of error ≡ OutOfMemory) }
 {
     let matches = command.try_get_matches_from_mut(words)?;
     match command_settings(&matches) {
@@ -81,9 +83,11 @@ fn settings_by<'a>(command: &mut Command<'a>, words: &'a [&'a str]) -> Result<Se
 
 /// The settings of the command that was read.
 fn command_settings<'a>(matches: &ArgMatches<'a>) -> Option<Settings<'a>>
-    ensures said { IfSome result (AreOf (option_map (λ p. p.0) (subcommand_rows_of matches.now)) (word_in (option_map (λ p. p.1) (subcommand_rows_of matches.now)))) }
+    ensures said { IfSome result (AreOf (option_map (λ p. p.0) (subcommand_rows_of matches.now))
+        (word_in (option_map (λ p. p.1) (subcommand_rows_of matches.now)))) }
     ensures within { IfSome result (λ settings. IsWithinLimits settings) }
-    ensures none { IsNone result → (settings : Asked) → AreOf (option_map (λ p. p.0) (subcommand_rows_of matches.now)) (word_in (option_map (λ p. p.1) (subcommand_rows_of matches.now))) settings → IsWithinLimits settings → ⊥ }
+    ensures none { IsNone result → (settings : Asked) → AreOf (option_map (λ p. p.0) (subcommand_rows_of matches.now))
+        (word_in (option_map (λ p. p.1) (subcommand_rows_of matches.now))) settings → IsWithinLimits settings → ⊥ }
 {
     let (name, words) = matches.subcommand()?;
     match name {
@@ -97,7 +101,8 @@ fn command_settings<'a>(matches: &ArgMatches<'a>) -> Option<Settings<'a>>
 fn run_settings<'a>(run: &ArgMatches<'a>) -> Option<Settings<'a>>
     ensures said { IfSome result (AreOf (Some (codes "run")) (first_value (found_of run.now))) }
     ensures within { IfSome result (λ settings. IsWithinLimits settings) }
-    ensures none { IsNone result → (settings : Asked) → AreOf (Some (codes "run")) (first_value (found_of run.now)) settings → IsWithinLimits settings → ⊥ }
+    ensures none { IsNone result → (settings : Asked) → AreOf (Some (codes "run")) (first_value (found_of run.now)) settings
+        → IsWithinLimits settings → ⊥ }
 {
     let table = run.get_str("table")?;
     let script = run.get_str("script")?;
@@ -122,7 +127,8 @@ fn run_settings<'a>(run: &ArgMatches<'a>) -> Option<Settings<'a>>
 fn recover_settings<'a>(recover: &ArgMatches<'a>) -> Option<Settings<'a>>
     ensures said { IfSome result (AreOf (Some (codes "recover")) (first_value (found_of recover.now))) }
     ensures within { IfSome result (λ settings. IsWithinLimits settings) }
-    ensures none { IsNone result → (settings : Asked) → AreOf (Some (codes "recover")) (first_value (found_of recover.now)) settings → IsWithinLimits settings → ⊥ }
+    ensures none { IsNone result → (settings : Asked) → AreOf (Some (codes "recover")) (first_value (found_of recover.now)) settings
+        → IsWithinLimits settings → ⊥ }
 {
     let dir = named(recover.get_str("dir")?)?;
     Some(Settings::Recover { dir })
@@ -166,7 +172,8 @@ fn count_in(word: Option<&str>, usual: u64, largest: u64) -> Option<u64>
     requires most { usual ≤ largest }
     ensures said { IfSome result (IsNumberOf usual (option_map (λ w. w.now) word.entry)) }
     ensures within { IfSome result (λ number. (1 ≤ number) × (number ≤ largest)) }
-    ensures none { IsNone result → (number : ℕ) → IsNumberOf usual (option_map (λ w. w.now) word.entry) number → 1 ≤ number → number ≤ largest → ⊥ }
+    ensures none { IsNone result → (number : ℕ) → IsNumberOf usual (option_map (λ w. w.now) word.entry) number → 1 ≤ number
+        → number ≤ largest → ⊥ }
 {
     let number = match word {
         Some(word) => word.parse::<u64>().ok()?,
