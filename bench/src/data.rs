@@ -1,7 +1,7 @@
 //! The tables that are measured. A row is known by a number, from which its cells follow: those of a table are even, so
 //! that a row can come to stand between any two.
 use crate::drawn::scattered;
-use narthexmace::{CellRef, Options, Store};
+use narthexmace::{CellRef, ColumnValues, Options, Store};
 use std::fmt::Write;
 
 /// What a key is made of.
@@ -115,6 +115,23 @@ pub fn csv(kind: KeyKind, numbers: impl Iterator<Item = i64>) -> String {
 /// A store over a table of so many rows.
 pub fn store(kind: KeyKind, rows: usize) -> Store {
     opened(&csv(kind, numbers(rows)))
+}
+
+/// A store over a table of so many rows under a key of one number, handed over by columns: the blocks of each lie together.
+pub fn by_columns(rows: usize) -> Store {
+    let ids: Vec<i64> = numbers(rows).collect();
+    let quantities: Vec<i64> = ids.iter().map(|id| qty_of(*id)).collect();
+    let (mut names, mut offsets) = (String::new(), vec![0]);
+    for id in &ids {
+        names.push_str(&name_of(*id));
+        offsets.push(names.len() as u64);
+    }
+    let columns = [
+        ("id", ColumnValues::Ints(&ids)),
+        ("name", ColumnValues::Texts { offsets: &offsets, bytes: names.as_bytes() }),
+        ("qty", ColumnValues::Ints(&quantities)),
+    ];
+    Store::from_columns(&columns, 1, &Options::default()).expect("the columns are a table")
 }
 
 /// A store over the table of a text.

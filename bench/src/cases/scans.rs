@@ -1,21 +1,26 @@
 //! Scans of one column, by how many rows are updated, how, and where the updates lie.
 use super::{SHARES, Size, percent};
 use crate::baseline::by_key::{AnyByKey, Search};
-use crate::data::{KeyKind, csv, numbers, opened};
+use crate::data::{KeyKind, by_columns, store};
 use crate::sqlite::{self, Database};
 use crate::table::{Line, Table, Unit, grouped};
 use crate::timing::{Way, least, whole};
 use crate::updates::{Mix, Place, Update, image, sum, updated, updates};
+use narthexmace::Store;
 use std::hint::black_box;
 
 pub const NAME: &str = "scans";
 const KIND: KeyKind = KeyKind::Int;
+/// The numbers of a block of ours.
+const BLOCK: usize = 1_024;
 
 pub fn run(size: &Size) -> Table {
-    let scan = Scan { size, csv: csv(KIND, numbers(size.rows)), database: sqlite::table(size.rows) };
-    let mut lines = vec![scan.line(0.0, Mix::Sets, "-")];
+    let scan = Scan { size, database: sqlite::table(size.rows) };
+    let text = |rows| store(KIND, rows);
+    let mut lines =
+        vec![scan.line(0.0, Mix::Sets, "-, read from a text", &text), scan.line(0.0, Mix::Sets, "-", &by_columns)];
     for mix in [Mix::Mixed, Mix::Sets] {
-        lines.extend(SHARES.map(|share| scan.line(share, mix, mix.word())));
+        lines.extend(SHARES.map(|share| scan.line(share, mix, mix.word(), &by_columns)));
     }
     Table {
         name: NAME,
@@ -25,7 +30,7 @@ pub fn run(size: &Size) -> Table {
         ),
         unit: Unit::Time,
         heads: &["updated rows", "by"],
-        ways: &["ours, Read-PDT", "ours, Write-PDT", "ours, its own", "vector", "by key", "SQLite"],
+        ways: &["ours, Read-PDT", "ours, Write-PDT", "ours, its own", "vector", "vector in blocks", "by key", "SQLite"],
         lines,
     }
 }
@@ -33,26 +38,26 @@ pub fn run(size: &Size) -> Table {
 /// A table that is scanned.
 struct Scan<'s> {
     size: &'s Size,
-    csv: String,
     database: Database,
 }
 
 impl Scan<'_> {
-    fn line(&self, share: f64, mix: Mix, word: &str) -> Line {
+    fn line(&self, share: f64, mix: Mix, word: &str, store: &dyn Fn(usize) -> Store) -> Line {
         let updates = updates(self.size.rows, percent(share, self.size.rows), mix);
         self.database.run("BEGIN");
         sqlite::make(&self.database, &updates);
-        let times = self.times(&updates);
+        let times = self.times(&updates, store);
         self.database.run("ROLLBACK");
         Line::new(&[&format!("{share} %"), &word], times)
     }
 
     /// The nanoseconds of a scan, the same updates at each place in turn, and then by each baseline.
-    fn times(&self, updates: &[Update]) -> Vec<f64> {
-        let stores = Place::ALL.map(|_| opened(&self.csv));
+    fn times(&self, updates: &[Update], store: &dyn Fn(usize) -> Store) -> Vec<f64> {
+        let stores = Place::ALL.map(|_| store(self.size.rows));
         let txns = [0, 1, 2].map(|it| updated(&stores[it], KIND, updates, Place::ALL[it]));
         let by_key = AnyByKey::of(KIND, self.size.rows, updates);
         let vector: Vec<i64> = image(self.size.rows, updates).into_values().collect();
+        let blocks: Vec<Vec<i64>> = vector.chunks(BLOCK).map(<[i64]>::to_vec).collect();
         let due = vector.iter().sum();
         let mut query = self.database.statement(sqlite::SUM);
         let mut ways: Vec<Way<'_>> = Vec::new();
@@ -61,6 +66,7 @@ impl Scan<'_> {
             ways.push(whole(1, due, || sum(txn, KIND.qty_column())));
         }
         ways.push(whole(1, due, || black_box(&vector).iter().sum()));
+        ways.push(whole(1, due, || black_box(&blocks).iter().map(|block| block.iter().sum::<i64>()).sum()));
         ways.push(whole(1, due, || black_box(&by_key).sum(Search::EachRow)));
         ways.push(whole(1, due, || query.number(&[])));
         least(NAME, self.size.rounds, ways)
