@@ -4,7 +4,7 @@ from __future__ import annotations
 import ctypes
 from array import array
 from itertools import accumulate
-from typing import Any, Dict, Iterable, Iterator, List, Sequence, Tuple, Union, overload
+from typing import Any, Callable, Dict, Iterable, Iterator, List, Sequence, Tuple, Union, overload
 
 from ._cells import Row
 
@@ -120,6 +120,18 @@ class Pieces(Sequence[memoryview]):
 
     def __repr__(self) -> str:
         return f"<{len(self)} pieces>"
+
+
+def _room_maker() -> Callable[[int], bytearray]:
+    if not hasattr(ctypes, "pythonapi"):
+        return bytearray
+    make = ctypes.pythonapi.PyByteArray_FromStringAndSize
+    make.restype, make.argtypes = ctypes.py_object, (ctypes.c_char_p, ctypes.c_ssize_t)
+    return lambda size: make(None, size)
+
+
+#: So many bytes for C to fill: CPython makes them without writing zeros first.
+room_for = _room_maker()
 
 
 def truths_of(numbers: Any) -> memoryview:

@@ -9,7 +9,7 @@ from types import TracebackType
 from typing import TYPE_CHECKING, Any, Callable, Iterator, List, Mapping, NamedTuple, Optional, Sequence, Tuple, Type
 from typing import Union, overload
 
-from ._batches import Batch, Pieces, Texts, truths_of
+from ._batches import Batch, Pieces, Texts, room_for, truths_of
 from ._cells import BOOL, INT, TEXT, Cell, Key, Row, Shaping
 from ._errors import Error, Misuse, Missing, Shape, TooSmall, check, error_of
 from ._handles import TransactionHandle
@@ -258,12 +258,12 @@ class Transaction:
 
     def _column(self, at: int, place: int, first: int, count: int) -> Any:
         """So many cells of a column from a position on, in memory of their own."""
-        numbers = (c_int64 * count)()
         if self._shaping.types[place] == INT:
-            got = c_size_t(count)
-            check(library.pdt_ints(at, place, first, numbers, byref(got)))
+            room, got = room_for(8 * count), c_size_t(count)
+            check(library.pdt_ints(at, place, first, (c_int64 * count).from_buffer(room), byref(got)))
             _all_there(got.value, count)
-            return memoryview(numbers).cast("B").cast("q")
+            return memoryview(room).cast("q")
+        numbers = (c_int64 * count)()
         texts = _read_cells(at, place, first, numbers)
         return Texts(numbers, texts) if self._shaping.types[place] == TEXT else truths_of(numbers)
 

@@ -180,10 +180,10 @@ class Lending(Case):
 
 
 def address(view: memoryview) -> int:
-    """Where the memory of a view lies: the object under it is an array of ctypes over that memory."""
+    """Where the memory of a view lies, by the object under it."""
     import ctypes
 
-    return ctypes.addressof(view.obj)
+    return ctypes.addressof(ctypes.c_char.from_buffer(view.obj))
 
 
 @unittest.skipUnless(numpy, "numpy isn't there")
