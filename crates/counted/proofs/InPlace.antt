@@ -245,15 +245,15 @@ pub record IsCopied (new : List Child) (v : View) : Type 0 where
   pub each : AreChildren new
   pub view : inner_view new ≡ v
 
-pub copied_children : (children none source new : List Child) (v : View) → AreChildren children → inner_view children ≡ v
-    → none ≡ [] → source ≡ children → all_items new ≡ all_items none ++ all_items source → length new ≡ length none + length source
-    → ((depth : ℕ) → All (IsChild depth) none → All (IsChild depth) source → All (IsChild depth) new) → IsCopied new v
-copied_children children none source new v h is empty same items count each =
+pub copied_children : (children source new : List Child) (v : View) → AreChildren children → inner_view children ≡ v → source ≡ children
+    → all_items new ≡ all_items source → length new ≡ length source
+    → ((depth : ℕ) → All (IsChild depth) source → All (IsChild depth) new) → IsCopied new v
+copied_children children source new v h is same items count each =
     let depth = depth_of children in
     let P : List Child → Type 0 = All (IsChild depth) in
-    let all = each depth (subst P (sym empty) (All-nil (IsChild depth))) (subst P (sym same) h.each) in
-    let long : length new ≡ length children = omega (arith, ap length empty, ap length same) in
+    let all = each depth (subst P (sym same) h.each) in
+    let long : length new ≡ length children = omega (arith, ap length same) in
     let deep = depth_all depth new all (omega (arith, h.some)) in
-    let entries : all_items new ≡ all_items children = items ∙ ap (λ xs. all_items xs ++ all_items source) empty ∙ ap all_items same in
+    let entries : all_items new ≡ all_items children = items ∙ ap all_items same in
     let view : inner_view new ≡ inner_view children = cc in
     record { each = group_of depth new all (omega (arith, h.some)) (omega (arith, h.room)); view = view ∙ is }

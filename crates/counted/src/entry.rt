@@ -76,6 +76,7 @@ impl SharedEntry {
     }
 
     /// The position in the base at which it stands.
+    #[inline(always)]
     pub fn sid(&self) -> u64
         ensures { result ≡ self.now.sid }
     {
@@ -83,6 +84,7 @@ impl SharedEntry {
     }
 
     /// What it does there.
+    #[inline(always)]
     pub fn change(&self) -> ChangeRef<'_>
         ensures { change_of result ≡ self.now.change }
     {
@@ -94,6 +96,7 @@ impl SharedEntry {
     }
 
     /// One for an insert, minus one for a delete, and nothing for a modify. It reads no change.
+    #[inline(always)]
     pub(crate) fn weight(&self) -> i64
         ensures { result ≡ weight_of self.now.change }
     {
@@ -112,6 +115,7 @@ impl SharedEntry {
     }
 
     /// What places it by its SID, and tells what its change adds. It reads no change.
+    #[inline(always)]
     pub fn head(&self) -> Head
         ensures { result ≡ head_of self.now }
     {
@@ -126,6 +130,7 @@ impl SharedEntry {
     /// # Errors
     ///
     /// `AllocError` where the change has too many owners.
+    #[inline(always)]
     pub fn copy(&self) -> Result<SharedEntry, AllocError>
         ensures { IfOk result (λ copied. copied ≡ self.now) }
     {
@@ -137,6 +142,7 @@ impl SharedEntry {
     /// # Errors
     ///
     /// `AllocError` where the change has too many owners.
+    #[inline(always)]
     pub fn with_sid(&self, sid: u64) -> Result<SharedEntry, AllocError>
         ensures { IfOk result (λ moved. moved ≡ record self.now { sid = sid }) }
     {
@@ -169,6 +175,7 @@ fn keep(alloc: Global, change: Change) -> Result<Kept, AllocError>
 }
 
 /// A change, lent.
+#[inline(always)]
 pub fn lent(change: &Change) -> ChangeRef<'_>
     ensures { change_of result ≡ change.now }
 {

@@ -64,13 +64,28 @@ pub(crate) fn count_put(put: &Option<SharedEntry>) -> usize
 }
 
 /// The entry, if there is one, at the end of a vector.
-fn push_some(out: &mut Vec<SharedEntry>, put: Option<SharedEntry>) -> Result<(), AllocError>
+pub(crate) fn push_some(out: &mut Vec<SharedEntry>, put: Option<SharedEntry>) -> Result<(), AllocError>
     ensures { OnOk result (out.new.items ≡ out.old.items ++ put_items put) }
 {
     if let Some(entry) = put {
         out.push(entry)?;
     }
     Ok(())
+}
+
+/// The same entries, with room for sixteen.
+pub(crate) fn copied_entries(
+    alloc: Global,
+    entries: &[SharedEntry],
+) -> Result<Vec<SharedEntry>, AllocError>
+    requires { length entries.now ≤ 16 }
+    ensures { IfOk result (λ v. v.items ≡ entries.now) }
+{
+    let mut out = Vec::with_capacity(alloc, 16)?;
+    for entry in entries {
+        out.push_reserved(entry.copy()?);
+    }
+    Ok(out)
 }
 
 /// The same entries, at the end of a vector.

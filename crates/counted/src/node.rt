@@ -1,7 +1,8 @@
 //! The nodes of a tree. What a node holds is seen in this module and those below it alone, which make, change and measure
 //! nodes, and count none. The searches stand outside: they come to a node's contents by `read`, which counts it.
-ghost use Rattle.std.specs.Prelude.{◌≡◌, ◌+◌, ◌^◌, ◌<◌, ◌≤◌, ◌++◌, [], Some, length, drop, slice_get};
+ghost use Rattle.std.specs.Prelude.{◌≡◌, ◌+◌, ◌^◌, ◌<◌, ◌≤◌, ◌++◌, Some, length, drop, slice_get, IfOk};
 ghost use Rattle.std.specs.List.{All};
+ghost use Rattle.counted.specs.Edits.{put_items};
 ghost use Rattle.counted.specs.Paths.{Begins, HasSome};
 ghost use Rattle.counted.specs.Shapes.{all_items, view_of, IsBalanced};
 ghost use Rattle.counted.specs.Sums.{total};
@@ -15,9 +16,9 @@ mod path;
 
 use crate::children::{child_of, count_of, net_of};
 use crate::entry::Head;
-use crate::leaf::total_of;
+use crate::leaf::{push_some, total_of};
 use crate::{SharedEntry, Steps};
-use std::alloc::Global;
+use std::alloc::{AllocError, Global};
 use std::marker::Model;
 use std::sync::Arc;
 use std::sync::ledger::Ledger;
@@ -67,13 +68,16 @@ impl Model for Node {
 }
 
 impl Node {
-    /// A leaf with no entries. It takes no memory.
-    pub(crate) fn empty(alloc: Global) -> Node
-        ensures { result ≡ record { depth = 1; width = 0; items = [] } }
+    /// A leaf with the entry, if there is one.
+    pub(crate) fn leaf_of(alloc: Global, put: Option<SharedEntry>) -> Result<Node, AllocError>
+        ensures depth { IfOk result (λ n. n.depth ≡ 1) }
+        ensures items { IfOk result (λ n. n.items ≡ put_items put) }
     {
-        Node {
-            body: Body::Leaf(Vec::new(alloc)),
-        }
+        let mut entries = Vec::with_capacity(alloc, 1)?;
+        push_some(&mut entries, put)?;
+        Ok(Node {
+            body: Body::Leaf(entries),
+        })
     }
 
     /// How many entries lie below it.

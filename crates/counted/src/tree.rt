@@ -291,7 +291,7 @@ impl CountedTree {
         ensures { IfOk result (λ t. t.entries ≡ edited at gone (put_items put) self.now.entries) }
     {
         let root = match &self.root {
-            None => Node::empty(alloc).edited_root(alloc, at, gone, put)?,
+            None => Arc::new(alloc, Node::leaf_of(alloc, put)?)?,
             Some(root) => root.edited_root(alloc, at, gone, put)?,
         };
         Ok(CountedTree::of_root(root))

@@ -1,5 +1,5 @@
 //! A tree folded into the tree below it.
-ghost use Rattle.std.specs.Prelude.{◌≡◌, IfOk, OnOk, Some, map};
+ghost use Rattle.std.specs.Prelude.{◌≡◌, IfOk, OnOk, Some, length, map};
 ghost use Rattle.std.specs.Option.{option_copied};
 ghost use Rattle.layers.specs.Over.{AreConsecutive};
 ghost use Rattle.layers.specs.Propagation.{IsNext, next_tree, composed_tree};
@@ -29,9 +29,26 @@ pub fn propagate(alloc: Global, lower: &DeltaTree, upper: &DeltaTree) -> Result<
 {
     if upper.len() > lower.len() / EDIT_RATIO {
         fold_all(alloc, lower, upper)
+    } else if upper.len() == 1 {
+        fold_only(alloc, lower, upper)
     } else {
         fold_each(alloc, lower, upper)
     }
+}
+
+/// A copy of the lower tree, with an edit for the only upper entry.
+fn fold_only(alloc: Global, lower: &DeltaTree, upper: &DeltaTree) -> Result<DeltaTree, NoMemory>
+    requires consecutive { AreConsecutive lower.now upper.now }
+    requires only { length upper.now.entries ≡ 1 }
+    ensures { IfOk result (λ tree. (w : AreConsecutive lower.now upper.now) → tree ≡ composed_tree lower.now upper.now w) }
+{
+    let mut tree = lower.copy()?;
+    let mut entries = upper.iter();
+    let Some(only) = entries.next() else {
+        unreachable!()
+    };
+    fold_entry(alloc, &mut tree, only)?;
+    Ok(tree)
 }
 
 /// A copy of the lower tree, with an edit for each upper entry.

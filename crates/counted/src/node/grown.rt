@@ -79,6 +79,7 @@ impl Child {
     }
 
     /// The same child.
+    #[inline(always)]
     pub(crate) fn copy(&self) -> Result<Child, AllocError>
         ensures { IfOk result (IsSameChild self.now) }
     {
@@ -158,6 +159,19 @@ pub(crate) fn push_children(out: &mut Vec<Child>, children: &[Child]) -> Result<
         out.push(child.copy()?)?;
     }
     Ok(())
+}
+
+/// The same children.
+pub(crate) fn copied_children(alloc: Global, children: &[Child]) -> Result<Vec<Child>, AllocError>
+    ensures items { IfOk result (λ v. all_items v.items ≡ all_items children.now) }
+    ensures count { IfOk result (λ v. length v.items ≡ length children.now) }
+    ensures each { IfOk result (λ v. (depth : ℕ) → All (IsChild depth) children.now → All (IsChild depth) v.items) }
+{
+    let mut out = Vec::with_capacity(alloc, children.len())?;
+    for child in children {
+        out.push_reserved(child.copy()?);
+    }
+    Ok(out)
 }
 
 /// A leaf, or two.

@@ -5,8 +5,8 @@ ghost use Rattle.counted.specs.Edits.{IsEdit, IsEditedNode, put_items, edited};
 ghost use Rattle.counted.specs.Shapes.{IsChild, items_of};
 
 use crate::children::child_at;
-use crate::leaf::{count_put, push_entries};
-use crate::node::grown::push_children;
+use crate::leaf::{copied_entries, count_put};
+use crate::node::grown::copied_children;
 use crate::node::{Body, Child, Node};
 use crate::{CountedTree, SharedEntry};
 use std::alloc::{AllocError, Global};
@@ -79,20 +79,12 @@ impl Node {
         ensures { IfOk result (λ n. n ≡ self.now) }
     {
         match &self.body {
-            Body::Leaf(entries) => {
-                let mut out = Vec::with_capacity(alloc, 16)?;
-                push_entries(&mut out, entries)?;
-                Ok(Node {
-                    body: Body::Leaf(out),
-                })
-            }
-            Body::Inner(children) => {
-                let mut out = Vec::with_capacity(alloc, children.len())?;
-                push_children(&mut out, children)?;
-                Ok(Node {
-                    body: Body::Inner(out),
-                })
-            }
+            Body::Leaf(entries) => Ok(Node {
+                body: Body::Leaf(copied_entries(alloc, entries)?),
+            }),
+            Body::Inner(children) => Ok(Node {
+                body: Body::Inner(copied_children(alloc, children)?),
+            }),
         }
     }
 }

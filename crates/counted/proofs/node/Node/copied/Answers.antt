@@ -7,15 +7,15 @@ use Rattle.counted.proofs.node.Node.copied.Goals as goal
 pub invariant_of-result-in-Inner : goal.invariant_of-result-in-Inner
 invariant_of-result-in-Inner c =
     let at = at_inner c.self.view_is c.self.invariant c.in-Inner.is in
-    let new = c.in_ok-push_children-in-Inner.ensures in
-    (copied_children c.in-Inner.children.items _ _ _ c.args.self.now at.each
-    (ap view_of (sym c.in-Inner.is) ∙ c.self.view_is) c.in_ok-out-in-Inner.ensures.items c.deref-in-Inner.ensures.value new.items
+    let new = c.in_ok-copied_children-in-Inner.ensures in
+    (copied_children c.in-Inner.children.items _ _ c.args.self.now at.each
+    (ap view_of (sym c.in-Inner.is) ∙ c.self.view_is) c.deref-in-Inner.ensures.value new.items
     new.count new.each).each
 
-pub returns-in_ok-push_children-in-Inner : goal.returns-in_ok-push_children-in-Inner
-returns-in_ok-push_children-in-Inner c =
+pub returns-in_ok-copied_children-in-Inner : goal.returns-in_ok-copied_children-in-Inner
+returns-in_ok-copied_children-in-Inner c =
     let at = at_inner c.self.view_is c.self.invariant c.in-Inner.is in
-    let new = c.in_ok-push_children-in-Inner.ensures in
-    (copied_children c.in-Inner.children.items _ _ _ c.args.self.now at.each
-    (ap view_of (sym c.in-Inner.is) ∙ c.self.view_is) c.in_ok-out-in-Inner.ensures.items c.deref-in-Inner.ensures.value new.items
+    let new = c.in_ok-copied_children-in-Inner.ensures in
+    (copied_children c.in-Inner.children.items _ _ c.args.self.now at.each
+    (ap view_of (sym c.in-Inner.is) ∙ c.self.view_is) c.deref-in-Inner.ensures.value new.items
     new.count new.each).view
