@@ -1,11 +1,11 @@
 -- Edits of nodes where they stand.
 use Rattle.std.proofs.Common.{◌≡◌, ℕ, zero, suc, ◌+◌, ◌-◌, ◌^◌, ◌<◌, ◌≤◌, List, [], ◌∷◌, ◌++◌, length, take, drop, get_or, refl, ap, sym}
-use Rattle.std.proofs.Common.{subst, ◌∙◌, arith, append_assoc, length-set}
+use Rattle.std.proofs.Common.{subst, ◌∙◌, arith, append_assoc, length-set, to_z, of_z, w64}
 use Rattle.std.specs.Prelude.{Result, Ok, Err, IfOk, IfErr, ℤ, pos, ◌+ℤ◌, ◌-ℤ◌, Option, Some, None, slice_get, slice_set}
 use Rattle.std.proofs.lemmas.Int.{ints}
 use Rattle.std.proofs.lemmas.List.{drop_more, drop-set, take-set, take-append-drop}
 use Rattle.std.specs.List.{All}
-use Rattle.std.proofs.lemmas.List.Elements.{All-nil, All-set}
+use Rattle.std.proofs.lemmas.List.Elements.{All-set}
 use Rattle.model.specs.declared.entry.Entry.{Entry}
 use Rattle.counted.specs.declared.node.Body.{Body}
 use Rattle.counted.specs.declared.node.Body.TheVariants.{Leaf, Inner}
@@ -14,13 +14,14 @@ use Rattle.counted.specs.Edits.{IsEdit, IsEditedNode, put_items, edited}
 use Rattle.counted.specs.Grown.{IsSized}
 use Rattle.counted.specs.Heads.{head_of}
 use Rattle.counted.specs.Shapes.{items_of, all_items, depth_of, view_of, IsChild, AreChildren, IsBalanced}
+use Rattle.counted.specs.Splits.{IsSplit}
 use Rattle.counted.specs.Sums.{weight_of, total}
 use Rattle.counted.specs.Views.{View}
 use Rattle.counted.proofs.Leaves.{gone_within, put_items-le}
 use Rattle.counted.proofs.BulkLemmas.{group_of}
 use Rattle.counted.proofs.Places.{depth_all, edited_in_child, length-edited, split_items, items_from, many_below, most_below, most_law}
 use Rattle.counted.proofs.Runs.{insert_is}
-use Rattle.counted.proofs.Totals.{IsWithin, total-append, total_within}
+use Rattle.counted.proofs.Totals.{IsWithin, total-append, total_within, weight_within}
 
 abbrev pub leaf_view : List Entry → View
 leaf_view es = record { depth = 1; width = length es; items = es }
@@ -257,3 +258,68 @@ copied_children children source new v h is same items count each =
     let entries : all_items new ≡ all_items children = items ∙ ap all_items same in
     let view : inner_view new ≡ inner_view children = cc in
     record { each = group_of depth new all (omega (arith, h.some)) (omega (arith, h.room)); view = view ∙ is }
+
+-- ---- a leaf that becomes two
+
+pub leaf_split : (children new : List Child) (i at gone : ℕ) (put : Option Entry) (e : Entry) (entries : List Entry) (c : Child) (added : ℤ)
+    → AreChildren children → i < length children → put ≡ Some e → items_of (get_or children i c) ≡ entries
+    → (get_or children i c).node.value.depth ≡ 1 → gone ≡ 0 → length children ≤ 15 → added ≡ weight_of e.change
+    → all_items new ≡ all_items (take i children) ++ edited at 0 (e ∷ []) entries ++ all_items (drop (i + 1) children)
+    → length new ≤ length children + 1 → length children ≤ length new → All (IsChild 1) new → IsSplit children i at gone put new added
+leaf_split children new i at gone put e entries c added h lt put_is items_is leaf none room net items more wide all =
+    let level : depth_of children ≡ 1 = sym (h.each i c lt).level ∙ leaf in
+    let some : 1 ≤ length new = omega (arith, h.some) in
+    let split : IsSplit children i at gone (Some e) new added = record {
+      keeps = none;
+      some = refl;
+      net = net;
+      each = group_of 1 new all some (omega arith);
+      depth = depth_all 1 new all some ∙ sym level;
+      wide = wide;
+      child = c;
+      items = items
+          ∙ ap (λ xs. all_items (take i children) ++ edited at 0 (e ∷ []) xs ++ all_items (drop (i + 1) children)) (sym items_is);
+    } in
+    subst (λ (o : Option Entry). IsSplit children i at gone o new added) (sym put_is) split
+
+-- what a node's entries are once one was put into a full leaf
+split_items_edit : (children new : List Child) (i at whole gone : ℕ) (put : Option Entry) (added : ℤ) → i < length children
+    → at + length (all_items (take i children)) ≡ whole → ((d : Child) → at ≤ length (items_of (get_or children i d)))
+    → IsSplit children i at gone put new added → IsEdit whole gone put (all_items children) (all_items new) added
+split_items_edit children new i at whole gone None added lt starts room split = let h = split.some in cc
+split_items_edit children new i at whole gone (Some e) added lt starts room split =
+    let le = room split.child in
+    let put_in = split.items ∙ edited_in_child children i split.child whole 0 at (e ∷ []) lt starts (omega arith) in
+    let all = all_items children in
+    let here = put_between all whole e in
+    let net = ap total (put_in ∙ sym here.items) ∙ here.net ∙ ap (λ z. total all +ℤ z) (sym split.net) in
+    record {
+      items = put_in ∙ ap (λ n. edited whole n (e ∷ []) all) (sym split.keeps);
+      net = net;
+    }
+
+pub split_edit : (children new : List Child) (i at gone end least : ℕ) (put : Option Entry) (added : ℤ) → gone ≤ 1
+    → i < length children → end + length (all_items (take i children)) ≡ at + gone
+    → ((d : Child) → end ≤ length (items_of (get_or children i d))) → IsSplit children i (end - gone) gone put new added
+    → IsEditedNode at gone least put (inner_view children) (inner_view new) (Ok added)
+split_edit children new i at gone end least put added one lt starts room split =
+    let none = split.keeps in
+    let depth = split.depth in
+    let wide = split.wide in
+    record {
+      depth = ap suc depth;
+      enough = λ enough. omega arith;
+      root = λ h deep. let two = h (omega (arith, depth)) in omega arith;
+      ok = split_items_edit children new i (end - gone) at gone put added lt (omega arith)
+          (λ d. let le = room d in omega arith) split;
+      err = tt;
+    }
+
+-- what an entry adds is a small number
+pub split_small : (children new : List Child) (i at gone : ℕ) (put : Option Entry) (added : ℤ) → IsSplit children i at gone put new added
+    → to_z w64 (of_z w64 added) ≡ added
+split_small children new i at gone None added split = let h = split.some in cc
+split_small children new i at gone (Some e) added split =
+    let net = split.net in
+    let small = weight_within e.change in
+    omega (arith, ints)

@@ -10,6 +10,7 @@ pub mod PathSteps
 pub mod Roots
 pub mod Search
 pub mod Shapes
+pub mod Splits
 pub mod Sums
 pub mod Trees
 pub mod Views

@@ -64,7 +64,10 @@ pub(crate) fn count_put(put: &Option<SharedEntry>) -> usize
 }
 
 /// The entry, if there is one, at the end of a vector.
-pub(crate) fn push_some(out: &mut Vec<SharedEntry>, put: Option<SharedEntry>) -> Result<(), AllocError>
+pub(crate) fn push_some(
+    out: &mut Vec<SharedEntry>,
+    put: Option<SharedEntry>,
+) -> Result<(), AllocError>
     ensures { OnOk result (out.new.items ≡ out.old.items ++ put_items put) }
 {
     if let Some(entry) = put {

@@ -1,20 +1,25 @@
 //! Edits in place: a node that others share is copied once, where the descent comes to it, and is changed in place from then on.
-ghost use Rattle.std.specs.Prelude.{◌≡◌, ◌+◌, ◌^◌, ◌<◌, ◌≤◌, Some, None, length, IfOk, IfErr, OnOk};
+ghost use Rattle.std.specs.Prelude.{◌≡◌, ◌+◌, ◌^◌, ◌<◌, ◌≤◌, ◌++◌, ◌∷◌, [], Some, None, length, take, drop, slice_index_or, IfOk};
+ghost use Rattle.std.specs.Prelude.{IfErr, IfSome, OnOk};
 ghost use Rattle.std.specs.Arc.{arc_value};
+ghost use Rattle.std.specs.List.{All};
+ghost use Rattle.counted.specs.declared.node.Child.{Child};
 ghost use Rattle.counted.specs.Edits.{IsEdit, IsEditedNode, put_items, edited};
-ghost use Rattle.counted.specs.Shapes.{IsChild, items_of};
+ghost use Rattle.counted.specs.Shapes.{AreChildren, IsChild, all_items, depth_of, items_of};
+ghost use Rattle.counted.specs.Splits.{IsSplit};
 
 use crate::children::child_at;
-use crate::leaf::{copied_entries, count_put};
-use crate::node::grown::copied_children;
+use crate::leaf::{copied_entries, count_put, edited_leaf};
+use crate::node::grown::{copied_children, grown_leaf, with_grown};
 use crate::node::{Body, Child, Node};
 use crate::{CountedTree, SharedEntry};
 use std::alloc::{AllocError, Global};
 use std::sync::Arc;
 
 impl CountedTree {
-    /// Replaces so many entries from an index on, one at most, by another, if there is one, where the leaf has room and
-    /// keeps enough, and no memory is refused. Otherwise nothing is changed, and the entry comes back.
+    /// Replaces so many entries from an index on, one at most, by another, if there is one, where the leaf has room, or its
+    /// parent has room for two, and it keeps enough, and no memory is refused. Otherwise nothing is changed, and the entry
+    /// comes back.
     pub(crate) fn edit_in_place(
         &mut self,
         alloc: Global,
@@ -69,6 +74,11 @@ impl Node {
             Body::Leaf(entries) => edit_leaf(entries, at, gone, put, least),
             Body::Inner(children) => {
                 let (index, end) = child_at(children, at + gone);
+                if let Some(split) = split_of(alloc, children, index, end - gone, gone, &put) {
+                    drop(put);
+                    *children = split.children;
+                    return Ok(split.added);
+                }
                 children[index].edit_in_place(alloc, end - gone, gone, put)
             }
         }
@@ -124,6 +134,70 @@ impl Child {
             Err(put) => Err(put),
         }
     }
+}
+
+/// Children of which a leaf became two, and what that adds.
+#[derive(Drop)]
+struct Split {
+    children: Vec<Child>,
+    added: i64,
+}
+
+/// The children with an entry put into one that is a full leaf, which becomes two, if there is room for a child more. None
+/// where the edit is another one, or memory is refused.
+fn split_of(
+    alloc: Global,
+    children: &[Child],
+    index: usize,
+    at: usize,
+    gone: usize,
+    put: &Option<SharedEntry>,
+) -> Option<Split>
+    requires children { AreChildren children.now }
+    requires index { index < length children.now }
+    requires within { (d : Child) → at + gone ≤ length (items_of (slice_index_or children.now index d)) }
+    requires few { length (all_items children.now) < 2 ^ 61 }
+    ensures { IfSome result (λ split. IsSplit children.now index at gone put.now split.children.items split.added) }
+{
+    if gone > 0 || children.len() >= 16 {
+        return None;
+    }
+    match (put, &children[index].node.body) {
+        (Some(entry), Body::Leaf(entries)) if entries.len() >= 16 => {
+            match with_entry(alloc, children, index, entries, at, entry) {
+                Ok(children) => Some(Split {
+                    children,
+                    added: entry.weight(),
+                }),
+                Err(_) => None,
+            }
+        }
+        _ => None,
+    }
+}
+
+/// The children with an entry put into one that is a full leaf of these entries, which becomes two.
+fn with_entry(
+    alloc: Global,
+    children: &[Child],
+    index: usize,
+    entries: &[SharedEntry],
+    at: usize,
+    put: &SharedEntry,
+) -> Result<Vec<Child>, AllocError>
+    requires children { AreChildren children.now }
+    requires index { index < length children.now }
+    requires level { depth_of children.now ≡ 1 }
+    requires full { length entries.now ≡ 16 }
+    requires at { at ≤ 16 }
+    ensures items { IfOk result (λ v. all_items v.items ≡ all_items (take index children.now)
+        ++ edited at 0 (put.now ∷ []) entries.now ++ all_items (drop (index + 1) children.now)) }
+    ensures one_more { IfOk result (λ v. length v.items ≤ length children.now + 1) }
+    ensures not_fewer { IfOk result (λ v. length children.now ≤ length v.items) }
+    ensures each { IfOk result (λ v. All (IsChild 1) v.items) }
+{
+    let more = edited_leaf(alloc, entries, at, 0, Some(put.copy()?))?;
+    with_grown(alloc, children, index, index + 1, grown_leaf(more)?)
 }
 
 /// A node that nobody else shares: where others do, a copy comes to stand in its place.

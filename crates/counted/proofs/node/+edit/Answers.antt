@@ -1,19 +1,20 @@
-use Rattle.std.proofs.Common.{List, length, ap, sym, subst, ◌∙◌, arith}
+use Rattle.std.proofs.Common.{List, ◌-◌, length, ap, sym, subst, ◌∙◌, arith}
 use Rattle.std.proofs.lemmas.Int.{ints}
 use Rattle.std.specs.Vec.{with_item}
-use Rattle.std.specs.Prelude.{Option, Result, ℤ, slice_set}
+use Rattle.std.specs.Prelude.{Option, Result, Ok, ℤ, slice_set}
 use Rattle.model.specs.declared.entry.Entry.{Entry}
 use Rattle.counted.specs.declared.node.Body.TheVariants.{Leaf, Inner}
 use Rattle.counted.specs.declared.node.Child.{Child}
 use Rattle.counted.specs.Edits.{IsEdit, IsEditedNode}
 use Rattle.counted.specs.Shapes.{items_of, view_of, IsBalanced}
+use Rattle.counted.specs.Splits.{IsSplit}
 use Rattle.counted.specs.Views.{View}
-use Rattle.counted.proofs.InPlace.{child_edit, edit_within, children_set, inner_edit, inner_view, leaf_edit, leaf_view, own_child}
+use Rattle.counted.proofs.InPlace.{child_edit, edit_within, children_set, inner_edit, inner_view, leaf_edit, leaf_view, own_child, split_edit, split_small}
 use Rattle.counted.proofs.Leaves.{gone_within}
 use Rattle.counted.proofs.Places.{at_inner, child_few}
 use Rattle.counted.proofs.Totals.{total_within}
 use Rattle.counted.proofs.node.+edit.Goals as goal
-use Rattle.counted.proofs.node.+edit.Goals.{Node::edit_in_place-in-Leaf, Node::edit_in_place-in-Inner}
+use Rattle.counted.proofs.node.+edit.Goals.{Node::edit_in_place-in-Leaf, Node::edit_in_place-in-Inner+in_default}
 
 pub Child::edit_in_place-overflow_add-self-in-Ok : goal.Child::edit_in_place-overflow_add-self-in-Ok
 Child::edit_in_place-overflow_add-self-in-Ok t c =
@@ -60,12 +61,34 @@ Node::edit_in_place-edit_in_place-requires t c =
     )
 
 pub Node::edit_in_place-invariant_of-self : goal.Node::edit_in_place-invariant_of-self
-Node::edit_in_place-invariant_of-self t c =
+Node::edit_in_place-invariant_of-self t c = c.in-Some.ensures.each
+
+pub Node::edit_in_place-returns-in-Some : goal.Node::edit_in_place-returns-in-Some
+Node::edit_in_place-returns-in-Some t c =
+    let children = c.in-Inner.children.items in
+    let i = c.child_at-index.result.0 in
+    let end = c.child_at-index.result.1 in
+    let gone = c.args.gone in
+    let new = c.in-Some.split.children.items in
+    let added = c.in-Some.split.added in
+    let child = rw c.deref.ensures.value at c.child_at-index.ensures.child in
+    let starts = rw c.deref.ensures.value at c.child_at-index.ensures.index in
+    let split = subst (λ (cs : List Child). IsSplit cs i (end - gone) gone c.args.put new added) c.deref-in-Inner.ensures.value
+    c.in-Some.ensures in
+    let e = split_edit children new i c.args.at gone end c.args.least c.args.put added c.requires.one child starts
+    (λ d. rw c.deref.ensures.value at (c.child_at-index.ensures.room d)) split in
+    let old = ap view_of (sym c.in-Inner.is) ∙ c.self.view_is in
+    subst (λ (a : ℤ). IsEditedNode c.args.at gone c.args.least c.args.put c.args.self.now (inner_view new) (Ok a))
+    (sym (split_small children new i (end - gone) gone c.args.put added split))
+    (subst (λ (v : View). IsEditedNode c.args.at gone c.args.least c.args.put v (inner_view new) (Ok added)) old e)
+
+pub Node::edit_in_place-invariant_of-self-2 : goal.Node::edit_in_place-invariant_of-self-2
+Node::edit_in_place-invariant_of-self-2 t c =
     elim c.match-self.branch [
       | Node::edit_in_place-in-Leaf w ↦
           let h : IsBalanced (Leaf w.edit_leaf.new.entries) = w.edit_leaf.ensures.room in
           subst IsBalanced (sym (ap (λ v. v.body) w.self-inside-is)) h
-      | Node::edit_in_place-in-Inner w ↦
+      | Node::edit_in_place-in-Inner+in_default w ↦
           let at = at_inner c.self.view_is c.self.invariant w.in-Inner.is in
           let child = rw w.deref.ensures.value at w.child_at-index.ensures.child in
           let i = w.child_at-index.result.0 in
@@ -87,7 +110,7 @@ Node::edit_in_place-returns t c =
           let after = w.edit_leaf.ensures in
           let e = leaf_edit c.args.at c.args.gone c.args.least c.args.put _ new w.edit_leaf.result after.least after.ok after.err in
           rw (w.result-is, w.self-inside-is) (subst (old_is (leaf_view new) w.edit_leaf.result) old e)
-      | Node::edit_in_place-in-Inner w ↦
+      | Node::edit_in_place-in-Inner+in_default w ↦
           let at = at_inner c.self.view_is c.self.invariant w.in-Inner.is in
           let child = rw w.deref.ensures.value at w.child_at-index.ensures.child in
           let starts = rw w.deref.ensures.value at w.child_at-index.ensures.index in
