@@ -257,6 +257,7 @@ impl CountedTree {
 
     /// Replaces so many entries from an index on, one at most, by another, if there is one: in place where that can be
     /// done, and else by a new path.
+    #[inline(always)]
     fn edit(
         &mut self,
         alloc: Global,
@@ -278,6 +279,7 @@ impl CountedTree {
 
     /// The tree with so many entries from an index on, one at most, replaced by another, if there is one. It shares all
     /// other nodes with this one, which stays as it is.
+    #[inline(never)]
     fn edited(
         &self,
         alloc: Global,

@@ -83,11 +83,12 @@ impl Child {
     pub(crate) fn copy(&self) -> Result<Child, AllocError>
         ensures { IfOk result (IsSameChild self.now) }
     {
+        let node = Arc::try_clone(&self.node)?;
         Ok(Child {
             count: self.count,
             net: self.net,
             head: self.head,
-            node: Arc::try_clone(&self.node)?,
+            node,
         })
     }
 }

@@ -177,6 +177,7 @@ fn split_of(
 }
 
 /// The children with an entry put into one that is a full leaf of these entries, which becomes two.
+#[inline(never)]
 fn with_entry(
     alloc: Global,
     children: &[Child],
