@@ -1,13 +1,13 @@
 //! The search by SID: where an insert, what becomes of the base row, or a change stands among the entries at a SID, with what
 //! stands there. A caller who then changes what it found searches no more.
-ghost use Rattle.std.specs.Prelude.{◌≡◌, ◌<◌, ◌^◌, ◌&&◌, ◌||◌, List, not, is_some, drop, take, slice_get};
+ghost use Rattle.std.specs.Prelude.{◌≡◌, ◌<◌, ◌^◌, ◌&&◌, ◌||◌, List, [], not, is_some, length, drop, take, slice_get, IsNone};
 ghost use Rattle.std.specs.Option.{option_copied};
 ghost use Rattle.model.specs.declared.entry.Entry.{Entry};
 ghost use Rattle.model.specs.Entries.{IsLawful};
 ghost use Rattle.model.specs.Places.{rid_of_insert};
 ghost use Rattle.delta.specs.BySid.{base_change, is_deleted, row_sought, stand_of};
 ghost use Rattle.delta.specs.Search.{stands_before, IsSplit};
-ghost use Rattle.delta.specs.declared.by_sid.BaseChange.TheVariants.{Modified};
+ghost use Rattle.delta.specs.declared.by_sid.BaseChange.TheVariants.{Kept, Modified};
 
 use crate::places::row_behind;
 use crate::tree::DeltaTree;
@@ -82,6 +82,9 @@ impl DeltaTree {
         ensures rest { result.entries ≡ drop result.index self.now.entries }
         ensures lawful { IsLawful self.now.key_cols self.now.entries }
     {
+        if self.tree.len() == 0 {
+            return self.nothing_at(sid);
+        }
         let place = self.place_of(sid, sought);
         let row = self.row_sought(&place, sid, sought);
         let base = base_change(place.entry(), sid);
@@ -91,6 +94,24 @@ impl DeltaTree {
             row,
             base,
             entries: place.entries,
+        }
+    }
+
+    /// The place of whatever is looked for at a SID, where there are no entries.
+    fn nothing_at(&self, sid: u64) -> SidPlace<'_>
+        requires { length self.now.entries ≡ 0 }
+        ensures index { result.index ≡ 0 }
+        ensures rid { result.rid ≡ sid }
+        ensures row { IsNone (option_copied result.row) }
+        ensures base { result.base ≡ Kept }
+        ensures rest { result.entries ≡ [] }
+    {
+        SidPlace {
+            index: 0,
+            rid: sid,
+            row: None,
+            base: BaseChange::Kept,
+            entries: self.tree.iter(0, 0),
         }
     }
 
