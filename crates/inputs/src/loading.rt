@@ -23,9 +23,9 @@ pub fn load_table(alloc: Global, text: &[u8]) -> Result<StableTable, TableFault>
     ensures ok { IfOk result (λ table. IsTableOf text.now table.schema table.rows) }
     ensures err { IfErr result (λ fault. fault ≢ TableFault.NoMemory → IsFaultOf text.now fault) }
 {
-    let mut reader = records_of(alloc, text);
+    let mut reader = records_of(alloc, text)?;
     let mut fields = ByteRecord::new(alloc);
-    load_records(alloc, &mut reader, &mut fields)
+    load_records(alloc, reader.as_mut(), &mut fields)
 }
 
 /// The table of the records that the reader gives, which has given none yet.

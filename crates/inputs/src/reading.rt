@@ -7,14 +7,24 @@ use csv::{ByteRecord, ErrorKind, Reader, ReaderBuilder};
 use std::alloc::Global;
 use values::NoMemory;
 
-/// A reader of the text's records.
-pub(crate) fn records_of<'a>(alloc: Global, text: &'a [u8]) -> Reader<&'a [u8]>
-    ensures { IsReading text.now [] result }
+/// A reader of the text's records. It has 8 KB of the text in its value, which a box spares the stack of each function that
+/// holds it.
+///
+/// # Errors
+///
+/// `NoMemory` where the box is refused.
+#[inline(never)]
+pub(crate) fn records_of<'a>(
+    alloc: Global,
+    text: &'a [u8],
+) -> Result<Box<Reader<&'a [u8]>>, NoMemory>
+    ensures { IfOk result (λ reader. IsReading text.now [] reader.value) }
 {
-    ReaderBuilder::new()
+    let reader = ReaderBuilder::new()
         .has_headers(false)
         .flexible(true)
-        .from_reader(alloc, text)
+        .from_reader(alloc, text);
+    Ok(Box::new(alloc, reader)?)
 }
 
 /// Takes the next record into `fields`, or says that there is none.

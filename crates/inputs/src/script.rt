@@ -89,9 +89,9 @@ pub fn read_script(alloc: Global, schema: &Schema, text: &[u8]) -> Result<Script
     ensures err { IfErr result (λ fault. fault ≢ ScriptFault.NoMemory → IsScriptFaultOf schema.now text.now fault) }
 {
     let under = schema.copy()?;
-    let mut reader = records_of(alloc, text);
+    let mut reader = records_of(alloc, text)?;
     let mut fields = ByteRecord::new(alloc);
-    let (clients, calls) = read_calls(alloc, schema, &mut reader, &mut fields)?;
+    let (clients, calls) = read_calls(alloc, schema, reader.as_mut(), &mut fields)?;
     Ok(Script {
         schema: under,
         clients,

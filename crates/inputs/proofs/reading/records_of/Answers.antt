@@ -6,10 +6,10 @@ use Rattle.inputs.proofs.reading.records_of.Goals as goal
 
 pub returns : goal.returns
 returns c =
-    let made = c.from_reader.ensures in
+    let made = c.from_reader-reader.ensures in
     let e = c.flexible.ensures in
     let h = c.has_headers.ensures in
-    record {
+    rw c.in_ok-new.ensures.ok (record {
       plain = rw (e, h) at made.trim ∙ c.new.ensures.trim;
       ready = inr (inr (rw (e, h) at made.has_headers, made.headers));
       config = rw (e, h) at made.config ∙ c.new.ensures.config;
@@ -17,4 +17,4 @@ returns c =
       left = strip_bom c.args.text.now;
       source = made.source;
       reached = reached-start default_config st.StartRecord _ (strip_bom c.args.text.now) (sym made.state);
-    }
+    })

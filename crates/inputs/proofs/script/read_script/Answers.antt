@@ -1,5 +1,6 @@
-use Rattle.std.proofs.Common.{refl, sym, subst}
+use Rattle.std.proofs.Common.{[], refl, sym, subst}
 use Rattle.values.specs.Shape.{Columns}
+use Rattle.inputs.specs.Reading.{IsReading}
 use Rattle.inputs.specs.Typed.{IsTyped}
 use Rattle.inputs.specs.declared.fault.ScriptFault.TheVariants.{NoMemory}
 use Rattle.inputs.proofs.ReadLemmas.{passed-up}
@@ -11,11 +12,14 @@ returns-in_err-under-clause-err c =
 
 pub returns-in_err-clients-clause-err : goal.returns-in_err-clients-clause-err
 returns-in_err-clients-clause-err c =
+    let start = subst (IsReading c.args.text.now []) (sym c.as_mut.ensures.value) c.in_ok-reader.ensures in
     passed-up c.from_residual-in_err-clients.result _ _ c.from_residual-in_err-clients.ensures.1
-    (λ ne. c.in_err-clients.ensures.err ne c.args.text.now c.records_of-reader.ensures)
+    (λ ne. c.in_err-clients.ensures.err ne c.args.text.now start)
 
 pub returns-clause-ok : goal.returns-clause-ok
-returns-clause-ok c = c.in_ok-clients.ensures.ok c.args.text.now c.records_of-reader.ensures
+returns-clause-ok c =
+    c.in_ok-clients.ensures.ok c.args.text.now
+    (subst (IsReading c.args.text.now []) (sym c.as_mut.ensures.value) c.in_ok-reader.ensures)
 
 pub invariant_of-result : goal.invariant_of-result
 invariant_of-result c =
