@@ -5,16 +5,14 @@ use Rattle.std.specs.List.{All, range_with_len}
 use Rattle.std.proofs.lemmas.List.FromFn.{get_or-map-range_with_len, length-map-range_with_len}
 use Rattle.std.proofs.lemmas.List.{append-nil, length-append, map-append, take-append-drop}
 use Rattle.std.proofs.lemmas.List.Elements.{filter-append, filter_more}
-use Rattle.values.specs.declared.row.Row.{Row}
 use Rattle.inputs.specs.declared.call.ClientCall.{ClientCall}
 use Rattle.manager.specs.Managed.{Managed}
 use Rattle.shared.specs.Endings.{IsClosed}
 use Rattle.shared.specs.Sessions.{Seat, new_seat}
 use Rattle.shared.proofs.CallerLemmas.{closed_at_opening}
 use Rattle.pdtcli.specs.declared.reply.Reply.{Reply}
-use Rattle.pdtcli.specs.declared.reply.Reply.TheVariants.{Row as Shown}
 use Rattle.pdtcli.specs.declared.reply.ReplyLine.{ReplyLine}
-use Rattle.pdtcli.specs.Run.{is_decided, line_of, lines_of, shown_lines}
+use Rattle.pdtcli.specs.Run.{is_decided, line_of}
 use Rattle.pdtcli.specs.Outcome.{Left}
 use Rattle.pdtcli.specs.Clients.{SeatStep, SeatServed, IsSeatRun, HasMade, HaveMade, IsLeft, calls_of, decided_by, decided_in, each_with}
 
@@ -32,45 +30,16 @@ decided_in-one line = counted (is_decided line.reply) refl
     counted true e = rw e refl
     counted false e = rw e refl
 
-decided_in-shown : (asked : ClientCall) (rows : List Row) → decided_in (shown_lines asked rows) ≡ 0
-decided_in-shown asked [] = refl
-decided_in-shown asked (row ∷ rows) =
-    let first = decided_in-one (line_of asked (Shown row)) in
-    let rest = decided_in-shown asked rows in
-    let both = decided_in-append (line_of asked (Shown row) ∷ []) (shown_lines asked rows) in
-    omega (arith, first, rest, both)
-
--- a call's lines decide what its reply does
-decided_in-call : (asked : ClientCall) (rows : List Row) (reply : Reply) → decided_in (lines_of asked rows reply) ≡ decided_by reply
-decided_in-call asked rows reply =
-    let shown = decided_in-shown asked rows in
-    let last = decided_in-one (line_of asked reply) in
-    let both = decided_in-append (shown_lines asked rows) (line_of asked reply ∷ []) in
-    omega (arith, shown, last, both)
-
 -- ---- one call more
 
 IsSeatRun-more :
-    (o : Managed) (old mid new : Seat) (calls : List ClientCall) (lines : List ReplyLine) (asked : ClientCall)
-    (these : List ReplyLine)
-    → IsSeatRun o old calls lines mid → SeatServed o mid asked these new → IsSeatRun o old (calls ++ asked ∷ []) (lines ++ these) new
-IsSeatRun-more o old mid new [] lines asked these r s = (
-  new,
-  these,
-  [],
-  ap (λ (ls : List ReplyLine). ls ++ these) r.0 ∙ sym (append-nil these),
-  subst (λ (seat : Seat). SeatServed o seat asked these new) r.1 s,
-  (refl, refl),
-)
-IsSeatRun-more o old mid new (c ∷ calls) lines asked these r s =
-    let rest = r.2 in (
-      r.0,
-      r.1,
-      rest ++ these,
-      ap (λ (ls : List ReplyLine). ls ++ these) r.3 ∙ append_assoc r.1 rest these,
-      r.4,
-      IsSeatRun-more o r.0 mid new calls rest asked these r.5 s,
-    )
+    (o : Managed) (old mid new : Seat) (calls : List ClientCall) (lines : List ReplyLine) (asked : ClientCall) (line : ReplyLine)
+    → IsSeatRun o old calls lines mid → SeatServed o mid asked line new → IsSeatRun o old (calls ++ asked ∷ []) (lines ++ line ∷ []) new
+IsSeatRun-more o old mid new [] [] asked line r s = (new, subst (λ (seat : Seat). SeatServed o seat asked line new) r s, refl)
+IsSeatRun-more o old mid new (c ∷ calls) (l ∷ lines) asked line r s =
+    (r.0, r.1, IsSeatRun-more o r.0 mid new calls lines asked line r.2 s)
+IsSeatRun-more o old mid new [] (l ∷ lines) asked line r s = absurd r
+IsSeatRun-more o old mid new (c ∷ calls) [] asked line r s = absurd r
 
 abbrev is_of : ℕ → ClientCall → Bool
 is_of client asked = asked.client == client
@@ -96,20 +65,20 @@ other_more client calls i asked inside is other =
 -- a call of the client is made
 pub made_more :
     (o : Managed) (old mid new : Seat) (calls : List ClientCall) (i : ℕ) (lines : List ReplyLine) (asked : ClientCall)
-    (rows : List Row) (reply : Reply)
+    (reply : Reply)
     → i < length calls → asked ≡ get_or calls i asked → (asked.client == old.client) ≡ true
-    → HasMade o old (take i calls) lines mid → SeatStep o asked.call mid rows reply new
-    → HasMade o old (take (i + 1) calls) (lines ++ lines_of asked rows reply) new
-made_more o old mid new calls i lines asked rows reply inside is own made step = record {
-  run =
-      subst (λ (cs : List ClientCall). IsSeatRun o old cs (lines ++ lines_of asked rows reply) new)
-      (sym (own_more old.client calls i asked inside is own))
-      (IsSeatRun-more o old mid new (calls_of old.client (take i calls)) lines asked (lines_of asked rows reply) made.run
-      (record { rows = rows; reply = reply; step = step; told = refl }));
-  counted =
-      omega
-      (arith, made.counted, step.counted, decided_in-append lines (lines_of asked rows reply), decided_in-call asked rows reply);
-}
+    → HasMade o old (take i calls) lines mid → SeatStep o asked.call mid reply new
+    → HasMade o old (take (i + 1) calls) (lines ++ line_of asked reply ∷ []) new
+made_more o old mid new calls i lines asked reply inside is own made step =
+    let line = line_of asked reply in
+    record {
+      run =
+          subst (λ (cs : List ClientCall). IsSeatRun o old cs (lines ++ line ∷ []) new)
+          (sym (own_more old.client calls i asked inside is own))
+          (IsSeatRun-more o old mid new (calls_of old.client (take i calls)) lines asked line made.run
+          (record { reply = reply; step = step; told = refl }));
+      counted = omega (arith, made.counted, step.counted, decided_in-append lines (line ∷ []), decided_in-one line);
+    }
 
 -- another client's is not
 pub made_same : (o : Managed) (old new : Seat) (calls : List ClientCall) (i : ℕ) (lines : List ReplyLine) (asked : ClientCall)

@@ -9,12 +9,10 @@ use Rattle.std.proofs.lemmas.List.Sums.{length-filter, count_by-le-length}
 use Rattle.std.proofs.Math.Nat.{add-zero}
 use Rattle.std.proofs.lemmas.Bool.{eqb-true, eqb-false}
 use Rattle.std.proofs.Math.Bool.{and-false, and-true}
-use Rattle.values.specs.declared.row.Row.{Row}
 use Rattle.inputs.specs.declared.call.ClientCall.{ClientCall}
 use Rattle.pdtcli.specs.declared.reply.Reply.{Reply}
-use Rattle.pdtcli.specs.declared.reply.Reply.TheVariants.{Row as Shown}
 use Rattle.pdtcli.specs.declared.reply.ReplyLine.{ReplyLine}
-use Rattle.pdtcli.specs.Run.{is_decided, decided_count, counts_after, line_of, shown_lines, lines_of}
+use Rattle.pdtcli.specs.Run.{is_decided, decided_count, counts_after, line_of}
 
 -- the counts of so many clients
 abbrev pub counts_of : List ReplyLine → ℕ → List ℕ
@@ -47,16 +45,6 @@ decided_count-one line client = counted (is_counted client line) refl
     counted : (b : Bool) → is_counted client line ≡ b → decided_count (line ∷ []) client ≡ one_line b
     counted true e = rw e refl
     counted false e = rw e refl
-
--- a row that is shown counts nothing
-decided_count-shown : (asked : ClientCall) (rows : List Row) (client : ℕ) → decided_count (shown_lines asked rows) client ≡ 0
-decided_count-shown asked [] client = refl
-decided_count-shown asked (row ∷ rows) client =
-    let first = line_of asked (Shown row) in
-    let none : decided_count (first ∷ []) client ≡ 0 = decided_count-one first client ∙ ap one_line (and-false (asked.client == client)) in
-    let rest = decided_count-shown asked rows client in
-    let both = decided_count-append (first ∷ []) (shown_lines asked rows) client in
-    omega (arith, none, rest, both)
 
 -- ---- all clients
 
@@ -110,24 +98,13 @@ decided_at lines these clients client i there inside one = told (client == i) re
         let all : decided_count lines i + decided_count these i ≡ decided_count lines i = omega (arith, nothing) in
         after ∙ all ∙ before ∙ sym other
 
--- the lines of a call count what its reply does
-decided_count-call : (asked : ClientCall) (rows : List Row) (reply : Reply) (i : ℕ)
-    → decided_count (lines_of asked rows reply) i ≡ one_line ((asked.client == i) && is_decided reply)
-decided_count-call asked rows reply i =
-    let last = line_of asked reply in
-    let nothing_more : 0 + decided_count (last ∷ []) i ≡ decided_count (last ∷ []) i = omega arith in
-    decided_count-append (shown_lines asked rows) (last ∷ []) i
-    ∙ ap (λ n. n + decided_count (last ∷ []) i) (decided_count-shown asked rows i)
-    ∙ nothing_more
-    ∙ decided_count-one last i
-
-pub counts_after-call : (lines : List ReplyLine) (clients : ℕ) (asked : ClientCall) (rows : List Row) (reply : Reply)
+pub counts_after-call : (lines : List ReplyLine) (clients : ℕ) (asked : ClientCall) (reply : Reply)
     → asked.client < clients
-    → counts_after asked.client reply (counts_of lines clients) ≡ counts_of (lines ++ lines_of asked rows reply) clients
-counts_after-call lines clients asked rows reply there = told (is_decided reply) refl
+    → counts_after asked.client reply (counts_of lines clients) ≡ counts_of (lines ++ line_of asked reply ∷ []) clients
+counts_after-call lines clients asked reply there = told (is_decided reply) refl
   where
     these : List ReplyLine
-    these = lines_of asked rows reply
+    these = line_of asked reply ∷ []
 
     counts : List ℕ
     counts = counts_of lines clients
@@ -139,7 +116,7 @@ counts_after-call lines clients asked rows reply there = told (is_decided reply)
     within i inside = omega (arith, inside, length-counts_of (lines ++ these) clients)
 
     counted : (b : Bool) (i : ℕ) → is_decided reply ≡ b → decided_count these i ≡ one_line ((asked.client == i) && b)
-    counted b i e = decided_count-call asked rows reply i ∙ ap (λ c. one_line ((asked.client == i) && c)) e
+    counted b i e = decided_count-one (line_of asked reply) i ∙ ap (λ c. one_line ((asked.client == i) && c)) e
 
     told : (b : Bool) → is_decided reply ≡ b → cond b (set_at counts asked.client) counts ≡ counts_of (lines ++ these) clients
     told true e =

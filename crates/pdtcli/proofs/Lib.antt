@@ -2,8 +2,8 @@ pub mod RunLemmas
 mod ClientsLemmas
 mod ToldLemmas
 mod OutputLemmas
+mod BatchLemmas
 mod RecordsLemmas
 mod ProgramLemmas
-mod ReadsLemmas
 mod CountLemmas
 pub mod CallerLemmas

@@ -3,6 +3,8 @@ use Rattle.std.proofs.Common.{◌≡◌, ◌∙◌, ℕ, zero, suc, List, [], �
 use Rattle.std.specs.Prelude.{OnOk}
 use Rattle.std.proofs.KnownBytes.{Appends-trans}
 use Rattle.std.proofs.lemmas.List.{append-nil, map-append}
+use Rattle.std.proofs.lemmas.Grind.{flat_map-append}
+use Rattle.std.specs.List.{flat_map}
 use Rattle.std.specs.Io.KnownBytes.{Appends}
 use Rattle.std.specs.List.{slice_get}
 use Rattle.values.specs.declared.row.Row.{Row}
@@ -19,7 +21,9 @@ use Rattle.pdtcli.specs.Output.{header_cells, header_fields, image_text, kind_te
 use Rattle.pdtcli.specs.Records.{record_text}
 use Rattle.pdtcli.specs.Shown.{row_fields}
 use Rattle.inputs.specs.Reading.{Fields}
-use Rattle.pdtcli.specs.Replies.{line_fields}
+use Rattle.pdtcli.specs.Replies.{line_fields, line_records, shown_fields, shown_rows}
+use Rattle.pdtcli.specs.declared.reply.Reply.{Reply}
+use Rattle.pdtcli.specs.declared.reply.Reply.TheVariants.{Scanned}
 use Rattle.pdtcli.specs.declared.reply.ReplyLine.{ReplyLine}
 use Rattle.inputs.proofs.CallerLemmas.{drop-slice_get}
 
@@ -31,23 +35,40 @@ records_text-append (r ∷ rs) qs =
     ap (λ (z : List ℕ). record_text r ++ z) (records_text-append rs qs)
     ∙ sym (append_assoc (record_text r) (records_text rs) (records_text qs))
 
-pub lines_text-append : (clients : List (List ℕ)) (a b : List ReplyLine)
-    → lines_text clients (a ++ b) ≡ lines_text clients a ++ lines_text clients b
-lines_text-append clients a b =
-    ap records_text (map-append (line_fields clients) a b)
-    ∙ records_text-append (map (line_fields clients) a) (map (line_fields clients) b)
+-- one record more
+pub records_text-more : (rs : List Fields) (fields : Fields) → records_text rs ++ record_text fields ≡ records_text (rs ++ fields ∷ [])
+records_text-more rs fields =
+    ap (λ (z : List ℕ). records_text rs ++ z) (sym (append-nil (record_text fields))) ∙ sym (records_text-append rs (fields ∷ []))
 
 pub rows_text-append : (a b : List Row) → rows_text (a ++ b) ≡ rows_text a ++ rows_text b
 rows_text-append a b = ap records_text (map-append row_fields a b) ∙ records_text-append (map row_fields a) (map row_fields b)
 
 -- one reply line more
-pub lines_text-more : (start : List ℕ) (clients : List (List ℕ)) (lines : List ReplyLine) (line : ReplyLine)
-    → (start ++ lines_text clients lines) ++ record_text (line_fields clients line) ≡ start ++ lines_text clients (lines ++ line ∷ [])
-lines_text-more start clients lines line =
-    append_assoc start (lines_text clients lines) (record_text (line_fields clients line))
-    ∙ ap (λ (z : List ℕ). start ++ z)
-    (ap (λ (z : List ℕ). lines_text clients lines ++ z) (sym (append-nil (record_text (line_fields clients line))))
-    ∙ sym (lines_text-append clients lines (line ∷ [])))
+pub lines_text-more : (clients : List (List ℕ)) (lines : List ReplyLine) (line : ReplyLine)
+    → lines_text clients lines ++ records_text (line_records clients line) ≡ lines_text clients (lines ++ line ∷ [])
+lines_text-more clients lines line =
+    let records : ReplyLine → List Fields = line_records clients in
+    sym (ap records_text (flat_map-append records lines (line ∷ []) ∙ ap (λ rs. flat_map records lines ++ rs) (append-nil (records line)))
+    ∙ records_text-append (flat_map records lines) (records line))
+
+-- the rows of a line, and its last record
+pub line_text-parts : (clients : List (List ℕ)) (line : ReplyLine)
+    → records_text (map (shown_fields clients line) (shown_rows line.reply)) ++ record_text (line_fields clients line)
+    ≡ records_text (line_records clients line)
+line_text-parts clients line = records_text-more (map (shown_fields clients line) (shown_rows line.reply)) (line_fields clients line)
+
+-- no other reply than a scan's shows a row
+pub no_row_shown : (r : Reply) → ((rows : List Row) → r ≡ Scanned rows → ⊥) → shown_rows r ≡ []
+no_row_shown (Scanned rows) not = absurd (not rows refl)
+no_row_shown r not = refl
+
+-- one row of it more
+pub shown_text-more : (clients : List (List ℕ)) (line : ReplyLine) (rows : List Row) (row : Row)
+    → records_text (map (shown_fields clients line) rows) ++ record_text (shown_fields clients line row)
+    ≡ records_text (map (shown_fields clients line) (rows ++ row ∷ []))
+shown_text-more clients line rows row =
+    records_text-more (map (shown_fields clients line) rows) (shown_fields clients line row)
+    ∙ ap records_text (sym (map-append (shown_fields clients line) rows (row ∷ [])))
 
 -- ---- the header
 

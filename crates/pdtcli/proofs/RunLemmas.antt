@@ -4,7 +4,6 @@ use Rattle.std.specs.Prelude.{IfSome, IsNone, MatchResult}
 use Rattle.std.proofs.lemmas.List.{take-append-le, append-nil, length-append, length-set}
 use Rattle.std.proofs.lemmas.List.Elements.{All-set}
 use Rattle.values.specs.Shape.{Columns}
-use Rattle.values.specs.declared.row.Row.{Row}
 use Rattle.model.specs.declared.write.CommitReply.{CommitReply}
 use Rattle.model.specs.declared.write.CommitReply.TheVariants.{Committed, Conflict, TooOld, Full}
 use Rattle.model.specs.declared.write.Write.{Write}
@@ -14,7 +13,7 @@ use Rattle.inputs.specs.declared.call.Call.{Call}
 use Rattle.inputs.specs.declared.call.Call.TheVariants as call
 use Rattle.inputs.specs.declared.call.ClientCall.{ClientCall}
 use Rattle.pdtcli.specs.declared.reply.Reply.{Reply}
-use Rattle.pdtcli.specs.declared.reply.Reply.TheVariants.{Begun, AlreadyOpen, NotOpen, Wrote, KeyColumn, TextTooLong, Row as Shown, Missing, NoRow, Place, Rows, End, Decided, Aborted, Folded, Stored, DeviceFailed, StoreFailed, GenerationsSpent, Cut, Ended, Stranger, NoMemory}
+use Rattle.pdtcli.specs.declared.reply.Reply.TheVariants.{Begun, AlreadyOpen, NotOpen, Wrote, KeyColumn, TextTooLong, Row as Shown, Missing, NoRow, Place, Rows, Scanned, Decided, Aborted, Folded, Stored, DeviceFailed, StoreFailed, GenerationsSpent, Cut, Ended, Stranger, NoMemory}
 use Rattle.pdtcli.specs.declared.reply.ReplyLine.{ReplyLine}
 use Rattle.txn.specs.Txn.{Transaction}
 use Rattle.txn.specs.Version.{Lower, alone}
@@ -55,17 +54,20 @@ own_later m r txn commits are (Committed n) x is h =
     }
 own_later m r txn commits are (Conflict n) x is h =
     subst
-    (λ (cs : List Effects). (txn.begin ≤ m.start.base + length cs) × (m.start.base ≤ txn.begin → txn.table ≡ table_after m.start cs txn.begin)
+    (λ (cs : List Effects).
+    (txn.begin ≤ m.start.base + length cs) × (m.start.base ≤ txn.begin → txn.table ≡ table_after m.start cs txn.begin)
     → IsOwn (with_record m r) txn)
     (are ∙ is) (λ k. record { schema = h.schema; limit = h.limit; begun = k.0; snapshot = k.1 }) (h.begun, h.snapshot)
 own_later m r txn commits are (TooOld n) x is h =
     subst
-    (λ (cs : List Effects). (txn.begin ≤ m.start.base + length cs) × (m.start.base ≤ txn.begin → txn.table ≡ table_after m.start cs txn.begin)
+    (λ (cs : List Effects).
+    (txn.begin ≤ m.start.base + length cs) × (m.start.base ≤ txn.begin → txn.table ≡ table_after m.start cs txn.begin)
     → IsOwn (with_record m r) txn)
     (are ∙ is) (λ k. record { schema = h.schema; limit = h.limit; begun = k.0; snapshot = k.1 }) (h.begun, h.snapshot)
 own_later m r txn commits are (Full n) x is h =
     subst
-    (λ (cs : List Effects). (txn.begin ≤ m.start.base + length cs) × (m.start.base ≤ txn.begin → txn.table ≡ table_after m.start cs txn.begin)
+    (λ (cs : List Effects).
+    (txn.begin ≤ m.start.base + length cs) × (m.start.base ≤ txn.begin → txn.table ≡ table_after m.start cs txn.begin)
     → IsOwn (with_record m r) txn)
     (are ∙ is) (λ k. record { schema = h.schema; limit = h.limit; begun = k.0; snapshot = k.1 }) (h.begun, h.snapshot)
 
@@ -125,7 +127,7 @@ begin_keeps client old new Missing own h = absurd h
 begin_keeps client old new NoRow own h = absurd h
 begin_keeps client old new (Place below there) own h = absurd h
 begin_keeps client old new (Rows count) own h = absurd h
-begin_keeps client old new (End count) own h = absurd h
+begin_keeps client old new (Scanned rows) own h = absurd h
 begin_keeps client old new Folded own h = absurd h
 begin_keeps client old new (Stored generation) own h = absurd h
 begin_keeps client old new (DeviceFailed i) own h = absurd h
@@ -153,7 +155,7 @@ write_keeps txn write old new Missing mine own h = absurd h
 write_keeps txn write old new NoRow mine own h = absurd h
 write_keeps txn write old new (Place below there) mine own h = absurd h
 write_keeps txn write old new (Rows count) mine own h = absurd h
-write_keeps txn write old new (End count) mine own h = absurd h
+write_keeps txn write old new (Scanned rows) mine own h = absurd h
 write_keeps txn write old new Folded mine own h = absurd h
 write_keeps txn write old new (Stored generation) mine own h = absurd h
 write_keeps txn write old new (DeviceFailed i) mine own h = absurd h
@@ -187,7 +189,7 @@ commit_keeps txn old new Missing own h = absurd h
 commit_keeps txn old new NoRow own h = absurd h
 commit_keeps txn old new (Place below there) own h = absurd h
 commit_keeps txn old new (Rows count) own h = absurd h
-commit_keeps txn old new (End count) own h = absurd h
+commit_keeps txn old new (Scanned rows) own h = absurd h
 commit_keeps txn old new Folded own h = absurd h
 commit_keeps txn old new (Stored generation) own h = absurd h
 commit_keeps txn old new (DeviceFailed i) own h = absurd h
@@ -235,30 +237,30 @@ rebuild_keeps : (old new : Side) (reply : Reply) → IfSome old.own (IsOwn old.m
 rebuild_keeps old new reply own h = side_own old new own h.0 (rebuilt_keeps old.manager new.manager h.1.0 h.1.2)
 
 -- by the transaction that is open
-step_keeps : (client : ℕ) (asked : Call) (m : Managed) (mine : Option Transaction) (new : Side) (rows : List Row) (reply : Reply)
-    → IfSome mine (IsOwn m) → SideStep client asked (record { manager = m; own = mine }) rows reply new
+step_keeps : (client : ℕ) (asked : Call) (m : Managed) (mine : Option Transaction) (new : Side) (reply : Reply)
+    → IfSome mine (IsOwn m) → SideStep client asked (record { manager = m; own = mine }) reply new
     → SideKeeps (record { manager = m; own = mine }) new
-step_keeps client call.Begin m mine new rows reply own h = begin_keeps client _ new reply own h.1
-step_keeps client (call.Write write) m None new rows reply own h = side_same _ new own h.1.1
-step_keeps client (call.Write write) m (Some txn) new rows reply own h = write_keeps txn write _ new reply own own h.1
-step_keeps client (call.Read read) m mine new rows reply own h = side_same _ new own h.1
-step_keeps client call.Commit m None new rows reply own h = side_same _ new own h.1.1
-step_keeps client call.Commit m (Some txn) new rows reply own h = commit_keeps txn _ new reply own h.1
-step_keeps client call.Abort m None new rows reply own h = side_same _ new own h.1.1
-step_keeps client call.Abort m (Some txn) new rows reply own h = side_with _ None tt new h.1.1
-step_keeps client call.Fold m mine new rows reply own h = fold_keeps _ new reply own h.1
-step_keeps client call.Checkpoint m mine new rows reply own h = rebuild_keeps _ new reply own h.1
-step_keeps client call.Cut m mine new rows reply own h = cut_keeps _ new own h.1.1
+step_keeps client call.Begin m mine new reply own h = begin_keeps client _ new reply own h
+step_keeps client (call.Write write) m None new reply own h = side_same _ new own h.1
+step_keeps client (call.Write write) m (Some txn) new reply own h = write_keeps txn write _ new reply own own h
+step_keeps client (call.Read read) m mine new reply own h = side_same _ new own h.1
+step_keeps client call.Commit m None new reply own h = side_same _ new own h.1
+step_keeps client call.Commit m (Some txn) new reply own h = commit_keeps txn _ new reply own h
+step_keeps client call.Abort m None new reply own h = side_same _ new own h.1
+step_keeps client call.Abort m (Some txn) new reply own h = side_with _ None tt new h.1
+step_keeps client call.Fold m mine new reply own h = fold_keeps _ new reply own h
+step_keeps client call.Checkpoint m mine new reply own h = rebuild_keeps _ new reply own h
+step_keeps client call.Cut m mine new reply own h = cut_keeps _ new own h.1
 
 -- the clients are ready again
 pub ready_again : (schema : Columns) (count : ℕ) (m : Managed) (transactions : List (Option Transaction))
     → IsReady schema count m transactions
-    → (client : ℕ) (asked : Call) (mine : Option Transaction) (new : Side) (rows : List Row) (reply : Reply)
+    → (client : ℕ) (asked : Call) (mine : Option Transaction) (new : Side) (reply : Reply)
     → IfSome mine (IsOwn m)
-    → SideStep client asked (record { manager = m; own = mine }) rows reply new
+    → SideStep client asked (record { manager = m; own = mine }) reply new
     → IsReady schema count new.manager (set transactions client new.own)
-ready_again schema count m transactions h client asked mine new rows reply own step =
-    let kept = step_keeps client asked m mine new rows reply own step in
+ready_again schema count m transactions h client asked mine new reply own step =
+    let kept = step_keeps client asked m mine new reply own step in
     record {
       schema_is = kept.keeps.schema ∙ h.schema_is;
       many = length-set transactions client new.own ∙ h.many;
@@ -268,35 +270,19 @@ ready_again schema count m transactions h client asked mine new rows reply own s
     }
 
 -- and no record has come into the history that wasn't made
-pub made_again : (first m : Managed) (client : ℕ) (asked : Call) (mine : Option Transaction) (new : Side) (rows : List Row) (reply : Reply)
+pub made_again : (first m : Managed) (client : ℕ) (asked : Call) (mine : Option Transaction) (new : Side) (reply : Reply)
     → IfSome mine (IsOwn m) → first.made + length m.history ≤ length first.history + m.made
-    → SideStep client asked (record { manager = m; own = mine }) rows reply new
+    → SideStep client asked (record { manager = m; own = mine }) reply new
     → first.made + length new.manager.history ≤ length first.history + new.manager.made
-made_again first m client asked mine new rows reply own before step =
-    let kept = (step_keeps client asked m mine new rows reply own step).keeps.made in
+made_again first m client asked mine new reply own before step =
+    let kept = (step_keeps client asked m mine new reply own step).keeps.made in
     omega (arith, before, kept)
 
 -- ---- a run goes on
 
-pub IsRun-more : (old mid new : State) (calls : List ClientCall) (lines : List ReplyLine) (asked : ClientCall)
-    (these : List ReplyLine)
-    → IsRun old calls lines mid → Step mid asked these new → IsRun old (calls ++ asked ∷ []) (lines ++ these) new
-IsRun-more old mid new [] lines asked these r s = (
-  new,
-  these,
-  [],
-  ap (λ (ls : List ReplyLine). ls ++ these) r.0 ∙ sym (append-nil these),
-  subst (λ (st : State). Step st asked these new) r.1 s,
-  (refl, refl),
-)
-IsRun-more old mid new (c ∷ calls) lines asked these r s =
-    let next = r.0 in
-    let first = r.1 in
-    let rest = r.2 in (
-      next,
-      first,
-      rest ++ these,
-      ap (λ (ls : List ReplyLine). ls ++ these) r.3 ∙ append_assoc first rest these,
-      r.4,
-      IsRun-more next mid new calls rest asked these r.5 s,
-    )
+pub IsRun-more : (old mid new : State) (calls : List ClientCall) (lines : List ReplyLine) (asked : ClientCall) (line : ReplyLine)
+    → IsRun old calls lines mid → Step mid asked line new → IsRun old (calls ++ asked ∷ []) (lines ++ line ∷ []) new
+IsRun-more old mid new [] [] asked line r s = (new, subst (λ (st : State). Step st asked line new) r s, refl)
+IsRun-more old mid new (c ∷ calls) (l ∷ lines) asked line r s = (r.0, r.1, IsRun-more r.0 mid new calls lines asked line r.2 s)
+IsRun-more old mid new [] (l ∷ lines) asked line r s = absurd r
+IsRun-more old mid new (c ∷ calls) [] asked line r s = absurd r

@@ -1,8 +1,7 @@
 -- A run of clients on threads of their own: what each call of a session may be answered, and what all of them leave.
-use Rattle.std.specs.Prelude.{◌≡◌, ◌≢◌, ◌⊎◌, ℕ, ◌+◌, ◌<◌, ◌≤◌, ◌==◌, cond, Some, IsNone, IsSome, Result, List, [], ◌∷◌, ◌++◌, All, filter, flat_map, length, map}
+use Rattle.std.specs.Prelude.{◌≡◌, ◌≢◌, ◌⊎◌, ℕ, ◌+◌, ◌<◌, ◌≤◌, ◌==◌, cond, Some, IsNone, IsSome, Result, List, [], ◌∷◌, All, filter, flat_map, length, map}
 use Rattle.std.specs.List.{range_with_len}
 use mathlib.Core.List.{IsPrefix}
-use Rattle.values.specs.declared.row.Row.{Row}
 use Rattle.inputs.specs.declared.call.Call.{Call}
 use Rattle.inputs.specs.declared.call.Call.TheVariants as call
 use Rattle.inputs.specs.declared.call.ClientCall.{ClientCall}
@@ -22,7 +21,7 @@ use Rattle.pdtcli.specs.Reads.{ReadStep}
 use Rattle.shared.specs.declared.fault.ShareFault.TheVariants as share_fault
 use Rattle.pdtcli.specs.declared.clients.RunFault.{RunFault}
 use Rattle.pdtcli.specs.declared.clients.RunFault.TheVariants as run_fault
-use Rattle.pdtcli.specs.Run.{Side, WriteStep, AbortStep, checkpoint_reply, is_decided, lines_of}
+use Rattle.pdtcli.specs.Run.{Side, WriteStep, AbortStep, checkpoint_reply, is_decided, line_of}
 
 -- ---- one call
 
@@ -57,45 +56,43 @@ IsCutReply o (Cut count) =
 IsCutReply o NoMemory = Unit {0}
 IsCutReply o reply = ⊥
 
--- the session's call may show these rows, be answered so, and leave this
-abbrev pub SeatAnswers : Managed → Call → Seat → List Row → Reply → Seat → Type 0
-SeatAnswers o call.Begin old rows reply new = (rows ≡ []) × SeatBegin o old reply new
-SeatAnswers o (call.Write write) old rows reply new =
-    (rows ≡ []) × WriteStep old.txn write (side_of_seat o old) reply (side_of_seat o new) × (new ≡ record old { txn = new.txn })
-SeatAnswers o (call.Read read) old rows reply new = ReadStep old.txn read rows reply × (new ≡ old)
-SeatAnswers o call.Commit old rows reply new = (rows ≡ []) × SeatCommit o old reply new
-SeatAnswers o call.Abort old rows reply new =
-    (rows ≡ []) × AbortStep old.txn (side_of_seat o old) reply (side_of_seat o new) × (new ≡ record old { txn = new.txn })
-SeatAnswers o call.Fold old rows reply new = (rows ≡ []) × ((reply ≡ Folded) ⊎ (reply ≡ NoMemory)) × (new ≡ old)
-SeatAnswers o call.Checkpoint old rows reply new =
-    (rows ≡ []) × ((answer : Result ℕ CheckpointFault) × (reply ≡ checkpoint_reply answer)) × (new ≡ old)
-SeatAnswers o call.Cut old rows reply new = (rows ≡ []) × IsCutReply o reply × (new ≡ old)
+-- the session's call may be answered so, and leave this
+abbrev pub SeatAnswers : Managed → Call → Seat → Reply → Seat → Type 0
+SeatAnswers o call.Begin old reply new = SeatBegin o old reply new
+SeatAnswers o (call.Write write) old reply new =
+    WriteStep old.txn write (side_of_seat o old) reply (side_of_seat o new) × (new ≡ record old { txn = new.txn })
+SeatAnswers o (call.Read read) old reply new = ReadStep old.txn read reply × (new ≡ old)
+SeatAnswers o call.Commit old reply new = SeatCommit o old reply new
+SeatAnswers o call.Abort old reply new =
+    AbortStep old.txn (side_of_seat o old) reply (side_of_seat o new) × (new ≡ record old { txn = new.txn })
+SeatAnswers o call.Fold old reply new = ((reply ≡ Folded) ⊎ (reply ≡ NoMemory)) × (new ≡ old)
+SeatAnswers o call.Checkpoint old reply new = ((answer : Result ℕ CheckpointFault) × (reply ≡ checkpoint_reply answer)) × (new ≡ old)
+SeatAnswers o call.Cut old reply new = IsCutReply o reply × (new ≡ old)
 
 -- how many commits a reply decides
 abbrev pub decided_by : Reply → ℕ
 decided_by reply = cond (is_decided reply) 1 0
 
 -- and the session counts each commit that is decided, and nothing else
-pub record SeatStep (o : Managed) (asked : Call) (old : Seat) (rows : List Row) (reply : Reply) (new : Seat) : Type 0 where
-  pub answers : SeatAnswers o asked old rows reply new
+pub record SeatStep (o : Managed) (asked : Call) (old : Seat) (reply : Reply) (new : Seat) : Type 0 where
+  pub answers : SeatAnswers o asked old reply new
   pub counted : new.count ≡ old.count + decided_by reply
   pub client : new.client ≡ old.client
 
 -- ---- one client
 
--- a call's lines are those of such a step
-pub record SeatServed (o : Managed) (old : Seat) (asked : ClientCall) (lines : List ReplyLine) (new : Seat) : Type 0 where
-  pub rows : List Row
+-- a call's line is that of such a step
+pub record SeatServed (o : Managed) (old : Seat) (asked : ClientCall) (line : ReplyLine) (new : Seat) : Type 0 where
   pub reply : Reply
-  pub step : SeatStep o asked.call old rows reply new
-  pub told : lines ≡ lines_of asked rows reply
+  pub step : SeatStep o asked.call old reply new
+  pub told : line ≡ line_of asked reply
 
--- the lines of each call, in order
+-- a line for each call, in order
 abbrev pub IsSeatRun : Managed → Seat → List ClientCall → List ReplyLine → Seat → Type 0
-IsSeatRun o old [] lines new = (lines ≡ []) × (new ≡ old)
-IsSeatRun o old (asked ∷ calls) lines new =
-    (mid : Seat) × (these : List ReplyLine) × (rest : List ReplyLine) × (lines ≡ these ++ rest) × SeatServed o old asked these mid
-    × IsSeatRun o mid calls rest new
+IsSeatRun o old [] [] new = new ≡ old
+IsSeatRun o old (asked ∷ calls) (line ∷ lines) new = (mid : Seat) × SeatServed o old asked line mid × IsSeatRun o mid calls lines new
+IsSeatRun o old [] (line ∷ lines) new = ⊥
+IsSeatRun o old (asked ∷ calls) [] new = ⊥
 
 -- a client's calls
 abbrev pub calls_of : ℕ → List ClientCall → List ClientCall

@@ -6,7 +6,7 @@ use Rattle.manager.specs.Managed.{Managed}
 pub record Left : Type 0 where
   -- the clients' names
   pub clients : List (List ℕ)
-  -- the lines of the rows that each call shows, and of its reply
+  -- a line for each call, with its reply
   pub lines : List ReplyLine
   pub manager : Managed
   -- for each client, how many of its commits were decided

@@ -1,5 +1,5 @@
 -- What is shown of a run: its reply lines, an empty line, and the image with its header.
-use Rattle.std.specs.Prelude.{ℕ, suc, Bool, true, false, cond, nat_lt, List, [], ◌∷◌, ◌++◌, map}
+use Rattle.std.specs.Prelude.{ℕ, suc, Bool, true, false, cond, nat_lt, List, [], ◌∷◌, ◌++◌, flat_map, map}
 use Rattle.std.specs.List.{list_any}
 use Rattle.values.specs.Shape.{Columns}
 use Rattle.values.specs.declared.row.Row.{Row}
@@ -10,7 +10,7 @@ use Rattle.pdtcli.specs.Outcome.{Left}
 use Rattle.inputs.specs.Header.{kind_word}
 use Rattle.inputs.specs.Reading.{Fields}
 use Rattle.pdtcli.specs.Records.{record_text}
-use Rattle.pdtcli.specs.Replies.{line_fields}
+use Rattle.pdtcli.specs.Replies.{line_records}
 use Rattle.pdtcli.specs.Shown.{row_fields}
 use Rattle.pdtcli.specs.declared.reply.Reply.{Reply}
 use Rattle.pdtcli.specs.declared.reply.Reply.TheVariants as reply
@@ -41,7 +41,7 @@ records_text (fields ∷ records) = record_text fields ++ records_text records
 
 -- a run's reply lines
 abbrev pub lines_text : List (List ℕ) → List ReplyLine → List ℕ
-lines_text clients lines = records_text (map (line_fields clients) lines)
+lines_text clients lines = records_text (flat_map (line_records clients) lines)
 
 abbrev pub rows_text : List Row → List ℕ
 rows_text rows = records_text (map row_fields rows)

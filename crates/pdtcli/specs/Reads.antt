@@ -1,5 +1,5 @@
--- What a read of an open transaction may be answered: rows that are shown one a line, and the reply that ends them.
-use Rattle.std.specs.Prelude.{◌≡◌, ℕ, ◌<◌, ◌⊎◌, Option, Some, None, is_some, List, [], length, take, drop, slice_get}
+-- What a read of an open transaction may be answered.
+use Rattle.std.specs.Prelude.{◌≡◌, ℕ, ◌<◌, ◌⊎◌, Option, Some, None, is_some, List, length, take, drop, slice_get}
 use Rattle.values.specs.Shape.{Columns, key_fault}
 use Rattle.values.specs.declared.fault.ShapeFault.{ShapeFault}
 use Rattle.values.specs.declared.fault.ShapeFault.TheVariants as shape
@@ -28,26 +28,25 @@ IsFoundRow (Some row) absent answer = (answer ≡ reply.Row row) ⊎ (answer ≡
 abbrev pub rows_between : Transaction → ℕ → ℕ → List Row
 rows_between txn from to = drop from (take to (rows_of (image_of txn)))
 
--- a scan shows all of these rows and their number, or the first of them where memory is refused to another
-abbrev pub IsScan : List Row → List Row → Reply → Type 0
-IsScan all rows (reply.End count) = (rows ≡ all) × (count ≡ length all)
-IsScan all rows reply.NoMemory = (n : ℕ) × (n < length all) × (rows ≡ take n all)
-IsScan all rows answer = ⊥
+-- a scan shows all of these rows; only where there are some, memory may be refused to it
+abbrev pub IsScan : List Row → Reply → Type 0
+IsScan all (reply.Scanned rows) = rows ≡ all
+IsScan all reply.NoMemory = 0 < length all
+IsScan all answer = ⊥
 
--- a read whose key fits shows these rows and ends so
-abbrev pub ReadGives : Transaction → Read → List Row → Reply → Type 0
-ReadGives txn (Get key) rows answer = (rows ≡ []) × IsFoundRow (row_at (image_of txn) key) reply.Missing answer
-ReadGives txn (At rid) rows answer = (rows ≡ []) × IsFoundRow (slice_get (rows_of (image_of txn)) rid) reply.NoRow answer
-ReadGives txn (Rank key) rows answer = (rows ≡ []) × (answer ≡ reply.Place (rank key (image_of txn)) (is_some (row_at (image_of txn) key)))
-ReadGives txn Len rows answer = (rows ≡ []) × (answer ≡ reply.Rows (length (rows_of (image_of txn))))
-ReadGives txn (Scan from to) rows answer = IsScan (rows_between txn from to) rows answer
+-- a read whose key fits is answered so
+abbrev pub ReadGives : Transaction → Read → Reply → Type 0
+ReadGives txn (Get key) answer = IsFoundRow (row_at (image_of txn) key) reply.Missing answer
+ReadGives txn (At rid) answer = IsFoundRow (slice_get (rows_of (image_of txn)) rid) reply.NoRow answer
+ReadGives txn (Rank key) answer = answer ≡ reply.Place (rank key (image_of txn)) (is_some (row_at (image_of txn) key))
+ReadGives txn Len answer = answer ≡ reply.Rows (length (rows_of (image_of txn)))
+ReadGives txn (Scan from to) answer = IsScan (rows_between txn from to) answer
 
 -- a text of the key that is too long is told before any look at the image
-abbrev pub OpenReadStep : Option ShapeFault → Transaction → Read → List Row → Reply → Type 0
-OpenReadStep None txn read rows answer = ReadGives txn read rows answer
-OpenReadStep (Some fault) txn read rows answer =
-    (rows ≡ []) × ((cell : ℕ) × (fault ≡ shape.TextTooLong cell) × (answer ≡ reply.TextTooLong cell))
+abbrev pub OpenReadStep : Option ShapeFault → Transaction → Read → Reply → Type 0
+OpenReadStep None txn read answer = ReadGives txn read answer
+OpenReadStep (Some fault) txn read answer = (cell : ℕ) × (fault ≡ shape.TextTooLong cell) × (answer ≡ reply.TextTooLong cell)
 
-abbrev pub ReadStep : Option Transaction → Read → List Row → Reply → Type 0
-ReadStep None read rows answer = (rows ≡ []) × (answer ≡ reply.NotOpen)
-ReadStep (Some txn) read rows answer = OpenReadStep (read_fault txn.schema read) txn read rows answer
+abbrev pub ReadStep : Option Transaction → Read → Reply → Type 0
+ReadStep None read answer = answer ≡ reply.NotOpen
+ReadStep (Some txn) read answer = OpenReadStep (read_fault txn.schema read) txn read answer

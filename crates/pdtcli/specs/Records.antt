@@ -1,5 +1,6 @@
 -- The text of records, as the crate `csv` writes them, and how far a writer of them has come.
-use Rattle.std.specs.Prelude.{◌≡◌, ◌&&◌, ◌||◌, ◌==◌, ◌^◌, ◌-◌, not, min, length, ℕ, false, true, Some, List, ◌++◌, Vec}
+use Rattle.std.specs.Prelude.{◌≡◌, ◌&&◌, ◌||◌, ◌==◌, ◌^◌, ◌-◌, not, min, length, ℕ, false, true, Option, Some, List, ◌++◌, Vec}
+use Rattle.std.specs.Io.KnownBytes.{Appends}
 use Rattle.std.specs.declared.alloc.Global.{Global}
 use Rattle.csv.specs.Writing.{default_writer, with_flexible, is_blank, row_body, row_text}
 use Rattle.csv.specs.Writing.{writer_setup, fields_written, has_written, text_written}
@@ -32,3 +33,15 @@ pub record IsUnderway (writer : Writer (Vec ℕ Global)) (text : List ℕ) (fiel
 -- the record that was under way has these fields more, whatever it had before
 abbrev pub TakesFields : Writer (Vec ℕ Global) → Writer (Vec ℕ Global) → Fields → Type 0
 TakesFields old new fields = (text : List ℕ) → (before : Fields) → IsUnderway old text before → IsUnderway new text (before ++ fields)
+
+-- of this text so much was handed on, and the writer has the rest
+pub record HasGone (before after : Option (List ℕ)) (writer : Writer (Vec ℕ Global)) (text : List ℕ) : Type 0 where
+  pub sent : List ℕ
+  pub left : List ℕ
+  pub appended : Appends before after sent
+  pub written : IsWritten writer left
+  pub whole : sent ++ left ≡ text
+
+-- what the writer had before went on, in part or not at all, and this text after it
+abbrev pub Goes : Option (List ℕ) → Option (List ℕ) → Writer (Vec ℕ Global) → Writer (Vec ℕ Global) → List ℕ → Type 0
+Goes before after old new more = (text : List ℕ) → IsWritten old text → HasGone before after new (text ++ more)

@@ -1,6 +1,7 @@
--- The fields of reply lines: the client, the verb, the reply's word and its values where it has some.
-use Rattle.std.specs.Prelude.{ℕ, List, [], ◌∷◌, slice_get, unwrap_or, codes, decimal}
+-- The records of reply lines: the client, the verb, the reply's word and its values where it has some.
+use Rattle.std.specs.Prelude.{ℕ, List, [], ◌∷◌, ◌++◌, length, map, slice_get, unwrap_or, codes, decimal}
 use Rattle.values.specs.Shown.{truth_text}
+use Rattle.values.specs.declared.row.Row.{Row}
 use Rattle.model.specs.declared.write.WriteReply.{WriteReply}
 use Rattle.model.specs.declared.write.WriteReply.TheVariants as write_reply
 use Rattle.model.specs.declared.write.CommitReply.{CommitReply}
@@ -42,7 +43,7 @@ reply_fields reply.Missing = codes "Missing" ∷ []
 reply_fields reply.NoRow = codes "None" ∷ []
 reply_fields (reply.Place below there) = codes "Place" ∷ decimal below ∷ truth_text there ∷ []
 reply_fields (reply.Rows count) = codes "Rows" ∷ decimal count ∷ []
-reply_fields (reply.End count) = codes "End" ∷ decimal count ∷ []
+reply_fields (reply.Scanned rows) = codes "End" ∷ decimal (length rows) ∷ []
 reply_fields (reply.Decided answer) = commit_fields answer
 reply_fields reply.Aborted = codes "Aborted" ∷ []
 reply_fields reply.Folded = codes "Done" ∷ []
@@ -55,6 +56,23 @@ reply_fields reply.Ended = codes "Ended" ∷ []
 reply_fields reply.Stranger = codes "Stranger" ∷ []
 reply_fields reply.NoMemory = codes "NoMemory" ∷ []
 
--- the fields of a reply line, where the clients have these names
+-- the fields of a record of the line, where the clients have these names: the client, the verb and these
+abbrev pub call_fields : List (List ℕ) → ReplyLine → Fields → Fields
+call_fields clients line fields = client_name clients line.client ∷ verb_word line.verb ∷ fields
+
+-- those of its last record
 abbrev pub line_fields : List (List ℕ) → ReplyLine → Fields
-line_fields clients line = client_name clients line.client ∷ verb_word line.verb ∷ reply_fields line.reply
+line_fields clients line = call_fields clients line (reply_fields line.reply)
+
+-- those of the record of a row that it shows
+abbrev pub shown_fields : List (List ℕ) → ReplyLine → Row → Fields
+shown_fields clients line row = call_fields clients line (codes "Row" ∷ row_fields row)
+
+-- the rows that a reply shows before its own record: those of a scan
+abbrev pub shown_rows : Reply → List Row
+shown_rows (reply.Scanned rows) = rows
+shown_rows other = []
+
+-- the records of a line: one for each row that it shows, and the last one
+abbrev pub line_records : List (List ℕ) → ReplyLine → List Fields
+line_records clients line = map (shown_fields clients line) (shown_rows line.reply) ++ line_fields clients line ∷ []

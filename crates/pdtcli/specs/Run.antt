@@ -1,9 +1,8 @@
 -- A serial run: what each call may be answered, and what it leaves.
-use Rattle.std.specs.Prelude.{◌≡◌, ◌⊎◌, ◌≤◌, ◌^◌, ℕ, ◌+◌, ◌==◌, Bool, true, false, ◌&&◌, cond, Option, Some, None, IsNone, IsSome, Result, Ok, Err, MatchResult, List, [], ◌∷◌, ◌++◌, map, filter, length, get_or, set, slice_get, slice_set}
+use Rattle.std.specs.Prelude.{◌≡◌, ◌⊎◌, ◌≤◌, ◌^◌, ℕ, ◌+◌, ◌==◌, Bool, true, false, ◌&&◌, cond, Option, Some, None, IsNone, IsSome, Result, Ok, Err, MatchResult, List, [], ◌∷◌, filter, length, get_or, set, slice_get, slice_set}
 use Rattle.values.specs.Shape.{Columns, row_fault, key_fault, cell_fault, or_fault}
 use Rattle.values.specs.declared.fault.ShapeFault.{ShapeFault}
 use Rattle.values.specs.declared.fault.ShapeFault.TheVariants as shape
-use Rattle.values.specs.declared.row.Row.{Row}
 use Rattle.model.specs.declared.write.Write.{Write}
 use Rattle.model.specs.declared.write.Write.TheVariants as asked
 use Rattle.inputs.specs.declared.call.Call.{Call}
@@ -12,7 +11,7 @@ use Rattle.inputs.specs.declared.call.Read.{Read}
 use Rattle.inputs.specs.declared.call.Read.TheVariants.{Get, At, Rank, Len, Scan}
 use Rattle.inputs.specs.declared.call.ClientCall.{ClientCall}
 use Rattle.pdtcli.specs.declared.reply.Reply.{Reply}
-use Rattle.pdtcli.specs.declared.reply.Reply.TheVariants.{Begun, AlreadyOpen, NotOpen, Wrote, KeyColumn, TextTooLong, Row as Shown, Decided, Aborted, Folded, Stored, DeviceFailed, StoreFailed, GenerationsSpent, Cut, NoMemory}
+use Rattle.pdtcli.specs.declared.reply.Reply.TheVariants.{Begun, AlreadyOpen, NotOpen, Wrote, KeyColumn, TextTooLong, Decided, Aborted, Folded, Stored, DeviceFailed, StoreFailed, GenerationsSpent, Cut, NoMemory}
 use Rattle.pdtcli.specs.declared.reply.ReplyLine.{ReplyLine}
 use Rattle.inputs.specs.declared.verb.Verb.{Verb}
 use Rattle.inputs.specs.declared.verb.Verb.TheVariants as verb
@@ -95,16 +94,16 @@ RebuildStep old reply new =
 abbrev pub CutStep : Side → Reply → Side → Type 0
 CutStep old reply new = (reply ≡ Cut (length old.manager.history)) × (new ≡ record old { manager = cut_of old.manager })
 
--- the client's call may show these rows, be answered so, and leave this
-abbrev pub SideStep : ℕ → Call → Side → List Row → Reply → Side → Type 0
-SideStep client call.Begin old rows reply new = (rows ≡ []) × BeginStep client old reply new
-SideStep client (call.Write write) old rows reply new = (rows ≡ []) × WriteStep old.own write old reply new
-SideStep client (call.Read read) old rows reply new = ReadStep old.own read rows reply × (new ≡ old)
-SideStep client call.Commit old rows reply new = (rows ≡ []) × CommitStep old.own old reply new
-SideStep client call.Abort old rows reply new = (rows ≡ []) × AbortStep old.own old reply new
-SideStep client call.Fold old rows reply new = (rows ≡ []) × FoldStep old reply new
-SideStep client call.Checkpoint old rows reply new = (rows ≡ []) × RebuildStep old reply new
-SideStep client call.Cut old rows reply new = (rows ≡ []) × CutStep old reply new
+-- the client's call may be answered so, and leave this
+abbrev pub SideStep : ℕ → Call → Side → Reply → Side → Type 0
+SideStep client call.Begin old reply new = BeginStep client old reply new
+SideStep client (call.Write write) old reply new = WriteStep old.own write old reply new
+SideStep client (call.Read read) old reply new = ReadStep old.own read reply × (new ≡ old)
+SideStep client call.Commit old reply new = CommitStep old.own old reply new
+SideStep client call.Abort old reply new = AbortStep old.own old reply new
+SideStep client call.Fold old reply new = FoldStep old reply new
+SideStep client call.Checkpoint old reply new = RebuildStep old reply new
+SideStep client call.Cut old reply new = CutStep old reply new
 
 -- ---- the store
 
@@ -176,40 +175,22 @@ verb_of_call call.Cut = verb.Cut
 abbrev pub line_of : ClientCall → Reply → ReplyLine
 line_of asked reply = record { client = asked.client; verb = verb_of_call asked.call; reply = reply }
 
--- the lines of the rows that a call shows
-abbrev pub shown_lines : ClientCall → List Row → List ReplyLine
-shown_lines asked rows = map (λ row. line_of asked (Shown row)) rows
-
--- those of a scan
-abbrev pub scan_lines : ℕ → List Row → List ReplyLine
-scan_lines client rows = map (λ row. record { client = client; verb = verb.Scan; reply = Shown row }) rows
-
--- the lines of a call: those rows, and its reply
-abbrev pub lines_of : ClientCall → List Row → Reply → List ReplyLine
-lines_of asked rows reply = shown_lines asked rows ++ line_of asked reply ∷ []
-
--- a client's side is served: the lines before the reply are those of rows, and the side takes the step
-abbrev pub IsServed : ClientCall → Side → List ReplyLine → Reply → List ReplyLine → Side → Type 0
-IsServed asked old before reply after new =
-    (rows : List Row) × SideStep asked.client asked.call old rows reply new × (after ≡ before ++ shown_lines asked rows)
-
--- the call's client takes a step, which leaves the others, the store takes its own, and the lines tell them
-pub record Step (old : State) (asked : ClientCall) (lines : List ReplyLine) (new : State) : Type 0 where
-  pub rows : List Row
+-- the call's client takes a step, which leaves the others, the store takes its own, and the line tells them
+pub record Step (old : State) (asked : ClientCall) (line : ReplyLine) (new : State) : Type 0 where
   pub reply : Reply
   pub side : Side
   pub store : Taken
-  pub steps : SideStep asked.client asked.call (side_of old asked.client) rows reply side
+  pub steps : SideStep asked.client asked.call (side_of old asked.client) reply side
   pub writes : StoreStep asked.call old.manager old.store reply store
-  pub told : lines ≡ lines_of asked rows reply
+  pub told : line ≡ line_of asked reply
   pub left : new ≡ with_side old asked.client side store
 
--- the lines of each call, in order
+-- a line for each call, in order
 abbrev pub IsRun : State → List ClientCall → List ReplyLine → State → Type 0
-IsRun old [] lines new = (lines ≡ []) × (new ≡ old)
-IsRun old (asked ∷ calls) lines new =
-    (mid : State) × (these : List ReplyLine) × (rest : List ReplyLine) × (lines ≡ these ++ rest) × Step old asked these mid
-    × IsRun mid calls rest new
+IsRun old [] [] new = new ≡ old
+IsRun old (asked ∷ calls) (line ∷ lines) new = (mid : State) × Step old asked line mid × IsRun mid calls lines new
+IsRun old [] (line ∷ lines) new = ⊥
+IsRun old (asked ∷ calls) [] new = ⊥
 
 -- ---- counts
 

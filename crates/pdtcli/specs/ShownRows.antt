@@ -1,15 +1,14 @@
--- The values of a row that a reply line shows, by where they are kept.
-use Rattle.std.specs.Prelude.{⊤, ◌<◌, [], get_or, length}
+-- The rows that a reply shows, by where they are kept.
+use Rattle.std.specs.Prelude.{⊤, Option, Some, None, List, [], Box}
+use Rattle.std.specs.declared.alloc.Global.{Global}
 use Rattle.values.specs.declared.row.Row.{Row}
-use Rattle.stable.specs.Stable.{IsStable}
-use Rattle.pdtcli.specs.declared.shown.Kept.{Kept}
-use Rattle.pdtcli.specs.declared.shown.Kept.TheVariants.{Own, Among}
+use Rattle.stable.specs.Stable.{Stable, IsStable}
 
-abbrev pub kept_row : Kept → Row
-kept_row (Own row) = row
-kept_row (Among table sid) = get_or table.value.rows sid []
+abbrev pub kept_rows : Option (Box Stable Global) → List Row
+kept_rows None = []
+kept_rows (Some table) = table.value.rows
 
--- a row among others is one of a stable table's
-abbrev pub IsKept : Kept → Type 0
-IsKept (Own row) = ⊤
-IsKept (Among table sid) = (sid < length table.value.rows) × IsStable table.value
+-- rows that are kept are a stable table's
+abbrev pub AreKept : Option (Box Stable Global) → Type 0
+AreKept None = ⊤
+AreKept (Some table) = IsStable table.value

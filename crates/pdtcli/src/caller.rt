@@ -1,23 +1,22 @@
 //! One client's side of a run: the transaction that it has open, and the reply to each of its calls.
-ghost use Rattle.std.specs.Prelude.{◌≡◌, ◌≤◌, ◌+◌, ◌++◌, List, Option, Some, None, IfOk, OnErr, IsTrue, IfSome, vec_len, vec_capacity};
+ghost use Rattle.std.specs.Prelude.{◌≡◌, Option, Some, None, IfOk, OnErr, IsTrue, IfSome};
 ghost use Rattle.devices.specs.Appending.{taken_by};
-ghost use Rattle.values.specs.declared.row.Row.{Row};
 ghost use Rattle.model.specs.Writes.{write_fits_schema};
 ghost use Rattle.pdtcli.specs.Reads.{ReadStep};
 ghost use Rattle.pdtcli.specs.declared.reply.Reply.TheVariants as reply;
-ghost use Rattle.inputs.specs.declared.call.Call.TheVariants as call;
 ghost use Rattle.inputs.specs.Typed.{is_typed_call, is_typed_read, is_typed_write};
 ghost use Rattle.txn.specs.Txn.{IsAnswered, Transaction};
 ghost use Rattle.manager.specs.Managed.{Managed, IsOwn};
-ghost use Rattle.pdtcli.specs.Run.{IsServed, shown_lines, BeginStep, WriteStep, OpenWriteStep, CommitStep, AbortStep, CheckpointStep, FoldStep, RebuildStep, CutStep, StoreStep, checkpoint_reply};
+ghost use Rattle.pdtcli.specs.Run.{SideStep, BeginStep, WriteStep, OpenWriteStep, CommitStep, AbortStep, CheckpointStep, FoldStep, RebuildStep, CutStep, StoreStep, checkpoint_reply};
 
 use crate::reads::read_in;
-use crate::reply::{Reply, ReplyLine};
+use crate::reply::Reply;
 use crate::shape::refused_shape;
 use devices::{ColumnDevice, Store};
 use inputs::{Call, ClientCall, Read};
 use manager::{CheckpointFault, Manager};
 use model::Write;
+use std::alloc::Global;
 use std::marker::Model;
 use txn::Txn;
 use values::NoMemory;
@@ -53,33 +52,29 @@ impl Caller {
         Caller { own: None }
     }
 
-    /// Makes a call of the client: adds the line of each row that it shows, and answers what ends them. There is room for
-    /// so many lines after those.
+    /// Makes a call of the client.
     pub(crate) fn serve(
         &mut self,
+        alloc: Global,
         asked: ClientCall,
         manager: &mut Manager,
         store: &mut Store,
-        lines: &mut Vec<ReplyLine>,
-        left: usize,
     ) -> Reply
         requires own { IfSome self.old (IsOwn manager.old) }
         requires typed { IfSome self.old (λ txn. IsTrue (is_typed_call txn.schema asked.call)) }
         requires schema { store.old.schema ≡ manager.old.schema }
-        requires room { vec_len lines.old + left ≤ vec_capacity lines.old }
-        ensures step { IsServed asked (record { manager = manager.old; own = self.old }) lines.old.items result lines.new.items
+        ensures step { SideStep asked.client asked.call (record { manager = manager.old; own = self.old }) result
             (record { manager = manager.new; own = self.new }) }
         ensures stored { let taken = taken_by (λ b. contents (b.vtable, b.value)) (λ b. failures (b.vtable, b.value)) in
             StoreStep asked.call manager.old (taken store.old.devices.items store.old.next) result
             (taken store.new.devices.items store.new.next) }
         ensures schema { store.new.schema ≡ store.old.schema }
-        ensures room { vec_len lines.new + left ≤ vec_capacity lines.new }
     {
         let ClientCall { client, call } = asked;
         match call {
             Call::Begin => self.begin(client, manager),
             Call::Write(wanted) => self.write(wanted),
-            Call::Read(wanted) => self.read(client, &wanted, lines, left),
+            Call::Read(wanted) => self.read(alloc, &wanted),
             Call::Commit => self.commit(manager),
             Call::Abort => self.abort(),
             Call::Fold => fold(manager),
@@ -128,16 +123,13 @@ impl Caller {
     }
 
     /// Reads in the open transaction.
-    fn read(&self, client: u32, read: &Read, lines: &mut Vec<ReplyLine>, left: usize) -> Reply
-        requires typed { IfSome self.now (λ txn. IsTrue (is_typed_read txn.schema read.now)) }
-        requires room { vec_len lines.old + left ≤ vec_capacity lines.old }
-        ensures step { (rows : List Row) × ReadStep self.now read.now rows result
-            × (lines.new.items ≡ lines.old.items ++ shown_lines (record { client = client; call = call.Read read.now }) rows) }
-        ensures room { vec_len lines.new + left ≤ vec_capacity lines.new }
+    fn read(&self, alloc: Global, read: &Read) -> Reply
+        requires { IfSome self.now (λ txn. IsTrue (is_typed_read txn.schema read.now)) }
+        ensures { ReadStep self.now read.now result }
     {
         match &self.own {
             None => Reply::NotOpen,
-            Some(txn) => read_in(txn, client, read, lines, left),
+            Some(txn) => read_in(alloc, txn, read),
         }
     }
 

@@ -1,5 +1,5 @@
 //! One client's thread: its calls, in their order.
-ghost use Rattle.std.specs.Prelude.{◌≡◌, ◌≤◌, ◌+◌, [], All, IsTrue, length, vec_len, vec_capacity};
+ghost use Rattle.std.specs.Prelude.{◌≡◌, ◌≤◌, [], All, IsTrue, length, vec_capacity};
 ghost use Rattle.inputs.specs.Typed.{is_typed_call};
 ghost use Rattle.pdtcli.specs.Clients.{HasMade, calls_of};
 
@@ -19,8 +19,8 @@ pub(crate) fn count_calls(calls: &[ClientCall], client: u32) -> usize
     calls.iter().filter(|asked| asked.client == client).count()
 }
 
-/// Makes those of the calls that are the client's, in their order and with the gate round each. The place of the line that
-/// ends each call is there.
+/// Makes those of the calls that are the client's, in their order and with the gate round each. There is a place for the line
+/// of each.
 pub(crate) fn run_client<O: Opening, S: ImageStore, G: Gate, R: Wait>(
     rt: &R,
     shared: &Shared<O, S>,
@@ -34,17 +34,16 @@ pub(crate) fn run_client<O: Opening, S: ImageStore, G: Gate, R: Wait>(
     requires room { length (calls_of session.client calls.now) ≤ vec_capacity lines }
     ensures { HasMade O.opened.manager session calls.now result.1.items result.0 }
 {
+    let alloc = *lines.allocator();
     let client = session.client();
-    let mut left = count_calls(calls, client);
     let mut number = 0;
     for asked in calls {
         if asked.client == client {
             gate.before(client, number);
-            let reply = serve(rt, shared, &mut session, asked, &mut lines, left);
+            let reply = serve(rt, alloc, shared, &mut session, &asked.call);
             gate.after(client, number);
             lines.push_reserved(line_of(asked, reply));
             number += 1;
-            left -= 1;
         }
     }
     (session, lines)

@@ -11,6 +11,7 @@
 //! fault shows.
 #![tactic(auto)]
 
+mod batch;
 mod caller;
 mod client;
 mod clients;
@@ -47,7 +48,7 @@ pub use recovery::{read_header, recover};
 pub use refusal::Refusal;
 pub use reply::{Reply, ReplyLine};
 pub use serial::run_serial;
-pub use shown::ShownRow;
+pub use shown::ShownRows;
 pub use stable::{BuildFault, StableTable};
 pub use txn::{Parts, Txn, Version, WriteFault};
 pub use words::{Settings, read_words};

@@ -65,7 +65,7 @@ impl Left {
         self.clients.as_slice()
     }
 
-    /// The reply lines, in the order of the calls: of each call those of the rows that it shows, and then its reply.
+    /// The reply lines, one for each call, in the order of the calls.
     pub fn lines(&self) -> &[ReplyLine]
         ensures { result.now ≡ self.now.lines }
     {

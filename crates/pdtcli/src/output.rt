@@ -1,31 +1,31 @@
 //! The output of a run: its reply lines, an empty line, and the newest image with its header. And that of a store: the image
 //! that it has.
 //!
-//! The image is walked as its layers lend it, row by row. Text is made of a thousand records and handed on before more is
-//! made, so that the memory that it takes does not grow with the table.
-ghost use Rattle.std.specs.Prelude.{◌≡◌, ◌≤◌, ◌++◌, ◌∷◌, [], Some, OnOk, IfOk, length};
+//! The image is walked as its layers lend it, row by row.
+ghost use Rattle.std.specs.Prelude.{◌≡◌, ◌≤◌, ◌++◌, ◌∷◌, [], Some, OnOk, IfOk, length, map};
 ghost use Rattle.std.specs.Io.KnownBytes.{Appends};
 ghost use Rattle.values.specs.declared.limits.TheConstants.{MAX_ROWS};
 ghost use Rattle.merge.specs.Image.{image_rows};
-ghost use Rattle.pdtcli.specs.Output.{exit_status, image_text, is_refused, lines_text, rows_text, shown};
+ghost use Rattle.pdtcli.specs.Output.{exit_status, image_text, is_refused, lines_text, records_text, rows_text, shown};
+ghost use Rattle.pdtcli.specs.Records.{Goes};
 ghost use Rattle.pdtcli.specs.Refusals.{show_fault_text};
+ghost use Rattle.pdtcli.specs.Replies.{line_records, shown_fields, shown_rows};
 ghost use Rattle.pdtcli.specs.declared.output.ShowFault.TheVariants as show_fault;
 
+use crate::batch::{Batch, send};
 use crate::image::{push_header, push_row};
 use crate::outcome::Left;
 use crate::records::{end_record, records_after, text_of};
-use crate::reply::{Reply, ReplyLine, push_line};
+use crate::reply::{Reply, ReplyLine, push_line, push_shown};
+use crate::shown::ShownRows;
 use delta::DeltaTree;
 use devices::StoredImage;
-use merge::{Layers, MergeScan};
+use merge::Layers;
 use std::alloc::Global;
 use std::error::Error;
 use std::fmt;
 use std::io::Write;
 use values::{NoMemory, Schema, Text};
-
-/// How many records are made text before it is handed on: many, since each text's writer begins with 8 KB of zeros.
-const RECORDS_AT_ONCE: usize = 1_024;
 
 /// Why an output isn't whole. What went out before it is not said.
 #[derive(Clone, Copy, Debug, PartialEq, Eq)]
@@ -142,12 +142,60 @@ fn show_lines<W: Write>(
 ) -> Result<(), ShowFault>
     ensures { OnOk result (Appends (W.contents out.old) (W.contents out.new) (lines_text clients.now lines.now)) }
 {
-    let mut text = Vec::new(alloc);
-    for chunk in lines.chunks(RECORDS_AT_ONCE) {
-        text = lines_after(clients, chunk, text)?;
-        send(&mut text, out)?;
+    let mut batch = Batch::new(alloc)?;
+    for line in lines {
+        batch = show_line(batch, clients, line, out)?;
     }
-    Ok(())
+    batch.finish(out)
+}
+
+/// Writes the records of a line: one for each row that it shows, and the last one.
+fn show_line<W: Write>(
+    batch: Batch,
+    clients: &[Text],
+    line: &ReplyLine,
+    out: &mut W,
+) -> Result<Batch, ShowFault>
+    ensures { IfOk result (λ next. Goes (W.contents out.old) (W.contents out.new) batch.records.value next.records.value
+        (records_text (line_records clients.now line.now))) }
+{
+    let mut batch = show_shown(batch, clients, line, out)?;
+    push_line(batch.records.as_mut(), clients, line)?;
+    batch.end_record(out)
+}
+
+/// Writes a record for each row that a line shows.
+fn show_shown<W: Write>(
+    batch: Batch,
+    clients: &[Text],
+    line: &ReplyLine,
+    out: &mut W,
+) -> Result<Batch, ShowFault>
+    ensures { IfOk result (λ next. Goes (W.contents out.old) (W.contents out.new) batch.records.value next.records.value
+        (records_text (map (shown_fields clients.now line.now) (shown_rows line.now.reply)))) }
+{
+    match &line.reply {
+        Reply::Scanned(rows) => show_scanned(batch, clients, line, rows, out),
+        _ => Ok(batch),
+    }
+}
+
+/// Writes a record for each of these rows.
+fn show_scanned<W: Write>(
+    mut batch: Batch,
+    clients: &[Text],
+    line: &ReplyLine,
+    rows: &ShownRows,
+    out: &mut W,
+) -> Result<Batch, ShowFault>
+    ensures { IfOk result (λ next. Goes (W.contents out.old) (W.contents out.new) batch.records.value next.records.value
+        (records_text (map (shown_fields clients.now line.now) rows.now))) }
+{
+    for at in 0..rows.len() {
+        push_shown(batch.records.as_mut(), clients, line, rows, at)?;
+        batch = batch.end_record(out)?;
+    }
+    Ok(batch)
 }
 
 /// Writes the empty line and the header.
@@ -158,33 +206,17 @@ fn show_header<W: Write>(alloc: Global, schema: &Schema, out: &mut W) -> Result<
     send(&mut text, out)
 }
 
-/// Writes the rows of the image, from as many scans as there are texts of them.
+/// Writes the rows of the image.
 fn show_rows<W: Write>(alloc: Global, newest: &Layers<'_>, out: &mut W) -> Result<(), ShowFault>
     requires { length (image_rows newest.now) ≤ MAX_ROWS }
     ensures { OnOk result (Appends (W.contents out.old) (W.contents out.new) (rows_text (image_rows newest.now))) }
 {
-    let count = newest.len();
-    let mut text = Vec::new(alloc);
-    let mut shown = 0;
-    while shown < count {
-        let next = count.min(shown + RECORDS_AT_ONCE as u64);
-        text = rows_after(newest.scan(shown, next), text)?;
-        send(&mut text, out)?;
-        shown = next;
+    let mut batch = Batch::new(alloc)?;
+    for row in newest.scan(0, newest.len()) {
+        push_row(batch.records.as_mut(), &row)?;
+        batch = batch.end_record(out)?;
     }
-    Ok(())
-}
-
-/// The text, and after it the reply lines.
-fn lines_after(clients: &[Text], lines: &[ReplyLine], text: Vec<u8>) -> Result<Vec<u8>, NoMemory>
-    ensures { IfOk result (λ longer. longer.items ≡ text.items ++ lines_text clients.now lines.now) }
-{
-    let mut records = records_after(text);
-    for line in lines {
-        push_line(&mut records, clients, line)?;
-        end_record(&mut records)?;
-    }
-    text_of(records)
+    batch.finish(out)
 }
 
 /// The empty line and the header.
@@ -198,33 +230,8 @@ fn line_and_header(alloc: Global, schema: &Schema) -> Result<Vec<u8>, NoMemory>
 fn header_after(alloc: Global, schema: &Schema, text: Vec<u8>) -> Result<Vec<u8>, NoMemory>
     ensures { IfOk result (λ longer. longer.items ≡ text.items ++ image_text schema.now []) }
 {
-    let mut records = records_after(text);
-    push_header(alloc, &mut records, schema)?;
-    end_record(&mut records)?;
+    let mut records = records_after(text)?;
+    push_header(alloc, records.as_mut(), schema)?;
+    end_record(records.as_mut())?;
     text_of(records)
-}
-
-/// The text, and after it the rows.
-fn rows_after(rows: MergeScan<'_>, text: Vec<u8>) -> Result<Vec<u8>, NoMemory>
-    ensures { IfOk result (λ longer. longer.items ≡ text.items ++ rows_text rows.entry) }
-{
-    let mut records = records_after(text);
-    for view in rows {
-        push_row(&mut records, &view)?;
-        end_record(&mut records)?;
-    }
-    text_of(records)
-}
-
-/// Hands the text on, and leaves the vector empty.
-fn send<W: Write>(text: &mut Vec<u8>, out: &mut W) -> Result<(), ShowFault>
-    ensures bytes { OnOk result (Appends (W.contents out.old) (W.contents out.new) text.old.items) }
-    ensures empty { text.new.items ≡ [] }
-{
-    let sent = out.write_all(text.as_slice());
-    text.clear();
-    match sent {
-        Ok(()) => Ok(()),
-        Err(_) => Err(ShowFault::Write),
-    }
 }

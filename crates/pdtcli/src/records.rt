@@ -11,11 +11,19 @@ use values::NoMemory;
 /// Records of any length, after a text.
 pub(crate) type Records = Writer<Vec<u8>>;
 
-/// A writer that goes on after the text, at a record's start.
-pub(crate) fn records_after(text: Vec<u8>) -> Records
-    ensures { IsWritten result text.items }
+/// A writer that goes on after the text, at a record's start. It has 8 KB of the text in its value, which a box spares the
+/// stack of each function that holds it.
+///
+/// # Errors
+///
+/// `NoMemory` where the box is refused.
+#[inline(never)]
+pub(crate) fn records_after(text: Vec<u8>) -> Result<Box<Records>, NoMemory>
+    ensures { IfOk result (λ records. IsWritten records.value text.items) }
 {
-    WriterBuilder::new().flexible(true).from_writer(text)
+    let alloc = *text.allocator();
+    let records = WriterBuilder::new().flexible(true).from_writer(text);
+    Ok(Box::new(alloc, records)?)
 }
 
 /// Adds a field to the record that is under way.
@@ -40,10 +48,15 @@ pub(crate) fn end_record(records: &mut Records) -> Result<(), NoMemory>
 }
 
 /// What was written.
-pub(crate) fn text_of(records: Records) -> Result<Vec<u8>, NoMemory>
-    ensures { IfOk result (λ text. (written : List ℕ) → IsWritten records written → text.items ≡ written) }
+///
+/// # Errors
+///
+/// `NoMemory` where the text's growth is refused.
+#[inline(never)]
+pub(crate) fn text_of(records: Box<Records>) -> Result<Vec<u8>, NoMemory>
+    ensures { IfOk result (λ text. (written : List ℕ) → IsWritten records.value written → text.items ≡ written) }
 {
-    match records.into_inner() {
+    match Box::into_inner(records).into_inner() {
         Ok(text) => Ok(text),
         Err(_) => Err(NoMemory),
     }

@@ -1,19 +1,18 @@
 //! What a script's calls are answered, and the fields of the reply lines: the one place where a reply becomes text.
-ghost use Rattle.std.specs.Prelude.{◌≡◌, ◌∷◌, [], OnOk, codes, decimal};
-ghost use Rattle.values.specs.Shown.{truth_text};
+ghost use Rattle.std.specs.Prelude.{◌≡◌, ◌∷◌, ◌<◌, [], OnOk, codes, decimal, get_or, length, map};
+ghost use Rattle.values.specs.Shown.{cell_text, truth_text};
 ghost use Rattle.pdtcli.specs.Records.{TakesFields};
-ghost use Rattle.pdtcli.specs.Replies.{client_name, commit_fields, line_fields, reply_fields, write_fields};
-ghost use Rattle.pdtcli.specs.Shown.{row_fields};
+ghost use Rattle.pdtcli.specs.Replies.{client_name, commit_fields, line_fields, reply_fields, shown_fields, write_fields};
 
 use crate::image::push_cell;
 use crate::records::{Records, push_field};
-use crate::shown::ShownRow;
+use crate::shown::ShownRows;
 use inputs::Verb;
 use itoa::Buffer;
 use model::{CommitReply, WriteReply};
-use values::{NoMemory, Text, ValueRef};
+use values::{NoMemory, Row, Text, Value, ValueRef};
 
-/// The answer to a call. A scan is answered by a line for each of its rows, and then by their number.
+/// The answer to a call.
 #[derive(Debug, Drop)]
 pub enum Reply {
     /// A transaction is open now.
@@ -29,7 +28,7 @@ pub enum Reply {
     /// The text of this cell, of the row or the key, or of this column, has more than 4,096 bytes.
     TextTooLong(usize),
     /// A row of the image.
-    Row(ShownRow),
+    Row(Row),
     /// The image has no row of the key.
     Missing,
     /// The image has no row at the position.
@@ -38,8 +37,8 @@ pub enum Reply {
     Place(u64, bool),
     /// How many rows the image has.
     Rows(u64),
-    /// How many rows a scan has shown.
-    End(u64),
+    /// The rows of a scan: a record for each, and then one of their number.
+    Scanned(ShownRows),
     /// What a commit was answered.
     Decided(CommitReply),
     /// The transaction has ended and leaves no record.
@@ -75,7 +74,7 @@ pub struct ReplyLine {
     pub reply: Reply,
 }
 
-/// Adds the fields of a line: the client's name, the verb, the reply's word and its values where it has some.
+/// Adds the fields of a line's last record: the client's name, the verb, the reply's word and its values where it has some.
 pub(crate) fn push_line(
     records: &mut Records,
     clients: &[Text],
@@ -86,6 +85,26 @@ pub(crate) fn push_line(
     push_word(records, name_of(clients, line.client))?;
     push_word(records, line.verb.word())?;
     push_reply(records, &line.reply)
+}
+
+/// Adds the fields of the record of a row that a line shows: the client's name, the verb, the word of a row, and its cells.
+pub(crate) fn push_shown(
+    records: &mut Records,
+    clients: &[Text],
+    line: &ReplyLine,
+    rows: &ShownRows,
+    at: u64,
+) -> Result<(), NoMemory>
+    requires { at < length rows.now }
+    ensures { OnOk result (TakesFields records.old records.new (shown_fields clients.now line.now (get_or rows.now at []))) }
+{
+    push_word(records, name_of(clients, line.client))?;
+    push_word(records, line.verb.word())?;
+    push_word(records, "Row")?;
+    for col in 0..rows.width(at) {
+        push_cell(records, rows.value(at, col))?;
+    }
+    Ok(())
 }
 
 /// The name of the client of this number; the empty one where there is no such client.
@@ -109,12 +128,12 @@ fn push_reply(records: &mut Records, reply: &Reply) -> Result<(), NoMemory>
         Reply::Wrote(answer) => push_word(records, word_of_write(*answer)),
         Reply::KeyColumn => push_word(records, "KeyColumn"),
         Reply::TextTooLong(at) => push_counted(records, "TextTooLong", *at as u64),
-        Reply::Row(row) => push_row(records, row),
+        Reply::Row(row) => push_row(records, row.cells()),
         Reply::Missing => push_word(records, "Missing"),
         Reply::NoRow => push_word(records, "None"),
         Reply::Place(below, there) => push_place(records, *below, *there),
         Reply::Rows(count) => push_counted(records, "Rows", *count),
-        Reply::End(count) => push_counted(records, "End", *count),
+        Reply::Scanned(rows) => push_counted(records, "End", rows.len()),
         Reply::Decided(answer) => push_decided(records, *answer),
         Reply::Aborted => push_word(records, "Aborted"),
         Reply::Folded => push_word(records, "Done"),
@@ -154,12 +173,12 @@ fn push_decided(records: &mut Records, answer: CommitReply) -> Result<(), NoMemo
 }
 
 /// Adds the word of a row, and its cells.
-fn push_row(records: &mut Records, row: &ShownRow) -> Result<(), NoMemory>
-    ensures { OnOk result (TakesFields records.old records.new (codes "Row" ∷ row_fields row.now)) }
+fn push_row(records: &mut Records, cells: &[Value]) -> Result<(), NoMemory>
+    ensures { OnOk result (TakesFields records.old records.new (codes "Row" ∷ map cell_text cells.now)) }
 {
     push_word(records, "Row")?;
-    for col in 0..row.width() {
-        push_cell(records, row.value(col))?;
+    for cell in cells {
+        push_cell(records, cell.as_ref())?;
     }
     Ok(())
 }

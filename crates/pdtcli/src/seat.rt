@@ -1,46 +1,40 @@
 //! A client's session: the reply to each of its calls, of which the commits and what changes layers or the store wait for
 //! the lock.
-ghost use Rattle.std.specs.Prelude.{◌≡◌, ◌≤◌, ◌+◌, ◌++◌, [], List, IfOk, IfSome, IsTrue, OnErr, vec_len, vec_capacity};
-ghost use Rattle.values.specs.declared.row.Row.{Row};
+ghost use Rattle.std.specs.Prelude.{◌≡◌, IfOk, IfSome, IsTrue, OnErr};
 ghost use Rattle.model.specs.Writes.{write_fits_schema};
 ghost use Rattle.inputs.specs.Typed.{is_typed_call, is_typed_read, is_typed_write};
 ghost use Rattle.inputs.specs.declared.call.Call.TheVariants as call;
 ghost use Rattle.manager.specs.Managed.{Managed};
 ghost use Rattle.shared.specs.Sessions.{HasWritten, Seat};
-ghost use Rattle.pdtcli.specs.Run.{shown_lines};
 ghost use Rattle.pdtcli.specs.Clients.{SeatStep};
 
 use crate::caller::reply_of;
 use crate::reads::read_in;
-use crate::reply::{Reply, ReplyLine};
+use crate::reply::Reply;
 use crate::shape::{copy_of, refused_shape};
-use inputs::{Call, ClientCall, Read};
+use inputs::{Call, Read};
 use model::{Write, WriteReply};
 use publishing::Opening;
 use shared::{BeginFault, CommitFault, ImageStore, Session, SessionFault, Shared};
+use std::alloc::Global;
 use std::sync::Wait;
 use values::NoMemory;
 
-/// Makes a call of the client: adds the line of each row that it shows, and answers what ends them. There is room for so
-/// many lines after those.
+/// Makes a call of the client.
 pub(crate) fn serve<O: Opening, S: ImageStore, R: Wait>(
     rt: &R,
+    alloc: Global,
     shared: &Shared<O, S>,
     session: &mut Session<O>,
-    asked: &ClientCall,
-    lines: &mut Vec<ReplyLine>,
-    left: usize,
+    call: &Call,
 ) -> Reply
-    requires typed { IsTrue (is_typed_call O.opened.manager.schema asked.now.call) }
-    requires room { vec_len lines.old + left ≤ vec_capacity lines.old }
-    ensures step { (rows : List Row) × SeatStep O.opened.manager asked.now.call session.old rows result session.new
-        × (lines.new.items ≡ lines.old.items ++ shown_lines asked.now rows) }
-    ensures room { vec_len lines.new + left ≤ vec_capacity lines.new }
+    requires { IsTrue (is_typed_call O.opened.manager.schema call.now) }
+    ensures { SeatStep O.opened.manager call.now session.old result session.new }
 {
-    match &asked.call {
+    match call {
         Call::Begin => begin(session),
         Call::Write(wanted) => write(session, wanted),
-        Call::Read(wanted) => read(session, asked.client, wanted, lines, left),
+        Call::Read(wanted) => read(alloc, session, wanted),
         Call::Commit => commit(rt, shared, session),
         Call::Abort => abort(session),
         Call::Fold => fold(rt, shared),
@@ -51,7 +45,7 @@ pub(crate) fn serve<O: Opening, S: ImageStore, R: Wait>(
 
 /// Opens a transaction.
 fn begin<O: Opening>(session: &mut Session<O>) -> Reply
-    ensures { SeatStep O.opened.manager call.Begin session.old [] result session.new }
+    ensures { SeatStep O.opened.manager call.Begin session.old result session.new }
 {
     match session.begin() {
         Ok(()) => Reply::Begun,
@@ -64,7 +58,7 @@ fn begin<O: Opening>(session: &mut Session<O>) -> Reply
 /// Writes in the open transaction.
 fn write<O: Opening>(session: &mut Session<O>, write: &Write) -> Reply
     requires typed { IsTrue (is_typed_write O.opened.manager.schema write.now) }
-    ensures { SeatStep O.opened.manager (call.Write write.now) session.old [] result session.new }
+    ensures { SeatStep O.opened.manager (call.Write write.now) session.old result session.new }
 {
     let Ok(txn) = session.txn() else {
         return Reply::NotOpen;
@@ -91,21 +85,12 @@ fn write_copy<O: Opening>(
 }
 
 /// Reads in the open transaction.
-fn read<O: Opening>(
-    session: &Session<O>,
-    client: u32,
-    read: &Read,
-    lines: &mut Vec<ReplyLine>,
-    left: usize,
-) -> Reply
-    requires typed { IsTrue (is_typed_read O.opened.manager.schema read.now) }
-    requires room { vec_len lines.old + left ≤ vec_capacity lines.old }
-    ensures step { (rows : List Row) × SeatStep O.opened.manager (call.Read read.now) session.now rows result session.now
-        × (lines.new.items ≡ lines.old.items ++ shown_lines (record { client = client; call = call.Read read.now }) rows) }
-    ensures room { vec_len lines.new + left ≤ vec_capacity lines.new }
+fn read<O: Opening>(alloc: Global, session: &Session<O>, read: &Read) -> Reply
+    requires { IsTrue (is_typed_read O.opened.manager.schema read.now) }
+    ensures { SeatStep O.opened.manager (call.Read read.now) session.now result session.now }
 {
     match session.txn() {
-        Ok(txn) => read_in(txn, client, read, lines, left),
+        Ok(txn) => read_in(alloc, txn, read),
         Err(_) => Reply::NotOpen,
     }
 }
@@ -116,7 +101,7 @@ fn commit<O: Opening, S: ImageStore, R: Wait>(
     shared: &Shared<O, S>,
     session: &mut Session<O>,
 ) -> Reply
-    ensures { SeatStep O.opened.manager call.Commit session.old [] result session.new }
+    ensures { SeatStep O.opened.manager call.Commit session.old result session.new }
 {
     match shared.commit(session, rt) {
         Ok(reply) => Reply::Decided(reply),
@@ -128,7 +113,7 @@ fn commit<O: Opening, S: ImageStore, R: Wait>(
 
 /// Ends the open transaction.
 fn abort<O: Opening>(session: &mut Session<O>) -> Reply
-    ensures { SeatStep O.opened.manager call.Abort session.old [] result session.new }
+    ensures { SeatStep O.opened.manager call.Abort session.old result session.new }
 {
     match session.abort() {
         Ok(()) => Reply::Aborted,
@@ -138,7 +123,7 @@ fn abort<O: Opening>(session: &mut Session<O>) -> Reply
 
 /// Folds the Write-PDT into the Read-PDT.
 fn fold<O: Opening, S: ImageStore, R: Wait>(rt: &R, shared: &Shared<O, S>) -> Reply
-    ensures { (o : Managed) (seat : Seat) → SeatStep o call.Fold seat [] result seat }
+    ensures { (o : Managed) (seat : Seat) → SeatStep o call.Fold seat result seat }
 {
     match shared.fold(rt) {
         Ok(()) => Reply::Folded,
@@ -148,14 +133,14 @@ fn fold<O: Opening, S: ImageStore, R: Wait>(rt: &R, shared: &Shared<O, S>) -> Re
 
 /// Writes the newest image to the store.
 fn checkpoint<O: Opening, S: ImageStore, R: Wait>(rt: &R, shared: &Shared<O, S>) -> Reply
-    ensures { (o : Managed) (seat : Seat) → SeatStep o call.Checkpoint seat [] result seat }
+    ensures { (o : Managed) (seat : Seat) → SeatStep o call.Checkpoint seat result seat }
 {
     reply_of(shared.checkpoint(rt))
 }
 
 /// Cuts the history, and drops what it hands out.
 fn cut<O: Opening, S: ImageStore, R: Wait>(rt: &R, shared: &Shared<O, S>) -> Reply
-    ensures { (seat : Seat) → SeatStep O.opened.manager call.Cut seat [] result seat }
+    ensures { (seat : Seat) → SeatStep O.opened.manager call.Cut seat result seat }
 {
     match shared.cut(rt) {
         Ok(history) => Reply::Cut(history.records().len() as u64),

@@ -49,29 +49,21 @@ pub fn run_serial(
     let mut store = store;
     let handed_before = handed_out(&manager);
     let (names, calls) = script.into_parts();
-    let mut left = calls.len();
     let Places {
         mut callers,
         mut counts,
         mut lines,
-    } = places_for(alloc, names.len(), left)?;
+    } = places_for(alloc, names.len(), calls.len())?;
     for asked in calls {
         let client = asked.client;
         let verb = verb_of_call(&asked.call);
-        let reply = callers[client as usize].serve(
-            asked,
-            &mut manager,
-            &mut store,
-            &mut lines,
-            left,
-        );
+        let reply = callers[client as usize].serve(alloc, asked, &mut manager, &mut store);
         count_reply(&mut counts, client as usize, &reply);
         lines.push_reserved(ReplyLine {
             client,
             verb,
             reply,
         });
-        left -= 1;
     }
     let handed = handed_out(&manager) - handed_before;
     let left = Left::new(names, lines, manager, counts, handed);
@@ -85,7 +77,7 @@ struct Places {
     lines: Vec<ReplyLine>,
 }
 
-/// A place for each of so many clients, and for the line that ends each of so many calls.
+/// A place for each of so many clients, and for the line of each of so many calls.
 fn places_for(alloc: Global, clients: usize, calls: usize) -> Result<Places, NoMemory>
     ensures callers { IfOk result (λ places. places.callers.items ≡ replicate clients None) }
     ensures counts { IfOk result (λ places. places.counts.items ≡ map (decided_count []) (range_with_len 0 clients)) }

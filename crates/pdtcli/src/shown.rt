@@ -1,90 +1,89 @@
-//! A row that a reply line shows.
-ghost use Rattle.std.specs.Prelude.{◌≡◌, ◌<◌, Some, [], get_or, length, slice_get};
+//! The rows that a scan shows.
+ghost use Rattle.std.specs.Prelude.{◌≡◌, ◌<◌, Some, [], IfOk, get_or, length, slice_get};
 ghost use Rattle.values.specs.Lent.{value_of};
 
 use stable::StableTable;
+use std::alloc::Global;
 use std::fmt::{Debug, Error, Formatter, Write};
 use std::marker::Model;
-use std::sync::Arc;
-use values::{Row, ValueRef};
+use values::{NoMemory, ValueRef};
 
-/// A row that a reply line shows. A contract sees its values.
+/// The rows of a scan, copied together, column by column: a row takes no allocation of its own. Contracts see them as a list.
 #[derive(Drop)]
-pub struct ShownRow {
-    kept: Kept,
+pub struct ShownRows {
+    /// None where there is no row.
+    table: Option<Box<StableTable>>,
 }
 
-/// Where such a row's values are kept.
-#[derive(Drop)]
-pub(crate) enum Kept {
-    /// By the line itself.
-    Own(Row),
-    /// With the other rows of a scan, column by column: in the row at this SID.
-    Among(Arc<StableTable>, u64),
-}
-
-impl Model for ShownRow {
+impl Model for ShownRows {
+    ghost use Rattle.std.specs.Prelude.{List};
     ghost use Rattle.values.specs.declared.row.Row.{Row as Cells};
-    ghost use Rattle.pdtcli.specs.ShownRows.{IsKept, kept_row};
+    ghost use Rattle.pdtcli.specs.ShownRows.{AreKept, kept_rows};
 
-    ghost Value = { Cells };
+    ghost Value = { List Cells };
 
-    ghost view = { λ r. kept_row r.kept };
+    ghost view = { λ r. kept_rows r.table };
 
-    ghost invariant = { λ r. IsKept r.kept };
+    ghost invariant = { λ r. AreKept r.table };
 }
 
-impl ShownRow {
-    /// A row of the line's own. It takes no memory.
-    pub fn own(row: Row) -> ShownRow
-        ensures { result ≡ row }
+impl ShownRows {
+    /// No row. It takes no memory.
+    pub fn none() -> ShownRows
+        ensures { result ≡ [] }
     {
-        ShownRow {
-            kept: Kept::Own(row),
-        }
+        ShownRows { table: None }
     }
 
-    /// The row at this SID of a table that lines share. It takes no memory.
-    pub fn among(table: Arc<StableTable>, sid: u64) -> ShownRow
-        requires { sid < length table.value.rows }
-        ensures { result ≡ get_or table.value.rows sid [] }
+    /// The rows of a table.
+    ///
+    /// # Errors
+    ///
+    /// `NoMemory` where the table's place is refused.
+    pub fn of(alloc: Global, table: StableTable) -> Result<ShownRows, NoMemory>
+        ensures { IfOk result (λ rows. rows ≡ table.rows) }
     {
-        // A table tells with its length that its rows are as wide as its schema.
-        let rows = table.len();
-        prove!(sid < rows);
-        ShownRow {
-            kept: Kept::Among(table, sid),
-        }
+        let kept = Box::new(alloc, table)?;
+        Ok(ShownRows { table: Some(kept) })
     }
 
-    /// How many values the row has. It takes no memory.
-    pub fn width(&self) -> usize
+    /// How many rows there are.
+    pub fn len(&self) -> u64
         ensures { result ≡ length self.now }
     {
-        match &self.kept {
-            Kept::Own(row) => row.cells().len(),
-            Kept::Among(table, _) => table.schema().width(),
+        match &self.table {
+            None => 0,
+            Some(table) => table.len(),
         }
     }
 
-    /// The value of a column, lent. It takes no memory.
-    pub fn value(&self, col: usize) -> ValueRef<'_>
-        requires { col < length self.now }
-        ensures { slice_get self.now col ≡ Some (value_of result) }
+    /// How many values the row at this place has.
+    pub fn width(&self, at: u64) -> usize
+        requires { at < length self.now }
+        ensures { result ≡ length (get_or self.now at []) }
     {
-        match &self.kept {
-            Kept::Own(row) => row.cells()[col].as_ref(),
-            Kept::Among(table, sid) => table.value(*sid, col),
+        match &self.table {
+            None => unreachable!(),
+            Some(table) => table.schema().width(),
+        }
+    }
+
+    /// The value of a column in the row at this place, lent.
+    pub fn value(&self, at: u64, col: usize) -> ValueRef<'_>
+        requires there { at < length self.now }
+        requires within { col < length (get_or self.now at []) }
+        ensures { slice_get (get_or self.now at []) col ≡ Some (value_of result) }
+    {
+        match &self.table {
+            None => unreachable!(),
+            Some(table) => table.value(at, col),
         }
     }
 }
 
-impl Debug for ShownRow {
+// By hand, since a table has none: it tells how many rows there are.
+impl Debug for ShownRows {
     fn fmt<W: Write>(&self, f: &mut Formatter<W>) -> Result<(), Error> {
-        let mut cells = f.debug_list();
-        for col in 0..self.width() {
-            cells.entry(&self.value(col));
-        }
-        cells.finish()
+        f.debug_tuple("ShownRows").field(&self.len()).finish()
     }
 }

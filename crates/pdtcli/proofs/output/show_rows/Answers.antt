@@ -1,40 +1,50 @@
-use Rattle.std.proofs.Common.{◌≡◌, ◌≤◌, ◌+◌, ◌-◌, ◌++◌, List, take, drop, subst, sym, ap, ◌∙◌, arith}
-use Rattle.std.proofs.KnownBytes.{Appends-nil, Appends-trans}
-use Rattle.std.proofs.Math.Seq.{take-add}
-use Rattle.std.specs.Io.KnownBytes.{Appends}
-use Rattle.std.proofs.lemmas.List.{drop-take}
+use Rattle.std.proofs.Common.{◌≡◌, ◌∙◌, ◌++◌, [], ℕ, List, ap, sym, subst, take, append_assoc, arith}
+use Rattle.std.proofs.KnownBytes.{Appends-nil}
+use Rattle.std.proofs.lemmas.List.{append-nil, take_all}
 use Rattle.values.specs.declared.row.Row.{Row}
 use Rattle.merge.specs.Image.{image_rows}
+use Rattle.merge.specs.View.{row_of}
 use Rattle.pdtcli.specs.Output.{rows_text}
-use Rattle.pdtcli.proofs.OutputLemmas.{rows_text-append}
+use Rattle.pdtcli.specs.Records.{HasGone, TakesFields, record_text}
+use Rattle.pdtcli.specs.Shown.{row_fields}
+use Rattle.pdtcli.proofs.BatchLemmas.{Goes-record, HasGone-more, all_gone, handed_on}
 use Rattle.pdtcli.proofs.output.show_rows.Goals as goal
 
-pub loop-shown-init : goal.loop-shown-init
-loop-shown-init g c = record {
-  within = omega arith;
-  empty = c.new-text.ensures.items;
-  sent = Appends-nil (g.W.Write.contents c.args.out.now);
+pub loop-row-init : goal.loop-row-init
+loop-row-init g c = record {
+  can_next = tt;
+  finite = tt;
+  gone = (
+    [],
+    handed_on _ _ _ _ (Appends-nil (g.W.Write.contents c.args.out.now)) c.in_ok-batch.ensures,
+    ap rows_text (c.into_iter-row-iterator.ensures.into_iter_gives ∙ c.scan-row-items.ensures ∙ take_all c.len.result (image_rows c.args.newest.now) (omega (arith, c.len.ensures))),
+  );
 }
 
-pub loop-shown-preserved : goal.loop-shown-preserved
-loop-shown-preserved g c =
-    let inv = c.loop-shown.invariant in
-    let rows : List Row = image_rows c.args.newest.now in
-    let shown = c.loop-shown.shown in
-    let next = c.min-next.result in
-    let within : next ≤ c.len-count.result = omega (arith, c.min-next.ensures) in
-    let further : shown + (next - shown) ≡ next = omega (arith, c.min-next.ensures, c.loop-shown-test.true) in
-    let scanned : drop shown (take next rows) ≡ take (next - shown) (drop shown rows) =
-    ap (λ n. drop shown (take n rows)) (sym further) ∙ drop-take shown (next - shown) rows in
-    let parts : take next rows ≡ take shown rows ++ take (next - shown) (drop shown rows) =
-    ap (λ n. take n rows) (sym further) ∙ take-add shown (next - shown) rows in
-    let text = rw (inv.empty, c.scan.ensures, scanned) at c.in_ok-text.ensures in
-    let sent = rw text at c.in_ok-send.ensures.bytes in
+pub loop-row-preserved : goal.loop-row-preserved
+loop-row-preserved g c =
+    let inv = c.loop-row.invariant in
+    let row : Row = row_of c.in-Some.row in
+    let rest : List Row = c.next.new.self in
+    let done : List ℕ = inv.gone.0 in
+    let takes = subst (λ w. TakesFields w c.push_row.new.records (row_fields row)) c.as_mut.ensures.value c.in_ok-push_row.ensures in
     record {
-      within = within;
-      empty = c.in_ok-send.ensures.empty;
-      sent =
-          subst (Appends (g.W.Write.contents c.args.out.now) (g.W.Write.contents c.send.new.out))
-          (sym (ap rows_text parts ∙ rows_text-append (take shown rows) (take (next - shown) (drop shown rows))))
-          (Appends-trans _ _ _ _ _ inv.sent sent);
+      can_next = tt;
+      finite = tt;
+      gone = (
+        done ++ record_text (row_fields row),
+        HasGone-more _ _ _ _ _ _ _ inv.gone.1
+            (Goes-record _ _ _ _ _ (row_fields row) takes c.in_ok-batch-2.ensures),
+        append_assoc done (record_text (row_fields row)) (rows_text rest)
+            ∙ ap (λ (rows : List Row). done ++ rows_text rows) (sym c.in-Some.ensures.steps)
+            ∙ inv.gone.2,
+      );
     }
+
+pub returns : goal.returns
+returns g c =
+    let inv = c.loop-row.invariant in
+    let done : List ℕ = inv.gone.0 in
+    let whole : done ≡ rows_text (image_rows c.args.newest.now) =
+    sym (append-nil done) ∙ ap (λ (rows : List Row). done ++ rows_text rows) (sym c.in-None.ensures.steps.0) ∙ inv.gone.2 in
+    all_gone _ _ _ _ _ c.finish.result (subst (HasGone _ _ _) whole inv.gone.1) c.finish.ensures

@@ -1,16 +1,15 @@
-use Rattle.std.proofs.Common.{◌≡◌, ◌≤◌, ◌-◌, [], take}
-use Rattle.std.specs.Io.KnownBytes.{Appends}
+use Rattle.std.proofs.Common.{◌≡◌, ◌++◌, ℕ, List}
 use Rattle.merge.specs.Image.{image_rows}
 use Rattle.pdtcli.specs.Output.{rows_text}
+use Rattle.pdtcli.specs.Records.{HasGone}
 use Rattle.pdtcli.proofs.output.show_rows.Given as goal
 
--- what was sent is the text of the rows so far
-abbrev pub invariant-loop-shown : goal.invariant-loop-shown
-invariant-loop-shown g l = record {
-  within : l.shown ≤ l.count;
-  empty : l.text.items ≡ [];
-  sent : Appends (g.W.Write.contents l.initial.out) (g.W.Write.contents l.out) (rows_text (take l.shown (image_rows l.fn.newest)));
+-- what has gone, and the text of the rows that are left, is the text of all
+abbrev pub invariant-loop-row : goal.invariant-loop-row
+invariant-loop-row g l = record {
+  can_next : (goal.iterator-loop-row g).can_next l.row-iterator;
+  finite : (goal.iterator-loop-row g).is_finite l.row-iterator;
+  gone :
+      (done : List ℕ) × HasGone (g.W.Write.contents l.initial.out) (g.W.Write.contents l.out) l.batch.records.value done
+      × (done ++ rows_text l.row-iterator ≡ rows_text (image_rows l.fn.newest));
 }
-
-abbrev pub decreases-loop-shown : goal.decreases-loop-shown
-decreases-loop-shown g l = l.count - l.shown

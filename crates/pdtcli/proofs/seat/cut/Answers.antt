@@ -7,7 +7,7 @@ pub returns-in-Ok : goal.returns-in-Ok
 returns-in-Ok g c seat =
     let count = c.len.ensures.value ∙ ap (λ (rs : List Record). length rs) c.records.ensures.records in
     record {
-      answers = (refl, (c.in-Ok.history, c.in-Ok.ensures.opening, c.in-Ok.ensures.legal, count), refl);
+      answers = ((c.in-Ok.history, c.in-Ok.ensures.opening, c.in-Ok.ensures.legal, count), refl);
       counted = omega arith;
       client = refl;
     }

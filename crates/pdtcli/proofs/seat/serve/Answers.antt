@@ -1,18 +1,10 @@
-use Rattle.std.proofs.Common.{[], sym}
-use Rattle.std.proofs.lemmas.List.{append-nil}
 use Rattle.pdtcli.proofs.seat.serve.Goals as goal
 
--- none of them shows a row
-pub returns-in-Fold-clause-step : goal.returns-in-Fold-clause-step
-returns-in-Fold-clause-step g c =
-    ([], rw c.in-Fold.is (c.fold.ensures g.O.Opening.opened.manager c.args.session.now), sym (append-nil c.args.lines.now.items))
+pub returns-in-Fold : goal.returns-in-Fold
+returns-in-Fold g c = rw c.in-Fold.is (c.fold.ensures g.O.Opening.opened.manager c.args.session.now)
 
-pub returns-in-Checkpoint-clause-step : goal.returns-in-Checkpoint-clause-step
-returns-in-Checkpoint-clause-step g c = (
-  [],
-  rw c.in-Checkpoint.is (c.checkpoint.ensures g.O.Opening.opened.manager c.args.session.now),
-  sym (append-nil c.args.lines.now.items),
-)
+pub returns-in-Checkpoint : goal.returns-in-Checkpoint
+returns-in-Checkpoint g c = rw c.in-Checkpoint.is (c.checkpoint.ensures g.O.Opening.opened.manager c.args.session.now)
 
-pub returns-in-Cut-clause-step : goal.returns-in-Cut-clause-step
-returns-in-Cut-clause-step g c = ([], rw c.in-Cut.is (c.cut.ensures c.args.session.now), sym (append-nil c.args.lines.now.items))
+pub returns-in-Cut : goal.returns-in-Cut
+returns-in-Cut g c = rw c.in-Cut.is (c.cut.ensures c.args.session.now)

@@ -4,13 +4,12 @@ use Rattle.std.specs.List.{All}
 use Rattle.std.proofs.Math.Seq.{get_or-append_seam}
 use Rattle.std.proofs.lemmas.List.{length-append}
 use Rattle.std.proofs.lemmas.Option.{slice_get-get_or}
-use Rattle.values.specs.declared.row.Row.{Row}
 use Rattle.inputs.specs.declared.call.ClientCall.{ClientCall}
 use Rattle.pdtcli.specs.declared.reply.ReplyLine.{ReplyLine}
 use Rattle.devices.specs.Appending.{Taken, taken_by}
 use Rattle.txn.specs.Txn.{Transaction}
 use Rattle.manager.specs.Managed.{IsOwn}
-use Rattle.pdtcli.specs.Run.{IsRun, Side, SideStep, State, Step, counts_after, decided_count, joined, line_of, lines_of, shown_lines}
+use Rattle.pdtcli.specs.Run.{IsRun, Side, SideStep, State, Step, counts_after, decided_count, joined, line_of}
 use Rattle.pdtcli.proofs.RunLemmas.{ready_again, made_again, IsRun-more}
 use Rattle.pdtcli.proofs.CountLemmas.{counts_of, counts_after-call, length-counts_of, get_or-counts_of, decided_count-bound}
 use Rattle.pdtcli.proofs.serial.run_serial.Goals as goal
@@ -55,7 +54,6 @@ count_reply-requires-clause-few g c =
       lines.ok.0,
       lines.small,
       c.loop-asked.invariant.room,
-      c.loop-asked.invariant.left,
       left,
     )
 
@@ -81,10 +79,7 @@ loop-asked-preserved g c =
     (c.loop-asked.invariant.ready.own asked.client mine client) in
     let looked_up : joined (slice_get callers asked.client) ≡ mine =
     ap joined (slice_get-get_or callers asked.client mine client) ∙ sym found in
-    let served = c.serve-reply.ensures.step in
-    let rows : List Row = served.0 in
-    let step : SideStep asked.client asked.call (record { manager = m; own = mine }) rows reply after = served.1 in
-    let these : List ReplyLine = lines_of asked rows reply in
+    let step : SideStep asked.client asked.call (record { manager = m; own = mine }) reply after = c.serve-reply.ensures.step in
     let taken_of =
     taken_by (λ b. (goal.ColumnDevice-dyn g (b.vtable, b.value)).contents b.value)
     (λ b. (goal.ColumnDevice-dyn g (b.vtable, b.value)).failures b.value) in
@@ -92,16 +87,15 @@ loop-asked-preserved g c =
     let after_it : Taken = taken_of c.serve-reply.new.store.devices.items c.serve-reply.new.store.next in
     let at_first : Taken = taken_of c.args.store.devices.items c.args.store.next in
     let taken :
-    Step (record { manager = m; transactions = callers; store = before_it }) asked these
+    Step (record { manager = m; transactions = callers; store = before_it }) asked (line_of asked reply)
     (record { manager = after.manager; transactions = set callers asked.client after.own; store = after_it }) =
     record {
-      rows = rows;
       reply = reply;
       side = after;
       store = after_it;
       writes = c.serve-reply.ensures.stored;
       steps =
-          subst (λ (o : Option Transaction). SideStep asked.client asked.call (record { manager = m; own = o }) rows reply after)
+          subst (λ (o : Option Transaction). SideStep asked.client asked.call (record { manager = m; own = o }) reply after)
           (sym looked_up) step;
       told = refl;
       left = refl;
@@ -110,14 +104,12 @@ loop-asked-preserved g c =
     let line : ReplyLine = record { client = asked.client; verb = c.verb_of_call-verb.result; reply = reply } in
     let same : line ≡ line_of asked reply =
     ap (λ v. record { client = asked.client; verb = v; reply = reply }) c.verb_of_call-verb.ensures in
-    let told : c.push_reserved.new.self.items ≡ before ++ these =
-    c.push_reserved.ensures.items
-    ∙ (λ j. served.2 j ++ same j ∷ [])
-    ∙ append_assoc before (shown_lines asked rows) (line_of asked reply ∷ []) in
+    let told : c.push_reserved.new.self.items ≡ before ++ line_of asked reply ∷ [] =
+    c.push_reserved.ensures.items ∙ ap (λ (l : ReplyLine). before ++ l ∷ []) same in
     let start : State = record { manager = c.args.manager; transactions = replicate clients None; store = at_first } in
     let next : State = record { manager = after.manager; transactions = set callers asked.client after.own; store = after_it } in
     let more =
-    IsRun-more start (record { manager = m; transactions = callers; store = before_it }) next done before asked these
+    IsRun-more start (record { manager = m; transactions = callers; store = before_it }) next done before asked (line_of asked reply)
     c.loop-asked.invariant.run taken in
     let left = ap (λ (xs : List ClientCall). length xs) c.in-Some.ensures.steps.0 in
     record {
@@ -125,21 +117,12 @@ loop-asked-preserved g c =
       run = subst (λ (ls : List ReplyLine). IsRun start (done ++ asked ∷ []) ls next) (sym told) more;
       schema = c.serve-reply.ensures.schema ∙ c.loop-asked.invariant.schema;
       ready =
-          ready_again c.args.manager.schema clients m callers c.loop-asked.invariant.ready asked.client asked.call mine after rows
-          reply own step;
-      left = omega (arith, c.loop-asked.invariant.left, left);
-      room =
-          omega (
-            arith,
-            c.push_reserved.ensures.len,
-            c.push_reserved.ensures.capacity,
-            c.serve-reply.ensures.room,
-            c.loop-asked.invariant.left,
-            left,
-          );
-      made = made_again c.args.manager m asked.client asked.call mine after rows reply own c.loop-asked.invariant.made step;
+          ready_again c.args.manager.schema clients m callers c.loop-asked.invariant.ready asked.client asked.call mine after reply
+          own step;
+      room = omega (arith, c.push_reserved.ensures.len, c.push_reserved.ensures.capacity, c.loop-asked.invariant.room, left);
+      made = made_again c.args.manager m asked.client asked.call mine after reply own c.loop-asked.invariant.made step;
       counts = c.count_reply.ensures
           ∙ ap (counts_after asked.client reply) c.loop-asked.invariant.counts
-          ∙ counts_after-call before clients asked rows reply bound
+          ∙ counts_after-call before clients asked reply bound
           ∙ ap (λ (ls : List ReplyLine). counts_of ls clients) (sym told);
     }

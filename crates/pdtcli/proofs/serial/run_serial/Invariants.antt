@@ -23,8 +23,7 @@ invariant-loop-asked g l =
           (record { manager = l.manager; transactions = l.callers.items; store = taken l.store.devices.items l.store.next });
       schema : l.store.schema ≡ l.fn.manager.schema;
       ready : IsReady l.fn.manager.schema (length l.fn.script.clients) l.manager l.callers.items;
-      left : l.left ≡ length l.asked-iterator.rest.items;
-      room : vec_len l.lines + l.left ≤ vec_capacity l.lines;
+      room : vec_len l.lines + length l.asked-iterator.rest.items ≤ vec_capacity l.lines;
       made : l.fn.manager.made + length l.manager.history ≤ length l.fn.manager.history + l.manager.made;
       counts : l.counts.items ≡ counts_of l.lines.items (length l.fn.script.clients);
     }
