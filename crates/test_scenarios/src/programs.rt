@@ -3,6 +3,7 @@
 mod checkpoints;
 mod edges;
 mod long_run;
+mod long_scan;
 mod memory;
 mod outcomes;
 mod refusals;
