@@ -14,14 +14,14 @@ use crate::files::{
 use crate::streams::hold_streams;
 use devices::{ColumnDevice, MemColumn, Store, StoreFault, have_failed};
 use pdtcli::{
-    OpenOptions, Opened, Refusal, Settings, ShowFault, open_texts, read_header, read_words,
-    recover, run_opened, run_opened_on_threads, status_of, stored_header,
+    OpenOptions, Opened, Outcome, Refusal, Settings, ShowFault, open_texts, read_header,
+    read_words, recover, run_opened, run_opened_on_threads, status_of, stored_header,
 };
 use std::alloc::Global;
 use std::process::ExitCode;
 use std::sync::{Arc, OnceLock, Wait};
 use std::thread::Threads;
-use std::{env, fs, io};
+use std::{env, fs, io, mem};
 use values::NoMemory;
 
 /// The status of a command line that asks for nothing.
@@ -235,10 +235,19 @@ fn run_over<T: Threads + Wait + Sync>(
     let alloc = rt.alloc();
     let store = Store::new(alloc, devices, opened.schema(), FIRST_GENERATION)?;
     let mut out = io::writer(rt);
-    match turns {
-        Turns::OnThreads(starter) => run_opened_on_threads(starter, alloc, opened, store, &mut out),
-        Turns::InOrder => run_opened(alloc, opened, store, &mut out),
-    }
+    let (status, outcome) = match turns {
+        Turns::OnThreads(starter) => {
+            run_opened_on_threads(starter, alloc, opened, store, &mut out)?
+        }
+        Turns::InOrder => run_opened(alloc, opened, store, &mut out)?,
+    };
+    // The process ends, and gives its memory back as a whole: no row and no node is let go by itself. The store's files are.
+    let Outcome {
+        left,
+        store: _store,
+    } = outcome;
+    mem::forget(left);
+    Ok(status)
 }
 
 /// A device in memory, whose bytes nobody reads.

@@ -1,5 +1,5 @@
 -- What is written, record by record and some records at a time.
-use Rattle.std.proofs.Common.{◌≡◌, ◌∙◌, ℕ, zero, suc, List, [], ◌∷◌, ◌++◌, map, drop, Option, Some, Result, Ok, Err, refl, sym, ap, subst, append_assoc, nat_lt}
+use Rattle.std.proofs.Common.{◌≡◌, ◌∙◌, ℕ, suc, List, [], ◌∷◌, ◌++◌, map, drop, Option, Some, Result, Ok, Err, refl, sym, ap, subst, append_assoc, nat_lt}
 use Rattle.std.specs.Prelude.{OnOk}
 use Rattle.std.proofs.KnownBytes.{Appends-trans}
 use Rattle.std.proofs.lemmas.List.{append-nil, map-append}

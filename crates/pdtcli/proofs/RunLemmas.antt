@@ -1,7 +1,7 @@
 -- A run goes on by one call, and each open transaction stays one of the manager.
-use Rattle.std.proofs.Common.{◌≡◌, ℕ, ◌+◌, ◌-◌, ◌≤◌, Option, Some, None, List, [], ◌∷◌, ◌++◌, length, get_or, set, refl, sym, ap, ◌∙◌, subst, append_assoc, arith, ⊎_elim, Result, Ok, Err}
+use Rattle.std.proofs.Common.{◌≡◌, ℕ, ◌+◌, ◌-◌, ◌≤◌, Option, Some, None, List, [], ◌∷◌, ◌++◌, length, get_or, set, refl, sym, ap, ◌∙◌, subst, arith, ⊎_elim, Result, Ok, Err}
 use Rattle.std.specs.Prelude.{IfSome, IsNone, MatchResult}
-use Rattle.std.proofs.lemmas.List.{take-append-le, append-nil, length-append, length-set}
+use Rattle.std.proofs.lemmas.List.{take-append-le, length-append, length-set}
 use Rattle.std.proofs.lemmas.List.Elements.{All-set}
 use Rattle.values.specs.Shape.{Columns}
 use Rattle.model.specs.declared.write.CommitReply.{CommitReply}

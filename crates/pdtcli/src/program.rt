@@ -3,13 +3,13 @@
 ghost use Rattle.std.specs.Prelude.{◌≡◌, false, IfErr, IfOk};
 ghost use Rattle.std.specs.Io.KnownBytes.{Appends};
 ghost use Rattle.devices.specs.Appending.{taken_by};
-ghost use Rattle.pdtcli.specs.Outcome.{Left};
 ghost use Rattle.pdtcli.specs.Output.{exit_status, shown};
 ghost use Rattle.pdtcli.specs.Program.{bytes_of, status_of, HasScript, HasTable, IsOpening, IsRefusalOf, IsRunFrom, IsRunOnThreads, IsRunRefusal, IsScriptRefusal, IsTableRefusal, IsThreadsRefusal};
 ghost use Rattle.pdtcli.specs.Refusals.{is_output};
 
 use crate::clients::run_clients;
 use crate::gate::OpenGate;
+use crate::outcome::Outcome;
 use crate::output::show;
 use crate::refusal::Refusal;
 use crate::serial::run_serial;
@@ -92,8 +92,8 @@ pub fn open_texts(
     Ok(Opened { manager, script })
 }
 
-/// Runs the script over the table, with its checkpoints to the store, writes what the run leaves, and answers the program's
-/// exit status. What is open at the end is dropped, and the store too.
+/// Runs the script over the table, with its checkpoints to the store, and writes what the run leaves. Answers the program's
+/// exit status, and what was written.
 ///
 /// # Errors
 ///
@@ -104,15 +104,14 @@ pub fn run_opened<W: Write>(
     opened: Opened,
     store: Store,
     out: &mut W,
-) -> Result<u8, Refusal>
+) -> Result<(u8, Outcome<Store>), Refusal>
     requires script { opened.script.schema ≡ opened.manager.schema }
     requires store { store.schema ≡ opened.manager.schema }
     ensures shown { let taken = taken_by (λ b. (ColumnDevice-dyn (b.vtable, b.value)).contents b.value)
         (λ b. (ColumnDevice-dyn (b.vtable, b.value)).failures b.value) in
-        IfOk result (λ status. (left : Left)
-        × IsRunFrom opened.manager opened.script (taken store.devices.items store.next) left
-        × Appends (W.contents out.old) (W.contents out.new) (shown left)
-        × (status ≡ exit_status left.lines)) }
+        IfOk result (λ ran. IsRunFrom opened.manager opened.script (taken store.devices.items store.next) ran.1.left
+        × Appends (W.contents out.old) (W.contents out.new) (shown ran.1.left)
+        × (ran.0 ≡ exit_status ran.1.left.lines)) }
     ensures refused { let taken = taken_by (λ b. (ColumnDevice-dyn (b.vtable, b.value)).contents b.value)
         (λ b. (ColumnDevice-dyn (b.vtable, b.value)).failures b.value) in
         IfErr result (IsRunRefusal opened.manager opened.script (taken store.devices.items store.next)) }
@@ -123,7 +122,8 @@ pub fn run_opened<W: Write>(
         Ok(outcome) => outcome,
         Err(fault) => return Err(Refusal::Run(fault)),
     };
-    Ok(show(alloc, &outcome.left, out)?)
+    let status = show(alloc, &outcome.left, out)?;
+    Ok((status, outcome))
 }
 
 /// As `run_opened`, with each client's calls on a thread of its own. The reply lines are grouped by client.
@@ -138,19 +138,19 @@ pub fn run_opened_on_threads<S: ImageStore + Send, W: Write, R: Threads + Wait +
     opened: Opened,
     store: S,
     out: &mut W,
-) -> Result<u8, Refusal>
+) -> Result<(u8, Outcome<S>), Refusal>
     requires script { opened.script.schema ≡ opened.manager.schema }
     requires store { S.columns store ≡ opened.manager.schema }
-    ensures shown { IfOk result (λ status. (left : Left)
-        × IsRunOnThreads opened.manager opened.script left
-        × Appends (W.contents out.old) (W.contents out.new) (shown left)
-        × (status ≡ exit_status left.lines)) }
+    ensures shown { IfOk result (λ ran. IsRunOnThreads opened.manager opened.script ran.1.left
+        × Appends (W.contents out.old) (W.contents out.new) (shown ran.1.left)
+        × (ran.0 ≡ exit_status ran.1.left.lines)) }
     ensures refused { IfErr result (IsThreadsRefusal opened.manager opened.script) }
     ensures silent { IfErr result (λ refusal. is_output refusal ≡ false → out.new ≡ out.old) }
 {
     let Opened { manager, script } = opened;
     let outcome = run_clients(rt, alloc, manager, store, &script, &OpenGate)?;
-    Ok(show(alloc, &outcome.left, out)?)
+    let status = show(alloc, &outcome.left, out)?;
+    Ok((status, outcome))
 }
 
 /// The status that the program ends with, by what a run or a recovery answers: its own, or 1 where a part was refused.

@@ -19,7 +19,7 @@ fn ran(alloc: Global, slots: &[Slot]) -> Result<(Vec<u8>, u8), Fail> {
     let opened = open_texts(alloc, Ok(BASE_TEXT), Ok(SCRIPT), USUAL)?;
     let store = Store::new(alloc, devices, opened.schema(), 1)?;
     let mut lines = Vec::new(alloc);
-    let status = run_opened(alloc, opened, store, &mut lines)?;
+    let (status, _outcome) = run_opened(alloc, opened, store, &mut lines)?;
     Ok((lines, status))
 }
 

@@ -47,7 +47,8 @@ fn run_over<W: Write>(
         return Err(Refusal::Store(StoreFault::StoreFailed));
     }
     let store = Store::new(alloc, devices, opened.schema(), 1)?;
-    run_opened(alloc, opened, store, out)
+    let (status, _outcome) = run_opened(alloc, opened, store, out)?;
+    Ok(status)
 }
 
 /// What is left of a run of the script over the base table.

@@ -1,4 +1,4 @@
-use Rattle.std.proofs.Common.{◌≡◌, ◌<◌, ◌∙◌, [], List, ℕ, length, get_or, map, sym, ap, subst, take, arith}
+use Rattle.std.proofs.Common.{◌<◌, ◌∙◌, [], List, length, get_or, map, sym, ap, subst, take, arith}
 use Rattle.std.proofs.lemmas.List.{take_all, take_more}
 use Rattle.values.specs.declared.row.Row.{Row}
 use Rattle.pdtcli.specs.Output.{records_text}

@@ -1,4 +1,4 @@
-use Rattle.std.proofs.Common.{◌≡◌, ◌∷◌, [], codes, map, take, sym, ap, ◌∙◌, subst}
+use Rattle.std.proofs.Common.{◌∷◌, [], codes, map, take, sym, ap, ◌∙◌, subst}
 use Rattle.std.proofs.lemmas.List.{take_more, map-append}
 use Rattle.values.specs.Shown.{cell_text}
 use Rattle.values.specs.declared.row.Row.{Row}

@@ -5,9 +5,8 @@ use Rattle.values.specs.Lent.{value_of}
 use Rattle.values.specs.Shown.{cell_text}
 use Rattle.values.specs.declared.row.Row.{Row}
 use Rattle.inputs.specs.Reading.{Fields}
-use Rattle.inputs.specs.Calls.{verb_word}
 use Rattle.pdtcli.specs.Records.{TakesFields}
-use Rattle.pdtcli.specs.Replies.{call_fields, client_name}
+use Rattle.pdtcli.specs.Replies.{call_fields}
 use Rattle.pdtcli.proofs.RecordsLemmas.{TakesFields-trans}
 use Rattle.pdtcli.proofs.reply.push_shown.Goals as goal
 
