@@ -77,11 +77,21 @@ fn answer_to<T: Threads + Wait + Sync>(rt: &HostRuntime, starter: &T, given: &[S
             return MISUSED;
         }
     };
-    match read_words(rt.alloc(), words.as_slice()) {
+    match asked(rt, words.as_slice()) {
         Ok(settings) => told(rt, &done(rt, starter, settings)),
+        Err(status) => status,
+    }
+}
+
+/// What the words ask for. Where they say nothing that can be done, that is told, and the status is given. The 16 KB of stack
+/// that `clap` wants are free again before a run.
+#[inline(never)]
+fn asked<'w>(rt: &HostRuntime, words: &'w [&'w str]) -> Result<Settings<'w>, u8> {
+    match read_words(rt.alloc(), words) {
+        Ok(settings) => Ok(settings),
         Err(fault) => {
             let _ = rt.eprint(&fault);
-            MISUSED
+            Err(MISUSED)
         }
     }
 }
