@@ -21,6 +21,7 @@ mod image;
 mod outcome;
 mod output;
 mod program;
+mod queue;
 mod reads;
 mod records;
 mod recovery;

@@ -7,6 +7,7 @@ ghost use Rattle.pdtcli.specs.Run.{IsRun, line_of, verb_of_call, verb_of_read, v
 
 use crate::caller::Caller;
 use crate::outcome::{Left, Outcome};
+use crate::queue::CallQueue;
 use crate::reply::{Reply, ReplyLine};
 use devices::{ColumnDevice, Store};
 use inputs::{Call, ClientCall, Read, Script, Verb};
@@ -49,12 +50,13 @@ pub fn run_serial(
     let mut store = store;
     let handed_before = handed_out(&manager);
     let (names, calls) = script.into_parts();
+    let mut left = CallQueue::of(calls);
     let Places {
         mut callers,
         mut counts,
         mut lines,
-    } = places_for(alloc, names.len(), calls.len())?;
-    for asked in calls {
+    } = places_for(alloc, names.len(), left.len())?;
+    while let Some(asked) = left.next() {
         let client = asked.client;
         let verb = verb_of_call(&asked.call);
         let reply = callers[client as usize].serve(alloc, asked, &mut manager, &mut store);

@@ -1,52 +1,124 @@
-use Rattle.std.proofs.Common.{◌≡◌, ◌++◌, ◌∷◌, ◌<◌, ℕ, None, Option, List, [], length, get_or, set, replicate, refl, ap, sym, ◌∙◌, subst, append_assoc, arith}
-use Rattle.std.specs.Prelude.{IfSome, slice_get}
+use Rattle.std.proofs.Common.{◌≡◌, ◌++◌, ◌∷◌, ◌<◌, ℕ, None, Some, Option, List, [], length, get_or, set, replicate, refl, ap, sym, ◌∙◌, subst, append_assoc, arith, rules}
+use Rattle.std.specs.Prelude.{IfNone, IfSome, IsTrue, slice_get}
 use Rattle.std.specs.List.{All}
 use Rattle.std.proofs.Math.Seq.{get_or-append_seam}
-use Rattle.std.proofs.lemmas.List.{length-append}
+use Rattle.std.proofs.lemmas.List.{append-nil, get_or-replicate, length-append, length-replicate}
 use Rattle.std.proofs.lemmas.Option.{slice_get-get_or}
+use Rattle.values.specs.Shape.{Columns}
+use Rattle.inputs.specs.declared.call.Call.{Call}
 use Rattle.inputs.specs.declared.call.ClientCall.{ClientCall}
+use Rattle.inputs.specs.Typed.{is_typed_call}
 use Rattle.pdtcli.specs.declared.reply.ReplyLine.{ReplyLine}
 use Rattle.devices.specs.Appending.{Taken, taken_by}
 use Rattle.txn.specs.Txn.{Transaction}
-use Rattle.manager.specs.Managed.{IsOwn}
+use Rattle.manager.specs.Managed.{IsOwn, Managed}
 use Rattle.pdtcli.specs.Run.{IsRun, Side, SideStep, State, Step, counts_after, decided_count, joined, line_of}
 use Rattle.pdtcli.proofs.RunLemmas.{ready_again, made_again, IsRun-more}
 use Rattle.pdtcli.proofs.CountLemmas.{counts_of, counts_after-call, length-counts_of, get_or-counts_of, decided_count-bound}
 use Rattle.pdtcli.proofs.serial.run_serial.Goals as goal
 
--- a call's client is one of so many
-client_bound : (calls before rest : List ClientCall) (clients : ℕ) (asked : ClientCall)
-    → All (λ (a : ClientCall). a.client < clients) calls → before ++ asked ∷ rest ≡ calls
-    → asked.client < clients
-client_bound calls before rest clients asked numbered split =
+-- what holds of all calls holds of the next one
+next_of : (P : ClientCall → Type 0) (calls before rest : List ClientCall) (asked : ClientCall) → All P calls → before ++ asked ∷ rest ≡ calls
+    → P asked
+next_of P calls before rest asked all split =
     let here : get_or calls (length before) asked ≡ asked =
     ap (λ (xs : List ClientCall). get_or xs (length before) asked) (sym split) ∙ get_or-append_seam before asked rest asked in
-    subst (λ (a : ClientCall). a.client < clients) here
-    (numbered (length before) asked (omega (arith, length-append before (asked ∷ rest), ap (λ (xs : List ClientCall). length xs) split)))
+    subst P here
+    (all (length before) asked (omega (arith, length-append before (asked ∷ rest), ap (λ (xs : List ClientCall). length xs) split)))
+
+-- a call that is typed under the manager's schema is so under that of a transaction of it
+typed_in : (schema : Columns) (m : Managed) (asked : Call) (mine : Option Transaction) → IsTrue (is_typed_call schema asked)
+    → m.schema ≡ schema → IfSome mine (IsOwn m) → IfSome mine (λ txn. IsTrue (is_typed_call txn.schema asked))
+typed_in schema m asked None typed same own = tt
+typed_in schema m asked (Some txn) typed same own =
+    subst (λ (s : Columns). IsTrue (is_typed_call s asked)) (sym (own.schema ∙ same)) typed
+
+none_left : (next : Option ClientCall) (P : Type 0) → IfNone next P → ((asked : ClientCall) → next ≡ Some asked → ⊥) → P
+none_left None P h none = h
+none_left (Some asked) P h none = absurd (none asked refl)
+
+pub loop-asked-init : goal.loop-asked-init
+loop-asked-init g c =
+    let made = c.in_ok-callers.ensures in
+    let callers = c.in_ok-callers.field-0.callers.items in
+    let count : c.len.result ≡ length c.args.script.clients = search rules in
+    let many : length callers ≡ c.len.result = ap (λ (os : List (Option Transaction)). length os) made.callers ∙ length-replicate c.len.result None in
+    record {
+      run = ([], c.of-left.ensures ∙ c.into_parts-names.ensures.calls, rw (made.lines.0, made.callers, count) refl);
+      schema = search rules;
+      ready = record {
+        schema_is = refl;
+        many = many ∙ count;
+        own = λ k d lt. subst (λ (o : Option Transaction). IfSome o (IsOwn c.args.manager))
+            (sym (ap (λ (os : List (Option Transaction)). get_or os k d) made.callers
+            ∙ get_or-replicate c.len.result k None d (omega (arith, lt, many)))) tt;
+      };
+      room = search rules;
+      made = search rules;
+      counts = search rules;
+    }
+
+-- the next call's client has a place
+pub index_mut-requires : goal.index_mut-requires
+index_mut-requires g c =
+    let asked = c.in-Some.asked in
+    let split : c.loop-asked.invariant.run.0 ++ asked ∷ c.next.new.self ≡ c.args.script.calls =
+    ap (λ (xs : List ClientCall). c.loop-asked.invariant.run.0 ++ xs) (sym c.in-Some.ensures.some) ∙ c.loop-asked.invariant.run.1 in
+    let bound = next_of (λ a. a.client < length c.args.script.clients) c.args.script.calls c.loop-asked.invariant.run.0 c.next.new.self asked
+    c.into_parts-names.ensures.lawful.numbered split in
+    omega (arith, bound, c.loop-asked.invariant.ready.many)
+
+pub serve-reply-requires-clause-own : goal.serve-reply-requires-clause-own
+serve-reply-requires-clause-own g c =
+    let asked = c.in-Some.asked in
+    let split : c.loop-asked.invariant.run.0 ++ asked ∷ c.next.new.self ≡ c.args.script.calls =
+    ap (λ (xs : List ClientCall). c.loop-asked.invariant.run.0 ++ xs) (sym c.in-Some.ensures.some) ∙ c.loop-asked.invariant.run.1 in
+    let bound = next_of (λ a. a.client < length c.args.script.clients) c.args.script.calls c.loop-asked.invariant.run.0 c.next.new.self asked
+    c.into_parts-names.ensures.lawful.numbered split in
+    subst (λ (o : Option Transaction). IfSome o (IsOwn c.loop-asked.manager)) (sym c.index_mut.ensures.value)
+    (c.loop-asked.invariant.ready.own asked.client c.index_mut.result.now (omega (arith, bound, c.loop-asked.invariant.ready.many)))
+
+pub serve-reply-requires-clause-typed : goal.serve-reply-requires-clause-typed
+serve-reply-requires-clause-typed g c =
+    let asked = c.in-Some.asked in
+    let schema = c.args.script.schema in
+    let split : c.loop-asked.invariant.run.0 ++ asked ∷ c.next.new.self ≡ c.args.script.calls =
+    ap (λ (xs : List ClientCall). c.loop-asked.invariant.run.0 ++ xs) (sym c.in-Some.ensures.some) ∙ c.loop-asked.invariant.run.1 in
+    let typed = next_of (λ a. IsTrue (is_typed_call schema a.call)) c.args.script.calls c.loop-asked.invariant.run.0 c.next.new.self asked
+    c.into_parts-names.ensures.lawful.typed split in
+    typed_in schema c.loop-asked.manager asked.call c.index_mut.result.now typed
+    (c.loop-asked.invariant.ready.schema_is ∙ sym c.requires.script) (serve-reply-requires-clause-own g c)
+
+pub loop-asked-smaller : goal.loop-asked-smaller
+loop-asked-smaller g c =
+    let left = ap (λ (xs : List ClientCall). length xs) c.in-Some.ensures.some in
+    omega (arith, left)
 
 pub count_reply-requires-clause-there : goal.count_reply-requires-clause-there
 count_reply-requires-clause-there g c =
     let clients = length c.args.script.clients in
     let asked = c.in-Some.asked in
-    let rest = c.next.new.self.rest.items in
-    let split : c.loop-asked.yielded ++ asked ∷ rest ≡ c.args.script.calls =
-    ap (λ (xs : List ClientCall). c.loop-asked.yielded ++ xs) (sym c.in-Some.ensures.steps.0) ∙ c.loop-asked.invariant.split in
-    let bound = client_bound c.args.script.calls c.loop-asked.yielded rest clients asked c.into_parts-names.ensures.lawful.numbered split in
+    let rest = c.next.new.self in
+    let split : c.loop-asked.invariant.run.0 ++ asked ∷ rest ≡ c.args.script.calls =
+    ap (λ (xs : List ClientCall). c.loop-asked.invariant.run.0 ++ xs) (sym c.in-Some.ensures.some) ∙ c.loop-asked.invariant.run.1 in
+    let bound = next_of (λ a. a.client < clients) c.args.script.calls c.loop-asked.invariant.run.0 rest asked
+    c.into_parts-names.ensures.lawful.numbered split in
     omega (arith, bound, ap (λ (ns : List ℕ). length ns) c.loop-asked.invariant.counts, length-counts_of c.loop-asked.lines.items clients)
 
 pub count_reply-requires-clause-few : goal.count_reply-requires-clause-few
 count_reply-requires-clause-few g c =
     let clients = length c.args.script.clients in
     let asked = c.in-Some.asked in
-    let rest = c.next.new.self.rest.items in
+    let rest = c.next.new.self in
     let lines = c.loop-asked.lines in
-    let split : c.loop-asked.yielded ++ asked ∷ rest ≡ c.args.script.calls =
-    ap (λ (xs : List ClientCall). c.loop-asked.yielded ++ xs) (sym c.in-Some.ensures.steps.0) ∙ c.loop-asked.invariant.split in
-    let bound = client_bound c.args.script.calls c.loop-asked.yielded rest clients asked c.into_parts-names.ensures.lawful.numbered split in
+    let split : c.loop-asked.invariant.run.0 ++ asked ∷ rest ≡ c.args.script.calls =
+    ap (λ (xs : List ClientCall). c.loop-asked.invariant.run.0 ++ xs) (sym c.in-Some.ensures.some) ∙ c.loop-asked.invariant.run.1 in
+    let bound = next_of (λ a. a.client < clients) c.args.script.calls c.loop-asked.invariant.run.0 rest asked
+    c.into_parts-names.ensures.lawful.numbered split in
     let counted : get_or c.loop-asked.counts.items asked.client 0 ≡ decided_count lines.items asked.client =
     ap (λ (ns : List ℕ). get_or ns asked.client 0) c.loop-asked.invariant.counts
     ∙ get_or-counts_of lines.items clients asked.client bound in
-    let left = ap (λ (xs : List ClientCall). length xs) c.in-Some.ensures.steps.0 in
+    let left = ap (λ (xs : List ClientCall). length xs) c.in-Some.ensures.some in
     omega (
       arith,
       counted,
@@ -62,16 +134,16 @@ loop-asked-preserved g c =
     let calls = c.args.script.calls in
     let clients = length c.args.script.clients in
     let asked = c.in-Some.asked in
-    let done = c.loop-asked.yielded in
-    let rest = c.next.new.self.rest.items in
+    let done = c.loop-asked.invariant.run.0 in
+    let rest = c.next.new.self in
     let m = c.loop-asked.manager in
     let callers = c.loop-asked.callers.items in
     let mine = c.index_mut.result.now in
     let after : Side = record { manager = c.serve-reply.new.manager; own = c.serve-reply.new.self } in
     let reply = c.serve-reply.result in
     let split : done ++ asked ∷ rest ≡ calls =
-    ap (λ (xs : List ClientCall). done ++ xs) (sym c.in-Some.ensures.steps.0) ∙ c.loop-asked.invariant.split in
-    let bound = client_bound calls done rest clients asked c.into_parts-names.ensures.lawful.numbered split in
+    ap (λ (xs : List ClientCall). done ++ xs) (sym c.in-Some.ensures.some) ∙ c.loop-asked.invariant.run.1 in
+    let bound = next_of (λ a. a.client < clients) calls done rest asked c.into_parts-names.ensures.lawful.numbered split in
     let client : asked.client < length callers = omega (arith, bound, c.loop-asked.invariant.ready.many) in
     let found : mine ≡ get_or callers asked.client mine = c.index_mut.ensures.value in
     let own : IfSome mine (IsOwn m) =
@@ -110,11 +182,14 @@ loop-asked-preserved g c =
     let next : State = record { manager = after.manager; transactions = set callers asked.client after.own; store = after_it } in
     let more =
     IsRun-more start (record { manager = m; transactions = callers; store = before_it }) next done before asked (line_of asked reply)
-    c.loop-asked.invariant.run taken in
-    let left = ap (λ (xs : List ClientCall). length xs) c.in-Some.ensures.steps.0 in
+    c.loop-asked.invariant.run.2 taken in
+    let left = ap (λ (xs : List ClientCall). length xs) c.in-Some.ensures.some in
     record {
-      split = append_assoc done (asked ∷ []) rest ∙ split;
-      run = subst (λ (ls : List ReplyLine). IsRun start (done ++ asked ∷ []) ls next) (sym told) more;
+      run = (
+        done ++ asked ∷ [],
+        append_assoc done (asked ∷ []) rest ∙ split,
+        subst (λ (ls : List ReplyLine). IsRun start (done ++ asked ∷ []) ls next) (sym told) more,
+      );
       schema = c.serve-reply.ensures.schema ∙ c.loop-asked.invariant.schema;
       ready =
           ready_again c.args.manager.schema clients m callers c.loop-asked.invariant.ready asked.client asked.call mine after reply
@@ -126,3 +201,12 @@ loop-asked-preserved g c =
           ∙ counts_after-call before clients asked reply bound
           ∙ ap (λ (ls : List ReplyLine). counts_of ls clients) (sym told);
     }
+
+pub returns-clause-run : goal.returns-clause-run
+returns-clause-run g c =
+    let inv = c.loop-asked.invariant in
+    let done : List ClientCall = inv.run.0 in
+    let none = none_left c.next.result _ c.next.ensures.none c.in_default.not-Some in
+    let all : done ≡ c.args.script.calls = sym (append-nil done) ∙ ap (λ (xs : List ClientCall). done ++ xs) (sym none) ∙ inv.run.1 in
+    let run = rw all at inv.run.2 in
+    search rules
