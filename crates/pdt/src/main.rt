@@ -164,7 +164,9 @@ fn done<T: Threads + Wait + Sync>(
     }
 }
 
-/// Opens the table's file, and reads the script's. Their bytes are let go before a call is made.
+/// Opens the table's file, and reads the script's. Their bytes are let go before a call is made, and what this takes of the
+/// stack is free again.
+#[inline(never)]
 fn open_files(rt: &HostRuntime, inputs: Inputs<'_>, options: OpenOptions) -> Result<Opened, Refusal>
     ensures { IfOk result (λ opened. opened.script.schema ≡ opened.manager.schema) }
 {
@@ -269,6 +271,7 @@ fn memory_column(alloc: Global) -> Result<Box<MemColumn>, NoMemory>
 }
 
 /// Prints the image that the store in a folder has.
+#[inline(never)]
 fn recover_folder(rt: &HostRuntime, dir: &str) -> Result<u8, Refusal> {
     let alloc = rt.alloc();
     let header = fs::read(rt, header_path(alloc, dir)?.as_str());
