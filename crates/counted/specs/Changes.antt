@@ -20,10 +20,12 @@ change_of (lent.Mod col value) = Mod col (value_of value)
 abbrev pub kept_change : Kept → Change
 kept_change (kept.Number col number) = Mod col (Int number)
 kept_change (kept.Truth col truth) = Mod col (Truth truth)
+kept_change (kept.Inserted row) = Ins row
 kept_change (kept.Shared weight change) = change.value
 
 -- what stands beside a shared change is what it adds
 abbrev pub IsWeighed : Kept → Type 0
 IsWeighed (kept.Number col number) = Unit {0}
 IsWeighed (kept.Truth col truth) = Unit {0}
+IsWeighed (kept.Inserted row) = Unit {0}
 IsWeighed (kept.Shared weight change) = weight ≡ weight_of change.value

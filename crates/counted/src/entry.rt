@@ -9,10 +9,10 @@ use model::{Change, Entry};
 use std::alloc::{AllocError, Global};
 use std::marker::Model;
 use std::sync::Arc;
-use values::{Key, Row, Value, ValueRef};
+use values::{Key, NoMemory, Row, Value, ValueRef};
 
-/// An entry. A number or a truth that it sets stands in it; any other change is shared: its copies, and those of it at other
-/// SIDs, own one change together.
+/// An entry. A number or a truth that it sets stands in it; a row that it inserts, and any other change, is shared: its
+/// copies, and those of it at other SIDs, own it together.
 #[derive(Drop)]
 pub struct SharedEntry {
     sid: u64,
@@ -26,6 +26,8 @@ pub(crate) enum Kept {
     Number(usize, i64),
     /// A modify of the column by a truth.
     Truth(usize, bool),
+    /// An insert of the row, whose values are shared.
+    Inserted(Row),
     /// Any other one, with what it adds to the rows below it, so that a search reads only the changes that it compares.
     Shared(i64, Arc<Change, Global>),
 }
@@ -91,6 +93,7 @@ impl SharedEntry {
         match &self.kept {
             Kept::Number(col, number) => ChangeRef::Mod(*col, ValueRef::Int(*number)),
             Kept::Truth(col, truth) => ChangeRef::Mod(*col, ValueRef::Bool(*truth)),
+            Kept::Inserted(row) => ChangeRef::Ins(row),
             Kept::Shared(_, change) => lent(change),
         }
     }
@@ -102,6 +105,7 @@ impl SharedEntry {
     {
         match &self.kept {
             Kept::Number(..) | Kept::Truth(..) => 0,
+            Kept::Inserted(_) => 1,
             Kept::Shared(weight, _) => *weight,
         }
     }
@@ -149,6 +153,7 @@ impl SharedEntry {
         let kept = match &self.kept {
             Kept::Number(col, number) => Kept::Number(*col, *number),
             Kept::Truth(col, truth) => Kept::Truth(*col, *truth),
+            Kept::Inserted(row) => Kept::Inserted(row_again(row)?),
             Kept::Shared(weight, change) => Kept::Shared(*weight, Arc::try_clone(change)?),
         };
         Ok(SharedEntry { sid, kept })
@@ -162,6 +167,17 @@ impl SharedEntry {
     }
 }
 
+/// The same row, which shares its values.
+#[inline(always)]
+fn row_again(row: &Row) -> Result<Row, AllocError>
+    ensures { IfOk result (λ again. again ≡ row.now) }
+{
+    match row.copy() {
+        Ok(again) => Ok(again),
+        Err(NoMemory) => Err(AllocError),
+    }
+}
+
 /// How a change that nobody shares yet is kept.
 fn keep(alloc: Global, change: Change) -> Result<Kept, AllocError>
     ensures change { IfOk result (λ kept. kept_change kept ≡ change) }
@@ -170,6 +186,7 @@ fn keep(alloc: Global, change: Change) -> Result<Kept, AllocError>
     match change {
         Change::Mod(col, Value::Int(number)) => Ok(Kept::Number(col, number)),
         Change::Mod(col, Value::Bool(truth)) => Ok(Kept::Truth(col, truth)),
+        Change::Ins(row) => Ok(Kept::Inserted(row)),
         other => Ok(Kept::Shared(change_weight(&other), Arc::new(alloc, other)?)),
     }
 }

@@ -247,16 +247,17 @@ fn with_cell(
     ensures { IfOk result (λ e. e ≡ entry_at entry.now.sid (change_with_cell col value entry.now.change)) }
 {
     let mut changed = copy_entry(alloc, entry)?;
-    set_cell(&mut changed, col, value);
+    set_cell(&mut changed, col, value)?;
     Ok(changed)
 }
 
 /// Puts another value into a cell of the row that the entry inserts.
-fn set_cell(entry: &mut Entry, col: usize, value: Value)
+fn set_cell(entry: &mut Entry, col: usize, value: Value) -> Result<(), NoMemory>
     requires { has_cell col entry.old.change }
-    ensures { entry.new ≡ entry_at entry.old.sid (change_with_cell col value entry.old.change) }
+    ensures { OnOk result (entry.new ≡ entry_at entry.old.sid (change_with_cell col value entry.old.change)) }
 {
-    if let Change::Ins(row) = &mut entry.change {
-        row.set(col, value);
+    match &mut entry.change {
+        Change::Ins(row) => row.set(col, value),
+        _ => Ok(()),
     }
 }

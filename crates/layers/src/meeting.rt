@@ -102,7 +102,7 @@ pub(crate) fn changed(
     match (lower.change(), upper.change()) {
         (ChangeRef::Ins(row), ChangeRef::Mod(col, value)) if col < row.cells().len() => {
             let mut row = row.copy()?;
-            row.set(col, value.copy(alloc)?);
+            row.set(col, value.copy(alloc)?)?;
             let change = Change::Ins(row);
             Ok(SharedEntry::new(
                 alloc,

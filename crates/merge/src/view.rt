@@ -212,7 +212,7 @@ impl<'a> RowView<'a> {
         for col in 0..width {
             cells.push(self.value(col).copy(alloc)?)?;
         }
-        Ok(Row::new(cells))
+        Row::new(cells)
     }
 
     /// The same by the modifies of all columns, gathered first.
@@ -225,7 +225,7 @@ impl<'a> RowView<'a> {
         for col in 0..width {
             cells.push(self.value_or(modified[col], col).copy(alloc)?)?;
         }
-        Ok(Row::new(cells))
+        Row::new(cells)
     }
 
     /// What the layers modify of the row: of each layer by one search at most.

@@ -166,7 +166,7 @@ fn a_shape_is_refused_before_the_table_is_looked_at(rt: HostRuntime) -> Result<(
     let mut writes = Vec::new(alloc);
     writes.push(Write::Set(key(alloc, 20)?, 0, Value::Int(21)))?;
     writes.push(Write::Delete(Key::new(Vec::new(alloc))))?;
-    writes.push(Write::Insert(Row::new(Vec::new(alloc))))?;
+    writes.push(Write::Insert(Row::new(Vec::new(alloc))?))?;
     assert_left(&rt, alloc, &BASE, (writes, &ANSWERS), ("", 0))
 }
 

@@ -233,7 +233,7 @@ fn the_first_fault_of_a_row_is_named(rt: HostRuntime) -> Result<(), Fail> {
     ];
     let schema = base_schema(rt.alloc())?;
     for (label, given, answer) in &CASES {
-        let row = Row::new(cells(rt.alloc(), *given)?);
+        let row = Row::new(cells(rt.alloc(), *given)?)?;
         assert_holds(&rt, schema.check_row(&row) == *answer, *label);
     }
     Ok(())
@@ -387,10 +387,39 @@ fn keys_ascend_column_by_column(rt: HostRuntime) -> Result<(), Fail> {
 #[test]
 fn a_copied_row_or_key_holds_the_same_and_gives_it_back(rt: HostRuntime) -> Result<(), Fail> {
     let given = [Given::Number, Given::Name, Given::Truth];
-    let row = Row::new(cells(rt.alloc(), &given)?).copy()?;
+    let row = Row::new(cells(rt.alloc(), &given)?)?.copy()?;
     let key = Key::new(cells(rt.alloc(), &given)?).copy()?;
     assert!(rt; row.cells() == key.cells());
-    assert!(rt; row.into_cells().as_slice() == key.into_cells().as_slice());
+    assert!(rt; row.into_cells()?.as_slice() == key.into_cells().as_slice());
+    Ok(())
+}
+
+/// That a row has two cells, the first of which is this number.
+fn assert_begins_with(rt: &impl Abort, row: &Row, number: i64) {
+    assert!(rt; row.cells().len() == 2);
+    assert!(rt; row.cells().first() == Some(&Value::Int(number)));
+}
+
+#[test]
+fn a_cell_that_is_set_in_one_of_two_rows_stays_in_the_other(rt: HostRuntime) -> Result<(), Fail> {
+    let row = Row::new(cells(rt.alloc(), &[Given::Number, Given::Name])?)?;
+    let mut shares = row.copy()?;
+    assert!(rt; shares.cells().len() == 2);
+    shares.set(0, Value::Int(20))?;
+    assert_begins_with(&rt, &row, 10);
+    assert_begins_with(&rt, &shares, 20);
+    let again = row.copy()?;
+    let cells = again.into_cells()?;
+    assert!(rt; cells.as_slice() == row.cells());
+    Ok(())
+}
+
+#[test]
+fn a_row_that_nobody_shares_is_set_in_place(rt: HostRuntime) -> Result<(), Fail> {
+    let mut row = Row::new(cells(rt.alloc(), &[Given::Number, Given::Name])?)?;
+    assert!(rt; row.cells().len() == 2);
+    row.set(0, Value::Int(30))?;
+    assert_begins_with(&rt, &row, 30);
     Ok(())
 }
 

@@ -1,5 +1,5 @@
 //! Rows and keys, which contracts see as the lists of their values, and the order of keys.
-ghost use Rattle.std.specs.Prelude.{◌≡◌, ◌<◌, IfOk, length, refl, slice_set};
+ghost use Rattle.std.specs.Prelude.{◌≡◌, ◌<◌, IfOk, OnErr, OnOk, length, refl, slice_set};
 ghost use Rattle.std.specs.Cmp.{eq_by_cmp_equiv, partial_equiv_from_equiv, po};
 ghost use Rattle.std.specs.Ordering.{eq_by_cmp, as_partial_cmp};
 ghost use Rattle.values.specs.Orders.{key_cmp, key_cmp_total};
@@ -9,11 +9,12 @@ use crate::fault::NoMemory;
 use crate::value::{Value, copy_values};
 use std::cmp::Ordering;
 use std::marker::Model;
+use std::sync::Arc;
 
-/// A row, or any list of values that is to be checked as one.
+/// A row, or any list of values that is to be checked as one. Its copies share its values.
 #[derive(Debug, Drop)]
 pub struct Row {
-    cells: Vec<Value>,
+    cells: Arc<Vec<Value>>,
 }
 
 impl Model for Row {
@@ -22,18 +23,26 @@ impl Model for Row {
 
     ghost Value = { List Cell };
 
-    ghost view = { λ r. r.cells.items };
+    ghost view = { λ r. r.cells.value.items };
 }
 
 impl Row {
-    /// The values as a row. Takes no memory, and checks nothing.
-    pub fn new(cells: Vec<Value>) -> Row
-        ensures { result ≡ cells.items }
+    /// The values as a row. Copies no value, and checks nothing.
+    ///
+    /// # Errors
+    ///
+    /// `NoMemory` where memory for their one place is refused: they are dropped.
+    pub fn new(cells: Vec<Value>) -> Result<Row, NoMemory>
+        ensures { IfOk result (λ row. row ≡ cells.items) }
     {
-        Row { cells }
+        let alloc = *cells.allocator();
+        Ok(Row {
+            cells: Arc::new(alloc, cells)?,
+        })
     }
 
     /// The values in the order of the columns, lent.
+    #[inline(always)]
     pub fn cells(&self) -> &[Value]
         ensures { result.now ≡ self.now }
     {
@@ -48,31 +57,54 @@ impl Row {
         &cells[..key_cols.min(cells.len())]
     }
 
-    /// The values that it was made of. Takes no memory.
-    pub fn into_cells(self) -> Vec<Value>
-        ensures { result.items ≡ self }
-    {
-        self.cells
-    }
-
-    /// Puts another value into the cell of a column. Takes no memory, and checks nothing.
-    pub fn set(&mut self, col: usize, value: Value)
-        requires { col < length self.old }
-        ensures { self.new ≡ slice_set self.old col value }
-    {
-        self.cells[col] = value;
-    }
-
-    /// The same row, in memory of its own.
+    /// The values that it was made of. Takes no memory where no other row shares them.
     ///
     /// # Errors
     ///
-    /// `NoMemory` where a growth is refused.
+    /// `NoMemory` where others share them, and memory for a copy of them is refused.
+    pub fn into_cells(self) -> Result<Vec<Value>, NoMemory>
+        ensures { IfOk result (λ cells. cells.items ≡ self) }
+    {
+        match Arc::try_unwrap(self.cells) {
+            Ok(cells) => Ok(cells),
+            Err(shared) => copy_values(*shared.allocator(), shared.as_slice()),
+        }
+    }
+
+    /// Puts another value into the cell of a column, and checks nothing. Rows that shared the values keep theirs: takes no
+    /// memory where there are none.
+    ///
+    /// # Errors
+    ///
+    /// `NoMemory` where others share them, and memory for a copy of them is refused: nothing changes.
+    pub fn set(&mut self, col: usize, value: Value) -> Result<(), NoMemory>
+        requires { col < length self.old }
+        ensures ok { OnOk result (self.new ≡ slice_set self.old col value) }
+        ensures err { OnErr result (self.new ≡ self.old) }
+    {
+        if let Some(cells) = Arc::get_mut(&mut self.cells) {
+            cells[col] = value;
+            return Ok(());
+        }
+        let alloc = *self.cells.allocator();
+        let mut cells = copy_values(alloc, self.cells())?;
+        cells[col] = value;
+        *self = Row::new(cells)?;
+        Ok(())
+    }
+
+    /// The same row, which shares its values. Takes no memory.
+    ///
+    /// # Errors
+    ///
+    /// `NoMemory` where 2^63 rows share them.
+    #[inline(always)]
     pub fn copy(&self) -> Result<Row, NoMemory>
         ensures { IfOk result (λ copied. copied ≡ self.now) }
     {
-        let alloc = *self.cells.allocator();
-        Ok(Row::new(copy_values(alloc, self.cells())?))
+        Ok(Row {
+            cells: Arc::try_clone(&self.cells)?,
+        })
     }
 }
 

@@ -1,17 +1,17 @@
 //! Depths of the counted tree, one entry at a time and all at once.
 use counted::CountedTree;
 use model::{Change, Entry};
-use std::alloc::{AllocError, Global};
+use std::alloc::Global;
 use std::process::Abort;
 use std::test::Fail;
-use values::{Row, Value};
+use values::{NoMemory, Row, Value};
 
-pub(super) fn entry(alloc: Global, key: u32) -> Result<Entry, AllocError> {
+pub(super) fn entry(alloc: Global, key: u32) -> Result<Entry, NoMemory> {
     let mut cells = Vec::with_capacity(alloc, 1)?;
     cells.push(Value::Int(i64::from(key)))?;
     Ok(Entry {
         sid: u64::from(key),
-        change: Change::Ins(Row::new(cells)),
+        change: Change::Ins(Row::new(cells)?),
     })
 }
 
