@@ -6,7 +6,7 @@ ghost use Rattle.inputs.specs.Reading.{Fields};
 ghost use Rattle.pdtcli.specs.Records.{HasGone, IsUnderway, IsWritten, record_text};
 
 use crate::output::ShowFault;
-use crate::records::{Records, end_record, records_after, text_of};
+use crate::records::Records;
 use std::alloc::Global;
 use std::io::Write;
 use values::NoMemory;
@@ -17,7 +17,7 @@ const RECORDS_AT_ONCE: usize = 1_024;
 /// The records that are written and not handed on yet, and how many are taken before they are.
 #[derive(Drop)]
 pub(crate) struct Batch {
-    pub(crate) records: Box<Records>,
+    pub(crate) records: Records,
     left: usize,
 }
 
@@ -28,16 +28,16 @@ impl Batch {
     ///
     /// `NoMemory` where the writer's place is refused.
     pub(crate) fn new(alloc: Global) -> Result<Batch, NoMemory>
-        ensures { IfOk result (λ batch. IsWritten batch.records.value []) }
+        ensures { IfOk result (λ batch. IsWritten batch.records []) }
     {
         Batch::after(Vec::new(alloc))
     }
 
-    /// No record, with the room of this text, which is empty.
+    /// No record yet, after this text.
     fn after(text: Vec<u8>) -> Result<Batch, NoMemory>
-        ensures { IfOk result (λ batch. IsWritten batch.records.value text.items) }
+        ensures { IfOk result (λ batch. IsWritten batch.records text.items) }
     {
-        let records = records_after(text)?;
+        let records = Records::after(text)?;
         Ok(Batch {
             records,
             left: RECORDS_AT_ONCE,
@@ -50,15 +50,15 @@ impl Batch {
     ///
     /// `Write` where the writer refuses, `NoMemory` where a growth is refused.
     pub(crate) fn end_record<W: Write>(mut self, out: &mut W) -> Result<Batch, ShowFault>
-        ensures { IfOk result (λ next. (text : List ℕ) (fields : Fields) → IsUnderway self.records.value text fields
-            → HasGone (W.contents out.old) (W.contents out.new) next.records.value (text ++ record_text fields)) }
+        ensures { IfOk result (λ next. (text : List ℕ) (fields : Fields) → IsUnderway self.records text fields
+            → HasGone (W.contents out.old) (W.contents out.new) next.records (text ++ record_text fields)) }
     {
-        end_record(self.records.as_mut())?;
+        self.records.end_record()?;
         if self.left > 1 {
             self.left -= 1;
             return Ok(self);
         }
-        let mut text = text_of(self.records)?;
+        let mut text = self.records.into_text()?;
         send(&mut text, out)?;
         Ok(Batch::after(text)?)
     }
@@ -69,10 +69,10 @@ impl Batch {
     ///
     /// Those of `end_record`.
     pub(crate) fn finish<W: Write>(self, out: &mut W) -> Result<(), ShowFault>
-        ensures { OnOk result ((text : List ℕ) → IsWritten self.records.value text
+        ensures { OnOk result ((text : List ℕ) → IsWritten self.records text
             → Appends (W.contents out.old) (W.contents out.new) text) }
     {
-        let mut text = text_of(self.records)?;
+        let mut text = self.records.into_text()?;
         send(&mut text, out)
     }
 }

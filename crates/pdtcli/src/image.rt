@@ -7,7 +7,7 @@ ghost use Rattle.pdtcli.specs.Output.{header_fields};
 ghost use Rattle.pdtcli.specs.Records.{TakesFields};
 ghost use Rattle.pdtcli.specs.Shown.{row_fields};
 
-use crate::records::{Records, push_field};
+use crate::records::Records;
 use inputs::kind_word;
 use itoa::Buffer;
 use merge::RowView;
@@ -25,7 +25,7 @@ pub(crate) fn push_header(
     for col in 0..schema.width() {
         let kind = kind_word(schema.column_type(col), col < schema.key_cols());
         let cell = header_cell(alloc, schema.name(col), kind)?;
-        push_field(records, cell.as_slice())?;
+        records.push_field(cell.as_slice())?;
     }
     Ok(())
 }
@@ -51,6 +51,7 @@ pub(crate) fn push_row(records: &mut Records, row: &RowView<'_>) -> Result<(), N
 }
 
 /// Adds a cell: a number in decimal, a text as it is, a truth by its name.
+#[inline(always)]
 pub(crate) fn push_cell(records: &mut Records, cell: ValueRef<'_>) -> Result<(), NoMemory>
     ensures { OnOk result (TakesFields records.old records.new (cell_text (value_of cell.entry) ∷ [])) }
 {
@@ -61,5 +62,5 @@ pub(crate) fn push_cell(records: &mut Records, cell: ValueRef<'_>) -> Result<(),
         ValueRef::Bool(true) => "true",
         ValueRef::Bool(false) => "false",
     };
-    push_field(records, text.as_bytes())
+    records.push_field(text.as_bytes())
 }

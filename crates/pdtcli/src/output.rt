@@ -2,9 +2,8 @@
 //! that it has.
 //!
 //! The image is walked as its layers lend it, row by row.
-ghost use Rattle.std.specs.Prelude.{◌≡◌, ◌≤◌, ◌++◌, ◌∷◌, [], Some, OnOk, IfOk, length, map};
+ghost use Rattle.std.specs.Prelude.{◌≡◌, ◌++◌, ◌∷◌, [], Some, OnOk, IfOk, map};
 ghost use Rattle.std.specs.Io.KnownBytes.{Appends};
-ghost use Rattle.values.specs.declared.limits.TheConstants.{MAX_ROWS};
 ghost use Rattle.merge.specs.Image.{image_rows};
 ghost use Rattle.pdtcli.specs.Output.{exit_status, image_text, is_refused, lines_text, records_text, rows_text, shown};
 ghost use Rattle.pdtcli.specs.Records.{Goes};
@@ -15,7 +14,7 @@ ghost use Rattle.pdtcli.specs.declared.output.ShowFault.TheVariants as show_faul
 use crate::batch::{Batch, send};
 use crate::image::{push_header, push_row};
 use crate::outcome::Left;
-use crate::records::{end_record, records_after, text_of};
+use crate::records::Records;
 use crate::reply::{Reply, ReplyLine, push_line, push_shown};
 use crate::shown::ShownRows;
 use delta::DeltaTree;
@@ -156,11 +155,11 @@ fn show_line<W: Write>(
     line: &ReplyLine,
     out: &mut W,
 ) -> Result<Batch, ShowFault>
-    ensures { IfOk result (λ next. Goes (W.contents out.old) (W.contents out.new) batch.records.value next.records.value
+    ensures { IfOk result (λ next. Goes (W.contents out.old) (W.contents out.new) batch.records next.records
         (records_text (line_records clients.now line.now))) }
 {
     let mut batch = show_shown(batch, clients, line, out)?;
-    push_line(batch.records.as_mut(), clients, line)?;
+    push_line(&mut batch.records, clients, line)?;
     batch.end_record(out)
 }
 
@@ -171,7 +170,7 @@ fn show_shown<W: Write>(
     line: &ReplyLine,
     out: &mut W,
 ) -> Result<Batch, ShowFault>
-    ensures { IfOk result (λ next. Goes (W.contents out.old) (W.contents out.new) batch.records.value next.records.value
+    ensures { IfOk result (λ next. Goes (W.contents out.old) (W.contents out.new) batch.records next.records
         (records_text (map (shown_fields clients.now line.now) (shown_rows line.now.reply)))) }
 {
     match &line.reply {
@@ -188,11 +187,11 @@ fn show_scanned<W: Write>(
     rows: &ShownRows,
     out: &mut W,
 ) -> Result<Batch, ShowFault>
-    ensures { IfOk result (λ next. Goes (W.contents out.old) (W.contents out.new) batch.records.value next.records.value
+    ensures { IfOk result (λ next. Goes (W.contents out.old) (W.contents out.new) batch.records next.records
         (records_text (map (shown_fields clients.now line.now) rows.now))) }
 {
     for at in 0..rows.len() {
-        push_shown(batch.records.as_mut(), clients, line, rows, at)?;
+        push_shown(&mut batch.records, clients, line, rows, at)?;
         batch = batch.end_record(out)?;
     }
     Ok(batch)
@@ -208,12 +207,11 @@ fn show_header<W: Write>(alloc: Global, schema: &Schema, out: &mut W) -> Result<
 
 /// Writes the rows of the image.
 fn show_rows<W: Write>(alloc: Global, newest: &Layers<'_>, out: &mut W) -> Result<(), ShowFault>
-    requires { length (image_rows newest.now) ≤ MAX_ROWS }
     ensures { OnOk result (Appends (W.contents out.old) (W.contents out.new) (rows_text (image_rows newest.now))) }
 {
     let mut batch = Batch::new(alloc)?;
     for row in newest.scan(0, newest.len()) {
-        push_row(batch.records.as_mut(), &row)?;
+        push_row(&mut batch.records, &row)?;
         batch = batch.end_record(out)?;
     }
     batch.finish(out)
@@ -230,8 +228,8 @@ fn line_and_header(alloc: Global, schema: &Schema) -> Result<Vec<u8>, NoMemory>
 fn header_after(alloc: Global, schema: &Schema, text: Vec<u8>) -> Result<Vec<u8>, NoMemory>
     ensures { IfOk result (λ longer. longer.items ≡ text.items ++ image_text schema.now []) }
 {
-    let mut records = records_after(text)?;
-    push_header(alloc, records.as_mut(), schema)?;
-    end_record(records.as_mut())?;
-    text_of(records)
+    let mut records = Records::after(text)?;
+    push_header(alloc, &mut records, schema)?;
+    records.end_record()?;
+    records.into_text()
 }

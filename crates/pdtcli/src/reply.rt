@@ -5,7 +5,7 @@ ghost use Rattle.pdtcli.specs.Records.{TakesFields};
 ghost use Rattle.pdtcli.specs.Replies.{client_name, commit_fields, line_fields, reply_fields, shown_fields, write_fields};
 
 use crate::image::push_cell;
-use crate::records::{Records, push_field};
+use crate::records::Records;
 use crate::shown::ShownRows;
 use inputs::Verb;
 use itoa::Buffer;
@@ -195,7 +195,7 @@ fn push_place(records: &mut Records, below: u64, there: bool) -> Result<(), NoMe
 fn push_word(records: &mut Records, word: &str) -> Result<(), NoMemory>
     ensures { OnOk result (TakesFields records.old records.new (word.now ∷ [])) }
 {
-    push_field(records, word.as_bytes())
+    records.push_field(word.as_bytes())
 }
 
 /// Adds a word and a number.

@@ -5,7 +5,7 @@ use Rattle.values.specs.declared.row.Row.{Row}
 use Rattle.merge.specs.Image.{image_rows}
 use Rattle.merge.specs.View.{row_of}
 use Rattle.pdtcli.specs.Output.{rows_text}
-use Rattle.pdtcli.specs.Records.{HasGone, TakesFields, record_text}
+use Rattle.pdtcli.specs.Records.{HasGone, record_text}
 use Rattle.pdtcli.specs.Shown.{row_fields}
 use Rattle.pdtcli.proofs.BatchLemmas.{Goes-record, HasGone-more, all_gone, handed_on}
 use Rattle.pdtcli.proofs.output.show_rows.Goals as goal
@@ -17,7 +17,9 @@ loop-row-init g c = record {
   gone = (
     [],
     handed_on _ _ _ _ (Appends-nil (g.W.Write.contents c.args.out.now)) c.in_ok-batch.ensures,
-    ap rows_text (c.into_iter-row-iterator.ensures.into_iter_gives ∙ c.scan-row-items.ensures ∙ take_all c.len.result (image_rows c.args.newest.now) (omega (arith, c.len.ensures))),
+    ap rows_text (c.into_iter-row-iterator.ensures.into_iter_gives
+        ∙ c.scan-row-items.ensures
+        ∙ take_all c.len.result (image_rows c.args.newest.now) (omega (arith, c.len.ensures))),
   );
 }
 
@@ -27,14 +29,13 @@ loop-row-preserved g c =
     let row : Row = row_of c.in-Some.row in
     let rest : List Row = c.next.new.self in
     let done : List ℕ = inv.gone.0 in
-    let takes = subst (λ w. TakesFields w c.push_row.new.records (row_fields row)) c.as_mut.ensures.value c.in_ok-push_row.ensures in
     record {
       can_next = tt;
       finite = tt;
       gone = (
         done ++ record_text (row_fields row),
         HasGone-more _ _ _ _ _ _ _ inv.gone.1
-            (Goes-record _ _ _ _ _ (row_fields row) takes c.in_ok-batch-2.ensures),
+            (Goes-record _ _ _ _ _ (row_fields row) c.in_ok-push_row.ensures c.in_ok-batch-2.ensures),
         append_assoc done (record_text (row_fields row)) (rows_text rest)
             ∙ ap (λ (rows : List Row). done ++ rows_text rows) (sym c.in-Some.ensures.steps)
             ∙ inv.gone.2,

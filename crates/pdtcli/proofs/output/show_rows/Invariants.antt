@@ -10,6 +10,6 @@ invariant-loop-row g l = record {
   can_next : (goal.iterator-loop-row g).can_next l.row-iterator;
   finite : (goal.iterator-loop-row g).is_finite l.row-iterator;
   gone :
-      (done : List ℕ) × HasGone (g.W.Write.contents l.initial.out) (g.W.Write.contents l.out) l.batch.records.value done
+      (done : List ℕ) × HasGone (g.W.Write.contents l.initial.out) (g.W.Write.contents l.out) l.batch.records done
       × (done ++ rows_text l.row-iterator ≡ rows_text (image_rows l.fn.newest));
 }

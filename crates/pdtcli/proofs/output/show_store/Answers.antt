@@ -1,5 +1,4 @@
-use Rattle.std.proofs.Common.{◌≡◌, ◌∙◌, ap, length, sym, subst, arith}
-use Rattle.stable.specs.Stable.{IsStable}
+use Rattle.std.proofs.Common.{◌≡◌, ◌∙◌, ap, sym, subst}
 use Rattle.delta.specs.Tree.{Tree}
 use Rattle.merge.specs.Image.{AreStacked, image_rows, stack_of}
 use Rattle.txn.specs.Version.{empty_tree}
@@ -12,16 +11,6 @@ new-requires g c =
     let none : c.new-none.result ≡ empty_tree s.schema.key_cols =
     c.new-none.ensures ∙ ap empty_tree (c.key_cols.ensures.count ∙ ap (λ z. z.key_cols) c.schema.ensures.columns) in
     subst (λ (t : Tree). AreStacked s t t t) (sym none) (are_stacked_alone s c.schema.ensures.lawful)
-
-pub show_rows-requires : goal.show_rows-requires
-show_rows-requires g c =
-    let s = c.args.image.now.table in
-    let lawful : IsStable s = c.schema.ensures.lawful in
-    let none : c.new-none.result ≡ empty_tree s.schema.key_cols =
-    c.new-none.ensures ∙ ap empty_tree (c.key_cols.ensures.count ∙ ap (λ z. z.key_cols) c.schema.ensures.columns) in
-    let rows = ap image_rows c.new.ensures ∙ ap (λ (t : Tree). image_rows (stack_of s t t t)) none ∙ image_rows-alone s in
-    let few = lawful.few in
-    omega (arith, few, ap length rows)
 
 pub returns : goal.returns
 returns g c =

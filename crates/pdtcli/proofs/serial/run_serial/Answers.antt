@@ -1,4 +1,5 @@
-use Rattle.std.proofs.Common.{◌≡◌, ◌++◌, ◌∷◌, ◌<◌, ℕ, None, Some, Option, List, [], length, get_or, set, replicate, refl, ap, sym, ◌∙◌, subst, append_assoc, arith, rules}
+use Rattle.std.proofs.Common.{◌≡◌, ◌++◌, ◌∷◌, ◌<◌, ◌∙◌, ℕ, None, Some, Option, List, [], length, get_or, set, replicate}
+use Rattle.std.proofs.Common.{refl, ap, sym, subst, append_assoc, arith, rules}
 use Rattle.std.specs.Prelude.{IfNone, IfSome, IsTrue, slice_get}
 use Rattle.std.specs.List.{All}
 use Rattle.std.proofs.Math.Seq.{get_or-append_seam}
@@ -17,10 +18,16 @@ use Rattle.pdtcli.proofs.RunLemmas.{ready_again, made_again, IsRun-more}
 use Rattle.pdtcli.proofs.CountLemmas.{counts_of, counts_after-call, length-counts_of, get_or-counts_of, decided_count-bound}
 use Rattle.pdtcli.proofs.serial.run_serial.Goals as goal
 
+-- the calls before the next one, itself and those after it are all
+whole_of : (calls before left rest : List ClientCall) (asked : ClientCall) → left ≡ asked ∷ rest → before ++ left ≡ calls
+    → before ++ asked ∷ rest ≡ calls
+whole_of calls before left rest asked next split = ap (λ (xs : List ClientCall). before ++ xs) (sym next) ∙ split
+
 -- what holds of all calls holds of the next one
-next_of : (P : ClientCall → Type 0) (calls before rest : List ClientCall) (asked : ClientCall) → All P calls → before ++ asked ∷ rest ≡ calls
-    → P asked
-next_of P calls before rest asked all split =
+next_of : (P : ClientCall → Type 0) (calls before left rest : List ClientCall) (asked : ClientCall) → All P calls → left ≡ asked ∷ rest
+    → before ++ left ≡ calls → P asked
+next_of P calls before left rest asked all next parts =
+    let split = whole_of calls before left rest asked next parts in
     let here : get_or calls (length before) asked ≡ asked =
     ap (λ (xs : List ClientCall). get_or xs (length before) asked) (sym split) ∙ get_or-append_seam before asked rest asked in
     subst P here
@@ -62,19 +69,17 @@ loop-asked-init g c =
 pub index_mut-requires : goal.index_mut-requires
 index_mut-requires g c =
     let asked = c.in-Some.asked in
-    let split : c.loop-asked.invariant.run.0 ++ asked ∷ c.next.new.self ≡ c.args.script.calls =
-    ap (λ (xs : List ClientCall). c.loop-asked.invariant.run.0 ++ xs) (sym c.in-Some.ensures.some) ∙ c.loop-asked.invariant.run.1 in
-    let bound = next_of (λ a. a.client < length c.args.script.clients) c.args.script.calls c.loop-asked.invariant.run.0 c.next.new.self asked
-    c.into_parts-names.ensures.lawful.numbered split in
+    let bound =
+    next_of (λ a. a.client < length c.args.script.clients) c.args.script.calls c.loop-asked.invariant.run.0 _ c.next.new.self asked
+    c.into_parts-names.ensures.lawful.numbered c.in-Some.ensures.some c.loop-asked.invariant.run.1 in
     omega (arith, bound, c.loop-asked.invariant.ready.many)
 
 pub serve-reply-requires-clause-own : goal.serve-reply-requires-clause-own
 serve-reply-requires-clause-own g c =
     let asked = c.in-Some.asked in
-    let split : c.loop-asked.invariant.run.0 ++ asked ∷ c.next.new.self ≡ c.args.script.calls =
-    ap (λ (xs : List ClientCall). c.loop-asked.invariant.run.0 ++ xs) (sym c.in-Some.ensures.some) ∙ c.loop-asked.invariant.run.1 in
-    let bound = next_of (λ a. a.client < length c.args.script.clients) c.args.script.calls c.loop-asked.invariant.run.0 c.next.new.self asked
-    c.into_parts-names.ensures.lawful.numbered split in
+    let bound =
+    next_of (λ a. a.client < length c.args.script.clients) c.args.script.calls c.loop-asked.invariant.run.0 _ c.next.new.self asked
+    c.into_parts-names.ensures.lawful.numbered c.in-Some.ensures.some c.loop-asked.invariant.run.1 in
     subst (λ (o : Option Transaction). IfSome o (IsOwn c.loop-asked.manager)) (sym c.index_mut.ensures.value)
     (c.loop-asked.invariant.ready.own asked.client c.index_mut.result.now (omega (arith, bound, c.loop-asked.invariant.ready.many)))
 
@@ -82,10 +87,9 @@ pub serve-reply-requires-clause-typed : goal.serve-reply-requires-clause-typed
 serve-reply-requires-clause-typed g c =
     let asked = c.in-Some.asked in
     let schema = c.args.script.schema in
-    let split : c.loop-asked.invariant.run.0 ++ asked ∷ c.next.new.self ≡ c.args.script.calls =
-    ap (λ (xs : List ClientCall). c.loop-asked.invariant.run.0 ++ xs) (sym c.in-Some.ensures.some) ∙ c.loop-asked.invariant.run.1 in
-    let typed = next_of (λ a. IsTrue (is_typed_call schema a.call)) c.args.script.calls c.loop-asked.invariant.run.0 c.next.new.self asked
-    c.into_parts-names.ensures.lawful.typed split in
+    let typed =
+    next_of (λ a. IsTrue (is_typed_call schema a.call)) c.args.script.calls c.loop-asked.invariant.run.0 _ c.next.new.self asked
+    c.into_parts-names.ensures.lawful.typed c.in-Some.ensures.some c.loop-asked.invariant.run.1 in
     typed_in schema c.loop-asked.manager asked.call c.index_mut.result.now typed
     (c.loop-asked.invariant.ready.schema_is ∙ sym c.requires.script) (serve-reply-requires-clause-own g c)
 
@@ -98,23 +102,19 @@ pub count_reply-requires-clause-there : goal.count_reply-requires-clause-there
 count_reply-requires-clause-there g c =
     let clients = length c.args.script.clients in
     let asked = c.in-Some.asked in
-    let rest = c.next.new.self in
-    let split : c.loop-asked.invariant.run.0 ++ asked ∷ rest ≡ c.args.script.calls =
-    ap (λ (xs : List ClientCall). c.loop-asked.invariant.run.0 ++ xs) (sym c.in-Some.ensures.some) ∙ c.loop-asked.invariant.run.1 in
-    let bound = next_of (λ a. a.client < clients) c.args.script.calls c.loop-asked.invariant.run.0 rest asked
-    c.into_parts-names.ensures.lawful.numbered split in
+    let bound =
+    next_of (λ a. a.client < clients) c.args.script.calls c.loop-asked.invariant.run.0 _ c.next.new.self asked
+    c.into_parts-names.ensures.lawful.numbered c.in-Some.ensures.some c.loop-asked.invariant.run.1 in
     omega (arith, bound, ap (λ (ns : List ℕ). length ns) c.loop-asked.invariant.counts, length-counts_of c.loop-asked.lines.items clients)
 
 pub count_reply-requires-clause-few : goal.count_reply-requires-clause-few
 count_reply-requires-clause-few g c =
     let clients = length c.args.script.clients in
     let asked = c.in-Some.asked in
-    let rest = c.next.new.self in
     let lines = c.loop-asked.lines in
-    let split : c.loop-asked.invariant.run.0 ++ asked ∷ rest ≡ c.args.script.calls =
-    ap (λ (xs : List ClientCall). c.loop-asked.invariant.run.0 ++ xs) (sym c.in-Some.ensures.some) ∙ c.loop-asked.invariant.run.1 in
-    let bound = next_of (λ a. a.client < clients) c.args.script.calls c.loop-asked.invariant.run.0 rest asked
-    c.into_parts-names.ensures.lawful.numbered split in
+    let bound =
+    next_of (λ a. a.client < clients) c.args.script.calls c.loop-asked.invariant.run.0 _ c.next.new.self asked
+    c.into_parts-names.ensures.lawful.numbered c.in-Some.ensures.some c.loop-asked.invariant.run.1 in
     let counted : get_or c.loop-asked.counts.items asked.client 0 ≡ decided_count lines.items asked.client =
     ap (λ (ns : List ℕ). get_or ns asked.client 0) c.loop-asked.invariant.counts
     ∙ get_or-counts_of lines.items clients asked.client bound in
@@ -141,9 +141,9 @@ loop-asked-preserved g c =
     let mine = c.index_mut.result.now in
     let after : Side = record { manager = c.serve-reply.new.manager; own = c.serve-reply.new.self } in
     let reply = c.serve-reply.result in
-    let split : done ++ asked ∷ rest ≡ calls =
-    ap (λ (xs : List ClientCall). done ++ xs) (sym c.in-Some.ensures.some) ∙ c.loop-asked.invariant.run.1 in
-    let bound = next_of (λ a. a.client < clients) calls done rest asked c.into_parts-names.ensures.lawful.numbered split in
+    let bound =
+    next_of (λ a. a.client < clients) calls done _ rest asked c.into_parts-names.ensures.lawful.numbered c.in-Some.ensures.some
+    c.loop-asked.invariant.run.1 in
     let client : asked.client < length callers = omega (arith, bound, c.loop-asked.invariant.ready.many) in
     let found : mine ≡ get_or callers asked.client mine = c.index_mut.ensures.value in
     let own : IfSome mine (IsOwn m) =
@@ -187,7 +187,7 @@ loop-asked-preserved g c =
     record {
       run = (
         done ++ asked ∷ [],
-        append_assoc done (asked ∷ []) rest ∙ split,
+        append_assoc done (asked ∷ []) rest ∙ whole_of calls done _ rest asked c.in-Some.ensures.some c.loop-asked.invariant.run.1,
         subst (λ (ls : List ReplyLine). IsRun start (done ++ asked ∷ []) ls next) (sym told) more,
       );
       schema = c.serve-reply.ensures.schema ∙ c.loop-asked.invariant.schema;
