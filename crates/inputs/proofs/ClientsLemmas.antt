@@ -1,5 +1,5 @@
 -- Each call of a script is of one of its clients, and these are few.
-use Rattle.std.proofs.Common.{◌≡◌, ◌<◌, ◌≤◌, ◌+◌, ℕ, suc, List, [], ◌∷◌, length, Option, Some, None, Result, Ok, Err, refl, ap, arith, inl, inr}
+use Rattle.std.proofs.Common.{◌≡◌, ◌<◌, ◌≤◌, ◌+◌, ℕ, suc, List, [], ◌∷◌, ◌++◌, length, Option, Some, None, Result, Ok, Err, refl, ap, arith, inl, inr}
 use Rattle.std.specs.Prelude.{unwrap_or}
 use Rattle.std.specs.List.{All, list_all}
 use Rattle.std.specs.Str.{is_utf8, bytes_eq}
@@ -101,6 +101,24 @@ client_of-few : (clients : List (List ℕ)) (number : ℕ) (fields : Fields) (cl
 client_of-few clients number [] client e few = few
 client_of-few clients number (name ∷ rest) client e few =
     clients_with-few name clients (client_of-parts clients number name rest client e).1 few
+
+-- a record of a client that there is adds none
+pub clients_after-there : (clients : List (List ℕ)) (number : ℕ) (fields : Fields) (client : ℕ)
+    → client_of clients number fields ≡ Ok client → client < length clients → clients_after clients fields ≡ clients
+clients_after-there clients number [] client e there = refl
+clients_after-there clients number (name ∷ rest) client e there =
+    let parts = client_of-parts clients number name rest client e in
+    let known : number_of name clients < length clients = omega (arith, parts.0, there) in
+    rw (lt_true (number_of name clients) (length clients) known) refl
+
+-- a record of another one adds it
+pub clients_after-another : (clients : List (List ℕ)) (number : ℕ) (fields rest : Fields) (name : List ℕ) (client : ℕ)
+    → fields ≡ name ∷ rest → client_of clients number fields ≡ Ok client → length clients ≤ client
+    → clients_after clients fields ≡ clients ++ name ∷ []
+clients_after-another clients number fields rest name client same e another =
+    let parts = client_of-parts clients number name rest client (rw same at e) in
+    let past : length clients ≤ number_of name clients = omega (arith, parts.0, another) in
+    rw (same, lt_false (number_of name clients) (length clients) past) refl
 
 with_client-parts : (a : Result ℕ ScriptFault) (b : Result Call ScriptFault) (call : ClientCall) → with_client a b ≡ Ok call
     → (a ≡ Ok call.client) × (b ≡ Ok call.call)

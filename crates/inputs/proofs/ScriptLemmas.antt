@@ -67,12 +67,6 @@ module _ (clients : List (List ℕ)) (number : ℕ) (fields rest : Fields) (name
       → client_of clients number fields ≡ Ok (number_of name clients)
   client_of-ok h m = rw (e, h, le_false MAX_CLIENTS (number_of name clients) m) refl
 
-  pub clients_after-known : number_of name clients < length clients → clients_after clients fields ≡ clients
-  clients_after-known h = rw (e, lt_true (number_of name clients) (length clients) h) refl
-
-  pub clients_after-new : length clients ≤ number_of name clients → clients_after clients fields ≡ clients ++ name ∷ []
-  clients_after-new h = rw (e, lt_false (number_of name clients) (length clients) h) refl
-
 pub clients_after-none : (clients : List (List ℕ)) (fields : Fields) → fields ≡ [] → clients_after clients fields ≡ clients
 clients_after-none clients fields e = rw e refl
 

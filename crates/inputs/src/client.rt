@@ -1,5 +1,5 @@
 //! The clients of a script, in order of first appearance.
-ghost use Rattle.std.specs.Prelude.{◌≡◌, ◌<◌, true, IfOk, IfErr, Ok, Err, OnOk};
+ghost use Rattle.std.specs.Prelude.{◌≡◌, ◌<◌, true, ℕ, IfOk, IfErr, Ok, Err, OnOk};
 ghost use Rattle.std.specs.List.{list_all};
 ghost use Rattle.std.specs.Str.{is_utf8};
 ghost use Rattle.csv.specs.Records.{fields_of};
@@ -34,25 +34,25 @@ pub(crate) fn read_client(
     Ok(client as u32)
 }
 
-/// Adds the client that the record names, where it is new.
+/// Adds the client that the record names, where its number is a new one.
 pub(crate) fn add_client(
     alloc: Global,
     clients: &mut Vec<Text>,
+    client: u32,
     fields: &ByteRecord,
 ) -> Result<(), ScriptFault>
-    requires { list_all is_utf8 (fields_of fields.now) ≡ true }
+    requires named { (number : ℕ) × (client_of clients.old.items number (fields_of fields.now) ≡ Ok client) }
+    requires text { list_all is_utf8 (fields_of fields.now) ≡ true }
     ensures ok { OnOk result (clients.new.items ≡ clients_after clients.old.items (fields_of fields.now)) }
     ensures err { IfErr result (λ fault. fault ≡ ScriptFault.NoMemory) }
 {
+    if (client as usize) < clients.len() {
+        return Ok(());
+    }
     let name = match fields.get(0) {
         Some(name) => name,
         None => return Ok(()),
     };
-    let known = clients.as_slice();
-    let client = find_client(known, name);
-    if client < known.len() {
-        return Ok(());
-    }
     let text = match str::from_utf8(name) {
         Ok(text) => text,
         Err(_) => unreachable!(),

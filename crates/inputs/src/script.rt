@@ -121,7 +121,7 @@ fn read_calls<'a>(
             return Ok((clients, calls));
         }
         let call = read_call(alloc, schema, clients.as_slice(), number, fields)?;
-        add_client(alloc, &mut clients, fields)?;
+        add_client(alloc, &mut clients, call.client, fields)?;
         calls.push(call)?;
     }
     unreachable!()

@@ -23,18 +23,18 @@ pub enum Verb {
     Cut,
 }
 
-/// Every verb, once.
+/// Every verb, once: those that a script has most of stand first, since a word is sought from the start.
 const VERBS: [Verb; 14] = [
-    Verb::Begin,
-    Verb::Insert,
-    Verb::Delete,
     Verb::Set,
+    Verb::Begin,
+    Verb::Commit,
+    Verb::Insert,
     Verb::Get,
+    Verb::Delete,
+    Verb::Scan,
     Verb::At,
     Verb::Rank,
     Verb::Len,
-    Verb::Scan,
-    Verb::Commit,
     Verb::Abort,
     Verb::Fold,
     Verb::Checkpoint,

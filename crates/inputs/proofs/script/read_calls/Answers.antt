@@ -5,7 +5,7 @@ use Rattle.csv.specs.Records.{fields_of}
 use Rattle.inputs.specs.declared.fault.ScriptFault.TheVariants.{NoMemory}
 use Rattle.inputs.proofs.ReadLemmas.{passed-up, prepend-nil}
 use Rattle.inputs.proofs.ScriptLemmas.{call_of-text, calls_of-step, clients_of-step, script_of-fault, script_of-ok}
-use Rattle.inputs.proofs.ClientsLemmas.{script_of-below, script_of-few}
+use Rattle.inputs.proofs.ClientsLemmas.{call_of-parts, script_of-below, script_of-few}
 use Rattle.inputs.proofs.CallsLemmas.{script_of-typed}
 use Rattle.inputs.proofs.script.read_calls.Goals as goal
 
@@ -63,8 +63,13 @@ loop-number-preserved c =
       );
     })
 
-pub add_client-requires : goal.add_client-requires
-add_client-requires c = call_of-text c.args.schema.now _ c.loop-number.number _ _ c.in_ok-call.ensures.ok
+pub add_client-requires-clause-named : goal.add_client-requires-clause-named
+add_client-requires-clause-named c =
+    let made = rw c.as_slice.ensures.value at c.in_ok-call.ensures.ok in
+    (c.loop-number.number, (call_of-parts c.args.schema.now _ c.loop-number.number _ c.in_ok-call.call made).0)
+
+pub add_client-requires-clause-text : goal.add_client-requires-clause-text
+add_client-requires-clause-text c = call_of-text c.args.schema.now _ c.loop-number.number _ _ c.in_ok-call.ensures.ok
 
 pub unreachable-requires : goal.unreachable-requires
 unreachable-requires c =
