@@ -34,7 +34,8 @@ decided_in-one line = counted (is_decided line.reply) refl
 
 IsSeatRun-more :
     (o : Managed) (old mid new : Seat) (calls : List ClientCall) (lines : List ReplyLine) (asked : ClientCall) (line : ReplyLine)
-    → IsSeatRun o old calls lines mid → SeatServed o mid asked line new → IsSeatRun o old (calls ++ asked ∷ []) (lines ++ line ∷ []) new
+    → IsSeatRun o old calls lines mid → SeatServed o mid asked line new
+    → IsSeatRun o old (calls ++ asked ∷ []) (lines ++ line ∷ []) new
 IsSeatRun-more o old mid new [] [] asked line r s = (new, subst (λ (seat : Seat). SeatServed o seat asked line new) r s, refl)
 IsSeatRun-more o old mid new (c ∷ calls) (l ∷ lines) asked line r s =
     (r.0, r.1, IsSeatRun-more o r.0 mid new calls lines asked line r.2 s)

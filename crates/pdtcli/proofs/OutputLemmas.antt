@@ -1,5 +1,6 @@
 -- What is written, record by record and some records at a time.
-use Rattle.std.proofs.Common.{◌≡◌, ◌∙◌, ℕ, suc, List, [], ◌∷◌, ◌++◌, map, drop, Option, Some, Result, Ok, Err, refl, sym, ap, subst, append_assoc, nat_lt}
+use Rattle.std.proofs.Common.{◌≡◌, ◌∙◌, ℕ, suc, List, [], ◌∷◌, ◌++◌, map, drop, Option, Some, Result, Ok, Err}
+use Rattle.std.proofs.Common.{refl, sym, ap, subst, append_assoc, nat_lt}
 use Rattle.std.specs.Prelude.{OnOk}
 use Rattle.std.proofs.KnownBytes.{Appends-trans}
 use Rattle.std.proofs.lemmas.List.{append-nil, map-append}
@@ -36,7 +37,8 @@ records_text-append (r ∷ rs) qs =
     ∙ sym (append_assoc (record_text r) (records_text rs) (records_text qs))
 
 -- one record more
-pub records_text-more : (rs : List Fields) (fields : Fields) → records_text rs ++ record_text fields ≡ records_text (rs ++ fields ∷ [])
+pub records_text-more : (rs : List Fields) (fields : Fields)
+    → records_text rs ++ record_text fields ≡ records_text (rs ++ fields ∷ [])
 records_text-more rs fields =
     ap (λ (z : List ℕ). records_text rs ++ z) (sym (append-nil (record_text fields))) ∙ sym (records_text-append rs (fields ∷ []))
 
@@ -48,7 +50,8 @@ pub lines_text-more : (clients : List (List ℕ)) (lines : List ReplyLine) (line
     → lines_text clients lines ++ records_text (line_records clients line) ≡ lines_text clients (lines ++ line ∷ [])
 lines_text-more clients lines line =
     let records : ReplyLine → List Fields = line_records clients in
-    sym (ap records_text (flat_map-append records lines (line ∷ []) ∙ ap (λ rs. flat_map records lines ++ rs) (append-nil (records line)))
+    sym (ap records_text
+    (flat_map-append records lines (line ∷ []) ∙ ap (λ rs. flat_map records lines ++ rs) (append-nil (records line)))
     ∙ records_text-append (flat_map records lines) (records line))
 
 -- the rows of a line, and its last record

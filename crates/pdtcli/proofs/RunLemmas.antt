@@ -1,5 +1,6 @@
 -- A run goes on by one call, and each open transaction stays one of the manager.
-use Rattle.std.proofs.Common.{◌≡◌, ℕ, ◌+◌, ◌-◌, ◌≤◌, Option, Some, None, List, [], ◌∷◌, ◌++◌, length, get_or, set, refl, sym, ap, ◌∙◌, subst, arith, ⊎_elim, Result, Ok, Err}
+use Rattle.std.proofs.Common.{◌≡◌, ℕ, ◌+◌, ◌-◌, ◌≤◌, Option, Some, None, List, [], ◌∷◌, ◌++◌, length}
+use Rattle.std.proofs.Common.{get_or, set, refl, sym, ap, ◌∙◌, subst, arith, ⊎_elim, Result, Ok, Err}
 use Rattle.std.specs.Prelude.{IfSome, IsNone, MatchResult}
 use Rattle.std.proofs.lemmas.List.{take-append-le, length-append, length-set}
 use Rattle.std.proofs.lemmas.List.Elements.{All-set}
@@ -13,12 +14,15 @@ use Rattle.inputs.specs.declared.call.Call.{Call}
 use Rattle.inputs.specs.declared.call.Call.TheVariants as call
 use Rattle.inputs.specs.declared.call.ClientCall.{ClientCall}
 use Rattle.pdtcli.specs.declared.reply.Reply.{Reply}
-use Rattle.pdtcli.specs.declared.reply.Reply.TheVariants.{Begun, AlreadyOpen, NotOpen, Wrote, KeyColumn, TextTooLong, Row as Shown, Missing, NoRow, Place, Rows, Scanned, Decided, Aborted, Folded, Stored, DeviceFailed, StoreFailed, GenerationsSpent, Cut, Ended, Stranger, NoMemory}
+use Rattle.pdtcli.specs.declared.reply.Reply.TheVariants.{Begun, AlreadyOpen, NotOpen, Wrote, KeyColumn, TextTooLong, Row as Shown}
+use Rattle.pdtcli.specs.declared.reply.Reply.TheVariants.{Missing, NoRow, Place, Rows, Scanned, Decided, Aborted, Folded, Stored}
+use Rattle.pdtcli.specs.declared.reply.Reply.TheVariants.{DeviceFailed, StoreFailed, GenerationsSpent, Cut, Ended, Stranger, NoMemory}
 use Rattle.pdtcli.specs.declared.reply.ReplyLine.{ReplyLine}
 use Rattle.txn.specs.Txn.{Transaction}
 use Rattle.txn.specs.Version.{Lower, alone}
 use Rattle.manager.specs.declared.fault.CheckpointFault.{CheckpointFault}
-use Rattle.manager.specs.Managed.{Managed, commits_in, IsDecided, IsOwn, begun_at, HasFolded, newest_stable, rebuilt_of, record_of, with_layers, with_record, cut_of}
+use Rattle.manager.specs.Managed.{Managed, commits_in, IsDecided, IsOwn, begun_at, HasFolded, newest_stable, rebuilt_of, record_of}
+use Rattle.manager.specs.Managed.{with_layers, with_record, cut_of}
 use Rattle.pdtcli.specs.Run.{Side, SideStep, BeginStep, OpenWriteStep, OpenCommitStep, FoldStep, RebuildStep, State, Step, IsRun}
 use Rattle.pdtcli.specs.Ready.{IsReady}
 use Rattle.manager.proofs.CallerLemmas.{newest_whole, commits_from-append, own_over, IsOwn-cut_of}

@@ -1,5 +1,6 @@
 -- A run of clients on threads of their own: what each call of a session may be answered, and what all of them leave.
-use Rattle.std.specs.Prelude.{◌≡◌, ◌≢◌, ◌⊎◌, ℕ, ◌+◌, ◌<◌, ◌≤◌, ◌==◌, cond, Some, IsNone, IsSome, Result, List, [], ◌∷◌, All, filter, flat_map, length, map}
+use Rattle.std.specs.Prelude.{◌≡◌, ◌≢◌, ◌⊎◌, ℕ, ◌+◌, ◌<◌, ◌≤◌, ◌==◌, cond, Some, IsNone, IsSome}
+use Rattle.std.specs.Prelude.{Result, List, [], ◌∷◌, All, filter, flat_map, length, map}
 use Rattle.std.specs.List.{range_with_len}
 use mathlib.Core.List.{IsPrefix}
 use Rattle.inputs.specs.declared.call.Call.{Call}
@@ -66,7 +67,8 @@ SeatAnswers o call.Commit old reply new = SeatCommit o old reply new
 SeatAnswers o call.Abort old reply new =
     AbortStep old.txn (side_of_seat o old) reply (side_of_seat o new) × (new ≡ record old { txn = new.txn })
 SeatAnswers o call.Fold old reply new = ((reply ≡ Folded) ⊎ (reply ≡ NoMemory)) × (new ≡ old)
-SeatAnswers o call.Checkpoint old reply new = ((answer : Result ℕ CheckpointFault) × (reply ≡ checkpoint_reply answer)) × (new ≡ old)
+SeatAnswers o call.Checkpoint old reply new =
+    ((answer : Result ℕ CheckpointFault) × (reply ≡ checkpoint_reply answer)) × (new ≡ old)
 SeatAnswers o call.Cut old reply new = IsCutReply o reply × (new ≡ old)
 
 -- how many commits a reply decides

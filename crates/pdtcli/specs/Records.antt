@@ -1,5 +1,6 @@
 -- The text of records, as the crate `csv` writes them, and how far a writer of them has come.
-use Rattle.std.specs.Prelude.{◌≡◌, ◌&&◌, ◌||◌, ◌==◌, ◌^◌, ◌-◌, not, min, length, ℕ, false, true, Option, Some, List, ◌++◌, Vec}
+use Rattle.std.specs.Prelude.{◌≡◌, ◌&&◌, ◌||◌, ◌==◌, ◌^◌, ◌-◌, not, min, length, ℕ, false, true, Option}
+use Rattle.std.specs.Prelude.{Some, List, ◌++◌, Vec}
 use Rattle.std.specs.Io.KnownBytes.{Appends}
 use Rattle.std.specs.declared.alloc.Global.{Global}
 use Rattle.csv.specs.Writing.{default_writer, with_flexible, is_blank, row_body, row_text}

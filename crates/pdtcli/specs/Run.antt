@@ -1,5 +1,7 @@
 -- A serial run: what each call may be answered, and what it leaves.
-use Rattle.std.specs.Prelude.{◌≡◌, ◌⊎◌, ◌≤◌, ◌^◌, ℕ, ◌+◌, ◌==◌, Bool, true, false, ◌&&◌, cond, Option, Some, None, IsNone, IsSome, Result, Ok, Err, MatchResult, List, [], ◌∷◌, filter, length, get_or, set, slice_get, slice_set}
+use Rattle.std.specs.Prelude.{◌≡◌, ◌⊎◌, ◌≤◌, ◌^◌, ℕ, ◌+◌, ◌==◌, Bool, true, false, ◌&&◌, cond}
+use Rattle.std.specs.Prelude.{Option, Some, None, IsNone, IsSome, Result, Ok, Err, MatchResult, List, [], ◌∷◌, filter, length}
+use Rattle.std.specs.Prelude.{get_or, set, slice_get, slice_set}
 use Rattle.values.specs.Shape.{Columns, row_fault, key_fault, cell_fault, or_fault}
 use Rattle.values.specs.declared.fault.ShapeFault.{ShapeFault}
 use Rattle.values.specs.declared.fault.ShapeFault.TheVariants as shape
@@ -11,7 +13,8 @@ use Rattle.inputs.specs.declared.call.Read.{Read}
 use Rattle.inputs.specs.declared.call.Read.TheVariants.{Get, At, Rank, Len, Scan}
 use Rattle.inputs.specs.declared.call.ClientCall.{ClientCall}
 use Rattle.pdtcli.specs.declared.reply.Reply.{Reply}
-use Rattle.pdtcli.specs.declared.reply.Reply.TheVariants.{Begun, AlreadyOpen, NotOpen, Wrote, KeyColumn, TextTooLong, Decided, Aborted, Folded, Stored, DeviceFailed, StoreFailed, GenerationsSpent, Cut, NoMemory}
+use Rattle.pdtcli.specs.declared.reply.Reply.TheVariants.{Begun, AlreadyOpen, NotOpen, Wrote, KeyColumn, TextTooLong, Decided, Aborted}
+use Rattle.pdtcli.specs.declared.reply.Reply.TheVariants.{Folded, Stored, DeviceFailed, StoreFailed, GenerationsSpent, Cut, NoMemory}
 use Rattle.pdtcli.specs.declared.reply.ReplyLine.{ReplyLine}
 use Rattle.inputs.specs.declared.verb.Verb.{Verb}
 use Rattle.inputs.specs.declared.verb.Verb.TheVariants as verb

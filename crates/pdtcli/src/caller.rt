@@ -7,7 +7,8 @@ ghost use Rattle.pdtcli.specs.declared.reply.Reply.TheVariants as reply;
 ghost use Rattle.inputs.specs.Typed.{is_typed_call, is_typed_read, is_typed_write};
 ghost use Rattle.txn.specs.Txn.{IsAnswered, Transaction};
 ghost use Rattle.manager.specs.Managed.{Managed, IsOwn};
-ghost use Rattle.pdtcli.specs.Run.{SideStep, BeginStep, WriteStep, OpenWriteStep, CommitStep, AbortStep, CheckpointStep, FoldStep, RebuildStep, CutStep, StoreStep, checkpoint_reply};
+ghost use Rattle.pdtcli.specs.Run.{SideStep, BeginStep, WriteStep, OpenWriteStep, CommitStep, AbortStep, CheckpointStep, FoldStep};
+ghost use Rattle.pdtcli.specs.Run.{RebuildStep, CutStep, StoreStep, checkpoint_reply};
 
 use crate::reads::read_in;
 use crate::reply::Reply;

@@ -1,4 +1,5 @@
-use Rattle.std.proofs.Common.{◌≡◌, ◌++◌, ◌∷◌, ◌<◌, ◌∙◌, ℕ, None, Some, Option, List, [], length, get_or, set, replicate}
+use Rattle.std.proofs.Common.{◌≡◌, ◌++◌, ◌∷◌, ◌<◌, ◌∙◌, ℕ, None, Some, Option, List, [], length, get_or}
+use Rattle.std.proofs.Common.{set, replicate}
 use Rattle.std.proofs.Common.{refl, ap, sym, subst, append_assoc, arith, rules}
 use Rattle.std.specs.Prelude.{IfNone, IfSome, IsTrue, slice_get}
 use Rattle.std.specs.List.{All}
@@ -24,8 +25,8 @@ whole_of : (calls before left rest : List ClientCall) (asked : ClientCall) → l
 whole_of calls before left rest asked next split = ap (λ (xs : List ClientCall). before ++ xs) (sym next) ∙ split
 
 -- what holds of all calls holds of the next one
-next_of : (P : ClientCall → Type 0) (calls before left rest : List ClientCall) (asked : ClientCall) → All P calls → left ≡ asked ∷ rest
-    → before ++ left ≡ calls → P asked
+next_of : (P : ClientCall → Type 0) (calls before left rest : List ClientCall) (asked : ClientCall)
+    → All P calls → left ≡ asked ∷ rest → before ++ left ≡ calls → P asked
 next_of P calls before left rest asked all next parts =
     let split = whole_of calls before left rest asked next parts in
     let here : get_or calls (length before) asked ≡ asked =
@@ -49,7 +50,8 @@ loop-asked-init g c =
     let made = c.in_ok-callers.ensures in
     let callers = c.in_ok-callers.field-0.callers.items in
     let count : c.len.result ≡ length c.args.script.clients = search rules in
-    let many : length callers ≡ c.len.result = ap (λ (os : List (Option Transaction)). length os) made.callers ∙ length-replicate c.len.result None in
+    let many : length callers ≡ c.len.result =
+    ap (λ (os : List (Option Transaction)). length os) made.callers ∙ length-replicate c.len.result None in
     record {
       run = ([], c.of-left.ensures ∙ c.into_parts-names.ensures.calls, rw (made.lines.0, made.callers, count) refl);
       schema = search rules;
@@ -207,6 +209,7 @@ returns-clause-run g c =
     let inv = c.loop-asked.invariant in
     let done : List ClientCall = inv.run.0 in
     let none = none_left c.next.result _ c.next.ensures.none c.in_default.not-Some in
-    let all : done ≡ c.args.script.calls = sym (append-nil done) ∙ ap (λ (xs : List ClientCall). done ++ xs) (sym none) ∙ inv.run.1 in
+    let all : done ≡ c.args.script.calls =
+    sym (append-nil done) ∙ ap (λ (xs : List ClientCall). done ++ xs) (sym none) ∙ inv.run.1 in
     let run = rw all at inv.run.2 in
     search rules
