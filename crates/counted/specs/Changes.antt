@@ -1,5 +1,4 @@
 -- How a change is kept in an entry, and lent.
-use Rattle.std.specs.Prelude.{◌≡◌}
 use Rattle.values.specs.declared.value.Value.TheVariants.{Int, Bool as Truth}
 use Rattle.values.specs.Lent.{value_of}
 use Rattle.model.specs.declared.entry.Change.{Change}
@@ -8,7 +7,6 @@ use Rattle.counted.specs.declared.entry.Kept.{Kept}
 use Rattle.counted.specs.declared.entry.Kept.TheVariants as kept
 use Rattle.counted.specs.declared.entry.ChangeRef.{ChangeRef}
 use Rattle.counted.specs.declared.entry.ChangeRef.TheVariants as lent
-use Rattle.counted.specs.Sums.{weight_of}
 
 -- the change that is lent
 abbrev pub change_of : ChangeRef → Change
@@ -21,11 +19,5 @@ abbrev pub kept_change : Kept → Change
 kept_change (kept.Number col number) = Mod col (Int number)
 kept_change (kept.Truth col truth) = Mod col (Truth truth)
 kept_change (kept.Inserted row) = Ins row
-kept_change (kept.Shared weight change) = change.value
-
--- what stands beside a shared change is what it adds
-abbrev pub IsWeighed : Kept → Type 0
-IsWeighed (kept.Number col number) = Unit {0}
-IsWeighed (kept.Truth col truth) = Unit {0}
-IsWeighed (kept.Inserted row) = Unit {0}
-IsWeighed (kept.Shared weight change) = weight ≡ weight_of change.value
+kept_change (kept.Deleted key) = Del key.value
+kept_change (kept.Modified col value) = Mod col value.value

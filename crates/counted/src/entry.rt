@@ -1,7 +1,7 @@
 //! The entries of a tree, and what each adds to the rows below it.
 ghost use Rattle.std.specs.Prelude.{◌≡◌, IfOk};
 ghost use Rattle.model.specs.Entries.{is_delete};
-ghost use Rattle.counted.specs.Changes.{change_of, kept_change, IsWeighed};
+ghost use Rattle.counted.specs.Changes.{change_of, kept_change};
 ghost use Rattle.counted.specs.Heads.{head_of};
 ghost use Rattle.counted.specs.Sums.{weight_of};
 
@@ -9,10 +9,10 @@ use model::{Change, Entry};
 use std::alloc::{AllocError, Global};
 use std::marker::Model;
 use std::sync::Arc;
-use values::{Key, NoMemory, Row, Value, ValueRef};
+use values::{Key, NoMemory, Row, SharedRow, Value, ValueRef};
 
-/// An entry. A number or a truth that it sets stands in it; a row that it inserts, and any other change, is shared: its
-/// copies, and those of it at other SIDs, own it together.
+/// An entry. A number or a truth that it sets stands in it; a row that it inserts, the key of one that it deletes and a text
+/// that it sets are shared: its copies, and those of it at other SIDs, own them together.
 #[derive(Drop)]
 pub struct SharedEntry {
     sid: u64,
@@ -27,16 +27,18 @@ pub(crate) enum Kept {
     /// A modify of the column by a truth.
     Truth(usize, bool),
     /// An insert of the row, whose values are shared.
-    Inserted(Row),
-    /// Any other one, with what it adds to the rows below it, so that a search reads only the changes that it compares.
-    Shared(i64, Arc<Change, Global>),
+    Inserted(SharedRow),
+    /// A delete of the row of the key.
+    Deleted(Arc<Key, Global>),
+    /// A modify of the column by any other value.
+    Modified(usize, Arc<Value, Global>),
 }
 
 /// What an entry does, lent.
 #[derive(Clone, Copy)]
 pub enum ChangeRef<'a> {
     /// The row stands before the base row of the place.
-    Ins(&'a Row),
+    Ins(&'a SharedRow),
     /// The base row of the place, which has this key, is gone.
     Del(&'a Key),
     /// The cell of this column of the base row of the place has this value.
@@ -55,19 +57,17 @@ impl Model for SharedEntry {
 
     ghost Value = { Entry };
 
-    ghost use Rattle.counted.specs.Changes.{kept_change, IsWeighed};
+    ghost use Rattle.counted.specs.Changes.{kept_change};
 
     ghost view = { λ e. record { sid = e.sid; change = kept_change e.kept } };
-
-    ghost invariant = { λ e. IsWeighed e.kept };
 }
 
 impl SharedEntry {
-    /// The entry, whose change nobody shares yet.
+    /// The entry, whose change nobody shares yet but for the values of a row.
     ///
     /// # Errors
     ///
-    /// `AllocError` where memory for the change is refused: the entry is dropped.
+    /// `AllocError` where memory for what its copies share is refused: the entry is dropped.
     pub fn new(alloc: Global, entry: Entry) -> Result<SharedEntry, AllocError>
         ensures { IfOk result (λ shared. shared ≡ entry) }
     {
@@ -94,7 +94,8 @@ impl SharedEntry {
             Kept::Number(col, number) => ChangeRef::Mod(*col, ValueRef::Int(*number)),
             Kept::Truth(col, truth) => ChangeRef::Mod(*col, ValueRef::Bool(*truth)),
             Kept::Inserted(row) => ChangeRef::Ins(row),
-            Kept::Shared(_, change) => lent(change),
+            Kept::Deleted(key) => ChangeRef::Del(key),
+            Kept::Modified(col, value) => ChangeRef::Mod(*col, Value::as_ref(value)),
         }
     }
 
@@ -104,9 +105,9 @@ impl SharedEntry {
         ensures { result ≡ weight_of self.now.change }
     {
         match &self.kept {
-            Kept::Number(..) | Kept::Truth(..) => 0,
+            Kept::Number(..) | Kept::Truth(..) | Kept::Modified(..) => 0,
             Kept::Inserted(_) => 1,
-            Kept::Shared(weight, _) => *weight,
+            Kept::Deleted(_) => -1,
         }
     }
 
@@ -154,7 +155,8 @@ impl SharedEntry {
             Kept::Number(col, number) => Kept::Number(*col, *number),
             Kept::Truth(col, truth) => Kept::Truth(*col, *truth),
             Kept::Inserted(row) => Kept::Inserted(row_again(row)?),
-            Kept::Shared(weight, change) => Kept::Shared(*weight, Arc::try_clone(change)?),
+            Kept::Deleted(key) => Kept::Deleted(Arc::try_clone(key)?),
+            Kept::Modified(col, value) => Kept::Modified(*col, Arc::try_clone(value)?),
         };
         Ok(SharedEntry { sid, kept })
     }
@@ -169,7 +171,7 @@ impl SharedEntry {
 
 /// The same row, which shares its values.
 #[inline(always)]
-fn row_again(row: &Row) -> Result<Row, AllocError>
+fn row_again(row: &SharedRow) -> Result<SharedRow, AllocError>
     ensures { IfOk result (λ again. again ≡ row.now) }
 {
     match row.copy() {
@@ -178,38 +180,25 @@ fn row_again(row: &Row) -> Result<Row, AllocError>
     }
 }
 
+/// The row, whose values are shared from now on.
+fn shared(row: Row) -> Result<SharedRow, AllocError>
+    ensures { IfOk result (λ shared. shared ≡ row) }
+{
+    match row.into_shared() {
+        Ok(shared) => Ok(shared),
+        Err(NoMemory) => Err(AllocError),
+    }
+}
+
 /// How a change that nobody shares yet is kept.
 fn keep(alloc: Global, change: Change) -> Result<Kept, AllocError>
-    ensures change { IfOk result (λ kept. kept_change kept ≡ change) }
-    ensures weighed { IfOk result IsWeighed }
+    ensures { IfOk result (λ kept. kept_change kept ≡ change) }
 {
     match change {
+        Change::Ins(row) => Ok(Kept::Inserted(shared(row)?)),
+        Change::Del(key) => Ok(Kept::Deleted(Arc::new(alloc, key)?)),
         Change::Mod(col, Value::Int(number)) => Ok(Kept::Number(col, number)),
         Change::Mod(col, Value::Bool(truth)) => Ok(Kept::Truth(col, truth)),
-        Change::Ins(row) => Ok(Kept::Inserted(row)),
-        other => Ok(Kept::Shared(change_weight(&other), Arc::new(alloc, other)?)),
-    }
-}
-
-/// A change, lent.
-#[inline(always)]
-pub fn lent(change: &Change) -> ChangeRef<'_>
-    ensures { change_of result ≡ change.now }
-{
-    match change {
-        Change::Ins(row) => ChangeRef::Ins(row),
-        Change::Del(key) => ChangeRef::Del(key),
-        Change::Mod(col, value) => ChangeRef::Mod(*col, value.as_ref()),
-    }
-}
-
-/// One for an insert, minus one for a delete, and nothing for a modify.
-fn change_weight(change: &Change) -> i64
-    ensures { result ≡ weight_of change.now }
-{
-    match change {
-        Change::Ins(_) => 1,
-        Change::Del(_) => -1,
-        Change::Mod(_, _) => 0,
+        Change::Mod(col, text) => Ok(Kept::Modified(col, Arc::new(alloc, text)?)),
     }
 }

@@ -13,7 +13,7 @@ mod starts;
 mod steps;
 mod tree;
 
-pub use entry::{ChangeRef, Head, SharedEntry, lent};
+pub use entry::{ChangeRef, Head, SharedEntry};
 pub use gap::Gap;
 pub use iter::Iter;
 pub use search::{First, Probe};

@@ -33,11 +33,11 @@ abbrev pub modify_count : ℕ → ℕ → List Entry → ℕ
 modify_count sid col [] = 0
 modify_count sid col (e ∷ entries) = cond (is_modify_at sid col e) 1 0
 
--- the row of an insert has the column
+-- it is an insert, whose row has the column
 abbrev pub has_cell : ℕ → Change → Type 0
 has_cell col (Ins row) = col < length row
-has_cell col (Del key) = Unit {0}
-has_cell col (Mod other value) = Unit {0}
+has_cell col (Del key) = ⊥
+has_cell col (Mod other value) = ⊥
 
 module _ (key_cols sid : ℕ) where
   -- the entries with a change at the SID put in

@@ -12,7 +12,7 @@ ghost use Rattle.delta.specs.declared.by_sid.BaseChange.TheVariants.{Kept, Modif
 use crate::places::row_behind;
 use crate::tree::DeltaTree;
 use counted::{ChangeRef, Iter, SharedEntry, Start};
-use values::{Row, Value};
+use values::{SharedRow, Value};
 
 /// What is looked for at a SID.
 #[derive(Clone, Copy)]
@@ -43,7 +43,7 @@ pub struct SidPlace<'a> {
     /// The position of its row in the image; of a deleted row, that of the next one.
     pub rid: u64,
     /// The row that is inserted with the key, where an insert is looked for and there is one.
-    pub row: Option<&'a Row>,
+    pub row: Option<&'a SharedRow>,
     /// By the entry that stands there, what becomes of the base row. Where that has the key, so that no insert of a greater
     /// one stands before its changes, this is all that becomes of it.
     pub base: BaseChange,
@@ -116,7 +116,12 @@ impl DeltaTree {
     }
 
     /// The row that is inserted with the key, where an insert is looked for, by the place of it.
-    fn row_sought<'a>(&self, place: &Start<'a>, sid: u64, sought: Sought<'_>) -> Option<&'a Row>
+    fn row_sought<'a>(
+        &self,
+        place: &Start<'a>,
+        sid: u64,
+        sought: Sought<'_>,
+    ) -> Option<&'a SharedRow>
         requires split { IsSplit (stands_before (stand_of self.now.key_cols sought) sid) self.now.entries place.now.index }
         requires rest { place.now.entries ≡ drop place.now.index self.now.entries }
         ensures { option_copied result ≡ row_sought self.now.key_cols sid sought.entry self.now.entries }

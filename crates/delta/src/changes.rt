@@ -258,6 +258,6 @@ fn set_cell(entry: &mut Entry, col: usize, value: Value) -> Result<(), NoMemory>
 {
     match &mut entry.change {
         Change::Ins(row) => row.set(col, value),
-        _ => Ok(()),
+        Change::Del(_) | Change::Mod(..) => unreachable!(),
     }
 }

@@ -16,7 +16,7 @@ use crate::places::{Place, Start, next_row, row_at};
 use crate::sorted::Ahead;
 use crate::tree::DeltaTree;
 use counted::{ChangeRef, Gap};
-use values::{Row, Value};
+use values::{SharedRow, Value};
 
 /// Where an entry over the image is folded in.
 #[derive(Clone, Copy)]
@@ -67,7 +67,7 @@ impl DeltaTree {
     }
 
     /// Where an insert of the row stands whose row comes to a position of the image.
-    fn find_gap(&self, rid: u64, row: &Row) -> Fold
+    fn find_gap(&self, rid: u64, row: &SharedRow) -> Fold
         requires rid { rid < 2 ^ 63 }
         requires ascending { IsTrue (deletes_ascend self.now.entries) }
         ensures fold { IsFold self.now.key_cols self.now.entries rid (Ins row.now) result }

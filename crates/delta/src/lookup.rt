@@ -8,7 +8,7 @@ ghost use Rattle.delta.specs.Search.{insert_cmp, stands_before, IsSplit};
 use crate::sorted::compare_insert;
 use crate::tree::DeltaTree;
 use counted::{ChangeRef, SharedEntry, Start};
-use values::{Row, Value};
+use values::{SharedRow, Value};
 
 impl DeltaTree {
     /// The row that is inserted at the SID with the key of these cells, if there is one, by the place of the key.
@@ -17,7 +17,7 @@ impl DeltaTree {
         place: &Start<'a>,
         sid: u64,
         key: &[Value],
-    ) -> Option<&'a Row>
+    ) -> Option<&'a SharedRow>
         requires split { IsSplit (stands_before (insert_cmp self.now.key_cols key.now) sid) self.now.entries place.now.index }
         requires rest { place.now.entries ≡ drop place.now.index self.now.entries }
         ensures { option_copied result ≡ inserted_row self.now.key_cols sid key.now self.now.entries }
@@ -35,7 +35,7 @@ fn inserted_at<'a>(
     entry: &'a SharedEntry,
     sid: u64,
     key: &[Value],
-) -> Option<&'a Row>
+) -> Option<&'a SharedRow>
     ensures { option_copied result ≡ row_at key_cols sid key.now entry.now }
 {
     match entry.change() {

@@ -7,7 +7,7 @@ use counted::{ChangeRef, CountedTree, SharedEntry};
 use model::{Change, Entry};
 use std::alloc::Global;
 use std::marker::Model;
-use values::NoMemory;
+use values::{NoMemory, Row};
 
 /// The entries over the rows of an image, in order.
 #[derive(Drop)]
@@ -137,7 +137,7 @@ pub(crate) fn copy_entry(alloc: Global, entry: &SharedEntry) -> Result<Entry, No
     ensures { IfOk result (λ copied. copied ≡ entry.now) }
 {
     let change = match entry.change() {
-        ChangeRef::Ins(row) => Change::Ins(row.copy()?),
+        ChangeRef::Ins(row) => Change::Ins(Row::of_shared(row.copy()?)),
         ChangeRef::Del(key) => Change::Del(key.copy()?),
         ChangeRef::Mod(col, value) => Change::Mod(col, value.copy(alloc)?),
     };

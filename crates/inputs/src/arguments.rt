@@ -54,7 +54,7 @@ fn read_typed(
         Verb::Begin => Ok(Call::Begin),
         Verb::Insert => {
             let cells = read_values(alloc, schema.types(), number, fields)?;
-            Ok(Call::Write(Write::Insert(Row::new(cells)?)))
+            Ok(Call::Write(Write::Insert(Row::new(cells))))
         }
         Verb::Delete => {
             let key = read_key(alloc, schema, number, fields)?;

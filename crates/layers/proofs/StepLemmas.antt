@@ -243,8 +243,8 @@ module _ (tree : Tree) (s : ℕ) (row : Row) (w : IsNext tree (entry_at s (Ins r
 -- the row of an insert has the column
 cell_of : (col : ℕ) (c : Change) → IsSomeAnd (row_of c) (λ row. col < length row) → has_cell col c
 cell_of col (Ins row) h = h
-cell_of col (Del key) h = tt
-cell_of col (Mod other value) h = tt
+cell_of col (Del key) h = absurd h
+cell_of col (Mod other value) h = absurd h
 
 -- ---- a delete
 

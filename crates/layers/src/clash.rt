@@ -14,7 +14,7 @@ ghost use Rattle.layers.specs.Serialization.{clash_cmp, clash_with_head, turned_
 use delta::{ChangeRef, DeltaTree, SharedEntry, SidPlace, Sought};
 use model::{Clash, ClashKind, ConflictRule};
 use std::cmp::Ordering;
-use values::Row;
+use values::SharedRow;
 
 /// Whether an entry of another tree stands before this one, where none ties with this one but those that it can clash with.
 pub(crate) fn stands_before(
@@ -194,7 +194,7 @@ fn columns_clash(rule: ConflictRule, col: usize, other: usize) -> bool
 }
 
 /// Whether two rows have one key.
-fn have_one_key(key_cols: usize, row: &Row, other: &Row) -> bool
+fn have_one_key(key_cols: usize, row: &SharedRow, other: &SharedRow) -> bool
     ensures { result ≡ eq_by_cmp key_cmp (key_of key_cols row.now) (key_of key_cols other.now) }
 {
     row.key(key_cols).cmp(other.key(key_cols)).is_eq()

@@ -11,7 +11,7 @@ ghost use Rattle.layers.specs.Walk.{meeting_of, changed_by};
 use delta::{Change, ChangeRef, Entry, SharedEntry};
 use std::alloc::Global;
 use std::cmp::Ordering;
-use values::{Key, NoMemory, Row};
+use values::{Key, NoMemory, Row, SharedRow};
 
 pub(crate) enum Meeting {
     /// The upper one comes first.
@@ -85,7 +85,7 @@ fn columns_meet(upper: usize, lower: usize) -> Meeting
 }
 
 /// Whether the row's key comes after that of a deleted one.
-fn is_past(key_cols: usize, row: &Row, key: &Key) -> bool
+fn is_past(key_cols: usize, row: &SharedRow, key: &Key) -> bool
     ensures { result ≡ is_gt (key_cmp (key_of key_cols row.now) key.now) }
 {
     row.key(key_cols).cmp(key.cells()).is_gt()
@@ -101,7 +101,7 @@ pub(crate) fn changed(
 {
     match (lower.change(), upper.change()) {
         (ChangeRef::Ins(row), ChangeRef::Mod(col, value)) if col < row.cells().len() => {
-            let mut row = row.copy()?;
+            let mut row = Row::of_shared(row.copy()?);
             row.set(col, value.copy(alloc)?)?;
             let change = Change::Ins(row);
             Ok(SharedEntry::new(

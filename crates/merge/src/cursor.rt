@@ -14,7 +14,7 @@ ghost use Rattle.merge.specs.Cursor.{entries_left, entries_past, is_past, moved,
 use crate::view::Modifies;
 use delta::{ChangeRef, DeltaTree, Iter, SharedEntry, Start};
 use std::marker::Model;
-use values::Row;
+use values::SharedRow;
 
 /// A walk over the entries of a tree and the base rows between them. It reads each entry once, in order.
 #[derive(Drop)]
@@ -45,7 +45,7 @@ impl<'a> Model for Cursor<'a> {
 /// What comes next in the image of a tree.
 pub(crate) enum Step<'a> {
     /// A row that the tree inserts.
-    Inserted(&'a Row),
+    Inserted(&'a SharedRow),
     /// The next base row, of which the tree modifies this.
     Modified(Modifies<'a>),
     /// So many base rows as they are.

@@ -9,7 +9,7 @@ use delta::{ChangeRef, DeltaTree, SharedEntry, Sought};
 use smallvec::SmallVec;
 use stable::StableTable;
 use std::alloc::Global;
-use values::{NoMemory, Row, ValueRef};
+use values::{NoMemory, Row, SharedRow, ValueRef};
 
 /// Where a row comes from.
 #[derive(Clone, Copy)]
@@ -17,7 +17,7 @@ enum Source<'a> {
     /// The table's row at the SID.
     Stable(&'a StableTable, u32),
     /// A row that a layer inserts.
-    Inserted(&'a Row),
+    Inserted(&'a SharedRow),
 }
 
 /// What a layer modifies of a row.
@@ -212,7 +212,7 @@ impl<'a> RowView<'a> {
         for col in 0..width {
             cells.push(self.value(col).copy(alloc)?)?;
         }
-        Row::new(cells)
+        Ok(Row::new(cells))
     }
 
     /// The same by the modifies of all columns, gathered first.
@@ -225,7 +225,7 @@ impl<'a> RowView<'a> {
         for col in 0..width {
             cells.push(self.value_or(modified[col], col).copy(alloc)?)?;
         }
-        Row::new(cells)
+        Ok(Row::new(cells))
     }
 
     /// What the layers modify of the row: of each layer by one search at most.
@@ -263,7 +263,7 @@ impl<'a> RowView<'a> {
 
     /// A row that a layer inserts.
     #[inline(always)]
-    pub(crate) fn inserted(row: &'a Row) -> RowView<'a>
+    pub(crate) fn inserted(row: &'a SharedRow) -> RowView<'a>
         ensures row { row_of result ≡ row.now }
         ensures bare { IsBare 0 result }
     {

@@ -61,7 +61,7 @@ fn set_cells(alloc: Global, cells: &Cells, row: &Row) -> Result<Row, NoMemory>
             values[*col] = value.copy()?;
         }
     }
-    Row::new(values)
+    Ok(Row::new(values))
 }
 
 /// The later cells, and the first where those say nothing.

@@ -117,6 +117,6 @@ fn push_left(
             }
         }
     }
-    rows.push(Row::new(cells)?)?;
+    rows.push(Row::new(cells))?;
     Ok(())
 }

@@ -156,7 +156,7 @@ impl StableTable {
         for col in 0..width {
             cells.push(self.value(sid, col).copy(alloc)?)?;
         }
-        Row::new(cells)
+        Ok(Row::new(cells))
     }
 
     /// How many rows have a key below this one, found by halving.

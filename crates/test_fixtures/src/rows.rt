@@ -28,7 +28,7 @@ fn cells(alloc: Global, values: &[ValueRef<'_>]) -> Result<Vec<Value>, NoMemory>
 pub fn row_with(alloc: Global, values: &[ValueRef<'_>]) -> Result<Row, NoMemory>
     ensures { IfOk result (λ row. row ≡ map value_of values.now) }
 {
-    Row::new(cells(alloc, values)?)
+    Ok(Row::new(cells(alloc, values)?))
 }
 
 /// A key of these values.

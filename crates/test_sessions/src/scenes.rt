@@ -39,6 +39,8 @@ pub(crate) struct Scene {
     /// How many rows the table may have.
     limit: u64,
     clients: u32,
+    /// The generation of the store's first image.
+    first: u32,
     steps: &'static [(Client, Act)],
     last: Option<Last>,
     left: Left,
@@ -80,6 +82,7 @@ const PLAIN: Scene = Scene {
     recent: 64,
     limit: MAX_ROWS,
     clients: 2,
+    first: 1,
     steps: &[],
     last: None,
     left: NONE,
@@ -261,7 +264,7 @@ fn play_over<R: Wait + Abort>(
         return Err(Fail::new("a device has failed before its first append"));
     }
     let manager = base_manager(alloc, scene.recent, scene.limit)?;
-    let store = Store::new(alloc, devices, manager.version().schema(), 1)?;
+    let store = Store::new(alloc, devices, manager.version().schema(), scene.first)?;
     let fresh = NewOpening::new(&manager, scene.clients);
     play_in::<Brand, Store, R>(rt, alloc, manager, store, fresh, scene)
 }

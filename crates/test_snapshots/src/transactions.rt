@@ -166,7 +166,7 @@ fn a_shape_is_refused_before_the_table_is_looked_at(rt: HostRuntime) -> Result<(
     let mut writes = Vec::new(alloc);
     writes.push(Write::Set(key(alloc, 20)?, 0, Value::Int(21)))?;
     writes.push(Write::Delete(Key::new(Vec::new(alloc))))?;
-    writes.push(Write::Insert(Row::new(Vec::new(alloc))?))?;
+    writes.push(Write::Insert(Row::new(Vec::new(alloc))))?;
     assert_left(&rt, alloc, &BASE, (writes, &ANSWERS), ("", 0))
 }
 
@@ -343,5 +343,20 @@ fn its_rows_stand_in_stretches_and_make_a_table(rt: HostRuntime) -> Result<(), F
     for (sid, row) in &ROWS {
         assert_row(&rt, alloc, &table, *sid, *row)?;
     }
+    Ok(())
+}
+
+#[test]
+fn rows_between_two_places_make_a_table(rt: HostRuntime) -> Result<(), Fail> {
+    let alloc = rt.alloc();
+    let txn = changed(&rt, alloc)?;
+    let between = txn.table_between(alloc, 1, 2);
+    let past = txn.table_between(alloc, 2, 9);
+    txn.abort();
+    let (between, past) = (between?, past?);
+    assert!(&rt; between.len() == 1);
+    assert_row(&rt, alloc, &between, 0, (25, "Dee", 4))?;
+    assert!(&rt; past.len() == 1);
+    assert_row(&rt, alloc, &past, 0, (30, "Cid", 3))?;
     Ok(())
 }

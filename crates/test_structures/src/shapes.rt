@@ -7,6 +7,7 @@ use std::process::Abort;
 use std::test::Fail;
 use values::{
     ColumnType, Key, NoMemory, Row, Schema, SchemaFault, ShapeFault, Text, Value, ValueRef,
+    copy_texts,
 };
 
 /// As many names as a table may have columns, a line each.
@@ -233,7 +234,7 @@ fn the_first_fault_of_a_row_is_named(rt: HostRuntime) -> Result<(), Fail> {
     ];
     let schema = base_schema(rt.alloc())?;
     for (label, given, answer) in &CASES {
-        let row = Row::new(cells(rt.alloc(), *given)?)?;
+        let row = Row::new(cells(rt.alloc(), *given)?);
         assert_holds(&rt, schema.check_row(&row) == *answer, *label);
     }
     Ok(())
@@ -387,11 +388,32 @@ fn keys_ascend_column_by_column(rt: HostRuntime) -> Result<(), Fail> {
 #[test]
 fn a_copied_row_or_key_holds_the_same_and_gives_it_back(rt: HostRuntime) -> Result<(), Fail> {
     let given = [Given::Number, Given::Name, Given::Truth];
-    let row = Row::new(cells(rt.alloc(), &given)?)?.copy()?;
+    let row = Row::new(cells(rt.alloc(), &given)?).copy()?;
     let key = Key::new(cells(rt.alloc(), &given)?).copy()?;
     assert!(rt; row.cells() == key.cells());
-    assert!(rt; row.into_cells()?.as_slice() == key.into_cells().as_slice());
+    assert_gives_back(&rt, row, key.into_cells().as_slice());
     Ok(())
+}
+
+/// That a row gives these cells back.
+fn assert_gives_back(rt: &impl Abort, row: Row, cells: &[Value]) {
+    match row.into_cells() {
+        Ok(given_back) => assert!(rt; given_back.as_slice() == cells),
+        Err(_kept) => assert!(rt; false, "the row keeps its cells"),
+    }
+}
+
+/// That a row keeps its cells, since another shares them.
+fn assert_keeps(rt: &impl Abort, row: Row, cells: &[Value]) {
+    match row.into_cells() {
+        Ok(_given_back) => assert!(rt; false, "the row gives shared cells back"),
+        Err(kept) => assert!(rt; kept.cells() == cells),
+    }
+}
+
+/// A row whose values its copies share.
+fn shared_row(alloc: Global, given: &[Given]) -> Result<Row, Fail> {
+    Ok(Row::of_shared(Row::new(cells(alloc, given)?).into_shared()?))
 }
 
 /// That a row has two cells, the first of which is this number.
@@ -402,21 +424,22 @@ fn assert_begins_with(rt: &impl Abort, row: &Row, number: i64) {
 
 #[test]
 fn a_cell_that_is_set_in_one_of_two_rows_stays_in_the_other(rt: HostRuntime) -> Result<(), Fail> {
-    let row = Row::new(cells(rt.alloc(), &[Given::Number, Given::Name])?)?;
+    let given = [Given::Number, Given::Name];
+    let row = shared_row(rt.alloc(), &given)?;
     let mut shares = row.copy()?;
     assert!(rt; shares.cells().len() == 2);
     shares.set(0, Value::Int(20))?;
     assert_begins_with(&rt, &row, 10);
     assert_begins_with(&rt, &shares, 20);
-    let again = row.copy()?;
-    let cells = again.into_cells()?;
-    assert!(rt; cells.as_slice() == row.cells());
+    assert_keeps(&rt, row.copy()?, row.cells());
+    let alike = cells(rt.alloc(), &given)?;
+    assert_gives_back(&rt, row, alike.as_slice());
     Ok(())
 }
 
 #[test]
 fn a_row_that_nobody_shares_is_set_in_place(rt: HostRuntime) -> Result<(), Fail> {
-    let mut row = Row::new(cells(rt.alloc(), &[Given::Number, Given::Name])?)?;
+    let mut row = Row::new(cells(rt.alloc(), &[Given::Number, Given::Name])?);
     assert!(rt; row.cells().len() == 2);
     row.set(0, Value::Int(30))?;
     assert_begins_with(&rt, &row, 30);
@@ -445,6 +468,21 @@ fn a_copied_text_gives_the_string_back(rt: HostRuntime) -> Result<(), Fail> {
     let text = Text::new(String::from_str(rt.alloc(), "Ann")?).copy()?;
     assert!(rt; text.as_str() == "Ann");
     assert!(rt; text.into_string().as_str() == "Ann");
+    Ok(())
+}
+
+#[test]
+fn copied_texts_stand_in_their_order(rt: HostRuntime) -> Result<(), Fail> {
+    let mut texts = Vec::new(rt.alloc());
+    for text in ["Ann", "", "Zoë"] {
+        texts.push(Text::new(String::from_str(rt.alloc(), text)?))?;
+    }
+    let copies = copy_texts(rt.alloc(), texts.as_slice())?;
+    let mut left = copies.iter();
+    for text in ["Ann", "", "Zoë"] {
+        assert!(&rt; left.next().map(|copy| copy.as_str()) == Some(text));
+    }
+    assert!(rt; left.next().is_none());
     Ok(())
 }
 

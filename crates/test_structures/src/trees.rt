@@ -15,6 +15,7 @@ mod in_place;
 mod lists;
 mod places;
 mod removals;
+mod shared;
 mod steps;
 
 use crate::assertions::{assert_holds_at, assert_text};

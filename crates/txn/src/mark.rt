@@ -25,7 +25,7 @@ impl Mark {
     ///
     /// # Errors
     ///
-    /// `NoMemory` where the tree has 2^64 owners.
+    /// `NoMemory` where the tree has 2^63 - 1 owners.
     pub fn copy(&self) -> Result<Mark, NoMemory>
         ensures { IfOk result (λ copied. copied ≡ self.now) }
     {

@@ -16,7 +16,7 @@ use crate::mark::Mark;
 use crate::parts::Parts;
 use crate::place::RecordPlace;
 use crate::version::Version;
-use crate::writes::{Found, FoundRow, edit};
+use crate::writes::{Found, FoundRow, edit, with_shared_row};
 use delta::{DeltaTree, Sought};
 use merge::Layers;
 use model::{CommitReply, Record, Write, WriteReply, key_of_write, reply_where};
@@ -216,6 +216,16 @@ impl Txn {
         ensures ok { IfOk result (λ reply. IsAnswered self.old write reply self.new) }
         ensures err { OnErr result (self.new ≡ self.old) }
     {
+        let write = with_shared_row(write)?;
+        self.enter(write)
+    }
+
+    /// The same, of a write whose row is shared.
+    fn enter(&mut self, write: Write) -> Result<WriteReply, NoMemory>
+        requires { IsTrue (write_fits_schema self.old.schema write) }
+        ensures ok { IfOk result (λ reply. IsAnswered self.old write reply self.new) }
+        ensures err { OnErr result (self.new ≡ self.old) }
+    {
         let key_cols = self.schema().key_cols();
         let found = self.find(key_of_write(key_cols, &write));
         let reply = reply_where(self.row_limit, found.row.is_there(), self.len(), &write);
@@ -246,7 +256,7 @@ impl Txn {
     ///
     /// # Errors
     ///
-    /// `NoMemory` where the tree has 2^64 owners.
+    /// `NoMemory` where the tree has 2^63 - 1 owners.
     pub fn mark(&self) -> Result<Mark, NoMemory>
         ensures { IfOk result (λ mark. mark ≡ mark_of self.now) }
     {

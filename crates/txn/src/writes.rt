@@ -1,5 +1,5 @@
 //! The change of the tree that a write makes.
-ghost use Rattle.std.specs.Prelude.{◌≡◌, ◌<◌, ◌≤◌, ◌^◌, ◌&&◌, ◌||◌, not, cond, is_some, IsNone, IsTrue, OnOk, OnErr, length};
+ghost use Rattle.std.specs.Prelude.{◌≡◌, ◌<◌, ◌≤◌, ◌^◌, ◌&&◌, ◌||◌, not, cond, is_some, IfOk, IsNone, IsTrue, OnOk, OnErr, length};
 ghost use Rattle.std.specs.Option.{option_copied};
 ghost use Rattle.values.specs.declared.limits.TheConstants.{MAX_ROWS};
 ghost use Rattle.model.specs.Entries.{are_ordered};
@@ -13,7 +13,7 @@ ghost use Rattle.txn.specs.Edit.{edited, is_inserted, is_kept, is_there, MayBeEd
 use delta::{BaseChange, DeltaTree, SharedEntry, SidPlace};
 use model::{Change, Entry, Write, WriteReply, is_done};
 use std::alloc::Global;
-use values::NoMemory;
+use values::{NoMemory, Row};
 
 /// What a transaction finds at a key.
 #[derive(Clone, Copy)]
@@ -83,6 +83,16 @@ impl FoundRow {
             FoundRow::Kept => true,
             FoundRow::Absent | FoundRow::Inserted | FoundRow::Modified => false,
         }
+    }
+}
+
+/// The write, in which a row that it inserts is shared: its record and the tree have one list of the values.
+pub(crate) fn with_shared_row(write: Write) -> Result<Write, NoMemory>
+    ensures { IfOk result (λ shared. shared ≡ write) }
+{
+    match write {
+        Write::Insert(row) => Ok(Write::Insert(Row::of_shared(row.into_shared()?))),
+        other => Ok(other),
     }
 }
 

@@ -1,4 +1,5 @@
 pub mod Lent
 pub mod Orders
 pub mod Shape
+pub mod Shared
 pub mod Shown

@@ -11,11 +11,13 @@ mod fault;
 pub mod limits;
 mod row;
 mod schema;
+mod shared_row;
 mod text;
 mod value;
 
 pub use fault::{NoMemory, SchemaFault, ShapeFault};
 pub use row::{Key, Row};
 pub use schema::Schema;
+pub use shared_row::SharedRow;
 pub use text::{Text, copy_texts};
 pub use value::{ColumnType, Value, ValueRef};

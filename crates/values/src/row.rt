@@ -1,44 +1,49 @@
 //! Rows and keys, which contracts see as the lists of their values, and the order of keys.
-ghost use Rattle.std.specs.Prelude.{◌≡◌, ◌<◌, IfOk, OnErr, OnOk, length, refl, slice_set};
+ghost use Rattle.std.specs.Prelude.{◌≡◌, ◌<◌, IfErr, IfOk, OnErr, OnOk, length, refl, slice_set};
 ghost use Rattle.std.specs.Cmp.{eq_by_cmp_equiv, partial_equiv_from_equiv, po};
 ghost use Rattle.std.specs.Ordering.{eq_by_cmp, as_partial_cmp};
 ghost use Rattle.values.specs.Orders.{key_cmp, key_cmp_total};
 ghost use Rattle.values.specs.Shape.{key_of};
 
 use crate::fault::NoMemory;
+use crate::shared_row::SharedRow;
 use crate::value::{Value, copy_values};
 use std::cmp::Ordering;
 use std::marker::Model;
-use std::sync::Arc;
 
-/// A row, or any list of values that is to be checked as one. Its copies share its values.
+/// A row, or any list of values that is to be checked as one. It has them alone, as it was made of them, until it is shared.
 #[derive(Debug, Drop)]
 pub struct Row {
-    cells: Arc<Vec<Value>>,
+    cells: Cells,
+}
+
+/// Where the values of a row lie.
+#[derive(Debug, Drop)]
+enum Cells {
+    /// In the list that it was made of.
+    Own(Vec<Value>),
+    /// In one that other rows may share.
+    Shared(SharedRow),
 }
 
 impl Model for Row {
     ghost use Rattle.std.specs.Prelude.{List};
     ghost use Rattle.values.specs.declared.value.Value.{Value as Cell};
+    ghost use Rattle.values.specs.Shared.{cells_of};
 
     ghost Value = { List Cell };
 
-    ghost view = { λ r. r.cells.value.items };
+    ghost view = { λ r. cells_of r.cells };
 }
 
 impl Row {
-    /// The values as a row. Copies no value, and checks nothing.
-    ///
-    /// # Errors
-    ///
-    /// `NoMemory` where memory for their one place is refused: they are dropped.
-    pub fn new(cells: Vec<Value>) -> Result<Row, NoMemory>
-        ensures { IfOk result (λ row. row ≡ cells.items) }
+    /// The values as a row. Takes no memory, and checks nothing.
+    pub fn new(cells: Vec<Value>) -> Row
+        ensures { result ≡ cells.items }
     {
-        let alloc = *cells.allocator();
-        Ok(Row {
-            cells: Arc::new(alloc, cells)?,
-        })
+        Row {
+            cells: Cells::Own(cells),
+        }
     }
 
     /// The values in the order of the columns, lent.
@@ -46,7 +51,10 @@ impl Row {
     pub fn cells(&self) -> &[Value]
         ensures { result.now ≡ self.now }
     {
-        self.cells.as_slice()
+        match &self.cells {
+            Cells::Own(cells) => cells.as_slice(),
+            Cells::Shared(row) => row.cells(),
+        }
     }
 
     /// The key of the row, lent: its first `key_cols` values, or all where it has no more.
@@ -57,54 +65,74 @@ impl Row {
         &cells[..key_cols.min(cells.len())]
     }
 
-    /// The values that it was made of. Takes no memory where no other row shares them.
-    ///
-    /// # Errors
-    ///
-    /// `NoMemory` where others share them, and memory for a copy of them is refused.
-    pub fn into_cells(self) -> Result<Vec<Value>, NoMemory>
-        ensures { IfOk result (λ cells. cells.items ≡ self) }
+    /// The values that it was made of, or the row again where others share them. Takes no memory.
+    pub fn into_cells(self) -> Result<Vec<Value>, Row>
+        ensures ok { IfOk result (λ cells. cells.items ≡ self) }
+        ensures err { IfErr result (λ row. row ≡ self) }
     {
-        match Arc::try_unwrap(self.cells) {
-            Ok(cells) => Ok(cells),
-            Err(shared) => copy_values(*shared.allocator(), shared.as_slice()),
+        match self.cells {
+            Cells::Own(cells) => Ok(cells),
+            Cells::Shared(row) => row.into_cells(),
         }
     }
 
-    /// Puts another value into the cell of a column, and checks nothing. Rows that shared the values keep theirs: takes no
-    /// memory where there are none.
+    /// Puts another value into the cell of a column, and checks nothing. Takes no memory where the row has its values alone;
+    /// rows that share them keep theirs.
     ///
     /// # Errors
     ///
-    /// `NoMemory` where others share them, and memory for a copy of them is refused: nothing changes.
+    /// `NoMemory` where the values are shared, and memory for a copy of them is refused: nothing changes.
     pub fn set(&mut self, col: usize, value: Value) -> Result<(), NoMemory>
         requires { col < length self.old }
         ensures ok { OnOk result (self.new ≡ slice_set self.old col value) }
         ensures err { OnErr result (self.new ≡ self.old) }
     {
-        if let Some(cells) = Arc::get_mut(&mut self.cells) {
-            cells[col] = value;
-            return Ok(());
+        match &mut self.cells {
+            Cells::Own(cells) => cells[col] = value,
+            Cells::Shared(row) => {
+                let mut cells = row.copied_cells()?;
+                cells[col] = value;
+                *self = Row::new(cells);
+            }
         }
-        let alloc = *self.cells.allocator();
-        let mut cells = copy_values(alloc, self.cells())?;
-        cells[col] = value;
-        *self = Row::new(cells)?;
         Ok(())
     }
 
-    /// The same row, which shares its values. Takes no memory.
+    /// The same row: it shares the values where they are shared, and has a copy of them where not.
     ///
     /// # Errors
     ///
-    /// `NoMemory` where 2^63 rows share them.
-    #[inline(always)]
+    /// `NoMemory` where memory for the copy is refused, or 2^63 - 1 rows share them.
     pub fn copy(&self) -> Result<Row, NoMemory>
         ensures { IfOk result (λ copied. copied ≡ self.now) }
     {
-        Ok(Row {
-            cells: Arc::try_clone(&self.cells)?,
-        })
+        match &self.cells {
+            Cells::Own(cells) => Ok(Row::new(copy_values(*cells.allocator(), cells)?)),
+            Cells::Shared(row) => Ok(Row::of_shared(row.copy()?)),
+        }
+    }
+
+    /// The row whose values are shared. Copies no value, and takes no memory where they are shared already.
+    ///
+    /// # Errors
+    ///
+    /// `NoMemory` where memory for their one place is refused: they are dropped.
+    pub fn into_shared(self) -> Result<SharedRow, NoMemory>
+        ensures { IfOk result (λ shared. shared ≡ self) }
+    {
+        match self.cells {
+            Cells::Own(cells) => SharedRow::new(cells),
+            Cells::Shared(row) => Ok(row),
+        }
+    }
+
+    /// A row that is shared, as a row. Takes no memory.
+    pub fn of_shared(row: SharedRow) -> Row
+        ensures { result ≡ row }
+    {
+        Row {
+            cells: Cells::Shared(row),
+        }
     }
 }
 

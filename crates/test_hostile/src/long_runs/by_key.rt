@@ -167,7 +167,7 @@ fn row_after(alloc: Global, write: &Write, old: Option<&Row>) -> Result<Option<R
                     cell.copy()?
                 })?;
             }
-            Ok(Some(Row::new(cells)?))
+            Ok(Some(Row::new(cells)))
         }
         _ => Ok(None),
     }

@@ -1,7 +1,8 @@
 //! Folds and checkpoints beside open transactions.
 
 use super::{Left, NONE, PLAIN, Scene, play};
-use crate::acts::Act::{Begin, Checkpoint, Commit, Entries, Fold, Scan, Write};
+use crate::acts::Act::{Begin, Checkpoint, Commit, Entries, Fold, NoCheckpoint, Scan, Write};
+use manager::CheckpointFault::GenerationsSpent;
 use model::CommitReply::Committed;
 use model::WriteReply::Done;
 use std::test::Fail;
@@ -34,6 +35,21 @@ fn fold_and_checkpoint_spare_an_open_transaction(rt: HostRuntime) -> Result<(), 
             ..NONE
         },
         stored: Some((1, &BASE)),
+        ..PLAIN
+    };
+    play(&rt, rt.alloc(), &SCENE)
+}
+
+#[test]
+fn a_store_takes_no_image_past_its_last_generation(rt: HostRuntime) -> Result<(), Fail> {
+    static SCENE: Scene = Scene {
+        first: u32::MAX,
+        steps: &[
+            (0, Checkpoint(u32::MAX)),
+            (1, NoCheckpoint(GenerationsSpent)),
+            (0, NoCheckpoint(GenerationsSpent)),
+        ],
+        stored: Some((u32::MAX, &BASE)),
         ..PLAIN
     };
     play(&rt, rt.alloc(), &SCENE)

@@ -2,12 +2,15 @@
 ghost use Rattle.std.specs.Prelude.{◌<◌, length};
 ghost use Rattle.merge.specs.Image.{AreStacked};
 
-use super::Stack;
 use super::drawn::drawn_stack;
-use merge::{Layers, Run, TextRun};
+use super::{Stack, written_stack};
+use crate::assertions::assert_holds;
+use merge::{Layers, Run, Stretch, TextRun};
+use std::alloc::Global;
 use std::process::Abort;
 use std::test::Fail;
-use values::{Row, ValueRef};
+use test_fixtures::item;
+use values::{NoMemory, Row, ValueRef};
 
 /// How many values the run has.
 fn run_len(run: &Run<'_>) -> usize {
@@ -103,5 +106,78 @@ fn columns_are_those_of_the_rows_that_the_plain_program_merges(
 ) -> Result<(), Fail> {
     let stack = drawn_stack(rt.alloc(), 40)?;
     assert_columns(&rt, &stack);
+    Ok(())
+}
+
+/// How many values each run of a column has.
+fn run_lens(alloc: Global, layers: &Layers<'_>, col: usize) -> Result<Vec<usize>, NoMemory>
+    requires { col < length layers.now.schema.types }
+{
+    let mut lens = Vec::new(alloc);
+    for run in layers.column_runs(col, 0, u64::MAX) {
+        lens.push(run_len(&run))?;
+    }
+    Ok(lens)
+}
+
+/// How many rows each stretch has.
+fn stretch_lens(alloc: Global, layers: &Layers<'_>) -> Result<Vec<u64>, NoMemory> {
+    let mut lens = Vec::new(alloc);
+    for stretch in layers.stretches(0, u64::MAX) {
+        lens.push(match stretch {
+            Stretch::Stable(stable) => stable.len,
+            Stretch::Row(_) => 1,
+        })?;
+    }
+    Ok(lens)
+}
+
+/// Rows with the keys from 0 on.
+fn numbered_rows(alloc: Global, count: u16) -> Result<Vec<Row>, NoMemory> {
+    let mut rows = Vec::new(alloc);
+    for id in 0..count {
+        rows.push(item(alloc, i64::from(id), "Ann", 1)?)?;
+    }
+    Ok(rows)
+}
+
+/// That the runs of a column have so many values each, and the stretches of the image so many rows.
+fn assert_lens(
+    rt: &impl Abort,
+    alloc: Global,
+    stack: &Stack,
+    label: &str,
+    want: (usize, &[usize], &[u64]),
+) -> Result<(), NoMemory>
+    requires { AreStacked stack.now.stable stack.now.read.tree stack.now.write.tree stack.now.trans.tree }
+{
+    let (column, runs, stretches) = want;
+    let (read, write, trans) = (&stack.read.tree, &stack.write.tree, &stack.trans.tree);
+    let layers = Layers::new(&stack.stable, read, write, trans);
+    for col in 0..layers.schema().width() {
+        if col == column {
+            assert_holds(rt, run_lens(alloc, &layers, col)?.as_slice() == runs, label);
+        }
+    }
+    assert_holds(
+        rt,
+        stretch_lens(alloc, &layers)?.as_slice() == stretches,
+        label,
+    );
+    Ok(())
+}
+
+#[test]
+fn rows_that_nothing_changes_stand_together(rt: HostRuntime) -> Result<(), Fail> {
+    let alloc = rt.alloc();
+    let rows = numbered_rows(alloc, 2_500)?;
+    let stack = written_stack(alloc, rows.as_slice(), [&[], &[], &[]])?;
+    assert_lens(
+        &rt,
+        alloc,
+        &stack,
+        "blocks",
+        (0, &[1_024, 1_024, 452], &[2_500]),
+    )?;
     Ok(())
 }

@@ -2,20 +2,20 @@
 use crate::assertions::assert_holds_at;
 use counted::CountedTree;
 use model::{Change, Entry};
-use std::alloc::Global;
+use std::alloc::{AllocError, Global};
 use std::process::Abort;
 use std::test::Fail;
-use values::{NoMemory, Row, Value};
+use values::{Row, Value};
 
 /// Inserts of one cell, at the SIDs from 0 on.
-fn entries(alloc: Global, count: u32) -> Result<Vec<Entry>, NoMemory> {
+fn entries(alloc: Global, count: u32) -> Result<Vec<Entry>, AllocError> {
     let mut out = Vec::new(alloc);
     for number in 0..count {
         let mut cells = Vec::with_capacity(alloc, 1)?;
         cells.push(Value::Int(i64::from(number)))?;
         out.push(Entry {
             sid: u64::from(number),
-            change: Change::Ins(Row::new(cells)?),
+            change: Change::Ins(Row::new(cells)),
         })?;
     }
     Ok(out)

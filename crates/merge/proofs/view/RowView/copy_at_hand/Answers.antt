@@ -1,7 +1,6 @@
-use Rattle.std.proofs.Common.{◌∙◌, ◌∷◌, ◌++◌, [], Some, ap, arith, sym}
+use Rattle.std.proofs.Common.{◌∙◌, ◌∷◌, ◌++◌, [], Some, ap, sym}
 use Rattle.std.proofs.lemmas.Option.{get_or_from_slice_get, slice_get_within}
-use Rattle.std.proofs.lemmas.List.{take_all, take_more}
-use Rattle.std.proofs.lemmas.Result.{IfOk-weaker}
+use Rattle.std.proofs.lemmas.List.{take_more}
 use Rattle.merge.specs.View.{row_of}
 use Rattle.merge.proofs.view.RowView.copy_at_hand.Goals as goal
 
@@ -15,9 +14,3 @@ loop-col-preserved c =
     c.in_ok-push.ensures.items
     ∙ (λ i. c.loop-col.invariant i ++ sym (get_or_from_slice_get row col value value at) i ∷ [])
     ∙ sym more
-
-pub returns : goal.returns
-returns c =
-    let row = row_of c.args.self.now in
-    let all = c.loop-col.invariant ∙ take_all c.loop-col.col row (omega (arith, c.width-width.ensures, c.loop-col-test.false)) in
-    IfOk-weaker c.new.result _ _ (λ made is. is ∙ all) c.new.ensures

@@ -2,8 +2,7 @@ use Rattle.std.proofs.Common.{◌<◌, ◌∙◌, ◌∷◌, ◌++◌, [], None,
 use Rattle.std.specs.Option.{option_map}
 use Rattle.values.specs.Lent.{value_of}
 use Rattle.std.proofs.lemmas.Option.{get_or_from_slice_get, slice_get_within}
-use Rattle.std.proofs.lemmas.List.{take_all, take_more}
-use Rattle.std.proofs.lemmas.Result.{IfOk-weaker}
+use Rattle.std.proofs.lemmas.List.{take_more}
 use Rattle.merge.specs.View.{modified_values, row_of}
 use Rattle.merge.proofs.ViewLemmas.{length-modified, value_in_place}
 use Rattle.merge.proofs.view.RowView.copy_gathered.Goals as goal
@@ -32,9 +31,3 @@ value_or-requires-clause-modified c =
     let lt : c.loop-col.col < length (modified_values v) = omega (arith, length-modified v, c.width-width.ensures, c.loop-col-test.true) in
     let place = value_in_place c.in_ok-modified.modified.items (modified_values v) c.loop-col.col c.in_ok-modified.ensures lt in
     place.1 ∙ ap (λ xs. Some (option_map value_of (get_or xs c.loop-col.col None))) (sym c.deref.ensures)
-
-pub returns : goal.returns
-returns c =
-    let row = row_of c.args.self.now in
-    let all = c.loop-col.invariant ∙ take_all c.loop-col.col row (omega (arith, c.width-width.ensures, c.loop-col-test.false)) in
-    IfOk-weaker c.new.result _ _ (λ made is. is ∙ all) c.new.ensures

@@ -1,6 +1,5 @@
 use Rattle.std.proofs.Common.{◌<◌, ◌++◌, ◌∷◌, [], Some, length, get_or, sym, ap, ◌∙◌, arith}
 use Rattle.std.proofs.lemmas.List.{take_more, take_all}
-use Rattle.std.proofs.lemmas.Result.{IfOk-weaker}
 use Rattle.std.proofs.lemmas.Option.{slice_get-get_or, get_or_from_slice_get, slice_get_within}
 use Rattle.values.specs.Lent.{value_of}
 use Rattle.values.specs.declared.row.Row.{Row}
@@ -29,5 +28,8 @@ returns c =
     let wide =
     ap (λ (t : Stable). length (get_or t.rows c.args.sid [])) (sym c.self.view_is)
     ∙ row_width inside.schema inside.count inside.columns.items c.self.invariant c.args.sid present in
-    let all = c.loop-col.invariant ∙ take_all c.loop-col.col row (omega (arith, wide, c.width-width.ensures.columns, c.loop-col-test.false)) in
-    IfOk-weaker c.new.result _ _ (λ made is. slice_get-get_or s.rows c.args.sid [] c.requires ∙ ap Some (sym (is ∙ all))) c.new.ensures
+    slice_get-get_or s.rows c.args.sid [] c.requires
+    ∙ ap Some
+    (sym (c.new.ensures
+    ∙ c.loop-col.invariant
+    ∙ take_all c.loop-col.col row (omega (arith, wide, c.width-width.ensures.columns, c.loop-col-test.false))))

@@ -8,7 +8,7 @@ use Rattle.txn.specs.Edit.{is_inserted, is_there}
 use Rattle.txn.specs.Txn.{Transaction, transaction_at, entries_of, IsTransaction, tree_of}
 use Rattle.txn.proofs.TxnLemmas.{IsSeen, seen, seen_place, seen_may, seen_room, seen_next, seen_tree, tree_ordered, tree_split}
 use Rattle.txn.specs.Version.{table_version}
-use Rattle.txn.proofs.transaction.Txn.write.Goals as goal
+use Rattle.txn.proofs.transaction.Txn.enter.Goals as goal
 
 -- what a transaction's fields keep
 abbrev Kept : Tree → Transaction → Type 0
