@@ -14,6 +14,7 @@
 #include <stdlib.h>
 #include <string.h>
 #include <sys/stat.h>
+#include <sys/types.h>
 #include <unistd.h>
 
 /* ---- the exports: a handle is a struct of one pointer, a slice its pointer and its length */
@@ -37,7 +38,13 @@ typedef struct {
   size_t len;
 } offsets;
 
-extern uint32_t pdtr_open(const uint8_t *, size_t, size_t, uint64_t, bool, handle *);
+/* the first fault of a text: the record, which counts from 1, the column, and which of text_faults says what is wrong */
+typedef struct {
+  uint64_t row, column;
+  uint32_t cause;
+} text_fault;
+
+extern uint32_t pdtr_open(const uint8_t *, size_t, size_t, uint64_t, bool, text_fault *, handle *);
 extern uint32_t pdtr_open_columns(const uint8_t *, size_t, size_t, const numbers *, size_t, const offsets *, size_t, const slice *,
                                   size_t, size_t, uint64_t, bool, pdt_place *, handle *);
 extern uint32_t pdtr_recover(const uint8_t *, size_t, const slice *, size_t, size_t, uint64_t, bool, uint32_t *, handle *);
@@ -50,8 +57,8 @@ extern uint64_t pdtr_commits(handle *);
 extern size_t pdtr_write_entries(handle *);
 extern size_t pdtr_read_entries(handle *);
 extern uint32_t pdtr_fold(handle *);
-extern void pdtr_cut(handle *);
-extern uint32_t pdtr_checkpoint(handle *, handle *);
+extern void pdtr_cut(handle *, handle *);
+extern void pdtr_history_close(handle *);
 extern size_t pdtr_image_len(handle *, size_t);
 extern size_t pdtr_image_read(handle *, size_t, size_t, uint8_t *, size_t);
 extern void pdtr_image_close(handle *);
@@ -83,6 +90,7 @@ extern uint32_t pdtr_entry(handle *, size_t, pdt_entry *, int64_t *, size_t, uin
 extern uint32_t pdtr_prepare(handle *, handle *, uint64_t *, handle *);
 extern uint32_t pdtr_install(handle *, handle *, handle *, uint64_t *);
 extern void pdtr_give_up(handle *);
+extern uint32_t pdtr_share(handle *, handle *);
 extern uint32_t pdtr_checkpoint_begin(handle *, handle *);
 extern uint32_t pdtr_snapshot_table(handle *, handle *);
 extern uint32_t pdtr_table_image(handle *, handle *);
@@ -109,6 +117,7 @@ struct pdt_txn {
   pdt_store *store;
   handle decision; /* of a prepared commit: the store's lock is held then */
   pthread_t by;    /* the thread that prepared it, and holds the lock */
+  pid_t process;   /* of that thread: a child of fork has a thread of the same name, and no lock */
 };
 
 /* Takes the store's lock. PDT_MISUSE where this thread has it, since a commit of its own is prepared. */
@@ -207,13 +216,40 @@ static int adopt(pdt_store *store, pdt_store **out) {
   return PDT_OK;
 }
 
+/* What is told of the first fault of a text: a cause of which there is no sentence has the code's. */
+static pdt_fault fault_of(const text_fault *found) {
+  static const char *const text_faults[] = {
+      NULL,
+      "there is no header",
+      "the cell isn't a name of 1 to 64 bytes, a colon and a type, or it is a key column after one that is not",
+      "the header has no column",
+      "the header has more than 32 columns",
+      "the key has no column, or more than 4",
+      "the column has the name of an earlier one",
+      "the record has not as many cells as the header",
+      "the text is not UTF-8",
+      "the cell is no value of the column's type",
+      "the text has more than 4,096 bytes",
+      "the key is that of an earlier record",
+  };
+  bool is_known = found->cause && found->cause < sizeof text_faults / sizeof *text_faults;
+  return (pdt_fault){{found->row, found->column}, is_known ? text_faults[found->cause] : pdt_text(PDT_BAD_TABLE)};
+}
+
 int pdt_open(const void *csv, size_t bytes, const pdt_options *options, pdt_store **out) {
+  return pdt_open_csv(csv, bytes, options, NULL, out);
+}
+
+int pdt_open_csv(const void *csv, size_t bytes, const pdt_options *options, pdt_fault *fault, pdt_store **out) {
   if (!out) return PDT_MISUSE;
   *out = NULL;
   if (!csv && bytes) return PDT_MISUSE;
   pdt_store *store = calloc(1, sizeof *store);
   if (!store) return PDT_NOMEM;
-  int code = (int)pdtr_open(bytes_at(csv, bytes), bytes, recent_of(options), limit_of(options), rule_of(options), &store->raw);
+  text_fault found = {0, 0, 0};
+  int code = (int)pdtr_open(bytes_at(csv, bytes), bytes, recent_of(options), limit_of(options), rule_of(options), &found,
+                            &store->raw);
+  if (code == PDT_BAD_TABLE && fault) *fault = fault_of(&found);
   if (code) {
     free(store);
     return code;
@@ -259,8 +295,10 @@ int pdt_fold(pdt_store *store) {
 
 int pdt_cut(pdt_store *store) {
   if (!store || enter(store)) return PDT_MISUSE;
-  pdtr_cut(&store->raw);
+  handle history = {NULL};
+  pdtr_cut(&store->raw, &history);
   leave(store);
+  if (history.at) pdtr_history_close(&history); /* without the lock: its records are many */
   return PDT_OK;
 }
 
@@ -292,7 +330,7 @@ void pdt_abort(pdt_txn *txn) {
   pdt_store *store = txn->store;
   pdtr_abort(&txn->raw); /* what it shares with the store is counted atomically */
   free(txn);
-  atomic_fetch_sub_explicit(&store->open, 1, memory_order_release); /* the last touch: the store may be closed from now on */
+  store->open--; /* the last touch, after all before it in every thread's eyes: the store may be closed from now on */
 }
 
 int pdt_commit(pdt_txn *txn, uint64_t *commits) {
@@ -319,6 +357,7 @@ int pdt_prepare(pdt_txn *txn, uint64_t *commits) {
   int code = (int)pdtr_prepare(&store->raw, &txn->raw, &number, &txn->decision);
   if (code == PDT_OK) {
     txn->by = pthread_self(); /* and keeps the lock */
+    txn->process = getpid();
   } else if (code == PDT_NOMEM) {
     leave(store);
     return code;
@@ -332,7 +371,9 @@ int pdt_prepare(pdt_txn *txn, uint64_t *commits) {
   return code;
 }
 
-static bool is_prepared_here(const pdt_txn *txn) { return txn && txn->decision.at && pthread_equal(txn->by, pthread_self()); }
+static bool is_prepared_here(const pdt_txn *txn) {
+  return txn && txn->decision.at && pthread_equal(txn->by, pthread_self()) && txn->process == getpid();
+}
 
 int pdt_install(pdt_txn *txn) {
   if (!is_prepared_here(txn)) return PDT_MISUSE;
@@ -402,9 +443,12 @@ int pdt_rows(pdt_txn *txn, uint64_t *rows) {
 
 int pdt_rank(pdt_txn *txn, const int64_t *key, const void *texts, size_t bytes, uint64_t *below, bool *there) {
   if (!txn || !key || (!texts && bytes) || !below || !there) return PDT_MISUSE;
-  *below = 0;
-  *there = false;
-  return (int)pdtr_rank(&txn->raw, key, txn->store->key, bytes_at(texts, bytes), bytes, below, there);
+  uint64_t position = 0;
+  bool is_there = false;
+  int code = (int)pdtr_rank(&txn->raw, key, txn->store->key, bytes_at(texts, bytes), bytes, &position, &is_there);
+  *below = position;
+  *there = is_there;
+  return code;
 }
 
 int pdt_get(pdt_txn *txn, const int64_t *key, const void *texts, size_t bytes, int64_t *numbers, void *out, size_t room,
@@ -521,11 +565,33 @@ int pdt_entry_at(pdt_layer *layer, size_t index, pdt_entry *entry, int64_t *numb
 
 enum { PATH_BYTES = 4096, CHUNK = 1 << 20 };
 
-/* The path of a file of a store: the header's where column is negative. */
+/* The path of a file of a store: the header's where column is negative. No path is empty: that would be the root folder's. */
 static int path_of(char *path, const char *folder, int column) {
+  if (!*folder) return PDT_MISUSE;
   int len = column < 0 ? snprintf(path, PATH_BYTES, "%s/header.csv", folder)
                        : snprintf(path, PATH_BYTES, "%s/column-%d.pdt", folder, column);
   return len >= 0 && len < PATH_BYTES ? PDT_OK : PDT_MISUSE;
+}
+
+/* Opens a file, under a number above those of the standard streams: where they are closed it would be taken for one. */
+static int open_file(const char *path, int how) {
+  int file;
+  do file = open(path, how | O_CLOEXEC, 0666);
+  while (file < 0 && errno == EINTR);
+  if (file < 0 || file > 2) return file;
+  int moved = fcntl(file, F_DUPFD_CLOEXEC, 3), why = errno;
+  close(file);
+  if (moved < 0 && how & O_CREAT) unlink(path);
+  errno = why;
+  return moved;
+}
+
+/* A call that a signal has cut off is made again. */
+static int sync_file(int file) {
+  int bad;
+  do bad = fsync(file);
+  while (bad && errno == EINTR);
+  return bad;
 }
 
 static int write_all(int file, const uint8_t *bytes, size_t len) {
@@ -540,10 +606,12 @@ static int write_all(int file, const uint8_t *bytes, size_t len) {
   return PDT_OK;
 }
 
-/* Closes a file whose bytes stand written, synced first. */
+/* Closes a file whose bytes stand written, synced first. A close that a signal cuts off has closed it. */
 static int end_file(int file, int code) {
-  if (!code && fsync(file)) code = PDT_IO;
-  if (close(file) && !code) code = PDT_IO;
+  if (!code && sync_file(file)) code = PDT_IO;
+  int why = errno;
+  if (close(file) && errno != EINTR && !code) return PDT_IO;
+  errno = why;
   return code;
 }
 
@@ -551,7 +619,7 @@ static int end_file(int file, int code) {
 static int make_file(const char *folder, int column, int *made) {
   char path[PATH_BYTES];
   if (path_of(path, folder, column)) return -PDT_MISUSE;
-  int file = open(path, O_WRONLY | O_CREAT | O_EXCL | O_CLOEXEC, 0666);
+  int file = open_file(path, O_WRONLY | O_CREAT | O_EXCL);
   if (file < 0) return errno == EEXIST ? -PDT_EXISTS : -PDT_IO;
   *made = column + 1;
   return file;
@@ -586,21 +654,43 @@ static int write_column(handle *image, const char *folder, size_t column, uint8_
   return file < 0 ? -file : end_file(file, hand_column(image, column, chunk, append, &file) ? PDT_OK : PDT_IO);
 }
 
-/* Syncs the folder, so that the names of the files in it last. */
+/* Syncs a folder, so that the names in it last. Some file systems sync no folder, and answer EINVAL. */
 static int sync_folder(const char *folder) {
-  int file = open(folder, O_RDONLY | O_CLOEXEC);
+  int file = open_file(folder, O_RDONLY | O_DIRECTORY);
   if (file < 0) return PDT_IO;
-  int bad = fsync(file);
-  return close(file) || bad ? PDT_IO : PDT_OK;
+  int code = sync_file(file) && errno != EINVAL ? PDT_IO : PDT_OK;
+  int why = errno;
+  close(file); /* nothing was written through it */
+  errno = why;
+  return code;
 }
 
-static int has_store(const pdt_store *store, const char *folder) {
+/* Syncs the folder, and the one that it stands in, so that its own name lasts: that one may be another's, and not be read. */
+static int sync_names(const char *folder) {
+  char parent[PATH_BYTES];
+  int code = sync_folder(folder), len = snprintf(parent, sizeof parent, "%s/..", folder);
+  if (code || len < 0 || len >= PATH_BYTES) return code;
+  return sync_folder(parent) && errno != EACCES && errno != EPERM ? PDT_IO : PDT_OK;
+}
+
+/* Whether a store can be made in a folder: it is there, may be read, and has no file of one. Nothing is changed by it. */
+static int try_folder(const pdt_store *store, const char *folder) {
   char path[PATH_BYTES];
   for (int column = -1; column < (int)store->width; column++) {
     if (path_of(path, folder, column)) return PDT_MISUSE;
     if (!access(path, F_OK)) return PDT_EXISTS;
   }
+  int file = open_file(folder, O_RDONLY | O_DIRECTORY);
+  if (file < 0) return PDT_IO;
+  close(file);
   return PDT_OK;
+}
+
+/* Frees the room for a chunk, and errno goes on saying why a file failed. */
+static void free_chunk(uint8_t *chunk) {
+  int why = errno;
+  free(chunk);
+  errno = why;
 }
 
 /* Takes away the files from the header's up to this column's, which this call made. errno goes on saying why. */
@@ -617,33 +707,8 @@ static int write_files(const pdt_store *store, handle *image, const char *folder
   int made = -1;
   int code = write_header(store, folder, &made);
   for (size_t column = 0; column < store->width && !code; column++) code = write_column(image, folder, column, chunk, &made);
-  if (!code) code = sync_folder(folder);
+  if (!code) code = sync_names(folder);
   if (code) remove_files(folder, made);
-  return code;
-}
-
-/* Makes the bytes of a checkpoint of the newest table. */
-static int make_image(pdt_store *store, handle *image) {
-  if (enter(store)) return PDT_MISUSE;
-  int code = (int)pdtr_checkpoint(&store->raw, image);
-  if (!code) store->rebuilt++;
-  leave(store);
-  return code;
-}
-
-int pdt_checkpoint(pdt_store *store, const char *folder) {
-  if (!store || !folder) return PDT_MISUSE;
-  int code = has_store(store, folder);
-  if (code) return code;
-  uint8_t *chunk = malloc(CHUNK);
-  if (!chunk) return PDT_NOMEM;
-  handle image = {NULL};
-  code = make_image(store, &image);
-  if (!code) {
-    code = write_files(store, &image, folder, chunk);
-    pdtr_image_close(&image);
-  }
-  free(chunk);
   return code;
 }
 
@@ -684,7 +749,7 @@ int pdt_checkpoint_begin(pdt_store *store, uint64_t *commits, pdt_snapshot **out
 
 int pdt_checkpoint_write(pdt_snapshot *snapshot, const char *folder) {
   if (!snapshot || snapshot->is_written || !folder) return PDT_MISUSE;
-  int code = has_store(snapshot->store, folder);
+  int code = try_folder(snapshot->store, folder);
   if (code) return code;
   uint8_t *chunk = malloc(CHUNK);
   if (!chunk) return PDT_NOMEM;
@@ -693,9 +758,11 @@ int pdt_checkpoint_write(pdt_snapshot *snapshot, const char *folder) {
   if (!code) code = (int)pdtr_table_image(&snapshot->table, &image);
   if (!code) {
     code = write_files(snapshot->store, &image, folder, chunk);
+    int why = errno;
     pdtr_image_close(&image);
+    errno = why;
   }
-  free(chunk);
+  free_chunk(chunk);
   snapshot->is_written = !code;
   return code;
 }
@@ -722,9 +789,75 @@ void pdt_checkpoint_end(pdt_snapshot *snapshot) {
   if (!held) leave(store);
 }
 
+/* ---- a checkpoint in one call: nothing changes before all of it is written */
+
+/* The newest table and its bytes, made without the lock. */
+typedef struct {
+  handle version, table, image;
+  uint64_t commits; /* the number of the table */
+} draft;
+
+static int make_draft(pdt_store *store, draft *made) {
+  if (enter(store)) return PDT_MISUSE;
+  int code = (int)pdtr_share(&store->raw, &made->version);
+  made->commits = pdtr_commits(&store->raw);
+  leave(store);
+  if (!code) code = (int)pdtr_snapshot_table(&made->version, &made->table);
+  if (!code) code = (int)pdtr_table_image(&made->table, &made->image);
+  return code;
+}
+
+static void end_draft(draft *made) {
+  int why = errno;
+  if (made->image.at) pdtr_image_close(&made->image);
+  if (made->table.at) pdtr_table_close(&made->table);
+  if (made->version.at) pdtr_snapshot_close(&made->version);
+  errno = why;
+}
+
+/* Makes the newest table the stable one in memory: the table that was written or, where commits came since, one that is made
+   anew. Where a fold or another checkpoint comes between, its layers stay. */
+static int install_draft(pdt_store *store, draft *made) {
+  pdt_snapshot *snapshot = NULL;
+  uint64_t commits = 0;
+  int code = pdt_checkpoint_begin(store, &commits, &snapshot);
+  if (code) return code;
+  if (commits == made->commits) {
+    snapshot->table = made->table;
+    made->table.at = NULL;
+  } else {
+    code = (int)pdtr_snapshot_table(&snapshot->version, &snapshot->table);
+  }
+  snapshot->is_written = !code;
+  if (!code) code = pdt_checkpoint_install(snapshot);
+  pdt_checkpoint_end(snapshot);
+  return code == PDT_SUPERSEDED ? PDT_OK : code;
+}
+
+int pdt_checkpoint(pdt_store *store, const char *folder) {
+  if (!store || !folder || enter(store)) return PDT_MISUSE;
+  leave(store); /* no commit of this thread is prepared: that is said before the folder is looked at */
+  int code = try_folder(store, folder);
+  if (code) return code;
+  uint8_t *chunk = malloc(CHUNK);
+  if (!chunk) return PDT_NOMEM;
+  draft made = {{NULL}, {NULL}, {NULL}, 0};
+  code = make_draft(store, &made);
+  if (!code) code = write_files(store, &made.image, folder, chunk);
+  if (!code) {
+    code = install_draft(store, &made);
+    if (code) remove_files(folder, (int)store->width);
+  }
+  end_draft(&made);
+  free_chunk(chunk);
+  return code;
+}
+
+/* ---- recovery */
+
 /* Reads a file whole into memory, which is the caller's to free. */
 static int read_file(const char *path, uint8_t **bytes, size_t *len) {
-  int file = open(path, O_RDONLY | O_CLOEXEC);
+  int file = open_file(path, O_RDONLY);
   if (file < 0) return PDT_IO;
   struct stat about;
   int code = fstat(file, &about) ? PDT_IO : PDT_OK;
@@ -752,7 +885,8 @@ static int read_file(const char *path, uint8_t **bytes, size_t *len) {
 /* How many columns the header of a store has: it is the text of a table with no rows. */
 static int width_of(const uint8_t *header, size_t len, size_t *width) {
   handle table = {NULL};
-  int code = (int)pdtr_open(bytes_at(header, len), len, 1, 2147483647, false, &table);
+  text_fault found = {0, 0, 0};
+  int code = (int)pdtr_open(bytes_at(header, len), len, 1, 2147483647, false, &found, &table);
   if (code) return code;
   *width = pdtr_width(&table);
   pdtr_close(&table);
@@ -878,17 +1012,18 @@ int pdt_checkpoint_to(pdt_store *store, pdt_write write, void *context, size_t *
   if (!store || !write) return PDT_MISUSE;
   uint8_t *chunk = malloc(CHUNK);
   if (!chunk) return PDT_NOMEM;
-  handle image = {NULL};
-  int code = make_image(store, &image);
+  draft made = {{NULL}, {NULL}, {NULL}, 0};
+  int code = make_draft(store, &made);
   if (!code) {
     char header[HEADER_BYTES];
     size_t at = PDT_HEADER, len = header_of(store, header);
     if (write(context, at, (const uint8_t *)header, len)) code = PDT_DEVICE_FAILED;
     while (!code && ++at < store->width)
-      if (!hand_column(&image, at, chunk, write, context)) code = PDT_DEVICE_FAILED;
+      if (!hand_column(&made.image, at, chunk, write, context)) code = PDT_DEVICE_FAILED;
     if (code && column) *column = at;
-    pdtr_image_close(&image);
   }
-  free(chunk);
+  if (!code) code = install_draft(store, &made);
+  end_draft(&made);
+  free_chunk(chunk);
   return code;
 }

@@ -7,11 +7,13 @@
    thread at a time; transactions of several threads read and write side by side, and take no lock but to begin and to commit.
    A thread that has a commit prepared keeps the store's lock until it is installed or given up, and doesn't end before.
    Threads that then make calls on other stores do so in one order of the stores, or each may wait for the other for ever.
-   No call is made in a signal handler.
+   No call is made in a signal handler. A child of fork makes no call on what its parent opened: it has a copy of the lock, which
+   a thread that isn't there may hold for ever. Of a commit that the parent has prepared it is told PDT_MISUSE.
 
    Memory. Every call that can want memory answers PDT_NOMEM where malloc refuses it, and then the table, the transaction
    and the history are as they were. No call aborts. What a call writes goes into room that the caller owns; only what
-   pdt_pieces and pdt_texts hand out is the library's, and stays where it is for as long as each of them says.
+   pdt_pieces and pdt_texts hand out is the library's, and stays where it is for as long as each of them says. What a call
+   writes lies over nothing else that it is passed: neither over another room nor over a key.
 
    Errors. A call that can fail returns a code; PDT_OK is 0. PDT_MISUSE is told of what can be seen: a null pointer where
    none may be, a store that is closed while transactions are open, a call on a store of which this thread has a commit
@@ -44,7 +46,7 @@ enum pdt_code {
   PDT_MISSING = 6,        /* there is no row of the key, none at the position, or no such mark */
   PDT_SHAPE = 7,          /* the cells don't fit the columns: their number, a type, UTF-8, a text above 4,096 bytes, a key
                              column that would be set, bytes left over */
-  PDT_BAD_TABLE = 8,      /* the text is no table */
+  PDT_BAD_TABLE = 8,      /* the text is no table: pdt_open_csv tells why and where */
   PDT_BAD_LIMIT = 9,      /* a limit is outside its range */
   PDT_TOO_MANY_ROWS = 10, /* the table has more rows than the limit */
   PDT_TOO_SMALL = 11,     /* the caller's room is too small */
@@ -83,6 +85,23 @@ typedef struct pdt_options {
    The text may go after the call. */
 int pdt_open(const void *csv, size_t bytes, const pdt_options *options, pdt_store **store);
 
+/* A row and a column. */
+typedef struct pdt_place {
+  uint64_t row;
+  uint64_t column;
+} pdt_place;
+
+/* Why a text is no table: a sentence in English, which is never null and stays as long as the program, and where. Here the row
+   is the record, which counts from 1 with the header; the column counts from 0, and is 0 where the whole record is meant. */
+typedef struct pdt_fault {
+  pdt_place place;
+  const char *cause;
+} pdt_fault;
+
+/* As pdt_open; at PDT_BAD_TABLE *fault, which may be null, says what is wrong and where: the first fault of the text. The header
+   comes first, then record by record how many cells there are and each cell from the left, and the keys last. */
+int pdt_open_csv(const void *csv, size_t bytes, const pdt_options *options, pdt_fault *fault, pdt_store **store);
+
 /* A column that is handed over: its name, its type, and where the values of so many rows lie. */
 typedef struct pdt_column {
   const char *name; /* 1 to 64 bytes of UTF-8 with no colon, and a zero byte */
@@ -94,15 +113,10 @@ typedef struct pdt_column {
   size_t len;              /* of a text column: how many bytes there are */
 } pdt_column;
 
-/* The row and the column of a fault, which count from 0. */
-typedef struct pdt_place {
-  uint64_t row;
-  uint64_t column;
-} pdt_place;
-
 /* Opens a store over so many columns, the first key of which are the key; all have as many rows, in ascending key.
-   PDT_SHAPE: the value at *place is none of its type, or the column ends before that row, or goes on past the others; a text
-   has offsets that descend or pass the bytes, is no UTF-8, or has more than 4,096 bytes. PDT_NOT_ASCENDING: at place->row.
+   PDT_SHAPE: the value at *place, whose row and column count from 0, is none of its type, or the column ends before that row, or
+   goes on past the others; a text has offsets that descend or pass the bytes, is no UTF-8, or has more than 4,096 bytes.
+   PDT_NOT_ASCENDING: at place->row.
    The columns are looked at one after the other, and the keys last. PDT_BAD_TABLE (a name, a type, a key), and
    PDT_TOO_MANY_ROWS, PDT_BAD_LIMIT, PDT_NOMEM, PDT_MISUSE: *store is null then. place may be null.
    The values are copied into the table, and may go after the call; no row is made. */
@@ -111,7 +125,10 @@ int pdt_open_columns(const pdt_column *columns, size_t count, size_t key, const 
 
 /* Opens a store over the image that pdt_checkpoint, or the program `pdt --store`, left in a folder.
    PDT_IO, PDT_BAD_TABLE (the header), PDT_BAD_STORE, PDT_NO_IMAGE, and those of pdt_open: *store is null then.
-   The files are read whole, and not touched. */
+   The files are read whole, and not touched.
+   What is found is a file that is cut short, and bytes that are no column or no table. Damage is not: the formats have no check,
+   and bytes that changed on the disk may be another table, which is opened with PDT_OK. An engine that is to notice damage
+   keeps checksums of the files itself. */
 int pdt_recover(const char *folder, const pdt_options *options, pdt_store **store);
 
 /* Bytes that a caller has: those of a column of an image. */
@@ -152,13 +169,22 @@ int pdt_size(pdt_store *store, pdt_sizes *sizes);
    transaction. PDT_NOMEM, PDT_MISUSE. Begins and commits wait for it. */
 int pdt_fold(pdt_store *store);
 
-/* Lets the history so far go, so that it takes no memory. A transaction that began before is PDT_TOO_OLD at its commit;
-   it reads on. PDT_MISUSE. */
+/* Lets the history so far go, so that it takes no memory. A transaction that began before the newest commit is PDT_TOO_OLD at
+   its commit, and reads on; one that began after it commits as ever. PDT_MISUSE.
+   It takes no memory. What it lets go is freed without the lock, but for the changes of the last commits, and where malloc
+   refuses a small block. */
 int pdt_cut(pdt_store *store);
 
-/* Writes the newest table into a folder that has no store, as header.csv and column-N.pdt, each synced, and the folder
-   after them; in memory it is the stable table then. PDT_EXISTS, PDT_IO, PDT_NOMEM, PDT_MISUSE: what was written is
-   removed. Once it answers PDT_OK the table is durable; begins and commits wait only while the bytes are made. */
+/* Writes the newest table into a folder that has no store, as header.csv and column-N.pdt, each synced, then the folder, and
+   then the one that it stands in. Once it answers PDT_OK the table is durable, as far as these go: who made folders further up
+   syncs those, and who may not read the one above (EACCES, EPERM) has it synced by its owner. A folder whose file system
+   syncs none (EINVAL) is passed over.
+   In memory it is the stable table then, with what was committed meanwhile. Where a fold or another checkpoint comes in the
+   middle, the layers are as that left them.
+   PDT_EXISTS, PDT_IO, PDT_NOMEM, PDT_MISUSE: what was written is removed, the stable table is as it was, and a checkpoint that
+   has begun elsewhere stays good. (A PDT_NOMEM that comes after the writing may have folded.) The folder is there, and may be
+   read: else PDT_IO. PDT_MISUSE also of an empty path.
+   Begins and commits wait for two folds, and neither for the making of the table nor for its files. */
 int pdt_checkpoint(pdt_store *store, const char *folder);
 
 /* What takes the bytes of a checkpoint: len of them, which come after those that it took of the column so far, and lie there
@@ -169,10 +195,11 @@ typedef int (*pdt_write)(void *context, size_t column, const uint8_t *bytes, siz
 #define PDT_HEADER ((size_t)-1)
 
 /* Hands the bytes that store the newest table to write, in order: those of the header, then of each column from the first on.
-   In memory it is the stable table then. PDT_DEVICE_FAILED where write answers other than 0: *column, if not null, is that of
-   the bytes; nothing is asked of write after it, and what it took is no store. PDT_NOMEM, PDT_MISUSE.
-   The caller makes the bytes durable. Begins and commits wait only while they are made, and write is called by this thread
-   without the lock. */
+   In memory it is the stable table then, as after pdt_checkpoint. PDT_DEVICE_FAILED where write answers other than 0: *column,
+   if not null, is that of the bytes; nothing is asked of write after it, and what it took is no store. PDT_NOMEM, PDT_MISUSE.
+   After these codes the stable table is as it was.
+   The caller makes the bytes durable. Begins and commits wait for two folds, and write is called by this thread without the
+   lock. */
 int pdt_checkpoint_to(pdt_store *store, pdt_write write, void *context, size_t *column);
 
 /* ---- a checkpoint while others commit: it begins and is installed under the lock, and is written without it */
@@ -186,9 +213,9 @@ typedef struct pdt_snapshot pdt_snapshot;
    It folds, and begins and commits wait for that. */
 int pdt_checkpoint_begin(pdt_store *store, uint64_t *commits, pdt_snapshot **snapshot);
 
-/* Writes that table into a folder as pdt_checkpoint does, and takes no lock. Once it answers PDT_OK the table is durable.
-   PDT_EXISTS, PDT_IO, PDT_NOMEM: what was written is removed, and it may be asked for again. PDT_MISUSE, also once it is
-   done. It takes the memory of the table, and twice that of its bytes. */
+/* Writes that table into a folder as pdt_checkpoint does, and takes no lock. Once it answers PDT_OK the table is durable, as it
+   is there. PDT_EXISTS, PDT_IO, PDT_NOMEM: what was written is removed, nothing in memory has changed, and it may be asked
+   for again. PDT_MISUSE, also once it is done. It takes the memory of the table, and twice that of its bytes. */
 int pdt_checkpoint_write(pdt_snapshot *snapshot, const char *folder);
 
 /* Makes what was written the stable table in memory: the commits since the begin stay in the Write-PDT, and no table changes.

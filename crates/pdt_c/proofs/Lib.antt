@@ -5,3 +5,4 @@ mod NumberLemmas
 mod TextLemmas
 mod EntryLemmas
 mod FillingLemmas
+mod Crossing

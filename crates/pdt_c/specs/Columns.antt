@@ -1,5 +1,5 @@
 -- What comes of opening a manager over columns that C passes.
-use Rattle.std.specs.Prelude.{◌≡◌, ◌≢◌, ◌⊎◌, ℕ, Bool, Option, IsSome, IfSome, List, get_or}
+use Rattle.std.specs.Prelude.{◌≡◌, ◌≢◌, ◌<◌, ◌⊎◌, ℕ, Bool, Option, IsSome, IfSome, List, get_or, length}
 use Rattle.values.specs.Shape.{Columns}
 use Rattle.values.specs.declared.value.ColumnType.TheVariants as column
 use Rattle.stable.specs.Stable.{Stable}
@@ -23,6 +23,7 @@ pub record OpensPassed (schema : Columns) (all : AllGiven) (rows row_limit recen
   pub done : code ≡ DONE → IfSome new (IsOpenedOnPassed schema all rows row_limit recent by_row)
   pub held : code ≡ DONE → IsSome new
   pub refused : code ≢ DONE → new ≡ old
+  pub there : code ≡ SHAPE → place.column < length schema.types
   pub value : code ≡ SHAPE → IsUnfilled (get_or schema.types place.column column.Int) (given_at all place.column) rows place.row
   pub order : code ≡ NOT_ASCENDING → IsNoTable schema all rows (NotAscending place.row)
 

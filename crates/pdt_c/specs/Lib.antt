@@ -2,6 +2,7 @@ pub mod Held
 pub mod Cells
 pub mod Told
 pub mod Opening
+pub mod TextFaults
 pub mod Writes
 pub mod Marks
 pub mod Reads

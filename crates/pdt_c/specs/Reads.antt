@@ -1,5 +1,5 @@
 -- What C is handed of a transaction's image.
-use Rattle.std.specs.Prelude.{◌≡◌, ◌≤◌, ℕ, ℤ, Bool, List, Some, None, length, take, drop, slice_get, is_some}
+use Rattle.std.specs.Prelude.{◌≡◌, ◌≤◌, ◌<◌, ℕ, ℤ, Bool, List, Some, None, length, take, drop, slice_get, is_some}
 use Rattle.values.specs.declared.value.Value.{Value}
 use Rattle.model.specs.Table.{rank, row_at, rows_of}
 use Rattle.stable.specs.Rows.{column_values}
@@ -17,6 +17,20 @@ pub record HandsRow (txn : Transaction) (rid : ℕ) (numbers : List ℤ) (texts 
   pub row : List Value
   pub there : slice_get (rows_of (image_of txn)) rid ≡ Some row
   pub handed : IsHanded row numbers texts bytes
+
+-- the texts of the row at a position have more bytes than there is room for, where its numbers have room
+pub record NeedsRoom (txn : Transaction) (rid numbers texts needed : ℕ) : Type 0 where
+  pub row : List Value
+  pub there : slice_get (rows_of (image_of txn)) rid ≡ Some row
+  pub more : length row ≤ numbers → texts < needed
+
+-- the same of the row of the key that C passed
+pub record NeedsRoomOf (txn : Transaction) (key_numbers : List ℤ) (key_texts : List ℕ) (numbers texts needed : ℕ) : Type 0 where
+  pub key : List Value
+  pub passed : ArePassed (key_types txn) key_numbers key_texts key
+  pub row : List Value
+  pub there : row_at (image_of txn) key ≡ Some row
+  pub more : length row ≤ numbers → texts < needed
 
 -- the row of the key that C passed was handed out
 pub record HandsRowOf (txn : Transaction) (key_numbers : List ℤ) (key_texts : List ℕ)

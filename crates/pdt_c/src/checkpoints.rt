@@ -1,16 +1,11 @@
-//! Checkpoints: the newest image as bytes, which C writes to files.
-ghost use Rattle.std.specs.Prelude.{◌≡◌, ◌≢◌, ◌≤◌, take, drop, length, IsSome, IfSome, Some, None};
-ghost use Rattle.manager.specs.Managed.{rebuilt_of};
+//! The bytes that store a table, which C writes to files.
+ghost use Rattle.std.specs.Prelude.{◌≡◌, ◌≤◌, take, drop, length, IsSome, IfSome, None};
 ghost use Rattle.pdt_c.specs.Stored.{bytes_at};
-ghost use Rattle.pdt_c.specs.declared.codes.TheConstants.{DONE};
 
 use crate::byte_column::{ByteColumn, Slot};
+use crate::checkpoint;
 use crate::checkpoint::{Checkpoint, Columns};
-use crate::codes::{DONE, NO_MEMORY, code_of_store};
-use crate::store::Store as StoreHandle;
-use crate::{checkpoint, store};
 use devices::{ColumnDevice, Store, StoreFault, have_failed};
-use manager::Manager;
 use once_cell::race::OnceBox;
 use stable::StableTable;
 use std::alloc::Global;
@@ -19,46 +14,6 @@ use values::NoMemory;
 
 /// The generation of the one image that a checkpoint's bytes store.
 const GENERATION: u32 = 1;
-
-/// Puts the bytes that store the newest image, those of each column for itself, into a handle that holds nothing. The
-/// image is the stable table then, under no entries. No table changes.
-#[unsafe(no_mangle)]
-pub extern "C" fn pdtr_checkpoint(
-    alloc: Global,
-    store: &mut StoreHandle,
-    image: &mut Checkpoint,
-) -> u32
-    requires { IsSome store.old.value }
-    ensures held { IsSome store.new.value }
-
-    // The newest rows are the stable table then, or all is as it was.
-    ensures done { result ≡ DONE → IfSome store.old.value (λ m. store.new.value ≡ Some (rebuilt_of m)) }
-    ensures image { result ≡ DONE → IsSome image.new.value }
-    ensures refused { result ≢ DONE → (store.new.value ≡ store.old.value) × (image.new.value ≡ image.old.value) }
-{
-    let mut manager = store::take(alloc, store);
-    let code = checkpoint(alloc, &mut manager, image);
-    store::put(store, manager);
-    code
-}
-
-fn checkpoint(alloc: Global, manager: &mut Manager, image: &mut Checkpoint) -> u32
-    ensures done { result ≡ DONE → manager.new ≡ rebuilt_of manager.old }
-    ensures image { result ≡ DONE → IsSome image.new.value }
-    ensures refused { result ≢ DONE → (manager.new ≡ manager.old) × (image.new.value ≡ image.old.value) }
-{
-    let Ok(rebuilt) = manager.prepare_checkpoint() else {
-        return NO_MEMORY;
-    };
-    match stored_columns(alloc, rebuilt.table()) {
-        Ok(columns) => {
-            manager.install_checkpoint(rebuilt);
-            checkpoint::put(image, columns);
-            DONE
-        }
-        Err(fault) => code_of_store(fault),
-    }
-}
 
 /// The bytes that store a table, those of each column for itself.
 pub(crate) fn stored_columns(

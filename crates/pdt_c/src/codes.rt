@@ -1,7 +1,7 @@
 //! What a call answers C, as numbers. `pdt.h` has their names.
 ghost use Rattle.std.specs.Prelude.{◌≡◌, ◌≢◌, ◌<◌, ◌⊎◌, IfOk, IfErr, Ok, Err};
 ghost use Rattle.pdt_c.specs.Told.{told, code_of_reply};
-ghost use Rattle.pdt_c.specs.declared.codes.TheConstants.{NOT_ASCENDING, NO_MEMORY, SHAPE};
+ghost use Rattle.pdt_c.specs.declared.codes.TheConstants.{BAD_TABLE, NOT_ASCENDING, NO_MEMORY, SHAPE};
 ghost use Rattle.txn.specs.declared.fault.WriteFault.TheVariants as write_fault;
 
 use crate::cells::CellFault;
@@ -89,6 +89,7 @@ pub(crate) fn code_of_commit(reply: CommitReply) -> (u32, u64)
 
 pub(crate) fn code_of_table(fault: TableFault) -> u32
     ensures some { 0 < result }
+    ensures bad { result ≡ BAD_TABLE → fault ≢ TableFault.NoMemory }
     ensures other { (result ≢ SHAPE) × (result ≢ NOT_ASCENDING) }
 {
     match fault {
@@ -102,6 +103,7 @@ pub(crate) fn code_of_table(fault: TableFault) -> u32
 pub(crate) fn code_of_opening(fault: OpenFault) -> u32
     ensures some { 0 < result }
     ensures other { (result ≢ SHAPE) × (result ≢ NOT_ASCENDING) }
+    ensures well { result ≢ BAD_TABLE }
 {
     match fault {
         OpenFault::BadLimit => BAD_LIMIT,

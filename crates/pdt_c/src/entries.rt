@@ -1,5 +1,5 @@
 //! The entries of a layer, shown to C in order: those of the newest version's Read- and Write-PDT, and a transaction's own.
-ghost use Rattle.std.specs.Prelude.{◌≡◌, ◌≢◌, ◌⊎◌, IsSome, IfSome, Some, None, length, slice_get, take};
+ghost use Rattle.std.specs.Prelude.{◌≡◌, ◌≢◌, ◌<◌, ◌≤◌, ◌⊎◌, IsSome, IfSome, Some, None, length, slice_get, take};
 ghost use Rattle.model.specs.Entries.{IsLawful};
 ghost use Rattle.model.specs.Places.{rid_of_insert};
 ghost use Rattle.delta.specs.Lent.{change_of};
@@ -134,6 +134,7 @@ pub extern "C" fn pdtr_entry(
     // Where it is done, the entry's cells stand in C's room; where it is missing, the layer ends before it.
     ensures done { result ≡ DONE → IfSome layer.old.value (λ tree. HandsEntry tree index shown.new numbers.new texts.new) }
     ensures missing { result ≡ MISSING → IfSome layer.old.value (λ tree. slice_get tree.entries index ≡ None) }
+    ensures small { result ≡ TOO_SMALL → shown.new.cells ≤ length numbers.old → length texts.old < shown.new.bytes }
 {
     let held = layer::take(alloc, layer);
     let code = held.show(index, shown, numbers, texts);
@@ -152,6 +153,7 @@ impl LayerEntries {
         ensures code { (result ≡ DONE) ⊎ (result ≡ MISSING) ⊎ (result ≡ TOO_SMALL) }
         ensures done { result ≡ DONE → HandsEntry self.now index shown.new numbers.new texts.new }
         ensures missing { result ≡ MISSING → slice_get self.now.entries index ≡ None }
+        ensures small { result ≡ TOO_SMALL → shown.new.cells ≤ length numbers.old → length texts.old < shown.new.bytes }
     {
         match self.entries.get(index) {
             Some(entry) => show_entry(&self.tree, index, entry, shown, numbers, texts),
@@ -173,6 +175,7 @@ fn show_entry(
     requires there { slice_get tree.now.entries index ≡ Some entry.now }
     ensures code { (result ≡ DONE) ⊎ (result ≡ TOO_SMALL) }
     ensures done { result ≡ DONE → HandsEntry tree.now index shown.new numbers.new texts.new }
+    ensures small { result ≡ TOO_SMALL → shown.new.cells ≤ length numbers.old → length texts.old < shown.new.bytes }
 {
     let change = entry.change();
     let mut bytes = 0usize;
@@ -210,6 +213,8 @@ fn put_change(
     ensures numbers { result ≡ DONE → take (length (cells_of (change_of change.entry))) numbers.new
         ≡ numbers_of (cells_of (change_of change.entry)) }
     ensures texts { result ≡ DONE → take needed.new texts.new ≡ texts_of (cells_of (change_of change.entry)) }
+    ensures small { result ≡ TOO_SMALL → length (cells_of (change_of change.entry)) ≤ length numbers.old
+        → length texts.old < needed.new }
 {
     match change {
         ChangeRef::Ins(row) => put_cells(row.cells(), numbers, texts, needed),

@@ -3,14 +3,17 @@ ghost use Rattle.std.specs.Prelude.{◌≡◌, ◌≢◌, ℕ, List, Ok, IfOk, I
 ghost use Rattle.values.specs.declared.row.Row.{Row};
 ghost use Rattle.values.specs.Shape as shape;
 ghost use Rattle.stable.specs.Stable.{Stable};
-ghost use Rattle.inputs.specs.Input.{IsTableOf};
+ghost use Rattle.inputs.specs.Input.{IsFaultOf, IsTableOf};
+ghost use Rattle.inputs.specs.declared.fault.TableFault.{TableFault as Fault};
 ghost use Rattle.devices.specs.Stored as stored;
 ghost use Rattle.manager.specs.Managed.{Managed, opened};
 ghost use Rattle.pdt_c.specs.Opening.{rule_of, IsOpenedOn, IsRecoveredOn};
-ghost use Rattle.pdt_c.specs.declared.codes.TheConstants.{DONE, NOT_ASCENDING, SHAPE};
+ghost use Rattle.pdt_c.specs.TextFaults.{told_of};
+ghost use Rattle.pdt_c.specs.declared.codes.TheConstants.{BAD_TABLE, DONE, NOT_ASCENDING, SHAPE};
 
 use crate::codes::{DONE, NO_MEMORY, code_of_opening, code_of_reading, code_of_table};
 use crate::store::{Store, put, take};
+use crate::text_fault::{TextFault, tell};
 use devices::read_store;
 use inputs::load_table;
 use manager::Manager;
@@ -29,7 +32,7 @@ fn rule_of(by_row: bool) -> ConflictRule
     }
 }
 
-/// Opens a manager over the table of a text, into a handle that holds nothing.
+/// Opens a manager over the table of a text, into a handle that holds nothing. At `BAD_TABLE` the fault says why and where.
 #[unsafe(no_mangle)]
 pub extern "C" fn pdtr_open(
     alloc: Global,
@@ -37,16 +40,20 @@ pub extern "C" fn pdtr_open(
     recent: usize,
     row_limit: u64,
     by_row: bool,
+    fault: &mut TextFault,
     store: &mut Store,
 ) -> u32
     // It is the text's table that is opened, under these limits and this rule.
     ensures done { result ≡ DONE → IfSome store.new.value (IsOpenedOn text.now row_limit recent by_row) }
     ensures held { result ≡ DONE → IsSome store.new.value }
     ensures refused { result ≢ DONE → store.new.value ≡ store.old.value }
+
+    // What is told is the first fault of the text.
+    ensures bad { result ≡ BAD_TABLE → (first : Fault) × IsFaultOf text.now first × (fault.new ≡ told_of first) }
 {
     match load_table(alloc, text) {
         Ok(table) => open_over(alloc, table, recent, row_limit, by_row, store),
-        Err(fault) => code_of_table(fault),
+        Err(first) => tell(first, fault),
     }
 }
 
@@ -94,6 +101,7 @@ pub(crate) fn open_over(
     ensures done { result ≡ DONE → store.new.value ≡ Some (opened table row_limit recent (rule_of by_row)) }
     ensures refused { result ≢ DONE → store.new.value ≡ store.old.value }
     ensures other { (result ≢ SHAPE) × (result ≢ NOT_ASCENDING) }
+    ensures well { result ≢ BAD_TABLE }
 {
     match Manager::open(alloc, table, recent, row_limit, rule_of(by_row)) {
         Ok(manager) => match Box::new(alloc, manager) {

@@ -1,5 +1,5 @@
 //! A table of the columns that C passes.
-ghost use Rattle.std.specs.Prelude.{◌≡◌, ◌≢◌, ◌≤◌, ℕ, IfOk, Err, get_or};
+ghost use Rattle.std.specs.Prelude.{◌≡◌, ◌≢◌, ◌≤◌, ◌<◌, ℕ, IfOk, Err, get_or, length};
 ghost use Rattle.values.specs.declared.limits.TheConstants.{MAX_ROWS};
 ghost use Rattle.stable.specs.declared.fault.BuildFault.{BuildFault as Fault};
 ghost use Rattle.pdt_c.specs.Filling.{given_at, AreFilled, IsNoTable, IsTablePassed, IsUnfilled};
@@ -92,6 +92,7 @@ impl<'a> Passed<'a> {
         ensures ok { IfOk result (λ columns. AreFilled types.now self.now rows columns.items) }
         ensures value { (row col : ℕ) → result ≡ Err (passed_fault.Value row col)
             → IsUnfilled (get_or types.now col ColumnType.Int) (given_at self.now col) rows row }
+        ensures there { (row col : ℕ) → result ≡ Err (passed_fault.Value row col) → col < length types.now }
         ensures alone { (fault : Fault) → result ≢ Err (passed_fault.Build fault) }
     {
         let mut columns = Vec::with_capacity(alloc, types.len())?;
@@ -115,6 +116,7 @@ impl<'a> Passed<'a> {
         ensures ok { IfOk result (IsTablePassed schema self.now rows) }
         ensures value { (row col : ℕ) → result ≡ Err (passed_fault.Value row col)
             → IsUnfilled (get_or schema.types col ColumnType.Int) (given_at self.now col) rows row }
+        ensures there { (row col : ℕ) → result ≡ Err (passed_fault.Value row col) → col < length schema.types }
         ensures build { (fault : Fault) → result ≡ Err (passed_fault.Build fault) → IsNoTable schema self.now rows fault }
     {
         if rows as u64 > MAX_ROWS {

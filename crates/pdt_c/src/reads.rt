@@ -2,8 +2,8 @@
 ghost use Rattle.std.specs.Prelude.{◌≡◌, ◌≢◌, ◌≤◌, IsSome, IfSome, None, length, slice_get};
 ghost use Rattle.model.specs.Table.{rows_of};
 ghost use Rattle.txn.specs.Txn.{image_of};
-ghost use Rattle.pdt_c.specs.Reads.{HandsRow, HandsRowOf, HasNoneOf, Ranks};
-ghost use Rattle.pdt_c.specs.declared.codes.TheConstants.{DONE, MISSING};
+ghost use Rattle.pdt_c.specs.Reads.{HandsRow, HandsRowOf, HasNoneOf, NeedsRoom, NeedsRoomOf, Ranks};
+ghost use Rattle.pdt_c.specs.declared.codes.TheConstants.{DONE, MISSING, TOO_SMALL};
 
 use crate::codes::{DONE, MISSING, code_of_cells};
 use crate::rows::put_row;
@@ -84,6 +84,8 @@ pub extern "C" fn pdtr_get(
     ensures done { result ≡ DONE → IfSome txn.old.value (λ t.
         HandsRowOf t.txn numbers.now texts.now out_numbers.new out_texts.new needed.new) }
     ensures missing { result ≡ MISSING → IfSome txn.old.value (λ t. HasNoneOf t.txn numbers.now texts.now) }
+    ensures small { result ≡ TOO_SMALL → IfSome txn.old.value (λ t.
+        NeedsRoomOf t.txn numbers.now texts.now (length out_numbers.old) (length out_texts.old) needed.new) }
 {
     let open = take(alloc, txn);
     let code = get(
@@ -110,6 +112,8 @@ fn get(
 ) -> u32
     ensures done { result ≡ DONE → HandsRowOf txn.now numbers.now texts.now out_numbers.new out_texts.new needed.new }
     ensures missing { result ≡ MISSING → HasNoneOf txn.now numbers.now texts.now }
+    ensures small { result ≡ TOO_SMALL
+        → NeedsRoomOf txn.now numbers.now texts.now (length out_numbers.old) (length out_texts.old) needed.new }
 {
     let key = match passed_key(alloc, txn, numbers, texts) {
         Ok(key) => key,
@@ -137,6 +141,8 @@ pub extern "C" fn pdtr_row_at(
     // Where it is done, the row at the position stands in C's room; where it is missing, the image ends before it.
     ensures done { result ≡ DONE → IfSome txn.old.value (λ t. HandsRow t.txn rid out_numbers.new out_texts.new needed.new) }
     ensures missing { result ≡ MISSING → IfSome txn.old.value (λ t. slice_get (rows_of (image_of t.txn)) rid ≡ None) }
+    ensures small { result ≡ TOO_SMALL → IfSome txn.old.value (λ t.
+        NeedsRoom t.txn rid (length out_numbers.old) (length out_texts.old) needed.new) }
 {
     let open = take(alloc, txn);
     let code = row_at(&open.txn, rid, out_numbers, out_texts, needed);
@@ -153,6 +159,7 @@ fn row_at(
 ) -> u32
     ensures done { result ≡ DONE → HandsRow txn.now rid out_numbers.new out_texts.new needed.new }
     ensures missing { result ≡ MISSING → slice_get (rows_of (image_of txn.now)) rid ≡ None }
+    ensures small { result ≡ TOO_SMALL → NeedsRoom txn.now rid (length out_numbers.old) (length out_texts.old) needed.new }
 {
     match txn.row_at(rid) {
         Some(view) => put_row(view, out_numbers, out_texts, needed),

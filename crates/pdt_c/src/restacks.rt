@@ -1,7 +1,7 @@
 //! A checkpoint while transactions commit: begun under the lock, made and written without it, and installed under it.
 ghost use Rattle.std.specs.Prelude.{◌≡◌, ◌≢◌, IfOk, IsSome, IfSome, MatchResult, Some, None};
-ghost use Rattle.txn.specs.Version.{numbered};
-ghost use Rattle.manager.specs.Managed.{HasFolded, newest_number};
+ghost use Rattle.txn.specs.Version.{numbered, table_version};
+ghost use Rattle.manager.specs.Managed.{HasFolded, newest_number, newest_version};
 ghost use Rattle.manager.specs.Restacked.{restacked_of, stable_below, stable_of};
 ghost use Rattle.pdt_c.specs.declared.codes.TheConstants.{DONE};
 
@@ -16,6 +16,38 @@ use manager::Manager;
 use std::alloc::Global;
 use std::sync::Arc;
 use values::NoMemory;
+
+/// Puts the newest version into a handle that holds nothing, under the layers that a fold would make. Nothing changes.
+#[unsafe(no_mangle)]
+pub extern "C" fn pdtr_share(alloc: Global, store: &mut Store, snapshot: &mut Snapshot) -> u32
+    requires { IsSome store.old.value }
+    ensures kept { store.new.value ≡ store.old.value }
+    ensures held { result ≡ DONE → IsSome snapshot.new.value }
+    ensures shared { result ≡ DONE → IfSome store.old.value (λ m. IfSome snapshot.new.value (λ v.
+        table_version v ≡ newest_version m)) }
+    ensures refused { result ≢ DONE → snapshot.new.value ≡ snapshot.old.value }
+{
+    let manager = store::take(alloc, store);
+    let shared = share(alloc, &manager);
+    store::put(store, manager);
+    match shared {
+        Ok(version) => {
+            snapshot::put(snapshot, version);
+            DONE
+        }
+        Err(NoMemory) => NO_MEMORY,
+    }
+}
+
+/// The newest version as a fold would leave it.
+fn share(alloc: Global, manager: &Manager) -> Result<Box<SharedVersion>, NoMemory>
+    ensures { IfOk result (λ v. table_version v.value ≡ newest_version manager.now) }
+{
+    let folded = manager.prepare_fold()?;
+    let shared = SharedVersion::of(manager, &folded)?;
+    let boxed = Box::new(alloc, shared)?;
+    Ok(boxed)
+}
 
 /// Folds, and puts the newest version into a handle that holds nothing. What stands below the Write-PDT are its rows then,
 /// and stay so until the next fold or checkpoint.

@@ -21,6 +21,7 @@ pub(crate) fn put_row(
     ensures numbers { result ≡ DONE → take (length (row_of view.entry)) numbers.new ≡ numbers_of (row_of view.entry) }
     ensures texts { result ≡ DONE → take needed.new texts.new ≡ texts_of (row_of view.entry) }
     ensures needed { result ≡ DONE → needed.new ≤ length texts.old }
+    ensures small { result ≡ TOO_SMALL → length (row_of view.entry) ≤ length numbers.old → length texts.old < needed.new }
 {
     let mut bytes = 0usize;
     let width = view.width();
@@ -52,6 +53,7 @@ pub(crate) fn put_cells(
     ensures code { (result ≡ DONE) ⊎ (result ≡ TOO_SMALL) }
     ensures numbers { result ≡ DONE → take (length cells.now) numbers.new ≡ numbers_of cells.now }
     ensures texts { result ≡ DONE → take needed.new texts.new ≡ texts_of cells.now }
+    ensures small { result ≡ TOO_SMALL → length cells.now ≤ length numbers.old → length texts.old < needed.new }
 {
     let mut bytes = 0usize;
     let width = cells.len();
@@ -83,6 +85,7 @@ pub(crate) fn put_cell(
     ensures code { (result ≡ DONE) ⊎ (result ≡ TOO_SMALL) }
     ensures numbers { result ≡ DONE → take 1 numbers.new ≡ numbers_of (value_of value.entry ∷ []) }
     ensures texts { result ≡ DONE → take needed.new texts.new ≡ texts_of (value_of value.entry ∷ []) }
+    ensures small { result ≡ TOO_SMALL → 1 ≤ length numbers.old → length texts.old < needed.new }
 {
     if numbers.is_empty() {
         return TOO_SMALL;

@@ -1,15 +1,16 @@
 //! Transactions from begin to end, and what is done to the newest version.
-ghost use Rattle.std.specs.Prelude.{◌≡◌, ◌≢◌, ℕ, IsSome, IfSome, Some, None, length, slice_get};
+ghost use Rattle.std.specs.Prelude.{◌≡◌, ◌≢◌, ◌⊎◌, ℕ, IsSome, IfSome, Some, None, length, slice_get};
 ghost use Rattle.model.specs.declared.write.CommitReply.{CommitReply};
-ghost use Rattle.manager.specs.Managed.{begun_at, cut_of, newest_version, HasFolded, IsDecided, IsOwn};
+ghost use Rattle.manager.specs.Managed.{begun_at, cut_of, history_of, newest_version, HasFolded, IsDecided, IsOwn};
 ghost use Rattle.pdt_c.specs.Marks.{unmarked};
 ghost use Rattle.pdt_c.specs.Told.{IsPut, number_of_type, told};
 ghost use Rattle.pdt_c.specs.declared.codes.TheConstants.{DONE, NO_MEMORY};
 
 use crate::codes::{DONE, NO_MEMORY, code_of_commit};
+use crate::cut_history::CutHistory;
 use crate::store::Store;
 use crate::transaction::{OpenTxn, Transaction};
-use crate::{store, transaction};
+use crate::{cut_history, store, transaction};
 use manager::Manager;
 use std::alloc::Global;
 use values::{ColumnType, NoMemory};
@@ -128,16 +129,31 @@ pub extern "C" fn pdtr_fold(alloc: Global, store: &mut Store) -> u32
     code
 }
 
-/// Lets the history so far go: numbers of commits go on, and a transaction that began before comes too late.
+/// Cuts the history so far off: numbers of commits go on, and a transaction that began before comes too late. The history
+/// goes into a handle that holds nothing, so that it can be let go later; where memory is refused it goes at once.
 #[unsafe(no_mangle)]
-pub extern "C" fn pdtr_cut(alloc: Global, store: &mut Store)
+pub extern "C" fn pdtr_cut(alloc: Global, store: &mut Store, history: &mut CutHistory)
     requires { IsSome store.old.value }
     ensures held { IsSome store.new.value }
     ensures cut { IfSome store.old.value (λ m. store.new.value ≡ Some (cut_of m)) }
+    ensures history { (history.new.value ≡ history.old.value)
+        ⊎ (IfSome store.old.value (λ m. history.new.value ≡ Some (history_of m))) }
 {
     let mut manager = store::take(alloc, store);
-    let _history = manager.cut();
+    let cut = Box::new(alloc, manager.cut());
     store::put(store, manager);
+    if let Ok(cut) = cut {
+        cut_history::put(history, cut);
+    }
+}
+
+/// Lets a history that was cut off go.
+#[unsafe(no_mangle)]
+pub extern "C" fn pdtr_history_close(alloc: Global, history: &mut CutHistory)
+    requires { IsSome history.old.value }
+    ensures { history.new.value ≡ None }
+{
+    let _history = cut_history::take(alloc, history);
 }
 
 /// How many commits made the newest table.

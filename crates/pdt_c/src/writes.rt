@@ -5,7 +5,7 @@ ghost use Rattle.pdt_c.specs.Writes.{Deletes, Inserts, Sets, SetsCell, key_types
 ghost use Rattle.pdt_c.specs.declared.codes.TheConstants.{NO_MEMORY, SHAPE};
 
 use crate::cells::{CellFault, passed_cell, passed_cells};
-use crate::codes::{NO_MEMORY, SHAPE, code_of_cells, code_of_fault, code_of_reply};
+use crate::codes::{SHAPE, code_of_cells, code_of_fault, code_of_reply};
 use crate::transaction::{Transaction, put, take};
 use std::alloc::Global;
 use txn::Txn;
@@ -40,10 +40,7 @@ fn insert(alloc: Global, txn: &mut Txn, numbers: &[i64], texts: &[u8]) -> u32
         Ok(cells) => cells,
         Err(fault) => return code_of_cells(fault),
     };
-    let Ok(row) = Row::new(cells) else {
-        return NO_MEMORY;
-    };
-    match txn.insert(row) {
+    match txn.insert(Row::new(cells)) {
         Ok(reply) => code_of_reply(reply),
         Err(fault) => code_of_fault(fault),
     }

@@ -73,6 +73,52 @@ static void openings(void) {
   is("close null", PDT_OK, pdt_close(NULL));
 }
 
+/* The first fault of a text is told by a sentence, the record, which counts from 1 with the header, and the column. */
+static void faults(void) {
+  static const char heading[] =
+      "the cell isn't a name of 1 to 64 bytes, a colon and a type, or it is a key column after one that is not";
+  const struct {
+    const char *text, *cause;
+    uint64_t row, column;
+  } cases[] = {
+      {"", "there is no header", 1, 0},
+      {"id:int:key,qty\n", heading, 1, 1},
+      {"qty:int,id:int:key\n", heading, 1, 1},
+      {"qty:int\n", "the key has no column, or more than 4", 1, 0},
+      {"id:int:key,a:int,id:bool\n", "the column has the name of an earlier one", 1, 2},
+      {"id:int:key,qty:int\n1,2\n3\n", "the record has not as many cells as the header", 3, 0},
+      {"id:int:key,qty:int\n1,2\n3,4\n5,6,7\n", "the record has not as many cells as the header", 4, 0},
+      {"id:int:key,name:text\n1,\xff\n", "the text is not UTF-8", 2, 1},
+      {"id:int:key,ok:bool\n1,true\n2,yes\n", "the cell is no value of the column's type", 3, 1},
+      {"id:int:key,qty:int\nx,y\n", "the cell is no value of the column's type", 2, 0},
+      {"id:int:key\n1\n2\n1\n2\n", "the key is that of an earlier record", 4, 0},
+  };
+  pdt_store *store = NULL;
+  for (size_t i = 0; i < sizeof cases / sizeof *cases; i++) {
+    pdt_fault fault = {{99, 99}, NULL};
+    is(cases[i].text, PDT_BAD_TABLE, pdt_open_csv(cases[i].text, strlen(cases[i].text), NULL, &fault, &store));
+    is("null after a refusal", 1, store == NULL);
+    is(cases[i].text, (long long)cases[i].row, (long long)fault.place.row);
+    is(cases[i].text, (long long)cases[i].column, (long long)fault.place.column);
+    is(cases[i].text, 0, fault.cause ? strcmp(cases[i].cause, fault.cause) : 1);
+    is("with nowhere to tell it", PDT_BAD_TABLE, pdt_open_csv(cases[i].text, strlen(cases[i].text), NULL, NULL, &store));
+  }
+  static char wide[1024], deep[5000] = "id:int:key,name:text\n1,";
+  sprintf(wide, "c0:int:key");
+  for (int column = 1; column < 33; column++) sprintf(wide + strlen(wide), ",c%d:int", column);
+  memset(deep + strlen(deep), 'a', 4097);
+  pdt_fault fault;
+  is("33 columns", PDT_BAD_TABLE, pdt_open_csv(wide, strlen(wide), NULL, &fault, &store));
+  is("33 columns", 0, strcmp("the header has more than 32 columns", fault.cause));
+  is("the first too many", 32, (long long)fault.place.column);
+  is("a long text", PDT_BAD_TABLE, pdt_open_csv(deep, strlen(deep), NULL, &fault, &store));
+  is("a long text", 0, strcmp("the text has more than 4,096 bytes", fault.cause));
+  is("its record", 2, (long long)fault.place.row);
+  is("a table", PDT_OK, pdt_open_csv(csv, sizeof csv - 1, NULL, &fault, &store));
+  is("close", PDT_OK, pdt_close(store));
+  is("nowhere to", PDT_MISUSE, pdt_open_csv(csv, 1, NULL, &fault, NULL));
+}
+
 static void writes(void) {
   pdt_store *store = opened(NULL);
   pdt_txn *txn = begun(store);
@@ -221,6 +267,20 @@ static void commits(void) {
   is("set", PDT_OK, pdt_set(a, &key, NULL, 0, 3, 5, NULL));
   is("after a cut at its number", PDT_OK, pdt_commit(a, &number));
   is("numbers go on", 3, (long long)number);
+  a = begun(store);
+  b = begun(store);
+  is("set", PDT_OK, pdt_set(b, &other, NULL, 0, 3, 7, NULL));
+  is("commit", PDT_OK, pdt_commit(b, NULL));
+  is("cut", PDT_OK, pdt_cut(store));
+  is("a read after a cut", 5, qty_of(a, 10));
+  is("a commit came before the cut", PDT_TOO_OLD, pdt_commit(a, &number));
+  is("number", 4, (long long)number);
+  a = begun(store);
+  b = begun(store);
+  is("cut", PDT_OK, pdt_cut(store));
+  is("set", PDT_OK, pdt_set(b, &other, NULL, 0, 3, 8, NULL));
+  is("commit", PDT_OK, pdt_commit(b, NULL));
+  is("a commit came after the cut", PDT_OK, pdt_commit(a, NULL));
   is("fold null", PDT_MISUSE, pdt_fold(NULL));
   is("cut null", PDT_MISUSE, pdt_cut(NULL));
   is("size null", PDT_MISUSE, pdt_size(store, NULL));
@@ -258,6 +318,13 @@ static void reads(void) {
   is("there", 0, there);
   is("rank", PDT_OK, pdt_rank(txn, &key, NULL, 0, &below, &there));
   is("below", 0, (long long)below);
+  is("there", 1, there);
+  union {
+    int64_t key;
+    uint64_t below;
+  } both = {30};
+  is("rank into its key's room", PDT_OK, pdt_rank(txn, &both.key, NULL, 0, &both.below, &there));
+  is("below", 2, (long long)both.below);
   is("there", 1, there);
   is("set", PDT_OK, pdt_set(txn, (int64_t[]){20}, NULL, 0, 3, 22, NULL));
   is("ints", PDT_OK, pdt_ints(txn, 3, 0, qty, &count));
@@ -529,6 +596,7 @@ static void layers(void) {
 int main(int argc, char **argv) {
   texts();
   openings();
+  faults();
   writes();
   marks();
   commits();

@@ -106,6 +106,13 @@ static void faults(void) {
   columns[ID].rows = UINT64_MAX;
   refused("more rows than there can be", PDT_TOO_MANY_ROWS, 0, 0);
   columns[ID].rows = ROWS;
+  for (int column = NAME; column <= OK; column++) {
+    columns[column].rows = UINT64_MAX;
+    refused("more rows than there can be in a later column", PDT_TOO_MANY_ROWS, 0, 0);
+    columns[column].rows = 2147483648;
+    refused("a row more than there can be", PDT_TOO_MANY_ROWS, 0, 0);
+    columns[column].rows = ROWS;
+  }
   columns[OK].name = "id";
   refused("a name twice", PDT_BAD_TABLE, 0, 0);
   columns[OK].name = "";

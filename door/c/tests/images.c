@@ -1,5 +1,5 @@
-/* Each allocation of an opening over columns, of checkpoints and of recoveries is refused once, in turn: the call says so, made
-   again it does its work, and no memory stays. Linked with --wrap of malloc, calloc, realloc and free. */
+/* Each allocation of an opening over columns, of checkpoints in one part and in two, and of recoveries is refused once, in turn:
+   the call says so, made again it does its work, and no memory stays. Linked with --wrap of malloc, calloc, realloc and free. */
 #define _POSIX_C_SOURCE 200809L
 #include <pdt.h>
 #include <stdio.h>
@@ -72,6 +72,15 @@ static int sum_is(pdt_store *store, int64_t wanted) {
   return sum == wanted && count == ROWS + 1 ? 0 : (fprintf(stderr, "%zu rows, sum %lld\n", count, (long long)sum), 1);
 }
 
+static void clear(const char *folder) {
+  static const char *const files[] = {"header.csv", "column-0.pdt", "column-1.pdt", "column-2.pdt"};
+  char path[4200];
+  for (size_t i = 0; i < sizeof files / sizeof *files; i++) {
+    snprintf(path, sizeof path, "%s/%s", folder, files[i]);
+    unlink(path);
+  }
+}
+
 static int run(const char *folder) {
   pdt_column columns[WIDTH] = {{"id", PDT_INT, ROWS, ids, NULL, NULL, 0},
                                {"name", PDT_TEXT, ROWS, NULL, offsets, texts, ROWS},
@@ -85,6 +94,17 @@ static int run(const char *folder) {
   CALL(checkpoint(store));
   if (sum_is(store, (int64_t)ROWS * (ROWS + 1) / 2)) return 1;
   CALL(pdt_checkpoint(store, folder));
+  pdt_snapshot *snapshot;
+  CALL(pdt_begin(store, 1, &txn));
+  CALL(pdt_set(txn, (int64_t[]){0}, NULL, 0, 1, 3, "set"));
+  CALL(pdt_commit(txn, NULL));
+  CALL(pdt_checkpoint_begin(store, NULL, &snapshot));
+  clear(folder);
+  CALL(pdt_checkpoint_write(snapshot, folder));
+  CALL(pdt_checkpoint_install(snapshot));
+  pdt_checkpoint_end(snapshot);
+  if (sum_is(store, (int64_t)ROWS * (ROWS + 1) / 2)) return 1;
+  CALL(pdt_cut(store));
   CALL(pdt_close(store));
   pdt_bytes parts[WIDTH];
   for (size_t at = 0; at < WIDTH; at++) parts[at] = (pdt_bytes){image[at + 1], lens[at + 1]};
@@ -95,15 +115,6 @@ static int run(const char *folder) {
   if (sum_is(store, (int64_t)ROWS * (ROWS + 1) / 2)) return 1;
   CALL(pdt_close(store));
   return 0;
-}
-
-static void clear(const char *folder) {
-  static const char *const files[] = {"header.csv", "column-0.pdt", "column-1.pdt", "column-2.pdt"};
-  char path[4200];
-  for (size_t i = 0; i < sizeof files / sizeof *files; i++) {
-    snprintf(path, sizeof path, "%s/%s", folder, files[i]);
-    unlink(path);
-  }
 }
 
 int main(int argc, char **argv) {

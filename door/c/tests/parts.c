@@ -218,6 +218,10 @@ static void recovers(const char *room) {
 
 enum { COMMITS = 200 };
 
+static int takes_none(void *context, size_t column, const uint8_t *bytes, size_t len) {
+  return (void)context, (void)column, (void)bytes, (void)len, 1;
+}
+
 static void *commits(void *arg) {
   pdt_store *store = arg;
   for (int64_t i = 1; i <= COMMITS; i++) is("commit", PDT_OK, pdt_commit(setting(store, 20, i), NULL));
@@ -269,10 +273,55 @@ static void checkpoints(const char *room) {
   is("close", PDT_OK, pdt_close(again));
   is("a folder that has a store", PDT_OK, pdt_checkpoint_begin(store, NULL, &snapshot));
   is("write", PDT_EXISTS, pdt_checkpoint_write(snapshot, folder));
+  is("close with a checkpoint alone begun", PDT_MISUSE, pdt_close(store));
   pdt_checkpoint_end(snapshot);
   pdt_checkpoint_end(NULL);
   is("write null", PDT_MISUSE, pdt_checkpoint_write(NULL, folder));
   is("install null", PDT_MISUSE, pdt_checkpoint_install(NULL));
+  is("close", PDT_OK, pdt_close(store));
+}
+
+/* A checkpoint that can't be written leaves the layers, and the other checkpoint, as they were. */
+static void failed_checkpoints(const char *room) {
+  char folder[512], full[512];
+  make_folder(folder, sizeof folder, room, "beside");
+  make_folder(full, sizeof full, room, "full");
+  pdt_store *store = opened();
+  pdt_snapshot *snapshot = NULL;
+  is("commit", PDT_OK, pdt_commit(setting(store, 10, 5), NULL));
+  is("begin", PDT_OK, pdt_checkpoint_begin(store, NULL, &snapshot));
+  is("write", PDT_OK, pdt_checkpoint_write(snapshot, folder));
+  is("commit", PDT_OK, pdt_commit(setting(store, 20, 6), NULL));
+  is("no folder", PDT_IO, pdt_checkpoint(store, "/nowhere/at/all"));
+  is("a folder that has a store", PDT_EXISTS, pdt_checkpoint(store, folder));
+  is("a write that fails", PDT_DEVICE_FAILED, pdt_checkpoint_to(store, takes_none, NULL, NULL));
+  pdt_sizes sizes = sizes_of(store);
+  is("what a fold moves", 1, (long long)sizes.write_entries);
+  is("what a checkpoint moves", 1, (long long)sizes.read_entries);
+  is("the other one is installed", PDT_OK, pdt_checkpoint_install(snapshot));
+  pdt_checkpoint_end(snapshot);
+  is("what a checkpoint moves", 0, (long long)sizes_of(store).read_entries);
+  newest_is("no table has changed", store, 5, 6, 3);
+  is("checkpoint", PDT_OK, pdt_checkpoint(store, full));
+  sizes = sizes_of(store);
+  is("nothing is left to move", 0, (long long)(sizes.write_entries + sizes.read_entries));
+  is("close", PDT_OK, pdt_close(store));
+}
+
+/* While its bytes are written a checkpoint's store is committed to, and the commits are in the stable table too. */
+static int commits_meanwhile(void *context, size_t column, const uint8_t *bytes, size_t len) {
+  pdt_store *store = context;
+  (void)bytes, (void)len;
+  return column == 0 ? pdt_commit(setting(store, 20, 9), NULL) : 0;
+}
+static void commits_in_the_middle(void) {
+  pdt_store *store = opened();
+  is("commit", PDT_OK, pdt_commit(setting(store, 10, 5), NULL));
+  is("bytes", PDT_OK, pdt_checkpoint_to(store, commits_meanwhile, store, NULL));
+  pdt_sizes sizes = sizes_of(store);
+  is("commits", 2, (long long)sizes.commits);
+  is("nothing is left to move", 0, (long long)(sizes.write_entries + sizes.read_entries));
+  newest_is("no table has changed", store, 5, 9, 3);
   is("close", PDT_OK, pdt_close(store));
 }
 
@@ -338,6 +387,7 @@ static void comes_between(const char *room) {
 int main(int argc, char **argv) {
   prepares();
   begins_wait();
-  if (argc > 1) recovers(argv[1]), checkpoints(argv[1]), comes_between(argv[1]);
+  if (argc > 1) recovers(argv[1]), checkpoints(argv[1]), comes_between(argv[1]), failed_checkpoints(argv[1]);
+  commits_in_the_middle();
   return failures ? 1 : 0;
 }

@@ -1,0 +1,270 @@
+/* Two threads for each rule of the table of threads in docs/ENGINES.md, so that a sanitizer of threads sees each: what one does
+   while the other goes on, and that it sees what it must. */
+#define _POSIX_C_SOURCE 200809L
+#include <pdt.h>
+#include <pthread.h>
+#include <stdio.h>
+#include <stdlib.h>
+#include <string.h>
+#include <sys/stat.h>
+#include <sys/wait.h>
+#include <time.h>
+#include <unistd.h>
+
+enum { ROWS = 3000, ROUNDS = 200 };
+static pthread_mutex_t failing = PTHREAD_MUTEX_INITIALIZER;
+static int failures;
+static void is(const char *what, long long wanted, long long found) {
+  if (wanted == found) return;
+  pthread_mutex_lock(&failing);
+  failures++;
+  fprintf(stderr, "%s: wanted %lld, found %lld\n", what, wanted, found);
+  pthread_mutex_unlock(&failing);
+}
+static char room[256];
+
+/* Row i is i, "n" and i, i. */
+static pdt_store *opened(void) {
+  size_t len = 0;
+  char *text = malloc(ROWS * 32 + 64);
+  if (!text) exit(2);
+  len += (size_t)sprintf(text, "id:int:key,name:text,qty:int\n");
+  for (int i = 0; i < ROWS; i++) len += (size_t)sprintf(text + len, "%d,n%d,%d\n", i, i, i);
+  pdt_store *store = NULL;
+  is("open", PDT_OK, pdt_open(text, len, NULL, &store));
+  free(text);
+  return store;
+}
+static pdt_txn *begun(pdt_store *store) {
+  pdt_txn *txn = NULL;
+  is("begin", PDT_OK, pdt_begin(store, 1, &txn));
+  return txn;
+}
+static int set(pdt_txn *txn, int64_t key, int64_t qty) { return pdt_set(txn, &key, NULL, 0, 2, qty, NULL); }
+static long long qty_of(pdt_txn *txn, int64_t key) {
+  int64_t row[3] = {0, 0, -1};
+  char text[16];
+  is("get", PDT_OK, pdt_get(txn, &key, NULL, 0, row, text, sizeof text, NULL));
+  return row[2];
+}
+
+/* What another thread does once. */
+static void beside(void *(*work)(void *), void *with, void (*meanwhile)(void *)) {
+  pthread_t thread;
+  if (pthread_create(&thread, NULL, work, with)) exit(2);
+  if (meanwhile) meanwhile(with);
+  pthread_join(thread, NULL);
+}
+
+/* ---- a store: any threads at once */
+
+typedef struct {
+  pdt_store *store;
+  pdt_txn *txn;
+  pdt_snapshot *snapshot;
+  pdt_layer *layer;
+  const pdt_piece *pieces;
+  const char *const *texts;
+  const int64_t *lens;
+  size_t count;
+  pthread_mutex_t lock;
+  bool has_ended;
+} shared;
+
+static void *uses_store(void *with) {
+  pdt_store *store = ((shared *)with)->store;
+  for (int i = 0; i < ROUNDS; i++) {
+    pdt_sizes sizes;
+    pdt_layer *read, *write;
+    pdt_snapshot *snapshot;
+    is("columns", 3, (long long)pdt_columns(store));
+    is("key columns", 1, (long long)pdt_key_columns(store));
+    is("type", PDT_TEXT, pdt_column_type(store, 1));
+    is("name", 0, strcmp("qty", pdt_column_name(store, 2)));
+    is("size", PDT_OK, pdt_size(store, &sizes));
+    pdt_txn *txn = begun(store);
+    set(txn, i, -i);
+    if (i % 3) pdt_abort(txn);
+    else pdt_commit(txn, NULL);
+    is("layers", PDT_OK, pdt_layers(store, &read, &write));
+    pdt_layer_close(read), pdt_layer_close(write);
+    if (i % 20 == 0) is("fold", PDT_OK, pdt_fold(store));
+    if (i % 20 == 5) is("cut", PDT_OK, pdt_cut(store));
+    is("begin a checkpoint", PDT_OK, pdt_checkpoint_begin(store, NULL, &snapshot));
+    pdt_checkpoint_end(snapshot);
+  }
+  return NULL;
+}
+static void uses_store_too(void *with) { uses_store(with); }
+
+/* ---- transactions: one thread each, side by side; and one after the other */
+
+static void *uses_own(void *with) {
+  shared *s = with;
+  pdt_txn *txn = begun(s->store);
+  for (int i = 0; i < ROUNDS; i++) is("set", PDT_OK, set(txn, i, 7)), is("its own write", 7, qty_of(txn, i));
+  pdt_abort(txn);
+  return NULL;
+}
+static void uses_own_too(void *with) { uses_own(with); }
+static void *goes_on(void *with) {
+  shared *s = with;
+  is("what another thread wrote", -5, qty_of(s->txn, 5));
+  is("set", PDT_OK, set(s->txn, 6, -6));
+  is("commit", PDT_OK, pdt_commit(s->txn, NULL));
+  return NULL;
+}
+
+/* ---- a prepared commit: it stays on its thread, and others wait */
+
+static void *asks_sizes(void *with) {
+  shared *s = with;
+  pdt_sizes sizes = {0, 0, 0, 0};
+  is("size", PDT_OK, pdt_size(s->store, &sizes)); /* waits for the install */
+  is("it sees the commit", 1, (long long)sizes.commits);
+  pthread_mutex_lock(&s->lock);
+  s->has_ended = true;
+  pthread_mutex_unlock(&s->lock);
+  return NULL;
+}
+static void installs(void *with) {
+  shared *s = with;
+  nanosleep(&(struct timespec){0, 30000000}, NULL);
+  pthread_mutex_lock(&s->lock);
+  is("it waits", 0, s->has_ended);
+  pthread_mutex_unlock(&s->lock);
+  is("install", PDT_OK, pdt_install(s->txn));
+}
+
+/* ---- a checkpoint in parts: each part on a thread of its own */
+
+static void *writes_it(void *with) {
+  char folder[320];
+  snprintf(folder, sizeof folder, "%s/rules", room);
+  is("mkdir", 0, mkdir(folder, 0777));
+  is("write", PDT_OK, pdt_checkpoint_write(((shared *)with)->snapshot, folder));
+  return NULL;
+}
+static void *installs_it(void *with) { return is("install", PDT_OK, pdt_checkpoint_install(((shared *)with)->snapshot)), NULL; }
+static void *ends_it(void *with) { return pdt_checkpoint_end(((shared *)with)->snapshot), NULL; }
+static void commits(void *with) {
+  shared *s = with;
+  for (int i = 0; i < 50; i++) {
+    pdt_txn *txn = begun(s->store);
+    is("set", PDT_OK, set(txn, i, 50 + i));
+    is("commit", PDT_OK, pdt_commit(txn, NULL));
+  }
+}
+
+/* ---- what is lent: any thread, while others commit, fold and checkpoint */
+
+static void *reads_lent(void *with) {
+  shared *s = with;
+  for (int round = 0; round < 20; round++) {
+    int64_t sum = 0;
+    for (size_t i = 0; i < s->count; i++)
+      for (uint64_t k = 0; k < s->pieces[i].count; k++) sum += s->pieces[i].at ? s->pieces[i].at[k] : s->pieces[i].number;
+    is("the sum of the pieces", (long long)ROWS * (ROWS - 1) / 2 + 1000, sum);
+    for (int i = 0; i < ROWS; i++) {
+      char wanted[16];
+      is("a text", (long long)sprintf(wanted, "n%d", i), s->lens[i]);
+      is("its bytes", 0, memcmp(wanted, s->texts[i], (size_t)s->lens[i]));
+    }
+  }
+  return NULL;
+}
+static void changes_all(void *with) {
+  shared *s = with;
+  commits(with);
+  is("fold", PDT_OK, pdt_fold(s->store));
+  is("cut", PDT_OK, pdt_cut(s->store));
+  pdt_snapshot *snapshot;
+  is("begin a checkpoint", PDT_OK, pdt_checkpoint_begin(s->store, NULL, &snapshot));
+  pdt_checkpoint_end(snapshot);
+}
+static void lent(shared *s) {
+  static pdt_piece pieces[ROWS];
+  static const char *texts[ROWS];
+  static int64_t lens[ROWS];
+  size_t names = ROWS;
+  uint64_t rows = 0;
+  s->txn = begun(s->store);
+  is("set", PDT_OK, set(s->txn, 10, qty_of(s->txn, 10) + 1000));
+  s->count = ROWS;
+  is("pieces", PDT_OK, pdt_pieces(s->txn, 2, 0, ROWS, pieces, &s->count, &rows));
+  is("rows", ROWS, (long long)rows);
+  is("texts", PDT_OK, pdt_texts(s->txn, 1, 0, texts, lens, &names));
+  is("how many", ROWS, (long long)names);
+  s->pieces = pieces, s->texts = texts, s->lens = lens;
+  beside(reads_lent, s, changes_all);
+  pdt_abort(s->txn);
+}
+
+/* ---- a layer: one thread, past the end of its transaction and of its store */
+
+static void *reads_layer(void *with) {
+  pdt_layer *layer = ((shared *)with)->layer;
+  pdt_entry entry;
+  int64_t numbers[3];
+  is("entries", 1, (long long)pdt_layer_size(layer));
+  is("the entry", PDT_OK, pdt_entry_at(layer, 0, &entry, numbers, NULL, 0));
+  is("its number", -4, (long long)numbers[0]);
+  pdt_layer_close(layer);
+  return NULL;
+}
+
+/* ---- a child of fork is told that it has nothing prepared */
+
+static void forks(void) {
+  pdt_store *store = opened();
+  pdt_txn *txn = begun(store);
+  is("set", PDT_OK, set(txn, 1, 5));
+  is("prepare", PDT_OK, pdt_prepare(txn, NULL));
+  pid_t child = fork();
+  if (!child) {
+    int bad = pdt_install(txn) != PDT_MISUSE || pdt_give_up(txn) != PDT_MISUSE;
+    pdt_abort(txn); /* does nothing */
+    _exit(bad);
+  }
+  int status = -1;
+  waitpid(child, &status, 0);
+  is("a child of fork", 0, status);
+  is("install", PDT_OK, pdt_install(txn));
+  is("close", PDT_OK, pdt_close(store));
+}
+
+int main(int argc, char **argv) {
+  if (argc != 2) return fprintf(stderr, "rules FOLDER: one that is empty\n"), 2;
+  snprintf(room, sizeof room, "%s", argv[1]);
+  shared s = {.store = opened(), .lock = PTHREAD_MUTEX_INITIALIZER};
+  beside(uses_store, &s, uses_store_too);
+  is("close", PDT_OK, pdt_close(s.store));
+  s.store = opened();
+  beside(uses_own, &s, uses_own_too);
+  s.txn = begun(s.store);
+  is("set", PDT_OK, set(s.txn, 5, -5));
+  is("prepare", PDT_OK, pdt_prepare(s.txn, NULL));
+  is("give up", PDT_OK, pdt_give_up(s.txn));
+  beside(goes_on, &s, NULL);
+  is("close", PDT_OK, pdt_close(s.store));
+  s.store = opened();
+  s.txn = begun(s.store);
+  is("set", PDT_OK, set(s.txn, 5, -5));
+  is("prepare", PDT_OK, pdt_prepare(s.txn, NULL));
+  beside(asks_sizes, &s, installs);
+  is("begin a checkpoint", PDT_OK, pdt_checkpoint_begin(s.store, NULL, &s.snapshot));
+  beside(writes_it, &s, commits);
+  beside(installs_it, &s, NULL);
+  beside(ends_it, &s, commits);
+  is("close", PDT_OK, pdt_close(s.store));
+  s.store = opened();
+  lent(&s);
+  s.txn = begun(s.store);
+  is("set", PDT_OK, set(s.txn, 4, -4));
+  is("own layer", PDT_OK, pdt_own_layer(s.txn, &s.layer));
+  pdt_abort(s.txn);
+  is("close", PDT_OK, pdt_close(s.store));
+  beside(reads_layer, &s, NULL);
+  forks();
+  return failures ? 1 : 0;
+}
