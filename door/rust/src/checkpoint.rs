@@ -1,6 +1,6 @@
 //! A checkpoint while others commit.
 use crate::error::done;
-use crate::store::path_of;
+use crate::store::{Keeper, path_of};
 use crate::{Error, Store, ffi};
 use std::fmt;
 use std::path::Path;
@@ -21,7 +21,7 @@ use std::ptr::NonNull;
 pub struct Checkpoint<'s> {
     raw: NonNull<ffi::Snapshot>,
     number: u64,
-    store: &'s Store,
+    store: Keeper<'s>,
 }
 
 // SAFETY: a `pdt_snapshot` is used by one thread at a time, whichever that is: only a call with `&mut self` uses it.
@@ -32,7 +32,7 @@ impl<'s> Checkpoint<'s> {
     ///
     /// # Safety
     /// `raw` has begun over this store, at the commit of this number, and nobody else has it.
-    pub(crate) unsafe fn adopt(raw: NonNull<ffi::Snapshot>, number: u64, store: &'s Store) -> Checkpoint<'s> {
+    pub(crate) unsafe fn adopt(raw: NonNull<ffi::Snapshot>, number: u64, store: Keeper<'s>) -> Checkpoint<'s> {
         Checkpoint { raw, number, store }
     }
 
@@ -42,8 +42,8 @@ impl<'s> Checkpoint<'s> {
     }
 
     /// The store that it is of.
-    pub fn store(&self) -> &'s Store {
-        self.store
+    pub fn store(&self) -> &Store {
+        &self.store
     }
 
     /// Writes its table into a folder, as [`Store::checkpoint`] does. Once it answers `Ok` the table is durable.
@@ -63,14 +63,14 @@ impl<'s> Checkpoint<'s> {
     /// [`Error::NoMemory`]: it may be called again. [`Error::Misuse`] before [`write`](Checkpoint::write) is done, and
     /// once this is.
     pub fn install(&mut self) -> Result<(), Error> {
-        // SAFETY: the checkpoint has not ended, and its store is open, since it is borrowed.
+        // SAFETY: the checkpoint has not ended, and its store is open, since it is kept.
         done(unsafe { ffi::pdt_checkpoint_install(self.raw.as_ptr()) })
     }
 }
 
 impl Drop for Checkpoint<'_> {
     fn drop(&mut self) {
-        // SAFETY: the checkpoint has not ended, and nothing uses it any more; its store is borrowed, and so is open.
+        // SAFETY: the checkpoint has not ended, and nothing uses it any more; its store is kept, and so is open.
         unsafe { ffi::pdt_checkpoint_end(self.raw.as_ptr()) };
     }
 }

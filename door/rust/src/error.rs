@@ -25,7 +25,7 @@ pub enum Error {
     /// The cells don't fit the columns: their number, a type, a text above 4,096 bytes, a key column that would be set,
     /// or a column that isn't there.
     Shape,
-    /// The text is no table.
+    /// The text is no table: [`OpenError`] has the fault.
     BadTable,
     /// A limit of the [`Options`](crate::Options) is outside its range.
     BadLimit,
@@ -131,6 +131,68 @@ impl From<std::collections::TryReserveError> for Error {
         Error::NoMemory
     }
 }
+
+/// The first fault of a text that is no table.
+#[derive(Clone, Copy, Debug, PartialEq, Eq)]
+pub struct TableFault {
+    /// The record, which counts from 1 with the header.
+    pub record: u64,
+    /// The cell, which counts from 0, and is 0 where the whole record is meant.
+    pub column: u64,
+    /// What is wrong there, in English.
+    pub cause: &'static str,
+}
+
+impl TableFault {
+    /// What the library tells of a text.
+    ///
+    /// # Safety
+    /// `pdt_open_csv` has answered `BAD_TABLE`, and told the fault.
+    pub(crate) unsafe fn told(fault: &ffi::Fault) -> TableFault {
+        // SAFETY: the cause is never null then, ends with a zero, and is there as long as the program.
+        let cause = unsafe { CStr::from_ptr::<'static>(fault.cause) };
+        let ffi::Place { row, column } = fault.place;
+        TableFault { record: row, column, cause: cause.to_str().unwrap_or("the text is no table") }
+    }
+}
+
+/// Why a text makes no store.
+#[derive(Clone, Copy, Debug, PartialEq, Eq)]
+pub enum OpenError {
+    /// The text is no table.
+    BadTable(TableFault),
+    /// [`Error::TooManyRows`], [`Error::BadLimit`], [`Error::NoMemory`].
+    Other(Error),
+}
+
+impl From<Error> for OpenError {
+    fn from(error: Error) -> OpenError {
+        OpenError::Other(error)
+    }
+}
+
+impl From<OpenError> for Error {
+    fn from(error: OpenError) -> Error {
+        match error {
+            OpenError::BadTable(_) => Error::BadTable,
+            OpenError::Other(error) => error,
+        }
+    }
+}
+
+impl fmt::Display for OpenError {
+    fn fmt(&self, f: &mut fmt::Formatter<'_>) -> fmt::Result {
+        Error::from(*self).fmt(f)?;
+        match self {
+            OpenError::BadTable(TableFault { record, column, cause }) => {
+                write!(f, ": record {record}, column {column}: {cause}")
+            }
+            OpenError::Other(_) => Ok(()),
+        }
+    }
+}
+
+impl std::error::Error for OpenError {}
 
 /// Why a transaction isn't committed. Where memory was refused, or the call may not be made now, it is given back as it
 /// was, and may commit again; else it is over, and the number is that of the newest table.

@@ -66,6 +66,12 @@ pub struct Place {
 }
 
 #[repr(C)]
+pub struct Fault {
+    pub place: Place,
+    pub cause: *const c_char,
+}
+
+#[repr(C)]
 pub struct Bytes {
     pub at: *const c_void,
     pub len: usize,
@@ -108,7 +114,13 @@ pub const MAX_TEXT: usize = 4096;
 unsafe extern "C" {
     pub fn pdt_text(code: c_int) -> *const c_char;
 
-    pub fn pdt_open(csv: *const c_void, bytes: usize, options: *const Options, store: *mut *mut Store) -> c_int;
+    pub fn pdt_open_csv(
+        csv: *const c_void,
+        bytes: usize,
+        options: *const Options,
+        fault: *mut Fault,
+        store: *mut *mut Store,
+    ) -> c_int;
     pub fn pdt_open_columns(
         columns: *const Column,
         count: usize,

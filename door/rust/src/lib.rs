@@ -64,21 +64,29 @@
 //! # Ok::<(), Error>(())
 //! ```
 //!
-//! A batch can't lend numbers for longer than it is there itself:
+//! The numbers of a piece are the transaction's: a piece may be kept when its batch is gone, and can't outlive the
+//! transaction.
 //!
-//! ```compile_fail,E0597
-//! # use narthexmace::{Error, Options, Piece, Store};
+//! ```
+//! # use narthexmace::{Error, Options, Store};
 //! # let store = Store::open("id:int:key\n10\n", &Options::default())?;
-//! let piece: Piece<'_>;
-//! {
-//!     let txn = store.begin(1)?;
-//!     piece = txn.batch(&[0], ..)?.ints(0).unwrap().pieces()[0];
-//! }
+//! let txn = store.begin(1)?;
+//! let piece = txn.batch(&[0], ..)?.ints(0).unwrap().pieces()[0];
+//! assert_eq!([10], piece.as_slice());
+//! # Ok::<(), Error>(())
+//! ```
+//!
+//! ```compile_fail,E0505
+//! # use narthexmace::{Error, Options, Store};
+//! # let store = Store::open("id:int:key\n10\n", &Options::default())?;
+//! let txn = store.begin(1)?;
+//! let piece = txn.batch(&[0], ..)?.ints(0).unwrap().pieces()[0];
+//! drop(txn);
 //! println!("{:?}", piece.as_slice());
 //! # Ok::<(), Error>(())
 //! ```
 //!
-//! A transaction borrows its store:
+//! A transaction borrows its store, where it doesn't keep a share of it ([`Store::begin_shared`]):
 //!
 //! ```compile_fail,E0505
 //! # use narthexmace::{Error, Options, Store};
@@ -142,7 +150,7 @@ pub use batch::{Batch, Batches, Ints, Piece, Texts, Values};
 pub use cells::{Cell, CellRef, Row};
 pub use checkpoint::Checkpoint;
 pub use columns::{CheckpointError, ColumnValues, ColumnsError, ImagePart};
-pub use error::{CommitError, Error};
+pub use error::{CommitError, Error, OpenError, TableFault};
 pub use marks::Mark;
 pub use prepared::Prepared;
 pub use store::{Column, ColumnType, ConflictRule, Options, Sizes, Store};

@@ -49,7 +49,7 @@ impl<'s> Prepared<'s> {
     }
 
     /// The store that it is over.
-    pub fn store(&self) -> &'s Store {
+    pub fn store(&self) -> &Store {
         self.txn.store()
     }
 

@@ -1,12 +1,14 @@
 //! A table with its history.
 use crate::cells::owned;
 use crate::error::done;
-use crate::{Checkpoint, Error, Transaction, ffi};
+use crate::{Checkpoint, Error, OpenError, TableFault, Transaction, ffi};
 use std::ffi::{CStr, c_char, c_int};
 use std::fmt;
+use std::ops::Deref;
 use std::os::unix::ffi::OsStrExt;
 use std::path::Path;
 use std::ptr::{self, NonNull};
+use std::sync::Arc;
 
 /// What a store is opened with.
 #[derive(Clone, Copy, Debug, PartialEq, Eq)]
@@ -98,24 +100,32 @@ unsafe impl Sync for Store {}
 impl Store {
     /// Opens a store over the table of a CSV text, whose first record names the columns, as `id:int:key,name:text`.
     ///
-    /// [`Error::BadTable`], [`Error::TooManyRows`], [`Error::BadLimit`], [`Error::NoMemory`].
+    /// [`OpenError::BadTable`] with the first fault; [`Error::TooManyRows`], [`Error::BadLimit`], [`Error::NoMemory`].
     ///
     /// ```
-    /// use narthexmace::{ColumnType, Error, Options, Store};
+    /// use narthexmace::{ColumnType, Error, OpenError, Options, Store};
     /// let store = Store::open("id:int:key,name:text\n10,Ann\n", &Options::default())?;
     /// assert_eq!("name", store.columns()[1].name);
     /// assert_eq!(ColumnType::Text, store.columns()[1].column_type);
-    /// assert_eq!(Some(Error::BadTable), Store::open("no table", &Options::default()).err());
+    /// let Err(OpenError::BadTable(fault)) = Store::open("id:int:key\n10\nx\n", &Options::default()) else { panic!() };
+    /// assert_eq!((3, 0), (fault.record, fault.column));
+    /// assert_eq!("the cell is no value of the column's type", fault.cause);
     /// # Ok::<(), Error>(())
     /// ```
-    pub fn open(csv: impl AsRef<[u8]>, options: &Options) -> Result<Store, Error> {
+    pub fn open(csv: impl AsRef<[u8]>, options: &Options) -> Result<Store, OpenError> {
         let csv = csv.as_ref();
         let options = options.passed()?;
         let mut raw = ptr::null_mut();
-        // SAFETY: the pointer and the length are one slice's; the options and `raw` are there during the call.
-        done(unsafe { ffi::pdt_open(csv.as_ptr().cast(), csv.len(), &options, &mut raw) })?;
+        let mut fault = ffi::Fault { place: ffi::Place::default(), cause: ptr::null() };
+        // SAFETY: the pointer and the length are one slice's; the options, the fault and `raw` are there during the call.
+        let code = unsafe { ffi::pdt_open_csv(csv.as_ptr().cast(), csv.len(), &options, &mut fault, &mut raw) };
+        if code == ffi::BAD_TABLE {
+            // SAFETY: at this code the library has told the fault.
+            return Err(OpenError::BadTable(unsafe { TableFault::told(&fault) }));
+        }
+        done(code)?;
         // SAFETY: an opening that is done hands out a store.
-        unsafe { Store::adopt(raw) }
+        Ok(unsafe { Store::adopt(raw) }?)
     }
 
     /// Opens a store over the image that [`checkpoint`](Store::checkpoint) left in a folder. The files are read whole,
@@ -191,12 +201,31 @@ impl Store {
     /// Begins a transaction of a client over the newest table, in constant time. The number of the client goes into the
     /// history, and says nothing else. [`Error::NoMemory`].
     pub fn begin(&self, client: u32) -> Result<Transaction<'_>, Error> {
-        let mut raw = ptr::null_mut();
-        // SAFETY: the store is open while `self` is there.
-        done(unsafe { ffi::pdt_begin(self.raw.as_ptr(), client, &mut raw) })?;
-        let raw = NonNull::new(raw).expect("a begin that is done hands out a transaction");
-        // SAFETY: the transaction is open, over this store, and nobody else has it.
-        Ok(unsafe { Transaction::adopt(raw, self) })
+        begin(Keeper::Lent(self), client)
+    }
+
+    /// The same of a store that is shared: the transaction keeps it, and so it can be kept beside it, in a session. The
+    /// store is closed once it and all that is begun so are gone.
+    ///
+    /// ```
+    /// use narthexmace::{Error, Options, Store, Transaction};
+    /// use std::sync::Arc;
+    ///
+    /// struct Session {
+    ///     store: Arc<Store>,
+    ///     open: Option<Transaction<'static>>,
+    /// }
+    ///
+    /// let store = Arc::new(Store::open("id:int:key,qty:int\n10,7\n", &Options::default())?);
+    /// let mut session = Session { store: Arc::clone(&store), open: None };
+    /// session.open = Some(session.store.begin_shared(1)?);
+    /// drop(store);
+    /// let worker = std::thread::spawn(move || session.open.take().unwrap().rows());
+    /// assert_eq!(1, worker.join().unwrap());
+    /// # Ok::<(), Error>(())
+    /// ```
+    pub fn begin_shared(self: &Arc<Store>, client: u32) -> Result<Transaction<'static>, Error> {
+        begin(Keeper::Shared(Arc::clone(self)), client)
     }
 
     /// Folds the Write-PDT into the Read-PDT: later commits are folded into a smaller tree. No table changes, and no
@@ -218,12 +247,12 @@ impl Store {
         assert_eq!(ffi::OK, code, "no cut is made while this thread has a commit prepared");
     }
 
-    /// Writes the newest table into a folder that has no store, each file synced, and the folder after them; in memory
-    /// it is the stable table then. Once it answers `Ok` the table is durable. Begins and commits wait only while the
-    /// bytes are made.
+    /// Writes the newest table into a folder that has no store, each file synced, then the folder, and the one that it
+    /// stands in; in memory it is the stable table then. Once it answers `Ok` the table is durable, as far as these
+    /// folders go: who made others further up syncs them. Begins and commits wait for two folds.
     ///
-    /// [`Error::Exists`], [`Error::Io`], [`Error::NoMemory`]: what was written is removed; [`Error::Misuse`] of a path
-    /// that no file can have.
+    /// [`Error::Exists`], [`Error::Io`], [`Error::NoMemory`]: what was written is removed, and the stable table is as it
+    /// was; [`Error::Misuse`] of a path that no file can have, and of an empty one.
     pub fn checkpoint(&self, folder: impl AsRef<Path>) -> Result<(), Error> {
         let folder = path_of(folder.as_ref())?;
         // SAFETY: the store is open while `self` is there; the path ends with a zero, and is there during the call.
@@ -233,19 +262,54 @@ impl Store {
     /// Begins a checkpoint of the newest table, which is written while others commit. It folds, and begins and commits
     /// wait for that. [`Error::NoMemory`].
     pub fn begin_checkpoint(&self) -> Result<Checkpoint<'_>, Error> {
-        let (mut number, mut raw) = (0, ptr::null_mut());
-        // SAFETY: the store is open while `self` is there.
-        done(unsafe { ffi::pdt_checkpoint_begin(self.raw.as_ptr(), &mut number, &mut raw) })?;
-        let raw = NonNull::new(raw).expect("a begin that is done hands out a checkpoint");
-        // SAFETY: the checkpoint has begun over this store, and nobody else has it.
-        Ok(unsafe { Checkpoint::adopt(raw, number, self) })
+        begin_checkpoint(Keeper::Lent(self))
     }
+
+    /// The same of a store that is shared: the checkpoint keeps it.
+    pub fn begin_checkpoint_shared(self: &Arc<Store>) -> Result<Checkpoint<'static>, Error> {
+        begin_checkpoint(Keeper::Shared(Arc::clone(self)))
+    }
+}
+
+/// The store of what has begun over it, which keeps it open: by a borrow, or by a share.
+pub(crate) enum Keeper<'s> {
+    Lent(&'s Store),
+    Shared(Arc<Store>),
+}
+
+impl Deref for Keeper<'_> {
+    type Target = Store;
+
+    fn deref(&self) -> &Store {
+        match self {
+            Keeper::Lent(store) => store,
+            Keeper::Shared(store) => store,
+        }
+    }
+}
+
+fn begin(store: Keeper<'_>, client: u32) -> Result<Transaction<'_>, Error> {
+    let mut raw = ptr::null_mut();
+    // SAFETY: the store is open while it is kept.
+    done(unsafe { ffi::pdt_begin(store.as_raw(), client, &mut raw) })?;
+    let raw = NonNull::new(raw).expect("a begin that is done hands out a transaction");
+    // SAFETY: the transaction is open, over this store, and nobody else has it.
+    Ok(unsafe { Transaction::adopt(raw, store) })
+}
+
+fn begin_checkpoint(store: Keeper<'_>) -> Result<Checkpoint<'_>, Error> {
+    let (mut number, mut raw) = (0, ptr::null_mut());
+    // SAFETY: the store is open while it is kept.
+    done(unsafe { ffi::pdt_checkpoint_begin(store.as_raw(), &mut number, &mut raw) })?;
+    let raw = NonNull::new(raw).expect("a begin that is done hands out a checkpoint");
+    // SAFETY: the checkpoint has begun over this store, and nobody else has it.
+    Ok(unsafe { Checkpoint::adopt(raw, number, store) })
 }
 
 impl Drop for Store {
     fn drop(&mut self) {
-        // SAFETY: nobody else uses the store, since each transaction and checkpoint borrows it. One that was forgotten
-        // is still open: the library answers MISUSE then, and the store stays.
+        // SAFETY: nobody else uses the store, since each transaction and checkpoint keeps it. One that was forgotten is
+        // still open: the library answers MISUSE then, and the store stays.
         unsafe { ffi::pdt_close(self.raw.as_ptr()) };
     }
 }

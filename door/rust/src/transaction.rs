@@ -3,12 +3,13 @@ use crate::batch::{Batch, Batches};
 use crate::cells::{Passed, filled, row_of};
 use crate::error::done;
 use crate::marks::{Mark, Marks};
+use crate::store::Keeper;
 use crate::{CellRef, CommitError, Error, Prepared, Row, Store, ffi, texts};
 use std::ffi::{c_int, c_void};
 use std::fmt;
 use std::mem::{ManuallyDrop, take};
 use std::ops::{Bound, RangeBounds};
-use std::ptr::NonNull;
+use std::ptr::{self, NonNull};
 
 /// Room for the texts of a row that is read without asking twice.
 const TEXT_ROOM: usize = 512;
@@ -23,14 +24,15 @@ pub struct Rank {
 }
 
 /// An open transaction. It reads the table as it was when it began, with its own writes; positions count from 0. One
-/// that is dropped is aborted. It may be sent to another thread, and is used by one at a time.
+/// that is dropped is aborted. It may be sent to another thread, and is used by one at a time. It borrows its store or,
+/// where [`Store::begin_shared`] began it, keeps a share of it.
 ///
 /// Writes want it for themselves (`&mut self`), so that what a [`Batch`] or a text borrows stays where it is.
 ///
 /// A row and a key are given as anything that iterates over cells: `[10]`, [`cells!`](crate::cells), a `&Row`.
 pub struct Transaction<'s> {
     raw: NonNull<ffi::Txn>,
-    store: &'s Store,
+    store: Keeper<'s>,
     marks: Marks,
 }
 
@@ -42,7 +44,7 @@ impl<'s> Transaction<'s> {
     ///
     /// # Safety
     /// `raw` is open, a transaction over this store, and nobody else has it.
-    pub(crate) unsafe fn adopt(raw: NonNull<ffi::Txn>, store: &'s Store) -> Transaction<'s> {
+    pub(crate) unsafe fn adopt(raw: NonNull<ffi::Txn>, store: Keeper<'s>) -> Transaction<'s> {
         Transaction { raw, store, marks: Marks::default() }
     }
 
@@ -51,8 +53,8 @@ impl<'s> Transaction<'s> {
     }
 
     /// The store that it is over.
-    pub fn store(&self) -> &'s Store {
-        self.store
+    pub fn store(&self) -> &Store {
+        &self.store
     }
 
     /// Commits, and answers the number of the newest table. It is over then, unless memory was refused: then
@@ -106,6 +108,8 @@ impl<'s> Transaction<'s> {
     pub(crate) fn forget(self) {
         let mut over = ManuallyDrop::new(self);
         drop(take(&mut over.marks));
+        // SAFETY: what is over is neither used nor dropped any more, so that its store is taken out of it once.
+        drop(unsafe { ptr::read(&over.store) });
     }
 
     /// Ends the transaction and leaves no record of it, as a drop does.
@@ -318,13 +322,13 @@ impl<'s> Transaction<'s> {
 
 impl Drop for Transaction<'_> {
     fn drop(&mut self) {
-        // SAFETY: the transaction is open, and nothing uses it any more; its store is borrowed, and so is open.
+        // SAFETY: the transaction is open, and nothing uses it any more; its store is kept, and so is open.
         unsafe { ffi::pdt_abort(self.raw()) };
     }
 }
 
 impl fmt::Debug for Transaction<'_> {
     fn fmt(&self, f: &mut fmt::Formatter<'_>) -> fmt::Result {
-        f.debug_struct("Transaction").field("store", self.store).finish_non_exhaustive()
+        f.debug_struct("Transaction").field("store", self.store()).finish_non_exhaustive()
     }
 }

@@ -1,5 +1,5 @@
 //! Each error once, by its cause.
-use narthexmace::{CommitError, ConflictRule, Error, Options, Store, Transaction, cells};
+use narthexmace::{CommitError, ConflictRule, Error, OpenError, Options, Store, TableFault, Transaction, cells};
 use std::ffi::OsStr;
 use std::os::unix::ffi::OsStrExt;
 
@@ -10,7 +10,22 @@ fn opened(options: &Options) -> Store {
 }
 
 fn refused(csv: &str, options: &Options) -> Error {
-    Store::open(csv, options).unwrap_err()
+    Store::open(csv, options).unwrap_err().into()
+}
+
+#[test]
+fn a_text_that_is_no_table_has_its_first_fault_told() {
+    let cases = [
+        ("", 1, 0, "there is no header"),
+        ("id:int:key,qty:int\n1,2\n3\n", 3, 0, "the record has not as many cells as the header"),
+        ("id:int:key,ok:bool\n1,true\n2,yes\n", 3, 1, "the cell is no value of the column's type"),
+        ("id:int:key\n1\n2\n1\n", 4, 0, "the key is that of an earlier record"),
+    ];
+    for (csv, record, column, cause) in cases {
+        let refused = Store::open(csv, &Options::default()).unwrap_err();
+        assert_eq!(OpenError::BadTable(TableFault { record, column, cause }), refused);
+        assert_eq!(format!("the text is no table: record {record}, column {column}: {cause}"), refused.to_string());
+    }
 }
 
 #[test]
@@ -141,7 +156,7 @@ fn a_cut_makes_open_transactions_too_old() {
 fn paths_that_no_file_can_have_are_refused() {
     let store = opened(&Options::default());
     let long = "x".repeat(5000);
-    for path in [OsStr::from_bytes(b"a\0b"), OsStr::new(&long)] {
+    for path in [OsStr::from_bytes(b"a\0b"), OsStr::new(&long), OsStr::new("")] {
         assert_eq!(Err(Error::Misuse), store.checkpoint(path));
         assert_eq!(Some(Error::Misuse), Store::recover(path, &Options::default()).err());
     }

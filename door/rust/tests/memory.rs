@@ -6,6 +6,7 @@ use std::collections::BTreeSet;
 use std::ffi::c_void;
 use std::path::Path;
 use std::ptr::null_mut;
+use std::sync::Arc;
 use std::{env, fs, process};
 
 thread_local! {
@@ -178,7 +179,7 @@ fn read(run: &mut Run, txn: &Transaction<'_>, long: &str) {
 fn run(granted: usize, folder: &Path) -> Option<BTreeSet<&'static str>> {
     let mut run = Run { granted: Some(granted), told: BTreeSet::new() };
     let long = "x".repeat(1000);
-    let store = run.made("open", || Store::open(TABLE, &Options::default()));
+    let store = run.made("open", || Ok(Store::open(TABLE, &Options::default())?));
     let mut txn = run.made("begin", || store.begin(1));
     write(&mut run, &mut txn, &long);
     read(&mut run, &txn, &long);
@@ -256,6 +257,26 @@ fn what_is_dropped_is_freed() {
     txn.back_to(&mark).unwrap();
     txn.mark().unwrap();
     txn.commit().unwrap();
+    let mut checkpoint = store.begin_checkpoint().unwrap();
+    assert!(checkpoint.install().is_err());
+    drop(checkpoint); // ends it: else the store could not be closed
     drop(store);
+    assert_eq!(before, LIVE.get());
+}
+
+#[test]
+fn a_shared_store_is_freed_with_the_last_that_keeps_it() {
+    let before = LIVE.get();
+    let store = Arc::new(Store::open(TABLE, &Options::default()).unwrap());
+    let (dropped, mut committed) = (store.begin_shared(1).unwrap(), store.begin_shared(2).unwrap());
+    let (prepared, checkpoint) = (store.begin_shared(3).unwrap(), store.begin_checkpoint_shared().unwrap());
+    drop(store);
+    drop(dropped);
+    drop(prepared.prepare().unwrap());
+    committed.delete([10]).unwrap();
+    assert_eq!(3, checkpoint.store().columns().len() - 1);
+    drop(checkpoint);
+    assert!(LIVE.get() > before);
+    assert_eq!(1, committed.commit().unwrap());
     assert_eq!(before, LIVE.get());
 }

@@ -1,6 +1,7 @@
 //! Eight threads add to the same rows, and try again where a commit is refused: the sums are those of all that was
 //! added.
-use narthexmace::{CommitError, Error, Options, Store};
+use narthexmace::{CommitError, Error, Options, Store, Transaction};
+use std::sync::Arc;
 use std::sync::atomic::{AtomicUsize, Ordering};
 use std::thread;
 
@@ -72,6 +73,31 @@ fn a_transaction_ends_on_another_thread() {
     });
     assert_eq!(0, store.sizes().open_transactions);
     assert_eq!(1, store.begin(3).unwrap().rows());
+}
+
+#[test]
+fn sessions_keep_their_store_and_their_transactions() {
+    struct Session {
+        store: Arc<Store>,
+        open: Transaction<'static>,
+    }
+    let store = Arc::new(Store::open("id:int:key,sum:int\n0,0\n", &Options::default()).unwrap());
+    let sessions =
+        (0..4).map(|client| Session { store: Arc::clone(&store), open: store.begin_shared(client).unwrap() });
+    let sessions: Vec<Session> = sessions.collect();
+    let threads = sessions.into_iter().enumerate().map(|(number, Session { store, mut open })| {
+        thread::spawn(move || {
+            open.insert([number as i64 + 1, 7]).unwrap();
+            open.commit().unwrap();
+            add(&store, 0, 0, 1).unwrap();
+        })
+    });
+    for thread in threads.collect::<Vec<_>>() {
+        thread.join().unwrap();
+    }
+    let store = Arc::try_unwrap(store).unwrap(); // no other share of it is left
+    let txn = store.begin(9).unwrap();
+    assert_eq!(vec![4, 7, 7, 7, 7], txn.batch(&[1], ..).unwrap().ints(0).unwrap().iter().collect::<Vec<i64>>());
 }
 
 #[test]
