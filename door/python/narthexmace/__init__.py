@@ -5,18 +5,21 @@
 >>> with store.begin() as txn:  # commits at the end of the block, and aborts at an exception
 ...     txn.set(10, "qty", 2)
 ...     txn.insert((30, "Cid", 0))
->>> with store.begin() as txn:
-...     print(txn.get(10), len(txn), [sum(batch["qty"]) for batch in txn.scan(["qty"])])
-(10, 'Ann', 2) 3 [4]
+>>> with store.read() as table:  # reads alone, and commits nothing
+...     print(table.get(10), 30 in table, len(table), [sum(batch["qty"]) for batch in table.scan(["qty"])])
+(10, 'Ann', 2) True 3 [4]
 >>> store.close()
 
-Threads: a store is for any threads at once, a transaction for one at a time, which is checked. Calls into the library
-give up the interpreter's lock.
+What lasts: commits are in memory alone. ``Store.checkpoint`` writes the newest table into a folder, and ``recover``
+opens it again; what was committed since the last checkpoint is lost with the process.
 
-Memory: what a call hands out is Python's own, but for ``Transaction.pieces``, which lends the library's numbers until
-the next call on the transaction.
+Threads: a store is for any threads at once, a transaction or a snapshot for one at a time, which is checked. Calls into
+the library give up the interpreter's lock.
 
-Errors: each is an ``Error``, with its ``code`` and a sentence.
+Memory: what a call hands out is Python's own, but for ``Snapshot.pieces``, which lends the library's numbers, for
+reading, until the next write on the transaction or its end.
+
+Errors: each is an ``Error``, with its ``code`` and a sentence, and one of Python's own where there is a class for it.
 """
 from ._batches import Batch, Pieces, Texts
 from ._cells import Column
@@ -37,6 +40,7 @@ from ._errors import (
     NoImage,
     NoMemory,
     NotAscending,
+    ReadOnly,
     Shape,
     Superseded,
     TooManyRows,
@@ -44,8 +48,9 @@ from ._errors import (
     TooSmall,
 )
 from ._layers import Entry
+from ._snapshot import Rank, Snapshot
 from ._store import Sizes, Store, open, recover
-from ._transaction import Rank, Transaction
+from ._transaction import Transaction
 
 __all__ = [
     "BadLimit",
@@ -69,8 +74,10 @@ __all__ = [
     "NotAscending",
     "Pieces",
     "Rank",
+    "ReadOnly",
     "Shape",
     "Sizes",
+    "Snapshot",
     "Store",
     "Superseded",
     "Texts",

@@ -192,11 +192,8 @@ def read_script(path: Path) -> List[List[str]]:
 
 def newest(store: Store, most: Optional[int]) -> List[Row]:
     """The first rows of the newest table, or all."""
-    txn = store.begin()
-    try:
-        return list(islice(txn, most))
-    finally:
-        txn.abort()
+    with store.read() as table:
+        return list(islice(table, most))
 
 
 def pictured(script: Script, stable: Sequence[Row]) -> List[Line]:
@@ -248,11 +245,8 @@ def write_lines(lines: Iterable[Sequence[Cell]], out: TextIO) -> None:
 
 
 def newest_length(store: Store) -> int:
-    txn = store.begin()
-    try:
-        return len(txn)
-    finally:
-        txn.abort()
+    with store.read() as table:
+        return len(table)
 
 
 def main(arguments: Optional[Sequence[str]] = None) -> int:

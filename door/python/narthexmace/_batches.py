@@ -1,10 +1,8 @@
 """What a scan hands out: batches of columns, texts, and pieces that lie in the library's memory."""
 from __future__ import annotations
 
-import ctypes
-from array import array
-from itertools import accumulate
-from typing import Any, Callable, Dict, Iterable, Iterator, List, Sequence, Tuple, Union, overload
+from itertools import islice
+from typing import Any, Dict, Iterator, List, Optional, Sequence, Tuple, Union, overload
 
 from ._cells import Row
 
@@ -13,15 +11,16 @@ class Texts(Sequence[str]):
     """The texts of a column: their UTF-8 bytes, one after the other in ``data``, and in ``offsets`` where each begins.
 
     ``offsets`` are int64, one more than there are texts, so text i is ``data[offsets[i]:offsets[i + 1]]``. Both offer
-    the buffer protocol, and belong to this object. A text is decoded when it is asked for.
+    the buffer protocol, and belong to this object. A text is decoded when it is asked for; ``numpy.asarray`` makes an
+    array of objects, with all of them decoded.
     """
 
-    __slots__ = ("data", "offsets", "_ascii")
+    __slots__ = ("data", "offsets", "_bytes")
 
-    def __init__(self, lengths: Iterable[int], data: bytes) -> None:
+    def __init__(self, offsets: memoryview, data: bytes) -> None:
+        self._bytes = data
         self.data = memoryview(data)
-        self.offsets = memoryview(array("q", accumulate(lengths, initial=0)))
-        self._ascii = data.decode("ascii") if data.isascii() else None
+        self.offsets = offsets
 
     def __len__(self) -> int:
         return len(self.offsets) - 1
@@ -42,12 +41,26 @@ class Texts(Sequence[str]):
         return self._text(index)
 
     def _text(self, index: int) -> str:
-        begin, end = self.offsets[index], self.offsets[index + 1]
-        return self._ascii[begin:end] if self._ascii is not None else str(self.data[begin:end], "utf-8")
+        return self._bytes[self.offsets[index] : self.offsets[index + 1]].decode()
+
+    def __iter__(self) -> Iterator[str]:
+        return iter(self.tolist())
 
     def tolist(self) -> List[str]:
         """The texts, decoded."""
-        return self[:]
+        offsets, data = self.offsets.tolist(), self._bytes
+        if data.isascii():  # a byte is a character, so that they are decoded at once
+            decoded = data.decode("ascii")
+            return [decoded[begin:end] for begin, end in zip(offsets, islice(offsets, 1, None))]
+        return [data[begin:end].decode() for begin, end in zip(offsets, islice(offsets, 1, None))]
+
+    def __array__(self, dtype: Any = None, copy: Optional[bool] = None) -> Any:
+        """An array of numpy's, of objects. ImportError without numpy, ValueError where no copy may be made."""
+        import numpy
+
+        if copy is False:
+            raise ValueError("an array of texts is a copy: they are decoded")
+        return numpy.array(self.tolist(), dtype=object if dtype is None else dtype)
 
     def __repr__(self) -> str:
         return f"Texts({self.tolist()!r})"
@@ -90,8 +103,9 @@ class Batch:
 class Pieces(Sequence[memoryview]):
     """The numbers of an int column where they lie: views of int64, one for each run of rows that stand together.
 
-    No number is copied, but those of rows that were changed since the last checkpoint. The views may be read until the
-    next call on the transaction, which releases them: then they raise ValueError. ``copy`` makes memory of one's own.
+    No number is copied, but those of rows that were changed since the last checkpoint. Nobody may write through the
+    views: they lie in the table that all transactions read. They may be read until the next write on the transaction,
+    its commit or its end, which release them: then they raise ValueError. ``copy`` makes memory of one's own.
     """
 
     __slots__ = ("_views",)
@@ -120,21 +134,3 @@ class Pieces(Sequence[memoryview]):
 
     def __repr__(self) -> str:
         return f"<{len(self)} pieces>"
-
-
-def _room_maker() -> Callable[[int], bytearray]:
-    if not hasattr(ctypes, "pythonapi"):
-        return bytearray
-    make = ctypes.pythonapi.PyByteArray_FromStringAndSize
-    make.restype, make.argtypes = ctypes.py_object, (ctypes.c_char_p, ctypes.c_ssize_t)
-    return lambda size: make(None, size)
-
-
-#: So many bytes for C to fill: CPython makes them without writing zeros first.
-room_for = _room_maker()
-
-
-def truths_of(numbers: Any) -> memoryview:
-    """Truths, a byte each, of the numbers 0 and 1 that C put into an array."""
-    low = bytes(ctypes.c_int64(1)).index(1)  # where the lowest byte of a number stands
-    return memoryview(bytes(memoryview(numbers).cast("B")[low::8])).cast("?")

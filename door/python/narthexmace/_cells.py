@@ -32,8 +32,15 @@ def is_truth(value: object) -> bool:
     return isinstance(value, bool) or getattr(getattr(value, "dtype", None), "kind", None) == "b"
 
 
+def is_time(value: object) -> bool:
+    """Whether a value, or those of an array, are dates or times of numpy: their numbers say nothing without a unit."""
+    return getattr(getattr(value, "dtype", None), "kind", None) in ("m", "M")
+
+
 def number_of(value: object) -> int:
-    """A value as a cell of an int column. A float is none, and neither is a truth."""
+    """A value as a cell of an int column. A float is none, and neither is a truth, or a date or time of numpy."""
+    if is_time(value):
+        raise Shape(f"{value!r} stands where an int should: columns have no dates or times; astype('int64') makes ints")
     if is_truth(value):
         raise Shape(f"{value!r} stands where an int should")
     try:

@@ -4,11 +4,14 @@ from __future__ import annotations
 import ctypes
 from array import array
 from itertools import accumulate
-from typing import Any, List, Sequence, Union
+from typing import TYPE_CHECKING, Any, List, Sequence, Union
 
 from ._cells import BOOL, INT, bytes_of, number_of, truth_of
 from ._library import ColumnOf
 from ._tables import Named, encoded, written
+
+if TYPE_CHECKING:
+    Values = Union["array[int]", bytes, memoryview]
 
 #: The numbers of the types in C.
 _TYPES = {"int": 1, "text": 2, "bool": 3}
@@ -27,7 +30,8 @@ class PassedColumns:
         """Hands a column over. Its rows are as many as are passed: what writes a cell may have changed the list."""
         passed.name, passed.type = encoded(column.name), _TYPES[column.type]
         if column.type == INT:
-            numbers = column.cells if isinstance(column.cells, memoryview) else array("q", self._cells(column, number_of))
+            given = column.cells
+            numbers: Values = given if isinstance(given, memoryview) else array("q", self._cells(column, number_of))
             passed.rows, passed.numbers = len(numbers), self._place_of(numbers)
         elif column.type == BOOL:
             truths = column.cells if isinstance(column.cells, memoryview) else bytes(self._cells(column, truth_of))
@@ -43,7 +47,7 @@ class PassedColumns:
     def _cells(column: Named, write: Any) -> List[Any]:
         return [written(column, write, cell) for cell in column.cells]
 
-    def _place_of(self, values: Union[array, bytes, memoryview]) -> int:
+    def _place_of(self, values: Values) -> int:
         """Where values lie, which are kept. Those that nobody may write are copied, since Python lends no others."""
         view = memoryview(values).cast("B")
         if not len(view):

@@ -2,14 +2,20 @@
 from __future__ import annotations
 
 import ctypes
+import errno
 import os
-from typing import Dict, Optional, Tuple, Type
+from typing import Any, Dict, Optional, Tuple, Type, Union
 
-from ._library import library
+from ._library import FaultOf, library
+
+Path = Union[str, bytes, "os.PathLike[str]"]
 
 
 class Error(Exception):
-    """Something that the library refused. Each has the code of ``pdt.h``, and a sentence that says the cause."""
+    """Something that the library refused. Each has the code of ``pdt.h``, and a sentence that says the cause.
+
+    Where Python has a class for the cause, as KeyError for a row that isn't there, the exception is one of that, too.
+    """
 
     code = -1
 
@@ -57,7 +63,7 @@ class Duplicate(Error):
     code = 5
 
 
-class Missing(Error, LookupError):
+class Missing(Error, KeyError):
     """There is no row of the key, or no savepoint any more."""
 
     code = 6
@@ -70,9 +76,17 @@ class Shape(Error, ValueError):
 
 
 class BadTable(Error, ValueError):
-    """The text is no table."""
+    """The text is no table, or names or keys of columns make none.
+
+    Of a text ``cause`` says what is wrong, and ``record`` and ``column`` where: the record counts from 1 with the
+    header, the column from 0, and it is 0 where the whole record is meant. Of columns all three are None, as they are
+    of a folder's header.
+    """
 
     code = 8
+    cause: Optional[str] = None
+    record: Optional[int] = None
+    column: Optional[int] = None
 
 
 class BadLimit(Error, ValueError):
@@ -81,7 +95,7 @@ class BadLimit(Error, ValueError):
     code = 9
 
 
-class TooManyRows(Error):
+class TooManyRows(Error, ValueError):
     """The table has more rows than ``row_limit``."""
 
     code = 10
@@ -93,7 +107,7 @@ class TooSmall(Error):
     code = 11
 
 
-class BadStore(Error):
+class BadStore(Error, ValueError):
     """A column's file can't be read as one."""
 
     code = 12
@@ -105,7 +119,7 @@ class NoImage(Error):
     code = 13
 
 
-class Misuse(Error):
+class Misuse(Error, RuntimeError):
     """The call may not be made now: the store is closed, the transaction over, or another thread in a call of it."""
 
     code = 14
@@ -115,18 +129,31 @@ class Lent(Misuse, BufferError):
     """Numbers that ``Transaction.pieces`` lent are in use, by an array or a view over them. Let go of it first."""
 
 
-class FileFailed(Error):
-    """A file can't be made, written, synced or read: ``errno`` says why."""
+class ReadOnly(Misuse, AttributeError):
+    """A write was asked of a snapshot, of ``Store.read``: ``Store.begin`` begins a transaction, which writes."""
+
+
+class _OfFiles(Error, OSError):
+    """What the files of a folder are refused for: ``errno`` says why, and ``filename`` is the folder."""
+
+    def __init__(self, sentence: Optional[str] = None, errno: Optional[int] = None, filename: Any = None) -> None:
+        super().__init__(sentence)
+        self.filename = filename
+        if errno is not None:
+            self.errno, self.strerror = errno, os.strerror(errno)
+
+    def __reduce__(self) -> Tuple[Any, ...]:
+        return type(self), (*self.args, self.errno, self.filename)
+
+
+class FileFailed(_OfFiles):
+    """A file can't be made, written, synced or read: ``errno`` says why, and ``filename`` is the folder."""
 
     code = 15
 
-    def __init__(self, sentence: Optional[str] = None, errno: int = 0) -> None:
-        super().__init__(sentence)
-        self.errno = errno
 
-
-class Exists(Error):
-    """A file of a store is in the folder already."""
+class Exists(_OfFiles, FileExistsError):
+    """A file of a store is in the folder already, which is ``filename``."""
 
     code = 16
 
@@ -171,13 +198,11 @@ _KINDS: Tuple[Type[Error], ...] = (
     DeviceFailed,
 )
 _BY_CODE: Dict[int, Type[Error]] = {kind.code: kind for kind in _KINDS}
+_OF_FILES: Dict[int, Type[_OfFiles]] = {kind.code: kind for kind in (FileFailed, Exists)}
 
 
 def error_of(code: int) -> Error:
     """The exception of a code that is not PDT_OK."""
-    if code == FileFailed.code:
-        errno = ctypes.get_errno()
-        return FileFailed(f"{library.pdt_text(code).decode()}: {os.strerror(errno)}", errno)
     return _BY_CODE[code]() if code in _BY_CODE else Error(library.pdt_text(code).decode())
 
 
@@ -185,3 +210,29 @@ def check(code: int) -> None:
     """Raises the exception of a code, where it is not PDT_OK."""
     if code:
         raise error_of(code)
+
+
+def check_files(code: int, folder: Path) -> None:
+    """As ``check``, of a call that reads or writes the files of a folder."""
+    if code not in (FileFailed.code, Exists.code):
+        check(code)
+        return
+    number = ctypes.get_errno() if code == FileFailed.code else errno.EEXIST
+    sentence = library.pdt_text(code).decode()
+    if code == FileFailed.code:
+        sentence = f"{sentence}: {os.strerror(number)}"
+    raise _OF_FILES[code](f"{sentence}: {os.fsdecode(folder)!r}", number, folder)
+
+
+def check_text(code: int, fault: FaultOf) -> None:
+    """As ``check``, of an opening over a text: a fault says what is wrong with that."""
+    if code == BadTable.code:
+        raise bad_text(fault.row, fault.column, fault.cause.decode())
+    check(code)
+
+
+def bad_text(record: int, column: int, cause: str) -> BadTable:
+    """The exception of a fault of a text."""
+    error = BadTable(f"record {record}, column {column}: {cause}")
+    error.record, error.column, error.cause = record, column, cause
+    return error

@@ -5,13 +5,22 @@ import threading
 import weakref
 from contextlib import contextmanager
 from ctypes import byref, c_void_p
-from typing import Any, Iterator, List, Optional, Tuple
+from typing import Any, Iterator, List, NoReturn, Optional, Sequence, Tuple
 
 from ._errors import Lent, Misuse, check
 from ._library import library
 
 
-class StoreHandle:
+class Single:
+    """What stands for an object of C, of which there is one: it is neither copied nor pickled, which is TypeError."""
+
+    __slots__ = ()
+
+    def __reduce_ex__(self, protocol: object) -> NoReturn:
+        raise TypeError(f"a {type(self).__name__} can't be copied or pickled: it stands for memory of this process")
+
+
+class StoreHandle(Single):
     """A store's address, which several threads may have at once. It is freed when nothing uses it any more.
 
     ``with handle as at`` is a call on the store. C's own lock orders the calls; the lock here only counts those that go
@@ -44,7 +53,7 @@ class StoreHandle:
             if self._calls:
                 raise Misuse("another thread is in a call of the store")
             if not self._free():
-                raise Misuse("a transaction of the store is open")
+                raise Misuse("a transaction or a snapshot of the store is open")
 
     def end(self) -> None:
         """Takes no more calls, and frees the store now, or with the end of its last transaction."""
@@ -70,7 +79,7 @@ class StoreHandle:
         self.end()
 
 
-class _Address:
+class _Address(Single):
     """The address of an open transaction, which is aborted when nobody keeps this any more."""
 
     __slots__ = ("room", "store")
@@ -84,11 +93,12 @@ class _Address:
         self.store.free_if_ending()
 
 
-class TransactionHandle:
+class TransactionHandle(Single):
     """A transaction's address, which one thread may have at a time.
 
-    ``with handle as at`` is a call on the transaction. It first takes back what the last call lent: each array over the
-    library's memory keeps the address, so that the memory stays for as long as someone can read it.
+    ``with handle as at`` is a call on the transaction. One that writes or commits first takes back what was lent, by
+    ``take_back``: reads move nothing. Each array over the library's memory keeps the address, so that the memory stays
+    for as long as someone can read it.
     """
 
     def __init__(self, store: StoreHandle, client: int) -> None:
@@ -110,8 +120,6 @@ class TransactionHandle:
         try:
             if self._address is None or self._address.room.value is None:
                 raise Misuse("the transaction is over")
-            if self._lent and not self._take_back():
-                raise Lent("numbers that were lent are still in use: let go of the arrays over them, or copy them")
             return self._address.room.value
         except BaseException:
             self._lock.release()
@@ -122,7 +130,7 @@ class TransactionHandle:
 
     @contextmanager
     def keeping(self) -> Iterator[Optional[int]]:
-        """A call that moves nothing of what was lent, and leaves it alone. None where the transaction is over."""
+        """A call where the transaction may be over: None then."""
         self._take_lock()
         try:
             yield None if self._address is None else self._address.room.value
@@ -133,14 +141,22 @@ class TransactionHandle:
         if not self._lock.acquire(blocking=False):
             raise Misuse("another thread is in a call of the transaction")
 
-    def lend(self, memory: Any) -> memoryview:
-        """A view of int64 over the library's memory, until the next call. Made within a call."""
-        memory.keeps = self._address
-        view = memoryview(memory).cast("B").cast("q")
-        self._lent.append((weakref.ref(view), weakref.ref(memory)))
-        return view
+    def lend(self, runs: Sequence[Any]) -> List[memoryview]:
+        """A view of int64 over each run of the library's memory, for reading. Made in a call."""
+        self._lent = [(view, memory) for view, memory in self._lent if memory() is not None]
+        views = []
+        for memory in runs:
+            memory.keeps = self._address
+            views.append(memoryview(memory).toreadonly().cast("B").cast("q"))
+            self._lent.append((weakref.ref(views[-1]), weakref.ref(memory)))
+        return views
 
-    def _take_back(self) -> bool:
+    def take_back(self) -> None:
+        """Takes back what was lent, and raises Lent where it is in use. Made in a call, before it moves anything."""
+        if self._lent and not self._released():
+            raise Lent("numbers that were lent are still in use: let go of the arrays over them, or copy them")
+
+    def _released(self) -> bool:
         """Releases the views that were lent, and says whether nothing reads the memory, as a part of a view may."""
         for view, _ in self._lent:
             _release(view())
@@ -157,7 +173,7 @@ class TransactionHandle:
         """Ends the transaction: at once, or once nothing reads what it lent."""
         self._take_lock()
         try:
-            self._take_back()
+            self._released()
             self._address = None
         finally:
             self._lock.release()

@@ -7,6 +7,7 @@ from typing import Iterator, NamedTuple, Optional, Sequence
 
 from ._cells import Row, Shaping
 from ._errors import TooSmall, check
+from ._handles import Single
 from ._library import EntryOf, library
 
 INSERT, DELETE, MODIFY = "insert", "delete", "modify"
@@ -30,7 +31,7 @@ class Entry(NamedTuple):
     values: Row
 
 
-class Layer:
+class Layer(Single):
     """The entries of a layer as they stood when C filled its address. A loop over them is for one thread."""
 
     def __init__(self, name: str, shaping: Shaping) -> None:

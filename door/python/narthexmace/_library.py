@@ -70,12 +70,18 @@ class PlaceOf(ctypes.Structure):
     _fields_ = [("row", c_uint64), ("column", c_uint64)]
 
 
+class FaultOf(ctypes.Structure):
+    """pdt_fault"""
+
+    _fields_ = [("row", c_uint64), ("column", c_uint64), ("cause", c_char_p)]
+
+
 # Each call's result, and its arguments. A pointer to what the call fills is a void pointer here, so that an array, a
 # part of one and a number by reference may all stand there.
 _CELLS = [c_void_p, c_char_p, c_size_t]  # numbers, texts, and how many bytes the texts have
 _CALLS = {
     "text": (c_char_p, [c_int]),
-    "open": (c_int, [c_char_p, c_size_t, c_void_p, c_void_p]),
+    "open_csv": (c_int, [c_char_p, c_size_t, c_void_p, c_void_p, c_void_p]),
     "open_columns": (c_int, [c_void_p, c_size_t, c_size_t, c_void_p, c_void_p, c_void_p]),
     "recover": (c_int, [c_char_p, c_void_p, c_void_p]),
     "close": (c_int, [c_void_p]),
@@ -101,6 +107,7 @@ _CALLS = {
     "get": (c_int, [c_void_p, *_CELLS, c_void_p, c_void_p, c_size_t, c_void_p]),
     "row_at": (c_int, [c_void_p, c_uint64, c_void_p, c_void_p, c_size_t, c_void_p]),
     "cells": (c_int, [c_void_p, c_size_t, c_uint64, c_void_p, c_void_p, c_void_p, c_size_t, c_void_p]),
+    "texts": (c_int, [c_void_p, c_size_t, c_uint64, c_void_p, c_void_p, c_void_p]),
     "ints": (c_int, [c_void_p, c_size_t, c_uint64, c_void_p, c_void_p]),
     "pieces": (c_int, [c_void_p, c_size_t, c_uint64, c_uint64, c_void_p, c_void_p, c_void_p]),
     "layers": (c_int, [c_void_p, c_void_p, c_void_p]),

@@ -6,18 +6,18 @@ import os
 from ctypes import byref
 from itertools import chain
 from types import TracebackType
-from typing import Iterator, Mapping, NamedTuple, Optional, Tuple, Type, Union
+from typing import Any, Iterator, Mapping, NamedTuple, Optional, Sequence, Tuple, Type
 
 from ._cells import TYPES, Column, Shaping
 from ._columns import PassedColumns
-from ._errors import BadLimit, Misuse, NotAscending, check
-from ._handles import StoreHandle, TransactionHandle
+from ._errors import BadLimit, BadTable, Misuse, NotAscending, Path, check, check_files, check_text
+from ._handles import Single, StoreHandle, TransactionHandle
 from ._layers import Entry, Layer
-from ._library import MAX_RECENT, MAX_ROWS, Options, PlaceOf, SizesOf, library
-from ._tables import Columns, KeyNames, Table, named_columns, text_of_columns, text_of_table
+from ._library import MAX_RECENT, MAX_ROWS, FaultOf, Options, PlaceOf, SizesOf, library
+from ._snapshot import Snapshot
+from ._tables import KeyNames, Named, Table, columns_of, fault_of_columns, named_columns
+from ._tables import text_of_columns, text_of_table
 from ._transaction import Transaction
-
-Folder = Union[str, bytes, "os.PathLike[str]"]
 
 
 class Sizes(NamedTuple):
@@ -41,31 +41,35 @@ def open(
     """Opens a store over a table, which is a CSV text, the path of one, or columns.
 
     A text is ``bytes``, or a ``str`` that has an end of a line; any other ``str`` is a path, as is a ``Path``. Its
-    first record names the columns, as ``id:int:key,name:text``. Columns are a mapping from names to lists or arrays;
-    ``key`` names those of the key, which come first then, and ``types`` may give the type of some: "int", "text" or
-    "bool".
+    first record names the columns, as ``id:int:key,name:text``. Columns are a mapping from names to lists or arrays, or
+    a DataFrame of pandas; ``key`` names those of the key, which come first then, and ``types`` may give the type of
+    some: "int", "text" or "bool".
 
     ``recent`` is how many commits may come between a transaction's begin and its commit, ``row_limit`` how many rows a
     table may have, and ``conflicts`` says whether changes of two columns of one row conflict: "row", or not: "column".
 
+    The table is read whole, and stays in memory: nothing is written to the file, and commits last only once a
+    checkpoint has written them (``Store.checkpoint``).
+
     BadTable, Shape (the columns), TooManyRows, BadLimit, NoMemory; OSError where the file can't be read.
     """
     options = _options(recent, row_limit, conflicts)
-    if isinstance(table, Mapping):
-        return _over_columns(table, key, types, options)
+    columns = columns_of(table)
+    if columns is not None:
+        return _over_columns(columns, key, types, options)
     if key is not None or types is not None:
         raise TypeError("key and types go with columns; a CSV text names its own in its header")
     return _over_text(text_of_table(table), options)
 
 
 def _over_text(text: bytes, options: Options) -> "Store":
-    handle = StoreHandle()
-    check(library.pdt_open(text, len(text), byref(options), byref(handle.room)))
+    handle, fault = StoreHandle(), FaultOf()
+    check_text(library.pdt_open_csv(text, len(text), byref(options), byref(fault), byref(handle.room)), fault)
     return Store(handle)
 
 
 def _over_columns(
-    columns: Columns, key: Optional[KeyNames], types: Optional[Mapping[str, str]], options: Options
+    columns: Mapping[str, Any], key: Optional[KeyNames], types: Optional[Mapping[str, str]], options: Options
 ) -> "Store":
     """Columns in ascending key go into the table from where they lie; others are sorted, by way of a text."""
     named = named_columns(columns, key, types)
@@ -77,29 +81,45 @@ def _over_columns(
                 byref(passed.columns), len(named), keys, byref(options), byref(place), byref(handle.room)
             )
         )
+    except BadTable:
+        raise BadTable(fault_of_columns(named)) from None
     except NotAscending:
-        return _over_text(text_of_columns(named), options)
+        return _sorted(named, options)
     return Store(handle)
 
 
+def _sorted(columns: Sequence[Named], options: Options) -> "Store":
+    """Opens a store over columns whose rows stand in any order."""
+    try:
+        return _over_text(text_of_columns(columns), options)
+    except BadTable as fault:  # of the records only their keys can be refused: all cells were read before
+        if fault.record is None:
+            raise
+        raise BadTable(f"row {fault.record - 2}, which counts from 0, has the key of an earlier one") from None
+
+
 def recover(
-    folder: Folder, *, recent: int = MAX_RECENT, row_limit: int = MAX_ROWS, conflicts: str = "column"
+    folder: Path, *, recent: int = MAX_RECENT, row_limit: int = MAX_ROWS, conflicts: str = "column"
 ) -> "Store":
     """Opens a store over the image that ``Store.checkpoint`` left in a folder, whose files are read whole.
+
+    Later commits are in memory alone, and last once a checkpoint has written them into another folder.
 
     FileFailed, BadTable (the header), BadStore, NoImage, TooManyRows, BadLimit, NoMemory.
     """
     options = _options(recent, row_limit, conflicts)
     handle = StoreHandle()
-    check(library.pdt_recover(_folder(folder), byref(options), byref(handle.room)))
+    check_files(library.pdt_recover(_folder(folder), byref(options), byref(handle.room)), folder)
     return Store(handle)
 
 
-class Store:
+class Store(Single):
     """A table with its history. Several threads may use it at once; each transaction is for one thread.
 
-    With ``with`` it is closed at the end of the block. Nothing folds, cuts or checkpoints by itself: ``sizes`` says
-    what has grown.
+    Commits are in memory alone. What a checkpoint has written lasts; what was committed since the last one is lost with
+    the process, and with ``close``. Nothing folds, cuts or checkpoints by itself: ``sizes`` says what has grown.
+
+    With ``with`` it is closed at the end of the block.
     """
 
     __slots__ = ("_handle", "_shaping", "__weakref__")
@@ -114,6 +134,13 @@ class Store:
         """The columns, those of the key first. They never change."""
         return self._shaping.columns
 
+    def read(self) -> Snapshot:
+        """A snapshot of the newest table, for reading: ``with store.read() as table:``. NoMemory.
+
+        It takes no number of a commit, so that no open transaction grows older by it.
+        """
+        return Snapshot(TransactionHandle(self._handle, 0), self._shaping)
+
     def begin(self, client: int = 0) -> Transaction:
         """Begins a transaction over the newest table. The number of the client goes into the history. NoMemory."""
         number = operator.index(client)
@@ -127,17 +154,24 @@ class Store:
             check(library.pdt_fold(at))
 
     def cut(self) -> None:
-        """Lets the history so far go. A transaction that began before reads on, and is TooOld at its commit."""
+        """Lets go of the history so far, so that it takes no memory: what each commit changed. No table changes.
+
+        A transaction that began before the newest commit reads on, and is TooOld at its own commit, since nobody can
+        tell any more whether it is in conflict. One that began after that commit commits as ever.
+        """
         with self._handle as at:
             check(library.pdt_cut(at))
 
-    def checkpoint(self, folder: Folder) -> None:
+    def checkpoint(self, folder: Path) -> None:
         """Writes the newest table into a folder that has no store. When it returns, that table is durable.
+
+        It is what makes commits last: ``recover`` opens what it wrote, and later commits want another checkpoint, into
+        another folder. The folder is there already.
 
         Exists, FileFailed, NoMemory: what was written is removed.
         """
         with self._handle as at:
-            check(library.pdt_checkpoint(at, _folder(folder)))
+            check_files(library.pdt_checkpoint(at, _folder(folder)), folder)
 
     def sizes(self) -> Sizes:
         """What has grown."""
@@ -157,9 +191,9 @@ class Store:
         return chain(read, write)
 
     def close(self) -> None:
-        """Closes the store. Misuse while a transaction is open, or another thread in a call: the store stays open then.
+        """Closes the store: what no checkpoint has written is gone. Closing again is no error.
 
-        Closing again is no error.
+        Misuse while a transaction or a snapshot is open, or another thread in a call: the store stays open then.
         """
         self._handle.close()
 
@@ -189,7 +223,7 @@ def _options(recent: int, row_limit: int, conflicts: str) -> Options:
     return Options(operator.index(recent), operator.index(row_limit), conflicts == "row")
 
 
-def _folder(folder: Folder) -> bytes:
+def _folder(folder: Path) -> bytes:
     path = os.fsencode(folder)
     if b"\0" in path:
         raise Misuse("a path has no null character")

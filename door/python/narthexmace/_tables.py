@@ -3,17 +3,20 @@ from __future__ import annotations
 
 import os
 from pathlib import Path
-from typing import Any, Callable, Dict, Iterable, List, Mapping, NamedTuple, Optional, Sequence, Union
+from typing import TYPE_CHECKING, Any, Callable, Dict, Iterable, List, Mapping, NamedTuple, Optional, Sequence, Union
 
-from ._cells import BOOL, INT, TEXT, bytes_of, is_truth, number_of, truth_of
+from ._cells import BOOL, INT, TEXT, bytes_of, is_time, is_truth, number_of, truth_of
 from ._errors import BadTable, Shape
 
-Columns = Mapping[str, Iterable[Any]]
+if TYPE_CHECKING:
+    from pandas import DataFrame
+
+Columns = Union[Mapping[str, Iterable[Any]], "DataFrame"]
 Table = Union[str, bytes, "os.PathLike[str]", Columns]
 KeyNames = Union[str, Sequence[str]]
 
 
-def text_of_table(table: Union[str, bytes, "os.PathLike[str]"]) -> bytes:
+def text_of_table(table: object) -> bytes:
     """The CSV text of a table that isn't given as columns."""
     if isinstance(table, (bytes, bytearray, memoryview)):
         return bytes(table)
@@ -36,7 +39,23 @@ class Named(NamedTuple):
     key: bool
 
 
-def named_columns(columns: Columns, key: Optional[KeyNames], types: Optional[Mapping[str, str]]) -> List[Named]:
+def columns_of(table: object) -> Optional[Dict[str, Any]]:
+    """The columns of a mapping or of a DataFrame, by their names; None of another table. A Series is numpy's array."""
+    if not (hasattr(table, "keys") and hasattr(table, "__getitem__")):
+        return None
+    names = list(table.keys())
+    for name in names:
+        if not isinstance(name, str):
+            raise Shape(f"a column has the name {name!r}, which is no text")
+    if len(set(names)) < len(names):
+        raise Shape("two columns have one name")
+    columns = {name: table[name] for name in names}
+    return {name: cells.to_numpy() if hasattr(cells, "to_numpy") else cells for name, cells in columns.items()}
+
+
+def named_columns(
+    columns: Mapping[str, Any], key: Optional[KeyNames], types: Optional[Mapping[str, str]]
+) -> List[Named]:
     """The columns, those of the key first, in the order in which the key names them."""
     names, types = [key] if isinstance(key, str) else list(key or ()), types or {}
     for name in (*names, *types):
@@ -48,6 +67,8 @@ def named_columns(columns: Columns, key: Optional[KeyNames], types: Optional[Map
         raise Shape("the name of a column has no null character: C would cut it there")
     listed = []
     for name in (*names, *(name for name in columns if name not in names)):
+        if is_time(columns[name]):
+            raise Shape(f"column {name!r} has dates or times, and no column has: astype('int64') makes ints of them")
         cells = array_of(columns[name]) or _listed(columns[name])
         type_ = types[name] if name in types else _type_of(name, cells)
         if type_ not in _WRITERS:
@@ -59,6 +80,17 @@ def named_columns(columns: Columns, key: Optional[KeyNames], types: Optional[Map
     if len(lengths) > 1:
         raise Shape(f"the columns have {' and '.join(map(str, lengths))} cells")
     return listed
+
+
+def fault_of_columns(columns: Sequence[Named]) -> str:
+    """Why columns of equally many cells make no table."""
+    for column in columns:
+        if not 1 <= len(encoded(column.name)) <= 64 or ":" in column.name:
+            return f"the name {column.name!r} is not one of 1 to 64 bytes without a colon"
+    keys = sum(column.key for column in columns)
+    if keys > 4:
+        return f"the key has {keys} columns, and 4 are the most"
+    return f"there are {len(columns)} columns, and 32 are the most"
 
 
 def text_of_columns(columns: Iterable[Named]) -> bytes:

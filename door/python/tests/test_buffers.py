@@ -2,7 +2,8 @@
 import gc
 import unittest
 from array import array
-from typing import Any, List
+from typing import Any, Callable, List
+from unittest import mock
 
 import narthexmace
 
@@ -22,7 +23,16 @@ def rows() -> List[tuple]:
     return [(i, f"n{i}" if i % 3 else f"é{i}", i * 7919 % 1000 - 500, i % 5 == 0) for i in range(ROWS)]
 
 
-class Case(unittest.TestCase):
+class Long(unittest.TestCase):
+    """Comparisons of long lists."""
+
+    def same(self, got: Any, due: Any) -> None:
+        """Two long lists are equal, or the first place is told: unittest would take long to compare their lines."""
+        apart = [place for place, (one, other) in enumerate(zip(got, due)) if one != other]
+        self.assertEqual((len(got), apart[:1]), (len(due), []))
+
+
+class Case(Long):
     """A store of 10,000 rows, and a transaction that has changed some of them."""
 
     def setUp(self) -> None:
@@ -41,17 +51,17 @@ class Case(unittest.TestCase):
         self.qty = [row[2] for row in self.rows]
 
 
-class Openings(unittest.TestCase):
+class Openings(Long):
     def image(self, columns: dict, key: Any) -> List[tuple]:
-        with narthexmace.open(columns, key=key) as store, store.begin() as txn:
-            return txn[:]
+        with narthexmace.open(columns, key=key) as store, store.read() as table:
+            return table[:]
 
     def test_columns_from_where_they_lie(self) -> None:
         ids, truths = array("q", range(ROWS)), memoryview(bytearray(i % 2 for i in range(ROWS))).cast("?")
         wanted = [(i, f"é{i}", i % 2 == 1) for i in range(ROWS)]
         names = [row[1] for row in wanted]
         for id_ in (ids, memoryview(ids), memoryview(bytes(ids)).cast("q"), list(ids), range(ROWS)):
-            self.assertEqual(self.image({"id": id_, "name": names, "new": truths}, "id"), wanted)
+            self.same(self.image({"id": id_, "name": names, "new": truths}, "id"), wanted)
         self.assertEqual(self.image({"new": truths, "name": names, "id": ids}, ["id", "new"])[1], (1, True, "é1"))
         self.assertEqual(ids.tolist(), list(range(ROWS)))
         ids.append(0)  # nothing lends it any more
@@ -72,15 +82,15 @@ class Scans(Case):
         places = [(batch.start, len(batch)) for batch in batches]
         self.assertEqual(places, [(0, 3000), (3000, 3000), (6000, 3000), (9000, 1000)])
         self.assertEqual(batches[0].columns, ("id", "name", "qty", "new"))
-        self.assertEqual([row for batch in batches for row in batch.rows()], self.rows)
+        self.same([row for batch in batches for row in batch.rows()], self.rows)
         formats = [(batches[0][it].format, batches[0][it].itemsize) for it in ("qty", "new")]
         self.assertEqual(formats, [("q", 8), ("?", 1)])
-        self.assertEqual(batches[1]["new"].tolist(), [row[3] for row in self.rows[3000:6000]])
+        self.same(batches[1]["new"].tolist(), [row[3] for row in self.rows[3000:6000]])
 
     def test_texts_as_bytes_and_offsets(self) -> None:
         texts = next(self.txn.scan(["name"]))["name"]
         names = [row[1] for row in self.rows]
-        self.assertEqual((list(texts), texts.tolist()), (names, names))
+        self.same([*texts, *texts.tolist()], [*names, *names])
         self.assertEqual((texts[-1], texts[2:9:3]), (names[-1], names[2:9:3]))
         self.assertEqual(bytes(texts.data), "".join(names).encode())
         self.assertEqual(texts.offsets[:3].tolist(), [0, 5, 5 + len("é0".encode())])
@@ -96,12 +106,43 @@ class Scans(Case):
             self.assertEqual([row[1] for row in txn], long)
             self.assertEqual(txn[2], (2, long[2]))
 
+    def test_texts_lie_in_many_places(self) -> None:
+        # blocks of 1,024 rows, and between their texts those of rows that were set, inserted and deleted
+        names = [row[1] for row in self.rows]
+        for key in (3, 1024, 2047, 2048, 8191, 8192, 8193):
+            for text in ("", "changed", "é" * 2048):
+                self.txn.set(key, "name", text)
+                names[next(place for place, row in enumerate(self.rows) if row[0] == key)] = text
+                self.same(next(self.txn.scan(["name"]))["name"].tolist(), names)
+        self.compare_parts(names)
+
+    def test_texts_of_which_many_were_changed(self) -> None:
+        names = [row[1] for row in self.rows]
+        for place in (*range(2000, 4000, 3), *range(4000, 6000, 17)):
+            names[place] = "é" * (place % 40)
+            self.txn.set(self.rows[place][0], "name", names[place])
+        self.compare_parts(names)
+
+    def compare_parts(self, names: List[str]) -> None:
+        ends = [(0, 1), (1000, 1100), (1023, 1025), (2040, 9000), (8190, 8200), (ROWS - 1, ROWS), (0, ROWS)]
+        for start, stop in ends:
+            texts = next(self.txn.scan(["name"], start, stop))["name"]
+            self.same(texts.tolist(), names[start:stop])
+            self.assertEqual(bytes(texts.data), "".join(names[start:stop]).encode())
+
+    def test_truths_of_every_length(self) -> None:
+        truths = [row[3] for row in self.rows]
+        for start, stop in ((0, 1), (0, 8191), (0, 8192), (0, 8193), (5, ROWS), (ROWS - 1, ROWS)):
+            cells = next(self.txn.scan(["new"], start, stop))["new"]
+            self.same(cells.tolist(), truths[start:stop])
+            self.assertEqual(cells.nbytes, stop - start)
+
     def test_a_batch_outlives_its_transaction(self) -> None:
         batch = next(self.txn.scan(["qty"]))
         self.txn.delete(0)
         self.txn.abort()
         self.store.close()
-        self.assertEqual(batch["qty"].tolist(), self.qty)
+        self.same(batch["qty"].tolist(), self.qty)
 
     def test_no_columns_and_no_rows(self) -> None:
         self.assertEqual(list(self.txn.scan(["qty"], 20, 20)), [])
@@ -112,37 +153,85 @@ class Scans(Case):
 class Lending(Case):
     def test_the_numbers_where_they_lie(self) -> None:
         pieces = self.txn.pieces("qty")
-        self.assertEqual([number for piece in pieces for number in piece], self.qty)
-        self.assertEqual(pieces.copy().tolist(), self.qty)
+        self.same([number for piece in pieces for number in piece], self.qty)
+        self.same(pieces.copy().tolist(), self.qty)
         self.assertEqual({(piece.format, piece.itemsize) for piece in pieces}, {("q", 8)})
         self.assertEqual(self.txn.pieces("qty", 3, 150).copy().tolist(), self.qty[3:150])
         self.assertEqual(len(self.txn.pieces("qty", 7, 7)), 0)
 
     def test_no_number_of_a_stable_run_is_copied(self) -> None:
-        views = [self.txn.pieces("qty", 5001, 5090)[0] for _ in range(2)]
-        with self.assertRaises(ValueError):
-            views[0][0]  # the second call took it back
-        with self.store.begin() as other:
-            there = other.pieces("qty", 5001, 5090)[0]
-            self.assertEqual(address(there), address(views[1]))  # both read one block
+        with self.store.read() as table:
+            views = [table.pieces("qty", 5001, 5090)[0], self.txn.pieces("qty", 5001, 5090)[0]]
+            self.assertEqual(address(views[0]), address(views[1]))  # both read one block
 
-    def test_the_next_call_takes_the_views_back(self) -> None:
+    def test_nobody_writes_through_a_piece(self) -> None:
+        # a run that lies in the stable table, and numbers that came by value
+        for pieces in (self.txn.pieces("qty", 5001, 5090), self.txn.pieces("qty", 100, 102), self.txn.pieces("id")):
+            for piece in pieces:
+                self.assertTrue(piece.readonly)
+                for view in (piece, piece[:1], memoryview(piece), piece.cast("B")):
+                    with self.assertRaises(TypeError):
+                        view[0] = 7
+        with self.store.read() as table:
+            self.assertEqual(table[5001], rows()[5001])
+
+    def test_pieces_of_two_columns_are_read_beside_each_other(self) -> None:
+        ids, quantities = self.txn.pieces("id", 4000, 6000), self.txn.pieces("qty", 4000, 6000)
+        pairs = zip((it for piece in ids for it in piece), (it for piece in quantities for it in piece))
+        self.same(list(pairs), [(row[0], row[2]) for row in self.rows[4000:6000]])
+
+    def test_reads_leave_the_views_alone(self) -> None:
         piece = self.txn.pieces("qty")[3]
-        number = piece[0]
-        len(self.txn)
+        numbers = piece.tolist()
+        for read in (
+            lambda: len(self.txn), lambda: self.txn.get(7), lambda: self.txn.rank(7), lambda: self.txn[7],
+            lambda: self.txn[7:9], lambda: list(self.txn), lambda: list(self.txn.scan()), lambda: 7 in self.txn,
+            lambda: self.txn.pieces("id").copy(), lambda: list(self.txn.layer()),
+        ):  # fmt: skip
+            read()
+            self.same(piece.tolist(), numbers)
+
+    def test_each_write_and_each_end_takes_the_views_back(self) -> None:
+        ends: List[Callable[[narthexmace.Transaction], Any]] = [
+            lambda txn: txn.insert((-7, "x", 0, True)),
+            lambda txn: txn.delete(7),
+            lambda txn: txn.set(7, "qty", 0),
+            narthexmace.Transaction.commit,
+            narthexmace.Transaction.abort,
+        ]
+        for end in ends:
+            txn = self.store.begin()
+            pieces = [*txn.pieces("qty"), *txn.pieces("id")]
+            end(txn)
+            for piece in pieces:
+                with self.assertRaises(ValueError):
+                    piece[0]
+            txn.abort()
+
+    def test_what_a_snapshot_lends_stays_until_its_end(self) -> None:
+        with self.store.read() as table:
+            piece = table.pieces("qty", 5001, 5090)[0]
+            self.store.fold()
+            with self.store.begin() as txn:
+                txn.set(5001, "qty", 7)
+            self.assertEqual(piece[0], rows()[5001][2])
         with self.assertRaises(ValueError):
             piece[0]
-        self.assertIn(number, self.qty)
 
     def test_a_view_that_is_in_use_is_named(self) -> None:
         part = self.txn.pieces("qty", 5001, 5090)[0][:2]
-        for call in (self.txn.commit, lambda: self.txn.delete(1), lambda: len(self.txn)):
+        writes: List[Callable[[], Any]] = [
+            self.txn.commit, lambda: self.txn.delete(1), lambda: self.txn.insert((-7, "x", 0, True)),
+            lambda: self.txn.set(7, "qty", 0),
+        ]  # fmt: skip
+        for call in writes:
             with self.assertRaises(narthexmace.Lent) as caught:
                 call()
             self.assertIsInstance(caught.exception, BufferError)
+        self.same(self.txn[:], self.rows)
         self.assertEqual(part.tolist(), self.qty[5001:5003])
         del part
-        self.assertEqual(len(self.txn), ROWS)
+        self.txn.delete(1)
 
     def test_memory_stays_while_an_array_reads_it(self) -> None:
         part = self.txn.pieces("qty", 5001, 5090)[0][:2]
@@ -199,6 +288,25 @@ class Numpy(Case):
         pieces = self.txn.pieces("qty")
         self.assertEqual(sum(int(numpy.frombuffer(piece, numpy.int64).sum()) for piece in pieces), sum(self.qty))
 
+    def test_no_array_writes_into_the_table(self) -> None:
+        array = numpy.asarray(self.txn.pieces("qty", 5001, 5090)[0])
+        with self.assertRaises(ValueError):
+            array += 1
+        with self.assertRaises(ValueError):
+            array.flags.writeable = True
+        with self.store.read() as table:
+            self.assertEqual(table[5001], rows()[5001])
+
+    def test_texts_as_an_array(self) -> None:
+        names = [row[1] for row in self.rows]
+        array = numpy.asarray(next(self.txn.scan(["name"]))["name"])
+        self.assertEqual(array.dtype, numpy.dtype(object))
+        self.same(array.tolist(), names)
+        ends = ["", "\0", "a\0", "é\0"]  # numpy's own texts would lose what stands at the end
+        with narthexmace.open({"t": ends}, key="t") as store, store.read() as table:
+            self.assertEqual(numpy.asarray(next(table.scan())["t"]).tolist(), sorted(ends))
+            self.assertEqual(numpy.array(next(table.scan())["t"], "U3").dtype, numpy.dtype("U3"))
+
     def test_an_array_over_a_piece_is_noticed(self) -> None:
         numbers = numpy.frombuffer(self.txn.pieces("qty", 5001, 5090)[0], numpy.int64)
         with self.assertRaises(narthexmace.Lent):
@@ -227,17 +335,70 @@ class Numpy(Case):
         with self.assertRaises(narthexmace.Shape):
             narthexmace.open({"id": numpy.array([2**63], numpy.uint64)}, key="id")
 
+    def test_dates_and_times_are_no_ints(self) -> None:
+        for kind in ("timedelta64[ns]", "timedelta64[s]", "datetime64[ns]", "datetime64[D]"):
+            times = numpy.array([1, 2], kind)
+            for column in (times, list(times), times[::-1]):
+                with self.assertRaisesRegex(narthexmace.Shape, "int"):
+                    narthexmace.open({"id": column}, key="id")
+                with self.assertRaises(narthexmace.Shape):
+                    narthexmace.open({"id": column}, key="id", types={"id": "int"})
+            for call in (lambda: self.txn.set(1, "qty", times[0]), lambda: self.txn.get(times[0])):
+                with self.assertRaises(narthexmace.Shape):
+                    call()
+        with self.assertRaisesRegex(narthexmace.Shape, "dates or times"):
+            narthexmace.open({"id": numpy.array([1], "timedelta64[ns]")}, key="id")
+        with self.assertRaisesRegex(narthexmace.Shape, "dates or times"):
+            self.txn.set(1, "qty", numpy.timedelta64(5, "ns"))
+
 
 class Pandas(Case):
     @unittest.skipUnless(pandas, "pandas isn't there")
     def test_a_frame(self) -> None:
         frame = self.txn.to_pandas()
-        self.assertEqual(list(frame.itertuples(index=False, name=None)), self.rows)
+        self.same(list(frame.itertuples(index=False, name=None)), self.rows)
         self.assertEqual([str(it) for it in frame.dtypes], ["int64", "object", "int64", "bool"])
         self.assertEqual(list(self.txn.to_pandas(["qty"]).columns), ["qty"])
         with narthexmace.open("id:int:key,name:text,new:bool\n") as store, store.begin() as txn:
             self.assertEqual([str(it) for it in txn.to_pandas().dtypes], ["int64", "object", "bool"])
             self.assertEqual(len(txn.to_pandas()), 0)
+
+    @unittest.skipUnless(pandas, "pandas isn't there")
+    def test_columns_go_to_pandas_by_their_buffers(self) -> None:
+        given, series = [], pandas.Series
+
+        def noted(cells: Any, **words: Any) -> Any:
+            given.append(type(cells))
+            return series(cells, **words)
+
+        with mock.patch.object(pandas, "Series", noted):
+            self.assertEqual(len(self.txn.to_pandas()), ROWS)
+        self.assertEqual(given, [numpy.ndarray] * 4)
+
+    @unittest.skipUnless(pandas, "pandas isn't there")
+    def test_a_frame_is_a_table(self) -> None:
+        frame = self.txn.to_pandas()
+        for given in (frame, frame[::-1], frame.sample(frac=1, random_state=7), frame[["new", "name", "qty", "id"]]):
+            with narthexmace.open(given, key="id") as store, store.read() as table:
+                names = [column.name for column in store.columns]
+                due = [tuple(dict(zip(frame.columns, row))[name] for name in names) for row in self.rows]
+                self.same(table[:], due)
+                self.assertEqual(names[0], "id")
+        with narthexmace.open(frame.astype({"name": "string", "qty": "Int64"}), key=["id", "qty"]) as store:
+            self.assertEqual([column.type for column in store.columns], ["int", "int", "text", "bool"])
+
+    @unittest.skipUnless(pandas, "pandas isn't there")
+    def test_a_frame_that_is_no_table(self) -> None:
+        frame = pandas.DataFrame({"id": [1, 2], "at": pandas.to_datetime(["2026-01-01", "2026-01-02"])})
+        for given, why in [
+            (frame, "dates or times"),
+            (pandas.DataFrame([[1, 2]], columns=["id", "id"]), "one name"),
+            (pandas.DataFrame([[1, 2]], columns=["id", 5]), "no text"),
+            (pandas.DataFrame({"id": [1, None]}), "not all ints"),
+            (pandas.DataFrame({"id": [1.0, 2.0]}), "not all ints"),
+        ]:
+            with self.assertRaisesRegex(narthexmace.Shape, why):
+                narthexmace.open(given, key="id")
 
     @unittest.skipIf(pandas, "pandas is there")
     def test_without_pandas(self) -> None:
@@ -249,8 +410,8 @@ class Tables(unittest.TestCase):
     """Openings over columns, texts and files."""
 
     def rows_of(self, *arguments: Any, **words: Any) -> List[tuple]:
-        with narthexmace.open(*arguments, **words) as store, store.begin() as txn:
-            return txn[:]
+        with narthexmace.open(*arguments, **words) as store, store.read() as table:
+            return table[:]
 
     def test_columns_that_need_quotes(self) -> None:
         texts = ["", " ", ",", '"', "a\nb", "\r", "\r\n", "\ufeff", "é", "\0", "#", "'"]

@@ -35,6 +35,13 @@ class Documents(unittest.TestCase):
                 with self.subTest(document=document, block=place):
                     self.assertGreater(self.run_examples(f"{document}, block {place}", block), 1)
 
+    def test_what_makes_commits_last_is_said_where_it_is_looked_for(self) -> None:
+        for thing in (
+            narthexmace, narthexmace.open, narthexmace.recover, narthexmace.Store, narthexmace.Store.checkpoint,
+            narthexmace.Store.close, narthexmace.Transaction.commit,
+        ):  # fmt: skip
+            self.assertRegex(thing.__doc__ or "", r"checkpoint", thing)
+
     def test_the_package(self) -> None:
         self.assertGreater(self.run_examples("narthexmace", narthexmace.__doc__ or ""), 3)
 

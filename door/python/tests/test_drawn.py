@@ -1,240 +1,364 @@
-"""Drawn calls of four clients, each answered as the model answers it: 10,000, or as many as NARTHEXMACE_CALLS says."""
+"""Drawn calls of several clients and threads, each answered as the model answers it, and none of the package left out.
+
+10,000 calls, or as many as NARTHEXMACE_CALLS says, from the seed NARTHEXMACE_SEED on. NARTHEXMACE_TOLD=1 prints how
+often each name was drawn.
+"""
+import copy
 import os
 import random
 import tempfile
+import threading
 import unittest
+from pathlib import Path
 from typing import Any, Callable, Dict, List, Tuple
 
 import narthexmace
 
-from . import model
+from . import drawing, model
+from .drawing import READS, WRITES, Calls, Client, Pair, Row, Undone, numpy, pandas
+from .watching import Watch, wanted
 
 CALLS = int(os.environ.get("NARTHEXMACE_CALLS", "10000"))
-LETTERS = 'abzé€𐍈 ,;"\'\n\r\0'
+SEED = int(os.environ.get("NARTHEXMACE_SEED", "1"))
 CLIENTS = 4
-Cell = Any
-Row = Tuple[Cell, ...]
+STORE = {
+    "fold": 3, "cut": 2, "checkpoint": 1, "sizes": 1, "layers": 2, "columns": 1, "read": 4, "block": 4, "threads": 1,
+    "opened": 1, "openings": 1, "folders": 1, "closed": 1,
+}  # fmt: skip
+#: What no drawn call raises: memory is refused in test_errors alone, and the rest is for calls that the package lacks.
+NEVER = {"NoMemory", "TooSmall", "NotAscending", "Superseded", "DeviceFailed", "Error"}
+#: What stands behind no name of its own.
+CLAUSES = {
+    "commit Committed", "commit Conflict", "commit TooOld", "commit Full", "block committed", "block aborted",
+    "block Conflict", "block ended inside", "commit after a cut",
+}  # fmt: skip
 
 
-class Run:
+class Run(Calls):
     """One table with one key, drawn, and the calls on it."""
 
-    def __init__(self, seed: int) -> None:
-        self.draw = random.Random(seed)
+    def __init__(self, seed: int, watch: Watch) -> None:
+        super().__init__(random.Random(seed), watch.raised)
+        self.note = lambda clause: watch.drawn.update([clause])
         draw = self.draw
-        self.key_columns = draw.choice([1, 1, 2, 3])
-        self.types = [draw.choice(["int", "text", "bool"]) for _ in range(self.key_columns)]
-        if self.key_columns == 1:
-            self.types = [draw.choice(["int", "int", "text"])]
-        self.types += ["int", "text", "bool", draw.choice(["int", "text", "bool"])]
-        self.names = [f"c{place}" for place in range(len(self.types))]
-        self.span = draw.choice([4, 20, 3000])  # how many numbers a key may have
-        by_row = draw.random() < 0.5
+        by_row = self.chance(0.5)
         rows = {row[: self.key_columns]: row for row in (self.row() for _ in range(draw.choice([0, 5, 40, 2500])))}
         limit = draw.choice([narthexmace._library.MAX_ROWS, len(rows) + 3, len(rows) + 1])
         recent = draw.choice([1, 3, 64, 65_536])
         self.model = model.Table(list(rows.values()), self.key_columns, limit, recent, by_row)
-        drawn = list(rows.values())
-        draw.shuffle(drawn)
         self.options = dict(recent=recent, row_limit=limit, conflicts="row" if by_row else "column")
-        self.store = narthexmace.open(
-            {name: [row[place] for row in drawn] for place, name in enumerate(self.names)},
-            key=self.names[: self.key_columns],
-            types=dict(zip(self.names, self.types)),
-            **self.options,
-        )
-        self.open: Dict[int, Tuple[narthexmace.Transaction, model.Client]] = {}
-        self.seen: Dict[str, int] = {}
+        self.stable, self.folded, self.checkpointed = self.model.image(), 0, 0
+        self.store = self.opened(list(rows.values()))
+        self.open: Dict[int, Client] = {}
+        self.readers: List[Client] = []
 
-    # ---- what is drawn
+    def opened(self, rows: List[Row]) -> narthexmace.Store:
+        """A store over rows that are given in some order and in some form."""
+        self.draw.shuffle(rows)
+        table, words = self.table_of(rows)
+        if isinstance(table, (str, bytes)) and self.chance(0.5):
+            with tempfile.TemporaryDirectory() as folder:
+                path = Path(folder, "table.csv")
+                path.write_bytes(table.encode() if isinstance(table, str) else table)
+                return narthexmace.open(self.draw.choice([path, str(path)]), **words, **self.options)
+        return narthexmace.open(table, **words, **self.options)
 
-    def text(self, most: int) -> str:
-        return "".join(self.draw.choice(LETTERS) for _ in range(self.draw.randrange(most + 1)))
-
-    def cell(self, place: int) -> Cell:
-        type_ = self.types[place]
-        if type_ == "bool":
-            return self.draw.random() < 0.5
-        if place < self.key_columns:
-            return self.draw.randrange(-self.span, self.span) if type_ == "int" else self.text(2)
-        if type_ == "int":
-            return self.draw.choice([0, -(2**63), 2**63 - 1, self.draw.randrange(-(2**63), 2**63)])
-        return "x" * 4096 if self.draw.random() < 0.002 else self.text(self.draw.choice([0, 3, 40]))
-
-    def row(self) -> Row:
-        return tuple(self.cell(place) for place in range(len(self.types)))
-
-    def key(self, client: model.Client) -> Row:
-        """A key: mostly one that is there."""
-        if client.rows and self.draw.random() < 0.7:
-            # of a few, so that the clients meet
-            keys = client.keys()
-            return self.draw.choice(keys[: self.draw.choice([3, len(keys)])])
-        return self.row()[: self.key_columns]
-
-    def positions(self, client: model.Client) -> List[int]:
-        return sorted(self.draw.randrange(len(client.rows) + 2) for _ in range(2))
-
-    # ---- the calls
+    # ---- a call
 
     def step(self) -> Tuple[str, Any, Any]:
         """Makes a call: its name, what it was answered, and what is due."""
+        if self.chance(0.06):
+            name = self.draw.choices(list(STORE), list(STORE.values()))[0]
+            return (name, *getattr(self, f"on_{name}")())
+        if self.readers and self.chance(0.15):
+            return self.on_reader()
         number = self.draw.randrange(CLIENTS)
-        if self.draw.random() < 0.03:
-            return self.on_store()
         if number not in self.open:
-            self.open[number] = self.store.begin(number), self.model.begin()
-            return "begin", True, self.open[number][0].is_open
-        txn, client = self.open[number]
-        name = self.draw.choices(
-            ["insert", "delete", "set", "get", "rank", "at", "len", "slice", "scan", "pieces", "savepoint"]
-            + ["commit", "abort"],
-            [6, 5, 8, 4, 3, 2, 1, 2, 2, 2, 4, 4, 1],
-        )[0]
+            txn = self.store.begin(number) if self.chance(0.7) else self.store.begin(client=number)
+            self.open[number] = Client(txn, self.model.begin())
+            return "begin", txn.is_open, True
+        client = self.open[number]
+        calls = {**READS, **WRITES, "commit": 4, "abort": 1}
+        name = self.draw.choices(list(calls), list(calls.values()))[0]
         if name in ("commit", "abort"):
             del self.open[number]
-        got, due = getattr(self, f"do_{name}")(txn, client)
+        got, due = getattr(self, f"do_{name}")(client)
+        if name in ("commit", "abort") and self.chance(0.2):
+            over, due_over = self.over(client)
+            return name, (got, over), (due, due_over)
         return name, got, due
 
-    def on_store(self) -> Tuple[str, Any, Any]:
-        name = self.draw.choice(["fold", "fold", "cut", "checkpoint", "sizes"])
-        if name == "checkpoint":
-            return name, self.recovered(), self.model.image()
-        if name == "sizes":
-            sizes = self.store.sizes()
-            return name, (sizes.commits, sizes.open_transactions), (len(self.model.commits), len(self.open))
-        if name == "cut":
-            self.model.cut()
-        return name, getattr(self.store, name)(), None
+    def on_reader(self) -> Tuple[str, Any, Any]:
+        """A read of a snapshot, or its end."""
+        place = self.draw.randrange(len(self.readers))
+        reader = self.readers[place]
+        if self.chance(0.2):
+            del self.readers[place]
+            got = self.draw.choice([reader.txn.abort, lambda: reader.txn.__exit__(None, None, None)])()
+            return ("end of a snapshot", (got, *self.over(reader)[:1]), (None, *self.over(reader)[1:]))
+        name = self.draw.choices(list(READS), list(READS.values()))[0]
+        return (f"{name} of a snapshot", *getattr(self, f"do_{name}")(reader))
 
-    def recovered(self) -> List[Row]:
-        """The rows that a checkpoint writes."""
+    def do_commit(self, client: Client) -> Pair:
+        try:
+            got: Tuple[str, int] = "Committed", client.txn.commit()
+        except (narthexmace.Conflict, narthexmace.TooOld, narthexmace.Full) as refused:
+            self.raised(refused)
+            got = type(refused).__name__, refused.commits
+        if client.model.begun < len(self.model.commits) == self.model.base:
+            self.note("commit after a cut")
+        due = client.model.commit()
+        self.note(f"commit {due[0]}")
+        return got, due
+
+    def do_abort(self, client: Client) -> Pair:
+        return client.txn.abort(), None
+
+    # ---- calls on the store
+
+    def on_fold(self) -> Pair:
+        self.folded = len(self.model.commits)
+        return self.store.fold(), None
+
+    def on_cut(self) -> Pair:
+        self.model.cut()
+        return self.store.cut(), None
+
+    def on_sizes(self) -> Pair:
+        sizes = self.store.sizes()
+        opened = len(self.open) + len(self.readers)
+        no_entries = sizes.write_entries == 0 or self.folded < len(self.model.commits)
+        got = (sizes.commits, sizes.open_transactions, no_entries, sizes.read_entries >= 0)
+        return got, (len(self.model.commits), opened, True, True)
+
+    def on_layers(self) -> Pair:
+        """The layers of the newest table, merged by their positions over the stable table."""
+        entries = list(self.store.layers())
+        sizes = self.store.sizes()
+        read = [entry for entry in entries if entry.layer == "read"]
+        write = [entry for entry in entries if entry.layer == "write"]
+        image = self.merged(self.merged(self.stable, read), write)
+        return (image, [*read, *write], len(read), len(write)), (
+            self.model.image(), entries, sizes.read_entries, sizes.write_entries
+        )  # fmt: skip
+
+    def on_columns(self) -> Pair:
+        columns = [(column.name, column.type, column.key) for column in self.store.columns]
+        due = [(name, self.types[place], place < self.key_columns) for place, name in enumerate(self.names)]
+        return (columns, repr(self.store)), (due, f"<Store of {', '.join(self.names)}>")
+
+    def on_read(self) -> Pair:
+        if len(self.readers) < 3 and self.chance(0.5):
+            self.readers.append(Client(self.store.read(), self.model.begin()))
+            return self.readers[-1].txn.is_open, True
+        with self.store.read() as table:
+            rows = table[:]
+        return (rows, table.is_open), (self.model.image(), False)
+
+    def on_checkpoint(self) -> Pair:
+        """The rows that a checkpoint writes, and where there is one, or no folder, there will be none."""
         with tempfile.TemporaryDirectory() as folder:
             self.store.checkpoint(folder)
-            with narthexmace.recover(folder, **self.options) as store, store.begin() as txn:
-                return txn[:]
+            self.stable = self.model.image()
+            self.folded = self.checkpointed = len(self.model.commits)
+            refused = [
+                self.refuses(narthexmace.Exists, lambda: self.store.checkpoint(folder=Path(folder))),
+                self.refuses(narthexmace.FileFailed, lambda: self.store.checkpoint(Path(folder, "no"))),
+            ]
+            files = {"header.csv", *(f"column-{place}.pdt" for place in range(len(self.names)))}
+            with narthexmace.recover(folder, **self.options) as store, store.read() as table:
+                return (table[:], refused, set(os.listdir(folder))), (self.model.image(), [True, True], files)
 
-    def do_insert(self, txn: narthexmace.Transaction, client: model.Client) -> Tuple[Any, Any]:
-        row = self.row()
-        given = dict(zip(self.names, row)) if self.draw.random() < 0.3 else row
-        return reply(lambda: txn.insert(given)), client.insert(row)
+    def on_folders(self) -> Pair:
+        """Folders that hold no store, or a part of one."""
+        with tempfile.TemporaryDirectory() as name, self.opened(self.model.image()) as store:
+            folder = Path(name)
+            got = [self.refuses(narthexmace.FileFailed, lambda: narthexmace.recover(folder=folder))]
+            store.checkpoint(folder)
+            column = folder / f"column-{self.draw.randrange(len(self.names))}.pdt"
+            whole = column.read_bytes()
+            for kind, damaged in [(narthexmace.BadStore, b"nonsense"), (narthexmace.NoImage, whole[:5])]:
+                column.write_bytes(damaged)
+                got.append(self.refuses(kind, lambda: narthexmace.recover(folder)))
+            column.unlink()
+            try:
+                narthexmace.recover(folder)
+            except narthexmace.FileFailed as fault:
+                got.append(isinstance(fault, FileNotFoundError) or (fault.errno, fault.filename) == (2, folder))
+        return got, [True] * len(got)
 
-    def do_delete(self, txn: narthexmace.Transaction, client: model.Client) -> Tuple[Any, Any]:
-        key = self.key(client)
-        return reply(lambda: txn.delete(key)), client.delete(key)
+    def on_opened(self) -> Pair:
+        """The newest rows, given to another store in some order and form."""
+        with self.opened(self.model.image()) as store, store.read() as table:
+            return table[:], self.model.image()
 
-    def do_set(self, txn: narthexmace.Transaction, client: model.Client) -> Tuple[Any, Any]:
-        key, place = self.key(client), self.draw.randrange(self.key_columns, len(self.types))
-        cell = self.cell(place)
-        return reply(lambda: txn.set(key, self.names[place], cell)), client.set(key, place, cell)
-
-    def do_savepoint(self, txn: narthexmace.Transaction, client: model.Client) -> Tuple[Any, Any]:
-        """A block of writes, in which other blocks may be; an exception leaves each second one."""
-        saved, answers = client.saved(), []
+    def on_openings(self) -> Pair:
+        """What is no table, or has other limits."""
+        rows = self.model.image() or [self.row()]
+        text, columns = self.csv_of(rows), {name: [row[place] for row in rows] for place, name in enumerate(self.names)}
+        key, types = self.names[: self.key_columns], dict(zip(self.names, self.types))
+        twice = {name: [*cells, cells[0]] for name, cells in columns.items()}
+        colons = {f"{name}:": cells for name, cells in columns.items()}
+        misfits = {**columns, "c0": [self.misfit(0)] * len(rows)}
+        more: Any = ({**columns, "more": []}, {**types, "more": "int"})
+        bad: List[Tuple[type, Callable[[], Any]]] = [
+            (narthexmace.BadTable, lambda: narthexmace.open(self.csv_of([*rows, rows[0]]))),
+            (narthexmace.BadTable, lambda: narthexmace.open(text + "x" * 4097 + "\n")),
+            (narthexmace.BadTable, lambda: narthexmace.open(twice, key=key, types=types)),
+            (narthexmace.BadTable, lambda: narthexmace.open(colons, key="c0:")),
+            (narthexmace.Shape, lambda: narthexmace.open(columns, types=types)),
+            (narthexmace.Shape, lambda: narthexmace.open(more[0], key=key, types=more[1])),
+            (narthexmace.Shape, lambda: narthexmace.open(columns, key="no")),
+            (narthexmace.Shape, lambda: narthexmace.open(misfits, key=key, types=types)),
+            (narthexmace.BadLimit, lambda: narthexmace.open(text, recent=self.draw.choice([0, 65_537]))),
+            (narthexmace.BadLimit, lambda: narthexmace.open(text, row_limit=self.draw.choice([0, 2**31]))),
+            (narthexmace.BadLimit, lambda: narthexmace.open(text, conflicts="cell")),
+            (TypeError, lambda: narthexmace.open(text, key=key)),
+            (TypeError, lambda: narthexmace.open(5)),  # type: ignore[arg-type]
+            (FileNotFoundError, lambda: narthexmace.open("no such table")),
+        ]
+        if len(rows) > 1:
+            bad.append((narthexmace.TooManyRows, lambda: narthexmace.open(text, row_limit=len(rows) - 1)))
+        got: List[Any] = [self.refuses(kind, call) for kind, call in bad]
         try:
-            with txn.savepoint():
-                for _ in range(self.draw.randrange(4)):
-                    name = self.draw.choice(["insert", "insert", "delete", "set", "set", "savepoint"])
-                    answers.append(getattr(self, f"do_{name}")(txn, client))
-                if self.draw.random() < 0.5:
+            narthexmace.open(self.csv_of([*rows, rows[0]]))
+        except narthexmace.BadTable as fault:  # at the last record
+            got.append(fault.record)
+        return got, [*[True] * len(bad), len(rows) + 2]
+
+    def on_closed(self) -> Pair:
+        """A store with an open transaction stays open; one that is closed takes no call."""
+        store = self.opened(self.model.image())
+        txn = self.draw.choice([store.begin, store.read])()
+        got = [self.refuses(narthexmace.Misuse, store.close), len(txn) == len(self.model.rows)]
+        txn.abort()
+        store.close()
+        calls: List[Callable[[], Any]] = [store.begin, store.read, store.fold, store.cut, store.sizes, store.layers]
+        got += [self.refuses(narthexmace.Misuse, call) for call in [*calls, lambda: store.checkpoint("/")]]
+        store.close()
+        wrong = [lambda: self.store.begin(-1), lambda: self.store.begin(2**32), lambda: narthexmace.recover("a\0b")]
+        got += [self.refuses(narthexmace.Misuse, call) for call in wrong]
+        return got, [True] * len(got)
+
+    def on_block(self) -> Pair:
+        """A transaction as a block: it commits at the end, or an exception aborts it, or it has ended inside."""
+        same, how = self.model.begin(), self.draw.choice(["end", "end", "exception", "abort"])
+        got: List[Any] = []
+        due: List[Any] = []
+        try:
+            with self.store.begin() as txn:
+                client = Client(txn, same)
+                for _ in range(self.draw.randrange(5)):
+                    name = self.draw.choice(["insert", "delete", "set", "savepoint", "get"])
+                    answer = getattr(self, f"do_{name}")(client)
+                    got.append(answer[0])
+                    due.append(answer[1])
+                if self.chance(0.3):  # another one commits the same row first
+                    self.commit_beside(client)
+                if how == "exception":
                     raise Undone
+                if how == "abort":
+                    txn.abort()
+            ended = "committed" if how == "end" else "ended inside"
         except Undone:
-            client.go_back(saved)
-        rows = client.image()
-        answers.append((txn[:], rows) if len(rows) < 100 else (len(txn), len(rows)))
-        return [got for got, _ in answers], [due for _, due in answers]
-
-    def do_get(self, txn: narthexmace.Transaction, client: model.Client) -> Tuple[Any, Any]:
-        key = self.key(client)
-        return txn.get(key[0] if len(key) == 1 else list(key)), client.rows.get(key)
-
-    def do_rank(self, txn: narthexmace.Transaction, client: model.Client) -> Tuple[Any, Any]:
-        key = self.key(client)
-        return txn.rank(key), client.rank(key)
-
-    def do_at(self, txn: narthexmace.Transaction, client: model.Client) -> Tuple[Any, Any]:
-        place, image = self.draw.randrange(-3, len(client.rows) + 2), client.image()
-        return at(txn, place), at(image, place)
-
-    def do_len(self, txn: narthexmace.Transaction, client: model.Client) -> Tuple[Any, Any]:
-        return len(txn), len(client.rows)
-
-    def do_slice(self, txn: narthexmace.Transaction, client: model.Client) -> Tuple[Any, Any]:
-        places = slice(*self.positions(client), self.draw.choice([None, 1, 2]))
-        if self.draw.random() < 0.2:
-            places = slice(None, None, -1)
-        return txn[places], client.image()[places]
-
-    def do_scan(self, txn: narthexmace.Transaction, client: model.Client) -> Tuple[Any, Any]:
-        start, stop = self.positions(client)
-        places = self.draw.sample(range(len(self.types)), self.draw.randrange(1, len(self.types)))
-        batch = self.draw.choice([1, 3, 1000, 65_536]) if stop - start < 100 else 1000
-        batches = txn.scan([self.names[place] for place in places], start, stop, batch)
-        due = [tuple(row[place] for place in places) for row in client.image()[start:stop]]
-        return [row for batch in batches for row in batch.rows()], due
-
-    def do_pieces(self, txn: narthexmace.Transaction, client: model.Client) -> Tuple[Any, Any]:
-        place = self.types.index("int", self.key_columns)
-        start, stop = self.positions(client)
-        pieces = txn.pieces(self.names[place], start, stop)
-        numbers = [number for piece in pieces for number in piece]
-        if self.draw.random() < 0.5:
-            numbers = pieces.copy().tolist()
-        return numbers, [row[place] for row in client.image()[start:stop]]
-
-    def do_commit(self, txn: narthexmace.Transaction, client: model.Client) -> Tuple[Any, Any]:
-        try:
-            got: Tuple[str, int] = "Committed", txn.commit()
+            ended = "aborted"
         except (narthexmace.Conflict, narthexmace.TooOld, narthexmace.Full) as refused:
-            got = type(refused).__name__, refused.commits
-        return got, client.commit()
+            self.raised(refused)
+            ended = type(refused).__name__
+        reply = same.commit()[0] if how == "end" else ""
+        self.note(f"block {ended}")
+        due_end = {"exception": "aborted", "abort": "ended inside", "end": reply.replace("Committed", "committed")}[how]
+        return (got, ended, txn.is_open), (due, due_end, False)
 
-    def do_abort(self, txn: narthexmace.Transaction, client: model.Client) -> Tuple[Any, Any]:
-        return txn.abort(), None
+    def commit_beside(self, client: Client) -> None:
+        """Another transaction sets a cell of a row, as the first one may have."""
+        keys = client.model.keys()
+        if not keys:
+            return
+        place = self.column("int")
+        other, same = self.store.begin(), self.model.begin()
+        if keys[0] in same.rows:
+            other.set(keys[0], self.names[place], 5)
+            same.set(keys[0], place, 5)
+        if client.model.set(keys[0], place, 6) == "Done":
+            client.txn.set(keys[0], self.names[place], 6)
+        assert self.do_commit(Client(other, same))[0][0] == "Committed"
+
+    def on_threads(self) -> Pair:
+        """Each open client makes calls in a thread of its own, while another one folds and reads sizes."""
+        answers: List[Pair] = []
+        faults: List[BaseException] = []
+        names = [name for name in {**READS, **WRITES} if name != "pandas"]
+
+        def calls(own: "Run", client: Client) -> None:
+            try:
+                for _ in range(6):
+                    calls_ = READS if client in self.readers else names
+                    answers.append(getattr(own, f"do_{own.draw.choice(list(calls_))}")(client))
+            except BaseException as fault:
+                faults.append(fault)
+
+        def folds() -> None:
+            try:
+                for _ in range(3):
+                    self.store.fold()
+                    answers.append((self.store.sizes().commits, len(self.model.commits)))
+                    with self.store.read() as table:
+                        answers.append((len(table), len(self.model.rows)))
+            except BaseException as fault:
+                faults.append(fault)
+
+        threads = [threading.Thread(target=folds)]
+        for client in [*self.open.values(), *self.readers]:
+            own = copy.copy(self)
+            own.draw = random.Random(self.draw.random())
+            threads.append(threading.Thread(target=calls, args=(own, client)))
+        for thread in threads:
+            thread.start()
+        for thread in threads:
+            thread.join(60)
+        self.folded = len(self.model.commits)
+        return (faults, [got for got, _ in answers]), ([], [due for _, due in answers])
 
     def end(self) -> List[Row]:
         """Ends what is open, and answers the newest rows."""
-        for txn, _ in self.open.values():
-            txn.abort()
-        with self.store, self.store.begin() as txn:
-            return list(txn)
+        for client in [*self.open.values(), *self.readers]:
+            client.txn.abort()
+        with self.store, self.store.read() as table:
+            return list(table)
 
 
-class Undone(Exception):
-    """Leaves a block whose writes are undone."""
-
-
-def reply(call: Callable[[], None]) -> str:
-    try:
-        call()
-        return "Done"
-    except (narthexmace.Duplicate, narthexmace.Missing, narthexmace.Full) as fault:
-        return type(fault).__name__
-
-
-def at(rows: Any, place: int) -> Any:
-    try:
-        return rows[place]
-    except IndexError:
-        return "none"
+def names_to_draw() -> "set[str]":
+    """The public names that have to be drawn, of what this machine has."""
+    names = wanted() - NEVER
+    if pandas is None:
+        names = {name for name in names if "to_pandas" not in name}
+    if numpy is None:
+        names -= {"Texts.__array__"}
+    return names | CLAUSES
 
 
 class Drawn(unittest.TestCase):
     def test_each_call_is_answered_as_the_model_answers_it(self) -> None:
-        made, seed, seen = 0, 1, set()
-        while made < CALLS:
-            run = Run(seed)
-            for call in range(random.Random(seed).choice([40, 200, 400])):
-                name, got, due = run.step()
-                self.assertEqual(got, due, f"seed {seed}, call {call}, {name}")
-                seen.add((name, got if isinstance(got, str) else got[0] if name == "commit" else "answered"))
-                made += 1
-            self.assertEqual(run.end(), run.model.image(), f"seed {seed}, at the end")
-            seed += 1
+        made, seed = 0, SEED
+        with Watch(__file__, drawing.__file__) as watch:
+            while made < CALLS:
+                run = Run(seed, watch)
+                for call in range(random.Random(seed).choice([40, 200, 400])):
+                    name, got, due = run.step()
+                    self.compare(f"seed {seed}, call {call}, {name}", got, due)
+                    made += 1
+                self.compare(f"seed {seed}, at the end", run.end(), run.model.image())
+                seed += 1
+        if os.environ.get("NARTHEXMACE_TOLD"):
+            print(f"\n{made} calls, seeds {SEED} to {seed - 1}", *sorted(watch.drawn.items()), sep="\n")
         if CALLS >= 10_000:
-            wanted = {("insert", "Done"), ("insert", "Duplicate"), ("insert", "Full"), ("delete", "Missing")}
-            wanted |= {("commit", reply) for reply in ("Committed", "Conflict", "TooOld", "Full")}
-            self.assertEqual(wanted - seen, set(), "replies that were never drawn")
+            self.assertEqual(names_to_draw() - set(watch.drawn), set(), "names that were never drawn")
+            self.assertEqual(NEVER & set(watch.drawn), set(), "names that are drawn, and said never to be")
+
+    def compare(self, where: str, got: Any, due: Any) -> None:
+        if got != due:  # both may have thousands of rows
+            self.fail(f"{where}: {repr(got)[:2000]}, and due is {repr(due)[:2000]}")
 
 
 if __name__ == "__main__":

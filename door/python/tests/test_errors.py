@@ -1,5 +1,7 @@
 """Each exception once, with its code and what stays; and that what is over or closed raises, and never crashes."""
+import copy
 import ctypes
+import errno
 import gc
 import os
 import pickle
@@ -47,8 +49,25 @@ class Codes(unittest.TestCase):
         self.assertEqual(type(narthexmace._errors.error_of(99)), narthexmace.Error)
 
     def test_an_exception_goes_through_pickle(self) -> None:
-        again = pickle.loads(pickle.dumps(narthexmace.Missing()))
-        self.assertEqual((type(again), str(again)), (narthexmace.Missing, str(narthexmace.Missing())))
+        refused = narthexmace.Conflict()
+        refused.commits = 7
+        file = narthexmace.FileFailed("a file failed", 2, "folder")
+        for fault in (narthexmace.Missing(), narthexmace._errors.bad_text(3, 1, "no value"), file, refused):
+            again = pickle.loads(pickle.dumps(fault))
+            self.assertEqual((type(again), str(again), vars(again)), (type(fault), str(fault), vars(fault)))
+        again = pickle.loads(pickle.dumps(file))
+        self.assertEqual((again.errno, again.filename, again.strerror), (2, "folder", os.strerror(2)))
+
+    def test_an_exception_is_one_of_pythons_own_where_there_is_a_class(self) -> None:
+        for kind, own in [
+            ("NoMemory", MemoryError), ("Missing", KeyError), ("Shape", ValueError), ("BadTable", ValueError),
+            ("BadLimit", ValueError), ("TooManyRows", ValueError), ("BadStore", ValueError), ("Misuse", RuntimeError),
+            ("Lent", BufferError), ("ReadOnly", AttributeError), ("FileFailed", OSError), ("Exists", FileExistsError),
+            ("NotAscending", ValueError),
+        ]:  # fmt: skip
+            self.assertTrue(issubclass(getattr(narthexmace, kind), own), kind)
+        for kind in (narthexmace.Lent, narthexmace.ReadOnly):
+            self.assertEqual((kind.code, issubclass(kind, narthexmace.Misuse)), (narthexmace.Misuse.code, True))
 
 
 class Case(unittest.TestCase):
@@ -73,8 +92,9 @@ class Writes(Case):
             self.refused(narthexmace.Missing, txn.delete, 30)
             self.refused(narthexmace.Missing, txn.set, 30, "qty", 1)
             self.assertEqual(txn[:], ROWS)
-            with self.assertRaises(LookupError):
+            with self.assertRaises(KeyError) as caught:
                 txn.delete(30)
+            self.assertEqual(str(caught.exception), "there is no such row or mark")  # and not in quotes
 
     def test_cells_that_do_not_fit(self) -> None:
         with self.store.begin() as txn:
@@ -163,6 +183,23 @@ class Commits(Case):
             self.assertEqual(old.get(10), (10, "Ann", 1, True))  # it reads on
             self.refused(narthexmace.TooOld, old.commit)
 
+    def test_a_cut_without_a_commit_since_the_begin_leaves_a_commit_as_it_is(self) -> None:
+        with self.store.begin() as txn:
+            txn.set(10, "qty", 1)
+        begun = self.store.begin()
+        begun.set(10, "qty", 2)
+        self.store.cut()
+        after = self.store.begin()
+        after.set(20, "qty", 3)
+        self.assertEqual((begun.commit(), after.commit()), (2, 3))
+        begun = self.store.begin()
+        with self.store.begin() as txn:
+            txn.set(10, "qty", 4)
+        self.store.cut()
+        self.refused(narthexmace.TooOld, begun.commit)
+        with self.store.read() as table:
+            self.assertEqual([row[2] for row in table], [4, 3])
+
     def test_full_at_a_commit(self) -> None:
         with narthexmace.open(TABLE, row_limit=3) as store:
             one, other = store.begin(), store.begin()
@@ -241,6 +278,43 @@ class Openings(Case):
         for text in ["id:int\n", header + "1,2\n", header + "x\n", header + "1\n1\n", b"", b"\xff", "\n", "\ud800\n"]:
             self.refused(narthexmace.BadTable, narthexmace.open, text)
 
+    def test_a_text_that_is_no_table_has_its_record_and_its_cause(self) -> None:
+        header = "id:int:key,name:text,new:bool\n"
+        for text, record, column in [
+            ("id:int,name:text\n", 1, None),
+            ("id:int:key,name:words\n", 1, 1),
+            ("id:int:key,id:int\n", 1, 1),
+            (header + "1,Ann\n", 2, None),
+            (header + "1,Ann,true\n2,Bob,true,5\n", 3, None),
+            (header + "1,Ann,true\nx,Bob,true\n", 3, 0),
+            (header + "1,Ann,true\n2,Bob,true\n3,Cid,yes\n", 4, 2),
+            (header + '1,"Ann\n,\n",true\n2,Bob,7\n', 3, 2),  # records, and no lines
+            (header + "3,Ann,true\n1,Bob,true\n3,Cid,true\n", 4, None),
+            (header.encode() + b"1,\xff,true\n", 2, 1),
+            (header + f"1,{'x' * 4097},true\n", 2, 1),
+        ]:
+            fault = self.refused(narthexmace.BadTable, narthexmace.open, text)
+            assert isinstance(fault, narthexmace.BadTable)
+            self.assertEqual(fault.record, record, text[:60])
+            if column is not None:
+                self.assertEqual(fault.column, column, text[:60])
+            self.assertRegex(str(fault.cause), r"\w+ \w+ \w+")
+            self.assertEqual(str(fault), f"record {fault.record}, column {fault.column}: {fault.cause}")
+
+    def test_columns_that_are_no_table_have_their_cause(self) -> None:
+        for columns, why in [
+            ({"a:b": [1]}, "'a:b'"),
+            ({"": [1]}, "''"),
+            ({"é" * 33: [1]}, "64 bytes"),
+            ({str(number): [1] for number in range(33)}, "33 columns, and 32"),
+        ]:
+            with self.assertRaisesRegex(narthexmace.BadTable, why):
+                narthexmace.open(columns, key=next(iter(columns)))
+        with self.assertRaisesRegex(narthexmace.BadTable, "the key has 5 columns, and 4"):
+            narthexmace.open({name: [1] for name in "abcde"}, key=list("abcde"))
+        with self.assertRaisesRegex(narthexmace.BadTable, "^row 3, which counts from 0, has the key of an earlier one"):
+            narthexmace.open({"id": [3, 1, 2, 1]}, key="id")
+
     def test_limits(self) -> None:
         for words in [{"recent": 0}, {"recent": 65_537}, {"row_limit": 0}, {"row_limit": 2**31}, {"conflicts": "cell"}]:
             self.refused(narthexmace.BadLimit, narthexmace.open, TABLE, **words)
@@ -277,11 +351,15 @@ class Openings(Case):
     def test_stores_that_cannot_be_recovered(self) -> None:
         with tempfile.TemporaryDirectory() as folder:
             fault = self.refused(narthexmace.FileFailed, narthexmace.recover, folder)
-            self.assertEqual(fault.errno, 2)  # type: ignore[attr-defined]
-            self.assertIn("No such file", str(fault))
+            assert isinstance(fault, OSError)
+            self.assertEqual((fault.errno, fault.strerror, fault.filename), (2, os.strerror(2), folder))
+            self.assertIn(os.strerror(2), str(fault))
+            self.assertIn(folder, str(fault))
             self.refused(narthexmace.Misuse, narthexmace.recover, "a\0b")
             self.store.checkpoint(folder)
-            self.refused(narthexmace.Exists, self.store.checkpoint, folder)
+            fault = self.refused(narthexmace.Exists, self.store.checkpoint, folder)
+            assert isinstance(fault, FileExistsError)
+            self.assertEqual((fault.errno, fault.filename), (errno.EEXIST, folder))
             column = Path(folder, "column-2.pdt")
             whole = column.read_bytes()
             column.write_bytes(b"nonsense")
@@ -377,6 +455,24 @@ class Savepoints(Case):
             self.assertEqual(txn[:], ROWS)
 
 
+class Copies(Case):
+    def test_what_stands_for_memory_of_this_process_is_not_copied(self) -> None:
+        with self.store.begin() as txn, self.store.read() as table:
+            txn.delete(10)
+            things = [self.store, txn, table, self.store._handle, txn._handle]
+            with mock.patch.object(sys, "unraisablehook") as told:
+                for thing in things:
+                    for call in (copy.copy, copy.deepcopy, pickle.dumps, lambda it: copy.deepcopy([it])):
+                        with self.assertRaisesRegex(TypeError, "can't be copied or pickled"):
+                            call(thing)
+                for layers in (self.store.layers(), txn.layer()):
+                    for call in (copy.deepcopy, pickle.dumps):
+                        self.assertRaises(TypeError, call, layers)
+                gc.collect()
+            self.assertEqual(told.call_args_list, [])
+            self.assertEqual((len(txn), len(table)), (1, 2))
+
+
 class Ends(Case):
     """What is over, closed, or in use by another thread."""
 
@@ -387,6 +483,7 @@ class Ends(Case):
             lambda: txn.set(10, "qty", 1),
             lambda: txn.get(10),
             lambda: txn.rank(10),
+            lambda: 10 in txn,
             lambda: len(txn),
             lambda: txn[0],
             lambda: txn[:],

@@ -40,10 +40,9 @@ class Threads(unittest.TestCase):
                 start.wait(30)
                 while not stop.is_set():
                     store.fold()
-                    with store.begin() as txn:
-                        sums = next(txn.scan(["sum"]))["sum"].tolist()
-                        assert sums == [row[1] for row in txn] and sum(sums) <= THREADS * ADDS
-                        txn.abort()
+                    with store.read() as table:
+                        sums = next(table.scan(["sum"]))["sum"].tolist()
+                        assert sums == [row[1] for row in table] and sum(sums) <= THREADS * ADDS
                     store.sizes()
                     stop.wait(0.002)
             except BaseException as fault:
@@ -63,8 +62,8 @@ class Threads(unittest.TestCase):
         with store:
             sizes = store.sizes()
             self.assertEqual((sizes.commits, sizes.open_transactions), (THREADS * ADDS, 0))
-            with store.begin() as txn:
-                self.assertEqual(txn[:], list(enumerate(wanted)))
+            with store.read() as table:
+                self.assertEqual(table[:], list(enumerate(wanted)))
 
     def test_each_thread_reads_its_own_snapshot(self) -> None:
         store = narthexmace.open({"id": range(2000), "n": [0] * 2000}, key="id")
@@ -89,8 +88,8 @@ class Threads(unittest.TestCase):
         for thread in threads:
             thread.join(60)
         self.assertEqual(faults, [])
-        with store, store.begin() as txn:
-            self.assertEqual([row[1] for row in txn], [key % 8 + 1 for key in range(2000)])
+        with store, store.read() as table:
+            self.assertEqual([row[1] for row in table], [key % 8 + 1 for key in range(2000)])
 
 
 if __name__ == "__main__":

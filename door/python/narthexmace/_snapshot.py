@@ -1,0 +1,228 @@
+"""Snapshots: what is read of a table as it was at one moment."""
+from __future__ import annotations
+
+import ctypes
+import operator
+from ctypes import byref, c_bool, c_size_t, c_uint64
+from types import TracebackType
+from typing import TYPE_CHECKING, Any, Callable, Iterator, List, Mapping, NamedTuple, Optional, Sequence, Tuple, Type
+from typing import NoReturn, TypeVar, Union, overload
+
+from ._batches import Batch, Pieces
+from ._cells import BOOL, INT, TEXT, Key, Row, Shaping
+from ._errors import Misuse, Missing, ReadOnly, Shape, TooSmall, check
+from ._handles import Single, TransactionHandle
+from ._library import library
+from ._reads import column_of, pieces_of, runs_of
+
+if TYPE_CHECKING:
+    from pandas import DataFrame
+
+Self = TypeVar("Self", bound="Snapshot")
+
+BATCH = 65_536
+#: What a transaction does, and a snapshot doesn't.
+_WRITES = ("insert", "delete", "set", "savepoint", "layer", "commit")
+
+
+class Rank(NamedTuple):
+    """How many rows stand below a key, and whether there is a row of it."""
+
+    below: int
+    there: bool
+
+
+class Snapshot(Single):
+    """The newest table as it was at ``Store.read``: what others commit later isn't seen in it.
+
+    One thread at a time: a call while another thread is in one raises Misuse, and so does a call once it is over. With
+    ``with`` it is over at the end of the block, and one that is dropped is over, too. It takes no number of a commit,
+    however it ends. A write raises ReadOnly. The rows count from 0 in ascending key.
+    """
+
+    __slots__ = ("_handle", "_shaping", "_writes", "_numbers", "_room", "__weakref__")
+
+    def __init__(self, handle: TransactionHandle, shaping: Shaping) -> None:
+        self._handle = handle
+        self._shaping = shaping
+        self._writes = 0  # how many were done: a scan goes on only while there is none more
+        self._numbers = shaping.numbers()
+        self._room = ctypes.create_string_buffer(1024)
+
+    if not TYPE_CHECKING:  # a checker of types knows none of these names here
+
+        def __getattr__(self, name: str) -> NoReturn:
+            if name in _WRITES:
+                raise ReadOnly(f"a snapshot is for reading, and has no {name}: Store.begin begins a transaction")
+            raise AttributeError(f"a {type(self).__name__} has no {name!r}")
+
+    @property
+    def is_open(self) -> bool:
+        """Whether it may still be used."""
+        return self._handle.is_open
+
+    def abort(self) -> None:
+        """Ends it without a trace. Aborting again is no error."""
+        self._handle.abort()
+
+    def __enter__(self: Self) -> Self:
+        return self
+
+    def __exit__(
+        self, kind: Optional[Type[BaseException]], error: Optional[BaseException], trace: Optional[TracebackType]
+    ) -> None:
+        self.abort()
+
+    # ---- reads of rows
+
+    def get(self, key: Key, default: Any = None) -> Any:
+        """The row of a key as a tuple, or ``default`` where there is none. Shape, NoMemory."""
+        numbers, texts, count = self._shaping.key(key)
+
+        def call(at: int, *room: Any) -> int:
+            return int(library.pdt_get(at, numbers, texts, count, *room))
+
+        row = self._row(call)
+        return default if row is None else row
+
+    def rank(self, key: Key) -> Rank:
+        """How many rows stand below a key, and whether there is a row of it: a range of keys is between two ranks."""
+        numbers, texts, count = self._shaping.key(key)
+        below, there = c_uint64(), c_bool()
+        with self._handle as at:
+            check(library.pdt_rank(at, numbers, texts, count, byref(below), byref(there)))
+        return Rank(below.value, there.value)
+
+    def __contains__(self, key: object) -> bool:
+        """Whether there is a row of a key, as ``rank`` has it: ``10 in txn``, ``("a", 1) in txn``. Shape, NoMemory."""
+        return self.rank(key).there  # type: ignore[arg-type]
+
+    def __len__(self) -> int:
+        """How many rows there are."""
+        rows = c_uint64()
+        with self._handle as at:
+            check(library.pdt_rows(at, byref(rows)))
+        return rows.value
+
+    @overload
+    def __getitem__(self, position: int) -> Row: ...
+
+    @overload
+    def __getitem__(self, position: slice) -> List[Row]: ...
+
+    def __getitem__(self, position: Union[int, slice]) -> Union[Row, List[Row]]:
+        """The row at a position, IndexError where there is none; or the rows of a slice, as a list."""
+        if isinstance(position, slice):
+            return self._rows(position)
+        place = operator.index(position)
+        if place < 0:
+            place += len(self)
+        row = self._row(lambda at, *room: library.pdt_row_at(at, place, *room)) if 0 <= place < 2**64 else None
+        if row is None:
+            raise IndexError(f"there is no row at {position}")
+        return row
+
+    def _rows(self, places: slice) -> List[Row]:
+        taken = range(len(self))[places]
+        if not taken:
+            return []
+        low, high = min(taken[0], taken[-1]), max(taken[0], taken[-1]) + 1
+        rows = [row for batch in self.scan(start=low, stop=high) for row in batch.rows()]
+        return rows[:: taken.step]
+
+    def __iter__(self) -> Iterator[Row]:
+        """The rows in ascending key. A write in between ends it with Misuse."""
+        for batch in self.scan(batch=1024):
+            yield from batch.rows()
+
+    def _row(self, call: Callable[..., int]) -> Optional[Row]:
+        """The row that a call puts into room, which grows to what it needs; None where there is no row."""
+        needed = c_size_t()
+        with self._handle as at:
+            code = call(at, self._numbers, self._room, len(self._room), byref(needed))
+            if code == TooSmall.code:
+                self._room = ctypes.create_string_buffer(needed.value)
+                code = call(at, self._numbers, self._room, len(self._room), byref(needed))
+            if code == Missing.code:
+                return None
+            check(code)
+            return self._shaping.row_of(self._numbers, memoryview(self._room))
+
+    # ---- scans
+
+    def scan(
+        self,
+        columns: Optional[Sequence[str]] = None,
+        start: int = 0,
+        stop: Optional[int] = None,
+        batch: int = BATCH,
+    ) -> Iterator[Batch]:
+        """The rows from one position up to another, in batches, with these columns, or all.
+
+        Each batch has memory of its own, into which the numbers are copied once, by C. A write between two batches
+        would move the positions, so the next batch raises Misuse then.
+        """
+        if isinstance(columns, str):
+            raise Shape("columns are a list of names")
+        names = self._shaping.names if columns is None else tuple(columns)
+        places = [self._shaping.column(name) for name in names]
+        if batch < 1:
+            raise Shape("a batch has one row or more")
+        first, end = self._range(start, stop)
+        return self._batches(dict(zip(names, places)), first, end, batch, self._writes)
+
+    def _range(self, start: int, stop: Optional[int]) -> Tuple[int, int]:
+        """Two positions up to the end, from what a caller names."""
+        if start < 0 or (stop is not None and stop < 0):
+            raise Shape("positions of a scan count from 0")
+        length = len(self)
+        return operator.index(start), length if stop is None else min(operator.index(stop), length)
+
+    def _batches(self, columns: Mapping[str, int], start: int, stop: int, batch: int, writes: int) -> Iterator[Batch]:
+        for first in range(start, stop, batch):
+            count = min(batch, stop - first)
+            with self._handle as at:
+                if self._writes != writes:
+                    raise Misuse("the transaction has written since the scan began")
+                types = self._shaping.types
+                cells = {it: column_of(at, types[place], place, first, count) for it, place in columns.items()}
+            yield Batch(first, count, cells)
+
+    def pieces(self, column: str, start: int = 0, stop: Optional[int] = None) -> Pieces:
+        """The numbers of an int column between two positions where they lie in the library, for reading, with no copy.
+
+        They may be read until the next write on this transaction, its commit or its end, which release them; reads
+        leave them alone, so that several columns are read beside each other. Where an array or another view still
+        stands over one of them, a write or a commit raises Lent instead, and does nothing; ``abort`` then frees the
+        transaction with the last of them. ``scan`` copies, and is faster from Python: a piece has at most 1,024 rows.
+        """
+        place = self._shaping.column(column)
+        if self._shaping.types[place] != INT:
+            raise Shape(f"column {column!r} has no ints")
+        first, end = self._range(start, stop)
+        with self._handle as at:
+            return Pieces(self._handle.lend(runs_of(pieces_of(at, place, first, end))))
+
+    def to_pandas(self, columns: Optional[Sequence[str]] = None) -> "DataFrame":
+        """The table as a DataFrame, with these columns, or all. ImportError where pandas isn't there.
+
+        Ints are int64, bools bool, and texts Python's own, of the type object.
+        """
+        import numpy
+        import pandas
+
+        names = self._shaping.names if columns is None else tuple(columns)
+        whole = next(self.scan(names, batch=max(len(self), 1)), None)
+        series = {}
+        for name in names:
+            type_ = _IN_FRAMES[self._shaping.types[self._shaping.column(name)]]
+            series[name] = pandas.Series([] if whole is None else numpy.asarray(whole[name]), dtype=type_)
+        return pandas.DataFrame(series)
+
+    def __repr__(self) -> str:
+        names = ", ".join(self._shaping.names)
+        return f"<{type(self).__name__} of {names}, {'open' if self.is_open else 'over'}>"
+
+
+#: The types of pandas' columns.
+_IN_FRAMES = {INT: "int64", BOOL: "bool", TEXT: "object"}

@@ -1,0 +1,98 @@
+"""Snapshots: reads that commit nothing, and whether there is a row of a key."""
+import unittest
+
+import narthexmace
+from narthexmace import Misuse, ReadOnly, Shape
+
+TABLE = "id:int:key,name:text,qty:int\n10,Ann,7\n20,Bob,2\n"
+ROWS = [(10, "Ann", 7), (20, "Bob", 2)]
+# keys of two columns, of which each cell stands in several
+PAIRS = "k:text:key,n:int:key,ok:bool\na,1,true\na,3,true\nb,2,true\n"
+
+
+class Snapshots(unittest.TestCase):
+    def setUp(self) -> None:
+        self.store = narthexmace.open(TABLE, recent=1)
+        self.addCleanup(self.store._handle.end)
+
+    def test_a_read_takes_no_number(self) -> None:
+        old = self.store.begin()
+        old.set(10, "qty", 1)
+        for _ in range(5):
+            with self.store.read() as table:
+                self.assertEqual(table[:], ROWS)
+        self.assertEqual(old.commit(), 1)  # it would be too old after two commits
+        self.assertEqual(self.store.sizes()[::3], (1, 0))
+
+    def test_a_snapshot_stays_as_it_was(self) -> None:
+        table = self.store.read()
+        with self.store.begin() as txn:
+            txn.set(10, "qty", 1)
+            txn.delete(20)
+        self.store.fold()
+        self.assertEqual((table[:], len(table), table.get(20), 20 in table), (ROWS, 2, ROWS[1], True))
+        table.abort()
+        with self.store.read() as table:
+            self.assertEqual(table[:], [(10, "Ann", 1)])
+
+    def test_a_write_on_a_snapshot_is_refused(self) -> None:
+        with self.store.read() as table:
+            for name in ("insert", "delete", "set", "savepoint", "commit", "layer"):
+                with self.assertRaisesRegex(ReadOnly, f"{name}.*begin"):
+                    getattr(table, name)
+                self.assertFalse(hasattr(table, name))
+                self.assertTrue(hasattr(narthexmace.Transaction, name))
+            with self.assertRaises(Misuse):
+                table.insert((30, "Cid", 1))  # type: ignore[attr-defined]
+            with self.assertRaises(AttributeError) as caught:
+                table.colour  # type: ignore[attr-defined]
+            self.assertNotIsInstance(caught.exception, ReadOnly)
+            self.assertNotIsInstance(table, narthexmace.Transaction)
+        with self.store.read() as table:
+            self.assertEqual(table[:], ROWS)
+
+    def test_the_end_of_a_snapshot(self) -> None:
+        with self.store.read() as table:
+            self.assertEqual((table.is_open, repr(table)), (True, "<Snapshot of id, name, qty, open>"))
+            self.assertRaises(Misuse, self.store.close)
+        with self.assertRaises(ZeroDivisionError), self.store.read() as other:
+            1 / 0
+        for over in (table, other):
+            self.assertFalse(over.is_open)
+            self.assertRaises(Misuse, len, over)
+            over.abort()
+        self.assertEqual(self.store.sizes().open_transactions, 0)
+        self.store.read()  # one that is dropped is over
+        self.assertEqual(self.store.sizes().open_transactions, 0)
+        self.store.close()
+        self.assertRaises(Misuse, self.store.read)
+
+
+class Keys(unittest.TestCase):
+    def test_whether_there_is_a_row_of_a_key(self) -> None:
+        with narthexmace.open(TABLE) as store, store.begin() as txn:
+            self.assertTrue(10 in txn and 20 in txn and (20,) in txn and [20] in txn)
+            self.assertTrue(15 not in txn and 5 not in txn and 25 not in txn)
+            txn.insert((15, "Amy", 0))
+            txn.delete(20)
+            self.assertTrue(15 in txn and 20 not in txn)
+            txn.abort()
+            with store.read() as table:
+                self.assertTrue(20 in table and 15 not in table)
+
+    def test_a_key_of_several_columns(self) -> None:
+        with narthexmace.open(PAIRS) as store, store.read() as table:
+            there = [(k, n) for k in ("a", "b", "c", "") for n in (0, 1, 2, 3) if (k, n) in table]
+            self.assertEqual(there, [("a", 1), ("a", 3), ("b", 2)])
+            self.assertIn(["a", 3], table)
+
+    def test_what_is_no_key_is_refused(self) -> None:
+        with narthexmace.open(PAIRS) as store, store.read() as table:
+            for key in ("a", 1, (1, "a"), ("a",), ("a", 1, True), ("a", 1.0), ("a", True), None):
+                with self.assertRaises(Shape):
+                    key in table
+        self.assertRaises(Misuse, lambda: ("a", 1) in table)
+
+
+if __name__ == "__main__":
+    unittest.main()
