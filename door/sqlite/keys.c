@@ -61,9 +61,25 @@ void key_of_row(const session *s, const int64_t *numbers, const char *texts, key
   }
 }
 
-bool key_is(const key *a, const key *b) {
-  return a->bytes == b->bytes && !memcmp(a->numbers, b->numbers, a->columns * sizeof *a->numbers) &&
-         !memcmp(a->texts, b->texts, a->bytes);
+int key_compare(const session *s, const key *a, const key *b) {
+  const char *left = a->texts, *right = b->texts;
+  for (size_t column = 0; column < s->keys; column++) {
+    int64_t x = a->numbers[column], y = b->numbers[column];
+    int order = (x > y) - (x < y);
+    if (type_of(s, column) == PDT_TEXT) {
+      int bytes = memcmp(left, right, (size_t)(x < y ? x : y));
+      if (bytes) order = bytes;
+      left += x;
+      right += y;
+    }
+    if (order) return order;
+  }
+  return 0;
+}
+
+void key_copy(key *to, const key *from) {
+  memcpy(to, from, offsetof(key, texts));
+  memcpy(to->texts, from->texts, from->bytes);
 }
 
 /* The key of the hidden column: its numbers and then its texts. */
@@ -90,4 +106,75 @@ bool key_of_value(const session *s, sqlite3_value *value, key *k) {
   if (!text || len > PDT_MAX_TEXT) return false;
   key_put_text(k, text, (size_t)len);
   return true;
+}
+
+/* ---- sets of keys: as many chains, in one of which each key is */
+
+enum { CHAINS = 4096 };
+
+typedef struct link {
+  struct link *next;
+  size_t len;
+  char packed[];
+} link;
+
+struct keyset {
+  size_t count;
+  link *chains[CHAINS];
+};
+
+keyset *keyset_new(void) {
+  keyset *set = sqlite3_malloc((int)sizeof *set);
+  if (set) memset(set, 0, sizeof *set);
+  return set;
+}
+
+void keyset_clear(keyset *set) {
+  if (!set || !set->count) return;
+  for (size_t i = 0; i < CHAINS; i++)
+    while (set->chains[i]) {
+      link *first = set->chains[i];
+      set->chains[i] = first->next;
+      sqlite3_free(first);
+    }
+  set->count = 0;
+}
+
+void keyset_free(keyset *set) {
+  keyset_clear(set);
+  sqlite3_free(set);
+}
+
+/* A key's bytes: its numbers, of which those of texts say where the texts end, and its texts. */
+static size_t key_pack(const key *k, char *to) {
+  size_t head = k->columns * sizeof *k->numbers;
+  memcpy(to, k->numbers, head);
+  memcpy(to + head, k->texts, k->bytes);
+  return head + k->bytes;
+}
+
+static size_t chain_of(const char *packed, size_t len) {
+  uint64_t hash = 14695981039346656037u; /* FNV-1a */
+  for (size_t i = 0; i < len; i++) hash = (hash ^ (unsigned char)packed[i]) * 1099511628211u;
+  return (size_t)(hash % CHAINS);
+}
+
+bool keyset_add(keyset *set, const key *k) {
+  link *added = sqlite3_malloc64(sizeof *added + sizeof k->numbers + k->bytes);
+  if (!added) return false;
+  added->len = key_pack(k, added->packed);
+  link **chain = &set->chains[chain_of(added->packed, added->len)];
+  added->next = *chain;
+  *chain = added;
+  set->count++;
+  return true;
+}
+
+bool keyset_has(const keyset *set, const key *k) {
+  char packed[sizeof *k];
+  if (!set || !set->count) return false;
+  size_t len = key_pack(k, packed);
+  const link *at = set->chains[chain_of(packed, len)];
+  while (at && (at->len != len || memcmp(at->packed, packed, len))) at = at->next;
+  return at;
 }

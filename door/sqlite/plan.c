@@ -8,20 +8,22 @@ SQLITE_EXTENSION_INIT3
 /* ---- plans: idxNum has how many leading key columns have one value, what bounds the next one, and the direction */
 
 typedef struct planning {
-  const session *session;
+  session *session;
   sqlite3_index_info *info;
   sqlite3_str *words; /* the plan as EXPLAIN QUERY PLAN shows it */
   int arguments;
   bool exact; /* whether the bounds so far are just what they say for any value, so that SQLite needn't compare again */
 } planning;
 
-/* A comparison of a column that may be used, with one of two operators; -1 where there is none. */
-static int find_constraint(const planning *p, size_t column, int op, int other) {
+/* A comparison of a column that may be used, with one of two operators; -1 where there is none. One of texts goes by
+   their bytes; an IN of texts is told as an = but is one only where lists are looked for. */
+static int find_constraint(const planning *p, size_t column, int op, int other, bool is_list) {
+  bool is_text = type_of(p->session, column) == PDT_TEXT;
   for (int i = 0; i < p->info->nConstraint; i++) {
     const struct sqlite3_index_constraint *c = &p->info->aConstraint[i];
     if (!c->usable || c->iColumn != (int)column || (c->op != op && c->op != other)) continue;
-    if (type_of(p->session, column) != PDT_TEXT || !sqlite3_stricmp(sqlite3_vtab_collation(p->info, i), "BINARY"))
-      return i;
+    if (is_text && sqlite3_stricmp(sqlite3_vtab_collation(p->info, i), "BINARY")) continue;
+    if (is_list == (is_text && sqlite3_vtab_in(p->info, i, -1))) return i;
   }
   return -1;
 }
@@ -33,11 +35,16 @@ static void take_constraint(planning *p, int i, size_t column, const char *op) {
                       op);
 }
 
-/* Takes what bounds a column at both sides; the bits for it. */
+/* Takes what bounds a column, a list or at both sides; the bits for it. */
 static int take_range(planning *p, size_t column) {
-  int bits = 0;
-  int low = find_constraint(p, column, SQLITE_INDEX_CONSTRAINT_GT, SQLITE_INDEX_CONSTRAINT_GE);
-  int high = find_constraint(p, column, SQLITE_INDEX_CONSTRAINT_LT, SQLITE_INDEX_CONSTRAINT_LE);
+  int bits = 0, list = find_constraint(p, column, SQLITE_INDEX_CONSTRAINT_EQ, SQLITE_INDEX_CONSTRAINT_EQ, true);
+  if (list >= 0) {
+    sqlite3_vtab_in(p->info, list, 1);
+    take_constraint(p, list, column, " IN ");
+    return LIST;
+  }
+  int low = find_constraint(p, column, SQLITE_INDEX_CONSTRAINT_GT, SQLITE_INDEX_CONSTRAINT_GE, false);
+  int high = find_constraint(p, column, SQLITE_INDEX_CONSTRAINT_LT, SQLITE_INDEX_CONSTRAINT_LE, false);
   if (low >= 0) {
     bool past = p->info->aConstraint[low].op == SQLITE_INDEX_CONSTRAINT_GT;
     take_constraint(p, low, column, past ? ">" : ">=");
@@ -68,12 +75,69 @@ static bool is_key_order(const planning *p, size_t fixed, bool *down) {
   return true;
 }
 
+/* ---- what the plans cost */
+
+enum { SAMPLES = 24, LISTED = 25 }; /* LISTED: how many values an IN is taken to have, as SQLite takes it */
+
+/* How many rows have the same first columns as the one at a position. One of the door's codes. */
+static int count_alike(session *s, pdt_txn *txn, uint64_t position, size_t columns, uint64_t *count) {
+  key low, high;
+  uint64_t from = 0, to = 0;
+  bool there = false;
+  int code = pdt_row_at(txn, position, s->old, s->old_texts, s->text_room, NULL);
+  if (code) return code;
+  key_of_row(s, s->old, s->old_texts, &low);
+  low.columns = columns;
+  low.bytes = 0;
+  for (size_t column = 0; column < columns; column++)
+    low.bytes += type_of(s, column) == PDT_TEXT ? (size_t)low.numbers[column] : 0;
+  key_copy(&high, &low);
+  key_fill(s, &low, false);
+  key_fill(s, &high, true);
+  code = pdt_rank(txn, low.numbers, low.texts, low.bytes, &from, &there);
+  if (!code) code = pdt_rank(txn, high.numbers, high.texts, high.bytes, &to, &there);
+  *count = to + there - from;
+  return code;
+}
+
+/* Samples rows at even distances: a value that many rows have is met by as many of them, so that it is the mean of 1
+   / count that tells how many values there are. */
+static int sample(session *s, pdt_txn *txn) {
+  for (size_t columns = 1; columns < s->keys; columns++) {
+    double values = 0;
+    for (uint64_t i = 0; i < SAMPLES; i++) {
+      uint64_t count = 0;
+      int code = count_alike(s, txn, s->rows / SAMPLES * i + s->rows % SAMPLES * i / SAMPLES, columns, &count);
+      if (code) return code;
+      values += 1.0 / (double)count / SAMPLES;
+    }
+    s->alike[columns - 1] = 1 / values;
+  }
+  s->sampled = s->rows;
+  return PDT_OK;
+}
+
+/* Whether the sample is of a table of another size by far. */
+static bool is_outgrown(const session *s) { return s->rows / 2 > s->sampled || s->rows < s->sampled / 2; }
+
+/* Asks for the number of rows where none is known, and samples them where the plan has some columns of a key. Where
+   memory is refused the plan is made from what was known. */
+static void learn(session *s, size_t equal) {
+  bool is_part = equal && equal < s->keys;
+  if (!s->store || (s->rows && !(is_part && is_outgrown(s)))) return;
+  pdt_txn *begun = NULL, *txn = s->view ? s->view->txn : NULL;
+  if (!txn && !pdt_begin(s->store, s->client, &begun)) txn = begun;
+  if (txn && !pdt_rows(txn, &s->rows) && s->rows && is_part) sample(s, txn);
+  pdt_abort(begun);
+}
+
 /* Fewer rows and fewer columns cost less; a search costs as much as some rows. */
 static void put_cost(planning *p, size_t equal, int bits) {
-  double rows = (double)p->session->rows;
-  if (equal == p->session->keys) rows = 1;
-  else
-    for (size_t i = 0; i < equal; i++) rows /= 10;
+  const session *s = p->session;
+  size_t fixed = equal + !!(bits & LIST);
+  double rows = fixed == s->keys ? 1 : fixed && s->sampled ? s->alike[fixed - 1] : (double)s->rows;
+  if (bits & LIST) rows *= LISTED;
+  if (rows > (double)s->rows) rows = (double)s->rows;
   if (bits & LOW) rows /= 4;
   if (bits & HIGH) rows /= 4;
   if (rows < 1) rows = 1;
@@ -87,7 +151,7 @@ int x_best_index(sqlite3_vtab *base, sqlite3_index_info *info) {
   planning p = {session_of(base), info, sqlite3_str_new(NULL), 0, true};
   size_t equal = 0, fixed = 0; /* fixed: those of the equal columns that are exact */
   for (; equal < p.session->keys; equal++) {
-    int i = find_constraint(&p, equal, SQLITE_INDEX_CONSTRAINT_EQ, SQLITE_INDEX_CONSTRAINT_EQ);
+    int i = find_constraint(&p, equal, SQLITE_INDEX_CONSTRAINT_EQ, SQLITE_INDEX_CONSTRAINT_EQ, false);
     p.exact = p.exact && type_of(p.session, equal) != PDT_TEXT;
     if (i < 0) break;
     take_constraint(&p, i, equal, "=");
@@ -101,6 +165,7 @@ int x_best_index(sqlite3_vtab *base, sqlite3_index_info *info) {
     bits |= down ? DOWN : 0;
     sqlite3_str_appendf(p.words, "%sORDER BY KEY%s", p.arguments ? " " : "", down ? " DESC" : "");
   }
+  learn(p.session, equal + !!(bits & LIST));
   put_cost(&p, equal, bits);
   info->idxNum = (int)equal | bits;
   int code = sqlite3_str_errcode(p.words);
@@ -191,6 +256,18 @@ static bool put_text(key *k, sqlite3_value *value) {
   const void *text = value ? text_of(value, &len) : NULL;
   if (text) key_put_text(k, text, len);
   return text;
+}
+
+bool stem_of(const session *s, key *stem, int plan, sqlite3_value **values) {
+  range r;
+  int equal = plan & EQUAL, at = 0;
+  key_start(&r.low);
+  key_start(&r.high);
+  r.empty = false;
+  while (at < equal && sqlite3_value_type(values[at]) != SQLITE_NULL && put_equal(s, &r, values[at])) at++;
+  if (at < equal || r.empty) return false;
+  key_copy(stem, &r.low);
+  return true;
 }
 
 void range_of(const session *s, range *r, int plan, sqlite3_value **values) {

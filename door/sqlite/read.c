@@ -9,70 +9,90 @@ enum { LEAST_BATCH = 32, BATCH = 1024, BATCH_TEXT = 1 << 16 };
 
 /* ---- cursors of a view */
 
-/* After a row was inserted at a position, or the one there was deleted. A new row at an end of the range stays
-   outside. */
-void cursors_shift(view *v, uint64_t position, bool inserted) {
-  for (cursor *c = v->cursors; c; c = c->next) {
-    uint64_t current = cursor_position(c);
-    if (c->low >= c->high) continue;
-    if (inserted) {
-      if (position < c->high) c->high++;
-      if (position <= c->low) c->low++;
-    } else if (position < c->high) {
-      if (position == current) c->gone = true;
-      if (position < c->low) c->low--;
-      c->high--;
-    }
+bool cursors_are_open(const view *v) {
+  const cursor *c = v->cursors;
+  while (c && c->over) c = c->next;
+  return c;
+}
+
+/* Whether a key that lies ahead of a cursor is in its range. */
+static bool is_in_range(const session *s, const cursor *c, const key *k) {
+  int order = c->bounded ? key_compare(s, k, &c->bound) : 0;
+  return !c->bounded || (order == 0 ? c->past : (order > 0) == c->down);
+}
+
+/* Where a row that is inserted at a position stands beside the current one: below it, above it, or in its place. */
+static int side_of(const session *s, const cursor *c, uint64_t position, const key *k) {
+  if (c->gone) return key_compare(s, k, &c->stand);
+  return position <= cursor_position(c) ? -1 : 1;
+}
+
+static void cursor_insert(const session *s, cursor *c, uint64_t position, const key *k) {
+  int side = side_of(s, c, position, k);
+  bool ahead = side && (side < 0) == c->down;
+  if (!side) {
+    c->gone = false;
+    c->high++;
+  } else if (!ahead && !c->down) c->low++, c->high++;
+  else if (ahead && !c->down) c->high += position < c->high || (position == c->high && is_in_range(s, c, k));
+  else if (ahead) {
+    c->low += position < c->low || (position == c->low && !is_in_range(s, c, k));
+    c->high++;
   }
 }
 
-bool cursors_are_open(const view *v) {
-  for (const cursor *c = v->cursors; c; c = c->next)
-    if (c->low < c->high) return true;
-  return false;
+static void cursor_delete(cursor *c, uint64_t position, const key *k) {
+  if (position >= c->high) return;
+  if (position < c->low) c->low--;
+  else if (position == cursor_position(c) && !c->gone) {
+    c->gone = true;
+    key_copy(&c->stand, k);
+  }
+  c->high--;
 }
 
-/* The keys of the first and of the last row that a cursor has left. */
-typedef struct place {
-  key first, last;
-} place;
+void cursors_insert(const session *s, uint64_t position, const key *k) {
+  for (cursor *c = s->view->cursors; c; c = c->next)
+    if (!c->over) cursor_insert(s, c, position, k);
+}
 
-static int key_at(session *s, uint64_t position, key *k) {
-  int code = pdt_row_at(s->view->txn, position, s->old, s->old_texts, s->text_room, NULL);
-  if (!code) key_of_row(s, s->old, s->old_texts, k);
+void cursors_delete(const session *s, uint64_t position, const key *k) {
+  for (cursor *c = s->view->cursors; c; c = c->next)
+    if (!c->over) cursor_delete(c, position, k);
+}
+
+/* Puts the key of the current row into c->stand, where that of a row that is gone stands. */
+static int stand_read(session *s, cursor *c) {
+  if (c->gone) return PDT_OK;
+  int code = pdt_row_at(s->view->txn, cursor_position(c), s->old, s->old_texts, s->text_room, NULL);
+  if (!code) key_of_row(s, s->old, s->old_texts, &c->stand);
   return code;
 }
 
-static int place_read(session *s, const cursor *c, place *p) {
-  int code = key_at(s, c->low, &p->first);
-  return code ? code : key_at(s, c->high - 1, &p->last);
-}
-
-static int place_take(const view *v, cursor *c, const place *p) {
-  const key *low = &p->first, *high = &p->last;
-  bool has_first = false, has_last = false;
-  int code = pdt_rank(v->txn, low->numbers, low->texts, low->bytes, &c->low, &has_first);
-  if (!code) code = pdt_rank(v->txn, high->numbers, high->texts, high->bytes, &c->high, &has_last);
-  if (has_last) c->high++;
-  if (!(c->down ? has_last : has_first)) c->gone = true;
+/* Takes the place of the key in c->stand, and all that is ahead of it as far as the bound. */
+static int stand_take(const session *s, cursor *c) {
+  uint64_t position = 0, end = 0;
+  bool there = false;
+  int code = pdt_rank(s->view->txn, c->stand.numbers, c->stand.texts, c->stand.bytes, &position, &there);
+  if (code) return code;
+  if (c->bounded) code = view_position(s->view, &c->bound, c->past != c->down, &end);
+  else if (!c->down) code = pdt_rows(s->view->txn, &end);
+  c->gone = !there;
+  if (c->down) position += there;
+  c->low = c->down ? end : position;
+  c->high = c->down ? position : end;
+  if (c->low > c->high) c->low = c->high = position;
   return code;
 }
 
 int cursors_go_back(session *s, size_t level) {
-  view *v = s->view;
-  size_t count = 0, i = 0;
   int code = PDT_OK;
-  for (const cursor *c = v->cursors; c; c = c->next) count += c->low < c->high;
-  place *places = count ? sqlite3_malloc64(count * sizeof *places) : NULL;
-  if (count && !places) return PDT_NOMEM;
-  for (const cursor *c = v->cursors; c && !code; c = c->next)
-    if (c->low < c->high) code = place_read(s, c, &places[i++]);
-  if (!code) code = pdt_back_to(v->txn, level);
-  v->edits++;
-  i = 0;
-  for (cursor *c = v->cursors; c && !code; c = c->next)
-    if (c->low < c->high) code = place_take(v, c, &places[i++]);
-  sqlite3_free(places);
+  for (cursor *c = s->view->cursors; c && !code; c = c->next)
+    if (!c->over) code = stand_read(s, c);
+  if (!code) code = pdt_back_to(s->view->txn, level);
+  s->view->edits++;
+  for (cursor *c = s->view->cursors; c && !code; c = c->next)
+    if (!c->over) code = stand_take(s, c);
   return code;
 }
 
@@ -82,10 +102,12 @@ int x_open(sqlite3_vtab *base, sqlite3_vtab_cursor **out) {
   session *s = session_of(base);
   int code = view_enter(base, false);
   if (code) return code;
-  size_t bytes = sizeof(cursor) + s->width * sizeof(batch);
-  cursor *c = sqlite3_malloc((int)bytes);
+  cursor *c = sqlite3_malloc((int)(sizeof *c + s->width * sizeof *c->batches));
   if (!c) return SQLITE_NOMEM;
-  memset(c, 0, bytes);
+  memset(c, 0, offsetof(cursor, bound));
+  memset(c->batches, 0, s->width * sizeof *c->batches);
+  c->over = true;
+  keyset_clear(s->replaced);
   c->view = s->view;
   c->next = s->view->cursors;
   s->view->cursors = c;
@@ -105,13 +127,16 @@ int x_close(sqlite3_vtab_cursor *base) {
     sqlite3_free(c->batches[column].ends);
     sqlite3_free(c->batches[column].texts);
   }
+  list_free(c->ranges);
   sqlite3_free(c);
-  if (v != s->view && !v->cursors) view_free(v);
-  else if (view_is_stale(s)) view_leave(s);
+  if (v != s->view && !v->cursors) {
+    view_free(s, v);
+    session_tidy(s);
+  } else if (view_is_stale(s)) view_leave(s);
   return SQLITE_OK;
 }
 
-static int is_over(sqlite3_vtab *base) {
+static int transaction_is_over(sqlite3_vtab *base) {
   return say(base, SQLITE_ABORT, "pdt: the transaction that this statement read in is over");
 }
 
@@ -122,8 +147,8 @@ static bool is_one_key(const session *s, const range *r) {
          !memcmp(r->low.texts, r->high.texts, r->low.bytes);
 }
 
-/* The positions of a range's first row and of the one behind its last: by one search where it is that of one key. One of
-   the door's codes. */
+/* The positions of a range's first row and of the one behind its last: by one search where it is that of one key.
+   One of the door's codes. */
 static int positions_of(const session *s, view *v, const range *r, uint64_t *low, uint64_t *high) {
   if (is_one_key(s, r)) {
     bool there = false;
@@ -135,38 +160,69 @@ static int positions_of(const session *s, view *v, const range *r, uint64_t *low
   return code ? code : view_position(v, &r->high, r->past_high, high);
 }
 
+/* Takes a range's positions; the cursor is over where there is no row. One of the door's codes. */
+static int range_take(const session *s, cursor *c, const range *r) {
+  c->bounded = true;
+  c->past = c->down ? !r->past_low : r->past_high;
+  int code = positions_of(s, c->view, r, &c->low, &c->high);
+  c->over = code || c->low >= c->high;
+  if (!c->over) key_copy(&c->bound, c->down ? &r->low : &r->high);
+  return code;
+}
+
+/* Takes the next range that has a row. One of the door's codes. */
+static int ranges_take(const session *s, cursor *c) {
+  range r;
+  int code = PDT_OK;
+  while (!code && c->over && list_next(s, c->ranges, c->down, &r)) code = range_take(s, c, &r);
+  return code;
+}
+
+/* Takes the ranges of a plan with a list; null ones where they can't be had, so that the whole range is to be taken. */
+static int ranges_make(const session *s, cursor *c, int plan, sqlite3_value **values) {
+  key stem;
+  list_free(c->ranges);
+  c->ranges = NULL;
+  if (!(plan & LIST) || !stem_of(s, &stem, plan, values)) return SQLITE_OK;
+  return list_make(&stem, values[plan & EQUAL], &c->ranges);
+}
+
 int x_filter(sqlite3_vtab_cursor *base, int plan, const char *words, int argc, sqlite3_value **argv) {
   (void)words, (void)argc;
   cursor *c = (cursor *)base;
   const session *s = session_of(base->pVtab);
   range r;
-  if (s->doomed) return refuse_doomed(base->pVtab);
-  if (!c->view->txn) return is_over(base->pVtab);
-  range_of(s, &r, plan, argv);
+  if (s->doomed) return refuse_doomed(base->pVtab, s);
+  if (!c->view->txn) return transaction_is_over(base->pVtab);
   c->down = plan & DOWN;
-  c->gone = false;
+  c->over = true;
+  c->gone = c->bounded = false;
   c->low = c->high = 0;
-  if (r.empty) return SQLITE_OK;
-  if (!(plan & (EQUAL | LOW | HIGH))) return fail(base->pVtab, pdt_rows(c->view->txn, &c->high));
-  int code = positions_of(s, c->view, &r, &c->low, &c->high);
   for (size_t column = 0; column < s->width; column++) c->batches[column].want = LEAST_BATCH;
+  int code = ranges_make(s, c, plan, argv);
+  if (code) return code;
+  if (c->ranges) return fail(base->pVtab, ranges_take(s, c));
+  range_of(s, &r, plan, argv);
+  if (r.empty) return SQLITE_OK;
+  if (plan & (EQUAL | LOW | HIGH)) return fail(base->pVtab, range_take(s, c, &r));
+  code = pdt_rows(c->view->txn, &c->high);
+  c->over = code || !c->high;
   return fail(base->pVtab, code);
 }
 
 int x_next(sqlite3_vtab_cursor *base) {
   cursor *c = (cursor *)base;
-  if (session_of(base->pVtab)->doomed) return refuse_doomed(base->pVtab);
-  if (!c->view->txn) return is_over(base->pVtab);
+  const session *s = session_of(base->pVtab);
+  if (s->doomed) return refuse_doomed(base->pVtab, s);
+  if (!c->view->txn) return transaction_is_over(base->pVtab);
   if (c->gone) c->gone = false;
   else if (c->down) c->high--;
   else c->low++;
-  return SQLITE_OK;
+  c->over = c->low >= c->high;
+  return c->over && c->ranges ? fail(base->pVtab, ranges_take(s, c)) : SQLITE_OK;
 }
 
-int x_eof(sqlite3_vtab_cursor *base) {
-  const cursor *c = (const cursor *)base;
-  return c->low >= c->high;
-}
+int x_eof(sqlite3_vtab_cursor *base) { return ((const cursor *)base)->over; }
 
 /* Room for a batch, which a cursor keeps. */
 static bool batch_make(batch *b, bool is_text) {
@@ -238,9 +294,9 @@ static int put_key(cursor *c, sqlite3_context *to) {
 int x_column(sqlite3_vtab_cursor *base, sqlite3_context *to, int column) {
   cursor *c = (cursor *)base;
   const session *s = session_of(base->pVtab);
-  if (s->doomed) return refuse_doomed(base->pVtab);
+  if (s->doomed) return refuse_doomed(base->pVtab, s);
   if (c->gone || sqlite3_vtab_nochange(to)) return SQLITE_OK;
-  if (!c->view->txn) return is_over(base->pVtab);
+  if (!c->view->txn) return transaction_is_over(base->pVtab);
   if ((size_t)column == s->width) return fail(base->pVtab, put_key(c, to));
   uint64_t current = cursor_position(c);
   batch *b = &c->batches[column];

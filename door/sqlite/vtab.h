@@ -7,6 +7,7 @@
 #include <pdt.h>
 #include <sqlite3ext.h>
 #include <stdbool.h>
+#include <stddef.h>
 #include <stdint.h>
 
 enum { KEY_COLUMNS = 4 };
@@ -18,8 +19,8 @@ typedef struct cursor cursor;
 struct connection {
   sqlite3 *db;
   session *sessions;
-  session *writer;     /* the one session that has written in the open transaction */
   uint64_t statements; /* how many have begun, as the trace callback was told */
+  size_t levels;       /* of the open transaction: one for itself, and one for each savepoint, as SQLite has told */
 };
 
 /* What a transaction reads and writes. Cursors that outlive it keep it. */
@@ -33,34 +34,44 @@ struct session {
   connection *owner;
   session *next;
   char *schema, *name, *path; /* the path as it was declared */
-  shared *shared;
+  shared *shared;             /* null once it was let go, and so is the store */
   pdt_store *store;
   size_t width, keys, text_room; /* text_room: bytes enough for the texts of any row */
   uint32_t client;
   unsigned tables; /* SQLite's objects for it */
+  unsigned views;  /* its own, and those that only cursors have still */
   bool kept;       /* whether the connection has it; if not, it goes with the last of these */
-  uint64_t rows;   /* how many there were when last a view was taken */
 
-  view *view;         /* of the open transaction; null before its first read or write */
-  uint64_t seen;      /* the connection's statements when the view was last entered */
-  bool writing;  /* between xBegin and xCommit or xRollback */
+  /* How many levels were open when its table was created or dropped in the open transaction, and 0 where it wasn't.
+     What was done above the level of a savepoint is undone with it. */
+  size_t created, dropped;
+
+  uint64_t rows, sampled;    /* how many there were when last asked, and when last sampled */
+  double alike[KEY_COLUMNS]; /* how many rows have the same first columns, by the sample */
+
+  view *view;    /* of the open transaction; null before its first read or write */
+  uint64_t seen; /* the connection's statements when the view was last entered */
+  bool writing;  /* from xBegin, or the first write, to xCommit or xRollback */
   bool wrote;    /* whether the view has writes */
   bool doomed;   /* whether some of them had to be undone, and memory was refused for that */
-  size_t marks;  /* how many marks the view has: one for the begin, and one for each open savepoint */
+  size_t marks;  /* how many marks the view has: after a write has begun, one for each level */
   size_t first;  /* how many of these stand before the first write */
   size_t last;   /* from this level on no mark has a write after it */
 
   int64_t row[PDT_MAX_COLUMNS], old[PDT_MAX_COLUMNS]; /* the row that is written, and the one in its place */
   char *row_texts, *old_texts;
+  struct keyset *replaced; /* keys whose rows an UPDATE that is under way has replaced; null before the first */
 };
 
-/* SQLite's object for a table. */
+/* SQLite's object for a table; the one for pdt_savepoints has no session. */
 typedef struct table {
   sqlite3_vtab base;
+  connection *owner;
   session *session;
 } table;
 
 static inline session *session_of(sqlite3_vtab *base) { return ((table *)base)->session; }
+static inline connection *owner_of(sqlite3_vtab *base) { return ((table *)base)->owner; }
 static inline int type_of(const session *s, size_t column) { return pdt_column_type(s->store, column); }
 
 /* A key, or the first columns of one. */
@@ -78,22 +89,22 @@ int say(sqlite3_vtab *base, int code, const char *format, ...);
 int code_of(int code);
 /* The same, with the sentence of the door's code left with SQLite. */
 int fail(sqlite3_vtab *base, int code);
-/* Refuses to go on with a transaction of which a part should have been undone. */
-int refuse_doomed(sqlite3_vtab *base);
+/* Refuses to go on with a transaction of which a part should have been undone, in a table of the session. */
+int refuse_doomed(sqlite3_vtab *base, const session *s);
 
 /* Takes a view, if the transaction has none. A write outside a transaction has one of its own: cursors that are open
    then read on in theirs. */
 int view_enter(sqlite3_vtab *base, bool write);
 /* Lets the session's view go. Cursors that stand in it read on, unless it has writes, which are no more to be seen. */
 void view_leave(session *s);
-void view_free(view *v);
+void view_free(session *s, view *v);
 /* Whether the view is of a transaction that has ended, or of a statement outside one. */
 bool view_is_stale(const session *s);
 /* The position of a key, or the one past its row. One of the door's codes. */
 int view_position(view *v, const key *k, bool past, uint64_t *position);
 
-/* A mark of the view at this level, and at each lower one that has none. One of the door's codes. */
-int marks_make(session *s, size_t level);
+/* Makes marks of the view until there are so many. One of the door's codes. */
+int marks_make(session *s, size_t count);
 /* Forgets the mark of a level, and those after it. */
 void marks_release(session *s, size_t level);
 /* Goes back to the mark of a level, where there is one; cursors that are open keep their places. One of the door's
@@ -110,12 +121,31 @@ void transaction_end(session *s);
    back. */
 session *session_open(connection *c, const char *schema, const char *name, const declaration *declared, bool create,
                       char **error);
-/* The session of the one table of a name; null, and a sentence that says why, sqlite3_malloc's, where there is none or
-   several. */
-session *session_named(connection *c, const char *name, char **why);
-/* Takes a session from its connection. It goes when SQLite has no object for it. */
+/* Takes a session from its connection. It lets its store go when no cursor reads in it, and goes itself when SQLite has
+   no object for it. */
 void session_detach(session *s);
-void session_free(session *s);
+/* Frees what a session that was taken from its connection needs no more. */
+void session_tidy(session *s);
+
+/* ---- transactions.c: what SQLite tells of transactions and savepoints, through any of its objects */
+
+int x_begin(sqlite3_vtab *base);
+int x_sync(sqlite3_vtab *base);
+int x_commit(sqlite3_vtab *base);
+int x_rollback(sqlite3_vtab *base);
+int x_savepoint(sqlite3_vtab *base, int savepoint);
+int x_release(sqlite3_vtab *base, int savepoint);
+int x_rollback_to(sqlite3_vtab *base, int savepoint);
+
+/* Makes the session's view one that is written, with a mark for each level. */
+int write_starts(sqlite3_vtab *base);
+/* The session, if there is one, whose writes the open transaction would commit. */
+session *writer_of(const connection *c);
+/* From now on SQLite tells the connection of each savepoint, and of the end of the transaction. One of SQLite's
+   codes. */
+int listen_to_savepoints(connection *c);
+/* The table pdt_savepoints, through which it tells; its context is the connection. */
+extern const sqlite3_module savepoints_module;
 
 /* ---- keys.c */
 
@@ -128,15 +158,27 @@ void key_fill(const session *s, key *k, bool greatest);
 void key_of_row(const session *s, const int64_t *numbers, const char *texts, key *k);
 /* The key by which SQLite names a row that it has read: the key column itself, or the hidden one. */
 bool key_of_value(const session *s, sqlite3_value *value, key *k);
-/* Whether two whole keys are the same. */
-bool key_is(const key *a, const key *b);
+/* The order of two whole keys: below zero, zero or above. */
+int key_compare(const session *s, const key *a, const key *b);
+/* Copies no more of a key's room for texts than it has. */
+void key_copy(key *to, const key *from);
+
+/* A set of whole keys. */
+typedef struct keyset keyset;
+keyset *keyset_new(void);
+void keyset_clear(keyset *set);
+void keyset_free(keyset *set);
+/* False where memory is refused. */
+bool keyset_add(keyset *set, const key *k);
+bool keyset_has(const keyset *set, const key *k);
 /* Whether a text can be a cell's: UTF-8, and not too long. */
 bool is_cell_text(const void *text, size_t len);
 
 /* ---- plan.c */
 
-/* A plan's number: how many leading key columns have one value, what bounds the next one, and the direction. */
-enum { EQUAL = 7, LOW = 8, LOW_PAST = 16, HIGH = 32, HIGH_PAST = 64, DOWN = 128 };
+/* A plan's number: how many leading key columns have one value, what bounds the next one, and the direction. Where
+   that is a list of texts, its value is behind those of the columns. */
+enum { EQUAL = 7, LOW = 8, LOW_PAST = 16, HIGH = 32, HIGH_PAST = 64, DOWN = 128, LIST = 256 };
 
 /* What the values of a plan leave of the keys: those from low to high, both whole. Without the row of low where that is
    past it, and with the row of high where that is. */
@@ -147,7 +189,22 @@ typedef struct range {
 } range;
 
 int x_best_index(sqlite3_vtab *base, sqlite3_index_info *info);
+/* The range of a plan; without the list, where it has one. */
 void range_of(const session *s, range *r, int plan, sqlite3_value **values);
+/* The key that the first columns of a plan have as their one value. False where one of them bounds nothing, or too
+   much. */
+bool stem_of(const session *s, key *stem, int plan, sqlite3_value **values);
+
+/* ---- lists.c */
+
+typedef struct list list;
+
+/* The texts of a list, each a range behind the columns of the stem; null where a number is among them. One of SQLite's
+   codes. */
+int list_make(const key *stem, sqlite3_value *values, list **out);
+void list_free(list *l);
+/* The next range, up or down; false where there is none. */
+bool list_next(const session *s, list *l, bool down, range *r);
 
 /* ---- read.c */
 
@@ -160,14 +217,21 @@ typedef struct batch {
   char *texts;
 } batch;
 
-/* The positions from low to high are left, and the first or the last of them is the current row. */
+/* The positions from low to high are left, and the first or the last of them is the current row. Rows that are inserted
+   ahead of it come too, as far as the bound. */
 struct cursor {
   sqlite3_vtab_cursor base;
   cursor *next; /* in its view */
   view *view;
   uint64_t low, high;
-  bool down; /* whether the last position is the current one */
-  bool gone; /* whether the current row was deleted: the next one is current without a step */
+  bool down;    /* whether the last position is the current one */
+  bool over;    /* whether it has passed the last row */
+  bool gone;    /* whether the current row was deleted: the next one is current without a step */
+  bool bounded; /* whether there is a bound; else it goes on to the end of the table */
+  bool past;    /* whether the bound's own row is in the range */
+  list *ranges; /* those that come behind this one; null where there is one alone */
+  key bound;    /* the key at which the range ends, in the cursor's direction */
+  key stand;    /* the key of the row that is gone */
   batch batches[];
 };
 
@@ -180,17 +244,28 @@ int x_next(sqlite3_vtab_cursor *base);
 int x_eof(sqlite3_vtab_cursor *base);
 int x_column(sqlite3_vtab_cursor *base, sqlite3_context *to, int column);
 
-/* Whether a cursor of a view has rows left, so that their positions matter. */
+/* Whether a cursor of a view is under way, so that its positions matter. */
 bool cursors_are_open(const view *v);
-/* After a row was inserted at a position, or the one there was deleted. */
-void cursors_shift(view *v, uint64_t position, bool inserted);
-/* Goes back to a mark of the session's view. A cursor then has the rows between the first and the last that it had
-   left; where its current row is gone, the next one is current without a step. One of the door's codes. */
+/* After a row of a key was inserted at a position, or the one there was deleted. */
+void cursors_insert(const session *s, uint64_t position, const key *k);
+void cursors_delete(const session *s, uint64_t position, const key *k);
+/* Goes back to a mark of the session's view. A cursor keeps its current row; where that is gone, the next one is
+   current without a step. One of the door's codes. */
 int cursors_go_back(session *s, size_t level);
 
 /* ---- write.c */
 
 int x_update(sqlite3_vtab *base, int argc, sqlite3_value **argv, sqlite3_int64 *rowid);
+
+/* ---- functions.c */
+
+/* The session of the one table of a name, before which a schema's may stand, as in main.t; null, and a sentence that
+   says why, sqlite3_malloc's, where there is none or several. */
+session *session_named(connection *c, const char *name, char **why);
+/* Has SQLite make its object for a table, which it otherwise does when a statement first names it. One of its codes. */
+int touch(sqlite3 *db, const char *schema, const char *name);
+/* pdt_fold('t'), pdt_cut('t'), pdt_checkpoint('t', DIR). One of SQLite's codes. */
+int functions_make(connection *c);
 
 /* ---- layers.c */
 

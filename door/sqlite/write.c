@@ -5,21 +5,28 @@
 
 SQLITE_EXTENSION_INIT3
 
+/* What a write is refused for is a constraint of its statement, with no extended code: SQLite does what the
+   statement's OR says where it is just this one. At SQLITE_FULL it would roll the whole transaction back. */
+static int refuse(sqlite3_vtab *base, int code) {
+  bool is_constraint = code == PDT_DUPLICATE || code == PDT_FULL;
+  return is_constraint ? say(base, SQLITE_CONSTRAINT, "pdt: %s", pdt_text(code)) : fail(base, code);
+}
+
 static int mismatch(sqlite3_vtab *base, size_t column, sqlite3_value *value) {
   static const char *const wanted[] = {"", "a whole number", "a text in UTF-8 of at most 4096 bytes", "0 or 1"};
   static const char *const found[] = {"", "an integer", "a real", "a text", "a blob", "NULL"};
   const session *s = session_of(base);
-  return say(base, SQLITE_MISMATCH, "pdt: column %s takes %s, not %s", pdt_column_name(s->store, column),
+  return say(base, SQLITE_CONSTRAINT, "pdt: column %s takes %s, not %s", pdt_column_name(s->store, column),
              wanted[type_of(s, column)], found[sqlite3_value_type(value)]);
 }
 
-/* A value as a whole number, by the affinity of such columns: 5.0 and '5' are 5. */
+/* A value as a whole number, by the affinity of such columns: 5.0 and '5' are 5. The least one is none as a real. */
 static bool number_of(sqlite3_value *value, int64_t *number) {
   int type = sqlite3_value_numeric_type(value);
   if (type == SQLITE_INTEGER) *number = sqlite3_value_int64(value);
   if (type != SQLITE_FLOAT) return type == SQLITE_INTEGER;
   double real = sqlite3_value_double(value);
-  if (!(real >= -9223372036854775808.0 && real < 9223372036854775808.0)) return false;
+  if (!(real > -9223372036854775808.0 && real < 9223372036854775808.0)) return false;
   *number = (int64_t)real;
   return (double)*number == real;
 }
@@ -47,14 +54,13 @@ static int put_cell(sqlite3_vtab *base, size_t column, sqlite3_value *value, int
 /* After a write of the door: what it means for the other cursors and the commit. */
 static void wrote(session *s) {
   s->wrote = true;
-  s->owner->writer = s;
   s->view->edits++;
   s->last = s->marks;
 }
 
 /* Several writes of one row are done all or none: they stand between these two. The second is handed their code, and
    answers it. */
-static int whole_starts(session *s) { return marks_make(s, s->marks); }
+static int whole_starts(session *s) { return marks_make(s, s->marks + 1); }
 
 static int whole_ends(session *s, int code) {
   size_t level = s->marks - 1;
@@ -72,7 +78,7 @@ static int insert_row(session *s, size_t bytes) {
   if (!code) code = pdt_insert(s->view->txn, s->row, s->row_texts, bytes);
   if (code) return code;
   wrote(s);
-  if (read) cursors_shift(s->view, position, true);
+  if (read) cursors_insert(s, position, &k);
   return PDT_OK;
 }
 
@@ -83,7 +89,7 @@ static int delete_row(session *s, const key *k) {
   if (!code) code = pdt_delete(s->view->txn, k->numbers, k->texts, k->bytes);
   if (code) return code;
   wrote(s);
-  if (read) cursors_shift(s->view, position, false);
+  if (read) cursors_delete(s, position, k);
   return PDT_OK;
 }
 
@@ -109,11 +115,11 @@ static int insert(sqlite3_vtab *base, sqlite3_value **values) {
   }
   if (s->keys > 1 && sqlite3_value_type(values[s->width]) != SQLITE_NULL) return hidden(base);
   int code = insert_row(s, bytes);
-  if (code != PDT_DUPLICATE || sqlite3_vtab_on_conflict(s->owner->db) != SQLITE_REPLACE) return fail(base, code);
+  if (code != PDT_DUPLICATE || sqlite3_vtab_on_conflict(s->owner->db) != SQLITE_REPLACE) return refuse(base, code);
   key k;
   const key *old = &k;
   key_of_row(s, s->row, s->row_texts, &k);
-  return fail(base, replace_row(s, &old, 1, bytes));
+  return refuse(base, replace_row(s, &old, 1, bytes));
 }
 
 /* How many cells an UPDATE names, beside those of the key. */
@@ -161,6 +167,12 @@ static int merge_row(sqlite3_vtab *base, sqlite3_value **values, size_t *bytes) 
   return SQLITE_OK;
 }
 
+/* Keeps the key of a row that an UPDATE replaces, until a statement reads again: none does before this one is over. */
+static int keep_replaced(session *s, const key *k) {
+  if (!s->replaced) s->replaced = keyset_new();
+  return s->replaced && keyset_add(s->replaced, k) ? PDT_OK : PDT_NOMEM;
+}
+
 /* Moves the row in s->old to another key: inserts the new one, and deletes the old one. Where the table is full the old
    one goes first, and so does a row of the new key that is replaced. */
 static int move_row(sqlite3_vtab *base, const key *from, const key *to, size_t bytes) {
@@ -172,9 +184,9 @@ static int move_row(sqlite3_vtab *base, const key *from, const key *to, size_t b
   if (!code) code = delete_row(s, from);
   code = whole_ends(s, code);
   if (code == PDT_FULL) return replace_row(s, olds, 1, bytes);
-  if (code == PDT_DUPLICATE && sqlite3_vtab_on_conflict(s->owner->db) == SQLITE_REPLACE)
-    return replace_row(s, olds, 2, bytes);
-  return code;
+  if (code != PDT_DUPLICATE || sqlite3_vtab_on_conflict(s->owner->db) != SQLITE_REPLACE) return code;
+  code = keep_replaced(s, to);
+  return code ? code : replace_row(s, olds, 2, bytes);
 }
 
 static bool names_key(const session *s, sqlite3_value **values) {
@@ -198,7 +210,7 @@ static int set_row(sqlite3_vtab *base, const key *k, sqlite3_value **values) {
   int code = named_cells(base, values);
   if (code) return code;
   code = set_cells(session_of(base), k, values);
-  return code == PDT_MISSING ? SQLITE_OK : fail(base, code);
+  return code == PDT_MISSING ? SQLITE_OK : refuse(base, code);
 }
 
 static int update(sqlite3_vtab *base, const key *from, sqlite3_value **values) {
@@ -206,15 +218,17 @@ static int update(sqlite3_vtab *base, const key *from, sqlite3_value **values) {
   key to;
   size_t bytes = 0;
   if (s->keys > 1 && !sqlite3_value_nochange(values[s->width]) &&
-      (!key_of_value(s, values[s->width], &to) || !key_is(from, &to)))
+      (!key_of_value(s, values[s->width], &to) || key_compare(s, from, &to)))
     return hidden(base);
+  if (keyset_has(s->replaced, from))
+    return say(base, SQLITE_ERROR, "pdt: UPDATE OR REPLACE came to a row that it has put in the place of another");
   if (!names_key(s, values)) return set_row(base, from, values);
   int code = pdt_get(s->view->txn, from->numbers, from->texts, from->bytes, s->old, s->old_texts, s->text_room, NULL);
   if (code) return code == PDT_MISSING ? SQLITE_OK : fail(base, code);
   code = merge_row(base, values, &bytes);
   if (code) return code;
   key_of_row(s, s->row, s->row_texts, &to);
-  return key_is(from, &to) ? set_row(base, from, values) : fail(base, move_row(base, from, &to, bytes));
+  return key_compare(s, from, &to) ? refuse(base, move_row(base, from, &to, bytes)) : set_row(base, from, values);
 }
 
 /* A row is written: deleted where there is one value, inserted where the first is NULL, and changed otherwise. One
@@ -223,13 +237,16 @@ int x_update(sqlite3_vtab *base, int argc, sqlite3_value **argv, sqlite3_int64 *
   (void)rowid;
   session *s = session_of(base);
   key k;
-  if (s->doomed) return refuse_doomed(base);
-  if (s->owner->writer && s->owner->writer != s)
+  if (s->doomed) return refuse_doomed(base, s);
+  const session *writer = writer_of(s->owner);
+  if (writer && writer != s)
     return say(base, SQLITE_ERROR, "pdt: a transaction writes one table of pdt, and this one has written %s",
-               s->owner->writer->name);
+               writer->name);
+  int code = write_starts(base);
+  if (code) return code;
   if (argc > 1 && sqlite3_value_type(argv[0]) == SQLITE_NULL) return insert(base, argv + 2);
   if (!key_of_value(s, argv[0], &k)) return fail(base, PDT_SHAPE);
   if (argc > 1) return update(base, &k, argv + 2);
-  int code = delete_row(s, &k);
+  code = delete_row(s, &k);
   return code == PDT_MISSING ? SQLITE_OK : fail(base, code);
 }

@@ -22,9 +22,12 @@ BLOCKS = [  # each as one: all of its statements, or none
     ["BEGIN", "DELETE FROM t WHERE id = 21", "INSERT INTO t VALUES (21, 't', '', 0)", "UPDATE t SET qty = 7", "COMMIT"],
     ["SAVEPOINT a", "UPDATE t SET qty = 8", "SAVEPOINT b", "REPLACE INTO t VALUES (3, 's', '', 3)",
      "DELETE FROM t WHERE id > 9", "ROLLBACK TO b", "UPDATE t SET name = 'y', qty = 9 WHERE id > 30", "RELEASE a"],
+    ["BEGIN", "UPDATE t SET qty = 6 WHERE id = 30", "SAVEPOINT a", "DROP TABLE t", "ROLLBACK TO a",
+     "DELETE FROM t WHERE id = 33", "COMMIT"],
 ]
-READS = ["SELECT * FROM t ORDER BY id DESC, slot DESC", "SELECT sum(qty) FROM t WHERE id > 20", "SELECT pdt_fold('t')"]
-READS += ["SELECT * FROM pdt_layers('t')"]
+READS = ["SELECT * FROM t ORDER BY id DESC, slot DESC", "SELECT sum(qty) FROM t WHERE id > 20"]
+READS += ["SELECT qty FROM t WHERE id = 21 AND slot IN ('s', 't')"]
+READS += ["SELECT pdt_fold('t')", "SELECT * FROM pdt_layers('t')"]
 
 
 def is_done(connection, block):
@@ -34,7 +37,7 @@ def is_done(connection, block):
             connection.run(sql)
         return True
     except Error as error:
-        assert error.code == NOMEM, error
+        assert error.code == NOMEM or error.text.endswith("memory was refused"), error
     try:
         connection.run("ROLLBACK")
     except Error:
@@ -56,11 +59,10 @@ def session(extension, folder, refuse, n):
     for line in CSV.splitlines()[1:]:
         number, slot, name, qty = line.split(",")
         plain.run(f"INSERT INTO t VALUES ({number}, '{slot}', '{name}', {qty})")
-    for block in BLOCKS:
+    for i, block in enumerate(BLOCKS):
         if is_done(virtual, block):
             assert is_done(plain, block), block
-        for read in READS:
-            is_done(virtual, [read])
+        is_done(virtual, [READS[i % len(READS)]])
     left = refuse(0)
     found, wanted = virtual.run("SELECT * FROM t"), plain.run("SELECT * FROM t")
     assert found == wanted, f"allocation {n}: found {found}, wanted {wanted}"

@@ -54,22 +54,42 @@ class Connection:
         """The last error."""
         return Error(_lib.sqlite3_extended_errcode(self._db), _lib.sqlite3_errmsg(self._db).decode())
 
-    def rows(self, sql):
-        """The rows of a statement, one at a time; the statement is open until the last."""
+    def prepare(self, sql):
+        """A statement, which is kept until it is finalized."""
         statement = ctypes.c_void_p()
         if _lib.sqlite3_prepare_v2(self._db, sql.encode(), -1, ctypes.byref(statement), None):
             raise self.error()
+        return statement
+
+    def step(self, statement):
+        """The rows of a statement, one at a time, and then it can be stepped again."""
         try:
             while (code := _lib.sqlite3_step(statement)) == ROW:
                 yield tuple(self._cell(statement, i) for i in range(_lib.sqlite3_column_count(statement)))
             if code != DONE:
                 raise self.error()
         finally:
-            _lib.sqlite3_finalize(statement)
+            _lib.sqlite3_reset(statement)
+
+    @staticmethod
+    def finalize(statement):
+        _lib.sqlite3_finalize(statement)
+
+    def rows(self, sql):
+        """The rows of a statement, one at a time; the statement is open until the last."""
+        statement = self.prepare(sql)
+        try:
+            yield from self.step(statement)
+        finally:
+            self.finalize(statement)
 
     def run(self, sql):
         """All rows of a statement."""
         return list(self.rows(sql))
+
+    def is_over(self):
+        """Whether no transaction is open."""
+        return bool(_lib.sqlite3_get_autocommit(self._db))
 
     def trace(self):
         """Takes the connection's one trace callback away from whoever has it."""
