@@ -1,8 +1,8 @@
 # Each target is one line; the work is done by the toolchain's command rt.
 .PHONY: try run test examples fmt check door install bench
 
-# how many checks the gate does at a time: each takes up to 6 GB
-RT_JOBS ?= 2
+# how many checks the gate does at a time: one for each processor and each 6 GB of memory, which one takes at most; two at least
+RT_JOBS ?= $(shell awk -v cores=$$(nproc) '/^MemTotal/ { jobs = int($$2 / 5.8e6); if (jobs > cores) jobs = cores; print jobs < 2 ? 2 : jobs }' /proc/meminfo)
 
 # runs the program on its example, unproved: a look, in two to three minutes
 try:
