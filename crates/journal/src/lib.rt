@@ -1,0 +1,23 @@
+//! A journal's bytes: frames, one for each commit, what a list of bytes says as a journal, and why it ends there.
+//!
+//! *What a contract sees.* A frame is what it logs: the number of a commit, the greatest number that was known to be safe when
+//! it was written, and its payload. A journal is read as the frames from the left that are whole, with the rest.
+//!
+//! *What it stands on.* `values` for want of memory.
+#![tactic(auto)]
+
+mod check;
+mod frame;
+mod laws;
+mod reading;
+mod witness;
+mod writing;
+
+pub use check::crc_from;
+pub use frame::{Ending, Frame, Reading};
+pub use laws::{
+    a_changed_byte_is_found, a_crash_leaves_whole_frames, a_journal_goes_on,
+    a_prefix_reads_as_whole_frames, frames_read_back, rot_is_told, what_reads_is_spelt,
+};
+pub use reading::read_frames;
+pub use writing::write_frame;
