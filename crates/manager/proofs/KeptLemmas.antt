@@ -9,7 +9,7 @@ use Rattle.model.specs.History.{table_with_all}
 use Rattle.delta.specs.Tree.{Tree}
 use Rattle.layers.specs.Over.{tree_of}
 use Rattle.txn.specs.Version.{Lower, LayeredVersion}
-use Rattle.manager.specs.Managed.{Managed}
+use Rattle.manager.specs.Managed.{Managed, commits_in}
 use Rattle.manager.specs.Kept.{HoldsNewest, commit_trees}
 
 module _ (schema : Columns) where
@@ -71,6 +71,16 @@ kept_next schema t commits recent x tree is =
     keep_last-again recent (commit_trees schema t commits) tree
     ∙ ap (λ (u : Tree). keep_last recent (commit_trees schema t commits ++ u ∷ [])) is
     ∙ ap (keep_last recent) (sym (commit_trees-append schema t commits x))
+
+-- how many trees are kept
+pub kept_count : (m : Managed) (l : Lower) (newest : LayeredVersion) (kept : List Tree) → HoldsNewest m l newest kept
+    → length kept ≡ length (commits_in m) - (length (commits_in m) - m.start.recent)
+kept_count m l newest kept h =
+    let trees = commit_trees m.schema m.start.table (commits_in m) in
+    let count = length-commit_trees m.schema m.start.table (commits_in m) in
+    ap (λ (ts : List Tree). length ts) h.kept_are
+    ∙ length-drop (length trees - m.start.recent) trees
+    ∙ ap (λ n. n - (n - m.start.recent)) count
 
 -- what a manager holds, it holds as it is seen
 pub holds : {m v : Managed} {l : Lower} {newest : LayeredVersion} {kept : List Tree} → m ≡ v → HoldsNewest m l newest kept

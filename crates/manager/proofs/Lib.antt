@@ -1,6 +1,7 @@
 mod PassingLemmas
 mod HistoryLemmas
 mod KeptLemmas
+mod ChangesLemmas
 mod GrantLemmas
 mod FoldLemmas
 mod CutLemmas
@@ -9,3 +10,4 @@ mod CheckpointLemmas
 mod RestackLemmas
 mod CommitLemmas
 pub mod CallerLemmas
+pub mod Crossing

@@ -3,7 +3,6 @@ use Rattle.std.proofs.Common.{◌≡◌, ℕ, suc, ◌+◌, ◌-◌, ◌<◌, �
 use Rattle.std.specs.Prelude.{IfOk, nat_lt}
 use Rattle.std.specs.List.{list_any}
 use Rattle.std.proofs.lemmas.Bool.Decides.{nat_tests}
-use Rattle.std.proofs.lemmas.List.{length-drop}
 use Rattle.values.specs.Shape.{Columns}
 use Rattle.model.specs.declared.write.CommitReply.TheVariants.{Committed, Conflict, TooOld, Full}
 use Rattle.model.specs.Table.{Table}
@@ -22,7 +21,7 @@ use Rattle.manager.specs.Kept.{HoldsNewest, commit_trees, kept_trees}
 use Rattle.manager.specs.Passing.{MayPass, IsThrough}
 use Rattle.manager.specs.Prepared.{IsPassed}
 use Rattle.manager.proofs.HistoryLemmas.{above_base, since_few, snapshot_is, over_snapshot, commits_since_fit, since_newest, since_within}
-use Rattle.manager.proofs.KeptLemmas.{length-commit_trees, kept_since}
+use Rattle.manager.proofs.KeptLemmas.{kept_count, kept_since}
 use Rattle.manager.proofs.GrantLemmas.{limited}
 
 pub if_ok : {A E : Type 0} {P Q : A → Type 0} (r : Result A E) → ((x : A) → P x → Q x) → IfOk r P → IfOk r Q
@@ -38,20 +37,12 @@ module _ (m : Managed) (l : Lower) (newest : LayeredVersion) (kept : List Tree) 
   since_inside : txn.begin - m.start.base ≤ length (commits_in m)
   since_inside = let above = above_base m txn own recent in let begun = own.begun in omega (arith, above, begun)
 
-  kept_count : length kept ≡ length (commits_in m) - (length (commits_in m) - m.start.recent)
-  kept_count =
-      let trees = commit_trees m.schema m.start.table (commits_in m) in
-      let count = length-commit_trees m.schema m.start.table (commits_in m) in
-      ap (λ (ts : List Tree). length ts) h.kept_are
-      ∙ length-drop (length trees - m.start.recent) trees
-      ∙ ap (λ n. n - (n - m.start.recent)) count
-
   -- the trees of all commits since it began are kept
   pub since_kept : newest_number m - txn.begin ≤ length kept
   since_kept =
       let few = since_few m txn own recent in
       let is = since_is in
-      let count = kept_count in
+      let count = kept_count m l newest kept h in
       omega (arith, few, is, count)
 
   -- so that its tree may pass them

@@ -1,5 +1,5 @@
 -- What a history stands for: where it starts, and its records.
-use Rattle.std.specs.Prelude.{ℕ, List}
+use Rattle.std.specs.Prelude.{ℕ, List, Bool, true, false, Option, Some, None}
 use Rattle.values.specs.Shape.{Columns}
 use Rattle.model.specs.declared.clash.ConflictRule.{ConflictRule}
 use Rattle.model.specs.History.{Start, Record}
@@ -9,6 +9,8 @@ pub record Recorded : Type 0 where
   pub schema : Columns
   pub start : Start
   pub records : List Record
+  -- whether code keeps them, or clauses alone see them
+  pub keeps : Bool
 
 -- the start of a history over a version
 abbrev pub start_at : TableVersion → ℕ → ℕ → ConflictRule → Start
@@ -16,4 +18,9 @@ start_at v limit recent rule = record { table = v.table; base = v.number; limit 
 
 -- the history that starts over a version
 abbrev pub recorded_at : TableVersion → ℕ → ℕ → ConflictRule → List Record → Recorded
-recorded_at v limit recent rule records = record { schema = v.schema; start = start_at v limit recent rule; records = records }
+recorded_at v limit recent rule records = record { schema = v.schema; start = start_at v limit recent rule; records = records; keeps = true }
+
+-- whether there are records that code keeps
+abbrev pub keeps_them : Option (List Record) → Bool
+keeps_them None = false
+keeps_them (Some records) = true

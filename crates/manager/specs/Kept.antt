@@ -1,10 +1,12 @@
 -- What a manager holds beside its history: the layers of the newest table, and the trees of the last commits.
-use Rattle.std.specs.Prelude.{◌≡◌, ◌≤◌, List, [], ◌∷◌, length}
+use Rattle.std.specs.Prelude.{◌≡◌, ℕ, suc, ◌-◌, ◌≤◌, ◌&&◌, nat_le, nat_lt, Bool, cond, Option, None, List, [], ◌∷◌, length, slice_get}
 use Rattle.circular_buffer.specs.Buffer.{keep_last}
 use Rattle.values.specs.Shape.{Columns}
 use Rattle.values.specs.declared.limits.TheConstants.{MAX_ROWS}
-use Rattle.model.specs.Table.{Table}
+use Rattle.values.specs.declared.row.Row.{Row}
+use Rattle.model.specs.Table.{Table, rows_of}
 use Rattle.model.specs.Effects.{Effects, table_with}
+use Rattle.model.specs.History.{table_after}
 use Rattle.delta.specs.Tree.{Tree}
 use Rattle.layers.specs.Over.{tree_of}
 use Rattle.stable.specs.Stable.{table_in}
@@ -19,6 +21,20 @@ commit_trees schema t (x ∷ commits) = tree_of schema t x ∷ commit_trees sche
 -- the trees of the last commits, as many as a transaction may come after
 abbrev pub kept_trees : Managed → List Tree
 kept_trees m = keep_last m.start.recent (commit_trees m.schema m.start.table (commits_in m))
+
+-- whether a number is that of one of the last commits since the start
+abbrev pub is_kept : Managed → ℕ → Bool
+is_kept m number =
+    nat_lt m.start.base number && (nat_le number (newest_number m) && nat_lt (newest_number m - number) m.start.recent)
+
+-- the tree of the commit that made the table of a number, where it is kept
+abbrev pub kept_tree : Managed → ℕ → Option Tree
+kept_tree m number =
+    cond (is_kept m number) (slice_get (commit_trees m.schema m.start.table (commits_in m)) (number - suc m.start.base)) None
+
+-- the rows of the table of a number, from the base on
+abbrev pub rows_at : Managed → ℕ → List Row
+rows_at m number = rows_of (table_after m.start (commits_in m) number)
 
 -- layers whose table under the Read-PDT is one that was the newest
 pub record AreFolded (l : Lower) : Type 0 where

@@ -7,3 +7,4 @@ pub mod Checkpoint
 pub mod Restacked
 pub mod Passing
 pub mod Prepared
+pub mod Pinned

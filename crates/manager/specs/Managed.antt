@@ -23,14 +23,16 @@ pub record Managed : Type 0 where
   pub made : ℕ
   -- the layers of its newest version
   pub layers : Lower
+  -- whether it keeps its records, or clauses alone see them
+  pub keeps : Bool
 
 -- the manager of a history that made so many records, over these layers
 abbrev pub managed_of : Recorded → ℕ → Lower → Managed
-managed_of h made layers = record { schema = h.schema; start = h.start; history = h.records; made = made; layers = layers }
+managed_of h made layers = record { schema = h.schema; start = h.start; history = h.records; made = made; layers = layers; keeps = h.keeps }
 
 -- the history of a manager
 abbrev pub history_of : Managed → Recorded
-history_of m = record { schema = m.schema; start = m.start; records = m.history }
+history_of m = record { schema = m.schema; start = m.start; records = m.history; keeps = m.keeps }
 
 -- the manager of a stable table that has just been opened: its numbers count from 0, and its trees have no entries
 abbrev pub opened : Stable → ℕ → ℕ → ConflictRule → Managed

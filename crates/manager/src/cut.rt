@@ -1,12 +1,39 @@
 //! The cut of a history: its records are handed out, and numbers go on.
-ghost use Rattle.std.specs.Prelude.{◌≡◌};
+ghost use Rattle.std.specs.Prelude.{◌≡◌, [], IfOk};
+ghost use Rattle.circular_buffer.specs.Buffer.{buffer};
 ghost use Rattle.txn.specs.Txn.{Transaction};
 
 use crate::history::History;
 use crate::manager::Manager;
+use circular_buffer::HeapCircularBuffer;
+use delta::DeltaTree;
+use std::alloc::Global;
 use std::mem;
+use values::NoMemory;
+
+/// The trees of a manager's last commits, or room for them.
+#[derive(Drop)]
+pub struct KeptTrees {
+    pub(crate) trees: HeapCircularBuffer<DeltaTree>,
+}
+
+impl KeptTrees {
+    /// Room for the trees of so many commits.
+    ///
+    /// # Errors
+    ///
+    /// `NoMemory` where a growth is refused.
+    pub fn room(alloc: Global, recent: usize) -> Result<KeptTrees, NoMemory>
+        ensures { IfOk result (λ room. room.trees ≡ buffer [] recent) }
+    {
+        Ok(KeptTrees {
+            trees: HeapCircularBuffer::with_capacity(alloc, recent)?,
+        })
+    }
+}
 
 impl Manager {
+    ghost use Rattle.manager.specs.Kept.{kept_trees};
     ghost use Rattle.manager.specs.Managed.{history_of, cut_of, IsOwn};
 
     /// Hands out the history so far, and starts another at the newest version: numbers of commits go on from there, and a
@@ -17,8 +44,22 @@ impl Manager {
         ensures next { self.new ≡ cut_of self.old }
         ensures own { (txn : Transaction) → IsOwn self.old txn → IsOwn self.new txn }
     {
-        let next = History::new(self.alloc, &self.newest, self.history.rules());
+        let next = self.history.next(self.alloc, &self.newest);
         self.kept.clear();
+        mem::replace(&mut self.history, next)
+    }
+
+    /// Cuts as `cut` does, in constant time: the room becomes the place of the trees to come, and has those of the last
+    /// commits then. Takes no memory.
+    pub fn cut_into(&mut self, room: &mut KeptTrees) -> History
+        requires room { room.old.trees ≡ buffer [] self.old.start.recent }
+        ensures handed { result ≡ history_of self.old }
+        ensures trees { room.new.trees ≡ buffer (kept_trees self.old) self.old.start.recent }
+        ensures next { self.new ≡ cut_of self.old }
+        ensures own { (txn : Transaction) → IsOwn self.old txn → IsOwn self.new txn }
+    {
+        let next = self.history.next(self.alloc, &self.newest);
+        mem::swap(&mut self.kept, &mut room.trees);
         mem::replace(&mut self.history, next)
     }
 }

@@ -1,8 +1,9 @@
 //! The history: each transaction that asked to commit, in the order of the commits.
-ghost use Rattle.std.specs.Prelude.{◌≡◌, ◌+◌, ◌<◌, ◌^◌, ◌++◌, [], length};
+ghost use Rattle.std.specs.Prelude.{◌≡◌, ◌+◌, ◌<◌, ◌^◌, ◌++◌, [], length, IsTrue, MatchOption, false};
 ghost use Rattle.model.specs.History.{IsLegal};
 ghost use Rattle.manager.specs.History.{start_at};
 
+use crate::past::Past;
 use model::{ConflictRule, Record};
 use std::alloc::Global;
 use std::collections::LinkedList;
@@ -31,22 +32,31 @@ pub struct History {
     base: u64,
     /// By what its records were decided.
     rules: Rules,
-    records: LinkedList<Record>,
+    /// All records, for clauses alone.
+    all: Past,
+    /// How many they are.
+    count: u64,
+    /// The records themselves, or nothing where they are only counted.
+    kept: Option<LinkedList<Record>>,
 }
 
 impl Model for History {
-    ghost use Rattle.std.specs.Prelude.{◌≡◌};
+    ghost use Rattle.std.specs.Prelude.{◌≡◌, IfSome, length};
     ghost use Rattle.model.specs.History.{IsLegal};
     ghost use Rattle.txn.specs.Version.{table_version};
-    ghost use Rattle.manager.specs.History.{Recorded, recorded_at, start_at};
+    ghost use Rattle.manager.specs.History.{Recorded, recorded_at, start_at, keeps_them};
 
     ghost Value = { Recorded };
 
-    ghost view = { λ h. recorded_at (table_version h.opening.value) h.rules.row_limit h.rules.recent h.rules.conflicts h.records };
+    ghost view = { λ h. record (recorded_at (table_version h.opening.value) h.rules.row_limit h.rules.recent h.rules.conflicts h.all.records) {
+      keeps = keeps_them h.kept;
+    } };
 
     ghost invariant = { λ h. IsLegal h.opening.value.layers.stable.schema
-        (start_at (table_version h.opening.value) h.rules.row_limit h.rules.recent h.rules.conflicts) h.records
-        × (h.base ≡ h.opening.value.number) };
+        (start_at (table_version h.opening.value) h.rules.row_limit h.rules.recent h.rules.conflicts) h.all.records
+        × (h.base ≡ h.opening.value.number)
+        × (h.count ≡ length h.all.records)
+        × IfSome h.kept (λ rs. rs ≡ h.all.records) };
 }
 
 impl History {
@@ -61,7 +71,9 @@ impl History {
             opening: Snapshot::of(opening),
             base: opening.number(),
             rules,
-            records: LinkedList::new(alloc),
+            all: Past::none(),
+            count: 0,
+            kept: Some(LinkedList::new(alloc)),
         }
     }
 
@@ -72,7 +84,31 @@ impl History {
         ensures { self.new ≡ record self.old { records = self.old.records ++ links } }
     {
         let mut links = links;
-        self.records.append(&mut links).unwrap();
+        self.all = self.all.and(&links);
+        self.count += links.len() as u64;
+        if let Some(kept) = &mut self.kept {
+            kept.append(&mut links).unwrap();
+        }
+    }
+
+    /// A history that starts at the version under the same rules, with no records. It keeps them where this one does.
+    /// Takes no memory.
+    pub(crate) fn next(&self, alloc: Global, opening: &Version) -> History
+        ensures { result ≡ record (recorded_at (table_version opening.now) self.now.start.limit self.now.start.recent
+            self.now.start.rule []) { keeps = self.now.keeps } }
+    {
+        let mut next = History::new(alloc, opening, self.rules);
+        if self.kept.is_none() {
+            next.count_only();
+        }
+        next
+    }
+
+    /// Drops its records, and keeps none from here on. Clauses see them as before.
+    pub(crate) fn count_only(&mut self)
+        ensures { self.new ≡ record self.old { keeps = false } }
+    {
+        self.kept = None;
     }
 
     /// The number of commits before its start.
@@ -82,12 +118,19 @@ impl History {
         self.base
     }
 
-    /// Its records, which are legal from its start on.
-    pub fn records(&self) -> &LinkedList<Record>
-        ensures records { result.now ≡ self.now.records }
+    /// How many records it has, kept or only counted.
+    pub fn len(&self) -> u64
+        ensures { result ≡ length self.now.records }
+    {
+        self.count
+    }
+
+    /// Its records, which are legal from its start on; nothing where they are only counted.
+    pub fn records(&self) -> Option<&LinkedList<Record>>
+        ensures records { MatchOption result (self.now.keeps ≡ false) (λ rs. IsTrue self.now.keeps × (rs.now ≡ self.now.records)) }
         ensures legal { IsLegal self.now.schema self.now.start self.now.records }
     {
-        &self.records
+        self.kept.as_ref()
     }
 
     /// By what its records were decided.

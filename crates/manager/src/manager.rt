@@ -1,5 +1,6 @@
 //! The manager's type: what it is opened with, what it holds, and what it lends.
-ghost use Rattle.std.specs.Prelude.{◌≡◌, ◌≤◌, length, IfOk, IsOkUnless, MatchOption, Err};
+ghost use Rattle.std.specs.Prelude.{◌≡◌, ◌≤◌, length, false, IfOk, IsOkUnless, MatchOption, Err};
+ghost use Rattle.txn.specs.Txn.{Transaction};
 ghost use Rattle.manager.specs.declared.fault.OpenFault.{OpenFault};
 ghost use Rattle.manager.specs.Managed.{is_bad_limit};
 ghost use Rattle.merge.specs.Image.{image_rows, stack_below};
@@ -47,7 +48,7 @@ impl Model for Manager {
 }
 
 impl Manager {
-    ghost use Rattle.manager.specs.Managed.{opened, fault_of_opening, begun_at, newest_number, newest_table, newest_version, history_of, IsManaged};
+    ghost use Rattle.manager.specs.Managed.{opened, fault_of_opening, begun_at, newest_number, newest_table, newest_version, history_of, IsManaged, IsOwn};
 
     /// A manager of this table, whose numbers of commits count from 0, under a limit of its rows and of the commits that
     /// may come between a transaction's begin and its commit, and a rule of what conflicts.
@@ -102,6 +103,15 @@ impl Manager {
             client,
             self.history.rules().row_limit,
         )
+    }
+
+    /// Drops the records that it keeps, and keeps none from here on: its memory no longer grows with the commits. Clauses
+    /// see the whole history as before.
+    pub fn count_only(&mut self)
+        ensures counted { self.new ≡ record self.old { keeps = false } }
+        ensures own { (txn : Transaction) → IsOwn self.old txn → IsOwn self.new txn }
+    {
+        self.history.count_only();
     }
 
     /// The history: each transaction that asked to commit since its start, in the order of the commits. Takes no memory.
@@ -170,6 +180,13 @@ impl Manager {
         ensures { result ≡ self.now.start.limit }
     {
         self.history.rules().row_limit
+    }
+
+    /// How many commits may come between a transaction's begin and its commit.
+    pub fn recent(&self) -> usize
+        ensures { result ≡ self.now.start.recent }
+    {
+        self.history.rules().recent
     }
 }
 

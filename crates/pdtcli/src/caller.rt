@@ -206,7 +206,7 @@ fn cut(manager: &mut Manager) -> Reply
     ensures { (own : Option Transaction)
         → CutStep (record { manager = manager.old; own = own }) result (record { manager = manager.new; own = own }) }
 {
-    Reply::Cut(manager.cut().records().len() as u64)
+    Reply::Cut(manager.cut().len())
 }
 
 /// The reply to a write in a transaction. A row or a value that doesn't fit is refused before memory is wanted.

@@ -143,7 +143,7 @@ fn cut<O: Opening, S: ImageStore, R: Wait>(rt: &R, shared: &Shared<O, S>) -> Rep
     ensures { (seat : Seat) → SeatStep O.opened.manager call.Cut seat result seat }
 {
     match shared.cut(rt) {
-        Ok(history) => Reply::Cut(history.records().len() as u64),
+        Ok(history) => Reply::Cut(history.len()),
         Err(NoMemory) => Reply::NoMemory,
     }
 }

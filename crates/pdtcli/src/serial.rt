@@ -97,7 +97,7 @@ fn places_for(alloc: Global, clients: usize, calls: usize) -> Result<Places, NoM
 pub(crate) fn handed_out(manager: &Manager) -> u64
     ensures count { result + length manager.now.history ≡ manager.now.made }
 {
-    manager.made() - manager.history().records().len() as u64
+    manager.made() - manager.history().len()
 }
 
 /// The clients, none of which has a transaction open.

@@ -1,5 +1,5 @@
 -- The list of what was published since an opening, and the table at each of its numbers.
-use Rattle.std.specs.Prelude.{◌≡◌, ℕ, ◌+◌, ◌-◌, ◌≤◌, List, [], ◌∷◌, ◌++◌, length, take, drop}
+use Rattle.std.specs.Prelude.{true, ◌≡◌, ℕ, ◌+◌, ◌-◌, ◌≤◌, List, [], ◌∷◌, ◌++◌, length, take, drop}
 use Rattle.logbook.specs.Pages.{Book}
 use Rattle.model.specs.declared.write.CommitReply.{CommitReply}
 use Rattle.model.specs.declared.clash.ConflictRule.TheVariants.{ByColumn}
@@ -85,6 +85,7 @@ no_manager = record {
   start = record { table = []; base = 0; limit = 0; recent = 0; rule = ByColumn };
   history = [];
   made = 0;
+  keeps = true;
   layers = alone (record { schema = record { names = []; types = []; key_cols = 0 }; rows = [] });
 }
 

@@ -8,7 +8,6 @@ use Rattle.std.proofs.Crossing.{crosses, frees, Vec-sync}
 use Rattle.std.proofs.alloc.Global.TheSendSync as global
 use Rattle.std.specs.contracts.alloc.Global as Global
 use Rattle.std.specs.contracts.impls.GlobalAllocator.TheImpl as heap
-use Rattle.std.specs.contracts.collections.LinkedList as LinkedList
 use Rattle.std.specs.contracts.option.Option as Option
 use Rattle.std.specs.contracts.sync.Mutex as Mutex
 use Rattle.std.specs.contracts.sync.ledger.Book as Book
@@ -19,28 +18,13 @@ use Rattle.std.below.core.proofs.ledger.Book.TheSendSync as book
 use Rattle.std.below.core.proofs.ledger.Share.TheSendSync as share
 use Rattle.std.below.core.proofs.option.Option.TheSendSync as option
 use Rattle.std.below.core.proofs.sync.Sent.{Mutex-sync}
-use Rattle.std.below.std_collections.proofs.linked_list.LinkedList.TheSendSync as linked
-use Rattle.circular_buffer.specs.contracts.heap.HeapCircularBuffer as Ring
-use Rattle.circular_buffer.proofs.heap.HeapCircularBuffer.TheSendSync as ring
 use Rattle.left_right.specs.contracts.reader.Reader as Reader
 use Rattle.left_right.specs.contracts.writer.Writer as Writer
 use Rattle.left_right.proofs.reader.Reader.TheSendSync as reader
 use Rattle.left_right.proofs.writer.Writer.TheSendSync as writer
-use Rattle.model.specs.contracts.record.Record as Record
-use Rattle.model.proofs.record.Record.TheSendSync as record_of
-use Rattle.model.proofs.write.Write.TheSendSync as write
-use Rattle.stable.proofs.table.StableTable.TheSendSync as stable
-use Rattle.counted.proofs.Crossing.{tree_send, tree_sync}
-use Rattle.delta.specs.contracts.tree.DeltaTree as DeltaTree
-use Rattle.txn.specs.contracts.transaction.Txn as Txn
-use Rattle.txn.specs.contracts.transaction.Txn.TheInside as inside
-use Rattle.txn.specs.contracts.version.Version as Version
-use Rattle.txn.proofs.place.RecordPlace.TheSendSync as place
-use Rattle.manager.specs.contracts.history.History as History
-use Rattle.manager.specs.contracts.history.History.TheInside as history
-use Rattle.manager.proofs.history.Rules.TheSendSync as rules
+use Rattle.txn.proofs.Crossing.{txn_send, version_send, version_sync}
 use Rattle.manager.specs.contracts.manager.Manager as Manager
-use Rattle.manager.specs.contracts.manager.Manager.TheInside as manager
+use Rattle.manager.proofs.Crossing.{manager_send}
 use Rattle.publishing.specs.declared.opening.Opening as opening
 use Rattle.publishing.specs.contracts.published.Published as Published
 use Rattle.publishing.specs.contracts.published.PublishedAbsorb.TheImpl as absorbs
@@ -59,33 +43,6 @@ use Rattle.shared.specs.contracts.session.Session as Session
 use Rattle.shared.specs.contracts.session.Session.TheInside as session
 use Rattle.shared.specs.contracts.shared.Shared as Shared
 
-entries_send : IsSend DeltaTree.the_row
-entries_send = search (tree_send, sendable, crosses) depth 60
-
-entries_sync : IsSync DeltaTree.the_row
-entries_sync = search (tree_sync, sendable, crosses) depth 60
-
-pub version_send : IsSend Version.the_row
-version_send =
-    let a = entries_send in
-    let b = entries_sync in let c = stable.the_send in let d = stable.the_sync in search (crosses, sendable) depth 40
-
-pub version_sync : IsSync Version.the_row
-version_sync =
-    let a = entries_send in
-    let b = entries_sync in let c = stable.the_send in let d = stable.the_sync in search (crosses, sendable) depth 40
-
-txn_send : IsSend Txn.the_row
-txn_send =
-    let a = entries_send in let b = version_send in let c = place.the_send in let d = write.the_send in
-    view_send _ _ _ _ _ (declared_send inside.the_type (
-      search (crosses, sendable) depth 20,
-      (
-        as_row_send Version.the_field b,
-        (search (crosses, sendable) depth 20, (as_row_send DeltaTree.the_field a, (search (crosses, sendable) depth 20, (c, tt)))),
-      ),
-    ))
-
 pub published_send : IsSend Published.the_row
 published_send = let a = version_send in let b = list.the_send in search (crosses, sendable) depth 40
 
@@ -99,40 +56,6 @@ reader_send =
     let a =
     published_send in let b = published_sync in let c = list.the_send in let d = list.the_sync in search
     (reader.the_send, crosses, sendable) depth 40
-
-history_send : IsSend History.the_row
-history_send =
-    let a = version_send in
-    view_send _ _ _ _ _ (declared_send history.the_type (
-      search (crosses, sendable) depth 20,
-      (
-        search sendable depth 20,
-        (
-          rules.the_send,
-          (
-            as_row_send (LinkedList.the_field Record.the_row Global.the_row heap.ghosts)
-                (linked.the_send Record.the_row Global.the_row heap.ghosts record_of.the_send global.the_send frees),
-            tt,
-          ),
-        ),
-      ),
-    ))
-
-manager_send : IsSend Manager.the_row
-manager_send = view_send _ _ _ _ _ (declared_send manager.the_type (
-  as_row_send History.the_field history_send,
-  (
-    search sendable depth 20,
-    (
-      as_row_send Version.the_field version_send,
-      (
-        as_row_send (Ring.the_field DeltaTree.the_row Global.the_row heap.ghosts)
-            (ring.the_send DeltaTree.the_row Global.the_row heap.ghosts entries_send global.the_send frees),
-        (search sendable depth 20, tt),
-      ),
-    ),
-  ),
-))
 
 abbrev writer_row : RattleType
 writer_row =

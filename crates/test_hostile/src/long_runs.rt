@@ -107,7 +107,10 @@ fn replayed(
 ) -> Result<Option<(Vec<Vec<CommitReply>>, u64)>, NoMemory> {
     let mut replay = ByKey::new(alloc, OPTIONS.recent as u64, items(alloc, &BASE)?)?;
     let mut replies = no_replies(alloc)?;
-    for entry in manager.history().records() {
+    let Some(records) = manager.history().records() else {
+        return Ok(None);
+    };
+    for entry in records {
         let Some(own) = replies.get_mut(entry.client() as usize) else {
             return Ok(None);
         };
@@ -129,7 +132,7 @@ fn assert_replayed(rt: &impl Abort, alloc: Global, left: &Left) -> Result<u64, F
     assert_holds(rt, left.counts() == counts.as_slice(), "the counts");
     assert_holds(
         rt,
-        left.manager().history().records().len() as u64 == CLIENTS.wrapping_mul(ROUNDS),
+        left.manager().history().len() == CLIENTS.wrapping_mul(ROUNDS),
         "as many records as transactions",
     );
     let Some((replies, number)) = replayed(alloc, left.manager())? else {

@@ -6,6 +6,7 @@ ghost use Rattle.manager.specs.Managed.{Managed, IsOwn};
 mod checkpoints;
 mod cuts;
 mod openings;
+mod pins;
 mod refusals;
 mod restacks;
 
@@ -117,7 +118,9 @@ pub(crate) fn has_rows(manager: &Manager, rows: &[(i64, i64)]) -> bool {
 
 /// Whether the history has these replies to one write that was done, of the clients from 0 on, all over the opening table.
 fn has_records(manager: &Manager, replies: &[CommitReply]) -> bool {
-    let records = manager.history().records();
+    let Some(records) = manager.history().records() else {
+        return false;
+    };
     records.len() == replies.len()
         && records.iter().zip(replies.iter().enumerate()).all(|(record, (client, reply))| {
             record.client() as usize == client && record.begin() == 0 && record.reply() == *reply
@@ -176,11 +179,10 @@ fn one_waits(
 
 /// Whether the records began at these numbers.
 fn began_at(manager: &Manager, numbers: &[u64]) -> bool {
-    let begins = manager
-        .history()
-        .records()
-        .iter()
-        .map(|record| record.begin());
+    let Some(records) = manager.history().records() else {
+        return false;
+    };
+    let begins = records.iter().map(|record| record.begin());
     begins.eq(numbers.iter().copied())
 }
 

@@ -292,7 +292,7 @@ fn is_cut<O: Opening, S: ImageStore, R: Wait>(
     base: u64,
 ) -> bool {
     match cut(rt, shared) {
-        Ok(history) => history.records().len() == count && history.base() == base,
+        Ok(history) => history.len() == count as u64 && history.base() == base,
         Err(NoMemory) => false,
     }
 }

@@ -173,6 +173,14 @@ fn has_layers(alloc: Global, manager: &Manager, due: Option<Layers>) -> Result<b
     Ok(manager.stable().len() == rows && in_read.as_str() == read && in_write.as_str() == write)
 }
 
+/// Whether the manager keeps these records.
+fn has_records(manager: &Manager, due: &[Recorded]) -> bool {
+    match manager.history().records() {
+        Some(records) => are_records(records, due),
+        None => false,
+    }
+}
+
 /// That this is left.
 fn assert_left<S: ImageStore>(
     rt: &impl Abort,
@@ -184,11 +192,7 @@ fn assert_left<S: ImageStore>(
     assert_holds(rt, closed.counts.as_slice() == left.counts, "counts");
     assert_holds(rt, manager.made() == made_in(left), "records in all");
     assert_holds(rt, manager.base() == left.base, "base");
-    assert_holds(
-        rt,
-        are_records(manager.history().records(), left.records),
-        "records",
-    );
+    assert_holds(rt, has_records(manager, left.records), "records");
     assert_holds(rt, has_items(manager, left.rows), "rows");
     assert_holds(rt, has_layers(alloc, manager, left.layers)?, "layers");
     Ok(())

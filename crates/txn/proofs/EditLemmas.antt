@@ -1,5 +1,5 @@
 -- The change of an insert at the place of its key.
-use Rattle.std.proofs.Common.{◌≡◌, ℕ, ◌<◌, Bool, true, cond, refl, Option, Some, None, is_some, List, length, get_or, set, remove, sym, ◌∙◌, subst}
+use Rattle.std.proofs.Common.{◌≡◌, ℕ, ◌<◌, Bool, true, cond, Option, Some, List, length, get_or, set, remove, sym, ◌∙◌, subst}
 use Rattle.std.specs.Prelude.{IsTrue, IsSomeAnd, slice_get}
 use Rattle.std.proofs.lemmas.Float.{T_from_true}
 use Rattle.std.proofs.lemmas.Option.{get_or_from_slice_get}
@@ -7,15 +7,13 @@ use Rattle.values.specs.declared.row.Row.{Row}
 use Rattle.values.specs.declared.row.Key.{Key}
 use Rattle.values.specs.declared.value.Value.{Value}
 use Rattle.model.specs.declared.entry.Entry.{Entry}
-use Rattle.model.specs.declared.entry.Change.{Change}
-use Rattle.model.specs.declared.entry.Change.TheVariants.{Ins, Del, Mod}
 use Rattle.model.specs.declared.write.Write.{Write}
 use Rattle.model.specs.declared.write.Write.TheVariants.{Delete, Set}
 use Rattle.model.specs.Edits.{change_with_cell}
 use Rattle.model.specs.Entries.{entry_at, are_ordered}
 use Rattle.model.specs.Writes.{key_of_write}
 use Rattle.delta.specs.Changes.{has_cell}
-use Rattle.delta.specs.Lookups.{row_of, inserted_row}
+use Rattle.delta.specs.Lookups.{inserted_row}
 use Rattle.delta.specs.Search.{insert_cmp, stands_before, IsSplit}
 use Rattle.delta.proofs.CallerLemmas.{HasInsert, has_insert, nothing, some_of, cell_of}
 use Rattle.txn.specs.Edit.{edited, MayBeEdited}

@@ -4,3 +4,4 @@ mod EditLemmas
 mod MarkLemmas
 mod VersionLemmas
 pub mod CallerLemmas
+pub mod Crossing

@@ -1,5 +1,5 @@
 -- A transaction with the first of its writes is one, and a mark stands as long as they are there.
-use Rattle.std.proofs.Common.{◌≡◌, ℕ, zero, suc, ◌≤◌, ◌++◌, Bool, T, List, [], ◌∷◌, length, take, refl, sym, ap, ◌∙◌, subst, arith}
+use Rattle.std.proofs.Common.{◌≡◌, ℕ, zero, suc, ◌≤◌, ◌++◌, List, [], ◌∷◌, length, take, refl, sym, ap, ◌∙◌, subst, arith}
 use Rattle.std.specs.List.{list_all}
 use Rattle.std.proofs.lemmas.Float.{T_from_true}
 use Rattle.std.proofs.lemmas.List.{append_assoc, append-nil, length-take, take_all, take-take, take-map, take-append-le, length-append}
@@ -8,7 +8,7 @@ use Rattle.model.specs.declared.write.WriteReply.{WriteReply}
 use Rattle.model.specs.Table.{Table}
 use Rattle.model.specs.Effects.{Effects}
 use Rattle.model.specs.Writes.{write_fits_schema, effects_after, reply_to, replies_to}
-use Rattle.model.proofs.CallerLemmas.{both, first, second}
+use Rattle.model.proofs.CallerLemmas.{first, second}
 use Rattle.txn.specs.Txn.{Transaction, asked_of, tree_of, IsTransaction, IsAnswered}
 use Rattle.txn.specs.Marks.{Marked, mark_of, with_first, IsMark, GoesOn, MarksStand}
 use Rattle.txn.proofs.TxnLemmas.{is_true}

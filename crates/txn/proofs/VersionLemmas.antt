@@ -6,7 +6,7 @@ use Rattle.values.specs.declared.row.Row.{Row}
 use Rattle.model.specs.Table.{Table, rows_of, table_of, is_keyed_table, IsTable}
 use Rattle.model.specs.Effects.{table_with}
 use Rattle.model.specs.Merging.{merged_rows}
-use Rattle.model.proofs.CallerLemmas.{leaves, merged_rows_from_nothing, rows_of-table_of, table_of-rows_of}
+use Rattle.model.proofs.CallerLemmas.{leaves, rows_of-table_of, table_of-rows_of}
 use Rattle.delta.specs.Tree.{Tree}
 use Rattle.stable.specs.Stable.{Stable, IsStable, table_in}
 use Rattle.merge.specs.Image.{IsLayer, AreStacked, stack_of, stack_below, image_rows, image_table}

@@ -42,7 +42,10 @@ fn replayed(
     for _ in 0..clients {
         decided.push(Vec::new(alloc))?;
     }
-    for entry in manager.history().records() {
+    let Some(records) = manager.history().records() else {
+        return Ok(None);
+    };
+    for entry in records {
         if !past.takes(entry)? {
             return Ok(None);
         }
@@ -164,7 +167,7 @@ pub(crate) fn difference_on_threads(
 /// Whether the history is what is due since the last cut.
 fn is_due(serial: &Serial, left: &Left) -> Result<bool, NoMemory> {
     let mut past = serial.past.at_cut()?;
-    let records = left.manager().history().records().len() as u64;
+    let records = left.manager().history().len();
     Ok(
         left.handed() == serial.handed
             && records == serial.kept

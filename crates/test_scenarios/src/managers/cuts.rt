@@ -68,7 +68,7 @@ fn a_fold_leaves_an_entry_for_a_row_that_is_inserted_and_set(rt: HostRuntime) ->
 fn below_a_cut(
     alloc: Global,
     manager: &mut Manager,
-) -> Result<([Option<CommitReply>; 3], (u64, usize)), NoMemory> {
+) -> Result<([Option<CommitReply>; 3], (u64, u64)), NoMemory> {
     let a = begun_with(alloc, manager, ItemWrite::Set(10, 9))?;
     let first = one_write(alloc, manager, ItemWrite::Insert(25, "Dee", 4));
     let handed = lengths_of(manager.cut());
@@ -78,13 +78,13 @@ fn below_a_cut(
 }
 
 /// The number at which a history starts, and how many records it has.
-fn lengths_of(history: History) -> (u64, usize) {
-    (history.base(), history.records().len())
+fn lengths_of(history: History) -> (u64, u64) {
+    (history.base(), history.len())
 }
 
 /// Whether a manager has the base 1, two records past it, and these rows.
 fn is_left(manager: &Manager, rows: &[(i64, i64)]) -> bool {
-    manager.base() == 1 && manager.history().records().len() == 2 && has_rows(manager, rows)
+    manager.base() == 1 && manager.history().len() == 2 && has_rows(manager, rows)
 }
 
 #[test]
@@ -109,11 +109,11 @@ fn a_begin_below_the_cut_is_too_old(rt: HostRuntime) -> Result<(), Fail> {
 fn at_a_cut(
     alloc: Global,
     manager: &mut Manager,
-) -> Result<([Option<CommitReply>; 2], [usize; 2]), NoMemory> {
+) -> Result<([Option<CommitReply>; 2], [u64; 2]), NoMemory> {
     let first = one_write(alloc, manager, ItemWrite::Insert(25, "Dee", 4));
     let c = begun_with(alloc, manager, ItemWrite::Set(25, 9))?;
-    let handed = manager.cut().records().len();
-    let again = manager.cut().records().len();
+    let handed = manager.cut().len();
+    let again = manager.cut().len();
     Ok(([first, decided(manager, c)], [handed, again]))
 }
 
@@ -179,6 +179,6 @@ fn a_long_history_is_dropped(rt: HostRuntime) -> Result<(), Fail> {
         };
     }
     assert!(&rt; last == Some(CommitReply::Committed(100_000)));
-    assert!(&rt; manager.cut().records().len() == 100_000);
+    assert!(&rt; manager.cut().len() == 100_000);
     Ok(())
 }

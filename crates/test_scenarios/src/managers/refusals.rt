@@ -102,7 +102,7 @@ static SHIFTED: Case = Case {
 pub(super) fn is_shown(manager: &Manager, want: &Shown) -> bool {
     has_rows(manager, want.rows)
         && manager.version().number() == want.number
-        && manager.history().records().len() == want.records
+        && manager.history().len() == want.records as u64
         && manager.made() == want.records as u64
 }
 

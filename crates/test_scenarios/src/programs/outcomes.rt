@@ -1,6 +1,7 @@
 //! What a run hands on: its clients, its lines, its manager and how many commits were decided.
 use crate::managers::has_rows;
 use crate::programs::memory::left_of;
+use manager::Manager;
 use model::{CommitReply, Record, Write, WriteReply};
 use pdtcli::{Reply, ReplyLine};
 use std::test::Fail;
@@ -49,14 +50,21 @@ fn has_both(record: &Record) -> bool {
         )
 }
 
+/// Whether each record that a manager keeps holds both.
+fn do_all_have_both(manager: &Manager) -> bool {
+    match manager.history().records() {
+        Some(records) => records.iter().all(|record| has_both(record)),
+        None => false,
+    }
+}
+
 #[test]
 fn the_record_of_two_refused_writes_holds_both(rt: HostRuntime) -> Result<(), Fail> {
     let script = b"a,begin\na,insert,20,Bob,2\na,delete,25\na,set,20,id,21\na,commit\n";
     let left = left_of(rt.alloc(), script.as_slice())?;
     assert!(&rt; are_refused(left.lines()));
-    let records = left.manager().history().records();
-    assert!(&rt; records.len() == 1);
-    assert!(&rt; records.iter().all(|record| has_both(record)));
+    assert!(&rt; left.manager().history().len() == 1);
+    assert!(&rt; do_all_have_both(left.manager()));
     Ok(())
 }
 
@@ -68,7 +76,7 @@ fn commits_that_are_decided_are_counted(rt: HostRuntime) -> Result<(), Fail> {
     assert!(&rt; left.clients().iter().all(|name| name.as_str() == "a"));
     assert!(&rt; left.lines().len() == 10);
     assert!(&rt; left.counts() == [2_u64].as_slice());
-    assert!(&rt; left.manager().history().records().len() == 2);
+    assert!(&rt; left.manager().history().len() == 2);
     assert!(&rt; has_rows(left.manager(), &[(10, 1), (30, 3)]));
     Ok(())
 }
@@ -82,7 +90,7 @@ fn records_that_cuts_hand_out_are_counted(rt: HostRuntime) -> Result<(), Fail> {
     assert!(&rt; left.counts() == [4_u64].as_slice());
     let manager = left.manager();
     assert!(&rt; (manager.base(), manager.made()) == (3, 4));
-    assert!(&rt; manager.history().records().len() == 1);
+    assert!(&rt; manager.history().len() == 1);
     assert!(&rt; manager.version().number() == 4);
     Ok(())
 }

@@ -136,7 +136,10 @@ impl Replay {
         if history.base() != u64::from(self.base) {
             return Ok(false);
         }
-        for entry in history.records() {
+        let Some(records) = history.records() else {
+            return Ok(false);
+        };
+        for entry in records {
             if !self.takes(entry)? {
                 return Ok(false);
             }

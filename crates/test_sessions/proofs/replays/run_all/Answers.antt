@@ -4,7 +4,7 @@ use Rattle.std.proofs.Crossing.{crosses}
 use Rattle.std.proofs.alloc.Global.TheSendSync as global
 use Rattle.model.proofs.write.CommitReply.TheSendSync as reply
 use Rattle.shared.proofs.Crossing.{session_send, shared_sync}
-use Rattle.test_sessions.proofs.Crossing.{history_send}
+use Rattle.manager.proofs.Crossing.{history_send}
 use Rattle.test_sessions.proofs.replays.run_all.Goals as goal
 
 -- a session goes to a thread

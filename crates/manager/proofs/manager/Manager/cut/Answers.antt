@@ -1,6 +1,7 @@
 use Rattle.std.proofs.Common.{◌≡◌, List, [], ap, sym, ◌∙◌, subst}
 use Rattle.circular_buffer.specs.Buffer.{Buffer}
 use Rattle.delta.specs.Tree.{Tree}
+use Rattle.txn.specs.Version.{TableVersion}
 use Rattle.manager.specs.History.{Recorded, recorded_at}
 use Rattle.manager.specs.Managed.{Managed, managed_of, history_of, cut_of, IsOwn}
 use Rattle.manager.specs.Kept.{HoldsNewest}
@@ -12,10 +13,11 @@ use Rattle.manager.proofs.manager.Manager.cut.Goals as goal
 history : (c : After-replace) → c.replace.new.dest
     ≡ history_of (cut_of (managed_of c.self.inside.history c.self.inside.made c.self.inside.newest.layers))
 history c =
-    let h = c.self.invariant.0 in
+    let h = c.self.inside.history in
     c.replace.ensures.after
-    ∙ c.new-next.ensures
-    ∙ (λ j. recorded_at (h.newest_is j) (c.rules.ensures.limit j) (c.rules.ensures.recent j) (c.rules.ensures.conflicts j) [])
+    ∙ c.next-next.ensures
+    ∙ ap (λ (v : TableVersion). record (recorded_at v h.start.limit h.start.recent h.start.rule []) { keeps = h.keeps })
+    c.self.invariant.0.newest_is
 
 pub invariant_of-self : goal.invariant_of-self
 invariant_of-self c =
