@@ -1,17 +1,21 @@
 /* Narthexmace from C: an ordered table under snapshot isolation, which takes updates without touching its sorted columns.
 
-   Objects. A pdt_store is a table with its history; a pdt_txn is an open transaction over it. Both are made by a call,
-   known by their address, and let go by a call: pdt_close; pdt_commit or pdt_abort.
+   Objects. A pdt_store is a table; a pdt_txn is an open transaction over it; a pdt_pinned is a version of the table that is kept.
+   Each is made by a call, known by its address, and let go by a call: pdt_close; pdt_commit or pdt_abort; pdt_unpin.
 
-   Threads. Calls on one pdt_store may come from several threads: each takes the store's lock. A pdt_txn is used by one
-   thread at a time; transactions of several threads read and write side by side, and take no lock but to begin and to commit.
+   Threads. Calls on one pdt_store may come from several threads: each takes the store's lock, but for begins and pins, which take
+   one that no call holds for longer than a begin. A pdt_txn is used by one thread at a time; transactions of several threads read
+   and write side by side. Several threads read one table by a pin: each begins a transaction of its own at it.
    A thread that has a commit prepared keeps the store's lock until it is installed or given up, and doesn't end before.
    Threads that then make calls on other stores do so in one order of the stores, or each may wait for the other for ever.
    No call is made in a signal handler. A child of fork makes no call on what its parent opened: it has a copy of the lock, which
    a thread that isn't there may hold for ever. Of a commit that the parent has prepared it is told PDT_MISUSE.
 
-   Memory. Every call that can want memory answers PDT_NOMEM where malloc refuses it, and then the table, the transaction
-   and the history are as they were. No call aborts. What a call writes goes into room that the caller owns; only what
+   What a store keeps doesn't grow with its commits: the newest version, those that pins and open transactions have, and the changes
+   of the last pdt_options.recent commits. Commits are counted, and no record of one is kept.
+
+   Memory. Every call that can want memory answers PDT_NOMEM where malloc refuses it, and then the table and the
+   transaction are as they were. No call aborts. What a call writes goes into room that the caller owns; only what
    pdt_pieces and pdt_texts hand out is the library's, and stays where it is for as long as each of them says. What a call
    writes lies over nothing else that it is passed: neither over another room nor over a key.
 
@@ -35,15 +39,19 @@
 extern "C" {
 #endif
 
+/* This version of the library, as text, and the version of the library that runs. */
+#define PDT_VERSION "0.2.0"
+const char *pdt_version(void);
+
 /* What a call answers. */
-enum pdt_code {
+typedef enum pdt_code {
   PDT_OK = 0,
   PDT_NOMEM = 1,          /* malloc refused memory; nothing changed */
   PDT_CONFLICT = 2,       /* a commit since the transaction began changed what it changed; the transaction is over */
   PDT_TOO_OLD = 3,        /* more commits since it began than are kept, or a cut; the transaction is over */
   PDT_FULL = 4,           /* the table would have more rows than its limit */
   PDT_DUPLICATE = 5,      /* there is a row of the key */
-  PDT_MISSING = 6,        /* there is no row of the key, none at the position, or no such mark */
+  PDT_MISSING = 6,        /* there is no row of the key, none at the position, no such mark, or no such commit any more */
   PDT_SHAPE = 7,          /* the cells don't fit the columns: their number, a type, UTF-8, a text above 4,096 bytes, a key
                              column that would be set, bytes left over */
   PDT_BAD_TABLE = 8,      /* the text is no table: pdt_open_csv tells why and where */
@@ -58,7 +66,7 @@ enum pdt_code {
   PDT_SUPERSEDED = 17,    /* since the checkpoint began something else has folded or checkpointed */
   PDT_NOT_ASCENDING = 18, /* a row's key isn't above that of the row before it */
   PDT_DEVICE_FAILED = 19  /* the caller's write didn't take the bytes */
-};
+} pdt_code;
 
 /* A sentence for a code, in English; never null. */
 const char *pdt_text(int code);
@@ -71,8 +79,9 @@ enum { PDT_MAX_COLUMNS = 32, PDT_MAX_NAME = 64, PDT_MAX_TEXT = 4096 };
 typedef struct pdt_store pdt_store;
 typedef struct pdt_txn pdt_txn;
 
-/* What a store is opened with. A null pointer, or zeros, stand for 65,536, 2,147,483,647 and conflicts by column. */
+/* What a store is opened with. A null pointer, or zeros but for the size, stand for 65,536, 2,147,483,647 and conflicts by column. */
 typedef struct pdt_options {
+  size_t size;        /* sizeof(pdt_options): a later version may have more members, which are zeros here; else PDT_MISUSE */
   size_t recent;      /* how many commits may come between a transaction's begin and its commit: 1 to 65,536 */
   uint64_t row_limit; /* how many rows a table may have: 1 to 2,147,483,647 */
   bool by_row;        /* whether changes of two columns of one row conflict */
@@ -83,7 +92,7 @@ typedef struct pdt_options {
 /* Opens a store over the table of a CSV text, whose first record names the columns, as `id:int:key,name:text`.
    PDT_BAD_TABLE, PDT_TOO_MANY_ROWS, PDT_BAD_LIMIT, PDT_NOMEM, PDT_MISUSE: *store is null then.
    The text may go after the call. */
-int pdt_open(const void *csv, size_t bytes, const pdt_options *options, pdt_store **store);
+pdt_code pdt_open(const void *csv, size_t bytes, const pdt_options *options, pdt_store **store);
 
 /* A row and a column. */
 typedef struct pdt_place {
@@ -100,7 +109,7 @@ typedef struct pdt_fault {
 
 /* As pdt_open; at PDT_BAD_TABLE *fault, which may be null, says what is wrong and where: the first fault of the text. The header
    comes first, then record by record how many cells there are and each cell from the left, and the keys last. */
-int pdt_open_csv(const void *csv, size_t bytes, const pdt_options *options, pdt_fault *fault, pdt_store **store);
+pdt_code pdt_open_csv(const void *csv, size_t bytes, const pdt_options *options, pdt_fault *fault, pdt_store **store);
 
 /* A column that is handed over: its name, its type, and where the values of so many rows lie. */
 typedef struct pdt_column {
@@ -120,8 +129,8 @@ typedef struct pdt_column {
    The columns are looked at one after the other, and the keys last. PDT_BAD_TABLE (a name, a type, a key), and
    PDT_TOO_MANY_ROWS, PDT_BAD_LIMIT, PDT_NOMEM, PDT_MISUSE: *store is null then. place may be null.
    The values are copied into the table, and may go after the call; no row is made. */
-int pdt_open_columns(const pdt_column *columns, size_t count, size_t key, const pdt_options *options, pdt_place *place,
-                     pdt_store **store);
+pdt_code pdt_open_columns(const pdt_column *columns, size_t count, size_t key, const pdt_options *options, pdt_place *place,
+                          pdt_store **store);
 
 /* Opens a store over the image that pdt_checkpoint, or the program `pdt --store`, left in a folder.
    PDT_IO, PDT_BAD_TABLE (the header), PDT_BAD_STORE, PDT_NO_IMAGE, and those of pdt_open: *store is null then.
@@ -129,7 +138,7 @@ int pdt_open_columns(const pdt_column *columns, size_t count, size_t key, const 
    What is found is a file that is cut short, and bytes that are no column or no table. Damage is not: the formats have no check,
    and bytes that changed on the disk may be another table, which is opened with PDT_OK. An engine that is to notice damage
    keeps checksums of the files itself. */
-int pdt_recover(const char *folder, const pdt_options *options, pdt_store **store);
+pdt_code pdt_recover(const char *folder, const pdt_options *options, pdt_store **store);
 
 /* Bytes that a caller has: those of a column of an image. */
 typedef struct pdt_bytes {
@@ -141,12 +150,13 @@ typedef struct pdt_bytes {
    of the header, and of so many columns. *generation, if not null, is which image of theirs it is: the newest whole one.
    PDT_BAD_TABLE (the header), PDT_BAD_STORE, PDT_NO_IMAGE, and those of pdt_open: *store is null then.
    The bytes may go after the call. */
-int pdt_recover_from(const void *header, size_t len, const pdt_bytes *columns, size_t count, const pdt_options *options,
-                     uint32_t *generation, pdt_store **store);
+pdt_code pdt_recover_from(const void *header, size_t len, const pdt_bytes *columns, size_t count, const pdt_options *options,
+                          uint32_t *generation, pdt_store **store);
 
-/* Closes a store. PDT_MISUSE while a transaction is open or a checkpoint begun: the store stays then. Null is no error.
+/* Closes a store. PDT_MISUSE while a transaction is open, a pin is kept, a checkpoint begun or a thread in pdt_wait: the store stays
+   then. Null is no error.
    Called when no other thread uses the store any more. */
-int pdt_close(pdt_store *store);
+pdt_code pdt_close(pdt_store *store);
 
 /* The columns: how many, how many of the first are the key, the type of one (0 where there is none), and its name (null
    where there is none), which stays until the store is closed and ends at its first zero byte, if it has one. They take no
@@ -163,17 +173,38 @@ typedef struct pdt_sizes {
   size_t read_entries;
   size_t open_transactions;
 } pdt_sizes;
-int pdt_size(pdt_store *store, pdt_sizes *sizes);
+pdt_code pdt_size(pdt_store *store, pdt_sizes *sizes);
+
+/* What a store has counted since its opening, and what it keeps now. A later version may have more members. */
+typedef struct pdt_counts {
+  size_t size;           /* sizeof(pdt_counts), set by the caller: members of a later version are 0; a smaller one is PDT_MISUSE */
+  uint64_t begins;       /* transactions that have begun */
+  uint64_t commits;      /* those that were committed, and changed something */
+  uint64_t conflicts;    /* those that ended by PDT_CONFLICT */
+  uint64_t too_old;      /* by PDT_TOO_OLD */
+  uint64_t full;         /* by PDT_FULL */
+  uint64_t folds;        /* by pdt_fold */
+  uint64_t checkpoints;  /* that were installed */
+  uint64_t superseded;   /* that something else came before */
+  size_t pins;           /* pins that are kept now */
+  uint64_t oldest_pin;   /* the number of the oldest one's table, 0 where there is none */
+  size_t kept;           /* of how many of the last commits the changes are kept now */
+  uint64_t kept_entries; /* and how many entries they have */
+  uint64_t waits;        /* how often a thread found the store's lock taken */
+  uint64_t longest_hold; /* the longest time that it was held, in nanoseconds */
+} pdt_counts;
+
+/* Counts. PDT_MISUSE. In the time that the kept commits take to be gone through; commits wait for it. */
+pdt_code pdt_count(pdt_store *store, pdt_counts *counts);
 
 /* Folds the Write-PDT into the Read-PDT: later commits are folded into a smaller tree. No table changes, and no open
-   transaction. PDT_NOMEM, PDT_MISUSE. Begins and commits wait for it. */
-int pdt_fold(pdt_store *store);
+   transaction. PDT_NOMEM, PDT_MISUSE. Commits wait for it. */
+pdt_code pdt_fold(pdt_store *store);
 
-/* Lets the history so far go, so that it takes no memory. A transaction that began before the newest commit is PDT_TOO_OLD at
-   its commit, and reads on; one that began after it commits as ever. PDT_MISUSE.
-   It takes no memory. What it lets go is freed without the lock, but for the changes of the last commits, and where malloc
-   refuses a small block. */
-int pdt_cut(pdt_store *store);
+/* Lets the changes of the last commits go, before there are pdt_options.recent of them. A transaction that began before the newest
+   commit is PDT_TOO_OLD at its commit if it changes something, and reads on; one that began after it commits as ever.
+   PDT_MISUSE. What it lets go is freed without the lock, but where malloc refuses the room for the changes to come. */
+pdt_code pdt_cut(pdt_store *store);
 
 /* Writes the newest table into a folder that has no store, as header.csv and column-N.pdt, each synced, then the folder, and
    then the one that it stands in. Once it answers PDT_OK the table is durable, as far as these go: who made folders further up
@@ -184,8 +215,8 @@ int pdt_cut(pdt_store *store);
    PDT_EXISTS, PDT_IO, PDT_NOMEM, PDT_MISUSE: what was written is removed, the stable table is as it was, and a checkpoint that
    has begun elsewhere stays good. (A PDT_NOMEM that comes after the writing may have folded.) The folder is there, and may be
    read: else PDT_IO. PDT_MISUSE also of an empty path.
-   Begins and commits wait for two folds, and neither for the making of the table nor for its files. */
-int pdt_checkpoint(pdt_store *store, const char *folder);
+   Commits wait for two folds, and neither for the making of the table nor for its files. */
+pdt_code pdt_checkpoint(pdt_store *store, const char *folder);
 
 /* What takes the bytes of a checkpoint: len of them, which come after those that it took of the column so far, and lie there
    during the call. It answers 0 where it took all. It may make calls on this store, but for pdt_close. */
@@ -198,9 +229,9 @@ typedef int (*pdt_write)(void *context, size_t column, const uint8_t *bytes, siz
    In memory it is the stable table then, as after pdt_checkpoint. PDT_DEVICE_FAILED where write answers other than 0: *column,
    if not null, is that of the bytes; nothing is asked of write after it, and what it took is no store. PDT_NOMEM, PDT_MISUSE.
    After these codes the stable table is as it was.
-   The caller makes the bytes durable. Begins and commits wait for two folds, and write is called by this thread without the
+   The caller makes the bytes durable. Commits wait for two folds, and write is called by this thread without the
    lock. */
-int pdt_checkpoint_to(pdt_store *store, pdt_write write, void *context, size_t *column);
+pdt_code pdt_checkpoint_to(pdt_store *store, pdt_write write, void *context, size_t *column);
 
 /* ---- a checkpoint while others commit: it begins and is installed under the lock, and is written without it */
 
@@ -210,111 +241,141 @@ typedef struct pdt_snapshot pdt_snapshot;
 
 /* Begins a checkpoint of the newest table. *commits, if not null, is the number of that table: what an engine has logged of
    later commits has to stay. PDT_NOMEM, PDT_MISUSE: *snapshot is null then.
-   It folds, and begins and commits wait for that. */
-int pdt_checkpoint_begin(pdt_store *store, uint64_t *commits, pdt_snapshot **snapshot);
+   It folds, and commits wait for that. */
+pdt_code pdt_checkpoint_begin(pdt_store *store, uint64_t *commits, pdt_snapshot **snapshot);
 
 /* Writes that table into a folder as pdt_checkpoint does, and takes no lock. Once it answers PDT_OK the table is durable, as it
    is there. PDT_EXISTS, PDT_IO, PDT_NOMEM: what was written is removed, nothing in memory has changed, and it may be asked
    for again. PDT_MISUSE, also once it is done. It takes the memory of the table, and twice that of its bytes. */
-int pdt_checkpoint_write(pdt_snapshot *snapshot, const char *folder);
+pdt_code pdt_checkpoint_write(pdt_snapshot *snapshot, const char *folder);
 
 /* Makes what was written the stable table in memory: the commits since the begin stay in the Write-PDT, and no table changes.
    PDT_SUPERSEDED where a fold, or the begin or the install of another checkpoint came since: nothing changes. What was
    written stays good: it is the table of the begin. PDT_NOMEM: ask again. PDT_MISUSE before a write is done, and once it is.
-   Begins and commits wait for a handful of allocations. */
-int pdt_checkpoint_install(pdt_snapshot *snapshot);
+   Commits wait for a handful of allocations. */
+pdt_code pdt_checkpoint_install(pdt_snapshot *snapshot);
 
 /* Lets a checkpoint go, whatever was done of it: what was written stays where it is. A null pointer is no error. */
 void pdt_checkpoint_end(pdt_snapshot *snapshot);
 
 /* ---- transactions */
 
-/* Begins a transaction of a client over the newest table; the number of the client goes into the history, and says nothing
-   else. PDT_NOMEM, PDT_MISUSE: *txn is null then. In constant time. */
-int pdt_begin(pdt_store *store, uint32_t client, pdt_txn **txn);
+/* Begins a transaction over the newest table. PDT_NOMEM, PDT_MISUSE: *txn is null then. In constant time; it waits for no commit,
+   no fold and no checkpoint. Where malloc has refused to share that table with begins, the next begin or pin takes the store's
+   lock once, and shares it again. */
+pdt_code pdt_begin(pdt_store *store, pdt_txn **txn);
+
+/* The number of the table that a transaction sees: how many commits made it. PDT_MISUSE. */
+pdt_code pdt_begun(pdt_txn *txn, uint64_t *commits);
 
 /* Ends a transaction and leaves no record of it, also one whose commit this thread has prepared. One that another thread has
    prepared stays as it is. Null is no error. It takes no lock. */
 void pdt_abort(pdt_txn *txn);
 
 /* Commits a transaction: PDT_OK, PDT_CONFLICT, PDT_TOO_OLD or PDT_FULL, and it is over; *commits, if not null, is the
-   number of the newest table then. PDT_NOMEM: it stays open as it was, and may commit again. PDT_MISUSE. */
-int pdt_commit(pdt_txn *txn, uint64_t *commits);
+   number of the newest table then. PDT_NOMEM: it stays open as it was, and may commit again. PDT_MISUSE.
+   One that changes nothing ends as by pdt_abort, and takes no number: PDT_OK, and *commits is the number that it saw. */
+pdt_code pdt_commit(pdt_txn *txn, uint64_t *commits);
+
+/* ---- pins: versions that are kept, so that transactions begin over one whatever was committed since */
+
+/* A table as it was at a number. Any threads may begin at one at once. It is let go before its store is closed. */
+typedef struct pdt_pinned pdt_pinned;
+
+/* Keeps the newest table. *commits, if not null, is its number. PDT_NOMEM, PDT_MISUSE: *pin is null then. In constant time, and
+   without the store's lock. While a table is kept, what commits, folds and checkpoints have replaced since is kept with it. */
+pdt_code pdt_pin(pdt_store *store, uint64_t *commits, pdt_pinned **pin);
+
+/* The number of a pin's table: 0 of a null pointer. */
+uint64_t pdt_pinned_commits(const pdt_pinned *pin);
+
+/* Begins a transaction over the table of a pin. It may write, and commits as one that began when that was the newest:
+   PDT_CONFLICT, PDT_TOO_OLD. PDT_NOMEM, PDT_MISUSE: *txn is null then. In constant time, and without the store's lock. */
+pdt_code pdt_begin_at(pdt_pinned *pin, pdt_txn **txn);
+
+/* Lets a pin go; transactions that began at it stay. A null pointer is no error. */
+void pdt_unpin(pdt_pinned *pin);
 
 /* ---- a commit in two parts: in between an engine writes its own log */
 
 /* Decides a commit and makes all that it wants, so that it can't fail any more: PDT_OK, and *commits, if not null, is the
    number that it will have. pdt_install, pdt_give_up or pdt_abort follows, on the same thread, and until then nothing has
    changed. PDT_CONFLICT, PDT_TOO_OLD, PDT_FULL, PDT_NOMEM: as of pdt_commit. PDT_MISUSE.
-   From PDT_OK on the store's lock is kept: other threads' calls on the store wait, and their begins and commits.
-   This thread's are PDT_MISUSE but for pdt_size, pdt_abort and pdt_checkpoint_end, and so are writes and marks of the
-   transaction; reads of transactions are not. */
-int pdt_prepare(pdt_txn *txn, uint64_t *commits);
+   From PDT_OK on the store's lock is kept: other threads' calls on the store wait, and their commits; begins and pins don't, and are
+   of the newest table as it was. This thread's are PDT_MISUSE but for begins and pins, the ends of transactions that change nothing,
+   pdt_size, pdt_count, pdt_wait, pdt_abort and pdt_checkpoint_end, and so are writes and marks of the transaction; reads of
+   transactions are not.
+   Of a transaction that changes nothing no lock is kept: pdt_install ends it, and it takes no number. */
+pdt_code pdt_prepare(pdt_txn *txn, uint64_t *commits);
 
 /* Does what was prepared: the transaction is committed, and over. It takes no memory and can't be refused.
    PDT_MISUSE where this thread hasn't prepared it: nothing changes. */
-int pdt_install(pdt_txn *txn);
+pdt_code pdt_install(pdt_txn *txn);
 
 /* Lets go of what was prepared: the store is as if it had never been, and the transaction is open as before.
    PDT_MISUSE where this thread hasn't prepared it. */
-int pdt_give_up(pdt_txn *txn);
+pdt_code pdt_give_up(pdt_txn *txn);
 
 /* ---- writes: each is answered at once, and seen by the transaction's own reads */
 
 /* PDT_OK, PDT_DUPLICATE, PDT_FULL, PDT_SHAPE, PDT_NOMEM, PDT_MISUSE. */
-int pdt_insert(pdt_txn *txn, const int64_t *numbers, const void *texts, size_t bytes);
+pdt_code pdt_insert(pdt_txn *txn, const int64_t *numbers, const void *texts, size_t bytes);
 
 /* PDT_OK, PDT_MISSING, PDT_SHAPE, PDT_NOMEM, PDT_MISUSE. */
-int pdt_delete(pdt_txn *txn, const int64_t *key, const void *texts, size_t bytes);
+pdt_code pdt_delete(pdt_txn *txn, const int64_t *key, const void *texts, size_t bytes);
 
 /* Sets one cell, which is no key column's: its number, and a text's bytes. PDT_OK, PDT_MISSING, PDT_SHAPE, PDT_NOMEM,
    PDT_MISUSE. */
-int pdt_set(pdt_txn *txn, const int64_t *key, const void *texts, size_t bytes, size_t column, int64_t number,
-            const void *text);
+pdt_code pdt_set(pdt_txn *txn, const int64_t *key, const void *texts, size_t bytes, size_t column, int64_t number,
+                 const void *text);
 
 /* ---- marks: places in a transaction's writes to which it goes back, as SQL's savepoints */
 
 /* Marks the transaction as it stands. *level is how many marks there were before: 0 for the first one.
    PDT_NOMEM, PDT_MISUSE.
    A mark shares what the transaction has by then; the next writes copy what they change of it. */
-int pdt_mark(pdt_txn *txn, size_t *level);
+pdt_code pdt_mark(pdt_txn *txn, size_t *level);
 
 /* Undoes the writes since the mark of a level, as if they had never been asked for: a commit records none of them. The mark
    stays, and those after it are gone. What pdt_pieces has handed out may be read on, and what pdt_texts has may not.
    PDT_MISSING where there is no mark of the level, PDT_MISUSE: nothing changed.
    It takes no memory. PDT_NOMEM would say that one tree has 2^64 owners. */
-int pdt_back_to(pdt_txn *txn, size_t level);
+pdt_code pdt_back_to(pdt_txn *txn, size_t level);
 
 /* Forgets the mark of a level and those after it. Their writes stay.
    PDT_MISSING where there is no mark of the level, PDT_MISUSE: nothing changed.
    It takes no memory, and gives back what only those marks had. */
-int pdt_release(pdt_txn *txn, size_t level);
+pdt_code pdt_release(pdt_txn *txn, size_t level);
 
 /* ---- reads: of the table as it was when the transaction began, with its own writes; positions count from 0 */
 
 /* How many rows there are. PDT_MISUSE. */
-int pdt_rows(pdt_txn *txn, uint64_t *rows);
+pdt_code pdt_rows(pdt_txn *txn, uint64_t *rows);
 
 /* How many rows stand below a key, and whether there is a row of it: a range of keys is the positions between two ranks.
    PDT_SHAPE, PDT_NOMEM, PDT_MISUSE. In logarithmic time. */
-int pdt_rank(pdt_txn *txn, const int64_t *key, const void *texts, size_t bytes, uint64_t *below, bool *there);
+pdt_code pdt_rank(pdt_txn *txn, const int64_t *key, const void *texts, size_t bytes, uint64_t *below, bool *there);
 
 /* The row of a key, and the row at a position: a number for each column into numbers, the texts into room bytes at out,
    and *needed, if not null, how many bytes they have. PDT_MISSING, PDT_TOO_SMALL (*needed says what would do), PDT_MISUSE;
    pdt_get also PDT_SHAPE and PDT_NOMEM. */
-int pdt_get(pdt_txn *txn, const int64_t *key, const void *texts, size_t bytes, int64_t *numbers, void *out, size_t room,
-            size_t *needed);
-int pdt_row_at(pdt_txn *txn, uint64_t position, int64_t *numbers, void *out, size_t room, size_t *needed);
+pdt_code pdt_get(pdt_txn *txn, const int64_t *key, const void *texts, size_t bytes, int64_t *numbers, void *out, size_t room,
+                 size_t *needed);
+pdt_code pdt_row_at(pdt_txn *txn, uint64_t position, int64_t *numbers, void *out, size_t room, size_t *needed);
 
 /* The cells of a column from a position on: up to *count numbers, and the texts into room bytes at out. *count says how
    many cells came, and *bytes, if not null, how many bytes their texts have. It stops at the end, and before a text that
    has no room. PDT_MISUSE. */
-int pdt_cells(pdt_txn *txn, size_t column, uint64_t from, int64_t *numbers, size_t *count, void *out, size_t room,
-              size_t *bytes);
+pdt_code pdt_cells(pdt_txn *txn, size_t column, uint64_t from, int64_t *numbers, size_t *count, void *out, size_t room,
+                   size_t *bytes);
 
 /* The numbers of an int column from a position on, copied: up to *count of them. *count says how many came: none of a
    column of another type. PDT_MISUSE. */
-int pdt_ints(pdt_txn *txn, size_t column, uint64_t from, int64_t *numbers, size_t *count);
+pdt_code pdt_ints(pdt_txn *txn, size_t column, uint64_t from, int64_t *numbers, size_t *count);
+
+/* The truths of a bool column from a position on, copied, a byte of 0 or 1 for each: up to *count of them. *count says how many
+   came: none of a column of another type. PDT_MISUSE. */
+pdt_code pdt_bools(pdt_txn *txn, size_t column, uint64_t from, uint8_t *truths, size_t *count);
 
 /* The texts of a text column from a position on, where they lie: up to *count addresses into texts, and as many lengths in
    bytes into lens. *count says how many came: none of a column of another type. No byte is copied. PDT_MISUSE.
@@ -322,7 +383,7 @@ int pdt_ints(pdt_txn *txn, size_t column, uint64_t from, int64_t *numbers, size_
    is read there.
    They lie in the stable table or, of a changed row, in an entry over it: any thread may read them until the next write,
    pdt_back_to or pdt_commit on the transaction, or its end. */
-int pdt_texts(pdt_txn *txn, size_t column, uint64_t from, const char **texts, int64_t *lens, size_t *count);
+pdt_code pdt_texts(pdt_txn *txn, size_t column, uint64_t from, const char **texts, int64_t *lens, size_t *count);
 
 /* Numbers that stand together: count of them from at on, or the one in number where at is null. */
 typedef struct pdt_piece {
@@ -334,8 +395,8 @@ typedef struct pdt_piece {
 /* The numbers of an int column between two positions, where they lie: up to *count pieces. *count says how many came, and
    *rows, if not null, how many rows they have. They lie in the stable table, which nobody writes: any thread may read
    them until the next write on the transaction, or its end. PDT_MISUSE. */
-int pdt_pieces(pdt_txn *txn, size_t column, uint64_t from, uint64_t to, pdt_piece *pieces, size_t *count,
-               uint64_t *rows);
+pdt_code pdt_pieces(pdt_txn *txn, size_t column, uint64_t from, uint64_t to, pdt_piece *pieces, size_t *count,
+                    uint64_t *rows);
 
 /* ---- layers: the entries that change the rows below them, by position. The Read-PDT stands over the stable table, the
    Write-PDT over the Read-PDT, and a transaction's own entries over the table that it began on */
@@ -358,11 +419,20 @@ typedef struct pdt_entry {
 } pdt_entry;
 
 /* The Read-PDT and the Write-PDT of the newest table, both of one moment. PDT_NOMEM, PDT_MISUSE: both are null then.
-   Takes memory for each entry, and copies no row; begins and commits wait for it. */
-int pdt_layers(pdt_store *store, pdt_layer **read, pdt_layer **write);
+   Takes memory for each entry, and copies no row; commits wait for it. */
+pdt_code pdt_layers(pdt_store *store, pdt_layer **read, pdt_layer **write);
 
 /* The entries of a transaction's own writes. PDT_NOMEM, PDT_MISUSE: *layer is null then. */
-int pdt_own_layer(pdt_txn *txn, pdt_layer **layer);
+pdt_code pdt_own_layer(pdt_txn *txn, pdt_layer **layer);
+
+/* What the commit of a number changed: its entries over the table of the number before, whose image under them is the table of this
+   number. PDT_MISSING where it isn't one of the last pdt_options.recent commits, or came before the last cut: *layer is null then, as
+   after PDT_NOMEM and PDT_MISUSE. Takes memory for each entry, and copies no row; commits wait for it. */
+pdt_code pdt_changes(pdt_store *store, uint64_t number, pdt_layer **layer);
+
+/* Waits until the newest table has a number above this one, for so many milliseconds at most. *commits, if not null, is its number.
+   PDT_MISSING where none came in that time, PDT_MISUSE. It ends before the store is closed. */
+pdt_code pdt_wait(pdt_store *store, uint64_t after, uint64_t milliseconds, uint64_t *commits);
 
 /* Lets a layer go. A null pointer is no error. */
 void pdt_layer_close(pdt_layer *layer);
@@ -373,7 +443,7 @@ size_t pdt_layer_size(pdt_layer *layer);
 /* The entry at an index, which counts from 0 in the order of the SIDs: its cells' numbers into numbers, which has room for
    pdt_columns, and their texts into room bytes at out. PDT_MISSING past the end, PDT_TOO_SMALL (entry->bytes says what
    would do), PDT_MISUSE. In logarithmic time. */
-int pdt_entry_at(pdt_layer *layer, size_t index, pdt_entry *entry, int64_t *numbers, void *out, size_t room);
+pdt_code pdt_entry_at(pdt_layer *layer, size_t index, pdt_entry *entry, int64_t *numbers, void *out, size_t room);
 
 #ifdef __cplusplus
 }

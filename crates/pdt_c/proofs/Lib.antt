@@ -3,6 +3,7 @@ mod CellLemmas
 mod MarkLemmas
 mod NumberLemmas
 mod TextLemmas
+mod TruthLemmas
 mod EntryLemmas
 mod FillingLemmas
 mod Crossing

@@ -9,7 +9,7 @@ use Rattle.values.specs.declared.value.Value.TheVariants.{Int, Bool as Truth}
 use Rattle.stable.specs.Rows.{column_values}
 use Rattle.pdt_c.specs.Cells.{number_of, numbers_of}
 use Rattle.pdt_c.specs.Numbers.{IsShown, AreShown, HandsPieces}
-use Rattle.pdt_c.specs.declared.pieces.Piece.{Piece}
+use Rattle.pdt_c.specs.declared.calls.pieces.Piece.{Piece}
 
 pub numbers_int : (xs : List ℤ) → numbers_of (map Int xs) ≡ xs
 numbers_int [] = refl

@@ -5,17 +5,17 @@ use Rattle.values.specs.declared.value.ColumnType.TheVariants as column
 use Rattle.stable.specs.Stable.{Stable}
 use Rattle.stable.specs.declared.fault.BuildFault.TheVariants.{NotAscending}
 use Rattle.inputs.specs.Input.{IsTableOf}
-use Rattle.manager.specs.Managed.{Managed, opened}
+use Rattle.manager.specs.Managed.{Managed}
 use Rattle.pdt_c.specs.Filling.{given_at, AllGiven, IsNoTable, IsTablePassed, IsUnfilled}
-use Rattle.pdt_c.specs.Opening.{rule_of}
+use Rattle.pdt_c.specs.Opening.{opened_counting, rule_of}
 use Rattle.pdt_c.specs.declared.codes.TheConstants.{DONE, NOT_ASCENDING, SHAPE}
-use Rattle.pdt_c.specs.declared.opening_columns.Place.{Place}
+use Rattle.pdt_c.specs.declared.calls.opening_columns.Place.{Place}
 
 -- a manager that was opened on the table of these columns
 pub record IsOpenedOnPassed (schema : Columns) (all : AllGiven) (rows row_limit recent : ℕ) (by_row : Bool) (m : Managed) : Type 0 where
   pub table : Stable
   pub passed : IsTablePassed schema all rows table
-  pub opened_is : m ≡ opened table row_limit recent (rule_of by_row)
+  pub opened_is : m ≡ opened_counting table row_limit recent (rule_of by_row)
 
 -- under a schema: the manager, or the place of the first fault, and nothing is opened
 pub record OpensPassed (schema : Columns) (all : AllGiven) (rows row_limit recent : ℕ) (by_row : Bool) (code : ℕ) (place : Place)

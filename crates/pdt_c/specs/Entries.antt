@@ -1,5 +1,5 @@
 -- What C is handed of a layer's entries.
-use Rattle.std.specs.Prelude.{◌≡◌, ℕ, ℤ, List, [], ◌∷◌, Some, length, take, slice_get}
+use Rattle.std.specs.Prelude.{◌≡◌, ℕ, ℤ, List, [], ◌∷◌, Option, None, Some, length, take, slice_get}
 use Rattle.values.specs.declared.value.Value.{Value}
 use Rattle.model.specs.declared.entry.Entry.{Entry}
 use Rattle.model.specs.declared.entry.Change.{Change}
@@ -7,7 +7,7 @@ use Rattle.model.specs.declared.entry.Change.TheVariants.{Ins, Del, Mod}
 use Rattle.model.specs.Places.{rid_of_insert}
 use Rattle.delta.specs.Tree.{Tree}
 use Rattle.pdt_c.specs.Reads.{IsHanded}
-use Rattle.pdt_c.specs.declared.entries.LayerEntry.{LayerEntry}
+use Rattle.pdt_c.specs.declared.calls.entries.LayerEntry.{LayerEntry}
 
 -- the number of a change's kind
 abbrev pub kind_of : Change → ℕ
@@ -26,6 +26,11 @@ abbrev pub cells_of : Change → List Value
 cells_of (Ins row) = row
 cells_of (Del key) = key
 cells_of (Mod col value) = value ∷ []
+
+-- how many entries a tree has, where there is one
+abbrev pub entry_count : Option Tree → ℕ
+entry_count None = 0
+entry_count (Some tree) = length tree.entries
 
 -- the entry at an index was handed out: where it stands, what it does, and its cells
 pub record HandsEntry (tree : Tree) (index : ℕ) (shown : LayerEntry) (numbers : List ℤ) (texts : List ℕ) : Type 0 where

@@ -8,6 +8,7 @@ pub mod Marks
 pub mod Reads
 pub mod Numbers
 pub mod Texts
+pub mod Truths
 pub mod Stored
 pub mod Entries
 pub mod Filling

@@ -9,7 +9,7 @@ use Rattle.stable.specs.Rows.{column_values}
 use Rattle.txn.specs.Txn.{Transaction, image_of}
 use Rattle.pdt_c.specs.Cells.{numbers_of}
 use Rattle.pdt_c.specs.Reads.{column_from}
-use Rattle.pdt_c.specs.declared.pieces.Piece.{Piece}
+use Rattle.pdt_c.specs.declared.calls.pieces.Piece.{Piece}
 
 -- whether there is a column and it is one of numbers
 abbrev pub is_int : Option ColumnType → Bool

@@ -1,6 +1,6 @@
 -- The bytes of a checkpoint.
 use Rattle.std.specs.Prelude.{ℕ, List, [], map, get_or}
-use Rattle.pdt_c.specs.declared.checkpoint.Columns.{Columns}
+use Rattle.pdt_c.specs.declared.handles.image.Columns.{Columns}
 
 -- the bytes of a column, none where there is no such column
 abbrev pub bytes_at : Columns → ℕ → List ℕ

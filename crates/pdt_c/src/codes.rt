@@ -4,7 +4,7 @@ ghost use Rattle.pdt_c.specs.Told.{told, code_of_reply};
 ghost use Rattle.pdt_c.specs.declared.codes.TheConstants.{BAD_TABLE, NOT_ASCENDING, NO_MEMORY, SHAPE};
 ghost use Rattle.txn.specs.declared.fault.WriteFault.TheVariants as write_fault;
 
-use crate::cells::CellFault;
+use crate::passed::cells::CellFault;
 use devices::StoreFault;
 use frames::ReadFault;
 use inputs::TableFault;

@@ -5,38 +5,18 @@
 //! back by its address. A row or a key is its numbers, one for each column, and its texts one after the other: a text's
 //! number is how many bytes it has, a truth's 0 or 1.
 //!
+//! *Where to look.* `calls/` has the exports, by what they are for; `handles/` what C keeps of them; `passed/` cells and
+//! columns that come in, and `shown_cells` cells that go out.
+//!
 //! *What a contract sees.* A handle is what it holds, or nothing; cells are those whose numbers and bytes C passed.
 //!
 //! *What C owes.* Nothing checks a C caller against the contracts: `door/c/pdt.c` meets each `requires` before it calls.
 #![tactic(auto)]
 
 mod byte_column;
-mod cells;
-mod checkpoint;
-mod checkpoints;
+mod calls;
 mod codes;
-mod cut_history;
-mod decision;
-mod entries;
-mod filling;
-mod held;
-mod ints;
-mod layer;
-mod marks;
-mod next_table;
-mod opening;
-mod opening_columns;
-mod passed_columns;
-mod pieces;
-mod prepares;
-mod reads;
-mod restacks;
-mod rows;
-mod scans;
-mod snapshot;
-mod store;
+mod handles;
+mod passed;
+mod shown_cells;
 mod text_fault;
-mod texts;
-mod transaction;
-mod versions;
-mod writes;

@@ -8,14 +8,14 @@ int main(void) {
   pdt_store *store;
   pdt_txn *txn;
   if (pdt_open(csv, strlen(csv), NULL, &store)) return 1;
-  if (pdt_begin(store, 1, &txn)) return 1;
+  if (pdt_begin(store, &txn)) return 1;
   int64_t ann = 10, bob = 20, row[] = {30, 3, 0}, qty[8];
   int code = pdt_set(txn, &ann, NULL, 0, 2, 2, NULL);
   if (!code) code = pdt_set(txn, &bob, NULL, 0, 2, 7, NULL);
   if (!code) code = pdt_insert(txn, row, "Cid", 3);
   if (!code) code = pdt_commit(txn, NULL); else pdt_abort(txn);
   if (code) return fprintf(stderr, "%s\n", pdt_text(code)), 1;
-  if (pdt_begin(store, 1, &txn)) return 1;
+  if (pdt_begin(store, &txn)) return 1;
   size_t count = 8;
   pdt_ints(txn, 2, 0, qty, &count);
   for (size_t i = 0; i < count; i++) printf("%lld\n", (long long)qty[i]);

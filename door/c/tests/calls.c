@@ -1,4 +1,5 @@
-/* Each call once where it succeeds, and once for each code that it can refuse with. */
+/* Each call once where it succeeds, and once for each code that it can refuse with. Those of pins, of the feed and of counts have
+   tests of their own. */
 #define _POSIX_C_SOURCE 200809L
 #include <errno.h>
 #include <pdt.h>
@@ -29,7 +30,7 @@ static pdt_store *opened(const pdt_options *options) {
 }
 static pdt_txn *begun(pdt_store *store) {
   pdt_txn *txn = NULL;
-  is("begin", PDT_OK, pdt_begin(store, 7, &txn));
+  is("begin", PDT_OK, pdt_begin(store, &txn));
   return txn;
 }
 static uint64_t rows_of(pdt_txn *txn) {
@@ -42,11 +43,12 @@ static void texts(void) {
   for (int code = PDT_OK; code <= PDT_DEVICE_FAILED; code++) is("a text", 1, strcmp(pdt_text(code), "no such code") != 0);
   is("no such code", 0, strcmp(pdt_text(-1), "no such code"));
   is("no such code", 0, strcmp(pdt_text(1000), "no such code"));
+  is("the version that runs is that of the header", 0, strcmp(PDT_VERSION, pdt_version()));
 }
 
 static void openings(void) {
   pdt_store *store = (pdt_store *)&store;
-  pdt_options one = {1, 1, false}, bad = {65537, 0, false};
+  pdt_options one = {sizeof one, 1, 1, false}, bad = {sizeof bad, 65537, 0, false};
   is("no table", PDT_BAD_TABLE, pdt_open("", 0, NULL, &store));
   is("null after a refusal", 1, store == NULL);
   is("a bad cell", PDT_BAD_TABLE, pdt_open("id:int:key\nx\n", 13, NULL, &store));
@@ -160,7 +162,7 @@ static void writes(void) {
   txn = begun(store);
   is("an abort leaves nothing", 3, (long long)rows_of(txn));
   pdt_abort(txn);
-  pdt_options few = {0, 3, false};
+  pdt_options few = {sizeof few, 0, 3, false};
   pdt_store *full = opened(&few);
   txn = begun(full);
   row[1] = 3;
@@ -234,8 +236,53 @@ static void marks(void) {
   pdt_close(store);
 }
 
+static void sets(pdt_store *store, int64_t key, int64_t qty) {
+  pdt_txn *txn = begun(store);
+  is("set", PDT_OK, pdt_set(txn, &key, NULL, 0, 3, qty, NULL));
+  is("commit", PDT_OK, pdt_commit(txn, NULL));
+}
+
+/* What changes nothing ends as by an abort, however old it is: it takes no number, and keeps no lock. */
+static void idle(void) {
+  pdt_options one = {sizeof one, 1, 0, false};
+  pdt_store *store = opened(&one);
+  sets(store, 10, 5);
+  pdt_txn *a = begun(store), *b = begun(store), *c = begun(store), *d = begun(store), *e = begun(store);
+  int64_t bob = 20, row[] = {40, 3, 1, 4};
+  uint64_t number = 77;
+  sets(store, 30, 6);
+  sets(store, 30, 7);
+  is("insert", PDT_OK, pdt_insert(a, row, "Dee", 3));
+  is("delete what was inserted", PDT_OK, pdt_delete(a, row, NULL, 0));
+  is("commit", PDT_OK, pdt_commit(a, &number));
+  is("the number that it saw", 1, (long long)number);
+  number = 77;
+  is("prepare", PDT_OK, pdt_prepare(b, &number));
+  is("the number that it saw", 1, (long long)number);
+  is("once", PDT_MISUSE, pdt_prepare(b, &number));
+  is("a commit of what is prepared", PDT_MISUSE, pdt_commit(b, &number));
+  is("a write of what is prepared", PDT_MISUSE, pdt_set(b, &bob, NULL, 0, 3, 9, NULL));
+  is("no lock is kept", PDT_OK, pdt_fold(store));
+  is("install", PDT_OK, pdt_install(b));
+  is("prepare", PDT_OK, pdt_prepare(c, NULL));
+  is("give up", PDT_OK, pdt_give_up(c));
+  is("once", PDT_MISUSE, pdt_give_up(c));
+  is("it goes on", PDT_OK, pdt_set(c, &bob, NULL, 0, 3, 9, NULL));
+  is("and is too old", PDT_TOO_OLD, pdt_commit(c, &number));
+  is("number", 3, (long long)number);
+  is("prepare", PDT_OK, pdt_prepare(d, NULL));
+  pdt_abort(d);
+  is("a set to what it was", PDT_OK, pdt_set(e, &bob, NULL, 0, 3, 2, NULL));
+  is("is a change", PDT_TOO_OLD, pdt_commit(e, NULL));
+  pdt_sizes sizes;
+  is("size", PDT_OK, pdt_size(store, &sizes));
+  is("commits", 3, (long long)sizes.commits);
+  is("open", 0, (long long)sizes.open_transactions);
+  is("close", PDT_OK, pdt_close(store));
+}
+
 static void commits(void) {
-  pdt_options one = {1, 0, false};
+  pdt_options one = {sizeof one, 1, 0, false};
   pdt_store *store = opened(&one);
   pdt_txn *a = begun(store), *b = begun(store), *c = begun(store), *d = begun(store);
   int64_t key = 10, other = 20;
@@ -248,11 +295,12 @@ static void commits(void) {
   is("number", 1, (long long)number);
   is("set", PDT_OK, pdt_set(c, &other, NULL, 0, 3, 6, NULL));
   is("another row", PDT_OK, pdt_commit(c, NULL));
+  is("set", PDT_OK, pdt_set(d, &other, NULL, 0, 1, 3, "Rob"));
   is("too old", PDT_TOO_OLD, pdt_commit(d, &number));
   is("number", 2, (long long)number);
   is("commit null", PDT_MISUSE, pdt_commit(NULL, NULL));
-  is("begin in null", PDT_MISUSE, pdt_begin(NULL, 1, &a));
-  is("begin to nowhere", PDT_MISUSE, pdt_begin(store, 1, NULL));
+  is("begin in null", PDT_MISUSE, pdt_begin(NULL, &a));
+  is("begin to nowhere", PDT_MISUSE, pdt_begin(store, NULL));
   pdt_sizes sizes;
   is("size", PDT_OK, pdt_size(store, &sizes));
   is("commits", 2, (long long)sizes.commits);
@@ -273,6 +321,7 @@ static void commits(void) {
   is("commit", PDT_OK, pdt_commit(b, NULL));
   is("cut", PDT_OK, pdt_cut(store));
   is("a read after a cut", 5, qty_of(a, 10));
+  is("set", PDT_OK, pdt_set(a, &key, NULL, 0, 3, 6, NULL));
   is("a commit came before the cut", PDT_TOO_OLD, pdt_commit(a, &number));
   is("number", 4, (long long)number);
   a = begun(store);
@@ -280,6 +329,7 @@ static void commits(void) {
   is("cut", PDT_OK, pdt_cut(store));
   is("set", PDT_OK, pdt_set(b, &other, NULL, 0, 3, 8, NULL));
   is("commit", PDT_OK, pdt_commit(b, NULL));
+  is("set", PDT_OK, pdt_set(a, &key, NULL, 0, 3, 9, NULL));
   is("a commit came after the cut", PDT_OK, pdt_commit(a, NULL));
   is("fold null", PDT_MISUSE, pdt_fold(NULL));
   is("cut null", PDT_MISUSE, pdt_cut(NULL));
@@ -341,6 +391,36 @@ static void reads(void) {
   count = 8;
   is("ints of no column", PDT_OK, pdt_ints(txn, 9, 0, qty, &count));
   is("none", 0, (long long)count);
+  uint8_t truths[8] = {9, 9, 9, 9};
+  count = 8;
+  is("bools", PDT_OK, pdt_bools(txn, 2, 0, truths, &count));
+  is("how many", 3, (long long)count);
+  same("which, and no more", (uint8_t[]){0, 1, 1, 9}, truths, 4);
+  count = 1;
+  is("bools from", PDT_OK, pdt_bools(txn, 2, 1, truths, &count));
+  is("how many", 1, (long long)count);
+  same("which, and no more", (uint8_t[]){1, 1, 1, 9}, truths, 4);
+  is("set", PDT_OK, pdt_set(txn, &key, NULL, 0, 2, 1, NULL));
+  count = 8;
+  is("bools", PDT_OK, pdt_bools(txn, 2, 0, truths, &count));
+  same("with its own write", (uint8_t[]){1, 1, 1, 9}, truths, 4);
+  is("set", PDT_OK, pdt_set(txn, &(int64_t){30}, NULL, 0, 2, 0, NULL));
+  is("bools", PDT_OK, pdt_bools(txn, 2, 0, truths, &count));
+  same("with both", (uint8_t[]){1, 1, 0, 9}, truths, 4);
+  is("set back", PDT_OK, pdt_set(txn, &key, NULL, 0, 2, 0, NULL));
+  is("set back", PDT_OK, pdt_set(txn, &(int64_t){30}, NULL, 0, 2, 1, NULL));
+  for (size_t column = 0; column < 10; column++) {
+    count = column == 2 ? 0 : 8;
+    is("bools of another column, or no room", PDT_OK, pdt_bools(txn, column, 0, column == 2 ? NULL : truths, &count));
+    is("none", 0, (long long)count);
+  }
+  count = 8;
+  is("bools past the end", PDT_OK, pdt_bools(txn, 2, 3, truths, &count));
+  is("none", 0, (long long)count);
+  count = 8;
+  is("bools to nowhere", PDT_MISUSE, pdt_bools(txn, 2, 0, NULL, &count));
+  is("bools of null", PDT_MISUSE, pdt_bools(NULL, 2, 0, truths, &count));
+  is("bools, and no count", PDT_MISUSE, pdt_bools(txn, 2, 0, truths, NULL));
   count = 8;
   is("cells", PDT_OK, pdt_cells(txn, 1, 0, qty, &count, out, sizeof out, &bytes));
   is("how many", 3, (long long)count);
@@ -600,6 +680,7 @@ int main(int argc, char **argv) {
   writes();
   marks();
   commits();
+  idle();
   reads();
   scans();
   layers();

@@ -45,7 +45,7 @@ static pdt_store *opened(void) {
 static void all_there(pdt_store *store, int other, const char *name) {
   pdt_txn *txn = NULL;
   uint64_t rows = 0;
-  is("begin", PDT_OK, pdt_begin(store, 1, &txn));
+  is("begin", PDT_OK, pdt_begin(store, &txn));
   is("rows", PDT_OK, pdt_rows(txn, &rows));
   is("how many rows", ROWS, (long long)rows);
   for (int row = 0; row < ROWS && !failures; row++) {
@@ -65,7 +65,7 @@ static void all_there(pdt_store *store, int other, const char *name) {
 static void rename_row(pdt_store *store, int row, const char *name) {
   pdt_txn *txn = NULL;
   int64_t key = 10 * row;
-  is("begin", PDT_OK, pdt_begin(store, 1, &txn));
+  is("begin", PDT_OK, pdt_begin(store, &txn));
   is("set", PDT_OK, pdt_set(txn, &key, NULL, 0, NAME, (int64_t)strlen(name), name));
   is("commit", PDT_OK, pdt_commit(txn, NULL));
 }
@@ -129,7 +129,7 @@ static void faults(void) {
   refused("no bytes", PDT_MISUSE, 0, 0);
   columns[OK].bytes = truths;
   pdt_store *store = NULL;
-  pdt_options few = {0, ROWS - 1, false};
+  pdt_options few = {sizeof few, 0, ROWS - 1, false};
   is("a limit", PDT_TOO_MANY_ROWS, pdt_open_columns(columns, WIDTH, 1, &few, NULL, &store));
   is("no key", PDT_BAD_TABLE, pdt_open_columns(columns, WIDTH, 0, NULL, NULL, &store));
   is("a key past the columns", PDT_BAD_TABLE, pdt_open_columns(columns, WIDTH, 4, NULL, NULL, &store));

@@ -12,7 +12,7 @@
 static const char *const names[] = {
 #include "calls.h"
 };
-enum { CALLS = sizeof names / sizeof *names, KEYS = 24, CLIENTS = 4, MARKS = 3, COMMITS = 300, TEXT = 12, WIDTH = 4 };
+enum { CALLS = sizeof names / sizeof *names, KEYS = 24, CLIENTS = 4, PINS = 3, MARKS = 3, COMMITS = 300, TEXT = 12, WIDTH = 4 };
 enum { FILES = 1 << 16 }; /* bytes of a column of an image */
 static long replies[CALLS][PDT_DEVICE_FAILED + 1], counts[CALLS], made;
 static int last; /* which call was made last */
@@ -74,6 +74,13 @@ typedef struct {
 static pdt_store *store;
 static client clients[CLIENTS];
 static view newest, commits[COMMITS + 1]; /* the commits' effects; of newest the rows alone */
+static view tables[COMMITS + 1];          /* the rows alone of each number */
+typedef struct {
+  pdt_pinned *pin; /* null: none is kept */
+  int number;
+} kept_table;
+static kept_table pins[PINS];
+static pdt_counts counted; /* what the store counts of what has been done */
 static int commit_count, cut_at, recent, row_limit;
 static bool by_row;
 static pdt_snapshot *snapshot;
@@ -113,7 +120,17 @@ static view table_with(const view *v) {
   }
   return table;
 }
+static int entries_of(const view *v) {
+  int count = 0;
+  for (int key = 0; key < KEYS; key++) {
+    if (v->effects[key] == CHANGE) count += (v->columns[key] >> 1 & 1) + (v->columns[key] >> 2 & 1) + (v->columns[key] >> 3 & 1);
+    else count += v->effects[key] == REPLACE ? 2 : v->effects[key] != NONE;
+  }
+  return count;
+}
+static bool is_idle(const client *c) { return !entries_of(&c->now); }
 static int due(const client *c) {
+  if (is_idle(c)) return PDT_OK;
   if (c->begun < cut_at || commit_count - c->begun > recent) return PDT_TOO_OLD;
   for (int i = c->begun; i < commit_count; i++)
     for (int key = 0; key < KEYS; key++)
@@ -124,6 +141,13 @@ static int due(const client *c) {
 static void install(const client *c) {
   newest = table_with(&c->now);
   commits[commit_count++] = c->now;
+  tables[commit_count] = newest;
+}
+/* What a commit that is decided counts as. */
+static void count_of(int code) {
+  if (code == PDT_CONFLICT) counted.conflicts++;
+  if (code == PDT_TOO_OLD) counted.too_old++;
+  if (code == PDT_FULL) counted.full++;
 }
 
 /* ---- rows that are read */
@@ -182,6 +206,11 @@ static void read_column(client *c) {
     if (column == 1) is("its text", 0, memcmp(r->name, text + end, (size_t)r->len)), end += (size_t)r->len;
   }
   is("bytes", (long long)end, (long long)bytes);
+  uint8_t truths[KEYS + 2];
+  count = room_for;
+  answers("bools", PDT_OK, D(pdt_bools, c->txn, (size_t)column, (uint64_t)from, truths, &count));
+  is("how many truths", column == 2 ? wanted : 0, (long long)count);
+  for (int i = 0; i < (int)count; i++) is("a truth", c->now.rows[key_at(&c->now, from + i)].ok, truths[i]);
   const char *texts[KEYS + 2];
   count = room_for;
   answers("texts", PDT_OK, D(pdt_texts, c->txn, (size_t)column, (uint64_t)from, texts, numbers, &count));
@@ -215,6 +244,25 @@ static void read_numbers(client *c) {
       is("a number of a piece", number_of(&c->now.rows[key], key, column), pieces[i].at ? pieces[i].at[k] : pieces[i].number);
     }
   is("all of them", (long long)in_them, (long long)at);
+}
+
+/* A store is the table of the model, whichever way it came. */
+static void store_is(const char *what, pdt_store *other, const view *table) {
+  pdt_txn *txn = NULL;
+  uint64_t rows = 0;
+  answers(what, PDT_OK, D(pdt_begin, other, &txn));
+  if (other == store) counted.begins++;
+  answers(what, PDT_OK, D(pdt_rows, txn, &rows));
+  is(what, rows_of(table), (long long)rows);
+  for (int at = 0; at < (int)rows; at++) {
+    int64_t numbers[WIDTH];
+    char text[TEXT];
+    size_t needed = 0;
+    int key = key_at(table, at);
+    answers(what, PDT_OK, D(pdt_row_at, txn, (uint64_t)at, numbers, text, sizeof text, &needed));
+    row_is(what, &table->rows[key], key, numbers, text, needed);
+  }
+  D(pdt_abort, txn);
 }
 
 /* ---- writes */
@@ -280,41 +328,56 @@ static void mark(client *c) {
 static void commit(client *c) {
   int wanted = due(c);
   uint64_t number = 0;
-  if (wanted == PDT_OK) install(c);
+  bool idle = is_idle(c);
+  if (wanted == PDT_OK && !idle) install(c);
+  count_of(wanted);
   answers("commit", wanted, D(pdt_commit, c->txn, &number));
-  is("its number", commit_count, (long long)number);
+  is("its number", idle ? c->begun : commit_count, (long long)number);
   c->txn = NULL;
 }
-/* What this thread can't do while it has a commit prepared. */
-static void misuse(client *c) {
+/* What this thread can't do while it has a commit prepared, and what it can. */
+static void beside(client *c) {
   pdt_txn *txn;
   pdt_layer *read, *write;
   pdt_snapshot *other;
+  pdt_pinned *pin;
+  uint64_t number = 0;
   answers("a write of what is prepared", PDT_MISUSE, D(pdt_set, c->txn, (int64_t[]){0}, NULL, 0, 3, 1, NULL));
-  answers("a begin", PDT_MISUSE, D(pdt_begin, store, 1, &txn));
+  answers("a second prepare", PDT_MISUSE, D(pdt_prepare, c->txn, &number));
+  if (is_idle(c)) return; /* no lock is kept */
   answers("a fold", PDT_MISUSE, D(pdt_fold, store));
   answers("a cut", PDT_MISUSE, D(pdt_cut, store));
   answers("a close", PDT_MISUSE, D(pdt_close, store));
   answers("layers", PDT_MISUSE, D(pdt_layers, store, &read, &write));
+  answers("changes", PDT_MISUSE, D(pdt_changes, store, 1, &read));
   answers("a checkpoint", PDT_MISUSE, D(pdt_checkpoint, store, room));
   answers("a checkpoint's begin", PDT_MISUSE, D(pdt_checkpoint_begin, store, NULL, &other));
+  store_is("the table before", store, &newest);
+  answers("a pin", PDT_OK, D(pdt_pin, store, &number, &pin));
+  is("its number", commit_count, (long long)number);
+  answers("a begin at it", PDT_OK, D(pdt_begin_at, pin, &txn));
+  counted.begins++;
+  D(pdt_unpin, pin);
+  D(pdt_abort, txn);
 }
 static void prepare(client *c) {
   int wanted = due(c);
+  bool idle = is_idle(c);
   uint64_t number = 0;
   answers("prepare", wanted, D(pdt_prepare, c->txn, &number));
-  is("its number", commit_count + (wanted == PDT_OK), (long long)number);
+  is("its number", idle ? c->begun : commit_count + (wanted == PDT_OK), (long long)number);
+  count_of(wanted);
   if (wanted) {
     c->txn = NULL;
     return;
   }
-  if (below(2)) misuse(c);
+  if (below(2)) beside(c);
   if (below(2)) read_row(c);
   switch (below(4)) {
     case 0: answers("give up", PDT_OK, D(pdt_give_up, c->txn)); return;
     case 1: D(pdt_abort, c->txn); break;
     default:
-      install(c);
+      if (!idle) install(c);
       answers("install", PDT_OK, D(pdt_install, c->txn));
   }
   c->txn = NULL;
@@ -322,14 +385,6 @@ static void prepare(client *c) {
 
 /* ---- layers: an entry of the upper one is seen at its RID in the table above it */
 
-static int entries_of(const view *v) {
-  int count = 0;
-  for (int key = 0; key < KEYS; key++) {
-    if (v->effects[key] == CHANGE) count += (v->columns[key] >> 1 & 1) + (v->columns[key] >> 2 & 1) + (v->columns[key] >> 3 & 1);
-    else count += v->effects[key] == REPLACE ? 2 : v->effects[key] != NONE;
-  }
-  return count;
-}
 static void layer_is(const char *what, pdt_layer *layer, size_t size, const view *above) {
   uint64_t sid = 0;
   is(what, (long long)size, (long long)D(pdt_layer_size, layer));
@@ -361,35 +416,52 @@ static void layers(client *c) {
   answers("layers", PDT_OK, D(pdt_layers, store, &read, &write));
   layer_is("the Read-PDT", read, sizes.read_entries, sizes.write_entries ? NULL : &newest);
   layer_is("the Write-PDT", write, sizes.write_entries, &newest);
+  int from = commit_count - cut_at < recent ? cut_at : commit_count - recent, number = below(commit_count + 3);
+  bool is_kept = number > from && number <= commit_count;
+  pdt_layer *changes;
+  answers("changes", is_kept ? PDT_OK : PDT_MISSING, D(pdt_changes, store, (uint64_t)number, &changes));
+  is("null where they aren't kept", is_kept, changes != NULL);
+  if (is_kept) layer_is("the changes of a commit", changes, (size_t)entries_of(&commits[number - 1]), &tables[number]);
   if (!c->txn) return;
   answers("own layer", PDT_OK, D(pdt_own_layer, c->txn, &own));
   layer_is("its own", own, (size_t)entries_of(&c->now), &c->now);
 }
 
+/* ---- what is counted, and waits that end at once */
+
+static void counts_are(void) {
+  pdt_counts found = {.size = sizeof found};
+  int from = commit_count - cut_at < recent ? cut_at : commit_count - recent, entries = 0, pinned = 0, oldest = 0;
+  for (int i = from; i < commit_count; i++) entries += entries_of(&commits[i]);
+  for (int i = 0; i < PINS; i++)
+    if (pins[i].pin && (!pinned++ || pins[i].number < oldest)) oldest = pins[i].number;
+  answers("counts", PDT_OK, D(pdt_count, store, &found));
+  is("begins", (long long)counted.begins, (long long)found.begins);
+  is("commits", commit_count, (long long)found.commits);
+  is("conflicts", (long long)counted.conflicts, (long long)found.conflicts);
+  is("too old", (long long)counted.too_old, (long long)found.too_old);
+  is("full", (long long)counted.full, (long long)found.full);
+  is("folds", (long long)counted.folds, (long long)found.folds);
+  is("checkpoints", (long long)counted.checkpoints, (long long)found.checkpoints);
+  is("superseded", (long long)counted.superseded, (long long)found.superseded);
+  is("pins", pinned, (long long)found.pins);
+  is("the oldest", oldest, (long long)found.oldest_pin);
+  is("kept", commit_count - from, (long long)found.kept);
+  is("their entries", entries, (long long)found.kept_entries);
+  is("waits", 0, (long long)found.waits);
+  uint64_t after = (uint64_t)below(commit_count + 2), number = 0;
+  answers("wait", after < (uint64_t)commit_count ? PDT_OK : PDT_MISSING, D(pdt_wait, store, after, 0, &number));
+  is("the newest", commit_count, (long long)number);
+}
+
 /* ---- stores: each is the table of the model, whichever way it comes */
 
-static void store_is(const char *what, pdt_store *other, const view *table) {
-  pdt_txn *txn = NULL;
-  uint64_t rows = 0;
-  answers(what, PDT_OK, D(pdt_begin, other, 9, &txn));
-  answers(what, PDT_OK, D(pdt_rows, txn, &rows));
-  is(what, rows_of(table), (long long)rows);
-  for (int at = 0; at < (int)rows; at++) {
-    int64_t numbers[WIDTH];
-    char text[TEXT];
-    size_t needed = 0;
-    int key = key_at(table, at);
-    answers(what, PDT_OK, D(pdt_row_at, txn, (uint64_t)at, numbers, text, sizeof text, &needed));
-    row_is(what, &table->rows[key], key, numbers, text, needed);
-  }
-  D(pdt_abort, txn);
-}
 static const char header[] = "id:int:key,name:text,ok:bool,qty:int\n";
 static pdt_options drawn_options(void) {
   recent = below(2) ? 65536 : 1 + below(20);
-  row_limit = below(2) ? KEYS : rows_of(&newest) + 1 + below(2);
+  row_limit = below(4) == 0 ? KEYS : rows_of(&newest) + 1 + below(3) / 2;
   by_row = below(2);
-  return (pdt_options){(size_t)recent, (uint64_t)row_limit, by_row};
+  return (pdt_options){sizeof(pdt_options), (size_t)recent, (uint64_t)row_limit, by_row};
 }
 static void open_text(const pdt_options *options) {
   char text[KEYS * 64 + 64];
@@ -478,6 +550,7 @@ static void checkpoint(void) {
     recover_bytes(NULL, &other);
   }
   is_superseded = true;
+  counted.checkpoints++;
   answers("size", PDT_OK, D(pdt_size, store, &sizes));
   is("nothing is left to move", 0, (long long)(sizes.read_entries + sizes.write_entries));
   store_is("a recovered store", other, &newest);
@@ -507,6 +580,8 @@ static void checkpoint_parts(void) {
       int wanted = !is_written || is_installed ? PDT_MISUSE : is_superseded ? PDT_SUPERSEDED : PDT_OK;
       answers("install a checkpoint", wanted, D(pdt_checkpoint_install, snapshot));
       is_installed |= wanted == PDT_OK;
+      counted.checkpoints += wanted == PDT_OK;
+      counted.superseded += wanted == PDT_SUPERSEDED;
       return;
     }
     default:
@@ -526,6 +601,12 @@ static void reopen(void) {
   }
   if (snapshot) D(pdt_checkpoint_end, snapshot);
   snapshot = NULL;
+  for (int i = 0; i < PINS; i++) {
+    if (!pins[i].pin) continue;
+    answers("close with a pin kept", PDT_MISUSE, D(pdt_close, store));
+    D(pdt_unpin, pins[i].pin);
+    pins[i].pin = NULL;
+  }
   int way = store ? below(4) : below(2);
   memset(lens, 0, sizeof lens);
   fails_at = -1;
@@ -538,6 +619,8 @@ static void reopen(void) {
   if (way == 2) recover_files(&options, &store);
   if (way == 3) recover_bytes(&options, &store);
   commit_count = cut_at = 0;
+  tables[0] = newest;
+  counted = (pdt_counts){.size = 0};
   store_is("an opened store", store, &newest);
 }
 static void columns(void) {
@@ -549,14 +632,15 @@ static void columns(void) {
   is("type", types[column], D(pdt_column_type, store, (size_t)column));
   const char *name = D(pdt_column_name, store, (size_t)column);
   is("name", 0, column < WIDTH ? strcmp(heads[column], name) : name != NULL);
+  is("the version", 0, strcmp(PDT_VERSION, D(pdt_version)));
   answers("a sentence", code < 0 || code > PDT_DEVICE_FAILED, strcmp("no such code", D(pdt_text, code)) == 0);
 }
 static void upkeep(void) {
-  switch (below(8)) {
+  switch (below(9)) {
     case 0:
-    case 1:
       answers("fold", PDT_OK, D(pdt_fold, store));
       is_superseded = true;
+      counted.folds++;
       return;
     case 2:
       answers("cut", PDT_OK, D(pdt_cut, store));
@@ -570,23 +654,46 @@ static void upkeep(void) {
 
 /* ---- a run */
 
+/* Begins over the newest table, or over that of a pin. */
 static void begin(client *c) {
-  answers("begin", PDT_OK, D(pdt_begin, store, (uint32_t)below(4), &c->txn));
-  c->begun = commit_count;
-  c->now = newest;
+  const kept_table *at = &pins[below(PINS)];
+  bool is_old = at->pin && below(3) == 0;
+  uint64_t number = 0;
+  if (is_old) answers("begin at", PDT_OK, D(pdt_begin_at, at->pin, &c->txn));
+  else answers("begin", PDT_OK, D(pdt_begin, store, &c->txn));
+  counted.begins++;
+  c->begun = is_old ? at->number : commit_count;
+  answers("begun", PDT_OK, D(pdt_begun, c->txn, &number));
+  is("its number", c->begun, (long long)number);
+  c->now = tables[c->begun];
   memset(c->now.effects, 0, sizeof c->now.effects);
   memset(c->now.columns, 0, sizeof c->now.columns);
   c->marks = 0;
 }
+static void pin_or_unpin(void) {
+  kept_table *at = &pins[below(PINS)];
+  uint64_t number = 0;
+  if (at->pin) {
+    is("a pin's number", at->number, (long long)D(pdt_pinned_commits, at->pin));
+    D(pdt_unpin, at->pin);
+    at->pin = NULL;
+    return;
+  }
+  answers("pin", PDT_OK, D(pdt_pin, store, &number, &at->pin));
+  is("its number", commit_count, (long long)number);
+  at->number = commit_count;
+}
 static void step(void) {
   static void (*const reads[])(client *) = {read_row, read_rank, read_column, read_numbers};
-  static void (*const writes[])(client *) = {insert, delete, set, set, mark};
+  static void (*const writes[])(client *) = {insert, insert, delete, set, set, mark};
   client *c = &clients[below(CLIENTS)];
   int what = below(100);
-  if (what < 5) upkeep();
-  else if (what < 8) layers(c);
+  if (what < 6) upkeep();
+  else if (what < 7) layers(c);
+  else if (what < 8) counts_are();
+  else if (what < 10) pin_or_unpin();
   else if (!c->txn) begin(c);
-  else if (what < 50) writes[below(5)](c);
+  else if (what < 50) writes[below(6)](c);
   else if (what < 86) reads[below(4)](c);
   else if (what < 92) commit(c);
   else if (what < 96) prepare(c);
@@ -606,7 +713,9 @@ static bool each_was_drawn(void) {
       {"pdt_get", PDT_TOO_SMALL},             {"pdt_get", PDT_MISSING},         {"pdt_give_up", PDT_OK},
       {"pdt_checkpoint", PDT_EXISTS},         {"pdt_checkpoint", PDT_IO},       {"pdt_checkpoint_to", PDT_DEVICE_FAILED},
       {"pdt_checkpoint_install", PDT_OK},     {"pdt_open_csv", PDT_BAD_TABLE},  {"pdt_checkpoint_install", PDT_SUPERSEDED},
-      {"pdt_checkpoint_install", PDT_MISUSE}, {"pdt_close", PDT_MISUSE},        {"pdt_begin", PDT_MISUSE},
+      {"pdt_checkpoint_install", PDT_MISUSE}, {"pdt_close", PDT_MISUSE},        {"pdt_fold", PDT_MISUSE},
+      {"pdt_changes", PDT_OK},                {"pdt_changes", PDT_MISSING},     {"pdt_changes", PDT_MISUSE},
+      {"pdt_wait", PDT_OK},                   {"pdt_wait", PDT_MISSING},        {"pdt_prepare", PDT_TOO_OLD},
   };
   bool all = true;
   for (int i = 0; i < CALLS; i++) {

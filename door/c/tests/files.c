@@ -119,7 +119,7 @@ static pdt_store *opened(void) {
 }
 static void set(pdt_store *store, const char *name) {
   pdt_txn *txn = NULL;
-  is("begin", PDT_OK, pdt_begin(store, 1, &txn));
+  is("begin", PDT_OK, pdt_begin(store, &txn));
   is("set", PDT_OK, pdt_set(txn, (int64_t[]){20}, NULL, 0, 1, (int64_t)strlen(name), name));
   is("commit", PDT_OK, pdt_commit(txn, NULL));
 }
@@ -149,7 +149,7 @@ static void recovers(const char *what, const char *folder, const char *name) {
   char text[16] = "";
   is(what, PDT_OK, pdt_recover(folder, NULL, &store));
   if (!store) return;
-  is(what, PDT_OK, pdt_begin(store, 1, &txn));
+  is(what, PDT_OK, pdt_begin(store, &txn));
   is(what, PDT_OK, pdt_get(txn, (int64_t[]){20}, NULL, 0, row, text, sizeof text, NULL));
   is(what, (long long)strlen(name), row[1]);
   is(what, 0, memcmp(text, name, strlen(name)));
@@ -378,7 +378,7 @@ static void large_columns(void) {
   is("its file", 0, stat(path, &about));
   is("it has more than 4 MiB", 1, about.st_size > 5 << 20);
   is("recover", PDT_OK, pdt_recover(folder, NULL, &again));
-  is("begin", PDT_OK, pdt_begin(again, 1, &txn));
+  is("begin", PDT_OK, pdt_begin(again, &txn));
   size_t count = ROWS;
   is("ints", PDT_OK, pdt_ints(txn, 1, 0, found, &count));
   is("how many", ROWS, (long long)count);

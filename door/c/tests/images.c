@@ -65,7 +65,7 @@ static int sum_is(pdt_store *store, int64_t wanted) {
   static int64_t numbers[ROWS + 1];
   int64_t sum = 0;
   size_t count = ROWS + 1;
-  CALL(pdt_begin(store, 1, &txn));
+  CALL(pdt_begin(store, &txn));
   CALL(pdt_ints(txn, 0, 0, numbers, &count));
   for (size_t row = 0; row < count; row++) sum += numbers[row];
   pdt_abort(txn);
@@ -88,14 +88,14 @@ static int run(const char *folder) {
   pdt_store *store;
   pdt_txn *txn;
   CALL(pdt_open_columns(columns, WIDTH, 1, NULL, NULL, &store));
-  CALL(pdt_begin(store, 1, &txn));
+  CALL(pdt_begin(store, &txn));
   CALL(pdt_insert(txn, (int64_t[]){ROWS, 3, 1}, "new", 3));
   CALL(pdt_commit(txn, NULL));
   CALL(checkpoint(store));
   if (sum_is(store, (int64_t)ROWS * (ROWS + 1) / 2)) return 1;
   CALL(pdt_checkpoint(store, folder));
   pdt_snapshot *snapshot;
-  CALL(pdt_begin(store, 1, &txn));
+  CALL(pdt_begin(store, &txn));
   CALL(pdt_set(txn, (int64_t[]){0}, NULL, 0, 1, 3, "set"));
   CALL(pdt_commit(txn, NULL));
   CALL(pdt_checkpoint_begin(store, NULL, &snapshot));

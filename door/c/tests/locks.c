@@ -14,58 +14,118 @@ static void is(const char *what, long long wanted, long long found) {
   fprintf(stderr, "%s: wanted %lld, found %lld\n", what, wanted, found);
 }
 
-/* ---- the lock */
+/* ---- the locks: a store's is one that is tried before it is waited for; the others are those of begins and of pins */
 
-static int holds, takes;  /* how many locks are held, and how often one was taken */
+static int holds, takes;  /* how many locks of stores are held, and how often one was taken */
+static int shorts;        /* how many of the others are held */
+static int kept;          /* how many of the locks of stores a prepared commit of this thread keeps */
 static pdt_store *ending; /* of a checkpoint that ends: it counts until the lock is taken, and keeps its store from closing */
+
+enum { STORES = 16 };
+static const pthread_mutex_t *stores[STORES];
+static int place_of(const pthread_mutex_t *lock) {
+  int at = 0;
+  while (at < STORES && stores[at] != lock) at++;
+  return at;
+}
+static bool is_stores(const pthread_mutex_t *lock) { return place_of(lock) < STORES; }
+
+int __real_pthread_mutex_trylock(pthread_mutex_t *);
 int __real_pthread_mutex_lock(pthread_mutex_t *);
 int __real_pthread_mutex_unlock(pthread_mutex_t *);
-int __wrap_pthread_mutex_lock(pthread_mutex_t *lock) {
+int __real_pthread_mutex_destroy(pthread_mutex_t *);
+int __wrap_pthread_mutex_trylock(pthread_mutex_t *lock) {
   pdt_store *store = ending;
   ending = NULL;
   if (store && pdt_close(store) != PDT_MISUSE) fprintf(stderr, "a checkpoint ends before the lock is taken\n"), exit(1);
-  int bad = __real_pthread_mutex_lock(lock);
+  is("no other lock is held before a store's", 0, shorts);
+  if (!is_stores(lock)) stores[place_of(NULL)] = lock;
+  int bad = __real_pthread_mutex_trylock(lock);
   if (!bad) holds++, takes++;
   return bad;
 }
+int __wrap_pthread_mutex_lock(pthread_mutex_t *lock) {
+  bool of_store = is_stores(lock);
+  int bad = __real_pthread_mutex_lock(lock);
+  if (bad) return bad;
+  if (of_store) holds++, takes++;
+  else is("one of the others at a time", 1, ++shorts);
+  return 0;
+}
 int __wrap_pthread_mutex_unlock(pthread_mutex_t *lock) {
   int bad = __real_pthread_mutex_unlock(lock);
-  if (!bad) holds--;
+  if (!bad) --*(is_stores(lock) ? &holds : &shorts);
   return bad;
 }
+int __wrap_pthread_mutex_destroy(pthread_mutex_t *lock) {
+  if (is_stores(lock)) stores[place_of(lock)] = NULL;
+  return __real_pthread_mutex_destroy(lock);
+}
 
-/* ---- the exports that read or change a store, which want its lock, and those that make or free much, which don't */
+/* ---- the exports that read or change a store, which want its lock; those that make or free much, which want none; and those by
+   which begins and pins share a version, which want one that nothing long is done under */
 
-#define WITH_LOCK(result, name, params, args) WRAPPED(1, result, name, params, args)
-#define WITHOUT_LOCK(result, name, params, args) WRAPPED(0, result, name, params, args)
-#define WRAPPED(lock, result, name, params, args) \
-  result __real_##name params;                    \
-  result __wrap_##name params {                   \
-    is(#name " and the lock", lock, holds);       \
-    return __real_##name args;                    \
+#define WITH_LOCK(result, name, params, args) WRAPPED(1, 0, result, name, params, args)
+#define WITHOUT_LOCK(result, name, params, args) WRAPPED(0, 0, result, name, params, args)
+#define WITHSHORT_LOCK(result, name, params, args) WRAPPED(0, 1, result, name, params, args)
+#define WRAPPED(lock, other, result, name, params, args) \
+  result __real_##name params;                           \
+  result __wrap_##name params {                          \
+    is(#name " and the lock", lock, holds - kept);       \
+    is(#name " and the other lock", other, shorts);      \
+    return __real_##name args;                           \
   }
 WITH_LOCK(uint64_t, pdtr_commits, (void *s), (s))
 WITH_LOCK(size_t, pdtr_write_entries, (void *s), (s))
 WITH_LOCK(size_t, pdtr_read_entries, (void *s), (s))
 WITH_LOCK(uint32_t, pdtr_fold, (void *s), (s))
-WITH_LOCK(void, pdtr_cut, (void *s, void *h), (s, h))
+WITH_LOCK(void, pdtr_cut, (void *s), (s))
+WITH_LOCK(void, pdtr_cut_into, (void *s, void *t), (s, t))
 WITH_LOCK(uint32_t, pdtr_share, (void *s, void *v), (s, v))
 WITH_LOCK(uint32_t, pdtr_checkpoint_begin, (void *s, void *v), (s, v))
 WITH_LOCK(uint32_t, pdtr_restack, (void *s, void *t), (s, t))
 WITH_LOCK(uint32_t, pdtr_begin, (void *s, uint32_t c, void *t), (s, c, t))
 WITH_LOCK(uint32_t, pdtr_commit, (void *s, void *t, uint64_t *n), (s, t, n))
 WITH_LOCK(uint32_t, pdtr_prepare, (void *s, void *t, uint64_t *n, void *d), (s, t, n, d))
-WITH_LOCK(uint32_t, pdtr_install, (void *s, void *t, void *d, uint64_t *n), (s, t, d, n))
-WITH_LOCK(void, pdtr_give_up, (void *d), (d))
 WITH_LOCK(uint32_t, pdtr_read_layer, (void *s, void *l), (s, l))
 WITH_LOCK(uint32_t, pdtr_write_layer, (void *s, void *l), (s, l))
-WITHOUT_LOCK(void, pdtr_history_close, (void *h), (h))
+WITH_LOCK(uint32_t, pdtr_changes, (void *s, uint64_t n, void *l), (s, n, l))
+WITH_LOCK(size_t, pdtr_kept, (void *s), (s))
+WITH_LOCK(size_t, pdtr_change_entries, (void *s, uint64_t n), (s, n))
+WITHOUT_LOCK(uint32_t, pdtr_room, (size_t n, void *t), (n, t))
+WITHOUT_LOCK(void, pdtr_trees_close, (void *t), (t))
 WITHOUT_LOCK(uint32_t, pdtr_snapshot_table, (void *v, void *t), (v, t))
 WITHOUT_LOCK(uint32_t, pdtr_table_image, (void *t, void *i), (t, i))
 WITHOUT_LOCK(size_t, pdtr_image_read, (void *i, size_t c, size_t f, void *o, size_t l), (i, c, f, o, l))
 WITHOUT_LOCK(void, pdtr_image_close, (void *i), (i))
 WITHOUT_LOCK(void, pdtr_table_close, (void *t), (t))
-WITHOUT_LOCK(void, pdtr_snapshot_close, (void *v), (v))
+WITHSHORT_LOCK(uint32_t, pdtr_pin_again, (void *v, void *w), (v, w))
+
+/* What was prepared is done or given up under the lock that was kept. */
+uint32_t __real_pdtr_install(void *, void *, void *, uint64_t *);
+uint32_t __wrap_pdtr_install(void *s, void *t, void *d, uint64_t *n) {
+  is("an install and the lock", 1, holds);
+  is("an install and the other lock", 0, shorts);
+  return __real_pdtr_install(s, t, d, n);
+}
+void __real_pdtr_give_up(void *);
+void __wrap_pdtr_give_up(void *d) {
+  is("giving up and the lock", 1, holds);
+  __real_pdtr_give_up(d);
+}
+
+/* A version is taken of a store under its lock, but while the store is opened: nobody else has it then. */
+static bool opening;
+static int refused; /* how often in turn malloc refuses it */
+static int shared;  /* how often a version was taken, to be shared with begins */
+uint32_t __real_pdtr_pin(void *, void *);
+uint32_t __wrap_pdtr_pin(void *s, void *v) {
+  is("a version and the lock", !opening, holds);
+  is("a version and the other lock", 0, shorts);
+  shared++;
+  if (refused) return refused--, PDT_NOMEM;
+  return __real_pdtr_pin(s, v);
+}
 
 /* ---- an abort: the transaction counts as open until all of it is freed, since its store may be closed then */
 
@@ -79,17 +139,41 @@ static int still_open(void) {
   watched = store;
   return (int)sizes.open_transactions;
 }
+static bool begins; /* a transaction counts as open before it begins, too */
+uint32_t __real_pdtr_begin_at(void *, uint32_t, void *);
+uint32_t __wrap_pdtr_begin_at(void *v, uint32_t c, void *t) {
+  is("a begin and the lock", 0, holds - kept);
+  is("a begin and the other lock", 1, shorts);
+  if (begins) {
+    shorts--; /* as if it weren't held */
+    begins = false;
+    is("open before it begins", 1, still_open());
+    shorts++;
+  }
+  return __real_pdtr_begin_at(v, c, t);
+}
+static pdt_store *pinned; /* it can't be closed until all that its pin has is freed */
+void __real_pdtr_unpin(void *);
+void __wrap_pdtr_unpin(void *v) {
+  is("a version's end and the lock", 0, holds - kept);
+  is("a version's end and the other lock", 0, shorts);
+  if (pinned) is("pinned before it is freed", PDT_MISUSE, pdt_close(pinned));
+  __real_pdtr_unpin(v);
+  if (pinned) is("pinned after that", PDT_MISUSE, pdt_close(pinned));
+}
 void __real_pdtr_abort(void *);
 void __wrap_pdtr_abort(void *txn) {
-  is("an abort and the lock", 0, holds);
+  is("an abort and the lock", 0, holds - kept);
+  is("an abort and the other lock", 0, shorts);
   if (watched) is("open before its entries are freed", 1, still_open());
   __real_pdtr_abort(txn);
   if (watched) is("open after that", 1, still_open());
 }
 void __real_free(void *);
-static long frees_with_lock;
+static long frees, frees_with_lock;
 void __wrap_free(void *at) {
-  frees_with_lock += at && holds;
+  frees += at != NULL;
+  frees_with_lock += at && (holds || shorts);
   if (at && at == freed_last && watched) is("open before it is freed", 1, still_open());
   __real_free(at);
 }
@@ -99,13 +183,15 @@ void __wrap_free(void *at) {
 static const char csv[] = "id:int:key,name:text\n10,Ann\n20,Bob\n";
 static pdt_store *opened(size_t recent) {
   pdt_store *store = NULL;
-  pdt_options options = {recent, 0, false};
+  pdt_options options = {sizeof options, recent, 0, false};
+  opening = true;
   is("open", PDT_OK, pdt_open(csv, sizeof csv - 1, &options, &store));
+  opening = false;
   return store;
 }
 static pdt_txn *begun(pdt_store *store) {
   pdt_txn *txn = NULL;
-  is("begin", PDT_OK, pdt_begin(store, 1, &txn));
+  is("begin", PDT_OK, pdt_begin(store, &txn));
   return txn;
 }
 static pdt_txn *setting(pdt_store *store, const char *name) {
@@ -128,8 +214,11 @@ static void store_calls(const char *room) {
   pdt_store *store = opened(0);
   pdt_sizes sizes;
   pdt_txn *txn = NULL;
-  pdt_layer *read, *write, *own;
+  pdt_layer *read, *write, *own, *feed;
   pdt_snapshot *snapshot;
+  pdt_pinned *pin;
+  pdt_counts counts = {.size = sizeof counts};
+  uint64_t number;
   char folder[320], other[320];
   snprintf(folder, sizeof folder, "%s/one", room);
   snprintf(other, sizeof other, "%s/two", room);
@@ -139,10 +228,20 @@ static void store_calls(const char *room) {
   TAKES(0, 0, pdt_column_type(store, 0));
   TAKES(0, 0, pdt_column_name(store, 0));
   TAKES(1, 0, pdt_size(store, &sizes));
-  TAKES(1, 0, pdt_begin(store, 1, &txn));
+  TAKES(1, 0, pdt_count(store, &counts));
+  TAKES(0, 0, pdt_pin(store, NULL, &pin));
+  TAKES(0, 0, pdt_pinned_commits(pin));
+  TAKES(0, 0, pdt_begin_at(pin, &txn));
+  TAKES(0, 0, pdt_begun(txn, &number));
+  TAKES(0, 0, pdt_unpin(pin));
+  TAKES(0, 0, pdt_commit(txn, NULL)); /* of nothing */
+  TAKES(0, 0, pdt_begin(store, &txn));
   TAKES(0, 0, pdt_set(txn, (int64_t[]){20}, NULL, 0, 1, 3, "Rob"));
   TAKES(0, 0, pdt_own_layer(txn, &own));
   TAKES(1, 0, pdt_commit(txn, NULL));
+  TAKES(1, 0, pdt_changes(store, 1, &feed));
+  TAKES(0, 0, pdt_wait(store, 0, 0, NULL));
+  TAKES(0, 0, pdt_wait(store, 1, 1, NULL));
   TAKES(1, 0, pdt_layers(store, &read, &write));
   TAKES(1, 0, pdt_fold(store));
   TAKES(1, 0, pdt_cut(store));
@@ -159,6 +258,7 @@ static void store_calls(const char *room) {
   TAKES(0, 0, pdt_layer_close(read));
   pdt_layer_close(write);
   pdt_layer_close(own);
+  pdt_layer_close(feed);
   TAKES(1, 0, pdt_close(store));
 }
 
@@ -167,9 +267,24 @@ static void prepared(void) {
   pdt_store *store = opened(0);
   pdt_sizes sizes;
   pdt_txn *txn = setting(store, "Rob");
+  pdt_txn *other;
+  pdt_pinned *pin;
+  pdt_counts counts = {.size = sizeof counts};
   TAKES(1, 1, pdt_prepare(txn, NULL));
   TAKES(0, 0, pdt_size(store, &sizes));
+  TAKES(0, 0, pdt_count(store, &counts));
+  kept = 1;
+  TAKES(0, 0, pdt_begin(store, &other));
+  TAKES(0, 0, pdt_commit(other, NULL)); /* of nothing */
+  TAKES(0, 0, pdt_pin(store, NULL, &pin));
+  TAKES(0, 0, pdt_begin_at(pin, &other));
+  TAKES(0, 0, pdt_abort(other));
+  TAKES(0, 0, pdt_unpin(pin));
+  kept = 0;
   TAKES(0, -1, pdt_install(txn));
+  txn = begun(store);
+  TAKES(0, 0, pdt_prepare(txn, NULL)); /* of nothing */
+  TAKES(0, 0, pdt_install(txn));
   txn = setting(store, "Bert");
   TAKES(1, 1, pdt_prepare(txn, NULL));
   TAKES(0, -1, pdt_give_up(txn));
@@ -181,40 +296,194 @@ static void prepared(void) {
   is("close", PDT_OK, pdt_close(store));
 }
 
-static void aborts(void) {
+static void ends_without_record(void (*end)(pdt_txn *), bool changes) {
   pdt_store *store = opened(0);
-  pdt_txn *txn = setting(store, "Rob");
+  pdt_txn *txn = changes ? setting(store, "Rob") : begun(store);
   watched = store;
   freed_last = txn;
-  pdt_abort(txn);
+  end(txn);
   is("and not after it", 0, still_open());
   watched = NULL;
   freed_last = NULL;
   is("close", PDT_OK, pdt_close(store));
 }
+static void commits(pdt_txn *txn) { is("commit", PDT_OK, pdt_commit(txn, NULL)); }
+static void installs(pdt_txn *txn) {
+  is("prepare", PDT_OK, pdt_prepare(txn, NULL));
+  is("install", PDT_OK, pdt_install(txn));
+}
 
-/* A cut frees the history without the lock: what it frees with it doesn't grow with the history. */
+/* From its begin on a transaction, and until its end a pin, keeps the store from closing. */
+static void counted(void) {
+  pdt_store *store = opened(0);
+  pdt_pinned *pin = NULL;
+  watched = store;
+  begins = true;
+  pdt_txn *txn = begun(store), *other = NULL;
+  is("it has begun", false, begins);
+  watched = NULL;
+  pdt_abort(txn);
+  is("pin", PDT_OK, pdt_pin(store, NULL, &pin));
+  watched = store;
+  begins = true;
+  is("begin at it", PDT_OK, pdt_begin_at(pin, &other));
+  is("it has begun", false, begins);
+  watched = NULL;
+  pdt_abort(other);
+  pinned = store;
+  pdt_unpin(pin);
+  pinned = NULL;
+  is("close", PDT_OK, pdt_close(store));
+}
+
+/* Where malloc refuses to share the newest version the call is done all the same, and the next begin or pin takes the lock once. */
+static void name_is(const char *what, const char *wanted, pdt_txn *txn) {
+  int64_t row[2] = {0, 0};
+  char text[16];
+  is(what, PDT_OK, pdt_get(txn, (int64_t[]){20}, NULL, 0, row, text, sizeof text, NULL));
+  is(what, (long long)strlen(wanted), row[1]);
+  is(what, 0, memcmp(wanted, text, strlen(wanted)));
+  pdt_abort(txn);
+}
+static void shares_again(const char *what, pdt_store *store, const char *name, uint64_t number) {
+  pdt_txn *txn = NULL;
+  pdt_pinned *pin = NULL;
+  uint64_t found = 77;
+  TAKES(1, 0, pdt_begin(store, &txn));
+  is(what, PDT_OK, pdt_begun(txn, &found));
+  is(what, (long long)number, (long long)found);
+  name_is(what, name, txn);
+  TAKES(0, 0, pdt_begin(store, &txn));
+  name_is(what, name, txn);
+  refused = 1;
+  is(what, PDT_OK, pdt_fold(store));
+  is(what, 0, refused);
+  TAKES(1, 0, pdt_pin(store, &found, &pin));
+  is(what, (long long)number, (long long)found);
+  TAKES(0, 0, pdt_begin_at(pin, &txn));
+  pdt_unpin(pin);
+  name_is(what, name, txn);
+  TAKES(0, 0, pdt_begin(store, &txn));
+  name_is(what, name, txn);
+}
+static void unshared(void) {
+  pdt_store *store = opened(0);
+  pdt_txn *txn = NULL;
+  pdt_pinned *pin = (pdt_pinned *)&txn;
+  refused = 1;
+  is("commit", PDT_OK, pdt_commit(setting(store, "Rob"), NULL));
+  is("it was refused", 0, refused);
+  shares_again("after a commit", store, "Rob", 1);
+  txn = setting(store, "Bert");
+  is("prepare", PDT_OK, pdt_prepare(txn, NULL));
+  refused = 1;
+  is("install", PDT_OK, pdt_install(txn));
+  is("it was refused", 0, refused);
+  shares_again("after an install", store, "Bert", 2);
+  refused = 2;
+  is("commit", PDT_OK, pdt_commit(setting(store, "Zoe"), NULL));
+  is("a pin that is refused it too", PDT_NOMEM, pdt_pin(store, NULL, &pin));
+  is("null then", 1, pin == NULL);
+  is("it was refused", 0, refused);
+  shares_again("after that", store, "Zoe", 3);
+  refused = 3;
+  is("commit", PDT_OK, pdt_commit(setting(store, "Eve"), NULL));
+  for (int i = 0; i < 2; i++) {
+    TAKES(1, 0, pdt_begin(store, &txn));
+    name_is("a begin that is refused it too", "Eve", txn);
+  }
+  is("it was refused", 0, refused);
+  is("a wait", PDT_OK, pdt_wait(store, 3, 0, NULL));
+  shares_again("after that", store, "Eve", 4);
+  refused = 1;
+  is("fold", PDT_OK, pdt_fold(store));
+  pdt_txn *prepared = setting(store, "Ida"); /* shares it again */
+  is("prepare", PDT_OK, pdt_prepare(prepared, NULL));
+  is("give up", PDT_OK, pdt_give_up(prepared));
+  refused = 1;
+  is("fold", PDT_OK, pdt_fold(store));
+  TAKES(1, 1, pdt_prepare(prepared, NULL));
+  TAKES(0, 0, pdt_begin(store, &txn)); /* this thread has the lock already */
+  kept = 1;
+  name_is("beside what is prepared", "Eve", txn);
+  TAKES(0, 0, pdt_begin(store, &txn));
+  name_is("beside what is prepared", "Eve", txn);
+  kept = 0;
+  TAKES(0, -1, pdt_abort(prepared));
+  refused = 1;
+  is("fold", PDT_OK, pdt_fold(store));
+  shares_again("after a give-up", store, "Eve", 4);
+  opening = true;
+  refused = 1;
+  pdt_store *other = NULL;
+  is("open", PDT_OK, pdt_open(csv, sizeof csv - 1, NULL, &other));
+  opening = false;
+  is("it was refused", 0, refused);
+  shares_again("after an opening", other, "Bob", 0);
+  refused = 1;
+  is("commit", PDT_OK, pdt_commit(setting(store, "Una"), NULL));
+  is("close a store that isn't shared", PDT_OK, pdt_close(store));
+  is("close", PDT_OK, pdt_close(other));
+}
+
+/* What makes the newest version anew shares it once: else begins go on with the older one, and keep all that it has. */
+#define SHARES(wanted, call)                                \
+  do {                                                      \
+    shared = 0;                                             \
+    is(#call, PDT_OK, call);                                \
+    is(#call " shares what is newest then", wanted, shared); \
+  } while (0)
+static void shares(const char *room) {
+  pdt_store *store = opened(0);
+  pdt_snapshot *snapshot = NULL;
+  pdt_txn *txn = NULL;
+  char folder[320];
+  snprintf(folder, sizeof folder, "%s/three", room);
+  is("mkdir", 0, mkdir(folder, 0777));
+  SHARES(0, pdt_begin(store, &txn));
+  SHARES(0, pdt_commit(txn, NULL)); /* of nothing */
+  txn = setting(store, "Rob");
+  SHARES(1, pdt_commit(txn, NULL));
+  txn = setting(store, "Bert");
+  SHARES(0, pdt_prepare(txn, NULL));
+  SHARES(1, pdt_install(txn));
+  SHARES(1, pdt_fold(store));
+  SHARES(0, pdt_cut(store));
+  SHARES(1, pdt_checkpoint_begin(store, NULL, &snapshot));
+  SHARES(0, pdt_checkpoint_write(snapshot, folder));
+  SHARES(1, pdt_checkpoint_install(snapshot));
+  pdt_checkpoint_end(snapshot);
+  is("close", PDT_OK, pdt_close(store));
+}
+
+/* A cut frees the changes of the last commits without the lock: what it frees with it doesn't grow with them. */
 static void cuts(void) {
-  pdt_store *store = opened(1);
-  long few = 0, many = 0;
+  pdt_store *store = opened(2000);
+  long few = 0, all = 0;
   for (int i = 0; i < 10; i++) is("commit", PDT_OK, pdt_commit(setting(store, "Rob"), NULL));
   frees_with_lock = 0;
   is("cut", PDT_OK, pdt_cut(store));
   few = frees_with_lock;
   for (int i = 0; i < 1000; i++) is("commit", PDT_OK, pdt_commit(setting(store, "Rob"), NULL));
-  frees_with_lock = 0;
+  frees_with_lock = frees = 0;
   is("cut", PDT_OK, pdt_cut(store));
-  many = frees_with_lock;
-  is("blocks that a cut frees with the lock", few, many);
+  all = frees;
+  is("blocks that a cut frees with the lock", few, frees_with_lock);
+  is("and without it, one at least for each commit", 1, all >= 1000);
   is("close", PDT_OK, pdt_close(store));
 }
 
 int main(int argc, char **argv) {
   if (argc != 2) return fprintf(stderr, "locks FOLDER: one that is empty\n"), 2;
   store_calls(argv[1]);
+  shares(argv[1]);
   prepared();
-  aborts();
+  ends_without_record(pdt_abort, true);
+  ends_without_record(commits, false);
+  ends_without_record(installs, false);
+  counted();
+  unshared();
   cuts();
-  is("locks that are held", 0, holds);
+  is("locks that are held", 0, holds + shorts);
   return failures ? 1 : 0;
 }

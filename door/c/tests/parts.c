@@ -25,7 +25,7 @@ static pdt_store *opened(void) {
 }
 static pdt_txn *begun(pdt_store *store) {
   pdt_txn *txn = NULL;
-  is("begin", PDT_OK, pdt_begin(store, 7, &txn));
+  is("begin", PDT_OK, pdt_begin(store, &txn));
   return txn;
 }
 static pdt_txn *setting(pdt_store *store, int64_t key, int64_t qty) {
@@ -58,10 +58,36 @@ static void make_folder(char *folder, size_t len, const char *room, const char *
 
 /* ---- a commit in two parts */
 
+/* What a thread may do while it has a commit of this store prepared, which is to be number 1. */
+static void goes_on_beside(pdt_store *store, pdt_txn *prepared) {
+  pdt_txn *txn = NULL;
+  pdt_pinned *pin = NULL;
+  pdt_counts counts = {.size = sizeof counts};
+  uint64_t number = 77;
+  newest_is("a begin, and the table before", store, 1, 2, 3);
+  is("pin", PDT_OK, pdt_pin(store, &number, &pin));
+  is("its number", 0, (long long)number);
+  is("begin at it", PDT_OK, pdt_begin_at(pin, &txn));
+  is("the table before", 1, qty_of(txn, 10));
+  is("a write", PDT_OK, pdt_set(txn, &(int64_t){30}, NULL, 0, 1, 9, NULL));
+  is("no commit", PDT_MISUSE, pdt_commit(txn, NULL));
+  is("no second prepare", PDT_MISUSE, pdt_prepare(txn, NULL));
+  pdt_abort(txn);
+  pdt_unpin(pin);
+  is("one that changes nothing ends", PDT_OK, pdt_commit(begun(store), &number));
+  is("the number that it saw", 0, (long long)number);
+  is("counts", PDT_OK, pdt_count(store, &counts));
+  is("no commit yet", 0, (long long)counts.commits);
+  is("a wait ends", PDT_MISSING, pdt_wait(store, 0, 1, &number));
+  is("the newest number", 0, (long long)number);
+  is("what it was begun at", PDT_OK, pdt_begun(prepared, &number));
+  is("number", 0, (long long)number);
+}
+
 static void prepares(void) {
   pdt_store *store = opened(), *other = opened();
   pdt_txn *txn = setting(store, 10, 5), *late = setting(store, 10, 6), *third = setting(store, 20, 7);
-  pdt_txn *elsewhere = setting(other, 10, 9), *again;
+  pdt_txn *elsewhere = setting(other, 10, 9);
   pdt_layer *read, *write;
   pdt_snapshot *snapshot;
   uint64_t number = 77;
@@ -80,14 +106,15 @@ static void prepares(void) {
   is("prepare another", PDT_MISUSE, pdt_prepare(late, NULL));
   is("commit it", PDT_MISUSE, pdt_commit(txn, NULL));
   is("commit another", PDT_MISUSE, pdt_commit(late, NULL));
-  is("begin", PDT_MISUSE, pdt_begin(store, 1, &again));
-  is("null then", 1, again == NULL);
   is("fold", PDT_MISUSE, pdt_fold(store));
   is("cut", PDT_MISUSE, pdt_cut(store));
   is("layers", PDT_MISUSE, pdt_layers(store, &read, &write));
   is("checkpoint", PDT_MISUSE, pdt_checkpoint(store, "/nowhere"));
   is("begin a checkpoint", PDT_MISUSE, pdt_checkpoint_begin(store, NULL, &snapshot));
+  is("changes", PDT_MISUSE, pdt_changes(store, 1, &read));
+  is("null then", 1, read == NULL);
   is("close", PDT_MISUSE, pdt_close(store));
+  goes_on_beside(store, txn);
   is("a write", PDT_MISUSE, pdt_set(txn, &key, NULL, 0, 1, 0, NULL));
   is("an insert", PDT_MISUSE, pdt_insert(txn, (int64_t[]){40, 4}, NULL, 0));
   is("a delete", PDT_MISUSE, pdt_delete(txn, &key, NULL, 0));
@@ -123,8 +150,7 @@ typedef struct {
   pdt_txn *prepared; /* by another thread */
   pdt_txn *open;     /* by another thread too */
   pthread_mutex_t lock;
-  int has_begun;
-  long long seen;
+  int has_ended;
 } waiting;
 
 static void *ends_anothers(void *arg) {
@@ -136,21 +162,23 @@ static void *ends_anothers(void *arg) {
   return NULL;
 }
 
-static void *waits(void *arg) {
+static void *commits_too(void *arg) {
   waiting *w = arg;
-  pdt_txn *txn = begun(w->store);
+  newest_is("a begin doesn't wait, and sees the table before", w->store, 1, 2, 3);
+  pdt_txn *txn = setting(w->store, 20, 8);
+  uint64_t number = 77;
+  is("a commit waits", PDT_OK, pdt_commit(txn, &number));
+  is("and comes after", 2, (long long)number);
   pthread_mutex_lock(&w->lock);
-  w->has_begun = 1;
+  w->has_ended = 1;
   pthread_mutex_unlock(&w->lock);
-  w->seen = qty_of(txn, 10);
-  pdt_abort(txn);
   return NULL;
 }
 
-/* Another thread can't end what is prepared, and its abort of what isn't waits for nothing; its begin waits, and sees the
-   commit. */
-static void begins_wait(void) {
-  waiting w = {opened(), NULL, NULL, PTHREAD_MUTEX_INITIALIZER, 0, -1};
+/* Another thread can't end what is prepared, and its abort of what isn't waits for nothing; its begin doesn't wait either, and its
+   commit does. */
+static void commits_wait(void) {
+  waiting w = {opened(), NULL, NULL, PTHREAD_MUTEX_INITIALIZER, 0};
   w.prepared = setting(w.store, 10, 5);
   w.open = begun(w.store);
   pthread_t thread;
@@ -160,15 +188,15 @@ static void begins_wait(void) {
   pdt_sizes sizes;
   is("size", PDT_OK, pdt_size(w.store, &sizes));
   is("open are", 1, (long long)sizes.open_transactions);
-  if (pthread_create(&thread, NULL, waits, &w)) exit(1);
+  if (pthread_create(&thread, NULL, commits_too, &w)) exit(1);
   nanosleep(&(struct timespec){0, 50000000}, NULL);
   pthread_mutex_lock(&w.lock);
-  is("it waits", 0, w.has_begun);
+  is("it waits", 0, w.has_ended);
   pthread_mutex_unlock(&w.lock);
   is("install", PDT_OK, pdt_install(w.prepared));
   pthread_join(thread, NULL);
-  is("it sees the commit", 5, w.seen);
-  pdt_close(w.store);
+  newest_is("both are there", w.store, 5, 8, 3);
+  is("close", PDT_OK, pdt_close(w.store));
 }
 
 /* ---- an engine with a log: a line for each commit, written between its parts */
@@ -281,6 +309,29 @@ static void checkpoints(const char *room) {
   is("close", PDT_OK, pdt_close(store));
 }
 
+/* What begins after an install reads the new stable table: no row of it is a change any more. */
+static void reads_stable(const char *room) {
+  char folder[512];
+  make_folder(folder, sizeof folder, room, "stable");
+  pdt_store *store = opened();
+  pdt_snapshot *snapshot = NULL;
+  pdt_piece pieces[3];
+  is("commit", PDT_OK, pdt_commit(setting(store, 20, 5), NULL));
+  is("begin", PDT_OK, pdt_checkpoint_begin(store, NULL, &snapshot));
+  is("write", PDT_OK, pdt_checkpoint_write(snapshot, folder));
+  for (int installed = 0; installed < 2; installed++) {
+    if (installed) is("install", PDT_OK, pdt_checkpoint_install(snapshot));
+    pdt_txn *txn = begun(store);
+    size_t count = 3;
+    is("pieces", PDT_OK, pdt_pieces(txn, 1, 0, 3, pieces, &count, NULL));
+    is("a row, a change and a row; or three rows that stand together", installed ? 1 : 3, (long long)count);
+    pdt_abort(txn);
+  }
+  is("as they were committed", 1, pieces[0].at && pieces[0].at[0] == 1 && pieces[0].at[1] == 5 && pieces[0].at[2] == 3);
+  pdt_checkpoint_end(snapshot);
+  is("close", PDT_OK, pdt_close(store));
+}
+
 /* A checkpoint that can't be written leaves the layers, and the other checkpoint, as they were. */
 static void failed_checkpoints(const char *room) {
   char folder[512], full[512];
@@ -326,17 +377,17 @@ static void commits_in_the_middle(void) {
 }
 
 /* What comes between a begin and its install. */
-static int fold(pdt_store *store, const char *folder) { return (void)folder, pdt_fold(store); }
-static int cut(pdt_store *store, const char *folder) { return (void)folder, pdt_cut(store); }
-static int commit(pdt_store *store, const char *folder) { return (void)folder, pdt_commit(setting(store, 20, 9), NULL); }
-static int begin(pdt_store *store, const char *folder) {
+static pdt_code fold(pdt_store *store, const char *folder) { return (void)folder, pdt_fold(store); }
+static pdt_code cut(pdt_store *store, const char *folder) { return (void)folder, pdt_cut(store); }
+static pdt_code commit(pdt_store *store, const char *folder) { return (void)folder, pdt_commit(setting(store, 20, 9), NULL); }
+static pdt_code begin(pdt_store *store, const char *folder) {
   pdt_snapshot *snapshot;
-  int code = pdt_checkpoint_begin(store, NULL, &snapshot);
+  pdt_code code = pdt_checkpoint_begin(store, NULL, &snapshot);
   return (void)folder, pdt_checkpoint_end(code ? NULL : snapshot), code;
 }
-static int prepare(pdt_store *store, const char *folder) {
+static pdt_code prepare(pdt_store *store, const char *folder) {
   pdt_txn *txn = setting(store, 20, 9);
-  int code = pdt_prepare(txn, NULL);
+  pdt_code code = pdt_prepare(txn, NULL);
   pdt_abort(txn);
   return (void)folder, code;
 }
@@ -345,14 +396,14 @@ static int takes_all(void *context, size_t column, const uint8_t *bytes, size_t 
   return (void)context, (void)column, (void)bytes, (void)len, 0;
 }
 
-static int checkpoint_to(pdt_store *store, const char *folder) {
+static pdt_code checkpoint_to(pdt_store *store, const char *folder) {
   return (void)folder, pdt_checkpoint_to(store, takes_all, NULL, NULL);
 }
 
 static void comes_between(const char *room) {
   static const struct {
     const char *name;
-    int (*call)(pdt_store *, const char *);
+    pdt_code (*call)(pdt_store *, const char *);
     int code;
     long long qty;
   } cases[] = {
@@ -386,8 +437,8 @@ static void comes_between(const char *room) {
 
 int main(int argc, char **argv) {
   prepares();
-  begins_wait();
-  if (argc > 1) recovers(argv[1]), checkpoints(argv[1]), comes_between(argv[1]), failed_checkpoints(argv[1]);
+  commits_wait();
+  if (argc > 1) recovers(argv[1]), checkpoints(argv[1]), reads_stable(argv[1]), comes_between(argv[1]), failed_checkpoints(argv[1]);
   commits_in_the_middle();
   return failures ? 1 : 0;
 }

@@ -37,7 +37,7 @@ static pdt_store *opened(void) {
 }
 static pdt_txn *begun(pdt_store *store) {
   pdt_txn *txn = NULL;
-  is("begin", PDT_OK, pdt_begin(store, 1, &txn));
+  is("begin", PDT_OK, pdt_begin(store, &txn));
   return txn;
 }
 static int set(pdt_txn *txn, int64_t key, int64_t qty) { return pdt_set(txn, &key, NULL, 0, 2, qty, NULL); }
@@ -61,6 +61,7 @@ static void beside(void *(*work)(void *), void *with, void (*meanwhile)(void *))
 typedef struct {
   pdt_store *store;
   pdt_txn *txn;
+  pdt_pinned *pin;
   pdt_snapshot *snapshot;
   pdt_layer *layer;
   const pdt_piece *pieces;
@@ -86,6 +87,21 @@ static void *uses_store(void *with) {
     set(txn, i, -i);
     if (i % 3) pdt_abort(txn);
     else pdt_commit(txn, NULL);
+    pdt_pinned *pin = NULL;
+    pdt_layer *changes = NULL;
+    pdt_counts counts = {.size = sizeof counts};
+    uint64_t number = 0;
+    is("pin", PDT_OK, pdt_pin(store, &number, &pin));
+    is("begin at", PDT_OK, pdt_begin_at(pin, &txn));
+    pdt_unpin(pin);
+    pdt_abort(txn);
+    int code = pdt_changes(store, number, &changes);
+    is("changes", true, code == PDT_OK || code == PDT_MISSING);
+    pdt_layer_close(changes);
+    is("counts", PDT_OK, pdt_count(store, &counts));
+    is("a pin each at most", true, counts.pins <= 1);
+    code = pdt_wait(store, number, 0, &number);
+    is("wait", true, code == PDT_OK || code == PDT_MISSING);
     is("layers", PDT_OK, pdt_layers(store, &read, &write));
     pdt_layer_close(read), pdt_layer_close(write);
     if (i % 20 == 0) is("fold", PDT_OK, pdt_fold(store));
@@ -96,6 +112,21 @@ static void *uses_store(void *with) {
   return NULL;
 }
 static void uses_store_too(void *with) { uses_store(with); }
+
+/* ---- a pin: any threads begin at it at once, while others commit; a transaction that began at it is one thread's */
+
+static void *begins_at(void *with) {
+  shared *s = with;
+  for (int i = 0; i < ROUNDS; i++) {
+    pdt_txn *txn = NULL;
+    is("begin at", PDT_OK, pdt_begin_at(s->pin, &txn));
+    is("what was there", i, qty_of(txn, i));
+    is("set", PDT_OK, set(txn, i, -7));
+    is("number", 0, (long long)pdt_pinned_commits(s->pin));
+    pdt_abort(txn);
+  }
+  return NULL;
+}
 
 /* ---- transactions: one thread each, side by side; and one after the other */
 
@@ -182,6 +213,10 @@ static void changes_all(void *with) {
   is("begin a checkpoint", PDT_OK, pdt_checkpoint_begin(s->store, NULL, &snapshot));
   pdt_checkpoint_end(snapshot);
 }
+static void begins_and_changes(void *with) {
+  changes_all(with);
+  begins_at(with);
+}
 static void lent(shared *s) {
   static pdt_piece pieces[ROWS];
   static const char *texts[ROWS];
@@ -220,15 +255,20 @@ static void forks(void) {
   pdt_txn *txn = begun(store);
   is("set", PDT_OK, set(txn, 1, 5));
   is("prepare", PDT_OK, pdt_prepare(txn, NULL));
+  pdt_txn *idle = begun(store);
+  is("prepare what changes nothing", PDT_OK, pdt_prepare(idle, NULL));
   pid_t child = fork();
   if (!child) {
     int bad = pdt_install(txn) != PDT_MISUSE || pdt_give_up(txn) != PDT_MISUSE;
+    bad |= pdt_install(idle) != PDT_MISUSE || pdt_give_up(idle) != PDT_MISUSE;
     pdt_abort(txn); /* does nothing */
+    pdt_abort(idle);
     _exit(bad);
   }
   int status = -1;
   waitpid(child, &status, 0);
   is("a child of fork", 0, status);
+  is("install what changes nothing", PDT_OK, pdt_install(idle));
   is("install", PDT_OK, pdt_install(txn));
   is("close", PDT_OK, pdt_close(store));
 }
@@ -256,6 +296,11 @@ int main(int argc, char **argv) {
   beside(writes_it, &s, commits);
   beside(installs_it, &s, NULL);
   beside(ends_it, &s, commits);
+  is("close", PDT_OK, pdt_close(s.store));
+  s.store = opened();
+  is("pin", PDT_OK, pdt_pin(s.store, NULL, &s.pin));
+  beside(begins_at, &s, begins_and_changes);
+  pdt_unpin(s.pin);
   is("close", PDT_OK, pdt_close(s.store));
   s.store = opened();
   lent(&s);

@@ -49,7 +49,7 @@ static pdt_store *opened(void) {
 }
 static pdt_txn *begun(pdt_store *store) {
   pdt_txn *txn = NULL;
-  is("begin", PDT_OK, pdt_begin(store, 7, &txn));
+  is("begin", PDT_OK, pdt_begin(store, &txn));
   return txn;
 }
 static void rename_row(pdt_txn *txn, int64_t key, const char *name) {

@@ -28,9 +28,9 @@ static int64_t sum_of_layers(void) {
   return sum;
 }
 
-static int commit(pdt_txn *txn, bool in_parts) {
+static pdt_code commit(pdt_txn *txn, bool in_parts) {
   if (!in_parts) return pdt_commit(txn, NULL);
-  int code = pdt_prepare(txn, NULL);
+  pdt_code code = pdt_prepare(txn, NULL);
   return code ? code : pdt_install(txn);
 }
 
@@ -40,7 +40,7 @@ static void *adds(void *arg) {
   for (int i = 0; i < ADDS;) {
     pdt_txn *txn;
     int64_t key = (i * 7 + (int)client) % ROWS, row[2];
-    if (pdt_begin(store, client, &txn)) return "begin";
+    if (pdt_begin(store, &txn)) return "begin";
     if (pdt_get(txn, &key, NULL, 0, row, NULL, 0, NULL)) return "get";
     if (pdt_set(txn, &key, NULL, 0, 1, row[1] + 1, NULL)) return "set";
     int code = commit(txn, client % 2);
@@ -69,7 +69,7 @@ int main(void) {
   pdt_txn *txn;
   int64_t sums[ROWS], sum = 0;
   size_t count = ROWS;
-  if (pdt_begin(store, 0, &txn) || pdt_ints(txn, 1, 0, sums, &count)) return 1;
+  if (pdt_begin(store, &txn) || pdt_ints(txn, 1, 0, sums, &count)) return 1;
   for (size_t i = 0; i < count; i++) sum += sums[i];
   pdt_abort(txn);
   if (pdt_close(store)) return fprintf(stderr, "a transaction is still open\n"), 1;

@@ -1,30 +1,31 @@
 //! A checkpoint while transactions commit: begun under the lock, made and written without it, and installed under it.
 ghost use Rattle.std.specs.Prelude.{◌≡◌, ◌≢◌, IfOk, IsSome, IfSome, MatchResult, Some, None};
-ghost use Rattle.txn.specs.Version.{numbered, table_version};
-ghost use Rattle.manager.specs.Managed.{HasFolded, newest_number, newest_version};
+ghost use Rattle.txn.specs.Version.{table_version};
+ghost use Rattle.manager.specs.Managed.{HasFolded, newest_version};
+ghost use Rattle.manager.specs.Pinned.{pin_of};
 ghost use Rattle.manager.specs.Restacked.{restacked_of, stable_below, stable_of};
 ghost use Rattle.pdt_c.specs.declared.codes.TheConstants.{DONE};
 
-use crate::checkpoint::Checkpoint;
-use crate::checkpoints::stored_columns;
+use crate::calls::images::stored_columns;
 use crate::codes::{DONE, NO_MEMORY, code_of_store};
-use crate::next_table::{MadeTable, NextTable};
-use crate::snapshot::{SharedVersion, Snapshot};
-use crate::store::Store;
-use crate::{checkpoint, next_table, snapshot, store};
-use manager::Manager;
+use crate::handles::image::Image;
+use crate::handles::next_table::{MadeTable, NextTable};
+use crate::handles::pin::PinnedTable;
+use crate::handles::store::Store;
+use crate::handles::{image, next_table, pin, store};
+use manager::{Manager, Pin};
 use std::alloc::Global;
 use std::sync::Arc;
 use values::NoMemory;
 
 /// Puts the newest version into a handle that holds nothing, under the layers that a fold would make. Nothing changes.
 #[unsafe(no_mangle)]
-pub extern "C" fn pdtr_share(alloc: Global, store: &mut Store, snapshot: &mut Snapshot) -> u32
+pub extern "C" fn pdtr_share(alloc: Global, store: &mut Store, snapshot: &mut PinnedTable) -> u32
     requires { IsSome store.old.value }
     ensures kept { store.new.value ≡ store.old.value }
     ensures held { result ≡ DONE → IsSome snapshot.new.value }
     ensures shared { result ≡ DONE → IfSome store.old.value (λ m. IfSome snapshot.new.value (λ v.
-        table_version v ≡ newest_version m)) }
+        table_version v.version ≡ newest_version m)) }
     ensures refused { result ≢ DONE → snapshot.new.value ≡ snapshot.old.value }
 {
     let manager = store::take(alloc, store);
@@ -32,7 +33,7 @@ pub extern "C" fn pdtr_share(alloc: Global, store: &mut Store, snapshot: &mut Sn
     store::put(store, manager);
     match shared {
         Ok(version) => {
-            snapshot::put(snapshot, version);
+            pin::put(snapshot, version);
             DONE
         }
         Err(NoMemory) => NO_MEMORY,
@@ -40,11 +41,11 @@ pub extern "C" fn pdtr_share(alloc: Global, store: &mut Store, snapshot: &mut Sn
 }
 
 /// The newest version as a fold would leave it.
-fn share(alloc: Global, manager: &Manager) -> Result<Box<SharedVersion>, NoMemory>
-    ensures { IfOk result (λ v. table_version v.value ≡ newest_version manager.now) }
+fn share(alloc: Global, manager: &Manager) -> Result<Box<Pin>, NoMemory>
+    ensures { IfOk result (λ v. table_version v.value.version ≡ newest_version manager.now) }
 {
     let folded = manager.prepare_fold()?;
-    let shared = SharedVersion::of(manager, &folded)?;
+    let shared = manager.pin_folded(&folded)?;
     let boxed = Box::new(alloc, shared)?;
     Ok(boxed)
 }
@@ -55,16 +56,16 @@ fn share(alloc: Global, manager: &Manager) -> Result<Box<SharedVersion>, NoMemor
 pub extern "C" fn pdtr_checkpoint_begin(
     alloc: Global,
     store: &mut Store,
-    snapshot: &mut Snapshot,
+    snapshot: &mut PinnedTable,
 ) -> u32
     requires { IsSome store.old.value }
     ensures held { IsSome store.new.value }
     ensures begun { result ≡ DONE → IsSome snapshot.new.value }
     ensures folded { result ≡ DONE → IfSome store.old.value (λ m. IfSome store.new.value (HasFolded m)) }
     ensures version { result ≡ DONE → IfSome store.new.value (λ n.
-        snapshot.new.value ≡ Some (numbered n.layers (newest_number n))) }
+        snapshot.new.value ≡ Some (pin_of n)) }
     ensures below { result ≡ DONE → IfSome store.new.value (λ n. IfSome snapshot.new.value (λ v.
-        stable_of v ≡ stable_below n.layers)) }
+        stable_of v.version ≡ stable_below n.layers)) }
     ensures refused { result ≢ DONE → (store.new.value ≡ store.old.value) × (snapshot.new.value ≡ snapshot.old.value) }
 {
     let mut manager = store::take(alloc, store);
@@ -72,7 +73,7 @@ pub extern "C" fn pdtr_checkpoint_begin(
     store::put(store, manager);
     match begun {
         Ok(version) => {
-            snapshot::put(snapshot, version);
+            pin::put(snapshot, version);
             DONE
         }
         Err(NoMemory) => NO_MEMORY,
@@ -80,13 +81,13 @@ pub extern "C" fn pdtr_checkpoint_begin(
 }
 
 /// Folds, and shares the version then: nothing changes before all that it needs is made.
-fn begin(alloc: Global, manager: &mut Manager) -> Result<Box<SharedVersion>, NoMemory>
+fn begin(alloc: Global, manager: &mut Manager) -> Result<Box<Pin>, NoMemory>
     ensures folded { MatchResult result (λ _. HasFolded manager.old manager.new) (λ _. manager.new ≡ manager.old) }
-    ensures version { IfOk result (λ v. v.value ≡ numbered manager.new.layers (newest_number manager.new)) }
-    ensures below { IfOk result (λ v. stable_of v.value ≡ stable_below manager.new.layers) }
+    ensures version { IfOk result (λ v. v.value ≡ pin_of manager.new) }
+    ensures below { IfOk result (λ v. stable_of v.value.version ≡ stable_below manager.new.layers) }
 {
     let folded = manager.prepare_fold()?;
-    let shared = SharedVersion::of(manager, &folded)?;
+    let shared = manager.pin_folded(&folded)?;
     let boxed = Box::new(alloc, shared)?;
     manager.install_fold(folded);
     Ok(boxed)
@@ -96,17 +97,17 @@ fn begin(alloc: Global, manager: &mut Manager) -> Result<Box<SharedVersion>, NoM
 #[unsafe(no_mangle)]
 pub extern "C" fn pdtr_snapshot_table(
     alloc: Global,
-    snapshot: &mut Snapshot,
+    snapshot: &mut PinnedTable,
     table: &mut NextTable,
 ) -> u32
     requires { IsSome snapshot.old.value }
     ensures kept { snapshot.new.value ≡ snapshot.old.value }
-    ensures done { result ≡ DONE → IfSome snapshot.old.value (λ v. table.new.value ≡ Some (stable_of v)) }
+    ensures done { result ≡ DONE → IfSome snapshot.old.value (λ v. table.new.value ≡ Some (stable_of v.version)) }
     ensures refused { result ≢ DONE → table.new.value ≡ table.old.value }
 {
-    let version = snapshot::take(alloc, snapshot);
+    let version = pin::take(alloc, snapshot);
     let made = table_of(alloc, &version);
-    snapshot::put(snapshot, version);
+    pin::put(snapshot, version);
     match made {
         Ok(made) => {
             next_table::put(table, made);
@@ -116,20 +117,16 @@ pub extern "C" fn pdtr_snapshot_table(
     }
 }
 
-fn table_of(alloc: Global, version: &SharedVersion) -> Result<Box<MadeTable>, NoMemory>
-    ensures { IfOk result (λ made. made.value ≡ stable_of version.now) }
+fn table_of(alloc: Global, version: &Pin) -> Result<Box<MadeTable>, NoMemory>
+    ensures { IfOk result (λ made. made.value ≡ stable_of version.now.version) }
 {
-    let table = Arc::new(alloc, version.table(alloc)?)?;
+    let table = Arc::new(alloc, version.to_table(alloc)?)?;
     Ok(Box::new(alloc, MadeTable { table })?)
 }
 
 /// Puts the bytes that store a table, those of each column for itself, into a handle that holds nothing.
 #[unsafe(no_mangle)]
-pub extern "C" fn pdtr_table_image(
-    alloc: Global,
-    table: &mut NextTable,
-    image: &mut Checkpoint,
-) -> u32
+pub extern "C" fn pdtr_table_image(alloc: Global, table: &mut NextTable, image: &mut Image) -> u32
     requires { IsSome table.old.value }
     ensures kept { table.new.value ≡ table.old.value }
     ensures done { result ≡ DONE → IsSome image.new.value }
@@ -140,7 +137,7 @@ pub extern "C" fn pdtr_table_image(
     next_table::put(table, made);
     match stored {
         Ok(columns) => {
-            checkpoint::put(image, columns);
+            image::put(image, columns);
             DONE
         }
         Err(fault) => code_of_store(fault),
@@ -168,15 +165,6 @@ pub extern "C" fn pdtr_restack(alloc: Global, store: &mut Store, table: &mut Nex
     next_table::put(table, made);
     store::put(store, manager);
     code
-}
-
-/// Lets a version go.
-#[unsafe(no_mangle)]
-pub extern "C" fn pdtr_snapshot_close(alloc: Global, snapshot: &mut Snapshot)
-    requires { IsSome snapshot.old.value }
-    ensures { snapshot.new.value ≡ None }
-{
-    let _version = snapshot::take(alloc, snapshot);
 }
 
 /// Lets a table go: a manager that has it as its stable table keeps it.

@@ -1,20 +1,24 @@
-//! The entries of a layer, shown to C in order: those of the newest version's Read- and Write-PDT, and a transaction's own.
-ghost use Rattle.std.specs.Prelude.{◌≡◌, ◌≢◌, ◌<◌, ◌≤◌, ◌⊎◌, IsSome, IfSome, Some, None, length, slice_get, take};
+//! The entries of a layer, shown to C in order: those of the newest version's Read- and Write-PDT, of a commit, and a
+//! transaction's own.
+ghost use Rattle.std.specs.Prelude.{◌≡◌, ◌≢◌, ◌-◌, ◌<◌, ◌≤◌, ◌⊎◌, IsSome, IfSome, Some, None, length, slice_get, take};
 ghost use Rattle.model.specs.Entries.{IsLawful};
+ghost use Rattle.model.specs.Merging.{merged_rows};
 ghost use Rattle.model.specs.Places.{rid_of_insert};
 ghost use Rattle.delta.specs.Lent.{change_of};
 ghost use Rattle.txn.specs.Txn.{tree_of};
+ghost use Rattle.manager.specs.Kept.{kept_tree, kept_trees, rows_at};
 ghost use Rattle.pdt_c.specs.Cells.{numbers_of, texts_of};
-ghost use Rattle.pdt_c.specs.Entries.{cells_of, column_of, kind_of, HandsEntry};
-ghost use Rattle.pdt_c.specs.declared.codes.TheConstants.{DONE, MISSING, TOO_SMALL};
+ghost use Rattle.pdt_c.specs.Entries.{cells_of, column_of, entry_count, kind_of, HandsEntry};
+ghost use Rattle.pdt_c.specs.declared.codes.TheConstants.{DONE, MISSING, NO_MEMORY, TOO_SMALL};
 
 use crate::codes::{DONE, MISSING, NO_MEMORY};
-use crate::layer::{Layer, LayerEntries};
-use crate::rows::{put_cell, put_cells};
-use crate::store::Store;
-use crate::transaction::Transaction;
-use crate::{layer, store, transaction};
+use crate::handles::layer::{Layer, LayerEntries};
+use crate::handles::store::Store;
+use crate::handles::transaction::Transaction;
+use crate::handles::{layer, store, transaction};
+use crate::shown_cells::{put_cell, put_cells};
 use delta::{ChangeRef, DeltaTree, SharedEntry, Sought};
+use manager::Manager;
 use std::alloc::Global;
 use values::NoMemory;
 
@@ -78,8 +82,78 @@ pub extern "C" fn pdtr_own_layer(alloc: Global, txn: &mut Transaction, layer: &m
     code
 }
 
+/// Fills a handle that holds nothing with what the commit of a number changed: its entries over the table of the number
+/// before. Only the last commits since a cut are kept.
+#[unsafe(no_mangle)]
+pub extern "C" fn pdtr_changes(
+    alloc: Global,
+    store: &mut Store,
+    number: u64,
+    layer: &mut Layer,
+) -> u32
+    requires { IsSome store.old.value }
+    ensures kept { store.new.value ≡ store.old.value }
+    ensures done { result ≡ DONE → IfSome store.old.value (λ m. layer.new.value ≡ kept_tree m number) }
+    ensures held { result ≡ DONE → IsSome layer.new.value }
+
+    // Merged into the table of the number before, they are the table of this one.
+    ensures merged { result ≡ DONE → IfSome store.old.value (λ m. IfSome layer.new.value (λ tree.
+        merged_rows (rows_at m (number - 1)) tree.entries ≡ rows_at m number)) }
+    ensures missing { result ≡ MISSING → IfSome store.old.value (λ m. kept_tree m number ≡ None) }
+    ensures refused { result ≢ DONE → layer.new.value ≡ layer.old.value }
+{
+    let manager = store::take(alloc, store);
+    let code = changes(alloc, &manager, number, layer);
+    store::put(store, manager);
+    code
+}
+
+fn changes(alloc: Global, manager: &Manager, number: u64, layer: &mut Layer) -> u32
+    ensures done { result ≡ DONE → layer.new.value ≡ kept_tree manager.now number }
+    ensures held { result ≡ DONE → IsSome layer.new.value }
+    ensures merged { result ≡ DONE → IfSome layer.new.value (λ tree.
+        merged_rows (rows_at manager.now (number - 1)) tree.entries ≡ rows_at manager.now number) }
+    ensures missing { result ≡ MISSING → kept_tree manager.now number ≡ None }
+    ensures refused { result ≢ DONE → layer.new.value ≡ layer.old.value }
+{
+    match manager.changes(number) {
+        Some(tree) => fill(alloc, tree, layer),
+        None => MISSING,
+    }
+}
+
+/// How many of the last commits' changes are kept.
+#[unsafe(no_mangle)]
+pub extern "C" fn pdtr_kept(alloc: Global, store: &mut Store) -> usize
+    requires { IsSome store.old.value }
+    ensures kept { store.new.value ≡ store.old.value }
+    ensures count { IfSome store.old.value (λ m. result ≡ length (kept_trees m)) }
+{
+    let manager = store::take(alloc, store);
+    let count = manager.kept_len();
+    store::put(store, manager);
+    count
+}
+
+/// How many entries the changes of a commit have, where they are kept, and else 0.
+#[unsafe(no_mangle)]
+pub extern "C" fn pdtr_change_entries(alloc: Global, store: &mut Store, number: u64) -> usize
+    requires { IsSome store.old.value }
+    ensures kept { store.new.value ≡ store.old.value }
+    ensures entries { IfSome store.old.value (λ m. result ≡ entry_count (kept_tree m number)) }
+{
+    let manager = store::take(alloc, store);
+    let count = match manager.changes(number) {
+        Some(tree) => tree.len(),
+        None => 0,
+    };
+    store::put(store, manager);
+    count
+}
+
 /// Fills a handle with the entries of a tree.
 fn fill(alloc: Global, tree: &DeltaTree, layer: &mut Layer) -> u32
+    ensures code { (result ≡ DONE) ⊎ (result ≡ NO_MEMORY) }
     ensures done { result ≡ DONE → layer.new.value ≡ Some tree.now }
     ensures refused { result ≢ DONE → layer.new.value ≡ layer.old.value }
 {

@@ -3,8 +3,8 @@ ghost use Rattle.std.specs.Prelude.{◌≡◌, ◌≤◌, take, drop, length, Is
 ghost use Rattle.pdt_c.specs.Stored.{bytes_at};
 
 use crate::byte_column::{ByteColumn, Slot};
-use crate::checkpoint;
-use crate::checkpoint::{Checkpoint, Columns};
+use crate::handles::image;
+use crate::handles::image::{Columns, Image};
 use devices::{ColumnDevice, Store, StoreFault, have_failed};
 use once_cell::race::OnceBox;
 use stable::StableTable;
@@ -70,17 +70,17 @@ fn columns_of(alloc: Global, slots: &[Slot]) -> Result<Box<Columns>, NoMemory> {
 
 /// How many bytes a column has.
 #[unsafe(no_mangle)]
-pub extern "C" fn pdtr_image_len(alloc: Global, image: &mut Checkpoint, col: usize) -> usize
+pub extern "C" fn pdtr_image_len(alloc: Global, image: &mut Image, col: usize) -> usize
     requires { IsSome image.old.value }
     ensures kept { image.new.value ≡ image.old.value }
     ensures len { IfSome image.old.value (λ c. result ≡ length (bytes_at c col)) }
 {
-    let columns = checkpoint::take(alloc, image);
+    let columns = image::take(alloc, image);
     let len = match columns.bytes.get(col) {
         Some(column) => column.len(),
         None => 0,
     };
-    checkpoint::put(image, columns);
+    image::put(image, columns);
     len
 }
 
@@ -88,7 +88,7 @@ pub extern "C" fn pdtr_image_len(alloc: Global, image: &mut Checkpoint, col: usi
 #[unsafe(no_mangle)]
 pub extern "C" fn pdtr_image_read(
     alloc: Global,
-    image: &mut Checkpoint,
+    image: &mut Image,
     col: usize,
     from: usize,
     out: &mut [u8],
@@ -97,12 +97,12 @@ pub extern "C" fn pdtr_image_read(
     ensures kept { image.new.value ≡ image.old.value }
     ensures bytes { IfSome image.old.value (λ c. take result out.new ≡ take result (drop from (bytes_at c col))) }
 {
-    let columns = checkpoint::take(alloc, image);
+    let columns = image::take(alloc, image);
     let count = match columns.bytes.get(col) {
         Some(column) => copy_from(column.as_slice(), from, out),
         None => 0,
     };
-    checkpoint::put(image, columns);
+    image::put(image, columns);
     count
 }
 
@@ -121,9 +121,9 @@ fn copy_from(bytes: &[u8], from: usize, out: &mut [u8]) -> usize
 
 /// Lets the bytes go.
 #[unsafe(no_mangle)]
-pub extern "C" fn pdtr_image_close(alloc: Global, image: &mut Checkpoint)
+pub extern "C" fn pdtr_image_close(alloc: Global, image: &mut Image)
     requires { IsSome image.old.value }
     ensures { image.new.value ≡ None }
 {
-    let _columns = checkpoint::take(alloc, image);
+    let _columns = image::take(alloc, image);
 }

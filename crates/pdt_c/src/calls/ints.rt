@@ -5,7 +5,7 @@ ghost use Rattle.merge.specs.Runs.{IsRun, run_values};
 ghost use Rattle.pdt_c.specs.Cells.{numbers_of};
 ghost use Rattle.pdt_c.specs.Numbers.{has_numbers, numbers_from};
 
-use crate::transaction::{Transaction, put, take};
+use crate::handles::transaction::{Transaction, put, take};
 use merge::Run;
 use std::alloc::Global;
 use txn::Txn;

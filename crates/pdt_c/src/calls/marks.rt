@@ -4,7 +4,7 @@ ghost use Rattle.pdt_c.specs.Marks.{GoesBack, released, with_mark};
 ghost use Rattle.pdt_c.specs.declared.codes.TheConstants.{DONE, MISSING};
 
 use crate::codes::{DONE, MISSING, NO_MEMORY};
-use crate::transaction::{OpenTxn, Transaction, put, take};
+use crate::handles::transaction::{OpenTxn, Transaction, put, take};
 use std::alloc::Global;
 use values::NoMemory;
 

@@ -6,13 +6,13 @@ ghost use Rattle.stable.specs.Stable.{Stable};
 ghost use Rattle.inputs.specs.Input.{IsFaultOf, IsTableOf};
 ghost use Rattle.inputs.specs.declared.fault.TableFault.{TableFault as Fault};
 ghost use Rattle.devices.specs.Stored as stored;
-ghost use Rattle.manager.specs.Managed.{Managed, opened};
-ghost use Rattle.pdt_c.specs.Opening.{rule_of, IsOpenedOn, IsRecoveredOn};
+ghost use Rattle.manager.specs.Managed.{Managed};
+ghost use Rattle.pdt_c.specs.Opening.{opened_counting, rule_of, IsOpenedOn, IsRecoveredOn};
 ghost use Rattle.pdt_c.specs.TextFaults.{told_of};
 ghost use Rattle.pdt_c.specs.declared.codes.TheConstants.{BAD_TABLE, DONE, NOT_ASCENDING, SHAPE};
 
 use crate::codes::{DONE, NO_MEMORY, code_of_opening, code_of_reading, code_of_table};
-use crate::store::{Store, put, take};
+use crate::handles::store::{Store, put, take};
 use crate::text_fault::{TextFault, tell};
 use devices::read_store;
 use inputs::load_table;
@@ -89,7 +89,7 @@ pub extern "C" fn pdtr_recover(
     }
 }
 
-/// Puts a manager over a table into a handle.
+/// Puts a manager over a table into a handle. It keeps no records: its memory doesn't grow with the commits.
 pub(crate) fn open_over(
     alloc: Global,
     table: StableTable,
@@ -98,19 +98,23 @@ pub(crate) fn open_over(
     by_row: bool,
     store: &mut Store,
 ) -> u32
-    ensures done { result ≡ DONE → store.new.value ≡ Some (opened table row_limit recent (rule_of by_row)) }
+    ensures done { result ≡ DONE → store.new.value ≡ Some (opened_counting table row_limit recent (rule_of by_row)) }
     ensures refused { result ≢ DONE → store.new.value ≡ store.old.value }
     ensures other { (result ≢ SHAPE) × (result ≢ NOT_ASCENDING) }
     ensures well { result ≢ BAD_TABLE }
 {
     match Manager::open(alloc, table, recent, row_limit, rule_of(by_row)) {
-        Ok(manager) => match Box::new(alloc, manager) {
-            Ok(manager) => {
-                put(store, manager);
-                DONE
+        Ok(opened) => {
+            let mut manager = opened;
+            manager.count_only();
+            match Box::new(alloc, manager) {
+                Ok(manager) => {
+                    put(store, manager);
+                    DONE
+                }
+                Err(_) => NO_MEMORY,
             }
-            Err(_) => NO_MEMORY,
-        },
+        }
         Err(fault) => code_of_opening(fault),
     }
 }

@@ -3,12 +3,12 @@ ghost use Rattle.std.specs.Prelude.{◌≡◌, ◌≢◌, ◌<◌, map};
 ghost use Rattle.stable.specs.declared.fault.BuildFault.TheVariants as build_fault;
 ghost use Rattle.pdt_c.specs.Columns.{OpensColumns, OpensPassed};
 ghost use Rattle.pdt_c.specs.declared.codes.TheConstants.{NOT_ASCENDING, SHAPE};
-ghost use Rattle.pdt_c.specs.declared.passed_columns.PassedFault.TheVariants as passed_fault;
+ghost use Rattle.pdt_c.specs.declared.passed.columns.PassedFault.TheVariants as passed_fault;
 
+use crate::calls::opening::open_over;
 use crate::codes::{BAD_TABLE, NO_MEMORY, NOT_ASCENDING, SHAPE, TOO_MANY_ROWS, code_of_table};
-use crate::opening::open_over;
-use crate::passed_columns::{Passed, PassedFault};
-use crate::store::Store;
+use crate::handles::store::Store;
+use crate::passed::columns::{Passed, PassedFault};
 use inputs::load_table;
 use stable::BuildFault;
 use std::alloc::Global;

@@ -6,8 +6,8 @@ ghost use Rattle.merge.specs.Runs.{IsRun, run_values};
 ghost use Rattle.pdt_c.specs.Cells.{numbers_of};
 ghost use Rattle.pdt_c.specs.Numbers.{HandsPieces, IsShown, numbers_between};
 
-use crate::ints::is_of_numbers;
-use crate::transaction::{Transaction, put, take};
+use crate::calls::ints::is_of_numbers;
+use crate::handles::transaction::{Transaction, put, take};
 use merge::Run;
 use std::alloc::Global;
 use std::ptr;

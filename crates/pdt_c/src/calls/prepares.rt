@@ -7,10 +7,10 @@ ghost use Rattle.pdt_c.specs.Told.{told};
 ghost use Rattle.pdt_c.specs.declared.codes.TheConstants.{NO_MEMORY};
 
 use crate::codes::{NO_MEMORY, code_of_commit};
-use crate::decision::Decision;
-use crate::store::Store;
-use crate::transaction::{OpenTxn, Transaction};
-use crate::{decision, store, transaction};
+use crate::handles::decision::Decision;
+use crate::handles::store::Store;
+use crate::handles::transaction::{OpenTxn, Transaction};
+use crate::handles::{decision, store, transaction};
 use manager::{Manager, Prepared};
 use std::alloc::Global;
 use values::NoMemory;

@@ -5,10 +5,10 @@ ghost use Rattle.txn.specs.Txn.{image_of};
 ghost use Rattle.pdt_c.specs.Reads.{HandsRow, HandsRowOf, HasNoneOf, NeedsRoom, NeedsRoomOf, Ranks};
 ghost use Rattle.pdt_c.specs.declared.codes.TheConstants.{DONE, MISSING, TOO_SMALL};
 
+use crate::calls::writes::passed_key;
 use crate::codes::{DONE, MISSING, code_of_cells};
-use crate::rows::put_row;
-use crate::transaction::{Transaction, put, take};
-use crate::writes::passed_key;
+use crate::handles::transaction::{Transaction, put, take};
+use crate::shown_cells::put_row;
 use std::alloc::Global;
 use txn::Txn;
 

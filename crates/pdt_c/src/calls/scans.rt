@@ -6,8 +6,8 @@ ghost use Rattle.txn.specs.Txn.{image_of};
 ghost use Rattle.pdt_c.specs.Cells.{numbers_of, texts_of};
 ghost use Rattle.pdt_c.specs.Reads.{HandsCells};
 
-use crate::rows::{number_of, put_bytes};
-use crate::transaction::{Transaction, put, take};
+use crate::handles::transaction::{Transaction, put, take};
+use crate::shown_cells::{number_of, put_bytes};
 use std::alloc::Global;
 use txn::Txn;
 

@@ -7,7 +7,7 @@ ghost use Rattle.merge.specs.declared.run.Run.TheVariants.{Texts as Together};
 ghost use Rattle.pdt_c.specs.Cells.{numbers_of};
 ghost use Rattle.pdt_c.specs.Texts.{AreThere, has_texts, lengths_from};
 
-use crate::transaction::{Transaction, put, take};
+use crate::handles::transaction::{Transaction, put, take};
 use merge::{Run, TextRun};
 use std::alloc::Global;
 use std::ptr::NonNull;

@@ -4,9 +4,9 @@ ghost use Rattle.pdt_c.specs.Cells.{ArePassed};
 ghost use Rattle.pdt_c.specs.Writes.{Deletes, Inserts, Sets, SetsCell, key_types};
 ghost use Rattle.pdt_c.specs.declared.codes.TheConstants.{NO_MEMORY, SHAPE};
 
-use crate::cells::{CellFault, passed_cell, passed_cells};
 use crate::codes::{SHAPE, code_of_cells, code_of_fault, code_of_reply};
-use crate::transaction::{Transaction, put, take};
+use crate::handles::transaction::{Transaction, put, take};
+use crate::passed::cells::{CellFault, passed_cell, passed_cells};
 use std::alloc::Global;
 use txn::Txn;
 use values::{Key, Row};

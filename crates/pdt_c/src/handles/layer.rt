@@ -3,7 +3,7 @@ ghost use Rattle.std.specs.Prelude.{◌≡◌, IfOk, IsSome, Some, None};
 ghost use Rattle.std.specs.declared.option.Option.{Option};
 ghost use Rattle.delta.specs.Tree.{Tree};
 
-use crate::held::Held;
+use crate::handles::held::Held;
 use delta::{DeltaTree, SharedEntry};
 use std::alloc::Global;
 use std::marker::Model;
@@ -61,7 +61,7 @@ pub struct Layer {
 
 impl Model for Layer {
     ghost use Rattle.pdt_c.specs.Held.{owns_at};
-    ghost use Rattle.pdt_c.specs.contracts.layer.LayerEntries.{the_row};
+    ghost use Rattle.pdt_c.specs.contracts.handles.layer.LayerEntries.{the_row};
     ghost use Rattle.std.specs.contracts.impls.GlobalAllocator.TheImpl.{ghosts};
 
     ghost also_owns = { λ h. owns_at (ghosts.dealloc_token h.alloc) the_row h.at h.value };

@@ -3,7 +3,7 @@ ghost use Rattle.std.specs.Prelude.{◌≡◌, IsSome, Some, None};
 ghost use Rattle.std.specs.declared.option.Option.{Option};
 ghost use Rattle.stable.specs.Stable.{Stable};
 
-use crate::held::Held;
+use crate::handles::held::Held;
 use stable::StableTable;
 use std::alloc::Global;
 use std::marker::Model;
@@ -35,7 +35,7 @@ pub struct NextTable {
 
 impl Model for NextTable {
     ghost use Rattle.pdt_c.specs.Held.{owns_at};
-    ghost use Rattle.pdt_c.specs.contracts.next_table.MadeTable.{the_row};
+    ghost use Rattle.pdt_c.specs.contracts.handles.next_table.MadeTable.{the_row};
     ghost use Rattle.std.specs.contracts.impls.GlobalAllocator.TheImpl.{ghosts};
 
     ghost also_owns = { λ h. owns_at (ghosts.dealloc_token h.alloc) the_row h.at h.value };

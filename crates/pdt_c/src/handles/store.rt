@@ -3,7 +3,7 @@ ghost use Rattle.std.specs.Prelude.{◌≡◌, IsSome, Some, None};
 ghost use Rattle.std.specs.declared.option.Option.{Option};
 ghost use Rattle.manager.specs.Managed.{Managed};
 
-use crate::held::Held;
+use crate::handles::held::Held;
 use manager::Manager;
 use std::alloc::Global;
 use std::marker::Model;

@@ -1,9 +1,11 @@
 //! C's handle of an open transaction.
-ghost use Rattle.std.specs.Prelude.{◌≡◌, IsSome, Some, None};
+ghost use Rattle.std.specs.Prelude.{◌≡◌, ◌≢◌, IsSome, Some, None};
 ghost use Rattle.std.specs.declared.option.Option.{Option};
 ghost use Rattle.pdt_c.specs.Marks.{Opened, unmarked};
+ghost use Rattle.pdt_c.specs.declared.codes.TheConstants.{DONE};
 
-use crate::held::Held;
+use crate::codes::{DONE, NO_MEMORY};
+use crate::handles::held::Held;
 use std::alloc::Global;
 use std::marker::Model;
 use std::mem;
@@ -64,7 +66,7 @@ pub struct Transaction {
 
 impl Model for Transaction {
     ghost use Rattle.pdt_c.specs.Held.{owns_at};
-    ghost use Rattle.pdt_c.specs.contracts.transaction.OpenTxn.{the_row};
+    ghost use Rattle.pdt_c.specs.contracts.handles.transaction.OpenTxn.{the_row};
     ghost use Rattle.std.specs.contracts.impls.GlobalAllocator.TheImpl.{ghosts};
 
     ghost also_owns = { λ h. owns_at (ghosts.dealloc_token h.alloc) the_row h.at h.value };
@@ -97,6 +99,20 @@ pub(crate) fn put(handle: &mut Transaction, value: Box<OpenTxn>)
     ensures { handle.new.value ≡ Some value.value }
 {
     *handle = handle_of(Held::of(value));
+}
+
+/// Fills a handle with a transaction that has just begun, where there is memory.
+pub(crate) fn open(alloc: Global, begun: Txn, handle: &mut Transaction) -> u32
+    ensures done { result ≡ DONE → handle.new.value ≡ Some (unmarked begun) }
+    ensures refused { result ≢ DONE → handle.new.value ≡ handle.old.value }
+{
+    match Box::new(alloc, OpenTxn::new(alloc, begun)) {
+        Ok(open) => {
+            put(handle, open);
+            DONE
+        }
+        Err(_) => NO_MEMORY,
+    }
 }
 
 /// Takes what a handle holds, and leaves nothing.

@@ -1,62 +1,62 @@
-//! C's handle of a history that was cut off.
+//! C's handle of the trees of commits that were cut off.
 ghost use Rattle.std.specs.Prelude.{◌≡◌, IsSome, Some, None};
 ghost use Rattle.std.specs.declared.option.Option.{Option};
-ghost use Rattle.manager.specs.History.{Recorded};
+ghost use Rattle.manager.specs.declared.cut.KeptTrees.{KeptTrees};
 
-use crate::held::Held;
-use manager::History;
+use crate::handles::held::Held;
+use manager::KeptTrees;
 use std::alloc::Global;
 use std::marker::Model;
 use std::mem;
 
-/// Nothing, or a history on the heap. C has it as a struct of one pointer, which is null before a call fills it.
+/// Nothing, or trees on the heap. C has it as a struct of one pointer, which is null before a call fills it.
 #[repr(C)]
 #[derive(Drop)]
-pub struct CutHistory {
+pub struct Trees {
     at: *mut u8,
     alloc: Global,
-    ghost value: { Option Recorded },
+    ghost value: { Option KeptTrees },
 }
 
-impl Model for CutHistory {
+impl Model for Trees {
     ghost use Rattle.pdt_c.specs.Held.{owns_at};
-    ghost use Rattle.manager.specs.contracts.history.History.{the_row};
+    ghost use Rattle.manager.specs.contracts.cut.KeptTrees.{the_row};
     ghost use Rattle.std.specs.contracts.impls.GlobalAllocator.TheImpl.{ghosts};
 
     ghost also_owns = { λ h. owns_at (ghosts.dealloc_token h.alloc) the_row h.at h.value };
 }
 
 /// The handle that C keeps of what is held.
-fn handle_of(held: Held<History, Global>) -> CutHistory
+fn handle_of(held: Held<KeptTrees, Global>) -> Trees
     ensures { result.value ≡ held.value }
 {
     let Held { at, alloc } = held;
-    CutHistory {
+    Trees {
         at: at as *mut u8,
         alloc,
     }
 }
 
 /// What a handle holds.
-fn held_by(handle: CutHistory) -> Held<History, Global>
+fn held_by(handle: Trees) -> Held<KeptTrees, Global>
     ensures { result.value ≡ handle.value }
 {
-    let CutHistory { at, alloc } = handle;
+    let Trees { at, alloc } = handle;
     Held {
-        at: at as *mut History,
+        at: at as *mut KeptTrees,
         alloc,
     }
 }
 
 /// Fills a handle. What it held before is lost.
-pub(crate) fn put(handle: &mut CutHistory, value: Box<History>)
+pub(crate) fn put(handle: &mut Trees, value: Box<KeptTrees>)
     ensures { handle.new.value ≡ Some value.value }
 {
     *handle = handle_of(Held::of(value));
 }
 
 /// Takes what a handle holds, and leaves nothing.
-pub(crate) fn take(alloc: Global, handle: &mut CutHistory) -> Box<History>
+pub(crate) fn take(alloc: Global, handle: &mut Trees) -> Box<KeptTrees>
     requires { IsSome handle.old.value }
     ensures value { handle.old.value ≡ Some result.value }
     ensures empty { handle.new.value ≡ None }

@@ -3,9 +3,9 @@ ghost use Rattle.std.specs.Prelude.{◌≡◌, ◌≢◌, ◌≤◌, ◌<◌, �
 ghost use Rattle.values.specs.declared.limits.TheConstants.{MAX_ROWS};
 ghost use Rattle.stable.specs.declared.fault.BuildFault.{BuildFault as Fault};
 ghost use Rattle.pdt_c.specs.Filling.{given_at, AreFilled, IsNoTable, IsTablePassed, IsUnfilled};
-ghost use Rattle.pdt_c.specs.declared.passed_columns.PassedFault.TheVariants as passed_fault;
+ghost use Rattle.pdt_c.specs.declared.passed.columns.PassedFault.TheVariants as passed_fault;
 
-use crate::filling::{FillFault, PassedColumn};
+use crate::passed::filling::{FillFault, PassedColumn};
 use stable::{BuildFault, Column, StableTable};
 use std::alloc::{AllocError, AllocFailed, Global};
 use std::marker::Model;

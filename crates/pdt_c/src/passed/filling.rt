@@ -3,7 +3,7 @@ ghost use Rattle.std.specs.Prelude.{◌≡◌, ◌≢◌, ◌<◌, ◌^◌, ℕ,
 ghost use Rattle.values.specs.Lent.{value_of};
 ghost use Rattle.values.specs.Shape.{has_type, is_too_long};
 ghost use Rattle.pdt_c.specs.Filling.{count_of, value_at, text_between, text_of, truth_of, IsFilled, IsUnfilled};
-ghost use Rattle.pdt_c.specs.declared.filling.FillFault.TheVariants as fill_fault;
+ghost use Rattle.pdt_c.specs.declared.passed.filling.FillFault.TheVariants as fill_fault;
 
 use stable::Column;
 use std::alloc::Global;

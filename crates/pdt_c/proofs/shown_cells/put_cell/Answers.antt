@@ -4,7 +4,7 @@ use Rattle.std.proofs.lemmas.List.{take_more_set}
 use Rattle.std.proofs.lemmas.Int.{to_z-of_z}
 use Rattle.values.specs.Lent.{value_of}
 use Rattle.pdt_c.specs.Cells.{number_of}
-use Rattle.pdt_c.proofs.rows.put_cell.Goals as goal
+use Rattle.pdt_c.proofs.shown_cells.put_cell.Goals as goal
 
 some : (n : ℕ) → false ≡ (n == 0) → 0 < n
 some zero h = cc

@@ -6,7 +6,7 @@ use Rattle.merge.specs.View.{row_of}
 use Rattle.values.specs.Lent.{value_of}
 use Rattle.pdt_c.specs.Cells.{number_of}
 use Rattle.pdt_c.proofs.CellLemmas.{number_put, text_put}
-use Rattle.pdt_c.proofs.rows.put_row.Goals as goal
+use Rattle.pdt_c.proofs.shown_cells.put_row.Goals as goal
 
 pub loop-col-preserved : goal.loop-col-preserved
 loop-col-preserved c =

@@ -1,7 +1,7 @@
 use Rattle.std.proofs.Common.{◌≡◌, ◌≤◌, length, map, take}
 use Rattle.merge.specs.View.{row_of}
 use Rattle.pdt_c.specs.Cells.{number_of, texts_of}
-use Rattle.pdt_c.proofs.rows.put_row.Given as goal
+use Rattle.pdt_c.proofs.shown_cells.put_row.Given as goal
 
 -- the numbers so far, and the bytes so far where they have room
 abbrev pub invariant-loop-col : goal.invariant-loop-col

@@ -7,7 +7,7 @@ use Rattle.merge.specs.Runs.{run_values}
 use Rattle.merge.specs.declared.run.Run.{Run}
 use Rattle.pdt_c.specs.Cells.{numbers_of}
 use Rattle.pdt_c.proofs.NumberLemmas.{numbers_int}
-use Rattle.pdt_c.proofs.ints.put_run.Goals as goal
+use Rattle.pdt_c.proofs.calls.ints.put_run.Goals as goal
 
 pub returns-in-Ints-clause-numbers : goal.returns-in-Ints-clause-numbers
 returns-in-Ints-clause-numbers c =

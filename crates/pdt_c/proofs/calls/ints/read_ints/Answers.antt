@@ -8,7 +8,7 @@ use Rattle.pdt_c.specs.Cells.{numbers_of}
 use Rattle.pdt_c.specs.Numbers.{has_numbers}
 use Rattle.pdt_c.specs.Reads.{column_from}
 use Rattle.pdt_c.proofs.NumberLemmas.{range_cut, numbers_cut}
-use Rattle.pdt_c.proofs.ints.read_ints.Goals as goal
+use Rattle.pdt_c.proofs.calls.ints.read_ints.Goals as goal
 
 pub returns-clause-numbers : goal.returns-clause-numbers
 returns-clause-numbers c =

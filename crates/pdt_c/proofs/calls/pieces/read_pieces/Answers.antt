@@ -9,9 +9,9 @@ use Rattle.txn.specs.Txn.{image_of}
 use Rattle.merge.specs.Runs.{run_values}
 use Rattle.pdt_c.specs.Cells.{number_of, numbers_of}
 use Rattle.pdt_c.specs.Numbers.{has_numbers, column_between, numbers_between, AreShown}
-use Rattle.pdt_c.specs.declared.pieces.Piece.{Piece}
+use Rattle.pdt_c.specs.declared.calls.pieces.Piece.{Piece}
 use Rattle.pdt_c.proofs.NumberLemmas.{handed, length-between, numbers_move, shown_more, take_cut}
-use Rattle.pdt_c.proofs.pieces.read_pieces.Goals as goal
+use Rattle.pdt_c.proofs.calls.pieces.read_pieces.Goals as goal
 
 pub returns-then-filled-out : goal.returns-then-filled-out
 returns-then-filled-out c =

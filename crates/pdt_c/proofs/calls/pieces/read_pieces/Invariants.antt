@@ -3,7 +3,7 @@ use Rattle.std.specs.Prelude.{ℤ}
 use Rattle.values.specs.declared.value.ColumnType.TheVariants as column
 use Rattle.pdt_c.specs.Cells.{numbers_of}
 use Rattle.pdt_c.specs.Numbers.{column_between, AreShown}
-use Rattle.pdt_c.proofs.pieces.read_pieces.Given as goal
+use Rattle.pdt_c.proofs.calls.pieces.read_pieces.Given as goal
 
 -- the pieces so far show the numbers so far, and those of the runs that are left come after them
 abbrev pub invariant-loop-run : goal.invariant-loop-run

@@ -10,7 +10,7 @@ use Rattle.stable.specs.Rows.{column_values}
 use Rattle.pdt_c.specs.Cells.{number_of}
 use Rattle.pdt_c.specs.Reads.{column_from}
 use Rattle.pdt_c.proofs.CellLemmas.{next_within, next_is, next_rest, number_put, text_put}
-use Rattle.pdt_c.proofs.scans.read_cells.Goals as goal
+use Rattle.pdt_c.proofs.calls.scans.read_cells.Goals as goal
 
 pub loop-rows-preserved : goal.loop-rows-preserved
 loop-rows-preserved c =

@@ -2,7 +2,7 @@ use Rattle.std.proofs.Common.{◌≡◌, ◌≤◌, length, drop, map, take}
 use Rattle.stable.specs.Rows.{column_values}
 use Rattle.pdt_c.specs.Cells.{number_of, texts_of}
 use Rattle.pdt_c.specs.Reads.{column_from}
-use Rattle.pdt_c.proofs.scans.read_cells.Given as goal
+use Rattle.pdt_c.proofs.calls.scans.read_cells.Given as goal
 
 -- the cells so far stand in C's room, and those of the rows that are left come after them
 abbrev pub invariant-loop-rows : goal.invariant-loop-rows

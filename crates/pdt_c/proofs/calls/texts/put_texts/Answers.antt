@@ -1,7 +1,7 @@
 use Rattle.std.proofs.Common.{◌∙◌, ◌+◌, ◌<◌, List, length, take, ap, arith}
 use Rattle.std.specs.Prelude.{ℤ}
 use Rattle.pdt_c.proofs.TextLemmas.{length_put, there_more}
-use Rattle.pdt_c.proofs.texts.put_texts.Goals as goal
+use Rattle.pdt_c.proofs.calls.texts.put_texts.Goals as goal
 
 pub loop-i-preserved : goal.loop-i-preserved
 loop-i-preserved c =

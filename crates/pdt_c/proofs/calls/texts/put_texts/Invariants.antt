@@ -1,7 +1,7 @@
 use Rattle.std.proofs.Common.{◌≡◌, ◌+◌, ◌++◌, take}
 use Rattle.pdt_c.specs.Texts.{AreThere}
 use Rattle.pdt_c.proofs.TextLemmas.{run_lengths}
-use Rattle.pdt_c.proofs.texts.put_texts.Given as goal
+use Rattle.pdt_c.proofs.calls.texts.put_texts.Given as goal
 
 -- the lengths of the texts so far stand in C's room after those before the run, and none of them is at null
 abbrev pub invariant-loop-i : goal.invariant-loop-i

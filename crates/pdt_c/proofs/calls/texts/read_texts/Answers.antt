@@ -8,7 +8,7 @@ use Rattle.pdt_c.specs.Cells.{numbers_of}
 use Rattle.pdt_c.specs.Texts.{has_texts}
 use Rattle.pdt_c.specs.Reads.{column_from}
 use Rattle.pdt_c.proofs.NumberLemmas.{range_cut, numbers_cut}
-use Rattle.pdt_c.proofs.texts.read_texts.Goals as goal
+use Rattle.pdt_c.proofs.calls.texts.read_texts.Goals as goal
 
 pub returns-clause-lens : goal.returns-clause-lens
 returns-clause-lens c =

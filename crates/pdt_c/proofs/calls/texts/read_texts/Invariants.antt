@@ -3,7 +3,7 @@ use Rattle.values.specs.declared.value.ColumnType.TheVariants as column
 use Rattle.pdt_c.specs.Cells.{numbers_of}
 use Rattle.pdt_c.specs.Numbers.{column_between}
 use Rattle.pdt_c.specs.Texts.{AreThere}
-use Rattle.pdt_c.proofs.texts.read_texts.Given as goal
+use Rattle.pdt_c.proofs.calls.texts.read_texts.Given as goal
 
 -- the lengths and addresses so far stand in C's rooms, and the lengths of the runs that are left come after them
 abbrev pub invariant-loop-run : goal.invariant-loop-run

@@ -1,6 +1,6 @@
 use Rattle.txn.proofs.CallerLemmas.{answered_GoesOn}
 use Rattle.pdt_c.proofs.MarkLemmas.{goes_on, told_GoesOn}
-use Rattle.pdt_c.proofs.writes.pdtr_set.Goals as goal
+use Rattle.pdt_c.proofs.calls.writes.pdtr_set.Goals as goal
 
 pub invariant_of-behind-open : goal.invariant_of-behind-open
 invariant_of-behind-open c =

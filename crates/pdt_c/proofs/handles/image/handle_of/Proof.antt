@@ -23,13 +23,13 @@ use Rattle.std.specs.contracts.alloc.Global as global
 use Rattle.std.proofs.alloc.Global.TheLaws as global_laws
 use Rattle.std.specs.contracts.impls.GlobalAllocator.TheImpl.{ghosts}
 use Rattle.pdt_c.proofs.WordSteps.{word, word_typed, pointer_typed, word_out, word_in}
-use Rattle.pdt_c.specs.contracts.held.Held as held
-use Rattle.pdt_c.specs.contracts.checkpoint.Columns as thing
-use Rattle.pdt_c.specs.contracts.checkpoint.Checkpoint as handle
-use Rattle.pdt_c.specs.contracts.checkpoint.handle_of.{ended, clauses}
-use Rattle.pdt_c.specs.contracts.checkpoint.handle_of.Key.{name as #self}
-use Rattle.pdt_c.proofs.checkpoint.handle_of.Statement.{statement}
-use Rattle.pdt_c.proofs.checkpoint.handle_of.Code as code
+use Rattle.pdt_c.specs.contracts.handles.held.Held as held
+use Rattle.pdt_c.specs.contracts.handles.image.Columns as thing
+use Rattle.pdt_c.specs.contracts.handles.image.Image as handle
+use Rattle.pdt_c.specs.contracts.handles.image.handle_of.{ended, clauses}
+use Rattle.pdt_c.specs.contracts.handles.image.handle_of.Key.{name as #self}
+use Rattle.pdt_c.proofs.handles.image.handle_of.Statement.{statement}
+use Rattle.pdt_c.proofs.handles.image.handle_of.Code as code
 
 pub handle_of_spec : {M : Type 1} → statement M
 handle_of_spec 𝓤 𝓛 𝓜 𝓡 wired =

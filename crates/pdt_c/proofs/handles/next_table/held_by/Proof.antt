@@ -23,13 +23,13 @@ use Rattle.std.specs.contracts.alloc.Global as global
 use Rattle.std.proofs.alloc.Global.TheLaws as global_laws
 use Rattle.std.specs.contracts.impls.GlobalAllocator.TheImpl.{ghosts}
 use Rattle.pdt_c.proofs.WordSteps.{word, word_typed, pointer_typed, word_out, word_in}
-use Rattle.pdt_c.specs.contracts.held.Held as held
-use Rattle.pdt_c.specs.contracts.next_table.MadeTable as thing
-use Rattle.pdt_c.specs.contracts.next_table.NextTable as handle
-use Rattle.pdt_c.specs.contracts.next_table.held_by.{ended, clauses}
-use Rattle.pdt_c.specs.contracts.next_table.held_by.Key.{name as #self}
-use Rattle.pdt_c.proofs.next_table.held_by.Statement.{statement}
-use Rattle.pdt_c.proofs.next_table.held_by.Code as code
+use Rattle.pdt_c.specs.contracts.handles.held.Held as held
+use Rattle.pdt_c.specs.contracts.handles.next_table.MadeTable as thing
+use Rattle.pdt_c.specs.contracts.handles.next_table.NextTable as handle
+use Rattle.pdt_c.specs.contracts.handles.next_table.held_by.{ended, clauses}
+use Rattle.pdt_c.specs.contracts.handles.next_table.held_by.Key.{name as #self}
+use Rattle.pdt_c.proofs.handles.next_table.held_by.Statement.{statement}
+use Rattle.pdt_c.proofs.handles.next_table.held_by.Code as code
 
 pub held_by_spec : {M : Type 1} → statement M
 held_by_spec 𝓤 𝓛 𝓜 𝓡 wired =

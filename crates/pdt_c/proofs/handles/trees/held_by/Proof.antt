@@ -23,13 +23,13 @@ use Rattle.std.specs.contracts.alloc.Global as global
 use Rattle.std.proofs.alloc.Global.TheLaws as global_laws
 use Rattle.std.specs.contracts.impls.GlobalAllocator.TheImpl.{ghosts}
 use Rattle.pdt_c.proofs.WordSteps.{word, word_typed, pointer_typed, word_out, word_in}
-use Rattle.pdt_c.specs.contracts.held.Held as held
-use Rattle.manager.specs.contracts.history.History as thing
-use Rattle.pdt_c.specs.contracts.cut_history.CutHistory as handle
-use Rattle.pdt_c.specs.contracts.cut_history.held_by.{ended, clauses}
-use Rattle.pdt_c.specs.contracts.cut_history.held_by.Key.{name as #self}
-use Rattle.pdt_c.proofs.cut_history.held_by.Statement.{statement}
-use Rattle.pdt_c.proofs.cut_history.held_by.Code as code
+use Rattle.pdt_c.specs.contracts.handles.held.Held as held
+use Rattle.manager.specs.contracts.cut.KeptTrees as thing
+use Rattle.pdt_c.specs.contracts.handles.trees.Trees as handle
+use Rattle.pdt_c.specs.contracts.handles.trees.held_by.{ended, clauses}
+use Rattle.pdt_c.specs.contracts.handles.trees.held_by.Key.{name as #self}
+use Rattle.pdt_c.proofs.handles.trees.held_by.Statement.{statement}
+use Rattle.pdt_c.proofs.handles.trees.held_by.Code as code
 
 pub held_by_spec : {M : Type 1} → statement M
 held_by_spec 𝓤 𝓛 𝓜 𝓡 wired =

@@ -43,11 +43,11 @@ use Rattle.std.specs.declared.option.Option.{Option}
 use Rattle.std.specs.declared.option.Option.TheVariants.{None, Some}
 use Rattle.pdt_c.specs.Held.{owns_at}
 use Rattle.pdt_c.proofs.WordSteps.{word, word_typed, pointer_typed, word_out}
-use Rattle.pdt_c.specs.contracts.held.Held as held
-use Rattle.pdt_c.specs.contracts.held.Held.into_box.{ended, clauses}
-use Rattle.pdt_c.specs.contracts.held.Held.into_box.Key.{name as #self}
-use Rattle.pdt_c.proofs.held.Held.into_box.Statement.{statement}
-use Rattle.pdt_c.proofs.held.Held.into_box.Code as code
+use Rattle.pdt_c.specs.contracts.handles.held.Held as held
+use Rattle.pdt_c.specs.contracts.handles.held.Held.into_box.{ended, clauses}
+use Rattle.pdt_c.specs.contracts.handles.held.Held.into_box.Key.{name as #self}
+use Rattle.pdt_c.proofs.handles.held.Held.into_box.Statement.{statement}
+use Rattle.pdt_c.proofs.handles.held.Held.into_box.Code as code
 
 module _ {M : Type 1} {𝓤 : Ura M} {𝓛 : Logic 𝓤} {K : Type 0} {Γ : List (Item 𝓤)} {G : Goal 𝓤 𝓛.H} where
   -- where a value is said to stand, there is one, and its block

@@ -27,11 +27,11 @@ use Rattle.std.proofs.raw_atomic.Walks.{proved_at, leaves}
 use Rattle.std.specs.declared.option.Option.{Option}
 use Rattle.std.specs.declared.option.Option.TheVariants.{None}
 use Rattle.pdt_c.proofs.WordSteps.{word, word_typed, word_in}
-use Rattle.pdt_c.specs.contracts.held.Held as held
-use Rattle.pdt_c.specs.contracts.held.Held.none.{ended, clauses}
-use Rattle.pdt_c.specs.contracts.held.Held.none.Key.{name as #self}
-use Rattle.pdt_c.proofs.held.Held.none.Statement.{statement}
-use Rattle.pdt_c.proofs.held.Held.none.Code as code
+use Rattle.pdt_c.specs.contracts.handles.held.Held as held
+use Rattle.pdt_c.specs.contracts.handles.held.Held.none.{ended, clauses}
+use Rattle.pdt_c.specs.contracts.handles.held.Held.none.Key.{name as #self}
+use Rattle.pdt_c.proofs.handles.held.Held.none.Statement.{statement}
+use Rattle.pdt_c.proofs.handles.held.Held.none.Code as code
 
 pub none_spec : {M : Type 1} → statement M
 none_spec 𝓤 𝓛 𝓜 𝓡 wired T A L LA g d dx dd allocator glue glued =

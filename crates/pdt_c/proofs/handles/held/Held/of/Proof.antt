@@ -37,11 +37,11 @@ use Rattle.std.proofs.raw_atomic.Walks.{proved_at, leaves}
 use Rattle.std.specs.declared.option.Option.{Option}
 use Rattle.std.specs.declared.option.Option.TheVariants.{Some}
 use Rattle.pdt_c.proofs.WordSteps.{word, word_typed, pointer_typed, word_in}
-use Rattle.pdt_c.specs.contracts.held.Held as held
-use Rattle.pdt_c.specs.contracts.held.Held.of.{ended, clauses}
-use Rattle.pdt_c.specs.contracts.held.Held.of.Key.{name as #self}
-use Rattle.pdt_c.proofs.held.Held.of.Statement.{statement}
-use Rattle.pdt_c.proofs.held.Held.of.Code as code
+use Rattle.pdt_c.specs.contracts.handles.held.Held as held
+use Rattle.pdt_c.specs.contracts.handles.held.Held.of.{ended, clauses}
+use Rattle.pdt_c.specs.contracts.handles.held.Held.of.Key.{name as #self}
+use Rattle.pdt_c.proofs.handles.held.Held.of.Statement.{statement}
+use Rattle.pdt_c.proofs.handles.held.Held.of.Code as code
 
 pub of_spec : {M : Type 1} → statement M
 of_spec 𝓤 𝓛 𝓜 𝓡 wired T A L LA g d dx dd allocator glue glued =

@@ -5,7 +5,7 @@ use Rattle.txn.specs.Txn.{Transaction}
 use Rattle.txn.specs.Marks.{Marked}
 use Rattle.pdt_c.specs.Marks.{Opened, AreMarks, GoesBack}
 use Rattle.pdt_c.proofs.MarkLemmas.{gone_back, stands}
-use Rattle.pdt_c.proofs.transaction.OpenTxn.back_to.Goals as goal
+use Rattle.pdt_c.proofs.handles.transaction.OpenTxn.back_to.Goals as goal
 
 -- the mark of the level is the one that is copied
 found : (marks lent : List Marked) (level : ℕ) (mark copied : Marked) → lent ≡ marks → level < length lent

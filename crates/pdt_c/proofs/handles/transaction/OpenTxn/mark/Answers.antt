@@ -2,7 +2,7 @@ use Rattle.std.proofs.Common.{◌≡◌, List, ◌∷◌, ◌++◌, [], sym, ◌
 use Rattle.txn.specs.Marks.{Marked, mark_of}
 use Rattle.pdt_c.specs.Marks.{AreMarks}
 use Rattle.pdt_c.proofs.MarkLemmas.{marked}
-use Rattle.pdt_c.proofs.transaction.OpenTxn.mark.Goals as goal
+use Rattle.pdt_c.proofs.handles.transaction.OpenTxn.mark.Goals as goal
 
 pub invariant_of-self-2 : goal.invariant_of-self-2
 invariant_of-self-2 c =

@@ -2,7 +2,7 @@ use Rattle.std.proofs.Common.{List, sym, subst}
 use Rattle.txn.specs.Marks.{Marked}
 use Rattle.pdt_c.specs.Marks.{AreMarks}
 use Rattle.pdt_c.proofs.MarkLemmas.{first_marks}
-use Rattle.pdt_c.proofs.transaction.OpenTxn.release.Goals as goal
+use Rattle.pdt_c.proofs.handles.transaction.OpenTxn.release.Goals as goal
 
 pub invariant_of-self : goal.invariant_of-self
 invariant_of-self c =

@@ -4,7 +4,7 @@ use Rattle.model.specs.declared.entry.Change.{Change}
 use Rattle.model.specs.Entries.{are_ordered, change_cmp}
 use Rattle.delta.specs.Search.{stands_before, IsSplit}
 use Rattle.pdt_c.proofs.EntryLemmas.{found_index}
-use Rattle.pdt_c.proofs.entries.rid_of.Goals as goal
+use Rattle.pdt_c.proofs.calls.entries.rid_of.Goals as goal
 
 -- the place of the entry's change is its index
 pub prove-unreachable-requires : goal.prove-unreachable-requires

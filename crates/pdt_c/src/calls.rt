@@ -1,0 +1,20 @@
+//! The functions of the C calling convention.
+
+mod bools;
+mod checkpoints;
+mod commits;
+mod entries;
+mod images;
+mod ints;
+mod marks;
+mod opening;
+mod opening_columns;
+mod pieces;
+mod pins;
+mod prepares;
+mod reads;
+mod scans;
+mod tables;
+mod texts;
+mod upkeep;
+mod writes;

@@ -1,0 +1,11 @@
+//! What C keeps: each handle is a struct of one pointer.
+
+pub(crate) mod decision;
+pub(crate) mod held;
+pub(crate) mod image;
+pub(crate) mod layer;
+pub(crate) mod next_table;
+pub(crate) mod pin;
+pub(crate) mod store;
+pub(crate) mod transaction;
+pub(crate) mod trees;

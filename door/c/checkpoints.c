@@ -1,0 +1,175 @@
+/* Checkpoints: the newest table becomes the stable one, in files, or as bytes that a caller takes. */
+#include "inside.h"
+
+/* ---- a checkpoint while others commit */
+
+struct pdt_snapshot {
+  pdt_store *store;
+  handle version;   /* the newest one when it began */
+  handle table;     /* made by the first write */
+  uint64_t rebuilt; /* that of the store when it began */
+  bool is_written, is_installed;
+};
+
+pdt_code pdt_checkpoint_begin(pdt_store *store, uint64_t *commits, pdt_snapshot **out) {
+  if (!out) return PDT_MISUSE;
+  *out = NULL;
+  if (!store) return PDT_MISUSE;
+  pdt_snapshot *snapshot = calloc(1, sizeof *snapshot);
+  if (!snapshot) return PDT_NOMEM;
+  handle before = {NULL};
+  int code = pdti_enter(store);
+  if (!code) {
+    code = (int)pdtr_checkpoint_begin(&store->raw, &snapshot->version);
+    if (!code) {
+      store->snapshots++;
+      snapshot->rebuilt = ++store->rebuilt;
+      if (commits) *commits = pdtr_commits(&store->raw);
+      before = pdti_refresh(store);
+    }
+    pdti_leave(store);
+  }
+  pdti_drop(before);
+  if (code) {
+    free(snapshot);
+    return code;
+  }
+  snapshot->store = store;
+  *out = snapshot;
+  return PDT_OK;
+}
+
+pdt_code pdt_checkpoint_write(pdt_snapshot *snapshot, const char *folder) {
+  if (!snapshot || snapshot->is_written || !folder) return PDT_MISUSE;
+  int code = pdti_try_folder(snapshot->store, folder);
+  if (code) return code;
+  uint8_t *chunk = malloc(CHUNK);
+  if (!chunk) return PDT_NOMEM;
+  handle image = {NULL};
+  if (!snapshot->table.at) code = (int)pdtr_snapshot_table(&snapshot->version, &snapshot->table);
+  if (!code) code = (int)pdtr_table_image(&snapshot->table, &image);
+  if (!code) {
+    code = pdti_write_files(snapshot->store, &image, folder, chunk);
+    int why = errno;
+    pdtr_image_close(&image);
+    errno = why;
+  }
+  pdti_free_chunk(chunk);
+  snapshot->is_written = !code;
+  return code;
+}
+
+pdt_code pdt_checkpoint_install(pdt_snapshot *snapshot) {
+  if (!snapshot || !snapshot->is_written || snapshot->is_installed) return PDT_MISUSE;
+  pdt_store *store = snapshot->store;
+  if (pdti_enter(store)) return PDT_MISUSE;
+  int code = store->rebuilt == snapshot->rebuilt ? (int)pdtr_restack(&store->raw, &snapshot->table) : PDT_SUPERSEDED;
+  handle before = {NULL};
+  if (!code) {
+    store->rebuilt++;
+    store->done.checkpoints++;
+    before = pdti_refresh(store);
+  }
+  if (code == PDT_SUPERSEDED) store->done.superseded++;
+  pdti_leave(store);
+  pdti_drop(before);
+  snapshot->is_installed = !code;
+  return code;
+}
+
+void pdt_checkpoint_end(pdt_snapshot *snapshot) {
+  if (!snapshot) return;
+  pdt_store *store = snapshot->store;
+  if (snapshot->table.at) pdtr_table_close(&snapshot->table);
+  pdtr_unpin(&snapshot->version); /* without the lock: what the new table replaced goes with it */
+  free(snapshot);
+  int held = pdti_enter(store); /* by this thread, where a commit of its own is prepared */
+  store->snapshots--;
+  if (!held) pdti_leave(store);
+}
+
+/* ---- a checkpoint in one call: nothing changes before all of it is written */
+
+/* The newest table and its bytes, made without the lock. */
+typedef struct {
+  handle version, table, image;
+  uint64_t commits; /* the number of the table */
+} draft;
+
+static int make_draft(pdt_store *store, draft *made) {
+  if (pdti_enter(store)) return PDT_MISUSE;
+  int code = (int)pdtr_share(&store->raw, &made->version);
+  made->commits = pdtr_commits(&store->raw);
+  pdti_leave(store);
+  if (!code) code = (int)pdtr_snapshot_table(&made->version, &made->table);
+  if (!code) code = (int)pdtr_table_image(&made->table, &made->image);
+  return code;
+}
+
+static void end_draft(draft *made) {
+  int why = errno;
+  if (made->image.at) pdtr_image_close(&made->image);
+  if (made->table.at) pdtr_table_close(&made->table);
+  if (made->version.at) pdtr_unpin(&made->version);
+  errno = why;
+}
+
+/* Makes the newest table the stable one in memory: the table that was written or, where commits came since, one that is made
+   anew. Where a fold or another checkpoint comes between, its layers stay. */
+static int install_draft(pdt_store *store, draft *made) {
+  pdt_snapshot *snapshot = NULL;
+  uint64_t commits = 0;
+  int code = pdt_checkpoint_begin(store, &commits, &snapshot);
+  if (code) return code;
+  if (commits == made->commits) {
+    snapshot->table = made->table;
+    made->table.at = NULL;
+  } else {
+    code = (int)pdtr_snapshot_table(&snapshot->version, &snapshot->table);
+  }
+  snapshot->is_written = !code;
+  if (!code) code = pdt_checkpoint_install(snapshot);
+  pdt_checkpoint_end(snapshot);
+  return code == PDT_SUPERSEDED ? PDT_OK : code;
+}
+
+pdt_code pdt_checkpoint(pdt_store *store, const char *folder) {
+  if (!store || !folder || pdti_enter(store)) return PDT_MISUSE;
+  pdti_leave(store); /* no commit of this thread is prepared: that is said before the folder is looked at */
+  int code = pdti_try_folder(store, folder);
+  if (code) return code;
+  uint8_t *chunk = malloc(CHUNK);
+  if (!chunk) return PDT_NOMEM;
+  draft made = {{NULL}, {NULL}, {NULL}, 0};
+  code = make_draft(store, &made);
+  if (!code) code = pdti_write_files(store, &made.image, folder, chunk);
+  if (!code) {
+    code = install_draft(store, &made);
+    if (code) pdti_remove_files(folder, (int)store->width);
+  }
+  end_draft(&made);
+  pdti_free_chunk(chunk);
+  return code;
+}
+
+/* ---- images as bytes */
+
+pdt_code pdt_checkpoint_to(pdt_store *store, pdt_write write, void *context, size_t *column) {
+  if (!store || !write) return PDT_MISUSE;
+  uint8_t *chunk = malloc(CHUNK);
+  if (!chunk) return PDT_NOMEM;
+  draft made = {{NULL}, {NULL}, {NULL}, 0};
+  int code = make_draft(store, &made);
+  if (!code) {
+    char header[HEADER_BYTES];
+    size_t at = PDT_HEADER, len = pdti_header(store, header);
+    if (write(context, at, (const uint8_t *)header, len)) code = PDT_DEVICE_FAILED;
+    while (!code && ++at < store->width)
+      if (!pdti_hand_column(&made.image, at, chunk, write, context)) code = PDT_DEVICE_FAILED;
+    if (code && column) *column = at;
+  }
+  if (!code) code = install_draft(store, &made);
+  end_draft(&made);
+  pdti_free_chunk(chunk);
+  return code;
+}

@@ -1,0 +1,221 @@
+/* What the files of the library share: the exports of crates/pdt_c, the objects, and how their locks are taken.
+
+   Nothing there is checked against a C caller, so these files meet each `requires`: a handle is never copied and goes to one call
+   at a time, one that is asked to hold something holds it, one that is filled holds nothing, and a commit gets the store that its
+   transaction began over. From a prepare to its install the lock is kept, so that the store is as it was; a table is installed only
+   where no fold and no checkpoint came since its begin, so that it is what stands below the Write-PDT. */
+#ifndef PDT_INSIDE_H
+#define PDT_INSIDE_H
+
+#define _POSIX_C_SOURCE 200809L
+#include "pdt.h"
+
+#include <errno.h>
+#include <pthread.h>
+#include <stdatomic.h>
+#include <stdlib.h>
+#include <string.h>
+#include <sys/types.h>
+#include <time.h>
+#include <unistd.h>
+
+/* ---- the exports: a handle is a struct of one pointer, a slice its pointer and its length */
+
+typedef struct {
+  void *at;
+} handle;
+
+typedef struct {
+  const uint8_t *at;
+  size_t len;
+} slice;
+
+typedef struct {
+  const int64_t *at;
+  size_t len;
+} numbers;
+
+typedef struct {
+  const uint64_t *at;
+  size_t len;
+} offsets;
+
+/* the first fault of a text: the record, which counts from 1, the column, and which of text_faults says what is wrong */
+typedef struct {
+  uint64_t row, column;
+  uint32_t cause;
+} text_fault;
+
+extern uint32_t pdtr_open(const uint8_t *, size_t, size_t, uint64_t, bool, text_fault *, handle *);
+extern uint32_t pdtr_open_columns(const uint8_t *, size_t, size_t, const numbers *, size_t, const offsets *, size_t, const slice *,
+                                  size_t, size_t, uint64_t, bool, pdt_place *, handle *);
+extern uint32_t pdtr_recover(const uint8_t *, size_t, const slice *, size_t, size_t, uint64_t, bool, uint32_t *, handle *);
+extern void pdtr_close(handle *);
+extern size_t pdtr_width(handle *);
+extern size_t pdtr_key_columns(handle *);
+extern uint32_t pdtr_type(handle *, size_t);
+extern size_t pdtr_name(handle *, size_t, uint8_t *, size_t);
+extern uint64_t pdtr_commits(handle *);
+extern size_t pdtr_write_entries(handle *);
+extern size_t pdtr_read_entries(handle *);
+extern uint32_t pdtr_fold(handle *);
+extern uint32_t pdtr_room(size_t, handle *);
+extern void pdtr_cut(handle *);
+extern void pdtr_cut_into(handle *, handle *);
+extern void pdtr_trees_close(handle *);
+extern size_t pdtr_image_len(handle *, size_t);
+extern size_t pdtr_image_read(handle *, size_t, size_t, uint8_t *, size_t);
+extern void pdtr_image_close(handle *);
+extern uint32_t pdtr_begin(handle *, uint32_t, handle *);
+extern uint32_t pdtr_begin_at(handle *, uint32_t, handle *);
+extern uint64_t pdtr_begun(handle *);
+extern size_t pdtr_own_entries(handle *);
+extern void pdtr_abort(handle *);
+extern uint32_t pdtr_commit(handle *, handle *, uint64_t *);
+extern uint32_t pdtr_insert(handle *, const int64_t *, size_t, const uint8_t *, size_t);
+extern uint32_t pdtr_delete(handle *, const int64_t *, size_t, const uint8_t *, size_t);
+extern uint32_t pdtr_set(handle *, const int64_t *, size_t, const uint8_t *, size_t, size_t, int64_t, const uint8_t *, size_t);
+extern uint32_t pdtr_mark(handle *, size_t *);
+extern uint32_t pdtr_back_to(handle *, size_t);
+extern uint32_t pdtr_release(handle *, size_t);
+extern uint64_t pdtr_rows(handle *);
+extern uint32_t pdtr_rank(handle *, const int64_t *, size_t, const uint8_t *, size_t, uint64_t *, bool *);
+extern uint32_t pdtr_get(handle *, const int64_t *, size_t, const uint8_t *, size_t, int64_t *, size_t, uint8_t *, size_t, size_t *);
+extern uint32_t pdtr_row_at(handle *, uint64_t, int64_t *, size_t, uint8_t *, size_t, size_t *);
+extern size_t pdtr_cells(handle *, size_t, uint64_t, int64_t *, size_t, uint8_t *, size_t, size_t *);
+extern size_t pdtr_ints(handle *, size_t, uint64_t, int64_t *, size_t);
+extern size_t pdtr_bools(handle *, size_t, uint64_t, uint8_t *, size_t);
+extern size_t pdtr_texts(handle *, size_t, uint64_t, const char **, size_t, int64_t *, size_t);
+extern size_t pdtr_pieces(handle *, size_t, uint64_t, uint64_t, pdt_piece *, size_t, uint64_t *);
+
+extern uint32_t pdtr_read_layer(handle *, handle *);
+extern uint32_t pdtr_write_layer(handle *, handle *);
+extern uint32_t pdtr_own_layer(handle *, handle *);
+extern uint32_t pdtr_changes(handle *, uint64_t, handle *);
+extern size_t pdtr_kept(handle *);
+extern size_t pdtr_change_entries(handle *, uint64_t);
+extern void pdtr_layer_close(handle *);
+extern size_t pdtr_layer_len(handle *);
+extern uint32_t pdtr_entry(handle *, size_t, pdt_entry *, int64_t *, size_t, uint8_t *, size_t);
+
+extern uint32_t pdtr_prepare(handle *, handle *, uint64_t *, handle *);
+extern uint32_t pdtr_install(handle *, handle *, handle *, uint64_t *);
+extern void pdtr_give_up(handle *);
+extern uint32_t pdtr_share(handle *, handle *);
+extern uint32_t pdtr_checkpoint_begin(handle *, handle *);
+extern uint32_t pdtr_snapshot_table(handle *, handle *);
+extern uint32_t pdtr_table_image(handle *, handle *);
+extern uint32_t pdtr_restack(handle *, handle *);
+extern void pdtr_table_close(handle *);
+
+extern uint32_t pdtr_pin(handle *, handle *);
+extern uint32_t pdtr_pin_again(handle *, handle *);
+extern uint64_t pdtr_pinned(handle *);
+extern void pdtr_unpin(handle *);
+
+/* ---- the objects */
+
+struct pdt_store {
+  handle raw;
+  pthread_mutex_t lock; /* held in each call on raw but the opening and the closing */
+  atomic_size_t open;   /* how many transactions are open: an abort lowers it without the lock */
+  size_t recent;        /* how many of the last commits are kept */
+  size_t width, key;    /* the columns never change, and are read without the lock */
+  int types[PDT_MAX_COLUMNS];
+  size_t name_bytes[PDT_MAX_COLUMNS]; /* a name may have a zero byte */
+  char names[PDT_MAX_COLUMNS][PDT_MAX_NAME + 1];
+
+  /* under the lock */
+  size_t snapshots;      /* how many checkpoints have begun and not ended */
+  uint64_t rebuilt;      /* how often what stands below the Write-PDT was made anew */
+  struct timespec since; /* when the lock was taken */
+  uint64_t longest;      /* the longest time that it was held, in nanoseconds */
+  struct {
+    uint64_t commits, conflicts, too_old, full, folds, checkpoints, superseded;
+  } done;
+
+  /* under a lock of their own, which no call holds for longer than it takes to begin a transaction */
+  pthread_mutex_t fresh_lock;
+  handle fresh;         /* the newest version; nothing where malloc refused it, and then a begin takes the other lock */
+  uint64_t commits;     /* its number */
+  pthread_cond_t moved; /* the number has grown */
+  size_t waiting;       /* how many threads wait for that */
+  pdt_pinned *oldest, *youngest; /* the pins, in the order of their numbers */
+  size_t pins;
+
+  atomic_uint_fast64_t begins; /* of transactions, also over pins */
+  atomic_uint_fast64_t waits;  /* how often a thread found the lock taken */
+};
+
+struct pdt_txn {
+  handle raw;
+  pdt_store *store;
+  bool is_prepared; /* its commit is */
+  handle decision;  /* of a prepared commit: the store's lock is held then. Nothing where it changes nothing */
+  pthread_t by;     /* the thread that prepared it, and holds the lock */
+  pid_t process;    /* of that thread: a child of fork has a thread of the same name, and no lock */
+};
+
+struct pdt_pinned {
+  handle version;
+  pthread_mutex_t lock; /* a handle goes to one call at a time */
+  pdt_store *store;
+  uint64_t commits;
+  pdt_pinned *older, *younger; /* under fresh_lock */
+};
+
+/* ---- the store's lock */
+
+/* Takes it. PDT_MISUSE where this thread has it, since a commit of its own is prepared. */
+int pdti_enter(pdt_store *store);
+/* Gives it back. */
+void pdti_leave(pdt_store *store);
+
+/* Shares the newest version with begins, before the lock is given back. What was shared before is let go by pdti_drop, after. */
+handle pdti_refresh(pdt_store *store);
+void pdti_drop(handle version);
+
+/* A lock that tells the thread which has it so, when it asks again. */
+int pdti_make_lock(pthread_mutex_t *lock);
+
+/* ---- slices: one of nothing still has an address that may be read */
+
+extern const uint8_t pdti_no_bytes[1];
+extern uint8_t pdti_no_room[1];
+extern int64_t pdti_no_numbers[1];
+
+static inline const uint8_t *bytes_at(const void *bytes, size_t len) { return len ? bytes : pdti_no_bytes; }
+static inline uint8_t *room_at(void *room, size_t len) { return len ? room : pdti_no_room; }
+
+/* ---- opening */
+
+/* The header of a store: a record that names the columns, each in quotes, since a name may have commas, quotes and ends of lines. */
+enum { HEADER_BYTES = PDT_MAX_COLUMNS * (2 * PDT_MAX_NAME + 16) };
+size_t pdti_header(const pdt_store *store, char *text);
+
+/* Puts the cell of one more column after so many bytes, and answers where it ends. */
+size_t pdti_add_heading(char *text, size_t len, const char *name, size_t bytes, int type, bool is_key);
+
+/* How many columns a header has. */
+int pdti_width_of(const uint8_t *header, size_t len, size_t *width);
+
+/* ---- files */
+
+enum { CHUNK = 1 << 20 };
+
+/* Whether a store can be made in a folder: it is there, may be read, and has no file of one. Nothing is changed by it. */
+int pdti_try_folder(const pdt_store *store, const char *folder);
+
+/* Writes the bytes of a checkpoint into a folder, and takes them away where that fails. */
+int pdti_write_files(const pdt_store *store, handle *image, const char *folder, uint8_t *chunk);
+
+/* Takes away the files from the header's up to this column's, which this call made. errno goes on saying why. */
+void pdti_remove_files(const char *folder, int end);
+
+/* Hands the bytes of a column to write, and says whether it took all. */
+bool pdti_hand_column(handle *image, size_t column, uint8_t *chunk, pdt_write write, void *context);
+
+/* Frees the room for a chunk, and errno goes on saying why a file failed. */
+void pdti_free_chunk(uint8_t *chunk);
+
+#endif

@@ -1,0 +1,112 @@
+/* The entries of layers, and the feed: what each commit changed. */
+#include "inside.h"
+
+struct pdt_layer {
+  handle raw;
+  size_t width; /* of its store, which may be closed */
+};
+
+static pdt_layer *new_layer(const pdt_store *store) {
+  pdt_layer *layer = calloc(1, sizeof *layer);
+  if (layer) layer->width = store->width;
+  return layer;
+}
+
+pdt_code pdt_layers(pdt_store *store, pdt_layer **read, pdt_layer **write) {
+  if (read) *read = NULL;
+  if (write) *write = NULL;
+  if (!store || !read || !write || read == write) return PDT_MISUSE;
+  pdt_layer *lower = new_layer(store), *upper = new_layer(store);
+  int code = lower && upper ? PDT_OK : PDT_NOMEM;
+  if (!code) code = pdti_enter(store);
+  if (!code) {
+    code = (int)pdtr_read_layer(&store->raw, &lower->raw);
+    if (!code) code = (int)pdtr_write_layer(&store->raw, &upper->raw);
+    pdti_leave(store);
+  }
+  if (code) {
+    pdt_layer_close(lower);
+    pdt_layer_close(upper);
+    return code;
+  }
+  *read = lower;
+  *write = upper;
+  return PDT_OK;
+}
+
+pdt_code pdt_own_layer(pdt_txn *txn, pdt_layer **out) {
+  if (!out) return PDT_MISUSE;
+  *out = NULL;
+  if (!txn) return PDT_MISUSE;
+  pdt_layer *layer = new_layer(txn->store);
+  if (!layer) return PDT_NOMEM;
+  int code = (int)pdtr_own_layer(&txn->raw, &layer->raw);
+  if (code) {
+    pdt_layer_close(layer);
+    return code;
+  }
+  *out = layer;
+  return PDT_OK;
+}
+
+void pdt_layer_close(pdt_layer *layer) {
+  if (!layer) return;
+  if (layer->raw.at) pdtr_layer_close(&layer->raw);
+  free(layer);
+}
+
+size_t pdt_layer_size(pdt_layer *layer) { return layer ? pdtr_layer_len(&layer->raw) : 0; }
+
+pdt_code pdt_entry_at(pdt_layer *layer, size_t index, pdt_entry *entry, int64_t *numbers, void *out, size_t room) {
+  if (!layer || !entry || !numbers || (!out && room)) return PDT_MISUSE;
+  return (int)pdtr_entry(&layer->raw, index, entry, numbers, layer->width, room_at(out, room), room);
+}
+
+/* ---- the feed */
+
+pdt_code pdt_changes(pdt_store *store, uint64_t number, pdt_layer **out) {
+  if (!out) return PDT_MISUSE;
+  *out = NULL;
+  if (!store) return PDT_MISUSE;
+  pdt_layer *layer = new_layer(store);
+  if (!layer) return PDT_NOMEM;
+  int code = pdti_enter(store);
+  if (!code) {
+    code = (int)pdtr_changes(&store->raw, number, &layer->raw);
+    pdti_leave(store);
+  }
+  if (code) {
+    pdt_layer_close(layer);
+    return code;
+  }
+  *out = layer;
+  return PDT_OK;
+}
+
+/* So many milliseconds from now. */
+static struct timespec later(uint64_t milliseconds) {
+  struct timespec at;
+  clock_gettime(CLOCK_MONOTONIC, &at);
+  uint64_t seconds = milliseconds / 1000;
+  at.tv_sec += seconds < 1000000000 ? (time_t)seconds : 1000000000; /* some thirty years */
+  at.tv_nsec += (long)(milliseconds % 1000) * 1000000;
+  if (at.tv_nsec >= 1000000000) {
+    at.tv_sec++;
+    at.tv_nsec -= 1000000000;
+  }
+  return at;
+}
+
+pdt_code pdt_wait(pdt_store *store, uint64_t after, uint64_t milliseconds, uint64_t *commits) {
+  if (!store) return PDT_MISUSE;
+  struct timespec end = later(milliseconds);
+  int late = 0;
+  pthread_mutex_lock(&store->fresh_lock);
+  store->waiting++;
+  while (store->commits <= after && !late) late = pthread_cond_timedwait(&store->moved, &store->fresh_lock, &end);
+  store->waiting--;
+  uint64_t number = store->commits;
+  pthread_mutex_unlock(&store->fresh_lock);
+  if (commits) *commits = number;
+  return number > after ? PDT_OK : PDT_MISSING;
+}

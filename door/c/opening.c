@@ -1,0 +1,228 @@
+/* Opening stores: over a text, over columns, and over the bytes of an image. */
+#include "inside.h"
+
+#include <stdio.h>
+
+/* ---- headers */
+
+size_t pdti_add_heading(char *text, size_t len, const char *name, size_t bytes, int type, bool is_key) {
+  static const char *const words[] = {"", "int", "text", "bool"};
+  if (len) text[len++] = ',';
+  text[len++] = '"';
+  for (size_t i = 0; i < bytes; i++) {
+    if (name[i] == '"') text[len++] = '"';
+    text[len++] = name[i];
+  }
+  return len + (size_t)sprintf(text + len, ":%s%s\"", words[type], is_key ? ":key" : "");
+}
+
+size_t pdti_header(const pdt_store *store, char *text) {
+  size_t len = 0;
+  for (size_t column = 0; column < store->width; column++)
+    len = pdti_add_heading(text, len, store->names[column], store->name_bytes[column], store->types[column], column < store->key);
+  text[len++] = '\n';
+  return len;
+}
+
+/* ---- options */
+
+/* What a caller asks for, whose struct may be a later one with further members: those are zeros. */
+static int options_of(const pdt_options *given, pdt_options *options) {
+  *options = (pdt_options){sizeof *options, 65536, 2147483647, false};
+  if (!given) return PDT_OK;
+  if (given->size < sizeof *given) return PDT_MISUSE;
+  for (size_t at = sizeof *given; at < given->size; at++)
+    if (((const uint8_t *)given)[at]) return PDT_MISUSE;
+  if (given->recent) options->recent = given->recent;
+  if (given->row_limit) options->row_limit = given->row_limit;
+  options->by_row = given->by_row;
+  return PDT_OK;
+}
+
+/* ---- texts */
+
+/* Makes the locks of a store, or none of them. */
+static int make_locks(pdt_store *store) {
+  pthread_condattr_t kind;
+  if (pthread_condattr_init(&kind)) return -1;
+  int bad = pthread_condattr_setclock(&kind, CLOCK_MONOTONIC) || pthread_cond_init(&store->moved, &kind);
+  pthread_condattr_destroy(&kind);
+  if (bad) return -1;
+  if (pthread_mutex_init(&store->fresh_lock, NULL)) {
+    pthread_cond_destroy(&store->moved);
+    return -1;
+  }
+  if (pdti_make_lock(&store->lock)) {
+    pthread_mutex_destroy(&store->fresh_lock);
+    pthread_cond_destroy(&store->moved);
+    return -1;
+  }
+  return 0;
+}
+
+/* Keeps the columns of a store whose handle has just been filled, and hands it out. */
+static int adopt(pdt_store *store, const pdt_options *options, pdt_store **out) {
+  if (make_locks(store)) {
+    pdtr_close(&store->raw);
+    free(store);
+    return PDT_NOMEM;
+  }
+  store->recent = options->recent;
+  (void)pdtr_pin(&store->raw, &store->fresh);
+  store->width = pdtr_width(&store->raw);
+  store->key = pdtr_key_columns(&store->raw);
+  for (size_t column = 0; column < store->width; column++) {
+    store->types[column] = (int)pdtr_type(&store->raw, column);
+    store->name_bytes[column] = pdtr_name(&store->raw, column, (uint8_t *)store->names[column], PDT_MAX_NAME);
+  }
+  *out = store;
+  return PDT_OK;
+}
+
+/* What is told of the first fault of a text: a cause of which there is no sentence has the code's. */
+static pdt_fault fault_of(const text_fault *found) {
+  static const char *const text_faults[] = {
+      NULL,
+      "there is no header",
+      "the cell isn't a name of 1 to 64 bytes, a colon and a type, or it is a key column after one that is not",
+      "the header has no column",
+      "the header has more than 32 columns",
+      "the key has no column, or more than 4",
+      "the column has the name of an earlier one",
+      "the record has not as many cells as the header",
+      "the text is not UTF-8",
+      "the cell is no value of the column's type",
+      "the text has more than 4,096 bytes",
+      "the key is that of an earlier record",
+  };
+  bool is_known = found->cause && found->cause < sizeof text_faults / sizeof *text_faults;
+  return (pdt_fault){{found->row, found->column}, is_known ? text_faults[found->cause] : pdt_text(PDT_BAD_TABLE)};
+}
+
+pdt_code pdt_open(const void *csv, size_t bytes, const pdt_options *options, pdt_store **out) {
+  return pdt_open_csv(csv, bytes, options, NULL, out);
+}
+
+pdt_code pdt_open_csv(const void *csv, size_t bytes, const pdt_options *options, pdt_fault *fault, pdt_store **out) {
+  if (!out) return PDT_MISUSE;
+  *out = NULL;
+  pdt_options asked;
+  if ((!csv && bytes) || options_of(options, &asked)) return PDT_MISUSE;
+  pdt_store *store = calloc(1, sizeof *store);
+  if (!store) return PDT_NOMEM;
+  text_fault found = {0, 0, 0};
+  int code = (int)pdtr_open(bytes_at(csv, bytes), bytes, asked.recent, asked.row_limit, asked.by_row, &found, &store->raw);
+  if (code == PDT_BAD_TABLE && fault) *fault = fault_of(&found);
+  if (code) {
+    free(store);
+    return code;
+  }
+  return adopt(store, &asked, out);
+}
+
+/* It is the text of a table with no rows. */
+int pdti_width_of(const uint8_t *header, size_t len, size_t *width) {
+  handle table = {NULL};
+  text_fault found = {0, 0, 0};
+  int code = (int)pdtr_open(bytes_at(header, len), len, 1, 2147483647, false, &found, &table);
+  if (code) return code;
+  *width = pdtr_width(&table);
+  pdtr_close(&table);
+  return PDT_OK;
+}
+
+
+/* ---- columns that the caller hands over */
+
+/* What is passed of each column: nothing but what its type has. */
+typedef struct {
+  numbers numbers[PDT_MAX_COLUMNS];
+  offsets offsets[PDT_MAX_COLUMNS];
+  slice bytes[PDT_MAX_COLUMNS];
+} passed;
+
+static int pass_column(passed *all, size_t at, const pdt_column *column) {
+  static const uint64_t no_offsets[1];
+  size_t rows = (size_t)column->rows;
+  all->numbers[at] = (numbers){pdti_no_numbers, 0};
+  all->offsets[at] = (offsets){no_offsets, 0};
+  all->bytes[at] = (slice){pdti_no_bytes, 0};
+  if (column->rows > 2147483647) return PDT_TOO_MANY_ROWS;
+  if (!rows) return PDT_OK;
+  switch (column->type) {
+    case PDT_INT: all->numbers[at] = (numbers){column->numbers, rows}; return column->numbers ? PDT_OK : PDT_MISUSE;
+    case PDT_BOOL: all->bytes[at] = (slice){column->bytes, rows}; return column->bytes ? PDT_OK : PDT_MISUSE;
+    default:
+      all->offsets[at] = (offsets){column->offsets, rows + 1};
+      all->bytes[at] = (slice){bytes_at(column->bytes, column->len), column->len};
+      return column->offsets && (column->bytes || !column->len) ? PDT_OK : PDT_MISUSE;
+  }
+}
+
+/* Puts the header of columns, of whose names, types and number so much is tested as room for it wants. */
+static int head_columns(const pdt_column *columns, size_t count, size_t key, char *text, size_t *len) {
+  if (!count || count > PDT_MAX_COLUMNS || !key || key > count) return PDT_BAD_TABLE;
+  for (size_t column = 0; column < count; column++) {
+    const pdt_column *one = &columns[column];
+    if (!one->name) return PDT_MISUSE;
+    size_t bytes = strnlen(one->name, PDT_MAX_NAME + 1);
+    if (bytes > PDT_MAX_NAME || one->type < PDT_INT || one->type > PDT_BOOL) return PDT_BAD_TABLE;
+    *len = pdti_add_heading(text, *len, one->name, bytes, one->type, column < key);
+  }
+  text[(*len)++] = '\n';
+  return PDT_OK;
+}
+
+pdt_code pdt_open_columns(const pdt_column *columns, size_t count, size_t key, const pdt_options *options, pdt_place *place,
+                          pdt_store **out) {
+  if (!out) return PDT_MISUSE;
+  *out = NULL;
+  pdt_options asked;
+  if ((!columns && count) || options_of(options, &asked)) return PDT_MISUSE;
+  char header[HEADER_BYTES];
+  size_t len = 0;
+  pdt_place at = {0, 0};
+  int code = head_columns(columns, count, key, header, &len);
+  if (code) return code;
+  passed *all = malloc(sizeof *all);
+  pdt_store *store = calloc(1, sizeof *store);
+  if (!all || !store) code = PDT_NOMEM;
+  for (size_t column = 0; column < count && !code; column++) code = pass_column(all, column, &columns[column]);
+  if (!code)
+    code = (int)pdtr_open_columns((const uint8_t *)header, len, (size_t)columns[0].rows, all->numbers, count, all->offsets, count,
+                                  all->bytes, count, asked.recent, asked.row_limit, asked.by_row, &at, &store->raw);
+  free(all);
+  if (place) *place = at;
+  if (code) {
+    free(store);
+    return code;
+  }
+  return adopt(store, &asked, out);
+}
+
+/* ---- images as bytes */
+
+pdt_code pdt_recover_from(const void *header, size_t len, const pdt_bytes *columns, size_t count, const pdt_options *options,
+                          uint32_t *generation, pdt_store **out) {
+  if (!out) return PDT_MISUSE;
+  *out = NULL;
+  pdt_options asked;
+  if ((!header && len) || (!columns && count) || options_of(options, &asked)) return PDT_MISUSE;
+  if (count > PDT_MAX_COLUMNS) return PDT_BAD_STORE;
+  slice slices[PDT_MAX_COLUMNS] = {{pdti_no_bytes, 0}};
+  for (size_t column = 0; column < count; column++) {
+    if (!columns[column].at && columns[column].len) return PDT_MISUSE;
+    slices[column] = (slice){bytes_at(columns[column].at, columns[column].len), columns[column].len};
+  }
+  pdt_store *store = calloc(1, sizeof *store);
+  if (!store) return PDT_NOMEM;
+  uint32_t found = 0;
+  int code = (int)pdtr_recover(bytes_at(header, len), len, slices, count, asked.recent, asked.row_limit, asked.by_row, &found,
+                               &store->raw);
+  if (code) {
+    free(store);
+    return code;
+  }
+  if (generation) *generation = found;
+  return adopt(store, &asked, out);
+}

@@ -1,0 +1,185 @@
+/* Stores: their locks, what they have, what keeps them fast and small, and what they count. */
+#include "inside.h"
+
+const uint8_t pdti_no_bytes[1];
+uint8_t pdti_no_room[1];
+int64_t pdti_no_numbers[1];
+
+const char *pdt_text(int code) {
+  static const char *const texts[] = {
+      "done",
+      "memory was refused",
+      "a commit since the transaction began is in conflict with it",
+      "the transaction began before the commits that are kept",
+      "the table has as many rows as its limit",
+      "there is a row of the key",
+      "there is no such row, mark or commit",
+      "the cells don't fit the columns",
+      "the text is no table",
+      "a limit is outside its range",
+      "the table has more rows than the limit",
+      "the room is too small",
+      "the files of the store can't be read as one",
+      "the store has no whole image",
+      "the call may not be made so, or not now",
+      "a file failed",
+      "a file of a store is there already",
+      "a fold or another checkpoint came since the checkpoint began",
+      [PDT_NOT_ASCENDING] = "a row's key isn't above that of the row before it",
+      [PDT_DEVICE_FAILED] = "the caller's write didn't take the bytes",
+  };
+  return code >= 0 && (size_t)code < sizeof texts / sizeof *texts && texts[code] ? texts[code] : "no such code";
+}
+
+const char *pdt_version(void) { return PDT_VERSION; }
+
+/* ---- the lock */
+
+int pdti_make_lock(pthread_mutex_t *lock) {
+  pthread_mutexattr_t kind;
+  if (pthread_mutexattr_init(&kind)) return -1;
+  int bad = pthread_mutexattr_settype(&kind, PTHREAD_MUTEX_ERRORCHECK) || pthread_mutex_init(lock, &kind);
+  pthread_mutexattr_destroy(&kind);
+  return bad;
+}
+
+int pdti_enter(pdt_store *store) {
+  int bad = pthread_mutex_trylock(&store->lock);
+  if (bad == EBUSY) {
+    bad = pthread_mutex_lock(&store->lock); /* EDEADLK where this thread has it */
+    if (!bad) store->waits++;
+  }
+  if (bad) return PDT_MISUSE;
+  clock_gettime(CLOCK_MONOTONIC, &store->since);
+  return PDT_OK;
+}
+
+void pdti_leave(pdt_store *store) {
+  struct timespec now;
+  clock_gettime(CLOCK_MONOTONIC, &now);
+  int64_t held = (int64_t)(now.tv_sec - store->since.tv_sec) * 1000000000 + (now.tv_nsec - store->since.tv_nsec);
+  if (held > (int64_t)store->longest) store->longest = (uint64_t)held;
+  pthread_mutex_unlock(&store->lock);
+}
+
+/* ---- the newest version, for begins */
+
+handle pdti_refresh(pdt_store *store) {
+  handle next = {NULL};
+  (void)pdtr_pin(&store->raw, &next); /* nothing, where malloc refuses it */
+  uint64_t commits = pdtr_commits(&store->raw);
+  pthread_mutex_lock(&store->fresh_lock);
+  handle before = store->fresh;
+  store->fresh = next;
+  store->commits = commits;
+  if (store->waiting) pthread_cond_broadcast(&store->moved);
+  pthread_mutex_unlock(&store->fresh_lock);
+  return before;
+}
+
+void pdti_drop(handle version) {
+  if (version.at) pdtr_unpin(&version);
+}
+
+/* ---- what a store has */
+
+pdt_code pdt_close(pdt_store *store) {
+  if (!store) return PDT_OK;
+  if (pdti_enter(store)) return PDT_MISUSE;
+  pthread_mutex_lock(&store->fresh_lock);
+  bool is_used = store->open || store->snapshots || store->pins || store->waiting;
+  pthread_mutex_unlock(&store->fresh_lock);
+  pdti_leave(store);
+  if (is_used) return PDT_MISUSE;
+  pdti_drop(store->fresh);
+  pdtr_close(&store->raw);
+  pthread_cond_destroy(&store->moved);
+  pthread_mutex_destroy(&store->fresh_lock);
+  pthread_mutex_destroy(&store->lock);
+  free(store);
+  return PDT_OK;
+}
+
+size_t pdt_columns(const pdt_store *store) { return store ? store->width : 0; }
+size_t pdt_key_columns(const pdt_store *store) { return store ? store->key : 0; }
+int pdt_column_type(const pdt_store *store, size_t column) { return store && column < store->width ? store->types[column] : 0; }
+const char *pdt_column_name(const pdt_store *store, size_t column) { return store && column < store->width ? store->names[column] : NULL; }
+
+pdt_code pdt_size(pdt_store *store, pdt_sizes *sizes) {
+  if (!store || !sizes) return PDT_MISUSE;
+  int held = pdti_enter(store); /* by this thread, where a commit of its own is prepared */
+  sizes->commits = pdtr_commits(&store->raw);
+  sizes->write_entries = pdtr_write_entries(&store->raw);
+  sizes->read_entries = pdtr_read_entries(&store->raw);
+  sizes->open_transactions = store->open;
+  if (!held) pdti_leave(store);
+  return PDT_OK;
+}
+
+/* ---- what keeps it fast and small */
+
+pdt_code pdt_fold(pdt_store *store) {
+  if (!store || pdti_enter(store)) return PDT_MISUSE;
+  int code = (int)pdtr_fold(&store->raw);
+  handle before = {NULL};
+  if (!code) {
+    store->rebuilt++;
+    store->done.folds++;
+    before = pdti_refresh(store);
+  }
+  pdti_leave(store);
+  pdti_drop(before);
+  return code;
+}
+
+pdt_code pdt_cut(pdt_store *store) {
+  if (!store) return PDT_MISUSE;
+  handle trees = {NULL};
+  (void)pdtr_room(store->recent, &trees); /* without the lock; where malloc refuses it, the trees are freed under it */
+  int code = pdti_enter(store);
+  if (!code) {
+    if (trees.at) {
+      pdtr_cut_into(&store->raw, &trees);
+    } else {
+      pdtr_cut(&store->raw);
+    }
+    pdti_leave(store);
+  }
+  if (trees.at) pdtr_trees_close(&trees);
+  return code;
+}
+
+/* ---- what it counts */
+
+/* How many entries the changes of the last commits have. */
+static uint64_t kept_entries(pdt_store *store, size_t kept, uint64_t commits) {
+  uint64_t entries = 0;
+  for (size_t back = 0; back < kept; back++) entries += pdtr_change_entries(&store->raw, commits - back);
+  return entries;
+}
+
+pdt_code pdt_count(pdt_store *store, pdt_counts *counts) {
+  if (!store || !counts || counts->size < sizeof *counts) return PDT_MISUSE;
+  size_t size = counts->size;
+  memset(counts, 0, size); /* what this version doesn't know is 0 */
+  counts->size = size;
+  int held = pdti_enter(store); /* by this thread, where a commit of its own is prepared */
+  counts->commits = store->done.commits;
+  counts->conflicts = store->done.conflicts;
+  counts->too_old = store->done.too_old;
+  counts->full = store->done.full;
+  counts->folds = store->done.folds;
+  counts->checkpoints = store->done.checkpoints;
+  counts->superseded = store->done.superseded;
+  counts->kept = pdtr_kept(&store->raw);
+  counts->kept_entries = kept_entries(store, counts->kept, pdtr_commits(&store->raw));
+  counts->longest_hold = store->longest;
+  if (!held) pdti_leave(store);
+  counts->waits = store->waits;
+  counts->begins = store->begins;
+  pthread_mutex_lock(&store->fresh_lock);
+  counts->pins = store->pins;
+  counts->oldest_pin = store->oldest ? store->oldest->commits : 0;
+  pthread_mutex_unlock(&store->fresh_lock);
+  return PDT_OK;
+}

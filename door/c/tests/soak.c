@@ -1,0 +1,63 @@
+/* What a store keeps doesn't grow with its commits. soak N: makes N commits of one set each over a small store that keeps 64 of
+   them, with a fold each 10,000, and prints the resident memory each tenth. It fails where that has grown by more than 1 MB since the
+   first tenth. Reads /proc, as Linux has it. */
+#define _POSIX_C_SOURCE 200809L
+#include <pdt.h>
+#include <stdio.h>
+#include <stdlib.h>
+#include <string.h>
+#include <time.h>
+
+static double now(void) {
+  struct timespec at;
+  clock_gettime(CLOCK_MONOTONIC, &at);
+  return (double)at.tv_sec + (double)at.tv_nsec / 1e9;
+}
+
+/* The memory that is resident, in KB; or -1. */
+static long resident(void) {
+  char line[256];
+  long kilobytes = -1;
+  FILE *file = fopen("/proc/self/status", "r");
+  while (file && fgets(line, sizeof line, file))
+    if (sscanf(line, "VmRSS: %ld", &kilobytes) == 1) break;
+  if (file) fclose(file);
+  return kilobytes;
+}
+
+static int fails(const char *what, pdt_code code) { return fprintf(stderr, "%s: %s\n", what, pdt_text(code)), 1; }
+
+int main(int argc, char **argv) {
+  enum { ROWS = 1000 };
+  long commits = argc > 1 ? atol(argv[1]) : 0, tenth = commits / 10;
+  if (tenth < 1) return fprintf(stderr, "soak N: the commits, 10 or more\n"), 2;
+  static int64_t ids[ROWS], qty[ROWS];
+  for (int i = 0; i < ROWS; i++) ids[i] = i;
+  pdt_column columns[] = {{"id", PDT_INT, ROWS, ids, NULL, NULL, 0}, {"qty", PDT_INT, ROWS, qty, NULL, NULL, 0}};
+  pdt_options options = {sizeof options, 64, 0, false};
+  pdt_store *store;
+  pdt_code code = pdt_open_columns(columns, 2, 1, &options, NULL, &store);
+  if (code) return fails("open", code);
+  long first = 0;
+  double began = now();
+  for (long i = 1; i <= tenth * 10; i++) {
+    pdt_txn *txn;
+    if ((code = pdt_begin(store, &txn))) return fails("begin", code);
+    if ((code = pdt_set(txn, (int64_t[]){i * 7919 % ROWS}, NULL, 0, 1, i, NULL))) return fails("set", code);
+    if ((code = pdt_commit(txn, NULL))) return fails("commit", code);
+    if (i % 10000 == 0 && (code = pdt_fold(store))) return fails("fold", code);
+    if (i % tenth) continue;
+    long kilobytes = resident();
+    if (kilobytes < 0) return fprintf(stderr, "no resident memory is told\n"), 1;
+    if (i == tenth) first = kilobytes;
+    printf("%ld commits, %.1f s: %ld KB\n", i, now() - began, kilobytes);
+    fflush(stdout);
+    if (kilobytes - first > 1024) return fprintf(stderr, "%ld KB more than after the first tenth\n", kilobytes - first), 1;
+  }
+  pdt_counts counts = {.size = sizeof counts};
+  if ((code = pdt_count(store, &counts))) return fails("count", code);
+  if (counts.commits != (uint64_t)tenth * 10 || counts.kept != (tenth * 10 < 64 ? (size_t)tenth * 10 : 64) || counts.kept_entries > 64)
+    return fprintf(stderr, "it keeps %zu commits of %llu\n", counts.kept, (unsigned long long)counts.commits), 1;
+  code = pdt_close(store);
+  return code ? fails("close", code) : 0;
+}

@@ -1,0 +1,288 @@
+/* Transactions: how they begin, the versions that they may begin over, how they end, and what they write. */
+#include "inside.h"
+
+/* ---- begins */
+
+/* Begins over the newest version: as it is shared, or where malloc refused to share it, under the store's lock. Then it is shared
+   again, so that the next begin needs no lock of the store's. */
+static int begin_newest(pdt_store *store, handle *txn) {
+  pthread_mutex_lock(&store->fresh_lock);
+  bool is_shared = store->fresh.at;
+  int code = is_shared ? (int)pdtr_begin_at(&store->fresh, 0, txn) : PDT_OK;
+  pthread_mutex_unlock(&store->fresh_lock);
+  if (is_shared) return code;
+  int held = pdti_enter(store); /* by this thread, where a commit of its own is prepared */
+  code = (int)pdtr_begin(&store->raw, 0, txn);
+  handle before = pdti_refresh(store);
+  if (!held) pdti_leave(store);
+  pdti_drop(before);
+  return code;
+}
+
+/* Makes a transaction that begins over the newest version, or over that of a pin. */
+static int begin(pdt_store *store, pdt_pinned *pin, pdt_txn **out) {
+  pdt_txn *txn = malloc(sizeof *txn); /* not calloc, which takes a lock of the allocator's where there are threads */
+  if (!txn) return PDT_NOMEM;
+  *txn = (pdt_txn){.store = store};
+  store->open++; /* before it begins: the store may not be closed under it */
+  int code;
+  if (pin) {
+    pthread_mutex_lock(&pin->lock);
+    code = (int)pdtr_begin_at(&pin->version, 0, &txn->raw);
+    pthread_mutex_unlock(&pin->lock);
+  } else {
+    code = begin_newest(store, &txn->raw);
+  }
+  if (code) {
+    free(txn);
+    store->open--;
+    return code;
+  }
+  store->begins++;
+  *out = txn;
+  return PDT_OK;
+}
+
+pdt_code pdt_begin(pdt_store *store, pdt_txn **out) {
+  if (!out) return PDT_MISUSE;
+  *out = NULL;
+  return store ? begin(store, NULL, out) : PDT_MISUSE;
+}
+
+pdt_code pdt_begun(pdt_txn *txn, uint64_t *commits) {
+  if (!txn || !commits) return PDT_MISUSE;
+  *commits = pdtr_begun(&txn->raw);
+  return PDT_OK;
+}
+
+/* ---- pins */
+
+/* Fills a pin with the newest version, and enters it among the others, which are older. Under fresh_lock. */
+static int enter_pin(pdt_store *store, pdt_pinned *pin) {
+  int code = (int)pdtr_pin_again(&store->fresh, &pin->version);
+  if (code) return code;
+  pin->commits = pdtr_pinned(&pin->version);
+  pin->older = store->youngest;
+  if (pin->older) {
+    pin->older->younger = pin;
+  } else {
+    store->oldest = pin;
+  }
+  store->youngest = pin;
+  store->pins++;
+  return PDT_OK;
+}
+
+/* Shares the newest version where malloc refused that before. */
+static void share_again(pdt_store *store) {
+  int held = pdti_enter(store); /* by this thread, where a commit of its own is prepared */
+  handle before = pdti_refresh(store);
+  if (!held) pdti_leave(store);
+  pdti_drop(before);
+}
+
+pdt_code pdt_pin(pdt_store *store, uint64_t *commits, pdt_pinned **out) {
+  if (!out) return PDT_MISUSE;
+  *out = NULL;
+  if (!store) return PDT_MISUSE;
+  pdt_pinned *pin = calloc(1, sizeof *pin);
+  if (!pin || pthread_mutex_init(&pin->lock, NULL)) {
+    free(pin);
+    return PDT_NOMEM;
+  }
+  pin->store = store;
+  pthread_mutex_lock(&store->fresh_lock);
+  if (!store->fresh.at) {
+    pthread_mutex_unlock(&store->fresh_lock);
+    share_again(store);
+    pthread_mutex_lock(&store->fresh_lock);
+  }
+  int code = store->fresh.at ? enter_pin(store, pin) : PDT_NOMEM;
+  pthread_mutex_unlock(&store->fresh_lock);
+  if (code) {
+    pthread_mutex_destroy(&pin->lock);
+    free(pin);
+    return code;
+  }
+  if (commits) *commits = pin->commits;
+  *out = pin;
+  return PDT_OK;
+}
+
+uint64_t pdt_pinned_commits(const pdt_pinned *pin) { return pin ? pin->commits : 0; }
+
+pdt_code pdt_begin_at(pdt_pinned *pin, pdt_txn **out) {
+  if (!out) return PDT_MISUSE;
+  *out = NULL;
+  return pin ? begin(pin->store, pin, out) : PDT_MISUSE;
+}
+
+void pdt_unpin(pdt_pinned *pin) {
+  if (!pin) return;
+  pdt_store *store = pin->store;
+  pdtr_unpin(&pin->version); /* without a lock: what was replaced since may go with it */
+  pthread_mutex_lock(&store->fresh_lock);
+  *(pin->older ? &pin->older->younger : &store->oldest) = pin->younger;
+  *(pin->younger ? &pin->younger->older : &store->youngest) = pin->older;
+  store->pins--;
+  pthread_mutex_unlock(&store->fresh_lock);
+  pthread_mutex_destroy(&pin->lock);
+  free(pin);
+}
+
+/* ---- ends */
+
+/* Counts a commit that was decided. Under the store's lock. */
+static void count(pdt_store *store, int code) {
+  if (code == PDT_OK) store->done.commits++;
+  if (code == PDT_CONFLICT) store->done.conflicts++;
+  if (code == PDT_TOO_OLD) store->done.too_old++;
+  if (code == PDT_FULL) store->done.full++;
+}
+
+/* Ends a transaction that leaves no record. */
+static void end(pdt_txn *txn) {
+  pdt_store *store = txn->store;
+  pdtr_abort(&txn->raw); /* what it shares with the store is counted atomically */
+  free(txn);
+  store->open--; /* the last touch, after all before it in every thread's eyes: the store may be closed from now on */
+}
+
+void pdt_abort(pdt_txn *txn) {
+  if (!txn || (txn->is_prepared && pdt_give_up(txn))) return; /* another thread has it prepared, and goes on with it */
+  end(txn);
+}
+
+/* Whether a transaction changes nothing, so that its commit is its abort; *commits is the number that it sees. */
+static bool is_idle(pdt_txn *txn, uint64_t *commits) {
+  if (pdtr_own_entries(&txn->raw)) return false;
+  if (commits) *commits = pdtr_begun(&txn->raw);
+  return true;
+}
+
+pdt_code pdt_commit(pdt_txn *txn, uint64_t *commits) {
+  if (!txn || txn->is_prepared) return PDT_MISUSE;
+  if (is_idle(txn, commits)) {
+    end(txn);
+    return PDT_OK;
+  }
+  pdt_store *store = txn->store;
+  uint64_t number = 0;
+  if (pdti_enter(store)) return PDT_MISUSE;
+  int code = (int)pdtr_commit(&store->raw, &txn->raw, &number);
+  handle before = {NULL};
+  count(store, code);
+  if (code == PDT_OK) before = pdti_refresh(store);
+  pdti_leave(store);
+  pdti_drop(before);
+  if (code == PDT_NOMEM) return code;
+  if (commits) *commits = number;
+  free(txn);
+  store->open--;
+  return code;
+}
+
+/* ---- a commit in two parts */
+
+static void prepared_here(pdt_txn *txn) {
+  txn->is_prepared = true;
+  txn->by = pthread_self();
+  txn->process = getpid();
+}
+
+pdt_code pdt_prepare(pdt_txn *txn, uint64_t *commits) {
+  if (!txn || txn->is_prepared) return PDT_MISUSE;
+  if (is_idle(txn, commits)) {
+    prepared_here(txn);
+    return PDT_OK;
+  }
+  pdt_store *store = txn->store;
+  uint64_t number = 0;
+  if (pdti_enter(store)) return PDT_MISUSE;
+  int code = (int)pdtr_prepare(&store->raw, &txn->raw, &number, &txn->decision);
+  if (code == PDT_OK) {
+    prepared_here(txn); /* and keeps the lock */
+  } else if (code == PDT_NOMEM) {
+    pdti_leave(store);
+    return code;
+  } else { /* nothing is left to be written before it: it ends as a commit does */
+    pdtr_install(&store->raw, &txn->raw, &txn->decision, &number);
+    count(store, code);
+    pdti_leave(store);
+    free(txn);
+    store->open--;
+  }
+  if (commits) *commits = number;
+  return code;
+}
+
+static bool is_prepared_here(const pdt_txn *txn) {
+  return txn && txn->is_prepared && pthread_equal(txn->by, pthread_self()) && txn->process == getpid();
+}
+
+pdt_code pdt_install(pdt_txn *txn) {
+  if (!is_prepared_here(txn)) return PDT_MISUSE;
+  if (!txn->decision.at) {
+    end(txn);
+    return PDT_OK;
+  }
+  pdt_store *store = txn->store;
+  uint64_t number = 0;
+  int code = (int)pdtr_install(&store->raw, &txn->raw, &txn->decision, &number);
+  count(store, code);
+  handle before = pdti_refresh(store);
+  pdti_leave(store);
+  pdti_drop(before);
+  free(txn);
+  store->open--;
+  return code;
+}
+
+pdt_code pdt_give_up(pdt_txn *txn) {
+  if (!is_prepared_here(txn)) return PDT_MISUSE;
+  txn->is_prepared = false;
+  if (!txn->decision.at) return PDT_OK;
+  pdtr_give_up(&txn->decision);
+  pdti_leave(txn->store);
+  return PDT_OK;
+}
+
+/* ---- writes: none while a commit of these writes is prepared */
+
+pdt_code pdt_insert(pdt_txn *txn, const int64_t *numbers, const void *texts, size_t bytes) {
+  if (!txn || txn->is_prepared || !numbers || (!texts && bytes)) return PDT_MISUSE;
+  return (int)pdtr_insert(&txn->raw, numbers, txn->store->width, bytes_at(texts, bytes), bytes);
+}
+
+pdt_code pdt_delete(pdt_txn *txn, const int64_t *key, const void *texts, size_t bytes) {
+  if (!txn || txn->is_prepared || !key || (!texts && bytes)) return PDT_MISUSE;
+  return (int)pdtr_delete(&txn->raw, key, txn->store->key, bytes_at(texts, bytes), bytes);
+}
+
+pdt_code pdt_set(pdt_txn *txn, const int64_t *key, const void *texts, size_t bytes, size_t column, int64_t number, const void *text) {
+  if (!txn || txn->is_prepared || !key || (!texts && bytes)) return PDT_MISUSE;
+  size_t len = 0;
+  if (pdt_column_type(txn->store, column) == PDT_TEXT) {
+    if (number < 0 || number > PDT_MAX_TEXT) return PDT_SHAPE;
+    len = (size_t)number;
+  }
+  if (!text && len) return PDT_MISUSE;
+  return (int)pdtr_set(&txn->raw, key, txn->store->key, bytes_at(texts, bytes), bytes, column, number, bytes_at(text, len), len);
+}
+
+/* ---- marks */
+
+pdt_code pdt_mark(pdt_txn *txn, size_t *level) {
+  if (!txn || txn->is_prepared || !level) return PDT_MISUSE;
+  return (int)pdtr_mark(&txn->raw, level);
+}
+
+pdt_code pdt_back_to(pdt_txn *txn, size_t level) {
+  if (!txn || txn->is_prepared) return PDT_MISUSE;
+  return (int)pdtr_back_to(&txn->raw, level);
+}
+
+pdt_code pdt_release(pdt_txn *txn, size_t level) {
+  if (!txn || txn->is_prepared) return PDT_MISUSE;
+  return (int)pdtr_release(&txn->raw, level);
+}
