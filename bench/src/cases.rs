@@ -7,6 +7,9 @@ mod keys;
 mod loads;
 mod lookups;
 mod marks;
+mod pin_scans;
+mod pins;
+mod prepared;
 mod rebases;
 mod scans;
 mod sql;
@@ -86,7 +89,7 @@ pub struct Case {
     pub run: fn(&Size) -> Table,
 }
 
-pub const CASES: [Case; 14] = [
+pub const CASES: [Case; 17] = [
     Case { name: scans::NAME, run: scans::run },
     Case { name: keys::NAME, run: keys::run },
     Case { name: lookups::NAME, run: lookups::run },
@@ -94,6 +97,9 @@ pub const CASES: [Case; 14] = [
     Case { name: commits::NAME, run: commits::run },
     Case { name: marks::NAME, run: marks::run },
     Case { name: begins::NAME, run: begins::run },
+    Case { name: prepared::NAME, run: prepared::run },
+    Case { name: pins::NAME, run: pins::run },
+    Case { name: pin_scans::NAME, run: pin_scans::run },
     Case { name: transactions::NAME, run: transactions::run },
     Case { name: folds::NAME, run: folds::run },
     Case { name: rebases::NAME, run: rebases::run },

@@ -119,7 +119,7 @@ pub fn updated<'s>(store: &'s Store, kind: KeyKind, updates: &[Update], place: P
 
 /// A transaction that has begun.
 pub fn begun(store: &Store) -> Transaction<'_> {
-    store.begin(1).expect("there is memory")
+    store.begin().expect("there is memory")
 }
 
 /// How many rows a scan asks for at a time.

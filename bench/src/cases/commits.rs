@@ -81,7 +81,7 @@ impl Base {
     }
 
     fn ours(&self, sets: &Sets) -> Turn {
-        self.store.cut(); // no turn has a longer history than the first
+        self.store.cut(); // no turn has more commits behind it than the first
         let (time, ()) = clocked(|| {
             for cells in sets.cells.chunks(sets.each) {
                 let mut txn = begun(&self.store);

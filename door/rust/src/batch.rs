@@ -17,7 +17,7 @@ const PIECES: usize = 128;
 /// ```
 /// use narthexmace::{Error, Options, Store};
 /// let store = Store::open("id:int:key,name:text,qty:int\n10,Ann,7\n20,Bob,2\n", &Options::default())?;
-/// let txn = store.begin(1)?;
+/// let txn = store.begin()?;
 /// let batch = txn.batch(&[2, 1], ..)?;
 /// assert_eq!(vec![7, 2], batch.ints(0).unwrap().iter().collect::<Vec<i64>>());
 /// assert_eq!(vec!["Ann", "Bob"], batch.texts(1).unwrap().iter().collect::<Vec<&str>>());
@@ -235,12 +235,12 @@ fn offsets_of(lengths: &[i64]) -> Result<Vec<usize>, Error> {
 
 /// The truths of a bool column, so many rows from a position on.
 fn read_truths(txn: &Transaction<'_>, column: usize, from: u64, rows: usize) -> Result<Vec<bool>, Error> {
-    let mut numbers = filled(rows, 0i64)?;
-    let read = read_cells(txn, column, from, &mut numbers, &mut [])?;
-    assert_eq!(rows, read.cells, "each truth between two positions of a table is handed out");
+    let mut bytes = filled(rows, 0u8)?;
+    let count = txn.bools(column, from, &mut bytes)?;
+    assert_eq!(rows, count, "each truth between two positions of a table is handed out");
     let mut truths = Vec::new();
     truths.try_reserve_exact(rows)?;
-    truths.extend(numbers.iter().map(|number| *number != 0));
+    truths.extend(bytes.iter().map(|byte| *byte != 0));
     Ok(truths)
 }
 

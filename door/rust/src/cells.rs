@@ -156,6 +156,12 @@ macro_rules! cells {
 #[derive(Clone, Debug, PartialEq, Eq, Hash)]
 pub struct Row(Vec<Cell>);
 
+impl Row {
+    pub(crate) fn of(cells: Vec<Cell>) -> Row {
+        Row(cells)
+    }
+}
+
 impl Deref for Row {
     type Target = [Cell];
 
@@ -242,13 +248,17 @@ impl Passed {
     }
 }
 
-/// The row of these columns that the library handed out as numbers and texts.
-pub(crate) fn row_of(columns: &[Column], numbers: &[i64], texts: &str) -> Result<Row, Error> {
+/// The cells of these types that the library handed out as numbers and texts: one number for each, or more.
+pub(crate) fn cells_of(
+    types: impl ExactSizeIterator<Item = ColumnType>,
+    numbers: &[i64],
+    texts: &str,
+) -> Result<Vec<Cell>, Error> {
     let mut cells = Vec::new();
-    cells.try_reserve_exact(columns.len())?;
+    cells.try_reserve_exact(types.len())?;
     let mut rest = texts;
-    for (column, number) in columns.iter().zip(numbers) {
-        cells.push(match column.column_type {
+    for (column_type, number) in types.zip(numbers) {
+        cells.push(match column_type {
             ColumnType::Int => Cell::Int(*number),
             ColumnType::Bool => Cell::Bool(*number != 0),
             ColumnType::Text => {
@@ -258,5 +268,10 @@ pub(crate) fn row_of(columns: &[Column], numbers: &[i64], texts: &str) -> Result
             }
         });
     }
-    Ok(Row(cells))
+    Ok(cells)
+}
+
+/// The row of these columns that the library handed out as numbers and texts.
+pub(crate) fn row_of(columns: &[Column], numbers: &[i64], texts: &str) -> Result<Row, Error> {
+    cells_of(columns.iter().map(|column| column.column_type), numbers, texts).map(Row)
 }

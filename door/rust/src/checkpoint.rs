@@ -6,8 +6,8 @@ use std::fmt;
 use std::path::Path;
 use std::ptr::NonNull;
 
-/// A checkpoint that has begun: the table as it was then. Begins and commits wait neither for the making of its table
-/// nor for its files. It may be sent to another thread, and ends when it is dropped; what it wrote stays.
+/// A checkpoint that has begun: the table as it was then. Commits wait neither for the making of its table nor for its
+/// files. It may be sent to another thread, and ends when it is dropped; what it wrote stays.
 ///
 /// ```no_run
 /// use narthexmace::{Error, Options, Store};
@@ -57,7 +57,7 @@ impl<'s> Checkpoint<'s> {
     }
 
     /// Makes what was written the stable table in memory. The commits since the begin stay in the Write-PDT, and no
-    /// table changes; begins and commits wait for a handful of allocations.
+    /// table changes; commits wait for a handful of allocations.
     ///
     /// [`Error::Superseded`] where a fold or another checkpoint came since the begin: what was written stays good.
     /// [`Error::NoMemory`]: it may be called again. [`Error::Misuse`] before [`write`](Checkpoint::write) is done, and

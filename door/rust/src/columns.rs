@@ -176,7 +176,7 @@ impl Store {
     /// let id = ColumnValues::Ints(&[10, 20]);
     /// let name = ColumnValues::Texts { offsets: &[0, 3, 6], bytes: b"AnnBob" };
     /// let store = Store::from_columns(&[("id", id), ("name", name)], 1, &Options::default())?;
-    /// assert_eq!(Some("Bob"), store.begin(1)?.row_at(1)?.unwrap()[1].as_text());
+    /// assert_eq!(Some("Bob"), store.begin()?.row_at(1)?.unwrap()[1].as_text());
     /// let twice = Store::from_columns(&[("id", ColumnValues::Ints(&[10, 10]))], 1, &Options::default());
     /// assert_eq!(Some(ColumnsError::NotAscending { row: 1 }), twice.err());
     /// # Ok::<(), narthexmace::Error>(())
@@ -255,7 +255,7 @@ impl Store {
     ///     })
     ///     .unwrap();
     /// let again = Store::recover_from(&header, &[&column], &Options::default())?;
-    /// assert_eq!(1, again.begin(1)?.rows());
+    /// assert_eq!(1, again.begin()?.rows());
     /// # Ok::<(), narthexmace::Error>(())
     /// ```
     pub fn checkpoint_to<E>(

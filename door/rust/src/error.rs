@@ -20,7 +20,7 @@ pub enum Error {
     Full,
     /// There is a row of the key.
     Duplicate,
-    /// There is no row of the key, or the mark is gone.
+    /// There is no row of the key, the mark is gone, or the changes of a commit aren't kept any more.
     Missing,
     /// The cells don't fit the columns: their number, a type, a text above 4,096 bytes, a key column that would be set,
     /// or a column that isn't there.

@@ -23,8 +23,23 @@ pub struct Snapshot {
     pinned: PhantomData<(*mut u8, PhantomPinned)>,
 }
 
+/// A `pdt_pinned`, known by its address.
+#[repr(C)]
+pub struct Pinned {
+    private: [u8; 0],
+    pinned: PhantomData<(*mut u8, PhantomPinned)>,
+}
+
+/// A `pdt_layer`, known by its address.
+#[repr(C)]
+pub struct Layer {
+    private: [u8; 0],
+    pinned: PhantomData<(*mut u8, PhantomPinned)>,
+}
+
 #[repr(C)]
 pub struct Options {
+    pub size: usize,
     pub recent: usize,
     pub row_limit: u64,
     pub by_row: bool,
@@ -37,6 +52,37 @@ pub struct Sizes {
     pub write_entries: usize,
     pub read_entries: usize,
     pub open_transactions: usize,
+}
+
+#[repr(C)]
+#[derive(Default)]
+pub struct Counts {
+    pub size: usize,
+    pub begins: u64,
+    pub commits: u64,
+    pub conflicts: u64,
+    pub too_old: u64,
+    pub full: u64,
+    pub folds: u64,
+    pub checkpoints: u64,
+    pub superseded: u64,
+    pub pins: usize,
+    pub oldest_pin: u64,
+    pub kept: usize,
+    pub kept_entries: u64,
+    pub waits: u64,
+    pub longest_hold: u64,
+}
+
+#[repr(C)]
+#[derive(Default)]
+pub struct Entry {
+    pub sid: u64,
+    pub rid: u64,
+    pub column: usize,
+    pub cells: usize,
+    pub bytes: usize,
+    pub kind: u32,
 }
 
 #[repr(C)]
@@ -108,10 +154,15 @@ pub const INT: c_int = 1;
 pub const TEXT: c_int = 2;
 pub const BOOL: c_int = 3;
 
+pub const INSERT: u32 = 1;
+pub const DELETE: u32 = 2;
+pub const MODIFY: u32 = 3;
+
 pub const MAX_COLUMNS: usize = 32;
 pub const MAX_TEXT: usize = 4096;
 
 unsafe extern "C" {
+    pub fn pdt_version() -> *const c_char;
     pub fn pdt_text(code: c_int) -> *const c_char;
 
     pub fn pdt_open_csv(
@@ -145,6 +196,7 @@ unsafe extern "C" {
     pub fn pdt_column_type(store: *const Store, column: usize) -> c_int;
     pub fn pdt_column_name(store: *const Store, column: usize) -> *const c_char;
     pub fn pdt_size(store: *mut Store, sizes: *mut Sizes) -> c_int;
+    pub fn pdt_count(store: *mut Store, counts: *mut Counts) -> c_int;
     pub fn pdt_fold(store: *mut Store) -> c_int;
     pub fn pdt_cut(store: *mut Store) -> c_int;
     pub fn pdt_checkpoint(store: *mut Store, folder: *const c_char) -> c_int;
@@ -155,9 +207,14 @@ unsafe extern "C" {
     pub fn pdt_checkpoint_install(snapshot: *mut Snapshot) -> c_int;
     pub fn pdt_checkpoint_end(snapshot: *mut Snapshot);
 
-    pub fn pdt_begin(store: *mut Store, client: u32, txn: *mut *mut Txn) -> c_int;
+    pub fn pdt_begin(store: *mut Store, txn: *mut *mut Txn) -> c_int;
+    pub fn pdt_begun(txn: *mut Txn, commits: *mut u64) -> c_int;
     pub fn pdt_abort(txn: *mut Txn);
     pub fn pdt_commit(txn: *mut Txn, commits: *mut u64) -> c_int;
+
+    pub fn pdt_pin(store: *mut Store, commits: *mut u64, pin: *mut *mut Pinned) -> c_int;
+    pub fn pdt_begin_at(pin: *mut Pinned, txn: *mut *mut Txn) -> c_int;
+    pub fn pdt_unpin(pin: *mut Pinned);
 
     pub fn pdt_prepare(txn: *mut Txn, commits: *mut u64) -> c_int;
     pub fn pdt_install(txn: *mut Txn) -> c_int;
@@ -216,6 +273,7 @@ unsafe extern "C" {
         room: usize,
         bytes: *mut usize,
     ) -> c_int;
+    pub fn pdt_bools(txn: *mut Txn, column: usize, from: u64, truths: *mut u8, count: *mut usize) -> c_int;
     pub fn pdt_texts(
         txn: *mut Txn,
         column: usize,
@@ -232,5 +290,18 @@ unsafe extern "C" {
         pieces: *mut Piece,
         count: *mut usize,
         rows: *mut u64,
+    ) -> c_int;
+
+    pub fn pdt_changes(store: *mut Store, number: u64, layer: *mut *mut Layer) -> c_int;
+    pub fn pdt_wait(store: *mut Store, after: u64, milliseconds: u64, commits: *mut u64) -> c_int;
+    pub fn pdt_layer_close(layer: *mut Layer);
+    pub fn pdt_layer_size(layer: *mut Layer) -> usize;
+    pub fn pdt_entry_at(
+        layer: *mut Layer,
+        index: usize,
+        entry: *mut Entry,
+        numbers: *mut i64,
+        out: *mut c_void,
+        room: usize,
     ) -> c_int;
 }

@@ -1,16 +1,17 @@
 //! Narthexmace from Rust: an ordered table under snapshot isolation, which takes updates without touching its sorted
 //! columns.
 //!
-//! A [`Store`] is a table with its history. Threads share it. A [`Transaction`] reads the table as it was when it
-//! began, with its own writes, row by row or column by column ([`Batch`]), and is committed, or aborted when it is
-//! dropped. Of two transactions that change the same cells the first that commits wins, and the other one gets a
-//! conflict.
+//! A [`Store`] is a table that threads share. A [`Transaction`] reads the table as it was when it began, with its own
+//! writes, row by row or column by column ([`Batch`]), and is committed, or aborted when it is dropped. Of two transactions
+//! that change the same cells the first that commits wins, and the other one gets a conflict. A [`Pin`] keeps the table of a
+//! number, so that many begin over it. [`Store::changes_after`] hands out what each commit changed, and [`Store::wait`] waits
+//! for the next one.
 //!
 //! ```
 //! use narthexmace::{Error, Options, Store, cells};
 //!
 //! let store = Store::open("id:int:key,name:text,qty:int\n10,Ann,7\n20,Bob,2\n", &Options::default())?;
-//! let mut txn = store.begin(1)?;
+//! let mut txn = store.begin()?;
 //! txn.set([10], 2, 5)?;
 //! txn.insert(cells![30, "Cid", 4])?;
 //! assert_eq!(3, txn.rows());
@@ -24,7 +25,7 @@
 //! # Memory
 //!
 //! Where memory is refused a call answers [`Error::NoMemory`], also where it is this crate that asks for it, and the
-//! table, the transaction and the history are as they were.
+//! table and the transaction are as they were.
 //!
 //! # What doesn't compile
 //!
@@ -33,7 +34,7 @@
 //! ```compile_fail,E0505
 //! # use narthexmace::{Error, Options, Store};
 //! # let store = Store::open("id:int:key\n10\n", &Options::default())?;
-//! let txn = store.begin(1)?;
+//! let txn = store.begin()?;
 //! let batch = txn.batch(&[0], ..)?;
 //! drop(txn);
 //! println!("{}", batch.rows());
@@ -45,7 +46,7 @@
 //! ```compile_fail,E0502
 //! # use narthexmace::{Error, Options, Store};
 //! # let store = Store::open("id:int:key\n10\n", &Options::default())?;
-//! let mut txn = store.begin(1)?;
+//! let mut txn = store.begin()?;
 //! let batch = txn.batch(&[0], ..)?;
 //! txn.delete([10])?;
 //! println!("{}", batch.rows());
@@ -57,7 +58,7 @@
 //! ```compile_fail,E0502
 //! # use narthexmace::{Error, Options, Store};
 //! # let store = Store::open("id:int:key,name:text\n10,Ann\n", &Options::default())?;
-//! let mut txn = store.begin(1)?;
+//! let mut txn = store.begin()?;
 //! let names = txn.texts(1, ..)?;
 //! txn.set([10], 1, "Bob")?;
 //! println!("{}", names[0]);
@@ -70,7 +71,7 @@
 //! ```
 //! # use narthexmace::{Error, Options, Store};
 //! # let store = Store::open("id:int:key\n10\n", &Options::default())?;
-//! let txn = store.begin(1)?;
+//! let txn = store.begin()?;
 //! let piece = txn.batch(&[0], ..)?.ints(0).unwrap().pieces()[0];
 //! assert_eq!([10], piece.as_slice());
 //! # Ok::<(), Error>(())
@@ -79,7 +80,7 @@
 //! ```compile_fail,E0505
 //! # use narthexmace::{Error, Options, Store};
 //! # let store = Store::open("id:int:key\n10\n", &Options::default())?;
-//! let txn = store.begin(1)?;
+//! let txn = store.begin()?;
 //! let piece = txn.batch(&[0], ..)?.ints(0).unwrap().pieces()[0];
 //! drop(txn);
 //! println!("{:?}", piece.as_slice());
@@ -91,9 +92,32 @@
 //! ```compile_fail,E0505
 //! # use narthexmace::{Error, Options, Store};
 //! let store = Store::open("id:int:key\n10\n", &Options::default())?;
-//! let txn = store.begin(1)?;
+//! let txn = store.begin()?;
 //! drop(store);
 //! println!("{}", txn.rows());
+//! # Ok::<(), Error>(())
+//! ```
+//!
+//! and so does a pin:
+//!
+//! ```compile_fail,E0505
+//! # use narthexmace::{Error, Options, Store};
+//! let store = Store::open("id:int:key\n10\n", &Options::default())?;
+//! let pin = store.pin()?;
+//! drop(store);
+//! println!("{}", pin.number());
+//! # Ok::<(), Error>(())
+//! ```
+//!
+//! A transaction that began at a pin may outlive it:
+//!
+//! ```
+//! # use narthexmace::{Error, Options, Store};
+//! # let store = Store::open("id:int:key\n10\n", &Options::default())?;
+//! let pin = store.pin()?;
+//! let txn = pin.begin()?;
+//! drop(pin);
+//! assert_eq!(1, txn.rows());
 //! # Ok::<(), Error>(())
 //! ```
 //!
@@ -102,7 +126,7 @@
 //! ```compile_fail,E0382
 //! # use narthexmace::{Error, Options, Store};
 //! # let store = Store::open("id:int:key\n10\n", &Options::default())?;
-//! let mut txn = store.begin(1)?;
+//! let mut txn = store.begin()?;
 //! txn.commit()?;
 //! txn.insert([20])?;
 //! # Ok::<(), Error>(())
@@ -113,7 +137,7 @@
 //! ```compile_fail,E0277
 //! # use narthexmace::{Error, Options, Store};
 //! # let store = Store::open("id:int:key\n10\n", &Options::default())?;
-//! let prepared = store.begin(1)?.prepare()?;
+//! let prepared = store.begin()?.prepare()?;
 //! std::thread::scope(|threads| {
 //!     threads.spawn(move || prepared.install());
 //! });
@@ -125,10 +149,26 @@
 //! ```compile_fail,E0277
 //! # use narthexmace::{Error, Options, Store};
 //! # let store = Store::open("id:int:key\n10\n", &Options::default())?;
-//! let txn = store.begin(1)?;
+//! let txn = store.begin()?;
 //! std::thread::scope(|threads| {
 //!     threads.spawn(|| txn.rows());
 //!     threads.spawn(|| txn.rows());
+//! });
+//! # Ok::<(), Error>(())
+//! ```
+//!
+//! and so may what a commit changed:
+//!
+//! ```compile_fail,E0277
+//! # use narthexmace::{Error, Options, Store};
+//! # let store = Store::open("id:int:key\n10\n", &Options::default())?;
+//! # let mut txn = store.begin()?;
+//! # txn.delete([10])?;
+//! # txn.commit()?;
+//! let layer = store.changes(1)?.expect("the last commits are kept");
+//! std::thread::scope(|threads| {
+//!     threads.spawn(|| layer.len());
+//!     threads.spawn(|| layer.len());
 //! });
 //! # Ok::<(), Error>(())
 //! ```
@@ -136,11 +176,14 @@
 
 mod batch;
 mod cells;
+mod changes;
 mod checkpoint;
 mod columns;
+mod counts;
 mod error;
 mod ffi;
 mod marks;
+mod pin;
 mod prepared;
 mod store;
 mod texts;
@@ -148,10 +191,24 @@ mod transaction;
 
 pub use batch::{Batch, Batches, Ints, Piece, Texts, Values};
 pub use cells::{Cell, CellRef, Row};
+pub use changes::{Change, Changes, Entries, Entry, Layer};
 pub use checkpoint::Checkpoint;
 pub use columns::{CheckpointError, ColumnValues, ColumnsError, ImagePart};
+pub use counts::Counts;
 pub use error::{CommitError, Error, OpenError, TableFault};
 pub use marks::Mark;
+pub use pin::Pin;
 pub use prepared::Prepared;
 pub use store::{Column, ColumnType, ConflictRule, Options, Sizes, Store};
 pub use transaction::{Rank, Transaction};
+
+/// The version of the library that runs, as `0.2.0`.
+///
+/// ```
+/// assert_eq!(3, narthexmace::version().split('.').count());
+/// ```
+pub fn version() -> &'static str {
+    // SAFETY: the version is never null, ends with a zero, and is there as long as the program.
+    let version = unsafe { std::ffi::CStr::from_ptr::<'static>(ffi::pdt_version()) };
+    version.to_str().unwrap_or("")
+}

@@ -7,17 +7,19 @@ use std::marker::PhantomData;
 /// to write its own log. [`install`](Prepared::install) does it. One that is dropped is given up, and its transaction
 /// aborted.
 ///
-/// It has the store's lock, and so it stays on its thread. Begins and commits of other threads wait, and so do the ends
-/// of their transactions and checkpoints. Other calls of this thread on the store answer
-/// [`Error::Misuse`](crate::Error::Misuse), but for those that ask for the columns and [`Store::sizes`];
-/// [`Store::cut`] panics. Threads that then make calls on other stores do so in one order of the stores, or each may wait
-/// for the other for ever. One that is forgotten ([`std::mem::forget`]) keeps the lock: other threads' calls on the
-/// store, and its drop by one of them, never end.
+/// It has the store's lock, and so it stays on its thread. Commits of other threads wait, and so do their folds and
+/// checkpoints; begins and pins don't, and are of the newest table as it was. Other calls of this thread on the store answer
+/// [`Error::Misuse`](crate::Error::Misuse), but for begins and pins, and those that ask for the columns, [`Store::sizes`],
+/// [`Store::counts`] and [`Store::wait`]; [`Store::cut`] panics. Threads that then make calls on other stores do so in one
+/// order of the stores, or each may wait for the other for ever. One that is forgotten ([`std::mem::forget`]) keeps the
+/// lock: other threads' commits, and the store's drop by one of them, never end.
+///
+/// A transaction that changes nothing keeps no lock, and takes no number: its end is that of an abort.
 ///
 /// ```
 /// use narthexmace::{Error, Options, Store};
 /// let store = Store::open("id:int:key,qty:int\n10,7\n", &Options::default())?;
-/// let mut txn = store.begin(1)?;
+/// let mut txn = store.begin()?;
 /// txn.set([10], 1, 5)?;
 /// let mut log = Vec::new();
 /// let prepared = txn.prepare()?;
@@ -38,7 +40,7 @@ impl<'s> Prepared<'s> {
         Prepared { txn, number, on_thread: PhantomData }
     }
 
-    /// The number that the commit will have.
+    /// The number that the commit will have; of a transaction that changes nothing, the number that it saw.
     pub fn number(&self) -> u64 {
         self.number
     }

@@ -1,7 +1,7 @@
-//! A table with its history.
+//! A table, and what is asked of it as a whole.
 use crate::cells::owned;
 use crate::error::done;
-use crate::{Checkpoint, Error, OpenError, TableFault, Transaction, ffi};
+use crate::{Checkpoint, Counts, Error, OpenError, Pin, TableFault, Transaction, ffi};
 use std::ffi::{CStr, c_char, c_int};
 use std::fmt;
 use std::ops::Deref;
@@ -44,7 +44,8 @@ impl Options {
             return Err(Error::BadLimit);
         }
         let by_row = self.conflicts == ConflictRule::ByRow;
-        Ok(ffi::Options { recent: self.recent, row_limit: self.row_limit, by_row })
+        let size = size_of::<ffi::Options>();
+        Ok(ffi::Options { size, recent: self.recent, row_limit: self.row_limit, by_row })
     }
 }
 
@@ -81,11 +82,14 @@ pub struct Sizes {
     pub open_transactions: usize,
 }
 
-/// A table with its history. Threads share it: each call takes the store's lock, but those that ask for the columns,
-/// which never change. It is closed when it is dropped.
+/// A table that transactions change. Threads share it: each call takes the store's lock, but for begins and pins, which
+/// wait for no other call, and for those that ask for the columns, which never change. It is closed when it is dropped.
 ///
-/// A transaction that is forgotten ([`std::mem::forget`]) stays open, and so does a checkpoint: then the store's memory
-/// is never freed.
+/// What it keeps doesn't grow with its commits: the newest version, those that pins and open transactions have, and the
+/// changes of the last [`Options::recent`] commits.
+///
+/// A transaction that is forgotten ([`std::mem::forget`]) stays open, and so do a checkpoint and a pin: then the store's
+/// memory is never freed.
 pub struct Store {
     raw: NonNull<ffi::Store>,
     columns: Vec<Column>,
@@ -198,10 +202,20 @@ impl Store {
         Sizes { commits, write_entries, read_entries, open_transactions }
     }
 
-    /// Begins a transaction of a client over the newest table, in constant time. The number of the client goes into the
-    /// history, and says nothing else. [`Error::NoMemory`].
-    pub fn begin(&self, client: u32) -> Result<Transaction<'_>, Error> {
-        begin(Keeper::Lent(self), client)
+    /// What it has counted since its opening, and what it keeps now. In the time that the kept commits take to be gone
+    /// through; commits wait for it.
+    pub fn counts(&self) -> Counts {
+        let mut counts = ffi::Counts { size: size_of::<ffi::Counts>(), ..ffi::Counts::default() };
+        // SAFETY: the store is open while `self` is there, and the counts say how much room they have.
+        let code = unsafe { ffi::pdt_count(self.raw.as_ptr(), &mut counts) };
+        assert_eq!(ffi::OK, code, "a store counts whatever else it does");
+        Counts::told(&counts)
+    }
+
+    /// Begins a transaction over the newest table, in constant time. It waits for no commit, no fold and no checkpoint.
+    /// [`Error::NoMemory`].
+    pub fn begin(&self) -> Result<Transaction<'_>, Error> {
+        begin(Keeper::Lent(self))
     }
 
     /// The same of a store that is shared: the transaction keeps it, and so it can be kept beside it, in a session. The
@@ -218,25 +232,49 @@ impl Store {
     ///
     /// let store = Arc::new(Store::open("id:int:key,qty:int\n10,7\n", &Options::default())?);
     /// let mut session = Session { store: Arc::clone(&store), open: None };
-    /// session.open = Some(session.store.begin_shared(1)?);
+    /// session.open = Some(session.store.begin_shared()?);
     /// drop(store);
     /// let worker = std::thread::spawn(move || session.open.take().unwrap().rows());
     /// assert_eq!(1, worker.join().unwrap());
     /// # Ok::<(), Error>(())
     /// ```
-    pub fn begin_shared(self: &Arc<Store>, client: u32) -> Result<Transaction<'static>, Error> {
-        begin(Keeper::Shared(Arc::clone(self)), client)
+    pub fn begin_shared(self: &Arc<Store>) -> Result<Transaction<'static>, Error> {
+        begin(Keeper::Shared(Arc::clone(self)))
+    }
+
+    /// Keeps the newest table, so that transactions begin over it whatever is committed since: see [`Pin`]. In constant
+    /// time, and without the store's lock. [`Error::NoMemory`].
+    ///
+    /// ```
+    /// use narthexmace::{Error, Options, Store};
+    /// let store = Store::open("id:int:key,qty:int\n10,7\n20,2\n", &Options::default())?;
+    /// let pin = store.pin()?;
+    /// let mut txn = store.begin()?;
+    /// txn.delete([10])?;
+    /// assert_eq!(1, txn.commit()?);
+    /// assert_eq!((0, 2), (pin.number(), pin.begin()?.rows()));
+    /// assert_eq!(1, store.begin()?.rows());
+    /// # Ok::<(), Error>(())
+    /// ```
+    pub fn pin(&self) -> Result<Pin<'_>, Error> {
+        pin(Keeper::Lent(self))
+    }
+
+    /// The same of a store that is shared: the pin keeps it, and so do the transactions that begin at the pin.
+    pub fn pin_shared(self: &Arc<Store>) -> Result<Pin<'static>, Error> {
+        pin(Keeper::Shared(Arc::clone(self)))
     }
 
     /// Folds the Write-PDT into the Read-PDT: later commits are folded into a smaller tree. No table changes, and no
-    /// open transaction; begins and commits wait for it. [`Error::NoMemory`].
+    /// open transaction; commits wait for it. [`Error::NoMemory`].
     pub fn fold(&self) -> Result<(), Error> {
         // SAFETY: the store is open while `self` is there.
         done(unsafe { ffi::pdt_fold(self.raw.as_ptr()) })
     }
 
-    /// Lets the history so far go, so that it takes no memory. A transaction that began before the newest commit is
-    /// [`TooOld`](crate::CommitError::TooOld) at its own; it reads on.
+    /// Lets the changes of the last commits go, before there are [`Options::recent`] of them: none of them is in
+    /// [`changes`](Store::changes) any more. A transaction that began before the newest commit is
+    /// [`TooOld`](crate::CommitError::TooOld) at its own, if it changes something; it reads on.
     ///
     /// # Panics
     ///
@@ -249,7 +287,7 @@ impl Store {
 
     /// Writes the newest table into a folder that has no store, each file synced, then the folder, and the one that it
     /// stands in; in memory it is the stable table then. Once it answers `Ok` the table is durable, as far as these
-    /// folders go: who made others further up syncs them. Begins and commits wait for two folds.
+    /// folders go: who made others further up syncs them. Commits wait for two folds.
     ///
     /// [`Error::Exists`], [`Error::Io`], [`Error::NoMemory`]: what was written is removed, and the stable table is as it
     /// was; [`Error::Misuse`] of a path that no file can have, and of an empty one.
@@ -259,8 +297,8 @@ impl Store {
         done(unsafe { ffi::pdt_checkpoint(self.raw.as_ptr(), folder.as_ptr()) })
     }
 
-    /// Begins a checkpoint of the newest table, which is written while others commit. It folds, and begins and commits
-    /// wait for that. [`Error::NoMemory`].
+    /// Begins a checkpoint of the newest table, which is written while others commit. It folds, and commits wait for
+    /// that. [`Error::NoMemory`].
     pub fn begin_checkpoint(&self) -> Result<Checkpoint<'_>, Error> {
         begin_checkpoint(Keeper::Lent(self))
     }
@@ -272,6 +310,7 @@ impl Store {
 }
 
 /// The store of what has begun over it, which keeps it open: by a borrow, or by a share.
+#[derive(Clone)]
 pub(crate) enum Keeper<'s> {
     Lent(&'s Store),
     Shared(Arc<Store>),
@@ -288,13 +327,22 @@ impl Deref for Keeper<'_> {
     }
 }
 
-fn begin(store: Keeper<'_>, client: u32) -> Result<Transaction<'_>, Error> {
+fn begin(store: Keeper<'_>) -> Result<Transaction<'_>, Error> {
     let mut raw = ptr::null_mut();
     // SAFETY: the store is open while it is kept.
-    done(unsafe { ffi::pdt_begin(store.as_raw(), client, &mut raw) })?;
+    done(unsafe { ffi::pdt_begin(store.as_raw(), &mut raw) })?;
     let raw = NonNull::new(raw).expect("a begin that is done hands out a transaction");
     // SAFETY: the transaction is open, over this store, and nobody else has it.
     Ok(unsafe { Transaction::adopt(raw, store) })
+}
+
+fn pin(store: Keeper<'_>) -> Result<Pin<'_>, Error> {
+    let (mut number, mut raw) = (0, ptr::null_mut());
+    // SAFETY: the store is open while it is kept.
+    done(unsafe { ffi::pdt_pin(store.as_raw(), &mut number, &mut raw) })?;
+    let raw = NonNull::new(raw).expect("a pin that is done hands out a pin");
+    // SAFETY: the pin is of this store's table of this number, and nobody else has it.
+    Ok(unsafe { Pin::adopt(raw, number, store) })
 }
 
 fn begin_checkpoint(store: Keeper<'_>) -> Result<Checkpoint<'_>, Error> {
@@ -308,8 +356,8 @@ fn begin_checkpoint(store: Keeper<'_>) -> Result<Checkpoint<'_>, Error> {
 
 impl Drop for Store {
     fn drop(&mut self) {
-        // SAFETY: nobody else uses the store, since each transaction and checkpoint keeps it. One that was forgotten is
-        // still open: the library answers MISUSE then, and the store stays.
+        // SAFETY: nobody else uses the store, since each transaction, checkpoint and pin keeps it. One that was forgotten
+        // is still open: the library answers MISUSE then, and the store stays.
         unsafe { ffi::pdt_close(self.raw.as_ptr()) };
     }
 }

@@ -3,7 +3,7 @@ use crate::batch::{Batch, Batches};
 use crate::cells::{Passed, filled, row_of};
 use crate::error::done;
 use crate::marks::{Mark, Marks};
-use crate::store::Keeper;
+use crate::store::{ColumnType, Keeper};
 use crate::{CellRef, CommitError, Error, Prepared, Row, Store, ffi, texts};
 use std::ffi::{c_int, c_void};
 use std::fmt;
@@ -12,7 +12,7 @@ use std::ops::{Bound, RangeBounds};
 use std::ptr::{self, NonNull};
 
 /// Room for the texts of a row that is read without asking twice.
-const TEXT_ROOM: usize = 512;
+pub(crate) const TEXT_ROOM: usize = 512;
 
 /// Where a key stands among the rows.
 #[derive(Clone, Copy, Debug, PartialEq, Eq)]
@@ -57,13 +57,23 @@ impl<'s> Transaction<'s> {
         &self.store
     }
 
-    /// Commits, and answers the number of the newest table. It is over then, unless memory was refused: then
+    /// The number of the table that it sees beneath its own writes: how many commits made it.
+    pub fn begun(&self) -> u64 {
+        let mut number = 0;
+        // SAFETY: the transaction is open.
+        let code = unsafe { ffi::pdt_begun(self.raw(), &mut number) };
+        debug_assert_eq!(ffi::OK, code);
+        number
+    }
+
+    /// Commits, and answers the number of the newest table; one that changes nothing takes no number, is never refused,
+    /// and answers the number that it [saw](Transaction::begun). It is over then, unless memory was refused: then
     /// [`CommitError::NoMemory`] gives it back as it was.
     ///
     /// ```
     /// use narthexmace::{CommitError, Error, Options, Store};
     /// let store = Store::open("id:int:key,qty:int\n10,7\n", &Options::default())?;
-    /// let (mut first, mut second) = (store.begin(1)?, store.begin(2)?);
+    /// let (mut first, mut second) = (store.begin()?, store.begin()?);
     /// first.set([10], 1, 5)?;
     /// second.set([10], 1, 6)?;
     /// assert_eq!(1, first.commit()?);
@@ -152,7 +162,7 @@ impl<'s> Transaction<'s> {
     /// ```
     /// use narthexmace::{Error, Options, Store};
     /// let store = Store::open("id:int:key,qty:int\n10,7\n20,2\n", &Options::default())?;
-    /// let mut txn = store.begin(1)?;
+    /// let mut txn = store.begin()?;
     /// txn.set([10], 1, 5)?;
     /// let mark = txn.mark()?;
     /// txn.delete([20])?;
@@ -239,7 +249,7 @@ impl<'s> Transaction<'s> {
     /// ```
     /// use narthexmace::{Error, Options, Store};
     /// let store = Store::open("id:int:key,qty:int\n10,7\n20,2\n30,4\n", &Options::default())?;
-    /// let txn = store.begin(1)?;
+    /// let txn = store.begin()?;
     /// let mut sums = Vec::new();
     /// for batch in txn.batches(&[1], .., 2)? {
     ///     sums.push(batch?.ints(0).unwrap().iter().sum::<i64>());
@@ -264,7 +274,7 @@ impl<'s> Transaction<'s> {
     /// ```
     /// use narthexmace::{Error, Options, Store};
     /// let store = Store::open("id:int:key,name:text\n10,Ann\n20,Bob\n30,\n", &Options::default())?;
-    /// let mut txn = store.begin(1)?;
+    /// let mut txn = store.begin()?;
     /// txn.set([20], 1, "Rob")?;
     /// assert_eq!(vec!["Rob", ""], txn.texts(1, 1..)?);
     /// # Ok::<(), Error>(())
@@ -272,6 +282,29 @@ impl<'s> Transaction<'s> {
     pub fn texts(&self, column: usize, positions: impl RangeBounds<u64>) -> Result<Vec<&str>, Error> {
         let (from, to) = self.within(positions);
         texts::lent(self, column, from, to)
+    }
+
+    /// The truths of a bool column from a position on, a byte of 0 or 1 for each, as many as there is room for and rows to
+    /// the end of the table. Answers how many bytes were written; those after them stay. [`Error::Shape`] of a column that
+    /// isn't there or isn't one of truths.
+    ///
+    /// ```
+    /// use narthexmace::{Error, Options, Store};
+    /// let store = Store::open("id:int:key,ok:bool\n10,true\n20,false\n30,true\n", &Options::default())?;
+    /// let txn = store.begin()?;
+    /// let mut truths = [9; 4];
+    /// assert_eq!(2, txn.bools(1, 1, &mut truths)?);
+    /// assert_eq!([0, 1, 9, 9], truths);
+    /// # Ok::<(), Error>(())
+    /// ```
+    pub fn bools(&self, column: usize, from: u64, truths: &mut [u8]) -> Result<usize, Error> {
+        if self.store.columns().get(column).ok_or(Error::Shape)?.column_type != ColumnType::Bool {
+            return Err(Error::Shape);
+        }
+        let mut count = truths.len();
+        // SAFETY: the transaction is open, and there is room for as many truths as `count` says.
+        done(unsafe { ffi::pdt_bools(self.raw(), column, from, truths.as_mut_ptr(), &mut count) })?;
+        Ok(count)
     }
 
     fn key<'c, C: Into<CellRef<'c>>>(&self, key: impl IntoIterator<Item = C>) -> Result<Passed, Error> {

@@ -21,7 +21,7 @@ fn refused(columns: &[(&str, ColumnValues<'_>)]) -> ColumnsError {
 #[test]
 fn each_value_stands_in_its_row() {
     let store = Store::from_columns(&columns(), 1, &Options::default()).unwrap();
-    let txn = store.begin(1).unwrap();
+    let txn = store.begin().unwrap();
     assert_eq!(4, txn.rows());
     let wanted = [("Ann", true), ("", false), ("Bébé", false), ("!", true)];
     for (row, (name, ok)) in (0..).zip(wanted) {
@@ -68,13 +68,13 @@ fn image(store: &Store) -> Vec<Vec<u8>> {
 #[test]
 fn an_image_in_memory_is_recovered() {
     let store = Store::from_columns(&columns(), 1, &Options::default()).unwrap();
-    let mut txn = store.begin(1).unwrap();
+    let mut txn = store.begin().unwrap();
     txn.insert(cells![25, "Cid", true]).unwrap();
     txn.commit().unwrap();
     let parts = image(&store);
     let bytes: Vec<&[u8]> = parts[1..].iter().map(Vec::as_slice).collect();
     let again = Store::recover_from(&parts[0], &bytes, &Options::default()).unwrap();
-    let txn = again.begin(1).unwrap();
+    let txn = again.begin().unwrap();
     assert_eq!(5, txn.rows());
     assert_eq!(Some("Cid"), txn.row_at(2).unwrap().unwrap()[1].as_text());
     assert_eq!(Some(Error::BadStore), Store::recover_from(&parts[0], &bytes[1..], &Options::default()).err());
@@ -93,26 +93,26 @@ fn a_write_that_fails_says_so() {
     assert!(matches!(failed, CheckpointError::Write(ImagePart::Column(1), "no room")));
     assert_eq!("the caller's write didn't take the bytes: column 1: no room", failed.to_string());
     assert_eq!(3, calls);
-    assert_eq!(4, store.begin(1).unwrap().rows());
+    assert_eq!(4, store.begin().unwrap().rows());
 }
 
 #[test]
 fn a_writer_may_make_calls_on_the_store() {
     let store = Store::from_columns(&columns(), 1, &Options::default()).unwrap();
     let written = store.checkpoint_to(|_, _| {
-        let mut txn = store.begin(1)?;
+        let mut txn = store.begin()?;
         txn.set([10], 1, "Eve")?;
         txn.commit()?;
         store.fold()
     });
     assert!(written.is_ok());
-    assert_eq!(Some("Eve"), store.begin(1).unwrap().row_at(0).unwrap().unwrap()[1].as_text());
+    assert_eq!(Some("Eve"), store.begin().unwrap().row_at(0).unwrap().unwrap()[1].as_text());
 }
 
 #[test]
 fn no_image_is_made_while_a_commit_is_prepared() {
     let store = Store::from_columns(&columns(), 1, &Options::default()).unwrap();
-    let mut txn = store.begin(1).unwrap();
+    let mut txn = store.begin().unwrap();
     txn.set([10], 1, "Eve").unwrap();
     let prepared = txn.prepare().unwrap();
     let refused = store.checkpoint_to(|_, _| -> Result<(), Error> { unreachable!("nothing is handed out") });

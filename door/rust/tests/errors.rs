@@ -44,7 +44,7 @@ fn openings_are_refused() {
 #[test]
 fn writes_are_refused() {
     let store = opened(&Options { row_limit: 4, ..Options::default() });
-    let mut txn = store.begin(1).unwrap();
+    let mut txn = store.begin().unwrap();
     assert_eq!(Err(Error::Duplicate), txn.insert(cells![20, "Bob", true, 2]));
     assert_eq!(Err(Error::Missing), txn.delete([25]));
     assert_eq!(Err(Error::Missing), txn.set([25], 3, 1));
@@ -79,7 +79,7 @@ fn shapes(txn: &mut Transaction<'_>, long: &str) -> Vec<Result<(), Error>> {
 #[test]
 fn cells_that_do_not_fit_are_refused() {
     let store = opened(&Options::default());
-    let mut txn = store.begin(1).unwrap();
+    let mut txn = store.begin().unwrap();
     let longest = "é".repeat(2048);
     for (index, answer) in shapes(&mut txn, &(longest.clone() + "e")).into_iter().enumerate() {
         assert_eq!(Err(Error::Shape), answer, "case {index}");
@@ -92,7 +92,7 @@ fn cells_that_do_not_fit_are_refused() {
 #[test]
 fn marks_that_are_gone_are_missing() {
     let store = opened(&Options::default());
-    let (mut txn, mut other) = (store.begin(1).unwrap(), store.begin(2).unwrap());
+    let (mut txn, mut other) = (store.begin().unwrap(), store.begin().unwrap());
     let (older, younger, stranger) = (txn.mark().unwrap(), txn.mark().unwrap(), other.mark().unwrap());
     txn.delete([10]).unwrap();
     assert_eq!(Err(Error::Missing), txn.back_to(&stranger));
@@ -108,16 +108,17 @@ fn marks_that_are_gone_are_missing() {
     assert_eq!(2, txn.rows());
     txn.mark().unwrap();
     assert_eq!(1, txn.commit().unwrap());
-    assert_eq!(2, store.begin(1).unwrap().rows());
+    assert_eq!(2, store.begin().unwrap().rows());
 }
 
 #[test]
 fn commits_are_refused() {
     let store = opened(&Options { recent: 1, row_limit: 4, conflicts: ConflictRule::ByRow });
-    let begin = || store.begin(1).unwrap();
-    let (mut first, mut second, third) = (begin(), begin(), begin());
+    let begin = || store.begin().unwrap();
+    let (mut first, mut second, mut third, idle) = (begin(), begin(), begin(), begin());
     first.set([10], 1, "Eve").unwrap();
     second.set([10], 3, 7).unwrap();
+    third.set([20], 3, 7).unwrap();
     assert_eq!(1, first.commit().unwrap());
     assert!(matches!(second.commit(), Err(CommitError::Conflict(1))));
     let (mut one, mut other) = (begin(), begin());
@@ -126,13 +127,15 @@ fn commits_are_refused() {
     assert_eq!(2, one.commit().unwrap());
     assert!(matches!(other.commit(), Err(CommitError::Full(2))));
     assert!(matches!(third.commit(), Err(CommitError::TooOld(2))));
+    assert_eq!(0, idle.commit().unwrap()); // it changes nothing, and is never too old
+    assert_eq!(2, store.sizes().commits);
     assert_eq!(0, store.sizes().open_transactions);
 }
 
 #[test]
 fn by_column_changes_of_two_columns_do_not_conflict() {
     let store = opened(&Options::default());
-    let (mut first, mut second) = (store.begin(1).unwrap(), store.begin(2).unwrap());
+    let (mut first, mut second) = (store.begin().unwrap(), store.begin().unwrap());
     first.set([10], 1, "Eve").unwrap();
     second.set([10], 3, 7).unwrap();
     assert_eq!(1, first.commit().unwrap());
@@ -142,8 +145,8 @@ fn by_column_changes_of_two_columns_do_not_conflict() {
 #[test]
 fn a_cut_makes_open_transactions_too_old() {
     let store = opened(&Options::default());
-    let mut old = store.begin(1).unwrap();
-    let mut txn = store.begin(2).unwrap();
+    let mut old = store.begin().unwrap();
+    let mut txn = store.begin().unwrap();
     txn.set([10], 3, 5).unwrap();
     txn.commit().unwrap();
     store.cut();
@@ -165,11 +168,11 @@ fn paths_that_no_file_can_have_are_refused() {
 #[test]
 fn a_transaction_that_is_dropped_is_aborted() {
     let store = opened(&Options::default());
-    let mut txn = store.begin(1).unwrap();
+    let mut txn = store.begin().unwrap();
     txn.delete([10]).unwrap();
     assert_eq!(1, store.sizes().open_transactions);
     drop(txn);
-    store.begin(1).unwrap().abort();
+    store.begin().unwrap().abort();
     assert_eq!(0, store.sizes().open_transactions);
-    assert_eq!(3, store.begin(1).unwrap().rows());
+    assert_eq!(3, store.begin().unwrap().rows());
 }

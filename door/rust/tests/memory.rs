@@ -1,6 +1,6 @@
 //! Each allocation of a run is refused in turn, this crate's own among them: the call answers `NoMemory`, or did
 //! without, made again it does its work, and the table at the end is as wanted.
-use narthexmace::{CommitError, Error, Options, Prepared, Row, Store, Transaction, cells};
+use narthexmace::{Change, CommitError, Entry, Error, Options, Prepared, Row, Store, Transaction, cells};
 use std::cell::Cell;
 use std::collections::BTreeSet;
 use std::ffi::c_void;
@@ -124,7 +124,7 @@ impl Run {
 }
 
 const TABLE: &str = "id:int:key,name:text,ok:bool,qty:int\n10,Ann,false,1\n20,Bob,true,2\n30,Cid,true,3\n";
-const CALLS: [&str; 19] = [
+const CALLS: [&str; 23] = [
     "open",
     "begin",
     "mark",
@@ -138,6 +138,10 @@ const CALLS: [&str; 19] = [
     "texts",
     "commit",
     "prepare",
+    "pin",
+    "begin at a pin",
+    "changes",
+    "entry",
     "fold",
     "begin_checkpoint",
     "write",
@@ -147,7 +151,7 @@ const CALLS: [&str; 19] = [
 ];
 
 fn rows_of(store: &Store) -> Vec<Row> {
-    let txn = store.begin(9).unwrap();
+    let txn = store.begin().unwrap();
     (0..txn.rows()).map(|position| txn.row_at(position).unwrap().unwrap()).collect()
 }
 
@@ -175,18 +179,34 @@ fn read(run: &mut Run, txn: &Transaction<'_>, long: &str) {
     assert_eq!(2, run.made("batches", || txn.batches(&[0], .., 2)).count());
 }
 
+/// A pin, and what the first commit changed.
+fn follow(run: &mut Run, store: &Store, long: &str) {
+    let pin = run.made("pin", || store.pin());
+    let txn = run.made("begin at a pin", || pin.begin());
+    assert_eq!((2, 2, 3), (pin.number(), txn.begun(), txn.rows()));
+    let layer = run.made("changes", || store.changes(1)).unwrap();
+    let entries: Vec<Entry> = (0..layer.len()).map(|index| run.made("entry", || layer.entry(index)).unwrap()).collect();
+    let texts = entries.iter().filter(|entry| match &entry.change {
+        Change::Insert(row) => row[1].as_text() == Some(long),
+        Change::Modify { cell, .. } => cell.as_text() == Some(long),
+        _ => false,
+    });
+    assert_eq!(2, texts.count());
+}
+
 /// Each call once, with an allocation refused after so many. Answers which were told, or none where none was refused.
 fn run(granted: usize, folder: &Path) -> Option<BTreeSet<&'static str>> {
     let mut run = Run { granted: Some(granted), told: BTreeSet::new() };
     let long = "x".repeat(1000);
     let store = run.made("open", || Ok(Store::open(TABLE, &Options::default())?));
-    let mut txn = run.made("begin", || store.begin(1));
+    let mut txn = run.made("begin", || store.begin());
     write(&mut run, &mut txn, &long);
     read(&mut run, &txn, &long);
     assert_eq!(1, run.committed(txn));
-    let mut txn = run.made("begin", || store.begin(1));
+    let mut txn = run.made("begin", || store.begin());
     run.made("set", || txn.set([10], 2, false));
     assert_eq!(2, run.prepared(txn).install());
+    follow(&mut run, &store, &long);
     run.made("fold", || store.fold());
     let rows = rows_of(&store);
     let qty: Vec<_> = rows.iter().map(|row| (row[0].as_int(), row[3].as_int())).collect();
@@ -228,7 +248,7 @@ fn each_refused_allocation_is_told_and_changes_nothing() {
 #[test]
 fn after_a_batch_that_was_refused_none_comes() {
     let store = Store::open(TABLE, &Options::default()).unwrap();
-    let txn = store.begin(1).unwrap();
+    let txn = store.begin().unwrap();
     let mut batches = txn.batches(&[1], .., 1).unwrap();
     assert_eq!(Some("Ann"), batches.next().unwrap().unwrap().texts(0).unwrap().get(0));
     GRANTED.set(Some(0));
@@ -239,24 +259,50 @@ fn after_a_batch_that_was_refused_none_comes() {
 }
 
 #[test]
+fn after_a_change_that_was_refused_none_comes_and_an_entry_comes_again() {
+    let store = Store::open(TABLE, &Options::default()).unwrap();
+    for row in 1..=3 {
+        let mut txn = store.begin().unwrap();
+        txn.delete([10 * row]).unwrap();
+        txn.commit().unwrap();
+    }
+    let mut changes = store.changes_after(0);
+    let (number, layer) = changes.next().unwrap().unwrap();
+    GRANTED.set(Some(0));
+    let refused = changes.next();
+    GRANTED.set(Some(0));
+    let mut entries = layer.entries();
+    let unread = entries.next();
+    GRANTED.set(None);
+    assert_eq!((1, Some(Error::NoMemory)), (number, refused.unwrap().err()));
+    assert!(changes.next().is_none());
+    assert_eq!(Some(Err(Error::NoMemory)), unread);
+    assert!(matches!(entries.next(), Some(Ok(Entry { change: Change::Delete(_), .. }))));
+    assert!(entries.next().is_none());
+}
+
+#[test]
 fn what_is_dropped_is_freed() {
     let before = LIVE.get();
     let store = Store::open(TABLE, &Options::default()).unwrap();
     let opened = LIVE.get();
     assert!(opened > before);
-    let mut txn = store.begin(1).unwrap();
+    let mut txn = store.begin().unwrap();
     txn.insert(cells![15, "Dee", true, 5]).unwrap();
     assert_eq!(4, txn.batch(&[0, 1, 2, 3], ..).unwrap().rows());
     assert_eq!(4, txn.batches(&[0, 1], .., 3).unwrap().map(|batch| batch.unwrap().rows()).sum::<usize>());
     drop(txn);
     assert_eq!(opened, LIVE.get());
-    let mut txn = store.begin(1).unwrap();
+    let mut txn = store.begin().unwrap();
     txn.delete([10]).unwrap();
     let mark = txn.mark().unwrap();
     txn.insert(cells![15, "Dee", true, 5]).unwrap();
     txn.back_to(&mark).unwrap();
     txn.mark().unwrap();
     txn.commit().unwrap();
+    let (pin, layer) = (store.pin().unwrap(), store.changes(1).unwrap());
+    drop(pin.begin().unwrap());
+    drop((pin, layer)); // a pin that stayed would keep the store open
     let mut checkpoint = store.begin_checkpoint().unwrap();
     assert!(checkpoint.install().is_err());
     drop(checkpoint); // ends it: else the store could not be closed
@@ -268,8 +314,9 @@ fn what_is_dropped_is_freed() {
 fn a_shared_store_is_freed_with_the_last_that_keeps_it() {
     let before = LIVE.get();
     let store = Arc::new(Store::open(TABLE, &Options::default()).unwrap());
-    let (dropped, mut committed) = (store.begin_shared(1).unwrap(), store.begin_shared(2).unwrap());
-    let (prepared, checkpoint) = (store.begin_shared(3).unwrap(), store.begin_checkpoint_shared().unwrap());
+    let (dropped, mut committed) = (store.begin_shared().unwrap(), store.begin_shared().unwrap());
+    let (prepared, checkpoint) = (store.begin_shared().unwrap(), store.begin_checkpoint_shared().unwrap());
+    let pin = store.pin_shared().unwrap();
     drop(store);
     drop(dropped);
     drop(prepared.prepare().unwrap());
@@ -278,5 +325,7 @@ fn a_shared_store_is_freed_with_the_last_that_keeps_it() {
     drop(checkpoint);
     assert!(LIVE.get() > before);
     assert_eq!(1, committed.commit().unwrap());
+    assert_eq!((0, 3), (pin.number(), pin.begin().unwrap().rows()));
+    drop(pin); // the last one that keeps the store: it is let go before the store is closed
     assert_eq!(before, LIVE.get());
 }

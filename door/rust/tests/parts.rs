@@ -31,14 +31,14 @@ fn opened() -> Store {
 }
 
 fn setting(store: &Store, key: i64, qty: i64) -> Transaction<'_> {
-    let mut txn = store.begin(1).unwrap();
+    let mut txn = store.begin().unwrap();
     txn.set([key], 1, qty).unwrap();
     txn
 }
 
 /// The quantities of the newest table.
 fn newest(store: &Store) -> Vec<i64> {
-    let txn = store.begin(9).unwrap();
+    let txn = store.begin().unwrap();
     txn.batch(&[1], ..).unwrap().ints(0).unwrap().iter().collect()
 }
 
@@ -65,7 +65,7 @@ fn what_a_commit_refuses_a_prepare_refuses() {
     let (late, older) = (setting(&store, 10, 6), setting(&store, 30, 6));
     setting(&store, 10, 5).commit().unwrap();
     assert!(matches!(late.prepare(), Err(CommitError::Conflict(1))));
-    let (mut one, mut two) = (store.begin(1).unwrap(), store.begin(2).unwrap());
+    let (mut one, mut two) = (store.begin().unwrap(), store.begin().unwrap());
     one.delete([20]).unwrap();
     one.insert([40, 4]).unwrap();
     two.delete([30]).unwrap();
@@ -83,8 +83,12 @@ fn a_thread_prepares_one_commit_at_a_time() {
     let prepared = setting(&store, 10, 5).prepare().unwrap();
     let Err(CommitError::Misuse(other)) = other.prepare() else { panic!("two commits are prepared") };
     let Err(CommitError::Misuse(other)) = other.commit() else { panic!("a commit came between") };
-    assert_eq!(Some(Error::Misuse), store.begin(1).err());
     assert_eq!(Err(Error::Misuse), store.fold());
+    assert_eq!(Some(Error::Misuse), store.changes(0).err());
+    assert_eq!(vec![1, 2, 3], newest(&store)); // a begin is of the table as it was, and so is a pin
+    assert_eq!(0, store.pin().unwrap().number());
+    assert_eq!((0, 0), (store.counts().commits, store.sizes().commits));
+    assert_eq!(None, store.wait(0, Duration::ZERO));
     assert_eq!(Err(Error::Misuse), store.checkpoint(&folder.0));
     assert_eq!(Some(Error::Misuse), store.begin_checkpoint().err());
     prepared.install();
@@ -93,16 +97,33 @@ fn a_thread_prepares_one_commit_at_a_time() {
 }
 
 #[test]
-fn a_begin_of_another_thread_waits_and_sees_the_commit() {
+fn a_begin_of_another_thread_does_not_wait_and_sees_the_table_as_it_was() {
     let store = opened();
     let (tells, told) = mpsc::channel();
     let prepared = setting(&store, 10, 5).prepare().unwrap();
     thread::scope(|threads| {
-        threads.spawn(|| tells.send(newest(&store)).unwrap());
-        assert!(told.recv_timeout(Duration::from_millis(50)).is_err());
+        threads.spawn(|| tells.send((newest(&store), store.pin().unwrap().number())).unwrap());
+        assert_eq!(Ok((vec![1, 2, 3], 0)), told.recv_timeout(Duration::from_secs(60)));
         prepared.install();
-        assert_eq!(vec![5, 2, 3], told.recv().unwrap());
     });
+    assert_eq!(vec![5, 2, 3], newest(&store));
+}
+
+#[test]
+fn a_transaction_that_changes_nothing_takes_no_number_and_no_lock() {
+    let store = opened();
+    setting(&store, 10, 5).commit().unwrap();
+    let mut idle = store.begin().unwrap();
+    idle.insert([40, 4]).unwrap();
+    idle.delete([40]).unwrap();
+    let prepared = idle.prepare().unwrap();
+    assert_eq!(1, prepared.number());
+    assert_eq!(2, setting(&store, 20, 6).commit().unwrap());
+    let again = prepared.give_up().prepare().unwrap();
+    assert_eq!(Ok(()), store.fold());
+    assert_eq!(1, again.install());
+    assert_eq!((2, 0), (store.sizes().commits, store.sizes().open_transactions));
+    assert_eq!(2, store.counts().commits);
 }
 
 /// A log of commits: the number, and what was set.

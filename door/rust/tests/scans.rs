@@ -67,7 +67,7 @@ fn read(txn: &Transaction<'_>, positions: impl RangeBounds<u64>, rows: usize) ->
 #[test]
 fn batches_have_the_rows_as_a_transaction_changed_them() {
     let store = opened();
-    let mut txn = store.begin(1).unwrap();
+    let mut txn = store.begin().unwrap();
     assert_eq!((0..ROWS).map(|row| stable(2 * row)).collect::<Vec<_>>(), read(&txn, .., 1000));
     change(&mut txn);
     let wanted = wanted();
@@ -76,21 +76,21 @@ fn batches_have_the_rows_as_a_transaction_changed_them() {
         assert_eq!(wanted, read(&txn, .., rows));
     }
     txn.commit().unwrap();
-    assert_eq!(wanted, read(&store.begin(1).unwrap(), .., 4096));
+    assert_eq!(wanted, read(&store.begin().unwrap(), .., 4096));
     store.fold().unwrap();
-    assert_eq!(wanted, read(&store.begin(1).unwrap(), .., 4096));
+    assert_eq!(wanted, read(&store.begin().unwrap(), .., 4096));
 }
 
 #[test]
 fn texts_are_lent_as_a_transaction_changed_them() {
     let store = opened();
-    let mut txn = store.begin(1).unwrap();
+    let mut txn = store.begin().unwrap();
     change(&mut txn);
     let wanted: Vec<String> = wanted().into_iter().map(|line| line.2).collect();
     assert_eq!(wanted, txn.texts(2, ..).unwrap());
     assert_eq!(wanted[1000..1100], txn.texts(2, 1000..1100).unwrap());
     txn.commit().unwrap();
-    let reader = store.begin(1).unwrap();
+    let reader = store.begin().unwrap();
     let texts = reader.texts(2, ..).unwrap();
     store.fold().unwrap();
     assert_eq!(wanted, texts);
@@ -99,9 +99,30 @@ fn texts_are_lent_as_a_transaction_changed_them() {
 }
 
 #[test]
+fn truths_are_copied_as_a_transaction_changed_them() {
+    let store = opened();
+    let mut txn = store.begin().unwrap();
+    change(&mut txn);
+    let wanted: Vec<u8> = wanted().into_iter().map(|line| u8::from(line.3)).collect();
+    let rows = wanted.len();
+    let mut truths = vec![9; rows + 5];
+    assert_eq!(Ok(rows), txn.bools(3, 0, &mut truths));
+    assert_eq!((&wanted[..], &[9; 5][..]), truths.split_at(rows));
+    let mut some = [9; 1500];
+    assert_eq!(Ok(1500), txn.bools(3, 1001, &mut some));
+    assert_eq!(wanted[1001..2501], some);
+    assert_eq!(
+        [Ok(3), Ok(0), Ok(0)],
+        [rows as u64 - 3, rows as u64, u64::MAX].map(|from| txn.bools(3, from, &mut some))
+    );
+    assert_eq!(Ok(0), txn.bools(3, 0, &mut []));
+    assert_eq!([Err(Error::Shape); 3], [0, 2, 4].map(|column| txn.bools(column, 0, &mut some)));
+}
+
+#[test]
 fn texts_of_rows_that_have_not_changed_lie_side_by_side() {
     let store = opened();
-    let txn = store.begin(1).unwrap();
+    let txn = store.begin().unwrap();
     let texts = txn.texts(2, 1..4).unwrap();
     assert_eq!(texts[0].as_bytes().as_ptr_range().end, texts[1].as_ptr());
     assert_eq!(texts[1].as_ptr(), txn.texts(2, 2..).unwrap()[0].as_ptr());
@@ -110,7 +131,7 @@ fn texts_of_rows_that_have_not_changed_lie_side_by_side() {
 #[test]
 fn positions_are_cut_to_the_table() {
     let store = opened();
-    let txn = store.begin(1).unwrap();
+    let txn = store.begin().unwrap();
     let keys = |positions: (Bound<u64>, Bound<u64>)| {
         let batch = txn.batch(&[0], positions).unwrap();
         let keys: Vec<i64> = batch.ints(0).unwrap().iter().collect();
@@ -133,7 +154,7 @@ fn positions_are_cut_to_the_table() {
 #[test]
 fn numbers_of_rows_that_have_not_changed_are_lent_by_blocks() {
     let store = opened();
-    let mut txn = store.begin(1).unwrap();
+    let mut txn = store.begin().unwrap();
     txn.set([2], 1, 9).unwrap();
     let batch = txn.batch(&[1], ..).unwrap();
     let mut lengths = Vec::new();
@@ -150,7 +171,7 @@ fn numbers_of_rows_that_have_not_changed_are_lent_by_blocks() {
 #[test]
 fn a_row_that_was_read_is_inserted_again() {
     let store = opened();
-    let mut txn = store.begin(1).unwrap();
+    let mut txn = store.begin().unwrap();
     let row = txn.get([26]).unwrap().unwrap();
     txn.delete(&row[..1]).unwrap();
     assert_eq!(None, txn.get([26]).unwrap());

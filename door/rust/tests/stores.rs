@@ -27,12 +27,12 @@ const TABLE: &str = "\"a,\"\"b\"\"\":int:key,name:text,ok:bool\n10,\"Ann, Jr\",f
 /// A store with two commits behind it: its rows are `10,Ann,true`, and `15` with a text of two bytes.
 fn changed() -> Store {
     let store = Store::open(TABLE, &Options::default()).unwrap();
-    let mut txn = store.begin(1).unwrap();
+    let mut txn = store.begin().unwrap();
     txn.delete([20]).unwrap();
     txn.set([10], 2, true).unwrap();
     txn.commit().unwrap();
     store.fold().unwrap();
-    let mut txn = store.begin(1).unwrap();
+    let mut txn = store.begin().unwrap();
     txn.set([10], 1, "Ann").unwrap();
     txn.insert(cells![15, "é", false]).unwrap();
     txn.commit().unwrap();
@@ -40,7 +40,7 @@ fn changed() -> Store {
 }
 
 fn rows_of(store: &Store) -> Vec<Row> {
-    let txn = store.begin(9).unwrap();
+    let txn = store.begin().unwrap();
     (0..txn.rows()).map(|position| txn.row_at(position).unwrap().unwrap()).collect()
 }
 
@@ -52,7 +52,7 @@ fn refusal(folder: &Folder) -> Option<Error> {
 fn the_newest_table_is_recovered() {
     let (store, folder) = (changed(), Folder::new("newest"));
     store.checkpoint(&folder.0).unwrap();
-    let mut later = store.begin(1).unwrap();
+    let mut later = store.begin().unwrap();
     later.delete([10]).unwrap();
     later.commit().unwrap();
     let again = Store::recover(&folder.0, &Options::default()).unwrap();

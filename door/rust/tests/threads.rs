@@ -15,10 +15,10 @@ fn addition(thread: i64, number: i64) -> (i64, i64) {
 }
 
 /// Adds to a row in a transaction of its own, until it is committed. Answers the commit, and how often one was refused.
-fn add(store: &Store, thread: i64, row: i64, amount: i64) -> Result<(u64, usize), Error> {
+fn add(store: &Store, row: i64, amount: i64) -> Result<(u64, usize), Error> {
     let mut refused = 0;
     loop {
-        let mut txn = store.begin(thread as u32)?;
+        let mut txn = store.begin()?;
         let sum = txn.get([row])?.and_then(|row| row[1].as_int()).ok_or(Error::Missing)?;
         txn.set([row], 1, sum + amount)?;
         match txn.commit() {
@@ -42,7 +42,7 @@ fn additions_of_eight_threads_are_all_there() {
             threads.spawn(move || {
                 for number in 0..each {
                     let (row, amount) = addition(thread, number);
-                    let (commit, conflicts) = add(store, thread, row, amount).unwrap();
+                    let (commit, conflicts) = add(store, row, amount).unwrap();
                     refused.fetch_add(conflicts, Ordering::Relaxed);
                     if commit % FOLD_EVERY == 0 {
                         store.fold().unwrap();
@@ -56,7 +56,7 @@ fn additions_of_eight_threads_are_all_there() {
     for (row, amount) in (0..THREADS).flat_map(|thread| (0..each).map(move |number| addition(thread, number))) {
         wanted[row as usize] += amount;
     }
-    let txn = store.begin(0).unwrap();
+    let txn = store.begin().unwrap();
     let sums: Vec<i64> = txn.batch(&[1], ..).unwrap().ints(0).unwrap().iter().collect();
     assert_eq!(wanted, sums);
     assert_eq!((each * THREADS) as u64, store.sizes().commits);
@@ -66,13 +66,13 @@ fn additions_of_eight_threads_are_all_there() {
 #[test]
 fn a_transaction_ends_on_another_thread() {
     let store = Store::open("id:int:key\n", &Options::default()).unwrap();
-    let (mut first, mut second) = (store.begin(1).unwrap(), store.begin(2).unwrap());
+    let (mut first, mut second) = (store.begin().unwrap(), store.begin().unwrap());
     thread::scope(|threads| {
         threads.spawn(move || first.insert([1]).and_then(|()| Ok(first.commit()?)).unwrap());
         threads.spawn(move || second.insert([2]).unwrap()); // dropped there, and so aborted
     });
     assert_eq!(0, store.sizes().open_transactions);
-    assert_eq!(1, store.begin(3).unwrap().rows());
+    assert_eq!(1, store.begin().unwrap().rows());
 }
 
 #[test]
@@ -82,21 +82,20 @@ fn sessions_keep_their_store_and_their_transactions() {
         open: Transaction<'static>,
     }
     let store = Arc::new(Store::open("id:int:key,sum:int\n0,0\n", &Options::default()).unwrap());
-    let sessions =
-        (0..4).map(|client| Session { store: Arc::clone(&store), open: store.begin_shared(client).unwrap() });
+    let sessions = (0..4).map(|_| Session { store: Arc::clone(&store), open: store.begin_shared().unwrap() });
     let sessions: Vec<Session> = sessions.collect();
     let threads = sessions.into_iter().enumerate().map(|(number, Session { store, mut open })| {
         thread::spawn(move || {
             open.insert([number as i64 + 1, 7]).unwrap();
             open.commit().unwrap();
-            add(&store, 0, 0, 1).unwrap();
+            add(&store, 0, 1).unwrap();
         })
     });
     for thread in threads.collect::<Vec<_>>() {
         thread.join().unwrap();
     }
     let store = Arc::try_unwrap(store).unwrap(); // no other share of it is left
-    let txn = store.begin(9).unwrap();
+    let txn = store.begin().unwrap();
     assert_eq!(vec![4, 7, 7, 7, 7], txn.batch(&[1], ..).unwrap().ints(0).unwrap().iter().collect::<Vec<i64>>());
 }
 
@@ -104,12 +103,12 @@ fn sessions_keep_their_store_and_their_transactions() {
 fn threads_read_what_a_batch_lends_while_others_commit() {
     let table: String = (0..3000).map(|row| format!("{row},{row}\n")).collect();
     let store = Store::open(format!("id:int:key,qty:int\n{table}"), &Options::default()).unwrap();
-    let txn = store.begin(1).unwrap();
+    let txn = store.begin().unwrap();
     let batch = txn.batch(&[1], ..).unwrap();
     thread::scope(|threads| {
         let reader = threads.spawn(|| (0..50).map(|_| batch.ints(0).unwrap().iter().sum::<i64>()).collect::<Vec<_>>());
         for row in 0..200 {
-            let mut other = store.begin(2).unwrap();
+            let mut other = store.begin().unwrap();
             other.set([row], 1, -1).unwrap();
             other.commit().unwrap();
             assert_eq!(Some(row), txn.row_at(row as u64).unwrap().unwrap()[1].as_int());

@@ -1,4 +1,7 @@
-//! Drawn calls of four clients with open transactions, each reply beside that of a plain model.
+//! Drawn calls of four clients with open transactions, some of which began at pins, each reply beside that of a plain
+//! model.
+#[path = "../fixtures/feed.rs"]
+mod feed;
 mod model;
 mod run;
 

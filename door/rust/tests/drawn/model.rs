@@ -34,6 +34,11 @@ pub struct Open {
 }
 
 impl Open {
+    /// The number of the table under its writes.
+    pub fn begun(&self) -> u64 {
+        self.begun as u64
+    }
+
     /// The keys to which something was done, and not undone.
     pub fn changed(&self) -> impl Iterator<Item = &Cells> {
         self.effects.keys()
@@ -59,19 +64,44 @@ pub struct Rules {
 
 pub struct Model {
     pub rules: Rules,
-    pub newest: Table,
+    /// The table of each number: the last one is the newest.
+    pub tables: Vec<Table>,
     commits: Vec<BTreeMap<Cells, Effect>>,
     cut_at: usize,
+    pub refused: Refused,
+}
+
+/// How many commits were refused, by why.
+#[derive(Debug, Default, PartialEq, Eq)]
+pub struct Refused {
+    pub conflicts: u64,
+    pub too_old: u64,
+    pub full: u64,
 }
 
 impl Model {
     pub fn new(rules: Rules, rows: impl IntoIterator<Item = Cells>) -> Model {
-        let newest = rows.into_iter().map(|row| (row[..rules.key_columns].to_vec(), row)).collect();
-        Model { rules, newest, commits: Vec::new(), cut_at: 0 }
+        let first = rows.into_iter().map(|row| (row[..rules.key_columns].to_vec(), row)).collect();
+        Model { rules, tables: vec![first], commits: Vec::new(), cut_at: 0, refused: Refused::default() }
     }
 
+    pub fn newest(&self) -> &Table {
+        self.tables.last().expect("a table is there from the first on")
+    }
+
+    /// A transaction over the newest table: one that begins at a pin is a copy of what was made so when it was pinned.
     pub fn begin(&self) -> Open {
-        Open { begun: self.commits.len(), table: self.newest.clone(), effects: BTreeMap::new() }
+        Open { begun: self.commits.len(), table: self.newest().clone(), effects: BTreeMap::new() }
+    }
+
+    /// Of how many of the last commits the changes are kept.
+    pub fn kept(&self) -> usize {
+        (self.commits.len() - self.cut_at).min(self.rules.recent)
+    }
+
+    /// Whether the changes of the commit of a number are kept.
+    pub fn is_kept(&self, number: usize) -> bool {
+        number <= self.commits.len() && number + self.kept() > self.commits.len()
     }
 
     pub fn number(&self) -> u64 {
@@ -114,8 +144,22 @@ impl Model {
         Ok(())
     }
 
-    /// The number of the new table, or why there is none.
+    /// The number of the new table, or of that which a transaction that changes nothing saw, or why there is none.
     pub fn commit(&mut self, open: Open) -> Result<u64, Refusal> {
+        if open.effects.is_empty() {
+            return Ok(open.begun());
+        }
+        let answer = self.decide(open);
+        match answer {
+            Ok(_) => {}
+            Err(Refusal::Conflict) => self.refused.conflicts += 1,
+            Err(Refusal::TooOld) => self.refused.too_old += 1,
+            Err(Refusal::Full) => self.refused.full += 1,
+        }
+        answer
+    }
+
+    fn decide(&mut self, open: Open) -> Result<u64, Refusal> {
         let since = self.commits.len() - open.begun;
         if open.begun < self.cut_at || since > self.rules.recent {
             return Err(Refusal::TooOld);
@@ -127,7 +171,7 @@ impl Model {
         if table.len() > self.rules.row_limit {
             return Err(Refusal::Full);
         }
-        self.newest = table;
+        self.tables.push(table);
         self.commits.push(open.effects);
         Ok(self.number())
     }
@@ -139,7 +183,7 @@ impl Model {
 
     /// The newest table with what a transaction did.
     fn table_with(&self, open: &Open) -> Table {
-        let mut table = self.newest.clone();
+        let mut table = self.newest().clone();
         for (key, effect) in &open.effects {
             match effect {
                 Effect::Delete => drop(table.remove(key)),

@@ -1,15 +1,25 @@
 //! A run: calls drawn from a seed, made of a store and of the model.
-use crate::model::{Cells, Model, Open, Refusal, Rules};
-use narthexmace::{Cell, CommitError, ConflictRule, Error, Mark, Options, Rank, Row, Store, Transaction, Values};
+use crate::feed::apply;
+use crate::model::{Cells, Model, Open, Refusal, Refused, Rules};
+use narthexmace::{Cell, CommitError, ConflictRule, Error, Mark, Options, Pin, Rank, Row, Store, Transaction, Values};
 use std::collections::BTreeMap;
+use std::time::Duration;
 use std::{env, fs, process};
 
 const CLIENTS: usize = 4;
+const PINS: usize = 3;
 /// How many numbers a key may have; half of the keys have one of the first, so that clients meet there.
 const NUMBERS: [usize; 2] = [3, 40];
 
 /// The replies that some call of many runs gets.
-pub const REPLIES: [&str; 15] = [
+pub const REPLIES: [&str; 22] = [
+    "Gap",
+    "BegunAt",
+    "Pinned",
+    "Unpinned",
+    "Changes",
+    "NoChanges",
+    "Followed",
     "Done",
     "Duplicate",
     "Missing",
@@ -131,6 +141,9 @@ struct Run<'s> {
     store: &'s Store,
     types: &'static [Type],
     model: Model,
+    /// The pins, each with what the model begins at it.
+    pins: Vec<(Pin<'s>, Open)>,
+    folds: u64,
 }
 
 impl<'s> Run<'s> {
@@ -158,8 +171,72 @@ impl<'s> Run<'s> {
         row
     }
 
-    fn begin(&self, client: usize) -> Client<'s> {
-        Client { txn: self.store.begin(client as u32).unwrap(), open: self.model.begin(), marks: Vec::new() }
+    /// A transaction over the newest table, or half of the time over that of a pin, where there is one.
+    fn begin(&mut self) -> (Client<'s>, &'static str) {
+        let at = self.draw.below(2 * PINS);
+        let (txn, open, reply) = match self.pins.get(at) {
+            Some((pin, open)) => (pin.begin().unwrap(), open.clone(), "BegunAt"),
+            None => (self.store.begin().unwrap(), self.model.begin(), "Begun"),
+        };
+        assert_eq!(open.begun(), txn.begun());
+        (Client { txn, open, marks: Vec::new() }, reply)
+    }
+
+    /// Keeps the newest table, or lets a pin go, whatever began at it.
+    fn pin(&mut self) -> &'static str {
+        if self.pins.len() < PINS && self.draw.below(2) == 0 {
+            let pin = self.store.pin().unwrap();
+            assert_eq!(self.model.number(), pin.number());
+            self.pins.push((pin, self.model.begin()));
+            return "Pinned";
+        }
+        if self.pins.is_empty() {
+            return "NoPin";
+        }
+        self.pins.remove(self.draw.below(self.pins.len()));
+        "Unpinned"
+    }
+
+    /// What the commit of a drawn number changed: over the table of the number before it makes its own.
+    fn changes(&mut self) -> &'static str {
+        let number = self.draw.below(self.model.tables.len() + 2);
+        let Some(layer) = self.store.changes(number as u64).unwrap() else {
+            assert!(!self.model.is_kept(number));
+            return "NoChanges";
+        };
+        assert!(self.model.is_kept(number));
+        let mut rows = self.rows_of(number - 1);
+        apply(&mut rows, &layer, self.model.rules.key_columns);
+        same(self.rows_of(number), rows, "Changes")
+    }
+
+    /// Follows the commits after a drawn number, table by table.
+    fn follow(&mut self) -> &'static str {
+        let (from, newest) = (self.draw.below(self.model.tables.len() + 1), self.model.tables.len() - 1);
+        assert_eq!((newest > from).then_some(newest as u64), self.store.wait(from as u64, Duration::ZERO));
+        let mut changes = self.store.changes_after(from as u64);
+        let mut rows = self.rows_of(from.min(newest));
+        for number in from + 1..=newest {
+            match changes.next().expect("what each commit changed comes, or that it is gone") {
+                Ok((told, layer)) => {
+                    assert!(self.model.is_kept(number));
+                    assert_eq!(number as u64, told);
+                    apply(&mut rows, &layer, self.model.rules.key_columns);
+                    assert_eq!(self.rows_of(number), rows);
+                }
+                Err(refused) => {
+                    assert_eq!((Error::Missing, false), (refused, self.model.is_kept(number)));
+                    assert!(changes.next().is_none());
+                    return "Gap";
+                }
+            }
+        }
+        assert!(changes.next().is_none());
+        "Followed"
+    }
+
+    fn rows_of(&self, number: usize) -> Vec<Cells> {
+        self.model.tables[number].values().cloned().collect()
     }
 
     fn write(&mut self, client: &mut Client<'_>) -> &'static str {
@@ -266,11 +343,16 @@ impl<'s> Run<'s> {
     fn step(&mut self, clients: &mut [Option<Client<'s>>; CLIENTS]) -> &'static str {
         let at = self.draw.below(CLIENTS);
         let Some(mut client) = clients[at].take() else {
-            clients[at] = Some(self.begin(at));
-            return "Begun";
+            let (client, reply) = self.begin();
+            clients[at] = Some(client);
+            return reply;
         };
         let reply = match self.draw.below(1000) {
-            0..=9 => self.store.fold().map(|()| "Folded").unwrap(),
+            0..=9 => {
+                self.store.fold().unwrap();
+                self.folds += 1;
+                "Folded"
+            }
             10..=12 => {
                 self.store.cut();
                 self.model.cut();
@@ -280,28 +362,54 @@ impl<'s> Run<'s> {
             40..=139 => return self.commit(client),
             140..=559 => self.write(&mut client),
             560..=639 => self.mark(&mut client),
+            640..=679 => self.pin(),
+            680..=694 => self.changes(),
+            695..=709 => self.follow(),
             _ => self.read(&client),
         };
         clients[at] = Some(client);
         reply
     }
 
-    /// The rows of the newest table, and those of a store that is recovered of its checkpoint.
+    /// What the store has counted, as the model has it.
+    fn check_counts(&self) {
+        let counts = self.store.counts();
+        let refused = Refused { conflicts: counts.conflicts, too_old: counts.too_old, full: counts.full };
+        assert_eq!(self.model.refused, refused);
+        assert_eq!((self.model.number(), self.folds), (counts.commits, counts.folds));
+        assert_eq!((0, 0), (counts.checkpoints, counts.superseded));
+        let oldest = self.pins.iter().map(|(_, open)| open.begun()).min();
+        assert_eq!((self.pins.len(), oldest), (counts.pins, counts.oldest_pin));
+        let (kept, newest) = (self.model.kept(), self.model.number());
+        let entries = |number: u64| self.store.changes(number).unwrap().unwrap().len() as u64;
+        let kept_entries: u64 = (newest - kept as u64 + 1..=newest).map(entries).sum();
+        assert_eq!((kept, kept_entries), (counts.kept, counts.kept_entries));
+    }
+
+    /// The rows of the newest table, those of a store that is recovered of its checkpoint, and those of the pins.
     fn check_end(&self, seed: u64) {
+        self.check_counts();
         let folder = env::temp_dir().join(format!("narthexmace-{}-drawn-{seed}", process::id()));
         fs::create_dir(&folder).unwrap();
         self.store.checkpoint(&folder).unwrap();
         let again = Store::recover(&folder, &Options::default());
         fs::remove_dir_all(&folder).unwrap();
-        let wanted: Vec<Cells> = self.model.newest.values().cloned().collect();
+        let wanted = self.rows_of(self.model.tables.len() - 1);
         assert_eq!(wanted, rows_of(self.store));
         assert_eq!(wanted, rows_of(&again.unwrap()));
         assert_eq!(self.model.number(), self.store.sizes().commits);
+        for (pin, open) in &self.pins {
+            assert_eq!(self.rows_of(pin.number() as usize), seen_by(&pin.begin().unwrap()));
+            assert_eq!(open.begun(), pin.number());
+        }
     }
 }
 
 fn rows_of(store: &Store) -> Vec<Cells> {
-    let txn = store.begin(9).unwrap();
+    seen_by(&store.begin().unwrap())
+}
+
+fn seen_by(txn: &Transaction<'_>) -> Vec<Cells> {
     (0..txn.rows()).map(|position| txn.row_at(position).unwrap().unwrap().into()).collect()
 }
 
@@ -345,8 +453,8 @@ pub fn run(seed: u64, calls: usize) -> Counts {
         row_limit: rules.row_limit as u64,
         conflicts: if rules.by_row { ConflictRule::ByRow } else { ConflictRule::ByColumn },
     };
-    let store = Store::open(csv_of(head, model.newest.values()), &options).unwrap();
-    let mut run = Run { draw, store: &store, types, model };
+    let store = Store::open(csv_of(head, model.newest().values()), &options).unwrap();
+    let mut run = Run { draw, store: &store, types, model, pins: Vec::new(), folds: 0 };
     let mut clients = [const { None }; CLIENTS];
     let (mut counts, mut place) = (Counts::new(), Place { seed, call: 0 });
     while place.call < calls {
