@@ -13,8 +13,11 @@
 What lasts: commits are in memory alone. ``Store.checkpoint`` writes the newest table into a folder, and ``recover``
 opens it again; what was committed since the last checkpoint is lost with the process.
 
-Threads: a store is for any threads at once, a transaction or a snapshot for one at a time, which is checked. Calls into
-the library give up the interpreter's lock.
+Threads: a store or a pin is for any threads at once, a transaction or a snapshot for one at a time, which is checked.
+``Store.pin`` keeps a table, over which several threads read side by side, each in a snapshot of its own. Calls into the
+library give up the interpreter's lock.
+
+Who follows a store has from ``Store.changes`` what each commit changed, and from ``Store.wait`` word of the next one.
 
 Memory: what a call hands out is Python's own, but for ``Snapshot.pieces``, which lends the library's numbers, for
 reading, until the next write on the transaction or its end.
@@ -40,6 +43,7 @@ from ._errors import (
     NoImage,
     NoMemory,
     NotAscending,
+    NotKept,
     ReadOnly,
     Shape,
     Superseded,
@@ -48,8 +52,9 @@ from ._errors import (
     TooSmall,
 )
 from ._layers import Entry
+from ._pin import Pin
 from ._snapshot import Rank, Snapshot
-from ._store import Sizes, Store, open, recover
+from ._store import Counts, Sizes, Store, open, recover, version
 from ._transaction import Transaction
 
 __all__ = [
@@ -59,6 +64,7 @@ __all__ = [
     "Batch",
     "Column",
     "Conflict",
+    "Counts",
     "DeviceFailed",
     "Duplicate",
     "Entry",
@@ -72,7 +78,9 @@ __all__ = [
     "NoImage",
     "NoMemory",
     "NotAscending",
+    "NotKept",
     "Pieces",
+    "Pin",
     "Rank",
     "ReadOnly",
     "Shape",
@@ -87,4 +95,5 @@ __all__ = [
     "Transaction",
     "open",
     "recover",
+    "version",
 ]

@@ -1,8 +1,8 @@
 """``python -m narthexmace show TABLE.csv [--script SCRIPT.csv]``: a table, and what a script's calls make of it.
 
-With a script it prints the replies, in the words of the program ``pdt`` (but a ``cut`` has no count), and then, side by
-side, what stands after the last call: the stable table, the Read-PDT, the Write-PDT, the newest image, and the entries
-of each open transaction.
+With a script it prints the replies, in the words of the program ``pdt``, and then, side by side, what stands after the
+last call: the stable table, the Read-PDT, the Write-PDT, the newest image, and the entries of each open transaction.
+But a ``cut`` has no count here, and a commit that changes nothing takes no number: it has that of the table it saw.
 ``+25,Dee,4 at 2`` is an insert, ``-20 at 1`` a delete, ``qty=5 at 0`` a cell that is set; the number is the SID, the
 position among the rows below the layer. Each line has one key, or says how many lines more there are.
 
@@ -37,7 +37,6 @@ class Script:
         self.store = store
         self.columns = store.columns
         self.key = [column for column in store.columns if column.key]
-        self.clients: Dict[str, int] = {}
         self.open: Dict[str, Transaction] = {}
 
     def replies(self, records: Sequence[Sequence[str]]) -> Iterator[Answer]:
@@ -86,11 +85,10 @@ class Script:
         if verb in ("fold", "cut"):
             getattr(self.store, verb)()
             return [["Done"]]
-        number = self.clients.setdefault(client, len(self.clients))
         if verb == "begin":
             if client in self.open:
                 return [["AlreadyOpen"]]
-            self.open[client] = self.store.begin(number)
+            self.open[client] = self.store.begin()
             return [["Begun"]]
         if client not in self.open:
             return [["NotOpen"]]

@@ -27,7 +27,7 @@ class Error(Exception):
 
 
 class NoMemory(Error, MemoryError):
-    """Memory was refused. The table, the transaction and the history are as they were."""
+    """Memory was refused. The table and the transaction are as they were."""
 
     code = 1
 
@@ -46,7 +46,7 @@ class Conflict(_CommitRefused):
 
 
 class TooOld(_CommitRefused):
-    """More commits came since the transaction began than are kept, or the history was cut. The transaction is over."""
+    """More commits came since the transaction began than are kept, or one and a cut. The transaction is over."""
 
     code = 3
 
@@ -67,6 +67,16 @@ class Missing(Error, KeyError):
     """There is no row of the key, or no savepoint any more."""
 
     code = 6
+
+
+class NotKept(Missing):
+    """What a commit changed isn't kept: too many came since, or a cut, or the store has no such commit.
+
+    Who follows a store begins anew then: with ``Store.pin`` for the table, and ``Store.changes`` after its number.
+    """
+
+    #: The number of the commit.
+    number: int = 0
 
 
 class Shape(Error, ValueError):

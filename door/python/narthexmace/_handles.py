@@ -1,14 +1,15 @@
 """The addresses of C's objects. A call gets one for as long as it goes on, and none once the object is let go."""
 from __future__ import annotations
 
+import ctypes
 import threading
 import weakref
 from contextlib import contextmanager
-from ctypes import byref, c_void_p
+from ctypes import byref, c_uint64, c_void_p
 from typing import Any, Iterator, List, NoReturn, Optional, Sequence, Tuple
 
 from ._errors import Lent, Misuse, check
-from ._library import library
+from ._library import CountsOf, library
 
 
 class Single:
@@ -48,20 +49,28 @@ class StoreHandle(Single):
         self.free_if_ending()
 
     def close(self) -> None:
-        """Frees the store. Misuse while a transaction is open, or while another thread is in a call."""
+        """Frees the store. Misuse while a transaction is open, a pin kept, or another thread in a call."""
         with self._lock:
             if self._calls:
                 raise Misuse("another thread is in a call of the store")
             if not self._free():
-                raise Misuse("a transaction or a snapshot of the store is open")
+                raise Misuse(self._why_open())
+
+    def _why_open(self) -> str:
+        """Why C doesn't close the store."""
+        counts = CountsOf(ctypes.sizeof(CountsOf))
+        check(library.pdt_count(self.room, byref(counts)))
+        if counts.pins:
+            return f"the store has {counts.pins} pin{'s' if counts.pins > 1 else ''}: close them first"
+        return "a transaction or a snapshot of the store is open"
 
     def end(self) -> None:
-        """Takes no more calls, and frees the store now, or with the end of its last transaction."""
+        """Takes no more calls, and frees the store now, or with the end of its last transaction and pin."""
         self._ending = True
         self.free_if_ending()
 
     def free_if_ending(self) -> None:
-        """Frees a store that takes no more calls, once none goes on and no transaction is open."""
+        """Frees a store that takes no more calls, once none goes on, no transaction is open and no pin kept."""
         if not self._ending:
             return
         with self._lock:
@@ -69,7 +78,7 @@ class StoreHandle(Single):
                 self._free()
 
     def _free(self) -> bool:
-        """Frees the store, and says whether it is free: a transaction may be open."""
+        """Frees the store, and says whether it is free: a transaction may be open, or a pin kept."""
         at, self.room = self.room, c_void_p()  # before the call: who interrupts it must not free the store again
         if library.pdt_close(at) == Misuse.code:
             self.room = at
@@ -93,6 +102,49 @@ class _Address(Single):
         self.store.free_if_ending()
 
 
+class PinHandle(Single):
+    """A pin's address, at which several threads may begin at once. It is let go when none of them is in a begin."""
+
+    def __init__(self, store: StoreHandle) -> None:
+        """Pins the newest table."""
+        pinned, number = _PinAddress(store), c_uint64()
+        with store as at:
+            check(library.pdt_pin(at, byref(number), byref(pinned.room)))
+        self.number = number.value
+        self.store = store
+        self._pinned: Optional[_PinAddress] = pinned
+
+    @property
+    def is_open(self) -> bool:
+        return self._pinned is not None
+
+    def begin(self, room: c_void_p) -> None:
+        """Begins a transaction over the pin's table, whose address goes into room."""
+        pinned = self._pinned  # which stays while this call has it, whoever lets the pin go
+        if pinned is None:
+            raise Misuse("the pin is closed")
+        with self.store:
+            check(library.pdt_begin_at(pinned.room, byref(room)))
+
+    def close(self) -> None:
+        """Lets the pin go: at once, or once no other thread begins at it."""
+        self._pinned = None
+
+
+class _PinAddress(Single):
+    """The address of a pin, which is let go when nobody keeps this any more."""
+
+    __slots__ = ("room", "store")
+
+    def __init__(self, store: StoreHandle) -> None:
+        self.room = c_void_p()
+        self.store = store
+
+    def __del__(self) -> None:
+        library.pdt_unpin(self.room)  # null where the pinning failed
+        self.store.free_if_ending()
+
+
 class TransactionHandle(Single):
     """A transaction's address, which one thread may have at a time.
 
@@ -101,11 +153,14 @@ class TransactionHandle(Single):
     for as long as someone can read it.
     """
 
-    def __init__(self, store: StoreHandle, client: int) -> None:
-        """Begins a transaction of a client."""
+    def __init__(self, store: StoreHandle, pin: Optional[PinHandle] = None) -> None:
+        """Begins a transaction over the newest table, or over that of a pin."""
         address = _Address(store)
-        with store as at:
-            check(library.pdt_begin(at, client, byref(address.room)))
+        if pin is not None:
+            pin.begin(address.room)
+        else:
+            with store as at:
+                check(library.pdt_begin(at, byref(address.room)))
         self._address: Optional[_Address] = address
         self._lock = threading.Lock()
         # the views that were lent, and the memory under each: neither is kept alive by this

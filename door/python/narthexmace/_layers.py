@@ -17,8 +17,9 @@ _KINDS = {1: INSERT, 2: DELETE, 3: MODIFY}
 class Entry(NamedTuple):
     """An entry of a layer, which changes a row below it.
 
-    ``layer`` is "read" for the Read-PDT, "write" for the Write-PDT, or "own" for a transaction's. ``sid`` is where the
-    entry stands among the rows below the layer; ``rid`` where its row is among those above, or, of a delete, would be.
+    ``layer`` is "read" for the Read-PDT, "write" for the Write-PDT, "own" for a transaction's, or "commit" for what one
+    commit changed of the table before it. ``sid`` is where the entry stands among the rows below the layer; ``rid``
+    where its row is among those above, or, of a delete, would be.
     ``kind`` is "insert", "delete" or "modify", and ``column`` that of a modify. ``values`` are the row that is
     inserted, the key of the row that is deleted, or the cell that is set.
     """

@@ -17,7 +17,7 @@ MAX_ROWS = 2_147_483_647
 class Options(ctypes.Structure):
     """pdt_options"""
 
-    _fields_ = [("recent", c_size_t), ("row_limit", c_uint64), ("by_row", c_bool)]
+    _fields_ = [("size", c_size_t), ("recent", c_size_t), ("row_limit", c_uint64), ("by_row", c_bool)]
 
 
 class SizesOf(ctypes.Structure):
@@ -28,6 +28,28 @@ class SizesOf(ctypes.Structure):
         ("write_entries", c_size_t),
         ("read_entries", c_size_t),
         ("open_transactions", c_size_t),
+    ]
+
+
+class CountsOf(ctypes.Structure):
+    """pdt_counts"""
+
+    _fields_ = [
+        ("size", c_size_t),
+        ("begins", c_uint64),
+        ("commits", c_uint64),
+        ("conflicts", c_uint64),
+        ("too_old", c_uint64),
+        ("full", c_uint64),
+        ("folds", c_uint64),
+        ("checkpoints", c_uint64),
+        ("superseded", c_uint64),
+        ("pins", c_size_t),
+        ("oldest_pin", c_uint64),
+        ("kept", c_size_t),
+        ("kept_entries", c_uint64),
+        ("waits", c_uint64),
+        ("longest_hold", c_uint64),
     ]
 
 
@@ -80,6 +102,7 @@ class FaultOf(ctypes.Structure):
 # part of one and a number by reference may all stand there.
 _CELLS = [c_void_p, c_char_p, c_size_t]  # numbers, texts, and how many bytes the texts have
 _CALLS = {
+    "version": (c_char_p, []),
     "text": (c_char_p, [c_int]),
     "open_csv": (c_int, [c_char_p, c_size_t, c_void_p, c_void_p, c_void_p]),
     "open_columns": (c_int, [c_void_p, c_size_t, c_size_t, c_void_p, c_void_p, c_void_p]),
@@ -90,10 +113,15 @@ _CALLS = {
     "column_type": (c_int, [c_void_p, c_size_t]),
     "column_name": (c_char_p, [c_void_p, c_size_t]),
     "size": (c_int, [c_void_p, c_void_p]),
+    "count": (c_int, [c_void_p, c_void_p]),
     "fold": (c_int, [c_void_p]),
     "cut": (c_int, [c_void_p]),
     "checkpoint": (c_int, [c_void_p, c_char_p]),
-    "begin": (c_int, [c_void_p, c_uint32, c_void_p]),
+    "begin": (c_int, [c_void_p, c_void_p]),
+    "begun": (c_int, [c_void_p, c_void_p]),
+    "pin": (c_int, [c_void_p, c_void_p, c_void_p]),
+    "begin_at": (c_int, [c_void_p, c_void_p]),
+    "unpin": (None, [c_void_p]),
     "abort": (None, [c_void_p]),
     "commit": (c_int, [c_void_p, c_void_p]),
     "insert": (c_int, [c_void_p, *_CELLS]),
@@ -109,9 +137,12 @@ _CALLS = {
     "cells": (c_int, [c_void_p, c_size_t, c_uint64, c_void_p, c_void_p, c_void_p, c_size_t, c_void_p]),
     "texts": (c_int, [c_void_p, c_size_t, c_uint64, c_void_p, c_void_p, c_void_p]),
     "ints": (c_int, [c_void_p, c_size_t, c_uint64, c_void_p, c_void_p]),
+    "bools": (c_int, [c_void_p, c_size_t, c_uint64, c_void_p, c_void_p]),
     "pieces": (c_int, [c_void_p, c_size_t, c_uint64, c_uint64, c_void_p, c_void_p, c_void_p]),
     "layers": (c_int, [c_void_p, c_void_p, c_void_p]),
     "own_layer": (c_int, [c_void_p, c_void_p]),
+    "changes": (c_int, [c_void_p, c_uint64, c_void_p]),
+    "wait": (c_int, [c_void_p, c_uint64, c_uint64, c_void_p]),
     "layer_close": (None, [c_void_p]),
     "layer_size": (c_size_t, [c_void_p]),
     "entry_at": (c_int, [c_void_p, c_size_t, c_void_p, c_void_p, c_void_p, c_size_t]),

@@ -4,7 +4,7 @@ from __future__ import annotations
 import ctypes
 import sys
 from array import array
-from ctypes import byref, c_int64, c_size_t, c_uint64
+from ctypes import byref, c_int64, c_size_t, c_uint8, c_uint64
 from itertools import accumulate, compress
 from operator import ne
 from typing import Any, List, Sequence
@@ -14,15 +14,11 @@ from ._cells import BOOL, INT
 from ._errors import Error, check
 from ._library import Piece, library
 
-#: How many rows one call reads where what C writes is read over again: it stays in the processor's caches.
-ROWS = 8192
 #: How many rows a block of the stable table has, whose texts lie one after the other.
 BLOCK = 1024
 #: Up to how many runs of a block are copied run by run: where rows were changed there are more.
 FEW = 64
 _WORD = 8
-#: Where the lowest byte of a number stands, which is that of a truth.
-_LOW = bytes(c_int64(1)).index(1)
 
 
 def column_of(at: int, type_: str, place: int, first: int, count: int) -> Any:
@@ -46,16 +42,11 @@ def _ints(at: int, place: int, first: int, count: int) -> memoryview:
 
 
 def _truths(at: int, place: int, first: int, count: int) -> memoryview:
-    """The truths of a bool column, a byte each, of the numbers that C hands out."""
-    truths, room = bytearray(), bytearray(8 * min(count, ROWS))
-    numbers = (c_int64 * (len(room) // 8)).from_buffer(room)
-    while len(truths) < count:
-        got, used = c_size_t(min(ROWS, count - len(truths))), c_size_t()
-        check(library.pdt_cells(at, place, first + len(truths), numbers, byref(got), None, 0, byref(used)))
-        if not got.value:
-            _all_there(len(truths), count)
-        truths += room[_LOW : 8 * got.value : 8]
-    return memoryview(truths).cast("?")
+    """The truths of a bool column, a byte each."""
+    room, got = _room(count), c_size_t(count)
+    check(library.pdt_bools(at, place, first, (c_uint8 * count).from_buffer(room), byref(got)))
+    _all_there(got.value, count)
+    return memoryview(room).cast("?")
 
 
 def _texts(at: int, place: int, first: int, count: int) -> Texts:
@@ -165,6 +156,28 @@ def runs_of(pieces: Sequence[Piece]) -> List[Any]:
     if singles:
         runs.append((c_int64 * len(singles))(*singles))
     return runs
+
+
+def aligned(columns: Sequence[List[Any]]) -> Sequence[List[Any]]:
+    """The runs of several columns, cut so that each has as many rows as those that stand beside it."""
+    if len(columns) == 1:
+        return columns
+    ends = sorted({end for runs in columns for end in accumulate(map(len, runs))})
+    return [_cut_at(runs, ends) for runs in columns]
+
+
+def _cut_at(runs: Sequence[Any], ends: Sequence[int]) -> List[Any]:
+    """The same numbers in arrays that end at these rows, of which all ends of the runs are some."""
+    cut: List[Any] = []
+    upcoming, row = iter(ends), 0
+    for run in runs:
+        start, stop = row, row + len(run)
+        while row < stop:
+            end = next(upcoming)
+            whole = end - row == len(run)
+            cut.append(run if whole else (c_int64 * (end - row)).from_buffer(run, _WORD * (row - start)))
+            row = end
+    return cut
 
 
 def _room(size: int) -> bytearray:

@@ -13,12 +13,13 @@ from ._cells import BOOL, INT, TEXT, Key, Row, Shaping
 from ._errors import Misuse, Missing, ReadOnly, Shape, TooSmall, check
 from ._handles import Single, TransactionHandle
 from ._library import library
-from ._reads import column_of, pieces_of, runs_of
+from ._reads import aligned, column_of, pieces_of, runs_of
 
 if TYPE_CHECKING:
     from pandas import DataFrame
 
 Self = TypeVar("Self", bound="Snapshot")
+Names = Union[List[str], Tuple[str, ...]]
 
 BATCH = 65_536
 #: What a transaction does, and a snapshot doesn't.
@@ -33,11 +34,12 @@ class Rank(NamedTuple):
 
 
 class Snapshot(Single):
-    """The newest table as it was at ``Store.read``: what others commit later isn't seen in it.
+    """The newest table as it was at ``Store.read``, or a pin's: what others commit later isn't seen in it.
 
-    One thread at a time: a call while another thread is in one raises Misuse, and so does a call once it is over. With
-    ``with`` it is over at the end of the block, and one that is dropped is over, too. It takes no number of a commit,
-    however it ends. A write raises ReadOnly. The rows count from 0 in ascending key.
+    One thread at a time: a call while another thread is in one raises Misuse, and so does a call once it is over.
+    Threads that read one table side by side take a ``Pin``, of ``Store.pin``, and each a snapshot of its own over it.
+    With ``with`` it is over at the end of the block, and one that is dropped is over, too. It takes no number of a
+    commit, however it ends. A write raises ReadOnly. The rows count from 0 in ascending key.
     """
 
     __slots__ = ("_handle", "_shaping", "_writes", "_numbers", "_room", "__weakref__")
@@ -60,6 +62,14 @@ class Snapshot(Single):
     def is_open(self) -> bool:
         """Whether it may still be used."""
         return self._handle.is_open
+
+    @property
+    def begun(self) -> int:
+        """The number of the table that it sees: how many commits made it. Misuse once it is over."""
+        number = c_uint64()
+        with self._handle as at:
+            check(library.pdt_begun(at, byref(number)))
+        return number.value
 
     def abort(self) -> None:
         """Ends it without a trace. Aborting again is no error."""
@@ -188,20 +198,42 @@ class Snapshot(Single):
                 cells = {it: column_of(at, types[place], place, first, count) for it, place in columns.items()}
             yield Batch(first, count, cells)
 
-    def pieces(self, column: str, start: int = 0, stop: Optional[int] = None) -> Pieces:
+    @overload
+    def pieces(self, column: str, start: int = 0, stop: Optional[int] = None) -> Pieces: ...
+
+    @overload
+    def pieces(self, column: Names, start: int = 0, stop: Optional[int] = None) -> List[Tuple[memoryview, ...]]: ...
+
+    def pieces(self, column: Union[str, Names], start: int = 0, stop: Optional[int] = None) -> Any:
         """The numbers of an int column between two positions where they lie in the library, for reading, with no copy.
 
+        Of a list of columns they come beside each other: ``for ids, sums in txn.pieces(["id", "sum"])`` has in each
+        round the same rows of both. A piece ends where that of one of the columns does.
+
         They may be read until the next write on this transaction, its commit or its end, which release them; reads
-        leave them alone, so that several columns are read beside each other. Where an array or another view still
-        stands over one of them, a write or a commit raises Lent instead, and does nothing; ``abort`` then frees the
-        transaction with the last of them. ``scan`` copies, and is faster from Python: a piece has at most 1,024 rows.
+        leave them alone. Where an array or another view still stands over one of them, a write or a commit raises Lent
+        instead, and does nothing; ``abort`` then frees the transaction with the last of them. ``scan`` copies, and is
+        faster from Python: a piece has at most 1,024 rows. Shape, NoMemory.
         """
-        place = self._shaping.column(column)
+        if isinstance(column, str):
+            return Pieces([view for (view,) in self._lend([self._int_column(column)], start, stop)])
+        places = [self._int_column(name) for name in column]
+        if not places:
+            raise Shape("pieces are of one column or more")
+        return self._lend(places, start, stop)
+
+    def _int_column(self, name: str) -> int:
+        place = self._shaping.column(name)
         if self._shaping.types[place] != INT:
-            raise Shape(f"column {column!r} has no ints")
+            raise Shape(f"column {name!r} has no ints")
+        return place
+
+    def _lend(self, places: Sequence[int], start: int, stop: Optional[int]) -> List[Tuple[memoryview, ...]]:
+        """Views over the runs of some int columns, those of the same rows together."""
         first, end = self._range(start, stop)
         with self._handle as at:
-            return Pieces(self._handle.lend(runs_of(pieces_of(at, place, first, end))))
+            columns = aligned([runs_of(pieces_of(at, place, first, end)) for place in places])
+            return list(zip(*(self._handle.lend(runs) for runs in columns)))
 
     def to_pandas(self, columns: Optional[Sequence[str]] = None) -> "DataFrame":
         """The table as a DataFrame, with these columns, or all. ImportError where pandas isn't there.

@@ -1,19 +1,23 @@
-"""Stores: a table with its history, and what is done to it as a whole."""
+"""Stores: a table that takes commits, and what is done to it as a whole."""
 from __future__ import annotations
 
+import ctypes
+import math
 import operator
 import os
-from ctypes import byref
+import time
+from ctypes import byref, c_uint64
 from itertools import chain
 from types import TracebackType
-from typing import Any, Iterator, Mapping, NamedTuple, Optional, Sequence, Tuple, Type
+from typing import Any, Iterator, List, Mapping, NamedTuple, Optional, Sequence, Tuple, Type
 
 from ._cells import TYPES, Column, Shaping
 from ._columns import PassedColumns
-from ._errors import BadLimit, BadTable, Misuse, NotAscending, Path, check, check_files, check_text
-from ._handles import Single, StoreHandle, TransactionHandle
+from ._errors import BadLimit, BadTable, Misuse, Missing, NotAscending, NotKept, Path, check, check_files, check_text
+from ._handles import PinHandle, Single, StoreHandle, TransactionHandle
 from ._layers import Entry, Layer
-from ._library import MAX_RECENT, MAX_ROWS, FaultOf, Options, PlaceOf, SizesOf, library
+from ._library import MAX_RECENT, MAX_ROWS, CountsOf, FaultOf, Options, PlaceOf, SizesOf, library
+from ._pin import Pin
 from ._snapshot import Snapshot
 from ._tables import KeyNames, Named, Table, columns_of, fault_of_columns, named_columns
 from ._tables import text_of_columns, text_of_table
@@ -27,6 +31,46 @@ class Sizes(NamedTuple):
     write_entries: int
     read_entries: int
     open_transactions: int
+
+
+class Counts(NamedTuple):
+    """What a store has counted since its opening, and what it keeps now.
+
+    ``begins`` are the transactions and snapshots that have begun; ``commits`` those that were committed, and changed
+    something; ``conflicts``, ``too_old`` and ``full`` those that a commit has ended so. ``checkpoints`` were installed,
+    and ``superseded`` were those that something else came before.
+
+    ``pins`` are kept now, and ``oldest_pin`` is the number of the oldest one's table, None where there is none. The
+    changes of the last ``kept`` commits are kept, with ``kept_entries`` entries.
+
+    ``waits`` is how often a thread found the lock of the store taken, and ``longest_hold`` the longest time that it was
+    held, in seconds.
+    """
+
+    begins: int
+    commits: int
+    conflicts: int
+    too_old: int
+    full: int
+    folds: int
+    checkpoints: int
+    superseded: int
+    pins: int
+    oldest_pin: Optional[int]
+    kept: int
+    kept_entries: int
+    waits: int
+    longest_hold: float
+
+
+#: For how many seconds C waits at a time: Python looks for an interrupt in between.
+_TURN = 0.1
+
+
+def version() -> str:
+    """The version of the library that runs."""
+    text: bytes = library.pdt_version()
+    return text.decode()
 
 
 def open(
@@ -45,8 +89,9 @@ def open(
     a DataFrame of pandas; ``key`` names those of the key, which come first then, and ``types`` may give the type of
     some: "int", "text" or "bool".
 
-    ``recent`` is how many commits may come between a transaction's begin and its commit, ``row_limit`` how many rows a
-    table may have, and ``conflicts`` says whether changes of two columns of one row conflict: "row", or not: "column".
+    ``recent`` is how many commits may come between a transaction's begin and its commit, and of how many of the last
+    ones the changes are kept; ``row_limit`` is how many rows a table may have, and ``conflicts`` says whether changes
+    of two columns of one row conflict: "row", or not: "column".
 
     The table is read whole, and stays in memory: nothing is written to the file, and commits last only once a
     checkpoint has written them (``Store.checkpoint``).
@@ -114,10 +159,13 @@ def recover(
 
 
 class Store(Single):
-    """A table with its history. Several threads may use it at once; each transaction is for one thread.
+    """A table that takes commits. Several threads may use it at once; each transaction is for one thread.
 
     Commits are in memory alone. What a checkpoint has written lasts; what was committed since the last one is lost with
-    the process, and with ``close``. Nothing folds, cuts or checkpoints by itself: ``sizes`` says what has grown.
+    the process, and with ``close``. Nothing folds or checkpoints by itself: ``sizes`` says what has grown.
+
+    Commits are counted, and no record of one is kept but what each of the last ``recent`` ones changed, which
+    ``changes`` shows. So what a store keeps doesn't grow with the number of its commits.
 
     With ``with`` it is closed at the end of the block.
     """
@@ -137,16 +185,21 @@ class Store(Single):
     def read(self) -> Snapshot:
         """A snapshot of the newest table, for reading: ``with store.read() as table:``. NoMemory.
 
-        It takes no number of a commit, so that no open transaction grows older by it.
+        It takes no number of a commit, so that no open transaction grows older by it. It is for one thread at a time:
+        ``pin`` is for threads that read one table side by side. It waits for no commit, no fold and no checkpoint.
         """
-        return Snapshot(TransactionHandle(self._handle, 0), self._shaping)
+        return Snapshot(TransactionHandle(self._handle), self._shaping)
 
-    def begin(self, client: int = 0) -> Transaction:
-        """Begins a transaction over the newest table. The number of the client goes into the history. NoMemory."""
-        number = operator.index(client)
-        if not 0 <= number < 2**32:
-            raise Misuse("a client is a number from 0 to 4,294,967,295")
-        return Transaction(TransactionHandle(self._handle, number), self._shaping)
+    def begin(self) -> Transaction:
+        """Begins a transaction over the newest table. It waits for no commit, no fold and no checkpoint. NoMemory."""
+        return Transaction(TransactionHandle(self._handle), self._shaping)
+
+    def pin(self) -> Pin:
+        """Keeps the newest table, so that any threads begin over it until the pin is closed. NoMemory.
+
+        ``with store.pin() as pin:``, and then ``with pin.read() as table:`` in each thread.
+        """
+        return Pin(PinHandle(self._handle), self._shaping)
 
     def fold(self) -> None:
         """Folds the Write-PDT into the Read-PDT, for later commits a smaller tree. No table changes. NoMemory."""
@@ -154,10 +207,11 @@ class Store(Single):
             check(library.pdt_fold(at))
 
     def cut(self) -> None:
-        """Lets go of the history so far, so that it takes no memory: what each commit changed. No table changes.
+        """Lets go of what the last commits changed, before there are ``recent`` of them. No table changes. NoMemory.
 
-        A transaction that began before the newest commit reads on, and is TooOld at its own commit, since nobody can
-        tell any more whether it is in conflict. One that began after that commit commits as ever.
+        A transaction that began before the newest commit reads on, and is TooOld at its own commit if it changes
+        something, since nobody can tell any more whether it is in conflict. One that began after that commit, before or
+        after the cut, commits as ever. ``changes`` after an earlier number is NotKept.
         """
         with self._handle as at:
             check(library.pdt_cut(at))
@@ -180,6 +234,67 @@ class Store(Single):
             check(library.pdt_size(at, byref(sizes)))
         return Sizes(sizes.commits, sizes.write_entries, sizes.read_entries, sizes.open_transactions)
 
+    def counts(self) -> Counts:
+        """What it has counted since its opening, and what it keeps now. Commits wait while it looks at what is kept."""
+        counts = CountsOf(ctypes.sizeof(CountsOf))
+        with self._handle as at:
+            check(library.pdt_count(at, byref(counts)))
+        told = {name: getattr(counts, name) for name in Counts._fields}
+        told["oldest_pin"] = counts.oldest_pin if counts.pins else None
+        told["longest_hold"] = counts.longest_hold / 1e9
+        return Counts(**told)
+
+    def changes(self, after: int) -> Iterator[Tuple[int, List[Entry]]]:
+        """What each commit after a number changed, up to the newest one of the call: its number, and its entries.
+
+        ``for number, entries in store.changes(after=n)``: the numbers are n + 1, n + 2 and so on, with none left out.
+        The entries stand over the table before their commit, and make of it the table of their number. A row that was
+        replaced is an insert and a delete of one key: who keeps rows by key does a commit's deletes first.
+
+        NotKept, at the call or at a later step, where the next commit isn't kept: more than ``recent`` came since, or a
+        cut. So is a number above the newest one, which this store never had. NoMemory.
+        """
+        number, newest = _number(after), self.sizes().commits
+        if number == newest:
+            return iter(())
+        return self._changes(self._layer_of(number + 1, newest), number + 1, newest)
+
+    def _changes(self, layer: Layer, number: int, newest: int) -> Iterator[Tuple[int, List[Entry]]]:
+        while True:
+            yield number, list(layer)
+            if number == newest:
+                return
+            number += 1
+            layer = self._layer_of(number, newest)
+
+    def _layer_of(self, number: int, newest: int) -> Layer:
+        """What the commit of a number changed. NotKept, where that is to be told no more."""
+        layer = Layer("commit", self._shaping)
+        with self._handle as at:
+            code = library.pdt_changes(at, number, byref(layer.room))
+        if code == Missing.code:
+            error = NotKept(f"the changes of commit {number} are not kept, and {newest} is the newest one")
+            error.number = number
+            raise error
+        check(code)
+        return layer
+
+    def wait(self, after: int, seconds: float) -> Optional[int]:
+        """Waits until the newest table has a number above this one, for so many seconds at most.
+
+        Answers that table's number, or None where no commit came in that time. Other threads go on meanwhile.
+        """
+        number, commits, end = _number(after), c_uint64(), time.monotonic() + seconds
+        with self._handle as at:
+            while True:
+                turn = min(max(end - time.monotonic(), 0), _TURN)
+                code = library.pdt_wait(at, number, math.ceil(turn * 1000), byref(commits))
+                if code != Missing.code:
+                    check(code)
+                    return commits.value
+                if time.monotonic() >= end:
+                    return None
+
     def layers(self) -> Iterator[Entry]:
         """The entries of the newest table's Read-PDT, and then those of its Write-PDT, in order.
 
@@ -193,7 +308,7 @@ class Store(Single):
     def close(self) -> None:
         """Closes the store: what no checkpoint has written is gone. Closing again is no error.
 
-        Misuse while a transaction or a snapshot is open, or another thread in a call: the store stays open then.
+        Misuse while a transaction or a snapshot is open, a pin kept, or another thread in a call: it stays open then.
         """
         self._handle.close()
 
@@ -203,7 +318,7 @@ class Store(Single):
     def __exit__(
         self, kind: Optional[Type[BaseException]], error: Optional[BaseException], trace: Optional[TracebackType]
     ) -> None:
-        """Closes the store; at an exception it is closed with the last of its transactions, which may still be open."""
+        """Closes the store; at an exception it is closed with the last of its transactions and pins."""
         if kind is None:
             self.close()
         else:
@@ -220,7 +335,15 @@ def _options(recent: int, row_limit: int, conflicts: str) -> Options:
         raise BadLimit(f"row_limit is {row_limit}, and not from 1 to {MAX_ROWS:,}")
     if conflicts not in ("column", "row"):
         raise BadLimit(f'conflicts is {conflicts!r}, and not "column" or "row"')
-    return Options(operator.index(recent), operator.index(row_limit), conflicts == "row")
+    size = ctypes.sizeof(Options)
+    return Options(size, operator.index(recent), operator.index(row_limit), conflicts == "row")
+
+
+def _number(number: int) -> int:
+    """A number of a commit, or 0."""
+    if not 0 <= operator.index(number) < 2**64 - 1:
+        raise Misuse("the numbers of tables count from 0")
+    return operator.index(number)
 
 
 def _folder(folder: Path) -> bytes:

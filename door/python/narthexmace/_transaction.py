@@ -1,4 +1,4 @@
-"""Transactions: what a client writes, and reads over the table as it was when it began."""
+"""Transactions: what one writes, and reads over the table as it was when it began."""
 from __future__ import annotations
 
 from contextlib import contextmanager
@@ -20,8 +20,7 @@ class Transaction(Snapshot):
 
     One thread at a time: a call while another thread is in one raises Misuse, and so does a call once it is over. With
     ``with`` it commits at the end of the block, and is aborted at an exception. One that is dropped while it is open is
-    aborted. The rows count from 0 in ascending key. Who only reads takes a ``Snapshot``, of ``Store.read``: a commit of
-    nothing takes a number, as each commit does.
+    aborted. The rows count from 0 in ascending key. Who only reads takes a ``Snapshot``, of ``Store.read``.
     """
 
     __slots__ = ()
@@ -29,7 +28,9 @@ class Transaction(Snapshot):
     def commit(self) -> int:
         """Commits, and answers the number of the new table.
 
-        What begins later sees it. It is in memory alone: it lasts once a checkpoint has written the table
+        A transaction that changes nothing takes no number: it ends as by ``abort``, and answers ``begun``.
+
+        What begins later sees the new table. It is in memory alone: it lasts once a checkpoint has written the table
         (``Store.checkpoint``), and is lost with the process before.
 
         Conflict, TooOld and Full end it: begin again, and do the work again. NoMemory and Lent leave it open as it was.

@@ -25,7 +25,7 @@ Pair = Tuple[Any, Any]
 #: The calls that a snapshot has too, and how often each is drawn.
 READS = {
     "get": 4, "contains": 3, "rank": 3, "at": 2, "length": 1, "slice": 2, "loop": 1, "scan": 2, "batch": 2, "texts": 2,
-    "pieces": 2, "numpy": 1, "pandas": 1, "looks": 1, "refused": 2,
+    "pieces": 2, "beside": 2, "numpy": 1, "pandas": 1, "looks": 1, "refused": 2,
 }  # fmt: skip
 WRITES = {
     "insert": 6, "delete": 5, "set": 8, "savepoint": 4, "layer": 2, "broken_scan": 1, "lent": 1, "refused_write": 1,
@@ -312,6 +312,20 @@ class Calls:
         by_hand = [due[index], due[index:], due, due, len(due), "".join(due).encode(), due, f"Texts({due!r})", "none"]
         return ways, by_hand
 
+    def do_beside(self, client: Client) -> Pair:
+        """Pieces of several columns at once: in each the same rows of all."""
+        ints = [place for place, type_ in enumerate(self.types) if type_ == "int"]
+        places = [self.draw.choice(ints) for _ in range(self.draw.randrange(1, 4))]
+        start, stop = self.positions(client)
+        names = self.draw.choice([list, tuple])(self.names[place] for place in places)
+        row, got, due = start, [], []
+        for views in client.txn.pieces(names, start, stop):
+            got.append([(view.tolist(), view.format, view.readonly and frozen_piece(view)) for view in views])
+            rows = client.model.image()[row : row + len(views[0])]
+            due.append([([it[place] for it in rows], "q", True) for place in places])
+            row += len(views[0])
+        return (got, row), (due, min(max(stop, start), len(client.model.rows)) if row > start else start)
+
     def do_pieces(self, client: Client) -> Pair:
         """Pieces of two columns beside each other, with reads in between, and nobody writes through them."""
         places = [place for place, type_ in enumerate(self.types) if type_ == "int"]
@@ -360,10 +374,9 @@ class Calls:
     def do_looks(self, client: Client) -> Pair:
         """Whether it is open, and how it is shown; and it is not copied."""
         kind = "Transaction" if isinstance(client.txn, narthexmace.Transaction) else "Snapshot"
-        return (
-            (client.txn.is_open, repr(client.txn), raises(TypeError, lambda: pickle.dumps(client.txn))),
-            (True, f"<{kind} of {', '.join(self.names)}, open>", True),
-        )
+        got = client.txn.is_open, client.txn.begun, repr(client.txn)
+        due = True, client.model.begun, f"<{kind} of {', '.join(self.names)}, open>"
+        return (got, raises(TypeError, lambda: pickle.dumps(client.txn))), (due, True)
 
     def do_refused(self, client: Client) -> Pair:
         """Reads whose arguments don't fit, and writes on a snapshot."""
@@ -381,6 +394,8 @@ class Calls:
             lambda: txn.scan(batch=0),
             lambda: txn.pieces(self.names[self.column("text")]),
             lambda: txn.pieces("no"),
+            lambda: txn.pieces([]),
+            lambda: txn.pieces([self.names[self.column("int")], self.names[self.column("text")]]),
         ]
         got = [self.refuses(narthexmace.Shape, call) for call in calls]
         if not isinstance(txn, narthexmace.Transaction):
@@ -394,6 +409,7 @@ class Calls:
         calls: List[Callable[[], Any]] = [
             lambda: txn.get(key), lambda: txn.rank(key), lambda: key in txn, lambda: len(txn), lambda: txn[0],
             lambda: txn[:], lambda: list(txn), lambda: txn.scan(), lambda: txn.pieces(self.names[self.column("int")]),
+            lambda: txn.begun,
         ]  # fmt: skip
         if isinstance(txn, narthexmace.Transaction):
             calls += [

@@ -43,25 +43,32 @@ class Table:
         self.key_columns, self.limit, self.recent, self.by_row = key_columns, limit, recent, by_row
         self.rows: Dict[Key, Row] = {row[:key_columns]: row for row in rows}
         self.commits: List[Dict[Key, Effect]] = []
+        self.versions = [self.rows]  # by number
         self.base = 0
 
-    def begin(self) -> "Client":
-        return Client(self)
+    def begin(self, number: Optional[int] = None) -> "Client":
+        """A transaction over the newest table, or over that of a number."""
+        return Client(self, len(self.commits) if number is None else number)
 
     def cut(self) -> None:
         self.base = len(self.commits)
 
-    def image(self) -> List[Row]:
-        return [self.rows[key] for key in sorted(self.rows, key=order)]
+    def kept(self) -> int:
+        """Of how many of the last commits the changes are kept."""
+        return min(self.recent, len(self.commits) - self.base)
+
+    def image(self, number: Optional[int] = None) -> List[Row]:
+        rows = self.rows if number is None else self.versions[number]
+        return [rows[key] for key in sorted(rows, key=order)]
 
 
 class Client:
     """A transaction: its snapshot, and its effects."""
 
-    def __init__(self, table: Table) -> None:
+    def __init__(self, table: Table, number: int) -> None:
         self.table = table
-        self.begun = len(table.commits)
-        self.rows = dict(table.rows)
+        self.begun = number
+        self.rows = dict(table.versions[number])
         self.effects: Dict[Key, Effect] = {}
 
     # ---- writes
@@ -120,6 +127,8 @@ class Client:
     def commit(self) -> Tuple[str, int]:
         """The reply, and the number of the newest table after it."""
         table, number = self.table, len(self.table.commits)
+        if not self.effects:
+            return "Committed", self.begun
         if self.begun < table.base or number - self.begun > table.recent:
             return "TooOld", number
         since = table.commits[self.begun :]
@@ -137,4 +146,5 @@ class Client:
             return "Full", number
         table.rows = rows
         table.commits.append(self.effects)
+        table.versions.append(rows)
         return "Committed", number + 1

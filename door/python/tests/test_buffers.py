@@ -320,7 +320,6 @@ class Numpy(Case):
         self.assertEqual((self.txn[two], self.txn[two:nine]), (self.rows[2], self.rows[2:9]))
         self.assertEqual(next(self.txn.scan(["qty"], two, nine, batch=nine))["qty"].tolist(), self.qty[2:9])
         self.assertEqual(self.txn.pieces("qty", two, nine).copy().tolist(), self.qty[2:9])
-        self.store.begin(client=two).abort()
 
     def test_arrays_as_columns(self) -> None:
         columns = {"id": numpy.arange(3), "new": numpy.array([True, False, True]), "n": numpy.int32([1, 2, 3])}

@@ -9,6 +9,7 @@ import random
 import tempfile
 import threading
 import unittest
+from collections import Counter
 from pathlib import Path
 from typing import Any, Callable, Dict, List, Tuple
 
@@ -23,14 +24,15 @@ SEED = int(os.environ.get("NARTHEXMACE_SEED", "1"))
 CLIENTS = 4
 STORE = {
     "fold": 3, "cut": 2, "checkpoint": 1, "sizes": 1, "layers": 2, "columns": 1, "read": 4, "block": 4, "threads": 1,
-    "opened": 1, "openings": 1, "folders": 1, "closed": 1,
+    "opened": 1, "openings": 1, "folders": 1, "closed": 1, "pin": 6, "changes": 6, "counts": 2, "wait": 1,
 }  # fmt: skip
 #: What no drawn call raises: memory is refused in test_errors alone, and the rest is for calls that the package lacks.
 NEVER = {"NoMemory", "TooSmall", "NotAscending", "Superseded", "DeviceFailed", "Error"}
 #: What stands behind no name of its own.
 CLAUSES = {
     "commit Committed", "commit Conflict", "commit TooOld", "commit Full", "block committed", "block aborted",
-    "block Conflict", "block ended inside", "commit after a cut",
+    "block Conflict", "block ended inside", "commit after a cut", "commit of nothing", "commit at a pin Committed",
+    "commit at a pin Conflict", "commit at a pin TooOld", "changes of several", "changes of none", "changes cut off",
 }  # fmt: skip
 
 
@@ -51,6 +53,8 @@ class Run(Calls):
         self.store = self.opened(list(rows.values()))
         self.open: Dict[int, Client] = {}
         self.readers: List[Client] = []
+        self.pins: List[narthexmace.Pin] = []
+        self.told: "Counter[str]" = Counter()  # what the store has counted
 
     def opened(self, rows: List[Row]) -> narthexmace.Store:
         """A store over rows that are given in some order and in some form."""
@@ -74,9 +78,10 @@ class Run(Calls):
             return self.on_reader()
         number = self.draw.randrange(CLIENTS)
         if number not in self.open:
-            txn = self.store.begin(number) if self.chance(0.7) else self.store.begin(client=number)
-            self.open[number] = Client(txn, self.model.begin())
-            return "begin", txn.is_open, True
+            pin = self.draw.choice(self.pins) if self.pins and self.chance(0.3) else None
+            txn = pin.begin() if pin else self.store.begin()
+            self.open[number] = Client(txn, self.model.begin(pin and pin.number))
+            return "begin", (txn.is_open, txn.begun), (True, self.open[number].model.begun)
         client = self.open[number]
         calls = {**READS, **WRITES, "commit": 4, "abort": 1}
         name = self.draw.choices(list(calls), list(calls.values()))[0]
@@ -105,10 +110,15 @@ class Run(Calls):
         except (narthexmace.Conflict, narthexmace.TooOld, narthexmace.Full) as refused:
             self.raised(refused)
             got = type(refused).__name__, refused.commits
+            self.told[got[0]] += 1
         if client.model.begun < len(self.model.commits) == self.model.base:
             self.note("commit after a cut")
         due = client.model.commit()
         self.note(f"commit {due[0]}")
+        if client.model.effects and any(pin.number == client.model.begun for pin in self.pins):
+            self.note(f"commit at a pin {due[0]}")
+        elif not client.model.effects:
+            self.note("commit of nothing")
         return got, due
 
     def do_abort(self, client: Client) -> Pair:
@@ -118,6 +128,7 @@ class Run(Calls):
 
     def on_fold(self) -> Pair:
         self.folded = len(self.model.commits)
+        self.told["folds"] += 1
         return self.store.fold(), None
 
     def on_cut(self) -> Pair:
@@ -155,12 +166,83 @@ class Run(Calls):
             rows = table[:]
         return (rows, table.is_open), (self.model.image(), False)
 
+    def on_pin(self) -> Pair:
+        """A table is pinned, or read at a pin, or a pin is closed."""
+        how = self.draw.choice(["pin", "read", "close"])
+        if how == "pin" and len(self.pins) < 4:
+            self.pins.append(self.store.pin())
+            number = len(self.model.commits)
+            pin = self.pins[-1]
+            return (pin.number, pin.is_open, repr(pin)), (number, True, f"<Pin of table {number}, open>")
+        if not self.pins:
+            with self.store.pin() as pin, pin.read() as table:
+                rows = table[:]
+            return (rows, pin.is_open), (self.model.image(), False)
+        pin = self.draw.choice(self.pins)
+        if how == "close":
+            self.pins.remove(pin)
+            ends = [pin.close, lambda: pin.__exit__(None, None, None)]
+            got = [end() for end in self.draw.sample(ends, 2)]
+            refused = [self.refuses(narthexmace.Misuse, call) for call in (pin.begin, pin.read)]
+            return (got, refused, repr(pin)), ([None] * 2, [True] * 2, f"<Pin of table {pin.number}, closed>")
+        if len(self.readers) < 3:
+            self.readers.append(Client(pin.read(), self.model.begin(pin.number)))
+            return self.readers[-1].txn.begun, pin.number
+        with pin.read() as table:
+            return table[:], self.model.image(pin.number)
+
+    def on_changes(self) -> Pair:
+        """What the commits after a number changed, each merged by its positions over the table before."""
+        newest, kept = len(self.model.commits), self.model.kept()
+        after = self.draw.choice([0, newest, newest + self.draw.randrange(9), max(newest - kept + 1, 0),
+                                  max(newest - kept - 1, 0), max(newest - self.draw.randrange(6), 0)])  # fmt: skip
+        if self.chance(0.9):
+            after = max(after, newest - 9)
+        got, rows = [], self.model.image(after) if after <= newest else []
+        try:
+            for number, entries in self.store.changes(after=after):
+                assert {entry.layer for entry in entries} == {"commit"}
+                rows = self.merged(rows, entries)
+                got.append((number, rows))
+        except narthexmace.NotKept as fault:
+            self.raised(fault)
+            self.note("changes cut off")
+            return (got, fault.number), ([], after + 1 if after > newest or after < newest - kept else None)
+        self.note("changes of none" if after == newest else "changes of several" if after + 1 < newest else "change")
+        due = [(number, self.model.image(number)) for number in range(after + 1, newest + 1)]
+        return (got, newest - kept <= after <= newest), (due, True)
+
+    def on_counts(self) -> Pair:
+        """What the store has counted, beside what was done."""
+        before = self.store.counts().begins
+        for call in (self.store.begin, self.store.read):
+            call().abort()
+        it, newest, kept = self.store.counts(), len(self.model.commits), self.model.kept()
+        entries = sum(len(changed) for _, changed in self.store.changes(newest - kept))
+        got = (it.begins - before, it.commits, it.conflicts, it.too_old, it.full, it.folds, it.checkpoints)
+        told = self.told
+        due = (2, newest, *(told[it] for it in ("Conflict", "TooOld", "Full", "folds", "checkpoints")))
+        oldest = min((pin.number for pin in self.pins), default=None)
+        lock = it.waits >= 0, 0 < it.longest_hold < 60, narthexmace.version() > "0"
+        rest = (it.superseded, it.pins, it.oldest_pin, it.kept, it.kept_entries)
+        return (got, rest, lock), (due, (0, len(self.pins), oldest, kept, entries), (True, True, True))
+
+    def on_wait(self) -> Pair:
+        newest = len(self.model.commits)
+        got = [self.store.wait(newest, seconds=0), self.store.wait(after=newest + 5, seconds=0.001)]
+        if newest:
+            got.append(self.store.wait(self.draw.randrange(newest), 60))
+        refused = [self.refuses(narthexmace.Misuse, lambda: self.store.wait(-1, 60)),
+                   self.refuses(narthexmace.Misuse, lambda: self.store.changes(-1))]  # fmt: skip
+        return (got, refused), ([None, None, *([newest] if newest else [])], [True, True])
+
     def on_checkpoint(self) -> Pair:
         """The rows that a checkpoint writes, and where there is one, or no folder, there will be none."""
         with tempfile.TemporaryDirectory() as folder:
             self.store.checkpoint(folder)
             self.stable = self.model.image()
             self.folded = self.checkpointed = len(self.model.commits)
+            self.told["checkpoints"] += 1
             refused = [
                 self.refuses(narthexmace.Exists, lambda: self.store.checkpoint(folder=Path(folder))),
                 self.refuses(narthexmace.FileFailed, lambda: self.store.checkpoint(Path(folder, "no"))),
@@ -232,12 +314,15 @@ class Run(Calls):
         txn = self.draw.choice([store.begin, store.read])()
         got = [self.refuses(narthexmace.Misuse, store.close), len(txn) == len(self.model.rows)]
         txn.abort()
+        pin = store.pin()
+        got += [self.refuses(narthexmace.Misuse, store.close), len(pin.read()) == len(self.model.rows)]
+        pin.close()
         store.close()
-        calls: List[Callable[[], Any]] = [store.begin, store.read, store.fold, store.cut, store.sizes, store.layers]
+        calls: List[Callable[[], Any]] = [store.begin, store.read, store.fold, store.cut, store.sizes, store.layers,
+                                          store.pin, store.counts, lambda: store.wait(0, 9), lambda: store.changes(0)]
         got += [self.refuses(narthexmace.Misuse, call) for call in [*calls, lambda: store.checkpoint("/")]]
         store.close()
-        wrong = [lambda: self.store.begin(-1), lambda: self.store.begin(2**32), lambda: narthexmace.recover("a\0b")]
-        got += [self.refuses(narthexmace.Misuse, call) for call in wrong]
+        got.append(self.refuses(narthexmace.Misuse, lambda: narthexmace.recover("a\0b")))
         return got, [True] * len(got)
 
     def on_block(self) -> Pair:
@@ -265,6 +350,7 @@ class Run(Calls):
         except (narthexmace.Conflict, narthexmace.TooOld, narthexmace.Full) as refused:
             self.raised(refused)
             ended = type(refused).__name__
+            self.told[ended] += 1
         reply = same.commit()[0] if how == "end" else ""
         self.note(f"block {ended}")
         due_end = {"exception": "aborted", "abort": "ended inside", "end": reply.replace("Committed", "committed")}[how]
@@ -289,6 +375,7 @@ class Run(Calls):
         answers: List[Pair] = []
         faults: List[BaseException] = []
         names = [name for name in {**READS, **WRITES} if name != "pandas"]
+        newest = len(self.model.commits)
 
         def calls(own: "Run", client: Client) -> None:
             try:
@@ -303,8 +390,9 @@ class Run(Calls):
                 for _ in range(3):
                     self.store.fold()
                     answers.append((self.store.sizes().commits, len(self.model.commits)))
-                    with self.store.read() as table:
-                        answers.append((len(table), len(self.model.rows)))
+                    self.told["folds"] += 1
+                    with self.store.read() as table, self.store.pin() as pin, pin.read() as pinned:
+                        answers.append(((len(table), len(pinned), pin.number), (*[len(self.model.rows)] * 2, newest)))
             except BaseException as fault:
                 faults.append(fault)
 
@@ -324,6 +412,8 @@ class Run(Calls):
         """Ends what is open, and answers the newest rows."""
         for client in [*self.open.values(), *self.readers]:
             client.txn.abort()
+        for pin in self.pins:
+            pin.close()
         with self.store, self.store.read() as table:
             return list(table)
 

@@ -66,6 +66,7 @@ class Codes(unittest.TestCase):
             ("NotAscending", ValueError),
         ]:  # fmt: skip
             self.assertTrue(issubclass(getattr(narthexmace, kind), own), kind)
+        self.assertTrue(issubclass(narthexmace.NotKept, narthexmace.Missing))
         for kind in (narthexmace.Lent, narthexmace.ReadOnly):
             self.assertEqual((kind.code, issubclass(kind, narthexmace.Misuse)), (narthexmace.Misuse.code, True))
 
@@ -94,7 +95,7 @@ class Writes(Case):
             self.assertEqual(txn[:], ROWS)
             with self.assertRaises(KeyError) as caught:
                 txn.delete(30)
-            self.assertEqual(str(caught.exception), "there is no such row or mark")  # and not in quotes
+            self.assertEqual(str(caught.exception), "there is no such row, mark or commit")  # and not in quotes
 
     def test_cells_that_do_not_fit(self) -> None:
         with self.store.begin() as txn:
@@ -155,7 +156,7 @@ class Commits(Case):
     def test_a_conflict_and_what_is_no_conflict(self) -> None:
         for conflicts, kind in [("row", narthexmace.Conflict), ("column", None)]:
             with narthexmace.open(TABLE, conflicts=conflicts) as store:
-                first, second = store.begin(1), store.begin(2)
+                first, second = store.begin(), store.begin()
                 first.set(10, "qty", 1)
                 second.set(10, "name", "Amy")
                 self.assertEqual(first.commit(), 1)
@@ -171,16 +172,19 @@ class Commits(Case):
 
     def test_too_old_by_commits_and_by_a_cut(self) -> None:
         with narthexmace.open(TABLE, recent=1) as store:
-            old = store.begin()
+            old, idle = store.begin(), store.begin()
+            old.set(20, "qty", 1)
             for number in range(2):
                 with store.begin() as txn:
                     txn.set(10, "qty", number)
-            self.refused(narthexmace.TooOld, old.commit)
+            self.assertEqual(self.refused(narthexmace.TooOld, old.commit).commits, 2)  # type: ignore[attr-defined]
+            self.assertEqual(idle.commit(), 0)  # it changes nothing, and can't be too old for that
             old = store.begin()
+            old.set(20, "qty", 1)
             with store.begin() as txn:  # as many commits as may come
                 txn.set(10, "qty", 5)
             store.cut()
-            self.assertEqual(old.get(10), (10, "Ann", 1, True))  # it reads on
+            self.assertEqual((old.get(10), old.get(20)[2]), ((10, "Ann", 1, True), 1))  # it reads on
             self.refused(narthexmace.TooOld, old.commit)
 
     def test_a_cut_without_a_commit_since_the_begin_leaves_a_commit_as_it_is(self) -> None:
@@ -193,6 +197,7 @@ class Commits(Case):
         after.set(20, "qty", 3)
         self.assertEqual((begun.commit(), after.commit()), (2, 3))
         begun = self.store.begin()
+        begun.set(20, "qty", 5)
         with self.store.begin() as txn:
             txn.set(10, "qty", 4)
         self.store.cut()
@@ -224,6 +229,7 @@ class Commits(Case):
 
     def test_memory_that_is_refused_leaves_the_transaction_open(self) -> None:
         txn = self.store.begin()
+        txn.set(10, "qty", 1)
         with mock.patch.object(_transaction.library, "pdt_commit", lambda *_: narthexmace.NoMemory.code):
             self.refused(narthexmace.NoMemory, txn.commit)
             self.assertTrue(txn.is_open)
@@ -319,8 +325,6 @@ class Openings(Case):
         for words in [{"recent": 0}, {"recent": 65_537}, {"row_limit": 0}, {"row_limit": 2**31}, {"conflicts": "cell"}]:
             self.refused(narthexmace.BadLimit, narthexmace.open, TABLE, **words)
         self.refused(narthexmace.TooManyRows, narthexmace.open, TABLE, row_limit=1)
-        self.refused(narthexmace.Misuse, self.store.begin, -1)
-        self.refused(narthexmace.Misuse, self.store.begin, 2**32)
 
     def test_what_is_no_table_at_all(self) -> None:
         self.refused(FileNotFoundError, narthexmace.open, "no such table.csv")

@@ -19,6 +19,10 @@ from narthexmace import __main__ as show
 EXAMPLES = Path(__file__).parents[3] / "examples"
 # calls that show has not, and a cut, whose count the door doesn't tell
 UNLIKE = re.compile(rb",(checkpoint|cut)\b")
+# a commit after writes that undo each other: it changes nothing, as one after no write
+IDLE = {"runs: an insert changed and deleted leaves the image"}
+# a write that was done, and what begins or ends a transaction
+STEP = re.compile(r"^([^,\n]*),(?:(begin),Begun|(commit),[A-Z].*|(insert|delete|set),Done)$", re.MULTILINE)
 PICTURE = """\
 a,begin,Begun
 a,insert,Done
@@ -124,8 +128,20 @@ def options_of(case: Any) -> Optional[Dict[str, Any]]:
     options = dict(zip(words[3::2], words[4::2]))
     if set(words[3::2]) - {"--recent", "--limit", "--conflicts"} or UNLIKE.search(case.files["script.csv"]):
         return None
+    if case.name in IDLE or has_idle_commit(case.replies.decode()):
+        return None
     limits = {"recent": int(options.get("--recent", 64)), "row_limit": int(options.get("--limit", 2_147_483_647))}
     return {**limits, "conflicts": options.get("--conflicts", "column")}
+
+
+def has_idle_commit(replies: str) -> bool:
+    """Whether a transaction commits that wrote nothing: the program gives it a number, and the library doesn't."""
+    wrote = {}
+    for client, begin, commit, _ in STEP.findall(replies):
+        if commit and not wrote.get(client, True):  # there may be none open
+            return True
+        wrote[client] = not begin
+    return False
 
 
 class Examples(unittest.TestCase):

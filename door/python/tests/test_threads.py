@@ -8,12 +8,12 @@ import narthexmace
 THREADS, ADDS, ROWS = 8, 250, 10
 
 
-def add(store: narthexmace.Store, client: int, row: int) -> int:
+def add(store: narthexmace.Store, row: int) -> int:
     """Adds 1 to a row, and answers how many tries were in conflict."""
     tries = 0
     while True:
         try:
-            with store.begin(client) as txn:
+            with store.begin() as txn:
                 txn.set(row, "sum", txn.get(row)[1] + 1)
             return tries
         except narthexmace.Conflict:
@@ -30,7 +30,7 @@ class Threads(unittest.TestCase):
             try:
                 start.wait(30)
                 for i in range(ADDS):
-                    conflicts.append(add(store, client, (7 * i + client) % ROWS))
+                    conflicts.append(add(store, (7 * i + client) % ROWS))
             except BaseException as fault:
                 faults.append(fault)
 
@@ -71,7 +71,7 @@ class Threads(unittest.TestCase):
 
         def client(number: int) -> None:
             try:
-                txn = store.begin(number)
+                txn = store.begin()
                 before = next(txn.scan(["n"]))["n"].tolist()
                 for key in range(number, 2000, 8):
                     txn.set(key, "n", number + 1)

@@ -1,0 +1,63 @@
+"""Pins: versions of a table that are kept, over which any threads begin."""
+from __future__ import annotations
+
+from types import TracebackType
+from typing import Optional, Type
+
+from ._cells import Shaping
+from ._handles import PinHandle, Single, TransactionHandle
+from ._snapshot import Snapshot
+from ._transaction import Transaction
+
+
+class Pin(Single):
+    """The newest table as it was at ``Store.pin``, kept: transactions and snapshots begin over it until it is closed.
+
+    Any threads may use it at once. Several threads read one table side by side so: each takes a snapshot of its own, by
+    ``read``. No begin waits for a commit, a fold or a checkpoint.
+
+    What commits, folds and checkpoints have replaced since stays in memory with a pin. With ``with`` it is closed at
+    the end of the block, and one that is dropped is closed, too. A store isn't closed while it has pins.
+    """
+
+    __slots__ = ("_handle", "_shaping", "__weakref__")
+
+    def __init__(self, handle: PinHandle, shaping: Shaping) -> None:
+        self._handle = handle
+        self._shaping = shaping
+
+    @property
+    def number(self) -> int:
+        """The number of its table: how many commits made it."""
+        return self._handle.number
+
+    @property
+    def is_open(self) -> bool:
+        """Whether it may still be used."""
+        return self._handle.is_open
+
+    def read(self) -> Snapshot:
+        """A snapshot of its table, for the thread that asks: ``with pin.read() as table:``. Misuse, NoMemory."""
+        return Snapshot(TransactionHandle(self._handle.store, self._handle), self._shaping)
+
+    def begin(self) -> Transaction:
+        """Begins a transaction over its table. Misuse, NoMemory.
+
+        It may write, and commits as one that began when that table was the newest: Conflict, TooOld.
+        """
+        return Transaction(TransactionHandle(self._handle.store, self._handle), self._shaping)
+
+    def close(self) -> None:
+        """Lets the table go. What began over it goes on. Closing again is no error."""
+        self._handle.close()
+
+    def __enter__(self) -> "Pin":
+        return self
+
+    def __exit__(
+        self, kind: Optional[Type[BaseException]], error: Optional[BaseException], trace: Optional[TracebackType]
+    ) -> None:
+        self.close()
+
+    def __repr__(self) -> str:
+        return f"<Pin of table {self.number}, {'open' if self.is_open else 'closed'}>"
