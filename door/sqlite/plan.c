@@ -126,7 +126,7 @@ static void learn(session *s, size_t equal) {
   bool is_part = equal && equal < s->keys;
   if (!s->store || (s->rows && !(is_part && is_outgrown(s)))) return;
   pdt_txn *begun = NULL, *txn = s->view ? s->view->txn : NULL;
-  if (!txn && !pdt_begin(s->store, s->client, &begun)) txn = begun;
+  if (!txn && !pdt_begin(s->store, &begun)) txn = begun;
   if (txn && !pdt_rows(txn, &s->rows) && s->rows && is_part) sample(s, txn);
   pdt_abort(begun);
 }

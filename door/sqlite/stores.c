@@ -21,7 +21,6 @@ struct shared {
 
 static pthread_mutex_t lock = PTHREAD_MUTEX_INITIALIZER; /* of all that stands below */
 static shared *all;
-static uint32_t clients;
 
 /* ---- declarations */
 
@@ -92,6 +91,7 @@ static char *read_word(const char *word, declaration *out) {
 
 char *declaration_read(int words, const char *const *word, declaration *out) {
   memset(out, 0, sizeof *out);
+  out->options.size = sizeof out->options;
   char *error = NULL;
   for (int i = 0; i < words && !error; i++) error = read_word(word[i], out);
   if (!error && !out->path)
@@ -221,10 +221,3 @@ void stores_leave(shared *entry) {
 }
 
 pdt_store *stores_get(const shared *entry) { return entry->store; }
-
-uint32_t stores_client(void) {
-  pthread_mutex_lock(&lock);
-  uint32_t client = clients++;
-  pthread_mutex_unlock(&lock);
-  return client;
-}

@@ -28,7 +28,4 @@ shared *stores_join(const declaration *declared, char **error);
 void stores_leave(shared *entry);
 pdt_store *stores_get(const shared *entry);
 
-/* A number for a client of the history, which no other has. */
-uint32_t stores_client(void);
-
 #endif

@@ -37,7 +37,6 @@ struct session {
   shared *shared;             /* null once it was let go, and so is the store */
   pdt_store *store;
   size_t width, keys, text_room; /* text_room: bytes enough for the texts of any row */
-  uint32_t client;
   unsigned tables; /* SQLite's objects for it */
   unsigned views;  /* its own, and those that only cursors have still */
   bool kept;       /* whether the connection has it; if not, it goes with the last of these */
