@@ -11,7 +11,7 @@ use std::marker::Model;
 use values::NoMemory;
 
 /// A column in a new file. Its contents are what it handed to the file, of which it keeps a copy; that the file holds
-/// the same is a premise.
+/// the same is a premise. A piece is taken once the system says that it is on the device.
 pub struct FileColumn {
     file: File,
     /// There is room for one byte more while nothing has failed.
@@ -59,7 +59,7 @@ impl ColumnDevice for FileColumn {
             contents,
             failures,
         } = self;
-        let taken = hand_over(file, contents, piece);
+        let taken = hand_over_safely(file, contents, piece);
         if taken.is_err() {
             *failures = 1;
         }
@@ -84,6 +84,24 @@ impl Drop for FileColumn {
             write_front(&mut file, &all[written..]);
         }
     }
+}
+
+/// Hands the piece to the file, keeps a copy of what it took, and asks that this is on the device: so it is there after a loss of
+/// power too.
+fn hand_over_safely(
+    file: &mut File,
+    contents: &mut Vec<u8>,
+    piece: &[u8],
+) -> Result<(), DeviceFault>
+    ensures whole { OnOk result (contents.new.items ≡ contents.old.items ++ piece.now) }
+    ensures room { OnOk result (vec_len contents.new < vec_capacity contents.new) }
+    ensures part { OnErr result ((n : ℕ) × (contents.new.items ≡ contents.old.items ++ take n piece.now)) }
+{
+    hand_over(file, contents, piece)?;
+    if file.sync_data().is_err() {
+        return Err(DeviceFault);
+    }
+    Ok(())
 }
 
 /// Hands the piece to the file, and keeps a copy of what the file took and room for one byte more. Room for the copy comes first:

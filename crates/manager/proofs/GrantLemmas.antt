@@ -1,5 +1,5 @@
 -- The layers of the version after a commit.
-use Rattle.std.proofs.Common.{◌≡◌, ℕ, zero, suc, ◌+◌, ◌-◌, ◌≤◌, Bool, true, false, ◌||◌, List, [], length, drop, refl, sym, ap, ◌∙◌, subst, arith}
+use Rattle.std.proofs.Common.{◌≡◌, ℕ, zero, suc, ◌+◌, ◌-◌, ◌≤◌, ◌^◌, Bool, true, false, ◌||◌, List, [], length, drop, refl, sym, ap, ◌∙◌, subst, arith}
 use Rattle.std.specs.Prelude.{◌==◌, nat_lt}
 use Rattle.std.proofs.lemmas.Bool.Decides.{nat_tests}
 use Rattle.std.proofs.lemmas.List.{length-map}
@@ -18,7 +18,7 @@ use Rattle.layers.specs.Propagation.{composed_tree}
 use Rattle.stable.specs.Stable.{Stable, IsStable, table_in}
 use Rattle.txn.specs.Version.{Lower, TableVersion, alone, lower_table, version_of, LayeredVersion, numbered, table_version}
 use Rattle.txn.proofs.CallerLemmas.{lower_table_is, no_layer, version_of-alone}
-use Rattle.manager.specs.Managed.{Managed, newest_table, opened, is_bad_limit, IsManaged}
+use Rattle.manager.specs.Managed.{Managed, newest_table, opened_at, is_bad_limit, IsManaged}
 use Rattle.manager.specs.Kept.{AreFolded, HoldsNewest}
 use Rattle.manager.proofs.HistoryLemmas.{newest_within}
 
@@ -136,12 +136,12 @@ alone_folded s h =
       few = omega (arith, rows, few);
     }
 
-pub opened_holds : (s : Stable) (limit recent : ℕ) (rule : ConflictRule) → IsStable s → IsSchema s.schema → length s.rows ≤ limit
-    → limit ≤ MAX_ROWS →
-    HoldsNewest (opened s limit recent rule) (alone s) (numbered (alone s) 0) []
-opened_holds s limit recent rule h lawful within most =
+pub opened_holds : (number : ℕ) → number ≤ 2 ^ 62 → (s : Stable) (limit recent : ℕ) (rule : ConflictRule) → IsStable s → IsSchema s.schema
+    → length s.rows ≤ limit → limit ≤ MAX_ROWS →
+    HoldsNewest (opened_at number s limit recent rule) (alone s) (numbered (alone s) number) []
+opened_holds number few s limit recent rule h lawful within most =
     let rows : length (table_in s) ≡ length s.rows = length-map _ _ in
-    let none : ◌≡◌ {A = ℕ} 0 (0 + 0) = omega arith in
+    let none : number ≡ number + 0 = omega arith in
     record {
       lawful = record {
         lawful = lawful;
@@ -150,10 +150,10 @@ opened_holds s limit recent rule h lawful within most =
         limited = most;
         legal = tt;
         counted = omega arith;
-        few = omega arith;
+        few = few;
       };
       folded = alone_folded s h;
-      newest_is = version_of-alone s 0 ∙ (λ i. record { schema = s.schema; table = table_in s; number = none i });
+      newest_is = version_of-alone s number ∙ (λ i. record { schema = s.schema; table = table_in s; number = none i });
       layers_are = ap (numbered (alone s)) none;
       kept_are = sym (drop-none (0 - recent));
     }

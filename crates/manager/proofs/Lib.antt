@@ -9,5 +9,6 @@ mod OwnLemmas
 mod CheckpointLemmas
 mod RestackLemmas
 mod CommitLemmas
+mod RedoLemmas
 pub mod CallerLemmas
 pub mod Crossing

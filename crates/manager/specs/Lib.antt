@@ -8,3 +8,4 @@ pub mod Restacked
 pub mod Passing
 pub mod Prepared
 pub mod Pinned
+pub mod Redone

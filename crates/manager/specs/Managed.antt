@@ -19,7 +19,7 @@ pub record Managed : Type 0 where
   pub schema : Columns
   pub start : Start
   pub history : List Record
-  -- how many records it made since its opening
+  -- how many records it made, each commit before its opening counted as one
   pub made : ℕ
   -- the layers of its newest version
   pub layers : Lower
@@ -34,10 +34,15 @@ managed_of h made layers = record { schema = h.schema; start = h.start; history 
 abbrev pub history_of : Managed → Recorded
 history_of m = record { schema = m.schema; start = m.start; records = m.history; keeps = m.keeps }
 
--- the manager of a stable table that has just been opened: its numbers count from 0, and its trees have no entries
+-- the manager of a stable table that has just been opened at a number: its trees have no entries, and each commit before it
+-- counts as a record that was made
+abbrev pub opened_at : ℕ → Stable → ℕ → ℕ → ConflictRule → Managed
+opened_at number s limit recent rule =
+    managed_of (recorded_at (record { schema = s.schema; table = table_in s; number = number }) limit recent rule []) number (alone s)
+
+-- at 0
 abbrev pub opened : Stable → ℕ → ℕ → ConflictRule → Managed
-opened s limit recent rule =
-    managed_of (recorded_at (record { schema = s.schema; table = table_in s; number = 0 }) limit recent rule []) 0 (alone s)
+opened s limit recent rule = opened_at 0 s limit recent rule
 
 -- the effects that were committed since the start, in order
 abbrev pub commits_in : Managed → List Effects

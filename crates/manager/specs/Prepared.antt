@@ -28,6 +28,10 @@ pub record Prepared : Type 0 where
 abbrev pub version_in : Prepared → Option LayeredVersion
 version_in p = option_map (λ g. g.version) p.granted
 
+-- the commit's tree over the table that it found
+abbrev pub tree_in : Prepared → Option Tree
+tree_in p = option_map (λ g. g.tree) p.granted
+
 -- whether a reply leaves the table
 abbrev pub LeavesTable : CommitReply → Type 0
 LeavesTable (Committed n) = ⊥

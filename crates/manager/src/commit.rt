@@ -16,7 +16,7 @@ use txn::{Txn, Version};
 use values::NoMemory;
 
 /// How many records a manager makes at most.
-const MAX_RECORDS: u64 = 1 << 62;
+pub(crate) const MAX_RECORDS: u64 = 1 << 62;
 
 /// What the commit of a transaction will do, made before anything changes.
 #[derive(Drop)]
@@ -36,7 +36,7 @@ impl Model for Prepared {
 
 /// The version after a commit.
 #[derive(Drop)]
-struct Grant {
+pub(crate) struct Grant {
     /// The commit's tree, over the table that it found.
     tree: DeltaTree,
     version: Version,
@@ -51,7 +51,7 @@ impl Model for Grant {
 }
 
 impl Prepared {
-    ghost use Rattle.manager.specs.Prepared.{version_in};
+    ghost use Rattle.manager.specs.Prepared.{tree_in, version_in};
 
     /// The reply that `install` will give. Takes no memory.
     pub fn reply(&self) -> CommitReply
@@ -70,6 +70,16 @@ impl Prepared {
         }
     }
 
+    /// The entries of the commit over the table that it finds, where the transaction is committed. Takes no memory.
+    pub fn tree(&self) -> Option<&DeltaTree>
+        ensures { option_copied result ≡ tree_in self.now }
+    {
+        match &self.grant {
+            Some(grant) => Some(grant.tree()),
+            None => None,
+        }
+    }
+
     /// A reply that leaves the table.
     fn refused(reply: CommitReply) -> Prepared
         ensures { result ≡ record { reply = reply; granted = None } }
@@ -79,10 +89,27 @@ impl Prepared {
 }
 
 impl Grant {
+    fn tree(&self) -> &DeltaTree
+        ensures { result.now ≡ self.now.tree }
+    {
+        &self.tree
+    }
+
     fn version(&self) -> &Version
         ensures { result.now ≡ self.now.version }
     {
         &self.version
+    }
+
+    /// The version that it made. The tree is let go.
+    pub(crate) fn into_version(self) -> Version
+        ensures { result ≡ self.version }
+    {
+        let Grant {
+            tree: _tree,
+            version,
+        } = self;
+        version
     }
 }
 
@@ -185,8 +212,8 @@ impl Manager {
         passed_through(self.alloc, tree, &self.kept, first, conflicts)
     }
 
-    /// The version with the tree of a transaction folded into the Write-PDT.
-    fn grant(&self, tree: DeltaTree) -> Result<Grant, NoMemory>
+    /// The version with the tree of a commit folded into the Write-PDT.
+    pub(crate) fn grant(&self, tree: DeltaTree) -> Result<Grant, NoMemory>
         requires { MayGrant self.now tree }
         ensures { IfOk result (λ grant. (w : MayGrant self.now tree) → IsGrant self.now w.x grant) }
     {

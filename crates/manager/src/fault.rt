@@ -1,7 +1,8 @@
-//! Why a table isn't opened, and why there is no checkpoint.
+//! Why a table isn't opened, why a commit isn't made again, and why there is no checkpoint.
 ghost use Rattle.std.specs.Prelude.{◌≡◌};
 ghost use Rattle.manager.specs.declared.fault.CheckpointFault.TheVariants as checkpoint_fault;
 ghost use Rattle.manager.specs.declared.fault.OpenFault.TheVariants as open_fault;
+ghost use Rattle.manager.specs.declared.fault.RedoFault.TheVariants as redo_fault;
 
 use std::alloc::{AllocError, AllocFailed};
 use thiserror::Error;
@@ -42,6 +43,25 @@ impl From<NoMemory> for OpenFault {
 
     fn from(_: NoMemory) -> OpenFault {
         OpenFault::NoMemory
+    }
+}
+
+/// Why a commit isn't made again.
+#[derive(Clone, Copy, Debug, PartialEq, Eq, Error)]
+pub enum RedoFault {
+    /// The table after it has more rows than the row limit.
+    #[error("TooManyRows")]
+    TooManyRows,
+    /// A growth was refused, or 2^62 records were made.
+    #[error("NoMemory")]
+    NoMemory,
+}
+
+impl From<NoMemory> for RedoFault {
+    ghost from_gives = { λ _ fault. fault ≡ redo_fault.NoMemory };
+
+    fn from(_: NoMemory) -> RedoFault {
+        RedoFault::NoMemory
     }
 }
 

@@ -22,12 +22,13 @@ mod manager;
 mod passing;
 mod past;
 mod pin;
+mod redo;
 mod restack;
 
 pub use checkpoint::Rebuilt;
 pub use commit::Prepared;
 pub use cut::KeptTrees;
-pub use fault::{CheckpointFault, OpenFault};
+pub use fault::{CheckpointFault, OpenFault, RedoFault};
 pub use fold::Folded;
 pub use history::History;
 pub use manager::Manager;

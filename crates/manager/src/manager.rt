@@ -1,9 +1,9 @@
 //! The manager's type: what it is opened with, what it holds, and what it lends.
-ghost use Rattle.std.specs.Prelude.{◌≡◌, ◌≤◌, length, false, IfOk, IsOkUnless, MatchOption, Err};
+ghost use Rattle.std.specs.Prelude.{◌≡◌, ◌≤◌, ◌^◌, length, false, IfOk, IsOkUnless, MatchOption, Err};
 ghost use Rattle.txn.specs.Txn.{Transaction};
 ghost use Rattle.manager.specs.declared.fault.OpenFault.{OpenFault};
 ghost use Rattle.manager.specs.Managed.{is_bad_limit};
-ghost use Rattle.merge.specs.Image.{image_rows, stack_below};
+ghost use Rattle.merge.specs.Image.{image_rows, image_table, stack_below};
 ghost use Rattle.model.specs.Table.{rows_of};
 ghost use Rattle.txn.specs.Version.{numbered, table_version};
 ghost use Rattle.values.specs.declared.limits.TheConstants.{MAX_ROWS};
@@ -26,7 +26,7 @@ use values::limits::{MAX_RECENT_COMMITS, MAX_ROWS};
 #[derive(Drop)]
 pub struct Manager {
     pub(crate) history: History,
-    /// How many records were made since the opening.
+    /// How many records were made, each commit before the opening counted as one.
     pub(crate) made: u64,
     pub(crate) newest: Version,
     /// The trees of the last commits, each over the table that its commit found.
@@ -48,7 +48,7 @@ impl Model for Manager {
 }
 
 impl Manager {
-    ghost use Rattle.manager.specs.Managed.{opened, fault_of_opening, begun_at, newest_number, newest_table, newest_version, history_of, IsManaged, IsOwn};
+    ghost use Rattle.manager.specs.Managed.{opened, opened_at, fault_of_opening, begun_at, newest_number, newest_table, newest_version, history_of, IsManaged, IsOwn};
 
     /// A manager of this table, whose numbers of commits count from 0, under a limit of its rows and of the commits that
     /// may come between a transaction's begin and its commit, and a rule of what conflicts.
@@ -68,13 +68,35 @@ impl Manager {
         ensures fault { MatchOption (fault_of_opening table recent row_limit) (IsOkUnless result OpenFault.NoMemory)
             (λ fault. result ≡ Err fault) }
     {
+        Manager::open_at(alloc, table, 0, recent, row_limit, conflicts)
+    }
+
+    /// A manager of this table, which so many commits made: as `open` makes it, but that numbers of commits go on from
+    /// there, and that it counts those commits as records which were made.
+    ///
+    /// # Errors
+    ///
+    /// As `open`.
+    pub fn open_at(
+        alloc: Global,
+        table: StableTable,
+        number: u64,
+        recent: usize,
+        row_limit: u64,
+        conflicts: ConflictRule,
+    ) -> Result<Manager, OpenFault>
+        requires few { number ≤ 2 ^ 62 }
+        ensures ok { IfOk result (λ manager. manager ≡ opened_at number table row_limit recent conflicts) }
+        ensures fault { MatchOption (fault_of_opening table recent row_limit) (IsOkUnless result OpenFault.NoMemory)
+            (λ fault. result ≡ Err fault) }
+    {
         if is_bad_limit(recent, row_limit) {
             return Err(OpenFault::BadLimit);
         }
         if table.len() > row_limit {
             return Err(OpenFault::TooManyRows);
         }
-        let newest = Version::new(alloc, Arc::new(alloc, table)?, 0)?;
+        let newest = Version::new(alloc, Arc::new(alloc, table)?, number)?;
         let rules = Rules {
             row_limit,
             recent,
@@ -82,7 +104,7 @@ impl Manager {
         };
         Ok(Manager {
             history: History::new(alloc, &newest, rules),
-            made: 0,
+            made: number,
             newest,
             kept: HeapCircularBuffer::with_capacity(alloc, recent)?,
             alloc,
@@ -126,6 +148,7 @@ impl Manager {
     pub fn newest(&self) -> Layers<'_>
         ensures schema { result.schema ≡ self.now.schema }
         ensures rows { image_rows result ≡ rows_of (newest_table self.now) }
+        ensures table { image_table result ≡ newest_table self.now }
         ensures few { length (image_rows result) ≤ MAX_ROWS }
         ensures layers { result ≡ stack_below self.now.layers.stable self.now.layers.read self.now.layers.write }
     {
@@ -168,7 +191,7 @@ impl Manager {
         self.history.base()
     }
 
-    /// How many records it made since its opening, those that a cut has handed out among them.
+    /// How many records it made, those that a cut has handed out among them. Each commit before its opening counts as one.
     pub fn made(&self) -> u64
         ensures { result ≡ self.now.made }
     {

@@ -1,9 +1,10 @@
 use Rattle.std.proofs.Common.{◌≡◌, List, ap, ◌∙◌, length, arith}
 use Rattle.std.proofs.lemmas.List.{length-map}
 use Rattle.values.specs.declared.row.Row.{Row}
-use Rattle.model.specs.Table.{rows_of}
-use Rattle.merge.specs.Image.{image_rows, stack_below}
-use Rattle.txn.specs.Version.{LayeredVersion, TableVersion}
+use Rattle.model.specs.Table.{rows_of, table_of}
+use Rattle.merge.specs.Image.{image_rows, image_table, stack_below}
+use Rattle.merge.proofs.CallerLemmas.{merged_rows-nothing}
+use Rattle.txn.specs.Version.{LayeredVersion, TableVersion, lower_rows}
 use Rattle.manager.specs.Managed.{Managed, managed_of, newest_table, newest_version}
 use Rattle.manager.proofs.GrantLemmas.{limited}
 use Rattle.manager.proofs.HistoryLemmas.{newest_within}
@@ -18,6 +19,13 @@ returns-clause-schema c =
 pub returns-clause-rows : goal.returns-clause-rows
 returns-clause-rows c =
     c.image.ensures.rows ∙ ap (λ (v : TableVersion). rows_of v.table) (c.self.invariant.0.newest_is ∙ ap newest_version c.self.view_is)
+
+pub returns-clause-table : goal.returns-clause-table
+returns-clause-table c =
+    let l = c.self.inside.newest.layers in
+    ap image_table c.image.ensures.layers
+    ∙ ap (table_of l.stable.schema.key_cols) (merged_rows-nothing (lower_rows l))
+    ∙ ap (λ (v : TableVersion). v.table) (c.self.invariant.0.newest_is ∙ ap newest_version c.self.view_is)
 
 pub returns-clause-few : goal.returns-clause-few
 returns-clause-few c =
