@@ -1,0 +1,3 @@
+mod FittingLemmas
+mod RecoveryLemmas
+mod ReplayLemmas

@@ -1,0 +1,3 @@
+pub mod Fitting
+pub mod Recovered
+pub mod Replayed

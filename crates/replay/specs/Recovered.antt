@@ -1,0 +1,49 @@
+-- What is recovered of a journal after a crash.
+use Rattle.std.specs.Prelude.{◌≡◌, ◌≤◌, ℕ, ◌+◌, ◌-◌, ◌^◌, List, length, map, take, drop}
+use Rattle.values.specs.Shape.{Columns}
+use Rattle.values.specs.declared.row.Row.{Row}
+use Rattle.model.specs.declared.entry.Entry.{Entry}
+use Rattle.model.specs.Effects.{Effects}
+use Rattle.model.specs.Laws.{AreCommits, trees_of}
+use Rattle.model.specs.Table.{Table, rows_of}
+use Rattle.model.specs.History.{table_with_all}
+use Rattle.journal.specs.Crash.{IsLeft}
+use Rattle.journal.specs.Frame.{AreLogged, Logged}
+use Rattle.journal.specs.Laws.{IsSeed}
+use Rattle.journal.specs.Reading.{read_of}
+use Rattle.replay.specs.Replayed.{rows_after}
+
+-- frames log commits over a table: under the numbers from a base on, each by the entries that a payload says
+pub record Logs (decode : List ℕ → List Entry) (schema : Columns) (base : ℕ) (t : Table) (commits : List Effects) (logged : List Logged) :
+  Type 0 where
+  pub commits_fit : AreCommits schema t commits
+  pub numbered : AreLogged (base + 1) logged
+  pub entries : map (λ l. decode l.payload) logged ≡ trees_of schema t commits
+
+-- A crash left these bytes of a journal of the commits, of which the device had said so many were safe.
+pub record IsCrashed (decode : List ℕ → List Entry) (schema : Columns) (seed base : ℕ) (t : Table) (commits : List Effects) (safe : ℕ)
+  (bytes : List ℕ) : Type 0 where
+  pub logged : List Logged
+  pub logs : Logs decode schema base t commits logged
+  pub few : (base + 1) + length logged ≤ 2 ^ 63
+  pub left : IsLeft seed (base + 1) logged safe bytes
+
+-- the table after the first of the commits
+abbrev pub table_at : Table → List Effects → ℕ → Table
+table_at t commits k = table_with_all t (take k commits)
+
+-- the logged commits that bytes say as a journal, from the one after an image on
+abbrev pub logged_since : (List ℕ → List Entry) → ℕ → ℕ → ℕ → List ℕ → List (List Entry)
+logged_since decode seed base number bytes = map (λ l. decode l.payload) (drop (number - base) (read_of seed (base + 1) bytes).logged)
+
+-- Wherever a crash falls: over the image of one of the commits that were safe, what is recovered is the table after the first
+-- commits, as many as the device said were safe, or more. Whatever payloads are spelt like.
+abbrev pub RecoveryIsAPrefix : Type 0
+RecoveryIsAPrefix =
+    (decode : List ℕ → List Entry) (schema : Columns) (seed base : ℕ) (t : Table) (commits : List Effects) (safe number : ℕ)
+    (bytes : List ℕ)
+    → IsSeed seed → IsCrashed decode schema seed base t commits safe bytes → base ≤ number → number ≤ base + safe
+    → (whole : ℕ) × (safe ≤ whole) × (whole ≤ length commits)
+    × (number + length (logged_since decode seed base number bytes) ≡ base + whole)
+    × (rows_after (rows_of (table_at t commits (number - base))) (logged_since decode seed base number bytes)
+    ≡ rows_of (table_at t commits whole))

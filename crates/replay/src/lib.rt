@@ -1,0 +1,14 @@
+//! Commits that were logged by their entries, made again over a manager.
+//!
+//! *What a contract sees.* A logged commit is the entries of its effects over the table that it found. What is replayed leaves
+//! the rows that these entries, merged in their order, make of the rows before.
+#![tactic(auto)]
+
+mod fault;
+mod fitting;
+mod laws;
+mod replaying;
+
+pub use fault::CommitFault;
+pub use laws::recovery_is_a_prefix;
+pub use replaying::replay_commit;
