@@ -154,7 +154,7 @@ entry_again schema entry end rest fits plain =
     entry_with : ℕ → Entry
     entry_with sid = record { sid = sid; change = entry.change }
 
-entry_some : (entry : Entry) → 1 ≤ length (entry_bytes entry)
+pub entry_some : (entry : Entry) → 1 ≤ length (entry_bytes entry)
 entry_some entry = omega (arith, length-append (to_be_bytes w32 entry.sid) (change_bytes entry.change))
 
 entries_again : (schema : Columns) (end : ℕ) (entries : List Entry) (most : ℕ) → length (entries_bytes entries) ≤ most

@@ -137,3 +137,17 @@ pub key_of_row : (schema : Columns) (row : List Value) → fits_schema schema ro
 key_of_row schema row fits =
     ap is_none (typed_list (take schema.key_cols schema.types) (take schema.key_cols row)
     (typed_take schema.key_cols schema.types row (row_typed schema row fits)))
+
+-- cells of their types fit the schema
+module _ (schema : Columns) where
+  pub row_fits : (row : List Value) → AreTyped schema.types row → change_fits schema (Ins row) ≡ true
+  row_fits row typed = ap is_none (typed_list schema.types row typed)
+
+  pub key_fits : (key : List Value) → AreTyped (take schema.key_cols schema.types) key → change_fits schema (Del key) ≡ true
+  key_fits key typed = ap is_none (typed_list (take schema.key_cols schema.types) key typed)
+
+  pub cell_fits : (col : ℕ) (value : Value) → IsCell schema col value → change_fits schema (Mod col value) ≡ true
+  cell_fits col value cell =
+      ap (λ (o : Option ColumnType). is_none (cell_fault_at o schema.key_cols col value)) cell.there
+      ∙ ap (λ b. is_none (cond b (Some KeyColumn) (value_fault cell.ty col value))) cell.outside
+      ∙ ap is_none (typed_value cell.ty col value cell.typed)

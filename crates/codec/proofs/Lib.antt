@@ -4,4 +4,6 @@ pub mod FitLemmas
 pub mod KeptLemmas
 pub mod LoopLemmas
 pub mod PartLemmas
+pub mod PartSpeltLemmas
+pub mod SpeltLemmas
 pub mod TextLemmas

@@ -16,7 +16,7 @@ use Rattle.codec.specs.Reading.{◌>>=◌, FoundSpan, Span, begin, bytes_in, ent
 use Rattle.codec.proofs.BackLemmas.{done}
 use Rattle.codec.proofs.LoopLemmas.{spans_up-none, spans_up-step}
 
-abbrev span_with : ℕ → ℕ → List ℕ → Span
+abbrev pub span_with : ℕ → ℕ → List ℕ → Span
 span_with table end bytes = record { table = table; end = end; bytes = bytes }
 
 -- a part in its frame is found at the front
@@ -39,7 +39,7 @@ span_again end low table bytes rest above small short =
     rw (long, number, size, turn, within, take_at bytes rest (length bytes) refl, drop_at bytes rest (length bytes) refl) refl
 
 -- the parts with the places of their entries
-spans_for : ℕ → List Part → List Span
+unfoldable pub spans_for : ℕ → List Part → List Span
 spans_for end [] = []
 spans_for end (part ∷ parts) = span_with part.table (begin end (payload_of parts)) (entries_bytes part.entries) ∷ spans_for end parts
 
@@ -47,7 +47,7 @@ part_some : (part : Part) → 1 ≤ length (part_bytes part.table part.entries)
 part_some part =
     omega (arith, length-append (to_be_bytes w32 part.table) (to_be_bytes w32 (length (entries_bytes part.entries)) ++ entries_bytes part.entries))
 
-spans_again : (end : ℕ) (parts : List Part) (low most : ℕ) → AreParts low parts → length (payload_of parts) ≤ most
+pub spans_again : (end : ℕ) (parts : List Part) (low most : ℕ) → AreParts low parts → length (payload_of parts) ≤ most
     → spans_up most end low (payload_of parts) ≡ Ok (spans_for end parts)
 unfolding spans_for
 spans_again end [] low most are enough = spans_up-none most end low [] refl

@@ -16,6 +16,8 @@ mod parts;
 mod spelling;
 
 pub use fault::{PayloadFault, SpellFault};
-pub use laws::{commit_entries_fit, parts_read_back};
+pub use laws::{
+    a_payload_is_of_one_list, commit_entries_fit, parts_read_back, what_reads_is_spelt,
+};
 pub use parts::{PartBytes, read_part};
 pub use spelling::write_part;
