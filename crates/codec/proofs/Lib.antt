@@ -1,0 +1,9 @@
+pub mod BackLemmas
+pub mod CommitLemmas
+pub mod FitLemmas
+pub mod KeptLemmas
+pub mod LoopLemmas
+pub mod PartLemmas
+pub mod PartSpeltLemmas
+pub mod SpeltLemmas
+pub mod TextLemmas

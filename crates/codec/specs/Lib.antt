@@ -1,0 +1,4 @@
+pub mod Fit
+pub mod Laws
+pub mod Payload
+pub mod Reading
