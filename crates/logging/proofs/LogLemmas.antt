@@ -1,5 +1,5 @@
 -- What a call leaves that logs bytes.
-use Rattle.std.proofs.Common.{◌≡◌, ℕ, ◌<◌, ◌≤◌, List, ◌++◌, length, take, Result, Ok, Err, IfErr, refl, sym, ap, subst, ◌∙◌, arith}
+use Rattle.std.proofs.Common.{◌≡◌, ℕ, ◌<◌, ◌≤◌, List, [], ◌++◌, length, take, Result, Ok, Err, IfErr, refl, sym, ap, subst, ◌∙◌, arith}
 use Rattle.std.specs.Result.{IsErrAnd}
 use Rattle.std.proofs.lemmas.List.{take_all}
 use Rattle.logging.specs.Device.{Device}
@@ -10,6 +10,10 @@ use Rattle.logging.specs.declared.fault.LogFault.TheVariants.{DeviceFailed}
 -- all of a piece is a beginning of it
 pub whole_taken : (piece : List ℕ) → take (length piece) piece ≡ piece
 whole_taken piece = take_all (length piece) piece (omega arith)
+
+-- what was written behind nothing
+pub written_alone : (slice out cleared frame : List ℕ) → slice ≡ out → out ≡ cleared ++ frame → cleared ≡ [] → slice ≡ frame
+written_alone slice out cleared frame p q r = p ∙ q ∙ ap (λ (x : List ℕ). x ++ frame) r
 
 -- what was seen of the log before, and what it is written by
 module _ (seen old : Log) (is : seen ≡ old) (spelt : ℕ → List ℕ) (appended : List ℕ) (safe failures : ℕ) where

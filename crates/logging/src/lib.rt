@@ -11,6 +11,8 @@ mod boxed;
 mod device;
 mod failing;
 mod fault;
+mod file;
+mod handed;
 mod laws;
 mod memory;
 
@@ -18,5 +20,6 @@ pub use appender::Appender;
 pub use device::{DeviceFault, JournalDevice};
 pub use failing::{FailingJournal, Failure};
 pub use fault::LogFault;
+pub use file::FileJournal;
 pub use laws::a_device_leaves_what_was_logged;
 pub use memory::{LeftJournal, MemJournal};
