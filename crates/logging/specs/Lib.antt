@@ -1,0 +1,4 @@
+pub mod Device
+pub mod Laws
+pub mod Left
+pub mod Log
