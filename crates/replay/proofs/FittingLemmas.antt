@@ -1,7 +1,7 @@
 -- Entries that may stand where they do are those of effects.
-use Rattle.std.proofs.Common.{◌≡◌, ℕ, zero, suc, ◌+◌, ◌<◌, ◌≤◌, Bool, true, false, cond, not, ◌&&◌, ◌||◌, T, Option, Some, None, List, [], ◌∷◌, ◌++◌, map, length, Ordering, Less, Equal, Greater, is_lt, nat_cmp, refl, sym, ap, ◌∙◌, subst, arith}
+use Rattle.std.proofs.Common.{◌≡◌, ℕ, zero, suc, ◌+◌, ◌<◌, ◌≤◌, Bool, true, false, cond, ◌&&◌, ◌||◌, T, Option, Some, None, List, [], ◌∷◌, ◌++◌, map, length, Ordering, Less, Equal, Greater, is_lt, nat_cmp, refl, sym, ap, ◌∙◌, subst, arith}
 use Rattle.std.proofs.lemmas.Bool.Decides.{nat_tests}
-use Rattle.std.specs.Prelude.{◌==◌, nat_lt, nat_le, is_some, is_none, IsTrue, slice_get}
+use Rattle.std.specs.Prelude.{◌==◌, nat_lt, nat_le, is_some, is_none, slice_get}
 use Rattle.std.specs.Bool.{passes}
 use Rattle.std.specs.Ordering.{ordering_then, eq_by_cmp, is_eq}
 use Rattle.std.specs.Cmp.{ranked, tied_itself}
@@ -10,7 +10,6 @@ use Rattle.std.specs.FinMap.Entries.{below_all}
 use Rattle.std.specs.Cmp.{nat_cmp_total}
 use Rattle.values.specs.Orders.{key_cmp, key_cmp_total, key_cmp-IsAntisymmetric}
 use Rattle.values.specs.Shape.{Columns, key_of, fits_schema, cell_fits_schema, cell_fault_at, value_fault}
-use Rattle.values.specs.declared.fault.ShapeFault.{ShapeFault}
 use Rattle.values.specs.declared.fault.ShapeFault.TheVariants as shape
 use Rattle.values.specs.declared.value.ColumnType.{ColumnType}
 use Rattle.values.specs.declared.value.Value.{Value}
@@ -23,9 +22,9 @@ use Rattle.model.specs.declared.effect.Effect.{Effect}
 use Rattle.model.specs.declared.effect.Effect.TheVariants as effect
 use Rattle.model.specs.Maps.{is_sorted}
 use Rattle.model.specs.Table.{Table, row_at, rank, is_keyed_table, IsTable}
-use Rattle.model.specs.Effects.{Cells, Effects, AreOver, fits, all_fit, is_keyed_effect, are_keyed_effects, effect_fits_schema, has_cells}
-use Rattle.model.specs.Entries.{entry_at, entries_of, canonical_entries, change_cmp, entry_cmp, are_ordered}
-use Rattle.model.proofs.CallerLemmas.{both, first, second, turn_less, turn_greater, below_less, below_tied, find_below, find_first, find_past, less, same_key}
+use Rattle.model.specs.Effects.{Cells, Effects, AreOver, fits, all_fit, is_keyed_effect, are_keyed_effects, effect_fits_schema}
+use Rattle.model.specs.Entries.{entry_at, entries_of, canonical_entries, entry_cmp, are_ordered}
+use Rattle.model.proofs.CallerLemmas.{both, first, second, turn_greater, below_less, below_tied, find_below, find_first, find_past, less, same_key}
 use Rattle.model.proofs.CallerLemmas.{is_below, one_if, rank-cons, rank_below, rank-le, rank-le-length, rank-lt, lt_of, of_lt, ordered}
 use Rattle.replay.specs.Fitting.{stands_before, deletes_at, may_stand, is_over, are_over}
 
@@ -34,11 +33,11 @@ use Rattle.replay.specs.Fitting.{stands_before, deletes_at, may_stand, is_over, 
 -- a key that is in a map past its first key is above that one
 above_head : (k : Key) (e : Key × Row) (t : Table) → T (below_all key_cmp e.0 t) → T (is_some (row_at t k)) → key_cmp k e.0 ≡ Greater
 above_head k e t after there = elim (key_cmp k e.0) as (λ r. key_cmp k e.0 ≡ r → key_cmp k e.0 ≡ Greater) [
-    | Less ↦ λ p. absurd (subst (λ (o : Option Row). T (is_some o)) (find_below key_cmp_total k t (below_less key_cmp_total k e.0 t p after)) there)
-    | Equal ↦ λ p. absurd (subst (λ (o : Option Row). T (is_some o))
-        (find_below key_cmp_total k t (below_tied key_cmp key_cmp_total k e.0 t p after)) there)
-    | Greater ↦ λ p. p
-  ] refl
+  | Less ↦ λ p. absurd (subst (λ (o : Option Row). T (is_some o)) (find_below key_cmp_total k t (below_less key_cmp_total k e.0 t p after)) there)
+  | Equal ↦ λ p. absurd (subst (λ (o : Option Row). T (is_some o))
+      (find_below key_cmp_total k t (below_tied key_cmp key_cmp_total k e.0 t p after)) there)
+  | Greater ↦ λ p. p
+] refl
 
 none_below : (n : ℕ) → n ≡ 0 → 0 + n ≡ 0
 none_below n e = omega (arith, e)
@@ -71,18 +70,18 @@ row_there (e ∷ t) (suc n) h lt =
 -- of two keys the one of lower rank is below the other
 ranked_below : (j k : Key) (t : Table) → rank j t < rank k t → key_cmp j k ≡ Less
 ranked_below j k t lt = elim (key_cmp j k) as (λ r. key_cmp j k ≡ r → key_cmp j k ≡ Less) [
-    | Less ↦ λ p. p
-    | Equal ↦ λ p. let same : rank j t ≡ rank k t = ap (λ (x : Key). rank x t) (key_cmp-IsAntisymmetric j k p) in absurd (omega (arith, same, lt))
-    | Greater ↦ λ p. let le = rank-le k j t (turn_greater key_cmp_total j k p) in absurd (omega (arith, le, lt))
-  ] refl
+  | Less ↦ λ p. p
+  | Equal ↦ λ p. let same : rank j t ≡ rank k t = ap (λ (x : Key). rank x t) (key_cmp-IsAntisymmetric j k p) in absurd (omega (arith, same, lt))
+  | Greater ↦ λ p. let le = rank-le k j t (turn_greater key_cmp_total j k p) in absurd (omega (arith, le, lt))
+] refl
 
 -- two keys of one rank that are both there are one
 same_rank : (j k : Key) (t : Table) → rank j t ≡ rank k t → T (is_some (row_at t j)) → T (is_some (row_at t k)) → j ≡ k
 same_rank j k t e here there = elim (key_cmp j k) as (λ r. key_cmp j k ≡ r → j ≡ k) [
-    | Less ↦ λ p. let lt = rank-lt j k t p here in absurd (omega (arith, e, lt))
-    | Equal ↦ λ p. key_cmp-IsAntisymmetric j k p
-    | Greater ↦ λ p. let lt = rank-lt k j t (turn_greater key_cmp_total j k p) there in absurd (omega (arith, e, lt))
-  ] refl
+  | Less ↦ λ p. let lt = rank-lt j k t p here in absurd (omega (arith, e, lt))
+  | Equal ↦ λ p. key_cmp-IsAntisymmetric j k p
+  | Greater ↦ λ p. let lt = rank-lt k j t (turn_greater key_cmp_total j k p) there in absurd (omega (arith, e, lt))
+] refl
 
 not_both : (o : Option Row) → T (is_none o) → T (is_some o) → {A : Type 0} → A
 not_both None n s = absurd s
@@ -91,20 +90,20 @@ not_both (Some row) n s = absurd n
 -- of two keys of one rank, the one that isn't there is below the one that is
 absent_below : (j k : Key) (t : Table) → rank j t ≡ rank k t → T (is_none (row_at t j)) → T (is_some (row_at t k)) → key_cmp j k ≡ Less
 absent_below j k t e none there = elim (key_cmp j k) as (λ r. key_cmp j k ≡ r → key_cmp j k ≡ Less) [
-    | Less ↦ λ p. p
-    | Equal ↦ λ p. not_both (row_at t j) none (subst (λ (x : Key). T (is_some (row_at t x))) (sym (key_cmp-IsAntisymmetric j k p)) there)
-    | Greater ↦ λ p. let lt = rank-lt k j t (turn_greater key_cmp_total j k p) there in absurd (omega (arith, e, lt))
-  ] refl
+  | Less ↦ λ p. p
+  | Equal ↦ λ p. not_both (row_at t j) none (subst (λ (x : Key). T (is_some (row_at t x))) (sym (key_cmp-IsAntisymmetric j k p)) there)
+  | Greater ↦ λ p. let lt = rank-lt k j t (turn_greater key_cmp_total j k p) there in absurd (omega (arith, e, lt))
+] refl
 
 -- ---- the order of two entries
 
 -- an entry before another stands at a lower place, or there by its change
 in_order : {P : Type 0} (a b : ℕ) (o : Ordering) → (a < b → P) → (a ≡ b → T (is_lt o) → P) → T (is_lt (ordering_then (nat_cmp a b) o)) → P
 in_order {P} a b o below here h = elim (nat_cmp a b) as (λ r. nat_cmp a b ≡ r → T (is_lt (ordering_then r o)) → P) [
-    | Less ↦ λ p g. below (ranked a b Less (sym p))
-    | Equal ↦ λ p g. here (ranked a b Equal (sym p)) g
-    | Greater ↦ λ p g. absurd g
-  ] refl h
+  | Less ↦ λ p g. below (ranked a b Less (sym p))
+  | Equal ↦ λ p g. here (ranked a b Equal (sym p)) g
+  | Greater ↦ λ p g. absurd g
+] refl h
 
 -- a cell that fits the schema is in no key column
 cell_outside : (type : Option ColumnType) (key_cols col : ℕ) (v : Value) → T (is_none (cell_fault_at type key_cols col v)) → T (nat_le key_cols col)

@@ -1,5 +1,6 @@
 -- What is recovered after a crash.
-use Rattle.std.proofs.Common.{◌≡◌, ℕ, zero, suc, ◌+◌, ◌-◌, ◌≤◌, ◌^◌, List, [], ◌∷◌, ◌++◌, length, map, take, drop, refl, sym, ap, ◌∙◌, subst, arith, take-append-drop}
+use Rattle.std.proofs.Common.{◌≡◌, ℕ, zero, suc, ◌+◌, ◌-◌, ◌≤◌, List, [], ◌∷◌, ◌++◌, length, map, take, drop, refl, sym, ap, ◌∙◌, arith, take-append-drop}
+use Rattle.std.proofs.Math.Seq.{take-length}
 use Rattle.std.proofs.lemmas.List.{take-map, drop-map, length-drop, length-map, length-take-le}
 use Rattle.values.specs.Shape.{Columns}
 use Rattle.values.specs.declared.row.Row.{Row}
@@ -10,9 +11,11 @@ use Rattle.model.specs.Merging.{merged_rows}
 use Rattle.model.specs.Table.{Table, rows_of}
 use Rattle.model.specs.History.{table_with_all}
 use Rattle.journal.specs.Frame.{Logged}
+use Rattle.journal.specs.declared.frame.Frame.{Frame}
 use Rattle.journal.specs.Laws.{ACrashLeavesWholeFrames}
-use Rattle.journal.specs.Reading.{Read}
-use Rattle.replay.specs.Recovered.{IsCrashed, RecoveryIsAPrefix, logged_since, table_at}
+use Rattle.journal.specs.Reading.{Read, logged_in}
+use Rattle.manager.specs.Managed.{Managed, newest_number, newest_table}
+use Rattle.replay.specs.Recovered.{HasPrefix, IsCrashed, IsImage, RecoveryIsAPrefix, logged_since}
 use Rattle.replay.specs.Replayed.{rows_after}
 
 -- the rows after the first commits are those after their trees
@@ -40,8 +43,8 @@ take-fewer (suc j) (suc k) [] le = refl
 take-fewer (suc j) (suc k) (x ∷ xs) le = ap (λ (ys : List _). x ∷ ys) (take-fewer j k xs (omega (arith, le)))
 
 pub recovery_is_a_prefix : ACrashLeavesWholeFrames → ((schema : Columns) → MergesToTable schema) → RecoveryIsAPrefix
-recovery_is_a_prefix crash merges decode schema seed base t commits safe number bytes small c from upto =
-    let read = crash seed (base + 1) c.logged safe bytes small c.few c.logs.numbered c.left in
+recovery_is_a_prefix crash merges decode schema seed base t commits safe number bytes c from upto =
+    let read = crash seed (base + 1) c.logged safe bytes c.small c.few c.logs.numbered c.left in
     let whole = read.0 in
     let trees = trees_of schema t commits in
     let said : Logged → List Entry = λ l. decode l.payload in
@@ -72,3 +75,35 @@ recovery_is_a_prefix crash merges decode schema seed base t commits safe number 
           ∙ ap (rows_after (rows_of t)) (take-append-drop j (take whole trees))
           ∙ sym (rows_are merges schema t commits whole c.logs.commits_fit),
     )
+
+-- what is recovered over an image, by its rows and its number
+pub has_prefix : RecoveryIsAPrefix → (decode : List ℕ → List Entry) (schema : Columns) (seed base : ℕ) (t : Table) (commits : List Effects)
+    (safe number : ℕ) (bytes : List ℕ) (rows : List Row) (m : Managed) → IsCrashed decode schema seed base t commits safe bytes
+    → IsImage base t commits safe number rows
+    → rows_of (newest_table m) ≡ rows_after rows (logged_since decode seed base number bytes)
+    → newest_number m ≡ number + length (logged_since decode seed base number bytes) → HasPrefix base t commits safe m
+has_prefix law decode schema seed base t commits safe number bytes rows m c image rows_are number_is =
+    let told = law decode schema seed base t commits safe number bytes c image.from image.upto in
+    record {
+      whole = told.0;
+      enough = told.1;
+      inside = told.2;
+      number = number_is ∙ told.3;
+      rows_are =
+          rows_are ∙ ap (λ (rs : List Row). rows_after rs (logged_since decode seed base number bytes)) image.rows_are ∙ told.4;
+    }
+
+take-all : {A : Type 0} (xs : List A) (n : ℕ) → n ≡ length xs → take n xs ≡ xs
+take-all xs n e = ap (λ m. take m xs) e ∙ take-length xs
+
+said_by_frames : (d : List ℕ → List Entry) (frames : List Frame) → map (λ l. d l.payload) (map logged_in frames) ≡ map (λ f. d f.payload.now) frames
+said_by_frames d [] = refl
+said_by_frames d (f ∷ frames) = ap (λ (es : List (List Entry)). d f.payload.now ∷ es) (said_by_frames d frames)
+
+-- what the frames after an image say is what the bytes say since then
+pub frames_since : (d : List ℕ → List Entry) (frames : List Frame) (skipped : ℕ) (read : Read) → map logged_in frames ≡ read.logged
+    → map (λ f. d f.payload.now) (take (length frames - skipped) (drop skipped frames)) ≡ map (λ l. d l.payload) (drop skipped read.logged)
+frames_since d frames skipped read is =
+    ap (map (λ f. d f.payload.now)) (take-all (drop skipped frames) (length frames - skipped) (sym (length-drop skipped frames)))
+    ∙ sym (said_by_frames d (drop skipped frames))
+    ∙ ap (map (λ l. d l.payload)) (sym (drop-map logged_in skipped frames) ∙ ap (drop skipped) is)

@@ -1,16 +1,19 @@
--- What one more commit makes of a manager, when it is made again.
-use Rattle.std.proofs.Common.{◌≡◌, ℕ, suc, ◌+◌, List, [], length, sym, ap, ◌∙◌, subst, arith}
+-- What commits make of a manager, when they are made again.
+use Rattle.std.proofs.Common.{◌≡◌, ℕ, suc, ◌+◌, ◌<◌, List, [], ◌∷◌, ◌++◌, length, map, take, get_or, refl, sym, ap, ◌∙◌, arith}
+use Rattle.std.proofs.Math.Seq.{take-suc}
+use Rattle.std.proofs.lemmas.List.{map-append}
 use Rattle.values.specs.Shape.{Columns}
+use Rattle.values.specs.declared.row.Row.{Row}
 use Rattle.model.specs.declared.entry.Entry.{Entry}
-use Rattle.model.specs.Effects.{table_with}
 use Rattle.model.specs.Laws.{MergesToTable}
 use Rattle.model.specs.Merging.{merged_rows}
 use Rattle.model.specs.Table.{rows_of}
 use Rattle.delta.specs.Tree.{Tree}
 use Rattle.merge.specs.Image.{IsLayer}
-use Rattle.manager.specs.Managed.{Managed, newest_number, newest_table}
+use Rattle.manager.specs.Managed.{Managed, newest_number, newest_table, with_layers}
 use Rattle.manager.specs.Redone.{IsRedone}
-use Rattle.replay.specs.Replayed.{IsReplayed}
+use Rattle.replay.specs.Replayed.{IsReplayed, rows_after}
+use Rattle.replay.proofs.RecoveryLemmas.{rows_after-append}
 
 next : (n : ℕ) → suc n + 0 ≡ n + 1
 next n = omega arith
@@ -27,4 +30,77 @@ redone_replayed m new tree w merges is = record {
   limit = ap (λ (v : Managed). v.start.limit) is.kept;
   recent = ap (λ (v : Managed). v.start.recent) is.kept;
   rule = ap (λ (v : Managed). v.start.rule) is.kept;
+}
+
+-- ---- one after the other
+
+-- a replay, and then another
+pub replayed_then : (first middle last : Managed) (rows more : List Row) (m n k : ℕ) → m + n ≡ k → IsReplayed first rows m middle
+    → IsReplayed middle more n last → IsReplayed first more k last
+replayed_then first middle last rows more m n k sum a b = record {
+  rows_are = b.rows_are;
+  number = (let p = a.number in let q = b.number in omega (arith, p, q, sum));
+  schema = b.schema ∙ a.schema;
+  limit = b.limit ∙ a.limit;
+  recent = b.recent ∙ a.recent;
+  rule = b.rule ∙ a.rule;
+}
+
+none_more : (n : ℕ) → n ≡ n + 0
+none_more n = omega arith
+
+-- a manager as it was, under other layers
+pub folded_replayed : (old new : Managed) → new ≡ with_layers old new.layers → IsReplayed old (rows_of (newest_table old)) 0 new
+folded_replayed old new is = record {
+  rows_are = ap (λ (v : Managed). rows_of (newest_table v)) is;
+  number = ap newest_number is ∙ none_more (newest_number old);
+  schema = ap (λ (v : Managed). v.schema) is;
+  limit = ap (λ (v : Managed). v.start.limit) is;
+  recent = ap (λ (v : Managed). v.start.recent) is;
+  rule = ap (λ (v : Managed). v.start.rule) is;
+}
+
+first_more : {V : Type 0} (f : V → List Entry) (vs : List V) (i : ℕ) (d : V) → i < length vs
+    → map f (take (suc i) vs) ≡ map f (take i vs) ++ f (get_or vs i d) ∷ []
+first_more f vs i d lt = ap (map f) (take-suc vs i d lt) ∙ map-append f (take i vs) (get_or vs i d ∷ [])
+
+-- one more of the logged commits is replayed, and the Write-PDT may be folded
+pub replayed_more : {V : Type 0} (f : V → List Entry) (first middle after last : Managed) (rows : List Row) (vs : List V) (i : ℕ) (d : V)
+    (entries : List Entry) → i < length vs → entries ≡ f (get_or vs i d)
+    → IsReplayed first (rows_after rows (map f (take i vs))) i middle
+    → IsReplayed middle (merged_rows (rows_of (newest_table middle)) entries) 1 after
+    → IsReplayed after (rows_of (newest_table after)) 0 last
+    → IsReplayed first (rows_after rows (map f (take (i + 1) vs))) (i + 1) last
+replayed_more f first middle after last rows vs i d entries lt same a b c =
+    let one : suc i ≡ i + 1 = omega arith in
+    let sum : i + 1 + 0 ≡ i + 1 = omega arith in
+    let two = replayed_then first middle after (rows_after rows (map f (take i vs))) (merged_rows (rows_of (newest_table middle)) entries) i 1
+    (i + 1) refl a b in
+    let all = replayed_then first after last (merged_rows (rows_of (newest_table middle)) entries) (rows_of (newest_table after)) (i + 1) 0
+    (i + 1) sum two c in
+    record {
+      rows_are =
+          c.rows_are
+          ∙ b.rows_are
+          ∙ ap (λ (rs : List Row). merged_rows rs entries) a.rows_are
+          ∙ ap (merged_rows (rows_after rows (map f (take i vs)))) same
+          ∙ sym (rows_after-append rows (map f (take i vs)) (f (get_or vs i d) ∷ []))
+          ∙ sym (ap (rows_after rows) (first_more f vs i d lt))
+          ∙ ap (λ n. rows_after rows (map f (take n vs))) one;
+      number = all.number;
+      schema = all.schema;
+      limit = all.limit;
+      recent = all.recent;
+      rule = all.rule;
+    }
+
+-- nothing is replayed
+pub replayed_none : (m : Managed) → IsReplayed m (rows_of (newest_table m)) 0 m
+replayed_none m = record {
+  rows_are = refl;
+  number = none_more (newest_number m);
+  schema = refl;
+  limit = refl;
+  recent = refl;
+  rule = refl;
 }

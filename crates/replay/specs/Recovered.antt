@@ -11,18 +11,20 @@ use Rattle.journal.specs.Crash.{IsLeft}
 use Rattle.journal.specs.Frame.{AreLogged, Logged}
 use Rattle.journal.specs.Laws.{IsSeed}
 use Rattle.journal.specs.Reading.{read_of}
+use Rattle.manager.specs.Managed.{Managed, newest_number, newest_table}
 use Rattle.replay.specs.Replayed.{rows_after}
 
 -- frames log commits over a table: under the numbers from a base on, each by the entries that a payload says
 pub record Logs (decode : List ℕ → List Entry) (schema : Columns) (base : ℕ) (t : Table) (commits : List Effects) (logged : List Logged) :
-  Type 0 where
+    Type 0 where
   pub commits_fit : AreCommits schema t commits
   pub numbered : AreLogged (base + 1) logged
   pub entries : map (λ l. decode l.payload) logged ≡ trees_of schema t commits
 
 -- A crash left these bytes of a journal of the commits, of which the device had said so many were safe.
 pub record IsCrashed (decode : List ℕ → List Entry) (schema : Columns) (seed base : ℕ) (t : Table) (commits : List Effects) (safe : ℕ)
-  (bytes : List ℕ) : Type 0 where
+    (bytes : List ℕ) : Type 0 where
+  pub small : IsSeed seed
   pub logged : List Logged
   pub logs : Logs decode schema base t commits logged
   pub few : (base + 1) + length logged ≤ 2 ^ 63
@@ -42,8 +44,22 @@ abbrev pub RecoveryIsAPrefix : Type 0
 RecoveryIsAPrefix =
     (decode : List ℕ → List Entry) (schema : Columns) (seed base : ℕ) (t : Table) (commits : List Effects) (safe number : ℕ)
     (bytes : List ℕ)
-    → IsSeed seed → IsCrashed decode schema seed base t commits safe bytes → base ≤ number → number ≤ base + safe
+    → IsCrashed decode schema seed base t commits safe bytes → base ≤ number → number ≤ base + safe
     → (whole : ℕ) × (safe ≤ whole) × (whole ≤ length commits)
     × (number + length (logged_since decode seed base number bytes) ≡ base + whole)
     × (rows_after (rows_of (table_at t commits (number - base))) (logged_since decode seed base number bytes)
     ≡ rows_of (table_at t commits whole))
+
+-- the rows of an image are those of the table of its number, whose commits were all safe
+pub record IsImage (base : ℕ) (t : Table) (commits : List Effects) (safe number : ℕ) (rows : List Row) : Type 0 where
+  pub from : base ≤ number
+  pub upto : number ≤ base + safe
+  pub rows_are : rows ≡ rows_of (table_at t commits (number - base))
+
+-- a manager has the table after the first of the commits, those that were safe among them
+pub record HasPrefix (base : ℕ) (t : Table) (commits : List Effects) (safe : ℕ) (m : Managed) : Type 0 where
+  pub whole : ℕ
+  pub enough : safe ≤ whole
+  pub inside : whole ≤ length commits
+  pub number : newest_number m ≡ base + whole
+  pub rows_are : rows_of (newest_table m) ≡ rows_of (table_at t commits whole)

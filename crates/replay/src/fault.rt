@@ -1,8 +1,10 @@
-//! Why a logged commit isn't made again.
+//! Why a logged commit isn't made again, and why a table isn't recovered.
 ghost use Rattle.std.specs.Prelude.{◌≡◌};
 ghost use Rattle.replay.specs.declared.fault.CommitFault.TheVariants as commit_fault;
+ghost use Rattle.replay.specs.declared.fault.RecoverFault.TheVariants as recover_fault;
 
-use manager::RedoFault;
+use codec::PayloadFault;
+use manager::OpenFault;
 use thiserror::Error;
 use values::NoMemory;
 
@@ -25,5 +27,53 @@ impl From<NoMemory> for CommitFault {
 
     fn from(_: NoMemory) -> CommitFault {
         CommitFault::NoMemory
+    }
+}
+
+/// Why a table isn't recovered from its image and its journal. Commits are named by their numbers.
+#[derive(Clone, Copy, Debug, PartialEq, Eq, Error)]
+pub enum RecoverFault {
+    /// The frame of this commit is damaged, though a later one says that it was safe.
+    #[error("Rot {0}")]
+    Rot(u64),
+    /// The frame of this commit is missing: another one stands in its place, or the journal begins after it, or ends before it
+    /// though the image has it.
+    #[error("Gap {0}")]
+    Gap(u64),
+    /// The payload of this commit's frame has this fault.
+    #[error("BadPayload {0} {1}")]
+    BadPayload(u64, PayloadFault),
+    /// What is logged of this commit makes none over the table: the journal is that of another one.
+    #[error("Misfit {0}")]
+    Misfit(u64),
+    /// The row limit isn't 1 to 2,147,483,647, or the recent commits aren't 1 to 65,536.
+    #[error("BadLimit")]
+    BadLimit,
+    /// The image, or the table after one of the commits, has more rows than the row limit.
+    #[error("TooManyRows")]
+    TooManyRows,
+    /// The image is of a commit whose number is above 2^62.
+    #[error("NumbersSpent")]
+    NumbersSpent,
+    /// A growth was refused.
+    #[error("NoMemory")]
+    NoMemory,
+}
+
+impl From<NoMemory> for RecoverFault {
+    ghost from_gives = { λ _ fault. fault ≡ recover_fault.NoMemory };
+
+    fn from(_: NoMemory) -> RecoverFault {
+        RecoverFault::NoMemory
+    }
+}
+
+impl From<OpenFault> for RecoverFault {
+    fn from(fault: OpenFault) -> RecoverFault {
+        match fault {
+            OpenFault::BadLimit => RecoverFault::BadLimit,
+            OpenFault::TooManyRows => RecoverFault::TooManyRows,
+            OpenFault::NoMemory => RecoverFault::NoMemory,
+        }
     }
 }

@@ -7,8 +7,10 @@
 mod fault;
 mod fitting;
 mod laws;
+mod recovering;
 mod replaying;
 
-pub use fault::CommitFault;
+pub use fault::{CommitFault, RecoverFault};
 pub use laws::recovery_is_a_prefix;
-pub use replaying::replay_commit;
+pub use recovering::{FrameBytes, Image, Limits, Recovered, recover};
+pub use replaying::{replay, replay_commit};

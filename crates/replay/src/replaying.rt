@@ -1,21 +1,85 @@
 //! Logged commits, made again one after the other.
-ghost use Rattle.std.specs.Prelude.{◌≡◌, OnErr, OnOk, IfErr};
+ghost use Rattle.std.specs.Prelude.{◌≡◌, OnErr, OnOk, IfErr, length, map};
+ghost use Rattle.codec.specs.Reading.{decoded};
 ghost use Rattle.manager.specs.Managed.{newest_table};
 ghost use Rattle.model.specs.Effects.{AreOver, Effects};
 ghost use Rattle.model.specs.Entries.{canonical_entries};
 ghost use Rattle.model.specs.Merging.{merged_rows};
 ghost use Rattle.model.specs.Table.{rows_of};
-ghost use Rattle.replay.specs.Replayed.{IsReplayed};
+ghost use Rattle.replay.specs.Replayed.{IsReplayed, rows_after};
 
-use crate::fault::CommitFault;
+use crate::fault::{CommitFault, RecoverFault};
 use crate::fitting::tree_over;
+use codec::{PayloadFault, read_part};
 use delta::Entry;
+use journal::Frame;
 use manager::{Manager, RedoFault};
 use model::merges_to_table;
 use std::alloc::Global;
+use values::NoMemory;
 
 /// How many entries a tree has at most. More leave more rows than any limit allows.
 const MAX_ENTRIES: usize = 1 << 40;
+
+/// A Write-PDT of more entries is folded, so that the commits after it are folded into a small tree.
+const FOLD_ABOVE: usize = 1 << 14;
+
+/// Makes the commits of a table again that these frames log, one after the other. A frame that has no part of the table leaves
+/// its rows, and counts as its commit.
+///
+/// # Errors
+///
+/// The first fault from the left: `BadPayload`, `Misfit` or `TooManyRows`, or `NoMemory` where a growth is refused. The commits
+/// before it are made then.
+pub fn replay(
+    alloc: Global,
+    manager: &mut Manager,
+    table: u32,
+    frames: &[Frame<'_>],
+) -> Result<(), RecoverFault>
+    ensures { OnOk result (IsReplayed manager.old (rows_after (rows_of (newest_table manager.old))
+        (map (λ f. decoded manager.old.schema table f.payload.now) frames.now)) (length frames.now) manager.new) }
+{
+    for frame in frames {
+        replay_frame(alloc, manager, table, frame)?;
+        fold_where_large(manager)?;
+    }
+    Ok(())
+}
+
+/// Makes the commit of a table again that a frame logs.
+fn replay_frame(
+    alloc: Global,
+    manager: &mut Manager,
+    table: u32,
+    frame: &Frame<'_>,
+) -> Result<(), RecoverFault>
+    ensures { OnOk result (IsReplayed manager.old (merged_rows (rows_of (newest_table manager.old))
+        (decoded manager.old.schema table frame.now.payload.now)) 1 manager.new) }
+{
+    let schema = manager.newest().schema();
+    let entries = match read_part(alloc, schema, table, frame.payload) {
+        Ok(entries) => entries,
+        Err(PayloadFault::NoMemory) => return Err(RecoverFault::NoMemory),
+        Err(fault) => return Err(RecoverFault::BadPayload(frame.number, fault)),
+    };
+    match replay_commit(alloc, manager, entries) {
+        Ok(()) => Ok(()),
+        Err(CommitFault::Misfit) => Err(RecoverFault::Misfit(frame.number)),
+        Err(CommitFault::TooManyRows) => Err(RecoverFault::TooManyRows),
+        Err(CommitFault::NoMemory) => Err(RecoverFault::NoMemory),
+    }
+}
+
+/// Folds the Write-PDT where it is large.
+fn fold_where_large(manager: &mut Manager) -> Result<(), NoMemory>
+    ensures { OnOk result (IsReplayed manager.old (rows_of (newest_table manager.old)) 0 manager.new) }
+{
+    if manager.write_tree().len() > FOLD_ABOVE {
+        manager.fold()?;
+    }
+    Ok(())
+}
 
 /// Makes one logged commit again, over the table that it found. It compares no key where the entries modify rows, and takes the
 /// time of a commit.

@@ -1,14 +1,13 @@
-use Rattle.std.proofs.Common.{◌≡◌, ℕ, ◌<◌, ◌≤◌, ◌^◌, Bool, true, false, not, T, List, length, map, sym, ap, ◌∙◌, subst, arith}
+use Rattle.std.proofs.Common.{◌≡◌, ℕ, ◌<◌, ◌≤◌, ◌^◌, true, T, List, length, sym, ap, ◌∙◌, subst, arith}
 use Rattle.std.specs.Bool.{passes}
 use Rattle.std.proofs.lemmas.List.{length-map}
 use Rattle.std.proofs.lemmas.List.Elements.{All-weaker}
 use Rattle.values.specs.Shape.{Columns}
 use Rattle.model.specs.declared.entry.Entry.{Entry}
-use Rattle.model.specs.Table.{Table, IsTable}
 use Rattle.model.specs.Effects.{Effects, AreOver}
 use Rattle.model.specs.Entries.{IsLawful, canonical_entries}
 use Rattle.model.proofs.CallerLemmas.{ordered}
-use Rattle.merge.specs.Image.{Stack, image_rows, image_table}
+use Rattle.merge.specs.Image.{image_rows, image_table}
 use Rattle.delta.specs.Tree.{Tree}
 use Rattle.replay.specs.Fitting.{are_over}
 use Rattle.replay.proofs.FittingLemmas.{effects_of_entries, entries_of_effects}

@@ -1,4 +1,4 @@
-use Rattle.std.proofs.Common.{◌≡◌, List, Option, Some, sym, ap, ◌∙◌, subst}
+use Rattle.std.proofs.Common.{◌≡◌, List, Option, ap, subst}
 use Rattle.std.specs.Prelude.{IfSome}
 use Rattle.values.specs.Shape.{Columns}
 use Rattle.model.specs.declared.entry.Entry.{Entry}

@@ -1,0 +1,136 @@
+//! A table, recovered from an image of it and a journal.
+ghost use Rattle.std.specs.Prelude.{◌≡◌, ℕ, ◌+◌, ◌-◌, ◌<◌, ◌≤◌, ◌^◌, List, IfOk, IfSome, IsNone, length, map};
+ghost use Rattle.codec.specs.Reading.{decoded};
+ghost use Rattle.journal.specs.Reading.{read_of};
+ghost use Rattle.manager.specs.Managed.{newest_number, newest_table};
+ghost use Rattle.model.specs.Effects.{Effects};
+ghost use Rattle.model.specs.Table.{Table, rows_of};
+ghost use Rattle.replay.specs.Recovered.{HasPrefix, IsCrashed, IsImage, logged_since};
+ghost use Rattle.replay.specs.Replayed.{rows_after};
+
+use crate::fault::RecoverFault;
+use crate::laws::recovery_is_a_prefix;
+use crate::replaying::replay;
+use journal::{Ending, Reading, read_frames};
+use manager::Manager;
+use model::ConflictRule;
+use stable::StableTable;
+use std::alloc::Global;
+
+/// How many commits a manager goes on from at most.
+const MAX_NUMBER: u64 = 1 << 62;
+
+/// A table as it was stored, and how many commits had made it.
+#[derive(Drop)]
+pub struct Image {
+    pub table: StableTable,
+    pub number: u64,
+}
+
+/// By what a manager is opened.
+#[derive(Clone, Copy)]
+pub struct Limits {
+    /// How many rows a table may have.
+    pub row_limit: u64,
+    /// How many commits may come between a transaction's begin and its commit.
+    pub recent: usize,
+    /// Which modifies of one row conflict.
+    pub conflicts: ConflictRule,
+}
+
+/// The frames of a journal, as their file has them.
+#[derive(Clone, Copy)]
+pub struct FrameBytes<'a> {
+    /// The seed of their checks.
+    pub seed: u32,
+    /// The number of the commit before the first of them.
+    pub base: u64,
+    pub bytes: &'a [u8],
+}
+
+/// What was recovered.
+#[derive(Drop)]
+pub struct Recovered {
+    /// The manager of the newest table, whose history starts there.
+    pub manager: Manager,
+    /// How many bytes of the frames are whole: a journal that goes on is cut here first.
+    pub whole: usize,
+}
+
+/// The table of this number in the payloads, after the last whole frame: its image, and the commits since then made again. It
+/// changes nothing that is stored, so that it can be made again.
+///
+/// # Errors
+///
+/// `Rot` with the first commit whose frame is damaged though it was safe; `Gap` with the first one that is missing; `NumbersSpent`
+/// where the image is of a number above 2^62; then `BadLimit` and `TooManyRows` as an opening; then the first fault of a frame,
+/// `BadPayload`, `Misfit` or `TooManyRows`; and `NoMemory` where a growth is refused.
+pub fn recover(
+    alloc: Global,
+    image: Image,
+    limits: Limits,
+    table: u32,
+    frames: FrameBytes<'_>,
+) -> Result<Recovered, RecoverFault>
+    requires base { frames.base < 2 ^ 63 }
+
+    // Whatever the bytes are: what was recovered is the image with the frames that they say.
+    ensures rows { IfOk result (λ r. rows_of (newest_table r.manager) ≡ rows_after image.table.rows
+        (logged_since (decoded image.table.schema table) frames.entry.seed frames.entry.base image.number frames.entry.bytes.now)) }
+    ensures number { IfOk result (λ r. newest_number r.manager ≡ image.number
+        + length (logged_since (decoded image.table.schema table) frames.entry.seed frames.entry.base image.number frames.entry.bytes.now)) }
+    ensures schema { IfOk result (λ r. r.manager.schema ≡ image.table.schema) }
+
+    ensures whole { IfOk result (λ r. r.whole ≡ length frames.entry.bytes.now
+        - length (read_of frames.entry.seed (frames.entry.base + 1) frames.entry.bytes.now).rest) }
+
+    // Wherever a crash fell: it is the table after the first commits, as many as the device said were safe, or more.
+    ensures prefix { IfOk result (λ r. (t : Table) (commits : List Effects) (safe : ℕ)
+        → IsCrashed (decoded image.table.schema table) image.table.schema frames.entry.seed frames.entry.base t commits safe frames.entry.bytes.now
+        → IsImage frames.entry.base t commits safe image.number image.table.rows
+        → HasPrefix frames.entry.base t commits safe r.manager) }
+{
+    recovery_is_a_prefix();
+    let reading = read_frames(alloc, frames.seed, frames.base + 1, frames.bytes)?;
+    let due = frames.base + 1 + reading.frames.len() as u64;
+    match reading.ending {
+        Ending::Rot => return Err(RecoverFault::Rot(due)),
+        Ending::Gap => return Err(RecoverFault::Gap(due)),
+        Ending::End | Ending::Torn => {}
+    }
+    let Some(skipped) = frames_before(&frames, &reading, image.number) else {
+        return Err(RecoverFault::Gap(due));
+    };
+    if image.number > MAX_NUMBER {
+        return Err(RecoverFault::NumbersSpent);
+    }
+    let mut manager = Manager::open_at(
+        alloc,
+        image.table,
+        image.number,
+        limits.recent,
+        limits.row_limit,
+        limits.conflicts,
+    )?;
+    replay(alloc, &mut manager, table, &reading.frames[skipped..])?;
+    Ok(Recovered {
+        manager,
+        whole: frames.bytes.len().saturating_sub(reading.rest.len()),
+    })
+}
+
+/// How many of the frames an image of this number has already; none where the journal begins after it, or ends before it.
+fn frames_before(frames: &FrameBytes<'_>, reading: &Reading<'_>, number: u64) -> Option<usize>
+    ensures some { IfSome result (λ skipped. (frames.now.base ≤ number) × (skipped ≡ number - frames.now.base)
+        × (skipped ≤ length reading.now.frames.items)) }
+    ensures none { IsNone result → frames.now.base ≤ number → frames.now.base + length reading.now.frames.items < number }
+{
+    if number < frames.base {
+        return None;
+    }
+    let skipped = number - frames.base;
+    if skipped > reading.frames.len() as u64 {
+        return None;
+    }
+    Some(skipped as usize)
+}
