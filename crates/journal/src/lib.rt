@@ -1,9 +1,10 @@
-//! A journal's bytes: frames, one for each commit, what a list of bytes says as a journal, and why it ends there.
+//! A journal's bytes: its header, frames, one for each commit, what a list of bytes says as a journal, and why it ends there.
 //!
 //! *What a contract sees.* A frame is what it logs: the number of a commit, the greatest number that was known to be safe when
-//! it was written, and its payload. A journal is read as the frames from the left that are whole, with the rest.
+//! it was written, and its payload. A journal is read as the frames from the left that are whole, with the rest. A header is its
+//! fields: a salt, a store's name and the number of the commit before the first frame.
 //!
-//! *What it stands on.* `values` for want of memory.
+//! *What it stands on.* `values` for want of memory, and `thiserror` for what a fault shows.
 #![tactic(auto)]
 
 mod check;
