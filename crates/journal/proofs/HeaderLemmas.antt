@@ -72,8 +72,8 @@ has_of bytes found e =
     by : (b1 b2 b3 b4 b5 b6 b7 : Bool) → eqb (length bytes) 0 ≡ b1 → ltb (length bytes) 36 ≡ b2 → eqb (word_at bytes 0) 0x4e4d4a31 ≡ b3
         → eqb (word_at bytes 4) 1 ≡ b4 → eqb (word_at bytes 32) (crc all_ones (take 32 bytes)) ≡ b5
         → eqb (seed_of (long_at bytes 8)) 0 ≡ b6 → leb (2 ^ 63) (long_at bytes 24) ≡ b7
-        → ◌≡◌ {A = Answer} (cond b1 (Err Empty) (cond b2 (Err CutHeader) (cond b3 (cond b4 (cond b5 (cond b6 (Err BadSeed) (cond b7 (Err BadBase)
-        (Ok (fields_of (long_at bytes 8) (long_at bytes 16) (long_at bytes 24), drop 36 bytes)))) (Err BadHeader)) (Err UnknownVersion))
+        → ◌≡◌ {A = Answer} (cond b1 (Err Empty) (cond b2 (Err CutHeader) (cond b3 (cond b4 (cond b5 (cond b6 (Err BadSeed)
+        (cond b7 (Err BadBase) (Ok (fields_of (long_at bytes 8) (long_at bytes 16) (long_at bytes 24), drop 36 bytes)))) (Err BadHeader)) (Err UnknownVersion))
         (Err NoJournal)))) (Ok found)
         → Has bytes found
     by true b2 b3 b4 b5 b6 b7 p1 p2 p3 p4 p5 p6 p7 h = absurd cc
@@ -98,7 +98,8 @@ six_parts a b d e f x = sym (simp append_assoc)
 
 -- the 36 bytes by the numbers that they spell
 front_spelt : (bytes : List ℕ) → AreBytes bytes → 36 ≤ length bytes → word_at bytes 0 ≡ 0x4e4d4a31 → word_at bytes 4 ≡ 1
-    → bytes ≡ front_bytes (fields_of (long_at bytes 8) (long_at bytes 16) (long_at bytes 24)) ++ (to_be_bytes w32 (word_at bytes 32) ++ drop 36 bytes)
+    → bytes ≡ front_bytes (fields_of (long_at bytes 8) (long_at bytes 16) (long_at bytes 24))
+    ++ (to_be_bytes w32 (word_at bytes 32) ++ drop 36 bytes)
 front_spelt bytes small le magic version =
     let a = to_be_bytes w32 0x4e4d4a31 in
     let b = to_be_bytes w32 1 in
@@ -175,7 +176,12 @@ module _ (before after : List ℕ) (x y : ℕ) (xl : x < 256) (yl : y < 256) whe
       let cut : (z : ℕ) → take 32 (before ++ z ∷ after) ≡ before ++ z ∷ take k after =
       λ z. take_past before (z ∷ after) 32 (omega (arith, lt)) ∙ ap (λ n. before ++ take n (z ∷ after)) left in
       let words : word_at old 32 ≡ word_at new 32 =
-      rw (same 32 (λ e. omega (arith, e, lt)), same 33 (λ e. omega (arith, e, lt)), same 34 (λ e. omega (arith, e, lt)), same 35 (λ e. omega (arith, e, lt))) refl in
+      rw (
+        same 32 (λ e. omega (arith, e, lt)),
+        same 33 (λ e. omega (arith, e, lt)),
+        same 34 (λ e. omega (arith, e, lt)),
+        same 35 (λ e. omega (arith, e, lt)),
+      ) refl in
       a_changed_byte_is_found all_ones before (take k after) x y (omega arith) xl yl
       (sym (ap (crc all_ones) (cut x)) ∙ sym p ∙ words ∙ q ∙ ap (crc all_ones) (cut y))
 
@@ -186,7 +192,8 @@ module _ (before after : List ℕ) (x y : ℕ) (xl : x < 256) (yl : y < 256) whe
       ap (λ n. get_or old n 0) e ∙ alike (λ j other. same j (λ h. other (h ∙ e))) ∙ sym (ap (λ n. get_or new n 0) e)
 
   -- in the check
-  in_check : 32 ≤ length before → length before < 36 → word_at old 32 ≡ crc all_ones (take 32 old) → word_at new 32 ≡ crc all_ones (take 32 new)
+  in_check : 32 ≤ length before → length before < 36 → word_at old 32 ≡ crc all_ones (take 32 old)
+      → word_at new 32 ≡ crc all_ones (take 32 new)
       → x ≡ y
   in_check le lt p q =
       let fronts : take 32 old ≡ take 32 new = take-append-le 32 before (x ∷ after) le ∙ sym (take-append-le 32 before (y ∷ after) le) in
@@ -196,12 +203,16 @@ module _ (before after : List ℕ) (x y : ℕ) (xl : x < 256) (yl : y < 256) whe
       by : word_at old 32 ≡ word_at new 32 → get_or old (length before) 0 ≡ get_or new (length before) 0
       by words =
           elim (cases_lt (length before) 33) [
-            | inl at32 ↦ here 32 (omega (arith, le, at32)) (λ ne. omega (arith, words, ne 33 (omega arith), ne 34 (omega arith), ne 35 (omega arith)))
-            | inr past32 ↦ elim (cases_lt (length before) 34) [
-              | inl at33 ↦ here 33 (omega (arith, past32, at33)) (λ ne. omega (arith, words, ne 32 (omega arith), ne 34 (omega arith), ne 35 (omega arith)))
-              | inr past33 ↦ elim (cases_lt (length before) 35) [
-                | inl at34 ↦ here 34 (omega (arith, past33, at34)) (λ ne. omega (arith, words, ne 32 (omega arith), ne 33 (omega arith), ne 35 (omega arith)))
-                | inr past34 ↦ here 35 (omega (arith, past34, lt)) (λ ne. omega (arith, words, ne 32 (omega arith), ne 33 (omega arith), ne 34 (omega arith)))
+            | inl lt33 ↦ here 32 (omega (arith, le, lt33)) (λ ne.
+                omega (arith, words, ne 33 (omega arith), ne 34 (omega arith), ne 35 (omega arith)))
+            | inr ge33 ↦ elim (cases_lt (length before) 34) [
+              | inl lt34 ↦ here 33 (omega (arith, ge33, lt34)) (λ ne.
+                  omega (arith, words, ne 32 (omega arith), ne 34 (omega arith), ne 35 (omega arith)))
+              | inr ge34 ↦ elim (cases_lt (length before) 35) [
+                | inl lt35 ↦ here 34 (omega (arith, ge34, lt35)) (λ ne.
+                    omega (arith, words, ne 32 (omega arith), ne 33 (omega arith), ne 35 (omega arith)))
+                | inr ge35 ↦ here 35 (omega (arith, ge35, lt)) (λ ne.
+                    omega (arith, words, ne 32 (omega arith), ne 33 (omega arith), ne 34 (omega arith)))
               ]
             ]
           ]
@@ -217,9 +228,11 @@ changed before after x y found other xl yl short p q =
 pub a_header_is_guarded : AHeaderIsGuarded
 a_header_is_guarded before after x y found xl yl differ short e = by (header_in (before ++ y ∷ after)) refl
   where
-    by : (answer : Result (HeaderFields × List ℕ) HeaderFault) → header_in (before ++ y ∷ after) ≡ answer → IsErr (header_in (before ++ y ∷ after))
+    by : (answer : Result (HeaderFields × List ℕ) HeaderFault) → header_in (before ++ y ∷ after) ≡ answer
+        → IsErr (header_in (before ++ y ∷ after))
     by (Ok other) h =
-        absurd (differ (changed before after x y found other xl yl short (has_of (before ++ x ∷ after) found e) (has_of (before ++ y ∷ after) other h)))
+        absurd (differ (changed before after x y found other xl yl short
+        (has_of (before ++ x ∷ after) found e) (has_of (before ++ y ∷ after) other h)))
     by (Err fault) h = subst (λ (r : Answer). IsErr r) (sym h) refl
 
 -- ---- a crash

@@ -1,5 +1,5 @@
-//! The tests of journals: the check by values of others, the bytes of a frame that a person worked out, and journals that are
-//! whole, cut at each byte, damaged in each bit, out of turn, and another's.
+//! The tests of journals: the check by values of others, the bytes of a frame and of a header that a person worked out, headers of no
+//! journal, and journals that are whole, cut at each byte, damaged in each bit, out of turn, and another's.
 #![tactic(auto)]
 
 #[cfg(test)]
@@ -8,3 +8,5 @@ mod checks;
 mod damages;
 #[cfg(test)]
 mod frames;
+#[cfg(test)]
+mod headers;

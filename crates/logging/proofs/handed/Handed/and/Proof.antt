@@ -52,7 +52,8 @@ and_spec 𝓤 𝓛 𝓜 𝓡 wired =
     suffices ! (Runs (p ∷ q ∷ []))
     (subst (λ (us : List Val). ent 𝓤 (Runs (p ∷ q ∷ [])) (Runs us)) (sym (λ i. are.0.0 i ++ (are.1.0.0.0 i ++ [])))
     (id⊢ 𝓤 (Runs (p ∷ q ∷ [])))) $
-    enter ! 𝓣.C 𝓣.Λ fn (p ∷ q ∷ []) Post $ alloc_all ! (λ l. pass_all ! refl ((tt, tt), ((tt, (tt, (record { fits = are.1.0.0.1.0 }, tt))), tt)) $
+    enter ! 𝓣.C 𝓣.Λ fn (p ∷ q ∷ []) Post $ alloc_all ! (λ l.
+    pass_all ! refl ((tt, tt), ((tt, (tt, (record { fits = are.1.0.0.1.0 }, tt))), tt)) $
     sets ! (agg ! (no_more !)) refl (tt, tt) $
     pure_i ! (handed.the_row.own_val made (vstruct vnil ∷ [])) ((λ vss. (tt, tt)), tt) ((tt, (refl, tt)), tt) $
     use0 𝓛 (raw (fact 𝓤 ((shown ≡ shown) × (safe ≡ safe)))) (fact_i 𝓤 ((shown ≡ shown) × (safe ≡ safe)) (emp 𝓤) (refl, refl)) $

@@ -30,7 +30,8 @@ synced_spec 𝓤 𝓛 𝓜 𝓡 wired =
     let 𝓣 = tables 𝓤 H 𝓜 𝓡 𝓡.env in
     let c = clauses 𝓛 𝓜.mem 𝓡.returns in
     let fn = code.function in
-    let stays : Stays ended.signature.params ended.kept = (stay_dropped (RefOf (0 ∷ []) tt (plain (λ _. handed.the_row)) (λ _. tt)) yes, tt) in
+    let stays : Stays ended.signature.params ended.kept =
+    (stay_dropped (RefOf (0 ∷ []) tt (plain (λ _. handed.the_row)) (λ _. tt)) yes, tt) in
     proved_at 𝓛 ended stays c 𝓜 𝓡 (
       Goes-dropped 𝓛 1 (RefOf (0 ∷ []) tt (plain (λ _. handed.the_row)) (λ _. tt)) yes (λ κs x f. refl),
       tt,
