@@ -1,6 +1,7 @@
 -- What fits a schema: cells of their types, none of them too long.
-use Rattle.std.proofs.Common.{◌≡◌, ℕ, zero, suc, ◌<◌, Bool, true, false, cond, eqb, ltb, Option, Some, None, List, [], ◌∷◌, length, take, refl, ap, ◌∙◌, arith}
-use Rattle.std.specs.Prelude.{slice_get, is_none}
+use Rattle.std.proofs.Common.{◌≡◌, ℕ, zero, suc, ◌<◌, Bool, true, false, cond, eqb, ltb, Option, Some, None, List, [], ◌∷◌, length, take, drop, ◌+◌, sym, refl, ap, ◌∙◌, arith}
+use Rattle.std.specs.Prelude.{slice_get, slice_index_or, is_none}
+use Rattle.std.proofs.lemmas.List.{drop_more}
 use Rattle.std.specs.List.{All}
 use Rattle.std.proofs.lemmas.Bool.{eqb-true, eq-eqb}
 use Rattle.std.proofs.lemmas.List.Elements.{All-nil, All-cons}
@@ -151,3 +152,33 @@ module _ (schema : Columns) where
       ap (λ (o : Option ColumnType). is_none (cell_fault_at o schema.key_cols col value)) cell.there
       ∙ ap (λ b. is_none (cond b (Some KeyColumn) (value_fault cell.ty col value))) cell.outside
       ∙ ap is_none (typed_value cell.ty col value cell.typed)
+
+-- ---- cell by cell, as a loop goes
+
+-- the cell of a column is the first of those that are left
+pub fault_here : (types : List ColumnType) (values : List Value) (col : ℕ) (ty : ColumnType) (value : Value) → col < length types
+    → length values ≡ length types → value ≡ slice_index_or values col value
+    → values_fault col (drop col types) (drop col values)
+    ≡ or_fault (value_fault (slice_index_or types col ty) col value) (values_fault (col + 1) (drop (col + 1) types) (drop (col + 1) values))
+fault_here types values col ty value within same read =
+    let types_left = drop (col + 1) types in
+    let values_left = drop (col + 1) values in
+    let one = value_fault (slice_index_or types col ty) col in
+    let next : suc col ≡ col + 1 = omega arith in
+    let cells : values_fault col (drop col types) (drop col values)
+    ≡ or_fault (one (slice_index_or values col value)) (values_fault (suc col) types_left values_left) =
+    λ i. values_fault col (drop_more types col ty within i) (drop_more values col value (omega (arith, within, same)) i) in
+    cells
+    ∙ ap (λ v. or_fault (one v) (values_fault (suc col) types_left values_left)) (sym read)
+    ∙ ap (λ n. or_fault (one value) (values_fault n types_left values_left)) next
+
+pub fault_first : (a b : Option ShapeFault) → is_none a ≡ false → is_none (or_fault a b) ≡ false
+fault_first None b h = absurd cc
+fault_first (Some x) b h = refl
+
+pub fault_none : (a b : Option ShapeFault) → is_none a ≡ true → or_fault a b ≡ b
+fault_none None b h = refl
+fault_none (Some x) b h = absurd cc
+
+pub list_is : (types : List ColumnType) (values : List Value) → length values ≡ length types → list_fault types values ≡ values_fault 0 types values
+list_is types values same = ap (λ b. cond b (values_fault 0 types values) (Some WrongCount)) (eq-eqb (length values) (length types) same)

@@ -13,6 +13,12 @@ kept_more old more new whole is kept =
     sym (take-take (length old) (length whole) new (omega (arith, ap length is, length-append old more)))
     ∙ ap (take (length old)) (kept ∙ is) ∙ take-append_seam old more
 
+-- the same where bytes were appended twice before
+pub kept_twice : (old a b new between whole : List ℕ) → between ≡ old ++ a → whole ≡ between ++ b → take (length whole) new ≡ whole
+    → take (length old) new ≡ old
+kept_twice old a b new between whole first second kept =
+    kept_more old (a ++ b) new whole (second ∙ ap (λ xs. xs ++ b) first ∙ append_assoc old a b) kept
+
 -- how far entries have been written: those before the ones that are left
 pub record IsWritten (old now : List ℕ) (entries left : List Entry) : Type 0 where
   pub front : List Entry

@@ -10,12 +10,14 @@
 mod cells;
 mod entries;
 mod fault;
+mod fit;
 mod format;
 mod laws;
 mod parts;
 mod spelling;
 
 pub use fault::{PayloadFault, SpellFault};
+pub use fit::entries_fit;
 pub use laws::{
     a_payload_is_of_one_list, commit_entries_fit, parts_read_back, what_reads_is_spelt,
 };

@@ -1,7 +1,7 @@
-use Rattle.std.proofs.Common.{◌∷◌, [], ◌++◌, ap, ◌∙◌, append_assoc, arith}
+use Rattle.std.proofs.Common.{ap, ◌∙◌, arith}
 use Rattle.codec.specs.Fit.{change_fits}
 use Rattle.codec.proofs.FitLemmas.{row_typed, key_typed, cell_typed, cell_within, typed_short}
-use Rattle.codec.proofs.KeptLemmas.{kept_more}
+use Rattle.codec.proofs.KeptLemmas.{kept_twice}
 use Rattle.std.specs.Prelude.{take}
 use Rattle.codec.proofs.spelling.append_entry.Goals as goal
 
@@ -28,25 +28,15 @@ overflow_cast-col c =
 
 pub returns-in_ok-push-in-Ins-clause-kept : goal.returns-in_ok-push-in-Ins-clause-kept
 returns-in_ok-push-in-Ins-clause-kept c =
-    let old = c.args.out.now.items in
-    let word = c.to_be_bytes.result in
-    kept_more old (word ++ 1 ∷ []) c.append_cells.new.out.items c.push.new.self.items
-    (c.in_ok-push-in-Ins.ensures.items ∙ ap (λ xs. xs ++ 1 ∷ []) c.in_ok-extend_from_slice.ensures.items ∙ append_assoc old word (1 ∷ []))
-    c.append_cells.ensures.kept
+    kept_twice c.args.out.now.items _ _ c.append_cells.new.out.items _ c.push.new.self.items c.in_ok-extend_from_slice.ensures.items
+    c.in_ok-push-in-Ins.ensures.items c.append_cells.ensures.kept
 
 pub returns-in_ok-push-in-Del-clause-kept : goal.returns-in_ok-push-in-Del-clause-kept
 returns-in_ok-push-in-Del-clause-kept c =
-    let old = c.args.out.now.items in
-    let word = c.to_be_bytes.result in
-    kept_more old (word ++ 2 ∷ []) c.append_cells-in-Del.new.out.items c.push-in-Del.new.self.items
-    (c.in_ok-push-in-Del.ensures.items ∙ ap (λ xs. xs ++ 2 ∷ []) c.in_ok-extend_from_slice.ensures.items ∙ append_assoc old word (2 ∷ []))
-    c.append_cells-in-Del.ensures.kept
+    kept_twice c.args.out.now.items _ _ c.append_cells-in-Del.new.out.items _ c.push-in-Del.new.self.items
+    c.in_ok-extend_from_slice.ensures.items c.in_ok-push-in-Del.ensures.items c.append_cells-in-Del.ensures.kept
 
 pub returns-in_ok-extend_from_slice-in-Mod-clause-kept : goal.returns-in_ok-extend_from_slice-in-Mod-clause-kept
 returns-in_ok-extend_from_slice-in-Mod-clause-kept c =
-    let old = c.args.out.now.items in
-    let word = c.to_be_bytes.result in
-    let more = 3 ∷ c.in-Mod.col ∷ [] in
-    kept_more old (word ++ more) c.append_cell.new.out.items c.extend_from_slice-in-Mod.new.self.items
-    (c.in_ok-extend_from_slice-in-Mod.ensures.items ∙ ap (λ xs. xs ++ more) c.in_ok-extend_from_slice.ensures.items ∙ append_assoc old word more)
-    c.append_cell.ensures.kept
+    kept_twice c.args.out.now.items _ _ c.append_cell.new.out.items _ c.extend_from_slice-in-Mod.new.self.items
+    c.in_ok-extend_from_slice.ensures.items c.in_ok-extend_from_slice-in-Mod.ensures.items c.append_cell.ensures.kept
