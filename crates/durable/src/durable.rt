@@ -27,6 +27,13 @@ pub struct Durable<D: JournalDevice> {
     payload: Vec<u8>,
 }
 
+/// What a durable manager comes to.
+#[derive(Drop)]
+pub struct Parts<D: JournalDevice> {
+    pub manager: Manager,
+    pub journal: Appender<D>,
+}
+
 impl<D: JournalDevice> Model for Durable<D> {
     ghost use Rattle.durable.specs.Durable.{Durable as Logging};
 
@@ -161,16 +168,17 @@ impl<D: JournalDevice> Durable<D> {
         self.manager.cut()
     }
 
-    /// The manager alone; the journal is let go.
-    pub fn into_manager(self) -> Manager
-        ensures { result ≡ self.manager }
+    /// The manager and the journal, each alone. Takes no memory.
+    pub fn into_parts(self) -> Parts<D>
+        ensures manager { result.manager ≡ self.manager }
+        ensures journal { result.journal ≡ self.log }
     {
         let Durable {
             manager,
-            journal: _journal,
+            journal,
             table: _,
             payload: _payload,
         } = self;
-        manager
+        Parts { manager, journal }
     }
 }

@@ -12,5 +12,5 @@ mod durable;
 mod fault;
 mod logged;
 
-pub use durable::Durable;
+pub use durable::{Durable, Parts};
 pub use fault::CommitFault;
