@@ -25,14 +25,14 @@ impl<D: JournalDevice> Model for Appender<D> {
     ghost Value = { Log };
 
     ghost view = { λ a. record
-        { device = record { appended = D.appended a.device; safe = D.safe a.device; failures = D.failures a.device }; seed = a.seed } };
+        { device = record { appended = D.appended a.device; safe = D.safe a.device; failures = D.faults a.device }; seed = a.seed } };
 }
 
 impl<D: JournalDevice> Appender<D> {
     /// Who appends frames of this seed to the device. Takes no memory.
     pub fn new(alloc: Global, device: D, seed: u32) -> Appender<D>
         ensures { result ≡ record
-            { device = record { appended = D.appended device; safe = D.safe device; failures = D.failures device }; seed = seed } }
+            { device = record { appended = D.appended device; safe = D.safe device; failures = D.faults device }; seed = seed } }
     {
         Appender {
             device,
@@ -87,13 +87,13 @@ impl<D: JournalDevice> Appender<D> {
 
 /// Appends the bytes, and then makes them safe.
 fn append_safely<D: JournalDevice>(device: &mut D, bytes: &[u8]) -> Result<(), DeviceFault>
-    requires { D.failures device.old ≡ 0 }
+    requires { D.faults device.old ≡ 0 }
     ensures whole { OnOk result (D.appended device.new ≡ D.appended device.old ++ bytes.now) }
     ensures safe { OnOk result (D.safe device.new ≡ length (D.appended device.new)) }
-    ensures sound { OnOk result (D.failures device.new ≡ D.failures device.old) }
+    ensures sound { OnOk result (D.faults device.new ≡ D.faults device.old) }
     ensures part { OnErr result ((n : ℕ) × (D.appended device.new ≡ D.appended device.old ++ take n bytes.now)) }
     ensures kept { OnErr result (D.safe device.old ≤ D.safe device.new) }
-    ensures counted { OnErr result (D.failures device.old < D.failures device.new) }
+    ensures counted { OnErr result (D.faults device.old < D.faults device.new) }
 {
     device.append(bytes)?;
     if device.sync().is_err() {

@@ -7,7 +7,7 @@ impl JournalDevice for Box<dyn JournalDevice + Send> {
 
     ghost safe = { λ b. (JournalDevice-box b).safe b.value };
 
-    ghost failures = { λ b. (JournalDevice-box b).failures b.value };
+    ghost faults = { λ b. (JournalDevice-box b).faults b.value };
 
     fn append(&mut self, piece: &[u8]) -> Result<(), DeviceFault> {
         (**self).append(piece)

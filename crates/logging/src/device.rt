@@ -18,7 +18,7 @@ pub trait JournalDevice: Drop {
     ghost safe: { Self → ℕ };
 
     /// How often it has failed.
-    ghost failures: { Self → ℕ };
+    ghost faults: { Self → ℕ };
 
     /// Takes a piece after the bytes so far. It is called only while nothing has failed.
     ///
@@ -27,11 +27,11 @@ pub trait JournalDevice: Drop {
     /// `DeviceFault` where it could not take the whole piece: some beginning of it stands after the bytes so far then,
     /// which may be all of it, and the failure is counted. Want of memory is such a failure.
     fn append(&mut self, piece: &[u8]) -> Result<(), DeviceFault>
-        requires { failures self.old ≡ 0 }
+        requires { faults self.old ≡ 0 }
         ensures whole { OnOk result (appended self.new ≡ appended self.old ++ piece.now) }
-        ensures sound { OnOk result (failures self.new ≡ failures self.old) }
+        ensures sound { OnOk result (faults self.new ≡ faults self.old) }
         ensures part { OnErr result ((n : ℕ) × (appended self.new ≡ appended self.old ++ take n piece.now)) }
-        ensures counted { OnErr result (failures self.old < failures self.new) }
+        ensures counted { OnErr result (faults self.old < faults self.new) }
         ensures kept { safe self.new ≡ safe self.old };
 
     /// Makes the bytes so far safe: a crash leaves them from then on. It is called only while nothing has failed.
@@ -40,14 +40,14 @@ pub trait JournalDevice: Drop {
     ///
     /// `DeviceFault` where it can't say that they are: what was safe stays so, and the failure is counted.
     fn sync(&mut self) -> Result<(), DeviceFault>
-        requires { failures self.old ≡ 0 }
+        requires { faults self.old ≡ 0 }
         ensures safe { OnOk result (safe self.new ≡ length (appended self.old)) }
-        ensures sound { OnOk result (failures self.new ≡ failures self.old) }
+        ensures sound { OnOk result (faults self.new ≡ faults self.old) }
         ensures kept { OnErr result (safe self.old ≤ safe self.new) }
-        ensures counted { OnErr result (failures self.old < failures self.new) }
+        ensures counted { OnErr result (faults self.old < faults self.new) }
         ensures same { appended self.new ≡ appended self.old };
 
     /// How often it has failed.
     fn failures(&self) -> u64
-        ensures { result ≡ failures self.now };
+        ensures { result ≡ faults self.now };
 }

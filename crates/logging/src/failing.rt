@@ -44,7 +44,7 @@ impl JournalDevice for FailingJournal {
 
     ghost safe = { λ f. f.safe };
 
-    ghost failures = { λ f. f.failures };
+    ghost faults = { λ f. f.failures };
 
     fn append(&mut self, piece: &[u8]) -> Result<(), DeviceFault> {
         if let Failure::Append { turn, takes } = self.failure {

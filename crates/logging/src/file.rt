@@ -46,7 +46,7 @@ impl JournalDevice for FileJournal {
 
     ghost safe = { λ f. f.safe };
 
-    ghost failures = { λ f. f.failures };
+    ghost faults = { λ f. f.failures };
 
     fn append(&mut self, piece: &[u8]) -> Result<(), DeviceFault> {
         let FileJournal {

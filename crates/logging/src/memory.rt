@@ -60,7 +60,7 @@ impl JournalDevice for MemJournal {
 
     ghost safe = { λ m. m.safe };
 
-    ghost failures = { λ m. m.failures };
+    ghost faults = { λ m. m.failures };
 
     fn append(&mut self, piece: &[u8]) -> Result<(), DeviceFault> {
         if self.bytes.extend_from_slice(piece).is_err() {

@@ -1,0 +1,42 @@
+-- What a journal has of a history: the trees of the commits since it began.
+use Rattle.std.specs.Prelude.{◌≡◌, ℕ, ◌+◌, List, [], ◌∷◌, ◌++◌, length}
+use Rattle.model.specs.declared.write.CommitReply.{CommitReply}
+use Rattle.model.specs.declared.write.CommitReply.TheVariants.{Committed, Conflict, TooOld, Full}
+use Rattle.model.specs.Effects.{Effects}
+use Rattle.model.specs.History.{table_with_all, commits_with}
+use Rattle.model.specs.Table.{Table}
+use Rattle.txn.specs.Txn.{Transaction, effects_of}
+use Rattle.manager.specs.Managed.{Managed, newest_number, newest_table}
+use Rattle.codec.specs.Reading.{decoded}
+use Rattle.journal.specs.Frame.{Logged, journal_bytes}
+use Rattle.replay.specs.Recovered.{Logs}
+use Rattle.durable.specs.Durable.{Durable, logged_of}
+
+-- a journal since it began: the table then and its number, the bytes before the first frame, the commits, and their frames
+pub record Journal : Type 0 where
+  pub table : Table
+  pub base : ℕ
+  pub front : List ℕ
+  pub commits : List Effects
+  pub logged : List Logged
+
+-- the frames after a reply
+abbrev pub logged_with : List Logged → Logged → CommitReply → List Logged
+logged_with logged l (Committed n) = logged ++ l ∷ []
+logged_with logged l (Conflict n) = logged
+logged_with logged l (TooOld n) = logged
+logged_with logged l (Full n) = logged
+
+-- the journal after a reply to a transaction
+abbrev pub journal_with : Durable → Transaction → CommitReply → Journal → Journal
+journal_with d txn reply j = record j {
+  commits = commits_with j.commits (effects_of txn) reply;
+  logged = logged_with j.logged (logged_of d txn (newest_number d.manager + 1)) reply;
+}
+
+-- a durable manager has logged these commits: they lead to its newest table, and their frames are what its log was handed
+pub record IsJournaled (d : Durable) (j : Journal) : Type 0 where
+  pub logs : Logs (decoded d.manager.schema d.table) d.manager.schema j.base j.table j.commits j.logged
+  pub newest : newest_table d.manager ≡ table_with_all j.table j.commits
+  pub number : newest_number d.manager ≡ j.base + length j.commits
+  pub appended : d.log.device.appended ≡ j.front ++ journal_bytes d.log.seed j.logged
