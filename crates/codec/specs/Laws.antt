@@ -50,17 +50,20 @@ AreSpans low (span ∷ spans) =
 -- bytes that read as parts are spelt by them
 abbrev pub PartsAreSpelt : Type 0
 PartsAreSpelt =
-    (bytes : List ℕ) (spans : List Span) → AreBytes bytes → spans_in bytes ≡ Ok spans → (bytes ≡ spans_bytes spans) × AreSpans 0 spans
+    (bytes : List ℕ) (spans : List Span) → AreBytes bytes → spans_in bytes ≡ Ok spans
+    → (bytes ≡ spans_bytes spans) × AreSpans 0 spans
 
 -- and the part of a table that reads as entries by these, which can be written
 abbrev pub EntriesAreSpelt : Type 0
 EntriesAreSpelt =
-    (schema : Columns) (table : ℕ) (bytes : List ℕ) (entries : List Entry) → AreBytes bytes → entries_in schema table bytes ≡ Ok entries
+    (schema : Columns) (table : ℕ) (bytes : List ℕ) (entries : List Entry) → AreBytes bytes
+    → entries_in schema table bytes ≡ Ok entries
     → (part_in table bytes ≡ Ok (entries_bytes entries)) × EntriesFit schema entries × ArePlainEntries entries
 
 -- bytes are the payload of one list of parts at most
 abbrev pub APayloadIsOfOneList : Type 0
 APayloadIsOfOneList =
     (schema_of : ℕ → Columns) (parts others : List Part) → AreParts 0 parts → AreParts 0 others
-    → All (λ part. ReadBack (schema_of part.table) part.entries) parts → All (λ part. ReadBack (schema_of part.table) part.entries) others
+    → All (λ part. ReadBack (schema_of part.table) part.entries) parts
+    → All (λ part. ReadBack (schema_of part.table) part.entries) others
     → payload_of parts ≡ payload_of others → parts ≡ others

@@ -30,7 +30,8 @@ begin end bytes = end - length bytes
 
 -- the number that four bytes spell
 abbrev pub word_at : List ℕ → ℕ → ℕ
-word_at bytes i = from_be_bytes w32 (get_or bytes i 0 ∷ get_or bytes (i + 1) 0 ∷ get_or bytes (i + 2) 0 ∷ get_or bytes (i + 3) 0 ∷ [])
+word_at bytes i =
+    from_be_bytes w32 (get_or bytes i 0 ∷ get_or bytes (i + 1) 0 ∷ get_or bytes (i + 2) 0 ∷ get_or bytes (i + 3) 0 ∷ [])
 
 -- ---- cells: each is found at the front of bytes that go on to an end, and given with the bytes after it
 
