@@ -1,18 +1,26 @@
 -- What commits make of a manager, when they are made again.
-use Rattle.std.proofs.Common.{◌≡◌, ℕ, suc, ◌+◌, ◌<◌, List, [], ◌∷◌, ◌++◌, length, map, take, get_or, refl, sym, ap, ◌∙◌, arith}
+use Rattle.std.proofs.Common.{◌≡◌, ℕ, zero, suc, ◌+◌, ◌<◌, Result, Ok, List, [], ◌∷◌, ◌++◌, length, map, take, get_or, refl, sym, ap, ◌∙◌, arith}
 use Rattle.std.proofs.Math.Seq.{take-suc}
 use Rattle.std.proofs.lemmas.List.{map-append}
 use Rattle.values.specs.Shape.{Columns}
 use Rattle.values.specs.declared.row.Row.{Row}
 use Rattle.model.specs.declared.entry.Entry.{Entry}
-use Rattle.model.specs.Laws.{MergesToTable}
+use Rattle.std.specs.Bool.{passes}
+use Rattle.codec.specs.Reading.{Fails, entries_in}
+use Rattle.codec.specs.declared.fault.PayloadFault.{PayloadFault}
+use Rattle.codec.specs.declared.fault.PayloadFault.TheVariants as payload
+use Rattle.model.specs.Effects.{AreOver, Effects, table_with}
+use Rattle.model.specs.Entries.{canonical_entries}
+use Rattle.model.specs.History.{table_with_all}
+use Rattle.model.specs.Laws.{AreCommits, MergesToTable}
+use Rattle.model.proofs.CallerLemmas.{leaves, table_of-rows_of}
 use Rattle.model.specs.Merging.{merged_rows}
-use Rattle.model.specs.Table.{rows_of}
+use Rattle.model.specs.Table.{Table, is_keyed_table, rows_of, table_of}
 use Rattle.delta.specs.Tree.{Tree}
 use Rattle.merge.specs.Image.{IsLayer}
 use Rattle.manager.specs.Managed.{Managed, newest_number, newest_table, with_layers}
 use Rattle.manager.specs.Redone.{IsRedone}
-use Rattle.replay.specs.Replayed.{IsReplayed, rows_after}
+use Rattle.replay.specs.Replayed.{AreSaid, IsMisfit, IsReplayed, fault_of_payload, rows_after}
 use Rattle.replay.proofs.RecoveryLemmas.{rows_after-append}
 
 next : (n : ℕ) → suc n + 0 ≡ n + 1
@@ -104,3 +112,37 @@ replayed_none m = record {
   recent = refl;
   rule = refl;
 }
+
+-- ---- frames that say commits
+
+-- the same entries of two effects leave the same table
+pub same_table : ((schema : Columns) → MergesToTable schema) → (schema : Columns) (t : Table) (x y : Effects) → AreOver schema t x
+    → AreOver schema t y → canonical_entries t x ≡ canonical_entries t y → table_with t x ≡ table_with t y
+same_table merges schema t x y over other same =
+    let keys = schema.key_cols in
+    sym (table_of-rows_of keys (table_with t x) (passes (is_keyed_table keys (table_with t x)) (leaves schema t x over).keyed))
+    ∙ ap (table_of keys) (sym (merges schema t x over) ∙ ap (merged_rows (rows_of t)) same ∙ merges schema t y other)
+    ∙ table_of-rows_of keys (table_with t y) (passes (is_keyed_table keys (table_with t y)) (leaves schema t y other).keyed)
+
+-- what is found isn't a fault
+pub said_no_fault : (n : ℕ) (f : PayloadFault) (reading : Result (List Entry) PayloadFault) (es : List Entry) → Fails f reading
+    → IsMisfit (fault_of_payload n f) → reading ≡ Ok es → ⊥
+said_no_fault n payload.NoMemory reading es fails misfit is = misfit
+said_no_fault n (payload.Short at) reading es fails misfit is = absurd (cc (sym fails ∙ is))
+said_no_fault n (payload.BadTable at) reading es fails misfit is = absurd (cc (sym fails ∙ is))
+said_no_fault n (payload.BadKind at) reading es fails misfit is = absurd (cc (sym fails ∙ is))
+said_no_fault n (payload.BadColumn at) reading es fails misfit is = absurd (cc (sym fails ∙ is))
+said_no_fault n (payload.BadCell at) reading es fails misfit is = absurd (cc (sym fails ∙ is))
+
+-- the commit that a payload says, over the table that those before it leave
+pub said_at : (schema : Columns) (table : ℕ) (t : Table) (commits : List Effects) (payloads : List (List ℕ)) (i : ℕ)
+    → AreCommits schema t commits → AreSaid schema table t commits payloads → i < length payloads
+    → (x : Effects) × AreOver schema (table_with_all t (take i commits)) x
+    × (entries_in schema table (get_or payloads i []) ≡ Ok (canonical_entries (table_with_all t (take i commits)) x))
+    × (take (suc i) commits ≡ take i commits ++ x ∷ [])
+said_at schema table t commits [] i h s lt = absurd (omega (arith, lt))
+said_at schema table t [] (p ∷ payloads) i h s lt = absurd s
+said_at schema table t (x ∷ commits) (p ∷ payloads) zero h s lt = (x, h.0, s.0, refl)
+said_at schema table t (x ∷ commits) (p ∷ payloads) (suc i) h s lt =
+    let rest = said_at schema table (table_with t x) commits payloads i h.1 s.1 (omega (arith, lt)) in
+    (rest.0, rest.1, rest.2, ap (λ (cs : List Effects). x ∷ cs) rest.3)

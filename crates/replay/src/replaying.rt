@@ -1,13 +1,14 @@
 //! Logged commits, made again one after the other.
-ghost use Rattle.std.specs.Prelude.{◌≡◌, OnErr, OnOk, IfErr, length, map};
-ghost use Rattle.codec.specs.Reading.{decoded};
+ghost use Rattle.std.specs.Prelude.{◌≡◌, List, Ok, OnErr, OnOk, IfErr, length, map};
+ghost use Rattle.codec.specs.Reading.{decoded, entries_in};
 ghost use Rattle.manager.specs.Managed.{newest_table};
-ghost use Rattle.model.specs.Effects.{AreOver, Effects};
+ghost use Rattle.model.specs.Effects.{AreOver, Effects, table_with};
 ghost use Rattle.model.specs.Entries.{canonical_entries};
+ghost use Rattle.model.specs.Laws.{AreCommits};
 ghost use Rattle.model.specs.Merging.{merged_rows};
 ghost use Rattle.model.specs.Table.{rows_of};
 ghost use Rattle.replay.specs.Recovered.{IsLate};
-ghost use Rattle.replay.specs.Replayed.{IsReplayed, rows_after};
+ghost use Rattle.replay.specs.Replayed.{AreSaid, IsMisfit, IsReplayed, fault_of_payload, rows_after};
 
 use crate::fault::{CommitFault, RecoverFault};
 use crate::fitting::tree_over;
@@ -41,10 +42,17 @@ pub fn replay(
     ensures ok { OnOk result (IsReplayed manager.old (rows_after (rows_of (newest_table manager.old))
         (map (λ f. decoded manager.old.schema table f.payload.now) frames.now)) (length frames.now) manager.new) }
     ensures late { IfErr result IsLate }
+
+    // Frames that say commits of the table are no misfit.
+    ensures fits { IfErr result (λ fault. IsMisfit fault → (commits : List Effects)
+        → AreCommits manager.old.schema (newest_table manager.old) commits
+        → AreSaid manager.old.schema table (newest_table manager.old) commits (map (λ f. f.payload.now) frames.now) → ⊥) }
 {
     for frame in frames {
-        replay_frame(alloc, manager, table, frame)?;
-        fold_where_large(manager)?;
+        match replay_frame(alloc, manager, table, frame) {
+            Ok(()) => fold_where_large(manager)?,
+            Err(fault) => return Err(fault),
+        }
     }
     Ok(())
 }
@@ -59,12 +67,16 @@ fn replay_frame(
     ensures ok { OnOk result (IsReplayed manager.old (merged_rows (rows_of (newest_table manager.old))
         (decoded manager.old.schema table frame.now.payload.now)) 1 manager.new) }
     ensures late { IfErr result IsLate }
+    ensures table { OnOk result ((x : Effects) → AreOver manager.old.schema (newest_table manager.old) x
+        → entries_in manager.old.schema table frame.now.payload.now ≡ Ok (canonical_entries (newest_table manager.old) x)
+        → newest_table manager.new ≡ table_with (newest_table manager.old) x) }
+    ensures fits { IfErr result (λ fault. IsMisfit fault → (x : Effects) → AreOver manager.old.schema (newest_table manager.old) x
+        → entries_in manager.old.schema table frame.now.payload.now ≡ Ok (canonical_entries (newest_table manager.old) x) → ⊥) }
 {
     let schema = manager.newest().schema();
     let entries = match read_part(alloc, schema, table, frame.payload) {
         Ok(entries) => entries,
-        Err(PayloadFault::NoMemory) => return Err(RecoverFault::NoMemory),
-        Err(fault) => return Err(RecoverFault::BadPayload(frame.number, fault)),
+        Err(fault) => return Err(fault_of_payload(frame.number, fault)),
     };
     match replay_commit(alloc, manager, entries) {
         Ok(()) => Ok(()),
@@ -74,9 +86,24 @@ fn replay_frame(
     }
 }
 
+/// The fault of a frame by that of its payload.
+fn fault_of_payload(number: u64, fault: PayloadFault) -> RecoverFault
+    ensures { result ≡ fault_of_payload number fault }
+{
+    match fault {
+        PayloadFault::NoMemory => RecoverFault::NoMemory,
+        PayloadFault::Short(_)
+        | PayloadFault::BadTable(_)
+        | PayloadFault::BadKind(_)
+        | PayloadFault::BadColumn(_)
+        | PayloadFault::BadCell(_) => RecoverFault::BadPayload(number, fault),
+    }
+}
+
 /// Folds the Write-PDT where it is large.
 fn fold_where_large(manager: &mut Manager) -> Result<(), NoMemory>
-    ensures { OnOk result (IsReplayed manager.old (rows_of (newest_table manager.old)) 0 manager.new) }
+    ensures ok { OnOk result (IsReplayed manager.old (rows_of (newest_table manager.old)) 0 manager.new) }
+    ensures table { OnOk result (newest_table manager.new ≡ newest_table manager.old) }
 {
     if manager.write_tree().len() > FOLD_ABOVE {
         manager.fold()?;
@@ -97,6 +124,8 @@ pub fn replay_commit(
     entries: Vec<Entry>,
 ) -> Result<(), CommitFault>
     ensures ok { OnOk result (IsReplayed manager.old (merged_rows (rows_of (newest_table manager.old)) entries.items) 1 manager.new) }
+    ensures table { OnOk result ((x : Effects) → AreOver manager.old.schema (newest_table manager.old) x
+        → entries.items ≡ canonical_entries (newest_table manager.old) x → newest_table manager.new ≡ table_with (newest_table manager.old) x) }
     ensures misfit { IfErr result (λ fault. fault ≡ CommitFault.Misfit → (x : Effects)
         → AreOver manager.old.schema (newest_table manager.old) x → entries.items ≡ canonical_entries (newest_table manager.old) x → ⊥) }
     ensures err { OnErr result (manager.new ≡ manager.old) }

@@ -1,4 +1,4 @@
-use Rattle.std.proofs.Common.{◌≡◌, List, Option, ap, subst}
+use Rattle.std.proofs.Common.{◌≡◌, List, Option, sym, ap, ◌∙◌, subst}
 use Rattle.std.specs.Prelude.{IfSome}
 use Rattle.values.specs.Shape.{Columns}
 use Rattle.model.specs.declared.entry.Entry.{Entry}
@@ -8,21 +8,39 @@ use Rattle.delta.specs.Tree.{Tree}
 use Rattle.merge.specs.Image.{IsLayer, image_table}
 use Rattle.manager.specs.Managed.{newest_table}
 use Rattle.replay.specs.Replayed.{IsReplayed}
-use Rattle.replay.proofs.ReplayLemmas.{redone_replayed}
+use Rattle.replay.proofs.ReplayLemmas.{redone_replayed, same_table}
+use Rattle.replay.proofs.replaying.replay_commit.Goals.{After-redo}
 use Rattle.replay.proofs.replaying.replay_commit.Goals as goal
+
+module _ (c : After-redo) where
+  -- the tree that was made is a layer over the newest table
+  layer : IsLayer c.args.manager.now.schema (newest_table c.args.manager.now) c.in-Some.tree
+  layer =
+      let above : IsLayer c.newest.result.schema (image_table c.newest.result) c.in-Some.tree =
+      subst (λ (found : Option Tree). IfSome found (λ t. IsLayer c.newest.result.schema (image_table c.newest.result) t)) c.in-Some.is
+      c.in_ok-tree.ensures.layer in
+      subst (λ (e : Columns × Table). IsLayer e.0 e.1 c.in-Some.tree)
+      (λ i. (c.newest.ensures.schema i, c.newest.ensures.table i)) above
+
+  -- of the entries given
+  entries : c.in-Some.tree.entries ≡ c.args.entries.items
+  entries =
+      ap (λ (t : Tree). t.entries)
+      (subst
+      (λ (found : Option Tree). IfSome found (λ t. t ≡ record { key_cols = c.newest.result.schema.key_cols; entries = c.args.entries.items }))
+      c.in-Some.is c.in_ok-tree.ensures.entries)
+
+pub returns-in-Ok-clause-table : goal.returns-in-Ok-clause-table
+returns-in-Ok-clause-table c = λ x over is.
+    let m = c.args.manager.now in
+    let before = (goal.at.returns-in-Ok-clause-table c).After-redo in
+    let w = layer before in
+    ap newest_table (c.in-Ok.ensures.ok w).kept
+    ∙ same_table c.merges_to_table.ensures m.schema (newest_table m) w.effects x w.over over (sym w.entries ∙ entries before ∙ is)
 
 pub returns-in-Ok-clause-ok : goal.returns-in-Ok-clause-ok
 returns-in-Ok-clause-ok c =
     let m = c.args.manager.now in
-    let tree = c.in-Some.tree in
-    let above : IsLayer c.newest.result.schema (image_table c.newest.result) tree =
-    subst (λ (found : Option Tree). IfSome found (λ t. IsLayer c.newest.result.schema (image_table c.newest.result) t)) c.in-Some.is
-    c.in_ok-tree.ensures.layer in
-    let w : IsLayer m.schema (newest_table m) tree =
-    subst (λ (e : Columns × Table). IsLayer e.0 e.1 tree) (λ i. (c.newest.ensures.schema i, c.newest.ensures.table i)) above in
-    let entries : tree.entries ≡ c.args.entries.items =
-    ap (λ (t : Tree). t.entries)
-    (subst (λ (found : Option Tree). IfSome found (λ t. t ≡ record { key_cols = c.newest.result.schema.key_cols; entries = c.args.entries.items }))
-    c.in-Some.is c.in_ok-tree.ensures.entries) in
-    subst (λ (es : List Entry). IsReplayed m (merged_rows (rows_of (newest_table m)) es) 1 c.redo.new.self) entries
-    (redone_replayed m c.redo.new.self tree w c.merges_to_table.ensures (c.in-Ok.ensures.ok w))
+    let before = (goal.at.returns-in-Ok-clause-ok c).After-redo in
+    subst (λ (es : List Entry). IsReplayed m (merged_rows (rows_of (newest_table m)) es) 1 c.redo.new.self) (entries before)
+    (redone_replayed m c.redo.new.self c.in-Some.tree (layer before) c.merges_to_table.ensures (c.in-Ok.ensures.ok (layer before)))

@@ -1,6 +1,7 @@
-use Rattle.std.proofs.Common.{◌≡◌, List, sym, ap, ◌∙◌, subst}
+use Rattle.std.proofs.Common.{◌≡◌, Result, Ok, List, sym, ap, ◌∙◌, subst}
 use Rattle.values.specs.Shape.{Columns}
 use Rattle.codec.specs.Reading.{decoded, entries_or_none}
+use Rattle.codec.specs.declared.fault.PayloadFault.{PayloadFault}
 use Rattle.model.specs.declared.entry.Entry.{Entry}
 use Rattle.model.specs.Merging.{merged_rows}
 use Rattle.model.specs.Table.{rows_of}
@@ -16,3 +17,8 @@ returns-in-Ok-replay_commit-clause-ok c =
     ap (λ (s : Columns). decoded s c.args.table c.args.frame.now.payload.now) (sym columns) ∙ ap entries_or_none c.in-Ok.ensures in
     subst (λ (es : List Entry). IsReplayed m (merged_rows (rows_of (newest_table m)) es) 1 c.replay_commit.new.manager) (sym said)
     c.in-Ok-replay_commit.ensures.ok
+
+-- what the payload says is what was read
+said : (es : List Entry) (reading : Result (List Entry) PayloadFault) (others : List Entry) → reading ≡ Ok es → reading ≡ Ok others
+    → es ≡ others
+said es reading others is other = ap entries_or_none (sym is ∙ other)
