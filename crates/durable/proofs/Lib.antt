@@ -1,1 +1,2 @@
 mod PreparedLemmas
+mod JournaledLemmas

@@ -1,20 +1,17 @@
 -- What was prepared for a commit, where it is granted.
-use Rattle.std.proofs.Common.{◌≡◌, ℕ, suc, ◌+◌, ◌-◌, ◌<◌, ◌≤◌, Bool, true, false, ◌||◌, Option, Some, None, Result, Ok, Err, List, [], ◌∷◌, length, take, drop, refl, sym, ap, ◌∙◌, subst, arith}
+use Rattle.std.proofs.Common.{◌≡◌, ℕ, suc, ◌-◌, ◌≤◌, Bool, false, Option, Some, None, Result, Ok, Err, length, take, refl, sym, ap, ◌∙◌, subst, arith}
 use Rattle.std.specs.Prelude.{OnOk, nat_lt, option_map}
 use Rattle.std.specs.List.{list_any}
-use Rattle.std.proofs.lemmas.Bool.Decides.{nat_tests}
 use Rattle.values.specs.Shape.{Columns}
 use Rattle.values.specs.declared.limits.TheConstants.{MAX_ROWS}
 use Rattle.model.specs.declared.write.CommitReply.{CommitReply}
 use Rattle.model.specs.declared.write.CommitReply.TheVariants.{Committed, Conflict, TooOld, Full}
-use Rattle.model.specs.declared.entry.Entry.{Entry}
 use Rattle.model.specs.Clashes.{conflicts}
-use Rattle.model.specs.Effects.{AreOver, Effects, table_with}
-use Rattle.model.specs.Entries.{canonical_entries}
+use Rattle.model.specs.Effects.{AreOver, table_with}
 use Rattle.model.specs.History.{table_with_all}
 use Rattle.model.specs.Laws.{AreCommits}
 use Rattle.model.specs.Table.{Table}
-use Rattle.model.proofs.CallerLemmas.{AreCommits-drop, commits_fit, fits_newest, left_false, table_with_all-drop}
+use Rattle.model.proofs.CallerLemmas.{AreCommits-drop, commits_fit, fits_newest, table_with_all-drop}
 use Rattle.delta.specs.Tree.{Tree}
 use Rattle.txn.specs.Txn.{IsTransaction, Transaction, effects_of}
 use Rattle.txn.proofs.CallerLemmas.{over}

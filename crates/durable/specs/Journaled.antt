@@ -6,7 +6,7 @@ use Rattle.model.specs.Effects.{Effects}
 use Rattle.model.specs.History.{table_with_all, commits_with}
 use Rattle.model.specs.Table.{Table}
 use Rattle.txn.specs.Txn.{Transaction, effects_of}
-use Rattle.manager.specs.Managed.{Managed, newest_number, newest_table}
+use Rattle.manager.specs.Managed.{newest_number, newest_table}
 use Rattle.codec.specs.Reading.{decoded}
 use Rattle.journal.specs.Frame.{Logged, journal_bytes}
 use Rattle.replay.specs.Recovered.{Logs}
@@ -20,19 +20,17 @@ pub record Journal : Type 0 where
   pub commits : List Effects
   pub logged : List Logged
 
--- the frames after a reply
-abbrev pub logged_with : List Logged → Logged → CommitReply → List Logged
-logged_with logged l (Committed n) = logged ++ l ∷ []
-logged_with logged l (Conflict n) = logged
-logged_with logged l (TooOld n) = logged
-logged_with logged l (Full n) = logged
+-- the frames after a reply to a transaction
+abbrev pub logged_with : Durable → Transaction → List Logged → CommitReply → List Logged
+logged_with d txn logged (Committed n) = logged ++ logged_of d txn n ∷ []
+logged_with d txn logged (Conflict n) = logged
+logged_with d txn logged (TooOld n) = logged
+logged_with d txn logged (Full n) = logged
 
 -- the journal after a reply to a transaction
 abbrev pub journal_with : Durable → Transaction → CommitReply → Journal → Journal
-journal_with d txn reply j = record j {
-  commits = commits_with j.commits (effects_of txn) reply;
-  logged = logged_with j.logged (logged_of d txn (newest_number d.manager + 1)) reply;
-}
+journal_with d txn reply j =
+    record j { commits = commits_with j.commits (effects_of txn) reply; logged = logged_with d txn j.logged reply }
 
 -- a durable manager has logged these commits: they lead to its newest table, and their frames are what its log was handed
 pub record IsJournaled (d : Durable) (j : Journal) : Type 0 where

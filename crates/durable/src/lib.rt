@@ -10,7 +10,9 @@
 
 mod durable;
 mod fault;
+mod laws;
 mod logged;
 
 pub use durable::{Durable, Parts};
 pub use fault::CommitFault;
+pub use laws::{a_commit_is_journaled, a_crash_leaves_the_commits};

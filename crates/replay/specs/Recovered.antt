@@ -1,5 +1,5 @@
 -- What is recovered of a journal after a crash.
-use Rattle.std.specs.Prelude.{◌≡◌, ◌≤◌, ℕ, ◌+◌, ◌-◌, ◌^◌, List, length, map, take, drop}
+use Rattle.std.specs.Prelude.{◌≡◌, ◌≢◌, ◌<◌, ◌≤◌, ℕ, ◌+◌, ◌-◌, ◌^◌, List, length, map, take, drop}
 use Rattle.values.specs.Shape.{Columns}
 use Rattle.values.specs.declared.row.Row.{Row}
 use Rattle.model.specs.declared.entry.Entry.{Entry}
@@ -10,9 +10,13 @@ use Rattle.model.specs.History.{table_with_all}
 use Rattle.journal.specs.Crash.{IsLeft}
 use Rattle.journal.specs.Frame.{AreLogged, Logged}
 use Rattle.journal.specs.Laws.{IsSeed}
-use Rattle.journal.specs.Reading.{read_of}
+use Rattle.journal.specs.Reading.{Read, read_of}
+use Rattle.journal.specs.declared.frame.Ending.{Ending}
+use Rattle.journal.specs.declared.frame.Ending.TheVariants.{End, Torn, Rot, Gap}
 use Rattle.manager.specs.Managed.{Managed, newest_number, newest_table}
 use Rattle.replay.specs.Replayed.{rows_after}
+use Rattle.replay.specs.declared.fault.RecoverFault.{RecoverFault}
+use Rattle.replay.specs.declared.fault.RecoverFault.TheVariants as fault
 
 -- frames log commits over a table: under the numbers from a base on, each by the entries that a payload says
 pub record Logs (decode : List ℕ → List Entry) (schema : Columns) (base : ℕ) (t : Table) (commits : List Effects) (logged : List Logged) :
@@ -63,3 +67,36 @@ pub record HasPrefix (base : ℕ) (t : Table) (commits : List Effects) (safe : �
   pub inside : whole ≤ length commits
   pub number : newest_number m ≡ base + whole
   pub rows_are : rows_of (newest_table m) ≡ rows_of (table_at t commits whole)
+
+-- ---- what is told of bytes that aren't recovered from
+
+-- a journal may end so after a crash
+abbrev pub MayEnd : Ending → Type 0
+MayEnd End = Unit {0}
+MayEnd Torn = Unit {0}
+MayEnd Rot = ⊥
+MayEnd Gap = ⊥
+
+-- whether a fault is one of an opening or of a frame that was read
+abbrev pub IsLate : RecoverFault → Type 0
+IsLate (fault.Rot n) = ⊥
+IsLate (fault.Gap n) = ⊥
+IsLate fault.NumbersSpent = ⊥
+IsLate (fault.BadPayload n payload) = Unit {0}
+IsLate (fault.Misfit n) = Unit {0}
+IsLate fault.BadLimit = Unit {0}
+IsLate fault.TooManyRows = Unit {0}
+IsLate fault.NoMemory = Unit {0}
+
+-- the first frame that isn't read is damaged though it was safe; or it is missing: another one stands there, or the journal begins
+-- after the image or ends before it
+abbrev pub IsTold : RecoverFault → ℕ → ℕ → Read → Type 0
+IsTold (fault.Rot n) base number read = (read.ending ≡ Rot) × (n ≡ base + 1 + length read.logged)
+IsTold (fault.Gap n) base number read =
+    ((read.ending ≢ Gap) → base ≤ number → base + length read.logged < number) × (n ≡ base + 1 + length read.logged)
+IsTold fault.NumbersSpent base number read = 2 ^ 62 < number
+IsTold (fault.BadPayload n payload) base number read = MayEnd read.ending
+IsTold (fault.Misfit n) base number read = MayEnd read.ending
+IsTold fault.BadLimit base number read = MayEnd read.ending
+IsTold fault.TooManyRows base number read = MayEnd read.ending
+IsTold fault.NoMemory base number read = Unit {0}

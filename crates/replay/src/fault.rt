@@ -4,7 +4,6 @@ ghost use Rattle.replay.specs.declared.fault.CommitFault.TheVariants as commit_f
 ghost use Rattle.replay.specs.declared.fault.RecoverFault.TheVariants as recover_fault;
 
 use codec::PayloadFault;
-use manager::OpenFault;
 use thiserror::Error;
 use values::NoMemory;
 
@@ -65,15 +64,5 @@ impl From<NoMemory> for RecoverFault {
 
     fn from(_: NoMemory) -> RecoverFault {
         RecoverFault::NoMemory
-    }
-}
-
-impl From<OpenFault> for RecoverFault {
-    fn from(fault: OpenFault) -> RecoverFault {
-        match fault {
-            OpenFault::BadLimit => RecoverFault::BadLimit,
-            OpenFault::TooManyRows => RecoverFault::TooManyRows,
-            OpenFault::NoMemory => RecoverFault::NoMemory,
-        }
     }
 }

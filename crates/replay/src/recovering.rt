@@ -1,18 +1,18 @@
 //! A table, recovered from an image of it and a journal.
-ghost use Rattle.std.specs.Prelude.{◌≡◌, ℕ, ◌+◌, ◌-◌, ◌<◌, ◌≤◌, ◌^◌, List, IfOk, IfSome, IsNone, length, map};
+ghost use Rattle.std.specs.Prelude.{◌≡◌, ℕ, ◌+◌, ◌-◌, ◌<◌, ◌≤◌, ◌^◌, List, IfErr, IfOk, IfSome, IsNone, length, map};
 ghost use Rattle.codec.specs.Reading.{decoded};
 ghost use Rattle.journal.specs.Reading.{read_of};
-ghost use Rattle.manager.specs.Managed.{newest_number, newest_table};
+ghost use Rattle.manager.specs.Managed.{newest_number, newest_table, opened_at};
 ghost use Rattle.model.specs.Effects.{Effects};
 ghost use Rattle.model.specs.Table.{Table, rows_of};
-ghost use Rattle.replay.specs.Recovered.{HasPrefix, IsCrashed, IsImage, logged_since};
+ghost use Rattle.replay.specs.Recovered.{HasPrefix, IsCrashed, IsImage, IsLate, IsTold, MayEnd, logged_since};
 ghost use Rattle.replay.specs.Replayed.{rows_after};
 
 use crate::fault::RecoverFault;
 use crate::laws::recovery_is_a_prefix;
 use crate::replaying::replay;
 use journal::{Ending, Reading, read_frames};
-use manager::Manager;
+use manager::{Manager, OpenFault};
 use model::ConflictRule;
 use stable::StableTable;
 use std::alloc::Global;
@@ -84,6 +84,11 @@ pub fn recover(
     ensures whole { IfOk result (λ r. r.whole ≡ length frames.entry.bytes.now
         - length (read_of frames.entry.seed (frames.entry.base + 1) frames.entry.bytes.now).rest) }
 
+    // No rot and no gap is passed over, and each is told with its commit.
+    ensures ending { IfOk result (λ r. MayEnd (read_of frames.entry.seed (frames.entry.base + 1) frames.entry.bytes.now).ending) }
+    ensures fault { IfErr result (λ fault. IsTold fault frames.entry.base image.number
+        (read_of frames.entry.seed (frames.entry.base + 1) frames.entry.bytes.now)) }
+
     // Wherever a crash fell: it is the table after the first commits, as many as the device said were safe, or more.
     ensures prefix { IfOk result (λ r. (t : Table) (commits : List Effects) (safe : ℕ)
         → IsCrashed (decoded image.table.schema table) image.table.schema frames.entry.seed frames.entry.base t commits safe frames.entry.bytes.now
@@ -104,19 +109,38 @@ pub fn recover(
     if image.number > MAX_NUMBER {
         return Err(RecoverFault::NumbersSpent);
     }
-    let mut manager = Manager::open_at(
-        alloc,
-        image.table,
-        image.number,
-        limits.recent,
-        limits.row_limit,
-        limits.conflicts,
-    )?;
+    let mut manager = opened(alloc, image, limits)?;
     replay(alloc, &mut manager, table, &reading.frames[skipped..])?;
     Ok(Recovered {
         manager,
         whole: frames.bytes.len().saturating_sub(reading.rest.len()),
     })
+}
+
+/// The manager of an image.
+fn opened(alloc: Global, image: Image, limits: Limits) -> Result<Manager, RecoverFault>
+    requires few { image.number ≤ 2 ^ 62 }
+    ensures ok { IfOk result (λ manager. manager ≡ opened_at image.number image.table limits.row_limit limits.recent limits.conflicts) }
+    ensures fault { IfErr result IsLate }
+{
+    let Limits {
+        row_limit,
+        recent,
+        conflicts,
+    } = limits;
+    match Manager::open_at(
+        alloc,
+        image.table,
+        image.number,
+        recent,
+        row_limit,
+        conflicts,
+    ) {
+        Ok(manager) => Ok(manager),
+        Err(OpenFault::BadLimit) => Err(RecoverFault::BadLimit),
+        Err(OpenFault::TooManyRows) => Err(RecoverFault::TooManyRows),
+        Err(OpenFault::NoMemory) => Err(RecoverFault::NoMemory),
+    }
 }
 
 /// How many of the frames an image of this number has already; none where the journal begins after it, or ends before it.

@@ -6,6 +6,7 @@ ghost use Rattle.model.specs.Effects.{AreOver, Effects};
 ghost use Rattle.model.specs.Entries.{canonical_entries};
 ghost use Rattle.model.specs.Merging.{merged_rows};
 ghost use Rattle.model.specs.Table.{rows_of};
+ghost use Rattle.replay.specs.Recovered.{IsLate};
 ghost use Rattle.replay.specs.Replayed.{IsReplayed, rows_after};
 
 use crate::fault::{CommitFault, RecoverFault};
@@ -37,8 +38,9 @@ pub fn replay(
     table: u32,
     frames: &[Frame<'_>],
 ) -> Result<(), RecoverFault>
-    ensures { OnOk result (IsReplayed manager.old (rows_after (rows_of (newest_table manager.old))
+    ensures ok { OnOk result (IsReplayed manager.old (rows_after (rows_of (newest_table manager.old))
         (map (λ f. decoded manager.old.schema table f.payload.now) frames.now)) (length frames.now) manager.new) }
+    ensures late { IfErr result IsLate }
 {
     for frame in frames {
         replay_frame(alloc, manager, table, frame)?;
@@ -54,8 +56,9 @@ fn replay_frame(
     table: u32,
     frame: &Frame<'_>,
 ) -> Result<(), RecoverFault>
-    ensures { OnOk result (IsReplayed manager.old (merged_rows (rows_of (newest_table manager.old))
+    ensures ok { OnOk result (IsReplayed manager.old (merged_rows (rows_of (newest_table manager.old))
         (decoded manager.old.schema table frame.now.payload.now)) 1 manager.new) }
+    ensures late { IfErr result IsLate }
 {
     let schema = manager.newest().schema();
     let entries = match read_part(alloc, schema, table, frame.payload) {

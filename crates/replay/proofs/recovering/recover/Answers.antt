@@ -42,7 +42,7 @@ opened_number c = let none : c.args.image.number + 0 ≡ c.args.image.number = o
 pub returns-clause-rows : goal.returns-clause-rows
 returns-clause-rows c =
     let before = (goal.at.returns-clause-rows c).After-replay in
-    c.in_ok-replay.ensures.rows_are
+    c.in_ok-replay.ensures.ok.rows_are
     ∙ (λ i. rows_after (opened_rows before i) (map (λ f. decoded (opened_schema before i) c.args.table f.payload.now)
     (take (length c.deref.result.now - c.in-Some.skipped) (drop c.in-Some.skipped c.deref.result.now))))
     ∙ ap (rows_after c.args.image.table.rows) (since before)
@@ -54,7 +54,7 @@ returns-clause-number c =
     ≡ length (logged_since (decoded c.args.image.table.schema c.args.table) c.args.frames.seed c.args.frames.base c.args.image.number
     c.args.frames.bytes.now) =
     sym (length-map _ _) ∙ ap (λ (es : List (List Entry)). length es) (since before) in
-    c.in_ok-replay.ensures.number ∙ (λ i. opened_number before i + count i)
+    c.in_ok-replay.ensures.ok.number ∙ (λ i. opened_number before i + count i)
 
 pub returns-clause-prefix : goal.returns-clause-prefix
 returns-clause-prefix c = λ t commits safe crashed image.
@@ -66,7 +66,7 @@ returns-clause-prefix c = λ t commits safe crashed image.
     sym (length-map _ _) ∙ ap (λ (es : List (List Entry)). length es) (since before) in
     has_prefix c.recovery_is_a_prefix.ensures (decoded c.args.image.table.schema c.args.table) c.args.image.table.schema c.args.frames.seed
     c.args.frames.base t commits safe c.args.image.number c.args.frames.bytes.now c.args.image.table.rows c.replay.new.manager crashed image
-    (c.in_ok-replay.ensures.rows_are
+    (c.in_ok-replay.ensures.ok.rows_are
     ∙ (λ i. rows_after (opened_rows before i) (map (λ f. decoded (opened_schema before i) c.args.table f.payload.now) slice))
     ∙ ap (rows_after c.args.image.table.rows) (since before))
-    (c.in_ok-replay.ensures.number ∙ (λ i. opened_number before i + count i))
+    (c.in_ok-replay.ensures.ok.number ∙ (λ i. opened_number before i + count i))

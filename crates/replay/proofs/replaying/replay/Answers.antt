@@ -20,4 +20,4 @@ loop-frame-preserved c =
     c.fold_where_large.new.manager (rows_of (newest_table m)) c.args.frames.now i nothing
     (decoded c.loop-frame.manager.schema c.args.table (get_or c.args.frames.now i nothing).payload.now) c.loop-frame-test.true
     (ap (λ (s : Columns). decoded s c.args.table (get_or c.args.frames.now i nothing).payload.now) before.schema) before
-    c.in_ok-replay_frame.ensures c.in_ok-fold_where_large.ensures
+    c.in_ok-replay_frame.ensures.ok c.in_ok-fold_where_large.ensures

@@ -8,8 +8,8 @@ use Rattle.manager.specs.Managed.{newest_table}
 use Rattle.replay.specs.Replayed.{IsReplayed}
 use Rattle.replay.proofs.replaying.replay_frame.Goals as goal
 
-pub returns-in-Ok-replay_commit : goal.returns-in-Ok-replay_commit
-returns-in-Ok-replay_commit c =
+pub returns-in-Ok-replay_commit-clause-ok : goal.returns-in-Ok-replay_commit-clause-ok
+returns-in-Ok-replay_commit-clause-ok c =
     let m = c.args.manager.now in
     let columns = c.schema-schema.ensures ∙ c.newest.ensures.schema in
     let said : decoded m.schema c.args.table c.args.frame.now.payload.now ≡ c.in-Ok.entries.items =
