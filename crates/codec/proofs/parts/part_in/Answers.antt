@@ -29,7 +29,7 @@ loop-rest-preserved-then-part-table c =
     record {
       left = omega (arith, c.in_ok-part.ensures.shorter, c.loop-rest.invariant.left);
       within = c.in_ok-part.ensures.within;
-      read = rw (eq-eqb span.table c.args.table c.if-part-table.true) at on;
+      read = rw (eq-eqb span.table c.args.table (omega (arith, c.if-part-table.true))) at on;
     }
 
 pub loop-rest-preserved : goal.loop-rest-preserved
