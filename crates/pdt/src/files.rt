@@ -35,10 +35,12 @@ pub(crate) fn store_paths(alloc: Global, dir: &str, width: usize) -> Result<Vec<
     Ok(paths)
 }
 
-/// Makes the files of a store, the first with this header, and a device over each of the others. Where one is there already none
-/// is made, and where one can't be made, what was made is taken away again.
+/// Makes the files of a store in the folder, the first with this header, and a device over each of the others. Where one is there
+/// already none is made, and where one can't be made, what was made is taken away again. The header and the files' names are on
+/// disk when this returns.
 pub(crate) fn make_store(
     rt: &HostRuntime,
+    dir: &str,
     paths: &[String],
     header: &[u8],
 ) -> Result<Vec<Box<FileColumn>>, Refusal> {
@@ -48,7 +50,7 @@ pub(crate) fn make_store(
     let made = make_files(rt, paths, &mut files);
     let count = files.len();
     let columns = match made {
-        Ok(()) => columns_over(rt.alloc(), files, header),
+        Ok(()) => lasting_columns(rt, dir, files, header),
         Err(refusal) => Err(refusal),
     };
     if columns.is_err() {
@@ -95,7 +97,19 @@ fn new_file(rt: &HostRuntime, path: &str) -> Result<File, Refusal> {
     }
 }
 
-/// Writes the header into the first file, and makes a device over each of the others.
+/// The devices over a store's files, once the header and the files' names are on disk.
+fn lasting_columns(
+    rt: &HostRuntime,
+    dir: &str,
+    files: Vec<File>,
+    header: &[u8],
+) -> Result<Vec<Box<FileColumn>>, Refusal> {
+    let columns = columns_over(rt.alloc(), files, header)?;
+    sync_folder(rt, dir)?;
+    Ok(columns)
+}
+
+/// Writes the header into the first file, to the disk, and makes a device over each of the others.
 fn columns_over(
     alloc: Global,
     files: Vec<File>,
@@ -104,7 +118,7 @@ fn columns_over(
     let mut columns = Vec::new(alloc);
     let mut files = files.into_iter();
     if let Some(mut first) = files.next() {
-        if first.write_all(header).is_err() {
+        if first.write_all(header).is_err() || first.sync_data().is_err() {
             return Err(Refusal::CannotMake);
         }
     }
@@ -113,6 +127,21 @@ fn columns_over(
         columns.push(Box::new(alloc, column)?)?;
     }
     Ok(columns)
+}
+
+/// Has the names of a folder's files on disk. A folder that the user may not read is passed over, and so is one whose file system
+/// has no such call: more can't be done there.
+fn sync_folder(rt: &HostRuntime, dir: &str) -> Result<(), Refusal> {
+    let folder = match File::open(rt, dir) {
+        Ok(folder) => folder,
+        Err(fault) if fault.kind() == io::ErrorKind::PermissionDenied => return Ok(()),
+        Err(_) => return Err(Refusal::CannotMake),
+    };
+    match folder.sync_all() {
+        Ok(()) => Ok(()),
+        Err(fault) if fault.kind() == io::ErrorKind::InvalidInput => Ok(()),
+        Err(_) => Err(Refusal::CannotMake),
+    }
 }
 
 /// A stored column's bytes, or the refusal of its file.

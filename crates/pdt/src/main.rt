@@ -207,7 +207,7 @@ fn run_in_folder<T: Threads + Wait + Sync>(
         alloc,
         opened.schema().width(),
     )?;
-    for column in make_store(rt, paths.as_slice(), header.as_slice())? {
+    for column in make_store(rt, dir, paths.as_slice(), header.as_slice())? {
         devices.push(column)?;
     }
     let answer = run_over(rt, turns, opened, devices);
