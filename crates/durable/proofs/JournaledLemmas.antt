@@ -1,8 +1,8 @@
 -- What a journal has after a reply, and after a crash.
-use Rattle.std.proofs.Common.{◌≡◌, ℕ, suc, ◌+◌, ◌<◌, ◌≤◌, ◌^◌, Bool, false, cond, List, [], ◌∷◌, ◌++◌, length, take, refl, sym, ap, ◌∙◌, subst, arith, length-append}
+use Rattle.std.proofs.Common.{◌≡◌, ℕ, suc, ◌+◌, ◌-◌, ◌<◌, ◌≤◌, ◌^◌, Bool, false, cond, List, [], ◌∷◌, ◌++◌, length, take, refl, sym, ap, ◌∙◌, subst, arith, length-append}
 use Rattle.std.specs.Prelude.{nat_lt}
 use Rattle.std.specs.List.{list_any}
-use Rattle.std.proofs.Math.Seq.{take-length}
+use Rattle.std.proofs.Math.Seq.{take-append-add, take-length}
 use Rattle.std.proofs.lemmas.List.{append-nil, append_assoc, length-map, map-append}
 use Rattle.std.proofs.lemmas.List.Concat.{flat_map-cons}
 use Rattle.values.specs.Shape.{Columns}
@@ -18,14 +18,16 @@ use Rattle.model.specs.Laws.{AreCommits, trees_of}
 use Rattle.model.specs.Table.{Table}
 use Rattle.journal.specs.Frame.{AreLogged, Logged, frame_bytes, journal_bytes}
 use Rattle.journal.specs.Laws.{AJournalGoesOn}
+use Rattle.journal.specs.Crash.{IsLeft}
+use Rattle.logging.specs.Laws.{ADeviceLeavesAFrame}
 use Rattle.logging.specs.Log.{Log}
 use Rattle.txn.specs.Txn.{IsTransaction, Transaction, effects_of}
-use Rattle.manager.specs.Managed.{IsDecided, IsManaged, IsOwn, Managed, commits_in, commits_since, is_too_old, newest_number, newest_table, record_of}
+use Rattle.manager.specs.Managed.{IsDecided, IsManaged, IsOwn, Managed, commits_in, commits_since, is_too_old, newest_number, newest_table, record_of, reply_due}
 use Rattle.manager.proofs.CallerLemmas.{above_base, commits_from-append, granted_when, recorded_is, table_with_all-one}
 use Rattle.replay.specs.Recovered.{Logs}
-use Rattle.durable.specs.Durable.{Durable, IsLogged, logged_of}
+use Rattle.durable.specs.Durable.{Durable, IsLogged, IsReadAgain, logged_of}
 use Rattle.durable.specs.Journaled.{IsJournaled, Journal, journal_with}
-use Rattle.durable.specs.Laws.{ACommitIsJournaled, ACrashLeavesTheCommits}
+use Rattle.durable.specs.Laws.{ACommitIsJournaled, ACrashInACommit, ACrashLeavesTheCommits}
 use Rattle.durable.proofs.PreparedLemmas.{granted_over, same_number}
 
 -- ---- commits, and one more
@@ -94,31 +96,34 @@ module _ (m new : Managed) (txn : Transaction) (reply : CommitReply) (d : IsDeci
   same_count : commits_in new ≡ commits_in m → newest_number new ≡ newest_number m
   same_count e = λ i. (start_is i).base + length (e i)
 
+-- a commit that is granted
+module _ (m : Managed) (txn : Transaction) (n : ℕ) (due : Committed n ≡ reply_due m txn) where
+  abbrev clash : Bool
+  clash = list_any (conflicts m.start.rule (effects_of txn)) (commits_since m txn)
+
+  abbrev full : Bool
+  full = nat_lt m.start.limit (length (table_with (newest_table m) (effects_of txn)))
+
+  tests : (is_too_old m txn ≡ false) × ((clash ≡ false) × (full ≡ false))
+  tests = granted_when (is_too_old m txn) clash full (newest_number m) n due
+
+  number_is : n ≡ suc (newest_number m)
+  number_is =
+      same_number n (suc (newest_number m))
+      (due
+      ∙ (λ i. cond (tests.0 i) (TooOld (newest_number m))
+      (cond (tests.1.0 i) (Conflict (newest_number m)) (cond (tests.1.1 i) (Full (newest_number m)) (Committed (suc (newest_number m)))))))
+
 module _ (m new : Managed) (txn : Transaction) (n : ℕ) (d : IsDecided m txn (Committed n) new) (h : IsManaged m) (k : IsTransaction txn)
     (own : IsOwn m txn) where
   abbrev x : Effects
   x = effects_of txn
 
-  abbrev clash : Bool
-  clash = list_any (conflicts m.start.rule x) (commits_since m txn)
-
-  abbrev full : Bool
-  full = nat_lt m.start.limit (length (table_with (newest_table m) x))
-
-  tests : (is_too_old m txn ≡ false) × ((clash ≡ false) × (full ≡ false))
-  tests = granted_when (is_too_old m txn) clash full (newest_number m) n d.due
-
-  number_is : n ≡ suc (newest_number m)
-  number_is =
-      same_number n (suc (newest_number m))
-      (d.due
-      ∙ (λ i. cond (tests.0 i) (TooOld (newest_number m))
-      (cond (tests.1.0 i) (Conflict (newest_number m)) (cond (tests.1.1 i) (Full (newest_number m)) (Committed (suc (newest_number m)))))))
-
   more : commits_in new ≡ commits_in m ++ x ∷ []
   more =
       commits_are m new txn (Committed n) d
-      ∙ ap (λ (e : Effects). commits_in m ++ e ∷ []) (recorded_is m h txn k own (Committed n) d.due (above_base m txn own tests.0))
+      ∙ ap (λ (e : Effects). commits_in m ++ e ∷ [])
+      (recorded_is m h txn k own (Committed n) d.due (above_base m txn own (tests m txn n d.due).0))
 
   next_table : newest_table new ≡ table_with (newest_table m) x
   next_table =
@@ -147,6 +152,46 @@ left_alone old new txn reply j is d same table log = record {
 alone : (seed : ℕ) (l : Logged) → journal_bytes seed (l ∷ []) ≡ frame_bytes seed l
 alone seed l = flat_map-cons (frame_bytes seed) l [] ∙ append-nil (frame_bytes seed l)
 
+-- the frames of the commits, with one more commit that is granted
+module _ (goes_on : AJournalGoesOn) (old : Durable) (txn : Transaction) (n : ℕ) (j : Journal) (h : IsManaged old.manager)
+    (k : IsTransaction txn) (own : IsOwn old.manager txn) (is : IsJournaled old j) (due : Committed n ≡ reply_due old.manager txn)
+    (again : IsReadAgain old txn (Committed n)) where
+  abbrev l : Logged
+  l = logged_of old txn n
+
+  next_logs :
+      Logs (decoded old.manager.schema old.table) old.manager.schema j.base j.table (j.commits ++ effects_of txn ∷ []) (j.logged ++ l ∷ [])
+      × (journal_bytes old.log.seed (j.logged ++ l ∷ []) ≡ journal_bytes old.log.seed j.logged ++ frame_bytes old.log.seed l)
+  next_logs =
+      let m = old.manager in
+      let x = effects_of txn in
+      let schema = m.schema in
+      let decode = decoded schema old.table in
+      let count = as_many decode schema j.base j.table j.commits j.logged is.logs in
+      let number = number_is m txn n due in
+      let small = number_small m h in
+      let at = is.number in
+      let one : AreLogged ((j.base + 1) + length j.logged) (l ∷ []) = (
+        omega (arith, number, at, count),
+        record { number = omega (arith, number, small); synced = omega (arith, number, small); size = again.0 },
+        tt,
+      ) in
+      let both = goes_on old.log.seed (j.base + 1) j.logged (l ∷ []) is.logs.numbered one in
+      let over : AreOver schema (table_with_all j.table j.commits) x =
+      subst (λ (t : Table). AreOver schema t x) is.newest (granted_over m txn h k own n due) in
+      let said : decode l.payload ≡ canonical_entries (table_with_all j.table j.commits) x =
+      ap entries_or_none again.1 ∙ ap (λ (t : Table). canonical_entries t x) is.newest in (
+        record {
+          commits_fit = commits-append schema j.table j.commits x is.logs.commits_fit over;
+          numbered = both.0;
+          entries =
+              map-append (λ (f : Logged). decode f.payload) j.logged (l ∷ [])
+              ∙ (λ i. is.logs.entries i ++ said i ∷ [])
+              ∙ sym (trees-append schema j.table j.commits x);
+        },
+        both.1 ∙ ap (λ (bytes : List ℕ). journal_bytes old.log.seed j.logged ++ bytes) (alone old.log.seed l),
+      )
+
 joins : AJournalGoesOn → (old new : Durable) (txn : Transaction) (n : ℕ) (j : Journal) → IsManaged old.manager → IsTransaction txn
     → IsOwn old.manager txn → IsJournaled old j → IsDecided old.manager txn (Committed n) new.manager → IsLogged old txn (Committed n) new
     → IsJournaled new (journal_with old txn (Committed n) j)
@@ -154,36 +199,13 @@ joins goes_on old new txn n j h k own is d told =
     let m = old.manager in
     let x = effects_of txn in
     let l = logged_of old txn n in
-    let schema = m.schema in
-    let decode = decoded schema old.table in
-    let count = as_many decode schema j.base j.table j.commits j.logged is.logs in
-    let due = d.due in
-    let number = number_is m new.manager txn n d h k own in
-    let small = number_small m h in
+    let logs = next_logs goes_on old txn n j h k own is d.due told.again in
     let at = is.number in
-    let one : AreLogged ((j.base + 1) + length j.logged) (l ∷ []) = (
-      omega (arith, number, at, count),
-      record { number = omega (arith, number, small); synced = omega (arith, number, small); size = told.again.0 },
-      tt,
-    ) in
-    let both = goes_on old.log.seed (j.base + 1) j.logged (l ∷ []) is.logs.numbered one in
-    let over : AreOver schema (table_with_all j.table j.commits) x =
-    subst (λ (t : Table). AreOver schema t x) is.newest (granted_over m txn h k own n due) in
-    let said : decode l.payload ≡ canonical_entries (table_with_all j.table j.commits) x =
-    ap entries_or_none told.again.1 ∙ ap (λ (t : Table). canonical_entries t x) is.newest in
-    let logs : Logs decode schema j.base j.table (j.commits ++ x ∷ []) (j.logged ++ l ∷ []) = record {
-      commits_fit = commits-append schema j.table j.commits x is.logs.commits_fit over;
-      numbered = both.0;
-      entries =
-          map-append (λ (f : Logged). decode f.payload) j.logged (l ∷ [])
-          ∙ (λ i. is.logs.entries i ++ said i ∷ [])
-          ∙ sym (trees-append schema j.table j.commits x);
-    } in
     let longer = length-append j.commits (x ∷ []) in
     record {
       logs =
           subst (λ (e : Columns × ℕ). Logs (decoded e.0 e.1) e.0 j.base j.table (j.commits ++ x ∷ []) (j.logged ++ l ∷ []))
-          (sym (λ i. (schema_is m new.manager txn (Committed n) d i, told.table i))) logs;
+          (sym (λ i. (schema_is m new.manager txn (Committed n) d i, told.table i))) logs.0;
       newest =
           next_table m new.manager txn n d h k own
           ∙ ap (λ (t : Table). table_with t x) is.newest
@@ -193,8 +215,7 @@ joins goes_on old new txn n j h k own is d told =
           ap (λ (v : Log). v.device.appended) told.log
           ∙ ap (λ (bytes : List ℕ). bytes ++ frame_bytes old.log.seed l) is.appended
           ∙ append_assoc j.front (journal_bytes old.log.seed j.logged) (frame_bytes old.log.seed l)
-          ∙ ap (λ (bytes : List ℕ). j.front ++ (journal_bytes old.log.seed j.logged ++ bytes)) (sym (alone old.log.seed l))
-          ∙ ap (λ (bytes : List ℕ). j.front ++ bytes) (sym both.1)
+          ∙ ap (λ (bytes : List ℕ). j.front ++ bytes) (sym logs.1)
           ∙ ap (λ (v : Log). j.front ++ journal_bytes v.seed (j.logged ++ l ∷ [])) (sym told.log);
     }
 
@@ -240,5 +261,49 @@ a_crash_leaves_the_commits d j bytes is small few all left =
           torn = chance.torn;
           silent = chance.silent;
         };
+      },
+    )
+
+-- what a device leaves of bytes behind others that are safe
+behind : (front bytes left : List ℕ) (size : ℕ) → length front ≤ size
+    → take size (front ++ bytes) ++ left ≡ front ++ (take (size - length front) bytes ++ left)
+behind front bytes left size le =
+    let split : size ≡ length front + (size - length front) = omega (arith, le) in
+    ap (λ (n : ℕ). take n (front ++ bytes) ++ left) split
+    ∙ ap (λ (b : List ℕ). b ++ left) (take-append-add front bytes (size - length front))
+    ∙ append_assoc front (take (size - length front) bytes) left
+
+pub a_crash_in_a_commit : AJournalGoesOn → ADeviceLeavesAFrame → ACrashInACommit
+a_crash_in_a_commit goes_on leaves d txn n j taken safe bytes h k own is due again small few all left =
+    let seed = d.log.seed in
+    let l = logged_of d txn n in
+    let frames = journal_bytes seed j.logged in
+    let part = take taken (frame_bytes seed l) in
+    let count = as_many (decoded d.manager.schema d.table) d.manager.schema j.base j.table j.commits j.logged is.logs in
+    let kept = left.kept in
+    let within = left.within in
+    let r = left.size - length j.front in
+    let rest = take r (frames ++ part) ++ left.other in
+    let whole : d.log.device.appended ++ part ≡ j.front ++ (frames ++ part) =
+    ap (λ (b : List ℕ). b ++ part) is.appended ∙ append_assoc j.front frames part in
+    let long : length d.log.device.appended ≡ length j.front + length frames =
+    ap (λ (b : List ℕ). length b) is.appended ∙ length-append j.front frames in
+    let sized : length (d.log.device.appended ++ part) ≡ length j.front + length (frames ++ part) =
+    ap (λ (b : List ℕ). length b) whole ∙ length-append j.front (frames ++ part) in
+    let longer = length-append j.logged (l ∷ []) in (
+      rest,
+      left.spelt
+          ∙ ap (λ (b : List ℕ). take left.size b ++ left.other) whole
+          ∙ behind j.front (frames ++ part) left.other left.size (omega (arith, kept, all, long)),
+      λ chance. record {
+        small = small;
+        logged = j.logged ++ l ∷ [];
+        logs = (next_logs goes_on d txn n j h k own is due again).0;
+        few = omega (arith, few, longer);
+        left =
+            subst (λ (s : ℕ). IsLeft seed (j.base + 1) (j.logged ++ l ∷ []) s rest) count
+            (leaves seed (j.base + 1) j.logged l taken (length frames) rest (omega arith)
+            (record { size = r; other = left.other; kept = omega (arith, kept, all, long); within = omega (arith, within, sized); spelt = refl })
+            chance);
       },
     )

@@ -15,4 +15,4 @@ mod logged;
 
 pub use durable::{Durable, Parts};
 pub use fault::CommitFault;
-pub use laws::{a_commit_is_journaled, a_crash_leaves_the_commits};
+pub use laws::{a_commit_is_journaled, a_crash_in_a_commit, a_crash_leaves_the_commits};
