@@ -5,7 +5,7 @@ use Rattle.model.specs.declared.write.CommitReply.{CommitReply}
 use Rattle.model.specs.declared.write.CommitReply.TheVariants.{Committed, Conflict, TooOld, Full}
 use Rattle.model.specs.Entries.{canonical_entries}
 use Rattle.txn.specs.Txn.{Transaction, effects_of}
-use Rattle.manager.specs.Managed.{Managed, newest_number, newest_table}
+use Rattle.manager.specs.Managed.{Managed, newest_number, newest_table, reply_due}
 use Rattle.codec.specs.Payload.{part_bytes}
 use Rattle.codec.specs.Reading.{entries_in}
 use Rattle.journal.specs.Frame.{Logged, frame_bytes}
@@ -72,8 +72,15 @@ pub record IsLogged (old : Durable) (txn : Transaction) (reply : CommitReply) (n
   pub table : new.table ≡ old.table
   pub again : IsReadAgain old txn reply
 
--- a commit isn't answered: the manager is as it was, and its frame wasn't logged
+-- a transaction's commit is granted, and what is logged of it reads as the entries of its effects
+abbrev pub IsReadable : Durable → Transaction → Type 0
+IsReadable d txn =
+    (Committed (suc (newest_number d.manager)) ≡ reply_due d.manager txn) × IsReadAgain d txn (Committed (suc (newest_number d.manager)))
+
+-- a commit isn't answered: the manager is as it was, and its frame wasn't logged. Where the device failed over it, the frame is that
+-- of a commit
 pub record IsLeftOut (old : Durable) (txn : Transaction) (fault : CommitFault) (new : Durable) : Type 0 where
   pub manager : new.manager ≡ old.manager
   pub table : new.table ≡ old.table
   pub log : IsUnlogged fault (frame_bytes old.log.seed (logged_of old txn (suc (newest_number old.manager)))) old.log new.log
+  pub frame : fault ≡ Unsure → IsReadable old txn

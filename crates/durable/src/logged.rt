@@ -7,7 +7,7 @@ ghost use Rattle.journal.specs.Reading.{logged_in};
 ghost use Rattle.logging.specs.Log.{with_safe};
 ghost use Rattle.manager.specs.Managed.{IsOwn, newest_number};
 ghost use Rattle.manager.specs.Prepared.{IsPrepared};
-ghost use Rattle.durable.specs.Durable.{IsReadAgain, IsUnlogged, log_with, logged_for, logged_of, over, payload_for};
+ghost use Rattle.durable.specs.Durable.{IsReadAgain, IsReadable, IsUnlogged, log_with, logged_for, logged_of, over, payload_for};
 
 use crate::fault::CommitFault;
 use codec::{SpellFault, commit_entries_fit, write_part};
@@ -44,6 +44,8 @@ pub(crate) fn log_commit<D: JournalDevice>(
     ensures again { OnOk result (entries_in schema.now table (payload_for table tree.now.entries) ≡ Ok tree.now.entries) }
     ensures err { IfErr result (λ fault. IsUnlogged fault (frame_bytes journal.old.seed (logged_for table number tree.now.entries))
         journal.old journal.new) }
+    ensures unsure { IfErr result (λ fault. fault ≡ CommitFault.Unsure → (length (payload_for table tree.now.entries) < 2 ^ 32)
+        × (entries_in schema.now table (payload_for table tree.now.entries) ≡ Ok tree.now.entries)) }
 {
     spell(payload, schema, table, tree)?;
     let frame = Frame {
@@ -88,6 +90,7 @@ pub(crate) fn log_prepared<D: JournalDevice>(
     ensures again { OnOk result (IsReadAgain (over manager.now journal.old table) txn.now prepared.now.reply) }
     ensures err { IfErr result (λ fault. IsUnlogged fault (frame_bytes journal.old.seed
         (logged_of (over manager.now journal.old table) txn.now (suc (newest_number manager.now)))) journal.old journal.new) }
+    ensures unsure { IfErr result (λ fault. fault ≡ CommitFault.Unsure → IsReadable (over manager.now journal.old table) txn.now) }
 {
     // These are called for what their clauses tell.
     commit_entries_fit();

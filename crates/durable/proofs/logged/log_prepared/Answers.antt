@@ -1,4 +1,4 @@
-use Rattle.std.proofs.Common.{◌≡◌, ℕ, suc, ◌<◌, ◌^◌, Ok, List, length, sym, ap, ◌∙◌, subst, arith}
+use Rattle.std.proofs.Common.{Result, Err, ◌≡◌, ℕ, suc, ◌<◌, ◌^◌, Ok, List, length, sym, ap, ◌∙◌, subst, arith}
 use Rattle.std.specs.Prelude.{IfErr, OnOk}
 use Rattle.std.specs.Option.{option_copied}
 use Rattle.values.specs.Shape.{Columns}
@@ -12,12 +12,18 @@ use Rattle.delta.specs.Tree.{Tree}
 use Rattle.journal.specs.Frame.{frame_bytes}
 use Rattle.logging.specs.Log.{with_safe}
 use Rattle.txn.specs.Txn.{effects_of}
-use Rattle.manager.specs.Managed.{newest_number, newest_table}
+use Rattle.manager.specs.Managed.{newest_number, newest_table, reply_due}
+use Rattle.durable.specs.declared.fault.CommitFault.TheVariants as CommitFault
 use Rattle.durable.specs.Durable.{IsReadAgain, IsUnlogged, log_with, logged_for, over, payload_for}
 use Rattle.durable.proofs.PreparedLemmas.{both_ok, grant_is, granted, granted_over, newest_few, same_number}
 use Rattle.durable.proofs.logged.log_prepared.Given.{Over}
 use Rattle.durable.proofs.logged.log_prepared.Goals.{After-schema-schema}
 use Rattle.durable.proofs.logged.log_prepared.Goals as goal
+
+with_due : {A F : Type 0} (f : F) (P Q : Type 0) (r : Result A F) → P → IfErr r (λ fault. fault ≡ f → Q)
+    → IfErr r (λ fault. fault ≡ f → P × Q)
+with_due f P Q (Ok x) p h = h
+with_due f P Q (Err e) p h = λ same. (p, h same)
 
 module _ (g : Over) (c : After-schema-schema g) where
   reply_is : c.args.prepared.now.reply ≡ Committed c.in-Committed.number
@@ -88,3 +94,18 @@ returns-in-Committed-clause-err g c =
     (λ (e : List Entry × ℕ). IfErr c.log_commit.result (λ fault. IsUnlogged fault
     (frame_bytes j.seed (logged_for c.args.table e.1 e.0)) j c.log_commit.new.journal))
     (λ i. (is.0 i, is.1 i)) c.log_commit.ensures.err
+
+pub returns-in-Committed-clause-unsure : goal.returns-in-Committed-clause-unsure
+returns-in-Committed-clause-unsure g c =
+    let before = (goal.at.returns-in-Committed-clause-unsure g c).After-schema-schema in
+    let m = c.args.manager.now in
+    let d = over m c.args.journal.now c.args.table in
+    let is = tree_is g before in
+    let due : Committed (suc (newest_number m)) ≡ reply_due m c.args.txn.now =
+    ap Committed (sym is.1) ∙ sym (reply_is g before) ∙ c.requires.prepared.due in
+    let told : List Entry → Columns → Type 0 = λ es s.
+    (length (payload_for c.args.table es) < 2 ^ 32) × (entries_in s c.args.table (payload_for c.args.table es) ≡ Ok es) in
+    with_due (CommitFault.Unsure) (Committed (suc (newest_number m)) ≡ reply_due m c.args.txn.now)
+    (told (canonical_entries (newest_table m) (effects_of c.args.txn.now)) m.schema) c.log_commit.result due
+    (subst (λ (e : List Entry × Columns). IfErr c.log_commit.result (λ fault. fault ≡ CommitFault.Unsure → told e.0 e.1))
+    (λ i. (is.0 i, (c.schema-schema.ensures ∙ c.newest.ensures.schema) i)) c.log_commit.ensures.unsure)
