@@ -35,8 +35,8 @@ pub enum RecoverFault {
     /// The frame of this commit is damaged, though a later one says that it was safe.
     #[error("Rot {0}")]
     Rot(u64),
-    /// The frame of this commit is missing: another one stands in its place, or the journal begins after it, or ends before it
-    /// though the image has it.
+    /// This commit comes after the last frame that was read. Another one stands in its place, or the journal begins after the
+    /// image, or ends before it.
     #[error("Gap {0}")]
     Gap(u64),
     /// The payload of this commit's frame has this fault.

@@ -62,9 +62,10 @@ pub struct Recovered {
 ///
 /// # Errors
 ///
-/// `Rot` with the first commit whose frame is damaged though it was safe; `Gap` with the first one that is missing; `NumbersSpent`
-/// where the image is of a number above 2^62; then `BadLimit` and `TooManyRows` as an opening; then the first fault of a frame,
-/// `BadPayload`, `Misfit` or `TooManyRows`; and `NoMemory` where a growth is refused.
+/// `Rot` with the first commit whose frame is damaged though it was safe; `Gap` with the commit after the last frame that was read,
+/// where another one stands in its place, or the journal begins after the image or ends before it; `NumbersSpent` where the image
+/// is of a number above 2^62; then `BadLimit` and `TooManyRows` as an opening; then the first fault of a frame, `BadPayload`,
+/// `Misfit` or `TooManyRows`; and `NoMemory` where a growth is refused.
 pub fn recover(
     alloc: Global,
     image: Image,
