@@ -1,7 +1,7 @@
 //! The tests of logging: commits that are logged one by one and together, to devices that fail at each append with each number of
-//! bytes taken, and at each sync, and to a file. What is left is read again.
+//! bytes taken, and at each sync, and to a file. What is left is read again. So are marks of images.
 //!
-//! *What it stands on.* `logging`, `journal` for what the bytes say, and `values` for want of memory.
+//! *What it stands on.* `logging`, `images`, `journal` for what the bytes say, and `values` for want of memory.
 #![tactic(auto)]
 
 #[cfg(test)]
@@ -10,5 +10,7 @@ mod devices;
 mod failures;
 #[cfg(test)]
 mod files;
+#[cfg(test)]
+mod marks;
 #[cfg(test)]
 mod whole;

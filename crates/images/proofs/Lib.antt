@@ -1,0 +1,3 @@
+pub mod CrashLemmas
+pub mod MarkLemmas
+pub mod MarkingLemmas

@@ -1,0 +1,4 @@
+pub mod Images
+pub mod Laws
+pub mod Mark
+pub mod Reading
