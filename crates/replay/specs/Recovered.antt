@@ -1,5 +1,5 @@
 -- What is recovered of a journal after a crash.
-use Rattle.std.specs.Prelude.{◌≡◌, ◌≢◌, ◌<◌, ◌≤◌, ℕ, ◌+◌, ◌-◌, ◌^◌, List, length, map, take, drop}
+use Rattle.std.specs.Prelude.{◌≡◌, ◌<◌, ◌≤◌, ℕ, ◌+◌, ◌-◌, ◌^◌, List, length, map, take, drop}
 use Rattle.values.specs.Shape.{Columns}
 use Rattle.values.specs.declared.row.Row.{Row}
 use Rattle.model.specs.declared.entry.Entry.{Entry}
@@ -88,13 +88,34 @@ IsLate fault.BadLimit = Unit {0}
 IsLate fault.TooManyRows = Unit {0}
 IsLate fault.NoMemory = Unit {0}
 
--- the first frame that isn't read is damaged though it was safe; or it is missing: another one stands there, or the journal begins
--- after the image or ends before it
+-- whether a fault is one of limits, numbers or memory, and none of a journal
+abbrev pub IsBlameless : RecoverFault → Type 0
+IsBlameless (fault.Rot n) = ⊥
+IsBlameless (fault.Gap n) = ⊥
+IsBlameless fault.NumbersSpent = Unit {0}
+IsBlameless (fault.BadPayload n payload) = ⊥
+IsBlameless (fault.Misfit n) = ⊥
+IsBlameless fault.BadLimit = Unit {0}
+IsBlameless fault.TooManyRows = Unit {0}
+IsBlameless fault.NoMemory = Unit {0}
+
+-- a commit is the first that is missing between an image and frames behind a base: the one after the image, where they begin after
+-- it; or the one that is due after them, where they end before it
+abbrev pub IsMissing : ℕ → ℕ → ℕ → ℕ → Type 0
+IsMissing n base number due = (number < base → n ≡ number + 1) × (base ≤ number → (due ≤ number) × (n ≡ due))
+
+-- and where another frame stands after them, that of the commit that is due
+abbrev pub IsGapAfter : Ending → ℕ → ℕ → ℕ → ℕ → Type 0
+IsGapAfter End n base number due = IsMissing n base number due
+IsGapAfter Torn n base number due = IsMissing n base number due
+IsGapAfter Rot n base number due = ⊥
+IsGapAfter Gap n base number due = n ≡ due
+
+-- the first frame that isn't read is damaged though it was safe, or a commit is missing, or more were made than are numbered
 abbrev pub IsTold : RecoverFault → ℕ → ℕ → Read → Type 0
 IsTold (fault.Rot n) base number read = (read.ending ≡ Rot) × (n ≡ base + 1 + length read.logged)
-IsTold (fault.Gap n) base number read =
-    ((read.ending ≢ Gap) → base ≤ number → base + length read.logged < number) × (n ≡ base + 1 + length read.logged)
-IsTold fault.NumbersSpent base number read = 2 ^ 62 < number
+IsTold (fault.Gap n) base number read = IsGapAfter read.ending n base number (base + 1 + length read.logged)
+IsTold fault.NumbersSpent base number read = MayEnd read.ending × (2 ^ 62 < base + length read.logged)
 IsTold (fault.BadPayload n payload) base number read = MayEnd read.ending
 IsTold (fault.Misfit n) base number read = MayEnd read.ending
 IsTold fault.BadLimit base number read = MayEnd read.ending

@@ -35,8 +35,8 @@ pub enum RecoverFault {
     /// The frame of this commit is damaged, though a later one says that it was safe.
     #[error("Rot {0}")]
     Rot(u64),
-    /// This commit comes after the last frame that was read. Another one stands in its place, or the journal begins after the
-    /// image, or ends before it.
+    /// This commit is the first that is missing: it comes after the last frame that was read, where another one stands in its place
+    /// or the journal ends before the image, or after the image, where the journal begins later.
     #[error("Gap {0}")]
     Gap(u64),
     /// The payload of this commit's frame has this fault.
@@ -51,7 +51,7 @@ pub enum RecoverFault {
     /// The image, or the table after one of the commits, has more rows than the row limit.
     #[error("TooManyRows")]
     TooManyRows,
-    /// The image is of a commit whose number is above 2^62.
+    /// The newest commit has a number above 2^62.
     #[error("NumbersSpent")]
     NumbersSpent,
     /// A growth was refused.

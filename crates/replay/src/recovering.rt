@@ -1,23 +1,23 @@
 //! A table, recovered from an image of it and a journal.
-ghost use Rattle.std.specs.Prelude.{◌≡◌, ℕ, ◌+◌, ◌-◌, ◌<◌, ◌≤◌, ◌^◌, List, IfErr, IfOk, IfSome, IsNone, length, map};
+ghost use Rattle.std.specs.Prelude.{◌≡◌, ℕ, ◌+◌, ◌-◌, ◌<◌, ◌≤◌, ◌^◌, List, IfErr, IfOk, length, map};
 ghost use Rattle.codec.specs.Reading.{decoded};
 ghost use Rattle.journal.specs.Reading.{read_of};
 ghost use Rattle.manager.specs.Managed.{newest_number, newest_table, opened_at};
 ghost use Rattle.model.specs.Effects.{Effects};
 ghost use Rattle.model.specs.Table.{Table, rows_of};
-ghost use Rattle.replay.specs.Recovered.{HasPrefix, IsCrashed, IsImage, IsLate, IsTold, MayEnd, logged_since};
-ghost use Rattle.replay.specs.Replayed.{rows_after};
+ghost use Rattle.replay.specs.Recovered.{HasPrefix, IsBlameless, IsCrashed, IsImage, IsLate, IsMissing, IsTold, MayEnd, logged_since};
+ghost use Rattle.replay.specs.Replayed.{AreSaid, rows_after};
 
 use crate::fault::RecoverFault;
 use crate::laws::recovery_is_a_prefix;
 use crate::replaying::replay;
-use journal::{Ending, Reading, read_frames};
+use journal::{Ending, a_crash_leaves_whole_frames, read_frames};
 use manager::{Manager, OpenFault};
 use model::ConflictRule;
 use stable::StableTable;
 use std::alloc::Global;
 
-/// How many commits a manager goes on from at most.
+/// The greatest number that the newest commit may have.
 const MAX_NUMBER: u64 = 1 << 62;
 
 /// A table as it was stored, and how many commits had made it.
@@ -62,10 +62,11 @@ pub struct Recovered {
 ///
 /// # Errors
 ///
-/// `Rot` with the first commit whose frame is damaged though it was safe; `Gap` with the commit after the last frame that was read,
-/// where another one stands in its place, or the journal begins after the image or ends before it; `NumbersSpent` where the image
-/// is of a number above 2^62; then `BadLimit` and `TooManyRows` as an opening; then the first fault of a frame, `BadPayload`,
-/// `Misfit` or `TooManyRows`; and `NoMemory` where a growth is refused.
+/// `Rot` with the first commit whose frame is damaged though it was safe; `Gap` with the first commit that is missing, which is the
+/// one after the last frame that was read, where another one stands in its place or the journal ends before the image, and the one
+/// after the image, where the journal begins after it; `NumbersSpent` where the newest commit has a number above 2^62; then
+/// `BadLimit` and `TooManyRows` as an opening; then the first fault of a frame, `BadPayload`, `Misfit` or `TooManyRows`; and
+/// `NoMemory` where a growth is refused.
 pub fn recover(
     alloc: Global,
     image: Image,
@@ -95,8 +96,17 @@ pub fn recover(
         → IsCrashed (decoded image.table.schema table) image.table.schema frames.entry.seed frames.entry.base t commits safe frames.entry.bytes.now
         → IsImage frames.entry.base t commits safe image.number image.table.rows
         → HasPrefix frames.entry.base t commits safe r.manager) }
+
+    // Nor is it refused for the journal's sake, where the payloads say the commits' entries.
+    ensures sound { IfErr result (λ fault. (t : Table) (commits : List Effects) (safe : ℕ)
+        → (crash : IsCrashed (decoded image.table.schema table) image.table.schema frames.entry.seed frames.entry.base t commits safe
+        frames.entry.bytes.now)
+        → AreSaid image.table.schema table t commits (map (λ l. l.payload) crash.logged)
+        → IsImage frames.entry.base t commits safe image.number image.table.rows → IsBlameless fault) }
 {
+    // Called for what their clauses tell.
     recovery_is_a_prefix();
+    a_crash_leaves_whole_frames();
     let reading = read_frames(alloc, frames.seed, frames.base + 1, frames.bytes)?;
     let due = frames.base + 1 + reading.frames.len() as u64;
     match reading.ending {
@@ -104,10 +114,11 @@ pub fn recover(
         Ending::Gap => return Err(RecoverFault::Gap(due)),
         Ending::End | Ending::Torn => {}
     }
-    let Some(skipped) = frames_before(&frames, &reading, image.number) else {
-        return Err(RecoverFault::Gap(due));
+    let skipped = match frames_before(frames.base, due, image.number) {
+        Ok(skipped) => skipped,
+        Err(missing) => return Err(RecoverFault::Gap(missing)),
     };
-    if image.number > MAX_NUMBER {
+    if due - 1 > MAX_NUMBER {
         return Err(RecoverFault::NumbersSpent);
     }
     let mut manager = opened(alloc, image, limits)?;
@@ -123,6 +134,7 @@ fn opened(alloc: Global, image: Image, limits: Limits) -> Result<Manager, Recove
     requires few { image.number ≤ 2 ^ 62 }
     ensures ok { IfOk result (λ manager. manager ≡ opened_at image.number image.table limits.row_limit limits.recent limits.conflicts) }
     ensures fault { IfErr result IsLate }
+    ensures sound { IfErr result IsBlameless }
 {
     let Limits {
         row_limit,
@@ -144,18 +156,17 @@ fn opened(alloc: Global, image: Image, limits: Limits) -> Result<Manager, Recove
     }
 }
 
-/// How many of the frames an image of this number has already; none where the journal begins after it, or ends before it.
-fn frames_before(frames: &FrameBytes<'_>, reading: &Reading<'_>, number: u64) -> Option<usize>
-    ensures some { IfSome result (λ skipped. (frames.now.base ≤ number) × (skipped ≡ number - frames.now.base)
-        × (skipped ≤ length reading.now.frames.items)) }
-    ensures none { IsNone result → frames.now.base ≤ number → frames.now.base + length reading.now.frames.items < number }
+/// How many frames behind a base an image of this number has already, where those before the commit that is due were read; or the
+/// first commit that is missing, where they begin after the image or end before it.
+fn frames_before(base: u64, due: u64, number: u64) -> Result<usize, u64>
+    ensures ok { IfOk result (λ skipped. (base ≤ number) × (number < due) × (skipped ≡ number - base)) }
+    ensures missing { IfErr result (λ n. IsMissing n base number due) }
 {
-    if number < frames.base {
-        return None;
+    if number < base {
+        return Err(number + 1);
     }
-    let skipped = number - frames.base;
-    if skipped > reading.frames.len() as u64 {
-        return None;
+    if number >= due {
+        return Err(due);
     }
-    Some(skipped as usize)
+    Ok((number - base) as usize)
 }

@@ -24,7 +24,7 @@ use values::NoMemory;
 const MAX_ENTRIES: usize = 1 << 40;
 
 /// A Write-PDT of more entries is folded, so that the commits after it are folded into a small tree.
-const FOLD_ABOVE: usize = 1 << 14;
+const FOLD_ABOVE: usize = 1 << 16;
 
 /// Makes the commits of a table again that these frames log, one after the other. A frame that has no part of the table leaves
 /// its rows, and counts as its commit.

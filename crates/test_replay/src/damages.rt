@@ -85,32 +85,67 @@ fn judge(rt: &impl Abort, history: &History, at: usize, bit: u32) -> Result<(), 
     Ok(())
 }
 
-#[test]
-fn a_bit_of_each_byte_that_turns_over_is_told_or_ends_the_journal(
-    rt: HostRuntime,
-) -> Result<(), Fail> {
-    let history = short(rt.alloc(), 3)?;
+/// That this bit of any byte of a journal that turns over is told, or ends the journal.
+fn judge_each_byte(rt: &impl Abort, alloc: Global, bit: u32) -> Result<(), Fail> {
+    let history = short(alloc, 3)?;
     for at in 0..history.journal.bytes().len() {
-        judge(&rt, &history, at, (at % 8) as u32)?;
+        judge(rt, &history, at, bit)?;
     }
     Ok(())
 }
 
-/// The first frame, one in the midst, and those at both sides of what the last one tells to be synced.
-static EACH_BIT: [u64; 5] = [1, 24, 45, 46, 50];
-
 #[test]
-fn each_bit_of_some_frames_that_turns_over_is_told_or_ends_the_journal(
+fn bit_0_of_any_byte_that_turns_over_is_told_or_ends_the_journal(
     rt: HostRuntime,
 ) -> Result<(), Fail> {
-    let history = short(rt.alloc(), 4)?;
-    for number in &EACH_BIT {
-        let begin = history.journal.end_of(number.wrapping_sub(1));
-        for at in begin..history.journal.end_of(*number) {
-            for bit in 0..8_u32 {
-                judge(&rt, &history, at, bit)?;
-            }
-        }
-    }
-    Ok(())
+    judge_each_byte(&rt, rt.alloc(), 0)
+}
+
+#[test]
+fn bit_1_of_any_byte_that_turns_over_is_told_or_ends_the_journal(
+    rt: HostRuntime,
+) -> Result<(), Fail> {
+    judge_each_byte(&rt, rt.alloc(), 1)
+}
+
+#[test]
+fn bit_2_of_any_byte_that_turns_over_is_told_or_ends_the_journal(
+    rt: HostRuntime,
+) -> Result<(), Fail> {
+    judge_each_byte(&rt, rt.alloc(), 2)
+}
+
+#[test]
+fn bit_3_of_any_byte_that_turns_over_is_told_or_ends_the_journal(
+    rt: HostRuntime,
+) -> Result<(), Fail> {
+    judge_each_byte(&rt, rt.alloc(), 3)
+}
+
+#[test]
+fn bit_4_of_any_byte_that_turns_over_is_told_or_ends_the_journal(
+    rt: HostRuntime,
+) -> Result<(), Fail> {
+    judge_each_byte(&rt, rt.alloc(), 4)
+}
+
+#[test]
+fn bit_5_of_any_byte_that_turns_over_is_told_or_ends_the_journal(
+    rt: HostRuntime,
+) -> Result<(), Fail> {
+    judge_each_byte(&rt, rt.alloc(), 5)
+}
+
+#[test]
+fn bit_6_of_any_byte_that_turns_over_is_told_or_ends_the_journal(
+    rt: HostRuntime,
+) -> Result<(), Fail> {
+    judge_each_byte(&rt, rt.alloc(), 6)
+}
+
+#[test]
+fn bit_7_of_any_byte_that_turns_over_is_told_or_ends_the_journal(
+    rt: HostRuntime,
+) -> Result<(), Fail> {
+    judge_each_byte(&rt, rt.alloc(), 7)
 }

@@ -111,6 +111,18 @@ pub(crate) fn frames_behind(base: u64, bytes: &[u8]) -> FrameBytes<'_>
     }
 }
 
+/// The frame of a commit that changes no table.
+pub(crate) fn empty_frame(alloc: Global, number: u64) -> Result<Vec<u8>, NoMemory> {
+    let frame = Frame {
+        number,
+        synced: 0,
+        payload: &[],
+    };
+    let mut bytes = Vec::new(alloc);
+    write_frame(SEED, &frame, &mut bytes)?;
+    Ok(bytes)
+}
+
 /// Adds the part of a table to a payload.
 pub(crate) fn push_part(
     schema: &Schema,

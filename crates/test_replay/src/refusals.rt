@@ -3,7 +3,7 @@ ghost use Rattle.std.specs.Prelude.{◌<◌, ◌^◌};
 
 use crate::assertions::assert_holds;
 use crate::histories::{History, commit_named};
-use crate::journals::{TABLE, frames_behind};
+use crate::journals::{TABLE, empty_frame, frames_behind};
 use crate::recoveries::{LIMITS, image_at, is_recovered};
 use codec::PayloadFault;
 use replay::{FrameBytes, Image, Limits, RecoverFault, recover};
@@ -155,7 +155,11 @@ fn a_journal_that_misses_its_image_is_a_gap(rt: HostRuntime) -> Result<(), Fail>
         LIMITS,
         frames_behind(2, frames_of(&history, 2, 5)),
     )?;
-    assert_holds(&rt, is_gap(begins_after), "it begins after the image");
+    assert_holds(
+        &rt,
+        begins_after == Some(RecoverFault::Gap(2)),
+        "it begins after the image",
+    );
     let ends_before = fault_over(
         &history,
         5,
@@ -168,10 +172,6 @@ fn a_journal_that_misses_its_image_is_a_gap(rt: HostRuntime) -> Result<(), Fail>
         "it ends before the image",
     );
     Ok(())
-}
-
-fn is_gap(fault: Option<RecoverFault>) -> bool {
-    matches!(fault, Some(RecoverFault::Gap(_)))
 }
 
 /// Whether the commits after a number are made again over its image.
@@ -230,22 +230,31 @@ fn more_rows_than_the_limit_are_too_many(rt: HostRuntime) -> Result<(), Fail> {
     Ok(())
 }
 
-/// What comes of no frames behind a number, over an image of it.
-fn fault_behind(alloc: Global, number: u64) -> Result<Option<RecoverFault>, Fail>
+/// The fault of a recovery over the base table as that of a number, with these frames behind it.
+fn fault_behind(alloc: Global, number: u64, frames: &[u8]) -> Result<Option<RecoverFault>, Fail>
     requires { number < 2 ^ 63 }
 {
     let image = Image {
         table: item_table(alloc, BASE.as_slice())?,
         number,
     };
-    Ok(recover(alloc, image, LIMITS, TABLE, frames_behind(number, &[])).err())
+    let frames = frames_behind(number, frames);
+    Ok(recover(alloc, image, LIMITS, TABLE, frames).err())
 }
 
 #[test]
-fn an_image_above_2_to_the_62_is_spent(rt: HostRuntime) -> Result<(), Fail> {
+fn a_number_above_2_to_the_62_is_spent(rt: HostRuntime) -> Result<(), Fail> {
     let alloc = rt.alloc();
-    assert_holds(&rt, fault_behind(alloc, 1 << 62)?.is_none(), "2^62");
-    let spent = fault_behind(alloc, (1 << 62) + 1)?;
-    assert_holds(&rt, spent == Some(RecoverFault::NumbersSpent), "one more");
+    let spent = Some(RecoverFault::NumbersSpent);
+    let last = fault_behind(alloc, 1 << 62, &[])?;
+    assert_holds(&rt, last.is_none(), "an image of 2^62");
+    let image = fault_behind(alloc, (1 << 62) + 1, &[])?;
+    assert_holds(&rt, image == spent, "an image of one more");
+    let frame = empty_frame(alloc, 1 << 62)?;
+    let last = fault_behind(alloc, (1 << 62) - 1, frame.as_slice())?;
+    assert_holds(&rt, last.is_none(), "a commit of 2^62");
+    let frame = empty_frame(alloc, (1 << 62) + 1)?;
+    let commit = fault_behind(alloc, 1 << 62, frame.as_slice())?;
+    assert_holds(&rt, commit == spent, "a commit of one more");
     Ok(())
 }
