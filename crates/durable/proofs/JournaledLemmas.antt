@@ -1,12 +1,12 @@
 -- What a journal has after a reply, and after a crash.
-use Rattle.std.proofs.Common.{◌≡◌, ℕ, suc, ◌+◌, ◌-◌, ◌<◌, ◌≤◌, ◌^◌, Bool, false, cond, List, [], ◌∷◌, ◌++◌, length, take, refl, sym, ap, ◌∙◌, subst, arith, length-append}
+use Rattle.std.proofs.Common.{◌≡◌, ℕ, suc, ◌+◌, ◌-◌, ◌<◌, ◌≤◌, ◌^◌, Bool, false, cond, List, [], ◌∷◌, ◌++◌, length, map, take, refl, sym, ap, ◌∙◌, subst, arith, length-append, Ok}
 use Rattle.std.specs.Prelude.{nat_lt}
 use Rattle.std.specs.List.{list_any}
 use Rattle.std.proofs.Math.Seq.{take-append-add, take-length}
 use Rattle.std.proofs.lemmas.List.{append-nil, append_assoc, length-map, map-append}
 use Rattle.std.proofs.lemmas.List.Concat.{flat_map-cons}
 use Rattle.values.specs.Shape.{Columns}
-use Rattle.codec.specs.Reading.{decoded, entries_or_none}
+use Rattle.codec.specs.Reading.{decoded, entries_in, entries_or_none}
 use Rattle.model.specs.declared.entry.Entry.{Entry}
 use Rattle.model.specs.declared.write.CommitReply.{CommitReply}
 use Rattle.model.specs.declared.write.CommitReply.TheVariants.{Committed, Conflict, TooOld, Full}
@@ -25,6 +25,7 @@ use Rattle.txn.specs.Txn.{IsTransaction, Transaction, effects_of}
 use Rattle.manager.specs.Managed.{IsDecided, IsManaged, IsOwn, Managed, commits_in, commits_since, is_too_old, newest_number, newest_table, record_of, reply_due}
 use Rattle.manager.proofs.CallerLemmas.{above_base, commits_from-append, granted_when, recorded_is, table_with_all-one}
 use Rattle.replay.specs.Recovered.{Logs}
+use Rattle.replay.specs.Replayed.{AreSaid}
 use Rattle.durable.specs.Durable.{Durable, IsLogged, IsReadAgain, logged_of}
 use Rattle.durable.specs.Journaled.{IsJournaled, Journal, journal_with}
 use Rattle.durable.specs.Laws.{ACommitIsJournaled, ACrashInACommit, ACrashLeavesTheCommits}
@@ -136,6 +137,20 @@ module _ (m new : Managed) (txn : Transaction) (n : ℕ) (d : IsDecided m txn (C
 
 -- ---- the journal after a reply
 
+abbrev payloads_of : List Logged → List (List ℕ)
+payloads_of logged = map (λ l. l.payload) logged
+
+-- payloads that say commits, and one that says one commit more
+said-append : (schema : Columns) (table : ℕ) (t : Table) (commits : List Effects) (payloads : List (List ℕ)) (x : Effects)
+    (payload : List ℕ)
+    → AreSaid schema table t commits payloads → entries_in schema table payload ≡ Ok (canonical_entries (table_with_all t commits) x)
+    → AreSaid schema table t (commits ++ x ∷ []) (payloads ++ payload ∷ [])
+said-append schema table t [] [] x payload h one = (one, tt)
+said-append schema table t (c ∷ commits) (p ∷ payloads) x payload h one =
+    (h.0, said-append schema table (table_with t c) commits payloads x payload h.1 one)
+said-append schema table t [] (p ∷ payloads) x payload h one = absurd h
+said-append schema table t (c ∷ commits) [] x payload h one = absurd h
+
 left_alone : (old new : Durable) (txn : Transaction) (reply : CommitReply) (j : Journal) → IsJournaled old j
     → IsDecided old.manager txn reply new.manager → commits_in new.manager ≡ commits_in old.manager → new.table ≡ old.table → new.log ≡ old.log
     → IsJournaled new j
@@ -145,6 +160,9 @@ left_alone old new txn reply j is d same table log = record {
       (sym (λ i. (schema_is old.manager new.manager txn reply d i, table i))) is.logs;
   newest = same_table old.manager new.manager txn reply d same ∙ is.newest;
   number = same_count old.manager new.manager txn reply d same ∙ is.number;
+  said =
+      subst (λ (e : Columns × ℕ). AreSaid e.0 e.1 j.table j.commits (payloads_of j.logged))
+      (sym (λ i. (schema_is old.manager new.manager txn reply d i, table i))) is.said;
   appended =
       ap (λ (l : Log). l.device.appended) log ∙ is.appended ∙ ap (λ (l : Log). j.front ++ journal_bytes l.seed j.logged) (sym log);
 }
@@ -192,6 +210,13 @@ module _ (goes_on : AJournalGoesOn) (old : Durable) (txn : Transaction) (n : ℕ
         both.1 ∙ ap (λ (bytes : List ℕ). journal_bytes old.log.seed j.logged ++ bytes) (alone old.log.seed l),
       )
 
+  next_said : AreSaid old.manager.schema old.table j.table (j.commits ++ effects_of txn ∷ []) (payloads_of (j.logged ++ l ∷ []))
+  next_said =
+      subst (AreSaid old.manager.schema old.table j.table (j.commits ++ effects_of txn ∷ []))
+      (sym (map-append (λ (f : Logged). f.payload) j.logged (l ∷ [])))
+      (said-append old.manager.schema old.table j.table j.commits (payloads_of j.logged) (effects_of txn) l.payload is.said
+      (again.1 ∙ ap (λ (t : Table). Ok (canonical_entries t (effects_of txn))) is.newest))
+
 joins : AJournalGoesOn → (old new : Durable) (txn : Transaction) (n : ℕ) (j : Journal) → IsManaged old.manager → IsTransaction txn
     → IsOwn old.manager txn → IsJournaled old j → IsDecided old.manager txn (Committed n) new.manager → IsLogged old txn (Committed n) new
     → IsJournaled new (journal_with old txn (Committed n) j)
@@ -211,6 +236,10 @@ joins goes_on old new txn n j h k own is d told =
           ∙ ap (λ (t : Table). table_with t x) is.newest
           ∙ sym (table_with_all-one j.table j.commits x);
       number = next_number m new.manager txn n d h k own ∙ omega (arith, at, longer);
+      said =
+          subst (λ (e : Columns × ℕ). AreSaid e.0 e.1 j.table (j.commits ++ x ∷ []) (payloads_of (j.logged ++ l ∷ [])))
+          (sym (λ i. (schema_is m new.manager txn (Committed n) d i, told.table i)))
+          (next_said goes_on old txn n j h k own is d.due told.again);
       appended =
           ap (λ (v : Log). v.device.appended) told.log
           ∙ ap (λ (bytes : List ℕ). bytes ++ frame_bytes old.log.seed l) is.appended
@@ -247,21 +276,24 @@ a_crash_leaves_the_commits d j bytes is small few all left =
       left.spelt
           ∙ ap (λ (b : List ℕ). b ++ left.other) (take-whole left.size d.log.device.appended size ∙ is.appended)
           ∙ append_assoc j.front frames left.other,
-      λ chance. record {
-        small = small;
-        logged = j.logged;
-        logs = is.logs;
-        few = few;
-        left = record {
-          few = omega (arith, count);
-          size = length frames;
-          other = left.other;
-          kept = omega (arith, same);
-          spelt = ap (λ (b : List ℕ). b ++ left.other) (sym (take-length frames));
-          torn = chance.torn;
-          silent = chance.silent;
-        };
-      },
+      λ chance. (
+        record {
+          small = small;
+          logged = j.logged;
+          logs = is.logs;
+          few = few;
+          left = record {
+            few = omega (arith, count);
+            size = length frames;
+            other = left.other;
+            kept = omega (arith, same);
+            spelt = ap (λ (b : List ℕ). b ++ left.other) (sym (take-length frames));
+            torn = chance.torn;
+            silent = chance.silent;
+          };
+        },
+        is.said,
+      ),
     )
 
 -- what a device leaves of bytes behind others that are safe
@@ -295,15 +327,24 @@ a_crash_in_a_commit goes_on leaves d txn n j taken safe bytes h k own is due aga
       left.spelt
           ∙ ap (λ (b : List ℕ). take left.size b ++ left.other) whole
           ∙ behind j.front (frames ++ part) left.other left.size (omega (arith, kept, all, long)),
-      λ chance. record {
-        small = small;
-        logged = j.logged ++ l ∷ [];
-        logs = (next_logs goes_on d txn n j h k own is due again).0;
-        few = omega (arith, few, longer);
-        left =
-            subst (λ (s : ℕ). IsLeft seed (j.base + 1) (j.logged ++ l ∷ []) s rest) count
-            (leaves seed (j.base + 1) j.logged l taken (length frames) rest (omega arith)
-            (record { size = r; other = left.other; kept = omega (arith, kept, all, long); within = omega (arith, within, sized); spelt = refl })
-            chance);
-      },
+      λ chance. (
+        record {
+          small = small;
+          logged = j.logged ++ l ∷ [];
+          logs = (next_logs goes_on d txn n j h k own is due again).0;
+          few = omega (arith, few, longer);
+          left =
+              subst (λ (s : ℕ). IsLeft seed (j.base + 1) (j.logged ++ l ∷ []) s rest) count
+              (leaves seed (j.base + 1) j.logged l taken (length frames) rest (omega arith)
+              (record {
+                size = r;
+                other = left.other;
+                kept = omega (arith, kept, all, long);
+                within = omega (arith, within, sized);
+                spelt = refl;
+              })
+              chance);
+        },
+        next_said goes_on d txn n j h k own is due again,
+      ),
     )

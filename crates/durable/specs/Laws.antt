@@ -1,5 +1,5 @@
 -- What a journal has of the commits that were answered, step by step and after a crash.
-use Rattle.std.specs.Prelude.{◌≡◌, ◌≤◌, ℕ, ◌+◌, ◌-◌, ◌^◌, List, [], ◌∷◌, ◌++◌, length, take}
+use Rattle.std.specs.Prelude.{◌≡◌, ◌≤◌, ℕ, ◌+◌, ◌-◌, ◌^◌, List, [], ◌∷◌, ◌++◌, length, map, take}
 use Rattle.model.specs.declared.write.CommitReply.{CommitReply}
 use Rattle.model.specs.declared.write.CommitReply.TheVariants.{Committed}
 use Rattle.txn.specs.Txn.{IsTransaction, Transaction, effects_of}
@@ -9,6 +9,7 @@ use Rattle.journal.specs.Laws.{IsSeed}
 use Rattle.logging.specs.Left.{IsNoChance, MayLeave}
 use Rattle.manager.specs.Managed.{IsDecided, IsManaged, IsOwn, reply_due}
 use Rattle.replay.specs.Recovered.{IsCrashed}
+use Rattle.replay.specs.Replayed.{AreSaid}
 use Rattle.durable.specs.Durable.{Durable, IsLogged, IsReadAgain, logged_of}
 use Rattle.durable.specs.Journaled.{IsJournaled, Journal, journal_with}
 
@@ -20,7 +21,7 @@ ACommitIsJournaled =
     → IsDecided old.manager txn reply new.manager → IsLogged old txn reply new → IsJournaled new (journal_with old txn reply j)
 
 -- Wherever a crash falls between two calls: behind what stood in front it leaves the frames of all commits that were answered,
--- as recovery asks for them. The premise on checks is that of journals
+-- as recovery asks for them, with payloads that it reads. The premise on checks is that of journals
 abbrev pub ACrashLeavesTheCommits : Type 0
 ACrashLeavesTheCommits =
     (d : Durable) (j : Journal) (bytes : List ℕ)
@@ -30,8 +31,9 @@ ACrashLeavesTheCommits =
     → let frames = journal_bytes d.log.seed j.logged in
     (bytes ≡ j.front ++ (frames ++ left.other))
     × (IsNoChance d.log.seed (j.base + 1) j.logged (length frames) left.other (frames ++ left.other)
-    → IsCrashed (decoded d.manager.schema d.table) d.manager.schema d.log.seed j.base j.table j.commits (length j.commits)
+    → (crash : IsCrashed (decoded d.manager.schema d.table) d.manager.schema d.log.seed j.base j.table j.commits (length j.commits)
     (frames ++ left.other))
+    × AreSaid d.manager.schema d.table j.table j.commits (map (λ l. l.payload) crash.logged))
 
 -- And wherever it falls in the midst of a commit, or after one that failed: the frames of all commits that were answered, and maybe
 -- that of this one. The commit is granted, and its payload is one that is read again
@@ -45,5 +47,6 @@ ACrashInACommit =
     → (left : MayLeave (d.log.device.appended ++ take taken (frame_bytes d.log.seed (logged_of d txn n))) safe bytes)
     → (rest : List ℕ) × (bytes ≡ j.front ++ rest)
     × (IsNoChance d.log.seed (j.base + 1) (j.logged ++ logged_of d txn n ∷ []) (left.size - length j.front) left.other rest
-    → IsCrashed (decoded d.manager.schema d.table) d.manager.schema d.log.seed j.base j.table (j.commits ++ effects_of txn ∷ [])
+    → (crash : IsCrashed (decoded d.manager.schema d.table) d.manager.schema d.log.seed j.base j.table (j.commits ++ effects_of txn ∷ [])
     (length j.commits) rest)
+    × AreSaid d.manager.schema d.table j.table (j.commits ++ effects_of txn ∷ []) (map (λ l. l.payload) crash.logged))

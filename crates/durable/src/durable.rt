@@ -1,5 +1,5 @@
 //! The durable manager: a commit is decided, logged, and then installed.
-ghost use Rattle.std.specs.Prelude.{◌≡◌, IfOk, IfErr, MatchResult, nat_lt};
+ghost use Rattle.std.specs.Prelude.{◌≡◌, ◌<◌, ◌^◌, IfOk, IfErr, IsOk, IsTrue, MatchResult, nat_lt};
 ghost use Rattle.devices.specs.Appending.{MayFollow, Stores, taken_by};
 ghost use Rattle.manager.specs.Checkpoint.{answer_of_store};
 ghost use Rattle.txn.specs.Txn.{Transaction};
@@ -44,7 +44,7 @@ impl<D: JournalDevice> Model for Durable<D> {
 
 impl<D: JournalDevice> Durable<D> {
     ghost use Rattle.manager.specs.Checkpoint.{Checkpoints};
-    ghost use Rattle.manager.specs.Managed.{HasFolded, IsDecided, IsOwn, begun_at, cut_of, history_of, newest_stable, rebuilt_of};
+    ghost use Rattle.manager.specs.Managed.{HasFolded, IsDecided, IsOwn, begun_at, cut_of, history_of, is_too_old, newest_stable, rebuilt_of};
     ghost use Rattle.durable.specs.Durable.{IsLogged, IsLeftOut};
 
     /// The manager, whose commits go to this journal from now on, as those of the table of this number. Takes no memory.
@@ -85,7 +85,7 @@ impl<D: JournalDevice> Durable<D> {
     }
 
     /// Decides a transaction as a manager does. Where it is committed, its frame is on the device and safe before the history
-    /// has its record; any other reply writes nothing.
+    /// has its record; any other reply writes nothing. A transaction that is too old takes no memory.
     ///
     /// # Errors
     ///
@@ -97,6 +97,8 @@ impl<D: JournalDevice> Durable<D> {
         ensures decided { IfOk result (λ reply. IsDecided self.old.manager txn reply self.new.manager) }
         ensures logged { IfOk result (λ reply. IsLogged self.old txn reply self.new) }
         ensures err { IfErr result (λ e. IsLeftOut self.old txn e.1 self.new × (e.0 ≡ txn)) }
+        ensures old { IsTrue (is_too_old self.old.manager txn) → self.old.manager.made < 2 ^ 62 → self.old.log.device.failures ≡ 0
+            → IsOk result }
     {
         if self.has_failed() {
             return Err((txn, CommitFault::JournalFailed));

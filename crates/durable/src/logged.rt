@@ -1,11 +1,11 @@
 //! What is logged of a commit.
-ghost use Rattle.std.specs.Prelude.{◌≡◌, ◌<◌, ◌≤◌, ◌^◌, suc, Ok, length, IfErr, OnOk};
+ghost use Rattle.std.specs.Prelude.{◌≡◌, ◌<◌, ◌≤◌, ◌^◌, suc, Ok, length, IfErr, IsTrue, OnErr, OnOk};
 ghost use Rattle.codec.specs.Fit.{EntriesFit};
 ghost use Rattle.codec.specs.Reading.{entries_in};
 ghost use Rattle.journal.specs.Frame.{frame_bytes};
 ghost use Rattle.journal.specs.Reading.{logged_in};
 ghost use Rattle.logging.specs.Log.{with_safe};
-ghost use Rattle.manager.specs.Managed.{IsOwn, newest_number};
+ghost use Rattle.manager.specs.Managed.{IsOwn, is_too_old, newest_number};
 ghost use Rattle.manager.specs.Prepared.{IsPrepared};
 ghost use Rattle.durable.specs.Durable.{IsReadAgain, IsReadable, IsUnlogged, log_with, logged_for, logged_of, over, payload_for};
 
@@ -91,6 +91,7 @@ pub(crate) fn log_prepared<D: JournalDevice>(
     ensures err { IfErr result (λ fault. IsUnlogged fault (frame_bytes journal.old.seed
         (logged_of (over manager.now journal.old table) txn.now (suc (newest_number manager.now)))) journal.old journal.new) }
     ensures unsure { IfErr result (λ fault. fault ≡ CommitFault.Unsure → IsReadable (over manager.now journal.old table) txn.now) }
+    ensures granted { OnErr result (IsTrue (is_too_old manager.now txn.now) → ⊥) }
 {
     // These are called for what their clauses tell.
     commit_entries_fit();
