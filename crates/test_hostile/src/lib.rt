@@ -11,8 +11,8 @@ mod damaged;
 #[cfg(test)]
 mod drawn;
 #[cfg(test)]
-mod images;
-#[cfg(test)]
 mod long_runs;
+#[cfg(test)]
+mod newest;
 #[cfg(test)]
 mod yielding;

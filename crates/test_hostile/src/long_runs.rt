@@ -3,7 +3,7 @@
 mod by_key;
 
 use crate::assertions::assert_holds;
-use crate::images::has_rows;
+use crate::newest::has_rows;
 use crate::yielding::run_yielding;
 use by_key::ByKey;
 use manager::Manager;
