@@ -6,13 +6,17 @@ ghost use Rattle.std.specs.Prelude.{◌≡◌, IfOk};
 ghost use Rattle.std.specs.Box.{box_value};
 
 mod files;
+mod journals;
 mod streams;
 
 use crate::files::{
-    bytes_of, column_path, header_path, make_store, remove_files, store_paths, stored_bytes,
+    StorePaths, bytes_of, column_path, header_path, images_path, is_missing, journal_path,
+    make_store, remove_store, store_paths, stored_bytes,
 };
+use crate::journals::Journaling;
 use crate::streams::hold_streams;
 use devices::{ColumnDevice, MemColumn, Store, StoreFault, have_failed};
+use journaled::{JournaledRun, StoreBytes, recover_journaled, run_journaled};
 use pdtcli::{
     OpenOptions, Opened, Outcome, Refusal, Settings, ShowFault, open_texts, read_header,
     read_words, recover, run_opened, run_opened_on_threads, status_of, stored_header,
@@ -22,7 +26,7 @@ use std::process::ExitCode;
 use std::sync::{Arc, OnceLock, Wait};
 use std::thread::Threads;
 use std::{env, fs, io, mem};
-use values::NoMemory;
+use values::{NoMemory, Schema};
 
 /// The status of a command line that asks for nothing.
 const MISUSED: u8 = 2;
@@ -44,6 +48,16 @@ enum Turns<'t, T> {
     InOrder,
     /// Each client on a thread of its own, which this handle starts and waits for.
     OnThreads(&'t T),
+}
+
+/// Where the store of a run is.
+#[derive(Clone, Copy)]
+enum Place<'p> {
+    Memory,
+    /// In the folder.
+    Folder(&'p str),
+    /// In the folder, with a journal. The calls are made one after the other.
+    Journaled(&'p str),
 }
 
 fn main(rt: HostRuntime) -> ExitCode {
@@ -144,6 +158,7 @@ fn done<T: Threads + Wait + Sync>(
             script,
             threads,
             store,
+            journal,
             recent,
             limit,
             conflicts,
@@ -158,7 +173,12 @@ fn done<T: Threads + Wait + Sync>(
             } else {
                 Turns::InOrder
             };
-            run(rt, turns, Inputs { table, script }, store, options)
+            let place = match store {
+                Some(dir) if journal => Place::Journaled(dir),
+                Some(dir) => Place::Folder(dir),
+                None => Place::Memory,
+            };
+            run(rt, turns, Inputs { table, script }, place, options)
         }
         Settings::Recover { dir } => recover_folder(rt, dir),
     }
@@ -175,19 +195,51 @@ fn open_files(rt: &HostRuntime, inputs: Inputs<'_>, options: OpenOptions) -> Res
     open_texts(rt.alloc(), bytes_of(&table), bytes_of(&script), options)
 }
 
-/// Runs the script's file over the table's, with a store in the folder, or in memory where none is named.
+/// Runs the script's file over the table's, with a store in the place.
 fn run<T: Threads + Wait + Sync>(
     rt: &HostRuntime,
     turns: Turns<'_, T>,
     inputs: Inputs<'_>,
-    folder: Option<&str>,
+    place: Place<'_>,
     options: OpenOptions,
 ) -> Result<u8, Refusal> {
     let opened = open_files(rt, inputs, options)?;
-    match folder {
-        Some(dir) => run_in_folder(rt, turns, dir, opened),
-        None => run_in_memory(rt, turns, opened),
+    match place {
+        Place::Journaled(dir) => run_with_journal(rt, dir, opened),
+        Place::Folder(dir) => run_in_folder(rt, turns, dir, opened),
+        Place::Memory => run_in_memory(rt, turns, opened),
     }
+}
+
+/// A store that is made in a folder: its files, a device over each column's, and its journals where they were asked for.
+#[derive(Drop)]
+struct FolderStore {
+    paths: StorePaths,
+    devices: Vec<Box<dyn ColumnDevice + Send>>,
+    journals: Option<Journaling>,
+}
+
+/// Makes the files of a store of these columns in the folder.
+fn store_in_folder(
+    rt: &HostRuntime,
+    dir: &str,
+    schema: &Schema,
+    journaled: bool,
+) -> Result<FolderStore, Refusal> {
+    let alloc = rt.alloc();
+    let header = stored_header(alloc, schema)?;
+    let paths = store_paths(alloc, dir, schema.width())?;
+    // Room comes first: once the files are made each device has its place.
+    let mut devices: Vec<Box<dyn ColumnDevice + Send>> = Vec::with_capacity(alloc, schema.width())?;
+    let made = make_store(rt, dir, &paths, journaled, header.as_slice())?;
+    for column in made.columns {
+        devices.push(column)?;
+    }
+    Ok(FolderStore {
+        paths,
+        devices,
+        journals: made.journals,
+    })
 }
 
 /// Runs what was opened over a store in the folder. Where the store isn't made, no file of it stays.
@@ -199,22 +251,62 @@ fn run_in_folder<T: Threads + Wait + Sync>(
 ) -> Result<u8, Refusal>
     requires { opened.script.schema ≡ opened.manager.schema }
 {
-    let alloc = rt.alloc();
-    let header = stored_header(alloc, opened.schema())?;
-    let paths = store_paths(alloc, dir, opened.schema().width())?;
-    // Room comes first: once the files are made each device has its place.
-    let mut devices: Vec<Box<dyn ColumnDevice + Send>> = Vec::with_capacity(
-        alloc,
-        opened.schema().width(),
-    )?;
-    for column in make_store(rt, dir, paths.as_slice(), header.as_slice())? {
-        devices.push(column)?;
-    }
+    let FolderStore {
+        paths,
+        devices,
+        journals: _journals,
+    } = store_in_folder(rt, dir, opened.schema(), false)?;
     let answer = run_over(rt, turns, opened, devices);
     if let Err(Refusal::Store(_)) = &answer {
-        remove_files(rt, paths.as_slice(), paths.len());
+        remove_store(rt, &paths, false);
     }
     answer
+}
+
+/// Runs what was opened over a store with a journal in the folder, call by call. Where the store isn't made, or its first image isn't
+/// stored, no file of it stays.
+fn run_with_journal(rt: &HostRuntime, dir: &str, opened: Opened) -> Result<u8, Refusal>
+    requires { opened.script.schema ≡ opened.manager.schema }
+{
+    let FolderStore {
+        paths,
+        devices,
+        journals,
+    } = store_in_folder(rt, dir, opened.schema(), true)?;
+    let answer = match journals {
+        Some(journals) => run_journaled_over(rt, opened, journals, devices),
+        None => Err(Refusal::CannotMake),
+    };
+    match &answer {
+        Ok(_) | Err(Refusal::Output(_)) => {}
+        Err(_) => remove_store(rt, &paths, true),
+    }
+    answer
+}
+
+/// Runs what was opened, over a store of these devices and journals.
+fn run_journaled_over(
+    rt: &HostRuntime,
+    opened: Opened,
+    journals: Journaling,
+    devices: Vec<Box<dyn ColumnDevice + Send>>,
+) -> Result<u8, Refusal>
+    requires { opened.script.schema ≡ opened.manager.schema }
+{
+    if have_failed(devices.as_slice()) {
+        return Err(Refusal::Store(StoreFault::StoreFailed));
+    }
+    let alloc = rt.alloc();
+    let store = Store::new(alloc, devices, opened.schema(), FIRST_GENERATION)?;
+    let mut out = io::writer(rt);
+    let (status, run) = run_journaled(alloc, opened, journals, store, FIRST_GENERATION, &mut out)?;
+    // As in a run without a journal.
+    let JournaledRun {
+        journaled,
+        store: _store,
+    } = run;
+    mem::forget(journaled);
+    Ok(status)
 }
 
 /// Runs what was opened over a store in memory.
@@ -270,19 +362,62 @@ fn memory_column(alloc: Global) -> Result<Box<MemColumn>, NoMemory>
     Ok(Box::new(alloc, column)?)
 }
 
-/// Prints the image that the store in a folder has.
+/// The files of a store's columns in a folder, as far as they can be read.
+fn column_files(
+    rt: &HostRuntime,
+    dir: &str,
+    width: usize,
+) -> Result<Vec<io::Result<Vec<u8>>>, Refusal> {
+    let mut files = Vec::new(rt.alloc());
+    for col in 0..width {
+        files.push(fs::read(rt, column_path(rt.alloc(), dir, col)?.as_str()))?;
+    }
+    Ok(files)
+}
+
+/// The bytes of files that were read, or the refusal of the first that wasn't.
+fn bytes_of_all(alloc: Global, files: &[io::Result<Vec<u8>>]) -> Result<Vec<&[u8]>, Refusal> {
+    let mut all = Vec::new(alloc);
+    for file in files {
+        all.push(stored_bytes(file)?)?;
+    }
+    Ok(all)
+}
+
+/// Prints the image that the store in a folder has, with the commits of its journal, where it has one.
 #[inline(never)]
 fn recover_folder(rt: &HostRuntime, dir: &str) -> Result<u8, Refusal> {
     let alloc = rt.alloc();
     let header = fs::read(rt, header_path(alloc, dir)?.as_str());
     let schema = read_header(alloc, bytes_of(&header))?;
-    let mut files = Vec::new(alloc);
-    for col in 0..schema.width() {
-        files.push(fs::read(rt, column_path(alloc, dir, col)?.as_str()))?;
+    let files = column_files(rt, dir, schema.width())?;
+    let columns = bytes_of_all(alloc, files.as_slice())?;
+    let images = fs::read(rt, images_path(alloc, dir)?.as_str());
+    let commits = fs::read(rt, journal_path(alloc, dir)?.as_str());
+    recover_files(rt, &schema, columns.as_slice(), &images, &commits)
+}
+
+/// Prints the image that columns store, with the commits of a journal. The files of a journal may both be missing.
+fn recover_files(
+    rt: &HostRuntime,
+    schema: &Schema,
+    columns: &[&[u8]],
+    images: &io::Result<Vec<u8>>,
+    commits: &io::Result<Vec<u8>>,
+) -> Result<u8, Refusal> {
+    let alloc = rt.alloc();
+    let mut out = io::writer(rt);
+    match (is_missing(images), is_missing(commits)) {
+        (true, true) => recover(alloc, schema, columns, &mut out),
+        (true, false) => Err(Refusal::NoImages),
+        (false, true) => Err(Refusal::NoCommits),
+        (false, false) => {
+            let files = StoreBytes {
+                columns,
+                images: stored_bytes(images)?,
+                commits: stored_bytes(commits)?,
+            };
+            recover_journaled(alloc, schema, files, &mut out)
+        }
     }
-    let mut columns = Vec::new(alloc);
-    for file in &files {
-        columns.push(stored_bytes(file)?)?;
-    }
-    recover(alloc, &schema, columns.as_slice(), &mut io::writer(rt))
 }

@@ -1,16 +1,12 @@
 -- What is written, record by record and some records at a time.
-use Rattle.std.proofs.Common.{◌≡◌, ◌∙◌, ℕ, suc, List, [], ◌∷◌, ◌++◌, map, drop, Option, Some, Result, Ok, Err}
-use Rattle.std.proofs.Common.{refl, sym, ap, subst, append_assoc, nat_lt}
-use Rattle.std.specs.Prelude.{OnOk}
-use Rattle.std.proofs.KnownBytes.{Appends-trans}
+use Rattle.std.proofs.Common.{◌≡◌, ◌∙◌, ℕ, suc, List, [], ◌∷◌, ◌++◌, map, drop, Some}
+use Rattle.std.proofs.Common.{refl, sym, ap, append_assoc, nat_lt}
 use Rattle.std.proofs.lemmas.List.{append-nil, map-append}
 use Rattle.std.proofs.lemmas.Grind.{flat_map-append}
 use Rattle.std.specs.List.{flat_map}
-use Rattle.std.specs.Io.KnownBytes.{Appends}
 use Rattle.std.specs.List.{slice_get}
 use Rattle.values.specs.declared.row.Row.{Row}
 use Rattle.values.specs.declared.value.ColumnType.{ColumnType}
-use Rattle.values.specs.Shape.{Columns}
 use Rattle.model.specs.Merging.{merged_rows}
 use Rattle.model.proofs.CallerLemmas.{merged_rows_from_nothing}
 use Rattle.stable.specs.Stable.{Stable, IsStable, table_in}
@@ -18,7 +14,7 @@ use Rattle.delta.specs.Tree.{Tree}
 use Rattle.merge.specs.Image.{AreStacked, image_rows, stack_of}
 use Rattle.txn.specs.Version.{empty_tree}
 use Rattle.txn.proofs.CallerLemmas.{no_layer}
-use Rattle.pdtcli.specs.Output.{header_cells, header_fields, image_text, kind_text, records_text, lines_text, rows_text}
+use Rattle.pdtcli.specs.Output.{header_cells, kind_text, records_text, lines_text, rows_text}
 use Rattle.pdtcli.specs.Records.{record_text}
 use Rattle.pdtcli.specs.Shown.{row_fields}
 use Rattle.inputs.specs.Reading.{Fields}
@@ -105,15 +101,3 @@ module _ (s : Stable) where
       merged_rows_from_nothing 0 (merged_rows (merged_rows s.rows []) [])
       ∙ merged_rows_from_nothing 0 (merged_rows s.rows [])
       ∙ merged_rows_from_nothing 0 s.rows
-
--- the header, and then the rows
-pub image_text-whole : (schema : Columns) (rows : List Row) (old mid new : Option (List ℕ)) (text : List ℕ) → text ≡ image_text schema []
-    → Appends old mid text → (shown : List Row) → shown ≡ rows → {T E : Type 0} (r : Result T E)
-    → OnOk r (Appends mid new (rows_text shown))
-    → OnOk r (Appends old new (image_text schema rows))
-image_text-whole schema rows old mid new text is sent shown are (Err fault) h = tt
-image_text-whole schema rows old mid new text is sent shown are (Ok x) h =
-    subst (Appends old new)
-    (ap (λ (z : List ℕ). z ++ rows_text shown) (is ∙ append-nil (record_text (header_fields schema)))
-    ∙ ap (λ (rs : List Row). record_text (header_fields schema) ++ rows_text rs) are)
-    (Appends-trans old mid new text (rows_text shown) sent h)

@@ -1,7 +1,9 @@
 -- A run goes on by one call, and each open transaction stays one of the manager.
 use Rattle.std.proofs.Common.{◌≡◌, ℕ, ◌+◌, ◌-◌, ◌≤◌, Option, Some, None, List, [], ◌∷◌, ◌++◌, length}
 use Rattle.std.proofs.Common.{get_or, set, refl, sym, ap, ◌∙◌, subst, arith, ⊎_elim, Result, Ok, Err}
-use Rattle.std.specs.Prelude.{IfSome, IsNone, MatchResult}
+use Rattle.std.specs.Prelude.{IfSome, IsNone, MatchResult, IfNone, IsTrue}
+use Rattle.std.proofs.Math.Seq.{get_or-append_seam}
+use Rattle.std.specs.List.{All}
 use Rattle.std.proofs.lemmas.List.{take-append-le, length-append, length-set}
 use Rattle.std.proofs.lemmas.List.Elements.{All-set}
 use Rattle.values.specs.Shape.{Columns}
@@ -13,10 +15,12 @@ use Rattle.model.specs.History.{Record, table_with_all, table_after, commits_wit
 use Rattle.inputs.specs.declared.call.Call.{Call}
 use Rattle.inputs.specs.declared.call.Call.TheVariants as call
 use Rattle.inputs.specs.declared.call.ClientCall.{ClientCall}
+use Rattle.inputs.specs.Typed.{is_typed_call}
 use Rattle.pdtcli.specs.declared.reply.Reply.{Reply}
 use Rattle.pdtcli.specs.declared.reply.Reply.TheVariants.{Begun, AlreadyOpen, NotOpen, Wrote, KeyColumn, TextTooLong, Row as Shown}
 use Rattle.pdtcli.specs.declared.reply.Reply.TheVariants.{Missing, NoRow, Place, Rows, Scanned, Decided, Aborted, Folded, Stored}
 use Rattle.pdtcli.specs.declared.reply.Reply.TheVariants.{DeviceFailed, StoreFailed, GenerationsSpent, Cut, Ended, Stranger, NoMemory}
+use Rattle.pdtcli.specs.declared.reply.Reply.TheVariants.{TooLong, Unsure, JournalFailed}
 use Rattle.pdtcli.specs.declared.reply.ReplyLine.{ReplyLine}
 use Rattle.txn.specs.Txn.{Transaction}
 use Rattle.txn.specs.Version.{Lower, alone}
@@ -29,13 +33,13 @@ use Rattle.manager.proofs.CallerLemmas.{newest_whole, commits_from-append, own_o
 
 -- ---- a step keeps the transactions of the manager
 
-record Keeps (old new : Managed) : Type 0 where
-  schema : new.schema ≡ old.schema
-  own : (txn : Transaction) → IsOwn old txn → IsOwn new txn
+pub record Keeps (old new : Managed) : Type 0 where
+  pub schema : new.schema ≡ old.schema
+  pub own : (txn : Transaction) → IsOwn old txn → IsOwn new txn
   -- no record comes into a history that wasn't made
-  made : old.made + length new.history ≤ length old.history + new.made
+  pub made : old.made + length new.history ≤ length old.history + new.made
 
-keeps_same : (old new : Managed) → new ≡ old → Keeps old new
+pub keeps_same : (old new : Managed) → new ≡ old → Keeps old new
 keeps_same old new is = subst (Keeps old) (sym is) (record { schema = refl; own = λ txn h. h; made = omega arith })
 
 -- a commit leaves the tables before it
@@ -90,7 +94,7 @@ keeps_cut m = record { schema = refl; own = λ txn h. IsOwn-cut_of m txn h; made
 keeps_over : (old m : Managed) (layers : Lower) → Keeps old m → Keeps old (with_layers m layers)
 keeps_over old m layers k = record { schema = k.schema; own = λ txn h. own_over m layers txn (k.own txn h); made = k.made }
 
-keeps_decided : (m : Managed) (txn : Transaction) (reply : CommitReply) (new : Managed) → IsDecided m txn reply new → Keeps m new
+pub keeps_decided : (m : Managed) (txn : Transaction) (reply : CommitReply) (new : Managed) → IsDecided m txn reply new → Keeps m new
 keeps_decided m txn reply new h =
     subst (Keeps m) (sym h.kept)
     (keeps_over m (with_record m (record_of txn reply)) new.layers (keeps_record m (record_of txn reply)))
@@ -101,9 +105,9 @@ pub own_decided : (m : Managed) (txn : Transaction) (reply : CommitReply) (new :
 own_decided m txn reply new h other own = (keeps_decided m txn reply new h).own other own
 
 -- what a side keeps by a step
-record SideKeeps (old new : Side) : Type 0 where
-  keeps : Keeps old.manager new.manager
-  own : IfSome new.own (IsOwn new.manager)
+pub record SideKeeps (old new : Side) : Type 0 where
+  pub keeps : Keeps old.manager new.manager
+  pub own : IfSome new.own (IsOwn new.manager)
 
 side_same : (old new : Side) → IfSome old.own (IsOwn old.manager) → new ≡ old → SideKeeps old new
 side_same old new own is = subst (SideKeeps old) (sym is) (record { keeps = keeps_same old.manager old.manager refl; own = own })
@@ -140,6 +144,9 @@ begin_keeps client old new GenerationsSpent own h = absurd h
 begin_keeps client old new (Cut count) own h = absurd h
 begin_keeps client old new Ended own h = absurd h
 begin_keeps client old new Stranger own h = absurd h
+begin_keeps client old new TooLong own h = absurd h
+begin_keeps client old new Unsure own h = absurd h
+begin_keeps client old new JournalFailed own h = absurd h
 
 write_keeps : (txn : Transaction) (write : Write) (old new : Side) (reply : Reply) → IsOwn old.manager txn
     → IfSome old.own (IsOwn old.manager) → OpenWriteStep txn write old reply new → SideKeeps old new
@@ -168,6 +175,9 @@ write_keeps txn write old new GenerationsSpent mine own h = absurd h
 write_keeps txn write old new (Cut count) mine own h = absurd h
 write_keeps txn write old new Ended mine own h = absurd h
 write_keeps txn write old new Stranger mine own h = absurd h
+write_keeps txn write old new TooLong mine own h = absurd h
+write_keeps txn write old new Unsure mine own h = absurd h
+write_keeps txn write old new JournalFailed mine own h = absurd h
 
 is_none : (own : Option Transaction) → IsNone own → own ≡ None
 is_none None h = refl
@@ -202,6 +212,9 @@ commit_keeps txn old new GenerationsSpent own h = absurd h
 commit_keeps txn old new (Cut count) own h = absurd h
 commit_keeps txn old new Ended own h = absurd h
 commit_keeps txn old new Stranger own h = absurd h
+commit_keeps txn old new TooLong own h = absurd h
+commit_keeps txn old new Unsure own h = absurd h
+commit_keeps txn old new JournalFailed own h = absurd h
 
 cut_own : (m : Managed) (own : Option Transaction) → IfSome own (IsOwn m) → IfSome own (IsOwn (cut_of m))
 cut_own m None h = tt
@@ -210,12 +223,12 @@ cut_own m (Some txn) h = IsOwn-cut_of m txn h
 cut_keeps : (old new : Side) → IfSome old.own (IsOwn old.manager) → new ≡ record old { manager = cut_of old.manager } → SideKeeps old new
 cut_keeps old new own is = subst (SideKeeps old) (sym is) (record { keeps = keeps_cut old.manager; own = cut_own old.manager old.own own })
 
-if_some : (old new : Managed) → Keeps old new → (own : Option Transaction) → IfSome own (IsOwn old) → IfSome own (IsOwn new)
+pub if_some : (old new : Managed) → Keeps old new → (own : Option Transaction) → IfSome own (IsOwn old) → IfSome own (IsOwn new)
 if_some old new keeps None h = tt
 if_some old new keeps (Some txn) h = keeps.own txn h
 
 -- a side whose transaction stays beside a manager that keeps it
-side_own : (old new : Side) → IfSome old.own (IsOwn old.manager) → new.own ≡ old.own → Keeps old.manager new.manager → SideKeeps old new
+pub side_own : (old new : Side) → IfSome old.own (IsOwn old.manager) → new.own ≡ old.own → Keeps old.manager new.manager → SideKeeps old new
 side_own old new own same keeps =
     record {
       keeps = keeps;
@@ -232,7 +245,7 @@ fold_keeps old new reply own h = side_own old new own h.0 (⊎_elim
     (λ (t : (reply ≡ NoMemory) × (new.manager ≡ old.manager)). keeps_same old.manager new.manager t.1)
     h.1)
 
-rebuilt_keeps : (old new : Managed) (answer : Result ℕ CheckpointFault)
+pub rebuilt_keeps : (old new : Managed) (answer : Result ℕ CheckpointFault)
     → MatchResult answer (λ _. new ≡ rebuilt_of old) (λ _. new ≡ old) → Keeps old new
 rebuilt_keeps old new (Ok generation) h = keeps_layers old new (alone (newest_stable old)) h
 rebuilt_keeps old new (Err fault) h = keeps_same old new h
@@ -241,7 +254,7 @@ rebuild_keeps : (old new : Side) (reply : Reply) → IfSome old.own (IsOwn old.m
 rebuild_keeps old new reply own h = side_own old new own h.0 (rebuilt_keeps old.manager new.manager h.1.0 h.1.2)
 
 -- by the transaction that is open
-step_keeps : (client : ℕ) (asked : Call) (m : Managed) (mine : Option Transaction) (new : Side) (reply : Reply)
+pub step_keeps : (client : ℕ) (asked : Call) (m : Managed) (mine : Option Transaction) (new : Side) (reply : Reply)
     → IfSome mine (IsOwn m) → SideStep client asked (record { manager = m; own = mine }) reply new
     → SideKeeps (record { manager = m; own = mine }) new
 step_keeps client call.Begin m mine new reply own h = begin_keeps client _ new reply own h
@@ -256,6 +269,20 @@ step_keeps client call.Fold m mine new reply own h = fold_keeps _ new reply own 
 step_keeps client call.Checkpoint m mine new reply own h = rebuild_keeps _ new reply own h
 step_keeps client call.Cut m mine new reply own h = cut_keeps _ new own h.1
 
+-- the clients are ready for a manager that keeps theirs, with another transaction of one of them
+pub ready_with : (schema : Columns) (count : ℕ) (m : Managed) (transactions : List (Option Transaction))
+    → IsReady schema count m transactions
+    → (client : ℕ) (own : Option Transaction) (new : Managed) → Keeps m new → IfSome own (IsOwn new)
+    → IsReady schema count new (set transactions client own)
+ready_with schema count m transactions h client own new keeps mine =
+    record {
+      schema_is = keeps.schema ∙ h.schema_is;
+      many = length-set transactions client own ∙ h.many;
+      own =
+          All-set (λ o. IfSome o (IsOwn new)) transactions client own mine
+          (λ k d lt. if_some m new keeps (get_or transactions k d) (h.own k d lt));
+    }
+
 -- the clients are ready again
 pub ready_again : (schema : Columns) (count : ℕ) (m : Managed) (transactions : List (Option Transaction))
     → IsReady schema count m transactions
@@ -265,13 +292,7 @@ pub ready_again : (schema : Columns) (count : ℕ) (m : Managed) (transactions :
     → IsReady schema count new.manager (set transactions client new.own)
 ready_again schema count m transactions h client asked mine new reply own step =
     let kept = step_keeps client asked m mine new reply own step in
-    record {
-      schema_is = kept.keeps.schema ∙ h.schema_is;
-      many = length-set transactions client new.own ∙ h.many;
-      own =
-          All-set (λ mine. IfSome mine (IsOwn new.manager)) transactions client new.own kept.own
-          (λ k d lt. if_some m new.manager kept.keeps (get_or transactions k d) (h.own k d lt));
-    }
+    ready_with schema count m transactions h client new.own new.manager kept.keeps kept.own
 
 -- and no record has come into the history that wasn't made
 pub made_again : (first m : Managed) (client : ℕ) (asked : Call) (mine : Option Transaction) (new : Side) (reply : Reply)
@@ -281,6 +302,34 @@ pub made_again : (first m : Managed) (client : ℕ) (asked : Call) (mine : Optio
 made_again first m client asked mine new reply own before step =
     let kept = (step_keeps client asked m mine new reply own step).keeps.made in
     omega (arith, before, kept)
+
+-- ---- the calls of a script, one after the other
+
+-- the calls before the next one, itself and those after it are all
+pub whole_of : (calls before left rest : List ClientCall) (asked : ClientCall) → left ≡ asked ∷ rest → before ++ left ≡ calls
+    → before ++ asked ∷ rest ≡ calls
+whole_of calls before left rest asked next split = ap (λ (xs : List ClientCall). before ++ xs) (sym next) ∙ split
+
+-- what holds of all calls holds of the next one
+pub next_of : (P : ClientCall → Type 0) (calls before left rest : List ClientCall) (asked : ClientCall)
+    → All P calls → left ≡ asked ∷ rest → before ++ left ≡ calls → P asked
+next_of P calls before left rest asked all next parts =
+    let split = whole_of calls before left rest asked next parts in
+    let here : get_or calls (length before) asked ≡ asked =
+    ap (λ (xs : List ClientCall). get_or xs (length before) asked) (sym split) ∙ get_or-append_seam before asked rest asked in
+    subst P here
+    (all (length before) asked (omega (arith, length-append before (asked ∷ rest), ap (λ (xs : List ClientCall). length xs) split)))
+
+-- a call that is typed under the manager's schema is so under that of a transaction of it
+pub typed_in : (schema : Columns) (m : Managed) (asked : Call) (mine : Option Transaction) → IsTrue (is_typed_call schema asked)
+    → m.schema ≡ schema → IfSome mine (IsOwn m) → IfSome mine (λ txn. IsTrue (is_typed_call txn.schema asked))
+typed_in schema m asked None typed same own = tt
+typed_in schema m asked (Some txn) typed same own =
+    subst (λ (s : Columns). IsTrue (is_typed_call s asked)) (sym (own.schema ∙ same)) typed
+
+pub none_left : (next : Option ClientCall) (P : Type 0) → IfNone next P → ((asked : ClientCall) → next ≡ Some asked → ⊥) → P
+none_left None P h none = h
+none_left (Some asked) P h none = absurd (none asked refl)
 
 -- ---- a run goes on
 

@@ -67,8 +67,11 @@ is_refused line = found line.reply
     found reply.GenerationsSpent = true
     found reply.Stranger = true
     found reply.Ended = true
+    found reply.TooLong = true
+    found reply.Unsure = true
+    found reply.JournalFailed = true
     found other = false
 
--- 1 where some reply tells that memory, the store or a session was refused
+-- 1 where some reply tells that memory, the store, the journal or a session was refused
 abbrev pub exit_status : List ReplyLine → ℕ
 exit_status lines = cond (list_any is_refused lines) 1 0

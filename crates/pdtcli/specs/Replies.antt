@@ -54,6 +54,9 @@ reply_fields reply.GenerationsSpent = codes "GenerationsSpent" ∷ []
 reply_fields (reply.Cut count) = codes "Done" ∷ decimal count ∷ []
 reply_fields reply.Ended = codes "Ended" ∷ []
 reply_fields reply.Stranger = codes "Stranger" ∷ []
+reply_fields reply.TooLong = codes "TooLong" ∷ []
+reply_fields reply.Unsure = codes "Unsure" ∷ []
+reply_fields reply.JournalFailed = codes "JournalFailed" ∷ []
 reply_fields reply.NoMemory = codes "NoMemory" ∷ []
 
 -- the fields of a record of the line, where the clients have these names: the client, the verb and these

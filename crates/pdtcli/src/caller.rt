@@ -23,7 +23,7 @@ use txn::Txn;
 use values::NoMemory;
 
 /// A client, with the transaction that it has open. A transaction that is open where the client is let go ends there.
-pub(crate) struct Caller {
+pub struct Caller {
     own: Option<Txn>,
 }
 
@@ -47,7 +47,7 @@ impl Drop for Caller {
 
 impl Caller {
     /// A client that has no transaction open.
-    pub(crate) fn new() -> Caller
+    pub fn new() -> Caller
         ensures { result ≡ None }
     {
         Caller { own: None }
@@ -85,7 +85,7 @@ impl Caller {
     }
 
     /// Opens a transaction.
-    fn begin(&mut self, client: u32, manager: &Manager) -> Reply
+    pub fn begin(&mut self, client: u32, manager: &Manager) -> Reply
         ensures { BeginStep client (record { manager = manager.now; own = self.old }) result
             (record { manager = manager.now; own = self.new }) }
     {
@@ -101,8 +101,15 @@ impl Caller {
         }
     }
 
+    /// Takes the transaction that is open: none is from then on.
+    pub fn take(&mut self) -> Option<Txn>
+        ensures { (result ≡ self.old) × (self.new ≡ None) }
+    {
+        self.own.take()
+    }
+
     /// Holds a transaction open. None is open before.
-    fn put(&mut self, txn: Txn)
+    pub fn put(&mut self, txn: Txn)
         requires { self.old ≡ None }
         ensures { self.new ≡ Some txn }
     {
@@ -112,7 +119,7 @@ impl Caller {
     }
 
     /// Writes in the open transaction, which keeps the row, the key or the value.
-    fn write(&mut self, write: Write) -> Reply
+    pub fn write(&mut self, write: Write) -> Reply
         requires typed { IfSome self.old (λ txn. IsTrue (is_typed_write txn.schema write)) }
         ensures { (manager : Managed) → WriteStep self.old write (record { manager = manager; own = self.old }) result
             (record { manager = manager; own = self.new }) }
@@ -124,7 +131,7 @@ impl Caller {
     }
 
     /// Reads in the open transaction.
-    fn read(&self, alloc: Global, read: &Read) -> Reply
+    pub fn read(&self, alloc: Global, read: &Read) -> Reply
         requires { IfSome self.now (λ txn. IsTrue (is_typed_read txn.schema read.now)) }
         ensures { ReadStep self.now read.now result }
     {
@@ -153,7 +160,7 @@ impl Caller {
     }
 
     /// Ends the open transaction.
-    fn abort(&mut self) -> Reply
+    pub fn abort(&mut self) -> Reply
         ensures { (manager : Managed) → AbortStep self.old (record { manager = manager; own = self.old }) result
             (record { manager = manager; own = self.new }) }
     {
@@ -189,7 +196,7 @@ fn checkpoint(manager: &mut Manager, store: &mut Store) -> Reply
 }
 
 /// The reply that tells how a checkpoint was answered.
-pub(crate) fn reply_of(answer: Result<u32, CheckpointFault>) -> Reply
+pub fn reply_of(answer: Result<u32, CheckpointFault>) -> Reply
     ensures { result ≡ checkpoint_reply answer }
 {
     match answer {

@@ -7,7 +7,7 @@
 //!
 //! *What it stands on.* `values` for schemas, rows and limits, `model` for tables, writes and histories, `stable` for the
 //! table, `txn` for transactions, `devices` for stores, `manager` for commits, `publishing` and `shared` for sessions,
-//! `words` and `inputs` for what the program is given, `csv` for records, `itoa` for numbers, and `thiserror` for what a
+//! `words` and `inputs` for what the program is given, `journal`, `images` and `replay` for the faults of a journal, `csv` for records, `itoa` for numbers, and `thiserror` for what a
 //! fault shows.
 #![tactic(auto)]
 
@@ -32,6 +32,7 @@ mod serial;
 mod shape;
 mod shown;
 
+pub use caller::{Caller, reply_of};
 pub use clients::{RunFault, run_clients};
 pub use devices::{ReadFault, Store, StoreFault, StoredImage};
 pub use gate::{Gate, OpenGate};
@@ -41,14 +42,17 @@ pub use inputs::{
 };
 pub use manager::{Manager, OpenFault};
 pub use outcome::{Left, Outcome};
-pub use output::{ShowFault, header_of, show, show_store};
+pub use output::{
+    ShowFault, header_of, is_refused, show, show_image, show_newest, show_reply, show_store,
+};
 pub use program::{
     FileFault, OpenOptions, Opened, open_texts, run_opened, run_opened_on_threads, status_of,
 };
+pub use queue::CallQueue;
 pub use recovery::{read_header, recover};
 pub use refusal::Refusal;
 pub use reply::{Reply, ReplyLine};
-pub use serial::run_serial;
+pub use serial::{new_callers, run_serial, verb_of_call};
 pub use shown::ShownRows;
 pub use stable::{BuildFault, StableTable};
 pub use txn::{Parts, Txn, Version, WriteFault};

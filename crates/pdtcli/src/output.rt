@@ -59,7 +59,7 @@ impl From<NoMemory> for ShowFault {
 
 /// Writes the reply lines in order, an empty line, and the newest image with its header, all as the crate `csv` writes
 /// records, with quotes where a field needs them. Answers the program's exit status: 1 where some reply is NoMemory,
-/// DeviceFailed, StoreFailed, GenerationsSpent, Stranger or Ended, and 0 otherwise.
+/// DeviceFailed, StoreFailed, GenerationsSpent, Stranger, Ended, TooLong, Unsure or JournalFailed, and 0 otherwise.
 ///
 /// # Errors
 ///
@@ -68,11 +68,60 @@ pub fn show<W: Write>(alloc: Global, left: &Left, out: &mut W) -> Result<u8, Sho
     ensures bytes { OnOk result (Appends (W.contents out.old) (W.contents out.new) (shown left.now)) }
     ensures status { IfOk result (λ status. status ≡ exit_status left.now.lines) }
 {
-    let newest = left.manager().newest();
     show_lines(alloc, left.clients(), left.lines(), out)?;
-    show_header(alloc, newest.schema(), out)?;
-    show_rows(alloc, &newest, out)?;
+    show_newest(alloc, &left.manager().newest(), out)?;
     Ok(lines_status(left.lines()))
+}
+
+/// Writes the records of one reply line, at once.
+///
+/// # Errors
+///
+/// Those of `show`.
+pub fn show_reply<W: Write>(
+    alloc: Global,
+    clients: &[Text],
+    line: &ReplyLine,
+    out: &mut W,
+) -> Result<(), ShowFault>
+    ensures { OnOk result (Appends (W.contents out.old) (W.contents out.new) (lines_text clients.now (line.now ∷ []))) }
+{
+    let batch = show_line(Batch::new(alloc)?, clients, line, out)?;
+    batch.finish(out)
+}
+
+/// Writes an empty line and an image with its header, as they stand after the reply lines of a run.
+///
+/// # Errors
+///
+/// Those of `show`.
+pub fn show_newest<W: Write>(
+    alloc: Global,
+    newest: &Layers<'_>,
+    out: &mut W,
+) -> Result<(), ShowFault>
+    ensures { OnOk result (Appends (W.contents out.old) (W.contents out.new) (10 ∷ [] ++ image_text newest.now.schema (image_rows newest.now))) }
+{
+    show_header(alloc, newest.schema(), out)?;
+    show_rows(alloc, newest, out)
+}
+
+/// Writes an image with the header of these columns, as the crate `csv` writes records.
+///
+/// # Errors
+///
+/// Those of `show`.
+pub fn show_image<W: Write>(
+    alloc: Global,
+    schema: &Schema,
+    image: &Layers<'_>,
+    out: &mut W,
+) -> Result<(), ShowFault>
+    ensures { OnOk result (Appends (W.contents out.old) (W.contents out.new) (image_text schema.now (image_rows image.now))) }
+{
+    let mut text = header_of(alloc, schema)?;
+    send(&mut text, out)?;
+    show_rows(alloc, image, out)
 }
 
 /// Writes the image that a store has, with the header of these columns, as the crate `csv` writes records.
@@ -88,10 +137,9 @@ pub fn show_store<W: Write>(
 ) -> Result<(), ShowFault>
     ensures { OnOk result (Appends (W.contents out.old) (W.contents out.new) (image_text schema.now image.now.table.rows)) }
 {
-    let mut text = header_of(alloc, schema)?;
-    send(&mut text, out)?;
     let none = DeltaTree::new(alloc, image.table.schema().key_cols());
-    show_rows(alloc, &Layers::new(&image.table, &none, &none, &none), out)
+    let layers = Layers::new(&image.table, &none, &none, &none);
+    show_image(alloc, schema, &layers, out)
 }
 
 /// The header record of these columns.
@@ -117,8 +165,8 @@ fn lines_status(lines: &[ReplyLine]) -> u8
     0
 }
 
-/// Whether a call was refused for want of memory, or by the store.
-fn is_refused(line: &ReplyLine) -> bool
+/// Whether a call was refused for want of memory, by the store, by the journal or for its session.
+pub fn is_refused(line: &ReplyLine) -> bool
     ensures { result ≡ is_refused line.now }
 {
     matches!(
@@ -129,6 +177,9 @@ fn is_refused(line: &ReplyLine) -> bool
             | Reply::GenerationsSpent
             | Reply::Stranger
             | Reply::Ended
+            | Reply::TooLong
+            | Reply::Unsure
+            | Reply::JournalFailed
     )
 }
 

@@ -9,7 +9,7 @@ const CALLS_AT_ONCE: usize = 4_096;
 
 /// The calls that are left, in their order. Contracts see them as a list.
 #[derive(Drop)]
-pub(crate) struct CallQueue {
+pub struct CallQueue {
     /// The next one stands last, so that what was taken is room behind the others.
     reversed: Vec<ClientCall>,
 }
@@ -25,7 +25,7 @@ impl Model for CallQueue {
 
 impl CallQueue {
     /// All of these calls. It takes no memory.
-    pub(crate) fn of(calls: Vec<ClientCall>) -> CallQueue
+    pub fn of(calls: Vec<ClientCall>) -> CallQueue
         ensures { result ≡ calls.items }
     {
         let mut reversed = calls;
@@ -34,14 +34,14 @@ impl CallQueue {
     }
 
     /// How many are left.
-    pub(crate) fn len(&self) -> usize
+    pub fn len(&self) -> usize
         ensures { result ≡ length self.now }
     {
         self.reversed.len()
     }
 
     /// Takes the next call.
-    pub(crate) fn next(&mut self) -> Option<ClientCall>
+    pub fn next(&mut self) -> Option<ClientCall>
         ensures some { IfSome result (λ asked. self.old ≡ asked ∷ self.new) }
         ensures none { IfNone result (self.old ≡ []) }
     {

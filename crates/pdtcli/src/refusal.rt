@@ -8,8 +8,11 @@ ghost use Rattle.pdtcli.specs.declared.refusal.Refusal.TheVariants as parts;
 use crate::clients::RunFault;
 use crate::output::ShowFault;
 use devices::{ReadFault, StoreFault};
+use images::ImagesFault;
 use inputs::{ScriptFault, TableFault};
+use journal::HeaderFault;
 use manager::OpenFault;
+use replay::RecoverFault;
 use std::alloc::{AllocError, AllocFailed};
 use std::error::Error;
 use std::fmt;
@@ -38,6 +41,22 @@ pub enum Refusal {
     Header(TableFault),
     /// The store's columns have this fault.
     Columns(ReadFault),
+    /// The store has marks of its images, and no journal of its commits.
+    NoCommits,
+    /// The store has a journal of its commits, and no marks of its images.
+    NoImages,
+    /// The header of the images' marks has this fault.
+    ImagesHeader(HeaderFault),
+    /// The header of the journal has this fault.
+    JournalHeader(HeaderFault),
+    /// The journal is of another store than the marks of the images.
+    OtherStore,
+    /// The marks don't tell how many commits had made the image that the columns store.
+    Images(ImagesFault),
+    /// The commits of the journal aren't made again over the image.
+    Commits(RecoverFault),
+    /// A device of the journal failed before the first call.
+    JournalFailed,
     /// The run had no place for its replies.
     Run(NoMemory),
     /// The run of clients on threads of their own left nothing.
@@ -59,7 +78,15 @@ impl Refusal {
             | Refusal::Store(_)
             | Refusal::UnreadableStore
             | Refusal::Header(_)
-            | Refusal::Columns(_) => "store",
+            | Refusal::Columns(_)
+            | Refusal::NoCommits
+            | Refusal::NoImages
+            | Refusal::ImagesHeader(_)
+            | Refusal::JournalHeader(_)
+            | Refusal::OtherStore
+            | Refusal::Images(_)
+            | Refusal::Commits(_)
+            | Refusal::JournalFailed => "store",
             Refusal::Run(_) | Refusal::Threads(_) => "run",
             Refusal::Output(_) => "output",
         }
@@ -82,6 +109,14 @@ impl fmt::Display for Refusal {
             Refusal::Store(fault) => write!(f, "pdt: {part}: {fault}"),
             Refusal::Header(fault) => write!(f, "pdt: {part}: {fault}"),
             Refusal::Columns(fault) => write!(f, "pdt: {part}: {fault}"),
+            Refusal::NoCommits => write!(f, "pdt: {part}: NoCommits"),
+            Refusal::NoImages => write!(f, "pdt: {part}: NoImages"),
+            Refusal::ImagesHeader(fault) => write!(f, "pdt: {part}: Images {fault}"),
+            Refusal::JournalHeader(fault) => write!(f, "pdt: {part}: {fault}"),
+            Refusal::OtherStore => write!(f, "pdt: {part}: OtherStore"),
+            Refusal::Images(fault) => write!(f, "pdt: {part}: Images {fault}"),
+            Refusal::Commits(fault) => write!(f, "pdt: {part}: {fault}"),
+            Refusal::JournalFailed => write!(f, "pdt: {part}: JournalFailed"),
             Refusal::Run(NoMemory) => write!(f, "pdt: {part}: NoMemory"),
             Refusal::Threads(fault) => write!(f, "pdt: {part}: {fault}"),
             Refusal::Output(fault) => write!(f, "pdt: {part}: {fault}"),
@@ -128,6 +163,22 @@ impl From<ReadFault> for Refusal {
 
     fn from(fault: ReadFault) -> Refusal {
         Refusal::Columns(fault)
+    }
+}
+
+impl From<ImagesFault> for Refusal {
+    ghost from_gives = { λ fault refusal. refusal ≡ parts.Images fault };
+
+    fn from(fault: ImagesFault) -> Refusal {
+        Refusal::Images(fault)
+    }
+}
+
+impl From<RecoverFault> for Refusal {
+    ghost from_gives = { λ fault refusal. refusal ≡ parts.Commits fault };
+
+    fn from(fault: RecoverFault) -> Refusal {
+        Refusal::Commits(fault)
     }
 }
 

@@ -59,6 +59,13 @@ pub enum Reply {
     Ended,
     /// The session has seen more commits than are held.
     Stranger,
+    /// What the commit changes has 2^32 bytes or more in the journal. The transaction stays open.
+    TooLong,
+    /// The journal's device failed over the commit: whether it is kept is known once the store is recovered. The transaction stays
+    /// open.
+    Unsure,
+    /// The journal's device has failed before: no commit and no checkpoint is taken any more.
+    JournalFailed,
     /// A growth was refused, and nothing has changed.
     NoMemory,
 }
@@ -144,6 +151,9 @@ fn push_reply(records: &mut Records, reply: &Reply) -> Result<(), NoMemory>
         Reply::Cut(count) => push_counted(records, "Done", *count),
         Reply::Ended => push_word(records, "Ended"),
         Reply::Stranger => push_word(records, "Stranger"),
+        Reply::TooLong => push_word(records, "TooLong"),
+        Reply::Unsure => push_word(records, "Unsure"),
+        Reply::JournalFailed => push_word(records, "JournalFailed"),
         Reply::NoMemory => push_word(records, "NoMemory"),
     }
 }

@@ -101,7 +101,11 @@ pub(crate) fn handed_out(manager: &Manager) -> u64
 }
 
 /// The clients, none of which has a transaction open.
-fn new_callers(alloc: Global, count: usize) -> Result<Vec<Caller>, NoMemory>
+///
+/// # Errors
+///
+/// `NoMemory` where their place is refused.
+pub fn new_callers(alloc: Global, count: usize) -> Result<Vec<Caller>, NoMemory>
     ensures { IfOk result (λ callers. callers.items ≡ replicate count None) }
 {
     let mut callers = Vec::with_capacity(alloc, count)?;
@@ -150,7 +154,8 @@ pub(crate) fn line_of(asked: &ClientCall, reply: Reply) -> ReplyLine
     }
 }
 
-fn verb_of_call(call: &Call) -> Verb
+/// The verb of a call.
+pub fn verb_of_call(call: &Call) -> Verb
     ensures { result ≡ verb_of_call call.now }
 {
     match call {

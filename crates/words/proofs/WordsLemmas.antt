@@ -28,8 +28,8 @@ usage-free = refl
 pub AreOf-same : (a b : Option Text) (f g : Text → Option Text) → a ≡ b → ((id : Text) → f id ≡ g id) → (settings : Settings)
     → AreOf a f settings → AreOf b g settings
 AreOf-same a b f g command same (Recover dir) h = (sym command ∙ h.0, sym (same (codes "dir")) ∙ h.1)
-AreOf-same a b f g command same (Run table script threads store recent limit conflicts) h =
-    rw (← command, ← same (codes "table"), ← same (codes "script"), ← same (codes "threads"), ← same (codes "store"), ← same (codes "recent"), ← same (codes "limit"), ← same (codes "conflicts")) h
+AreOf-same a b f g command same (Run table script threads store journal recent limit conflicts) h =
+    rw (← command, ← same (codes "table"), ← same (codes "script"), ← same (codes "threads"), ← same (codes "store"), ← same (codes "journal"), ← same (codes "recent"), ← same (codes "limit"), ← same (codes "conflicts")) h
 
 pub if-AreOf-same : (a b : Option Text) (f g : Text → Option Text) → a ≡ b → ((id : Text) → f id ≡ g id) → (o : Option Settings)
     → IfSome o (AreOf a f) → IfSome o (AreOf b g)

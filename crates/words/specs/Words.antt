@@ -1,5 +1,5 @@
 -- What the words of a command line say.
-use Rattle.std.specs.Prelude.{◌≡◌, ◌<◌, ◌≤◌, ℕ, Bool, true, false, Option, Some, None, List, codes, length}
+use Rattle.std.specs.Prelude.{◌≡◌, ◌<◌, ◌≤◌, ℕ, Bool, true, false, Option, Some, None, List, codes, is_some, length}
 use Rattle.std.specs.Option.{IfSome, option_map, option_and_then}
 use Rattle.std.specs.Str.Parse.{IsNumeral, digits_value, without_leading_plus}
 use Rattle.clap.specs.Simple.{on_top}
@@ -14,7 +14,7 @@ use Rattle.words.specs.declared.settings.TheConstants.{RECENT_COMMITS}
 use Rattle.words.specs.declared.settings.Settings.{Settings}
 use Rattle.words.specs.declared.settings.Settings.TheVariants.{Run, Recover}
 
--- ---- the usage: `pdt run TABLE SCRIPT [--threads] [--store DIR] [--recent N] [--limit N] [--conflicts column|row]`, `pdt recover DIR`
+-- ---- the usage: `pdt run TABLE SCRIPT [--threads] [--store DIR] [--journal] [--recent N] [--limit N] [--conflicts column|row]`, `pdt recover DIR`
 
 -- a word that has to be there, by its place
 abbrev pub placed_rule : Text → Rule
@@ -46,7 +46,8 @@ run_usage =
     let placed = with_rule (with_rule (new_app (codes "run")) (placed_rule (codes "table"))) (placed_rule (codes "script")) in
     let threaded = with_rule placed (flag_rule (codes "threads")) in
     let stored = with_rule threaded (folder_option_rule (codes "store")) in
-    let counted = with_rule (with_rule stored (number_rule (codes "recent") MAX_RECENT_COMMITS)) (number_rule (codes "limit") MAX_ROWS) in
+    let logged = with_rule stored (flag_rule (codes "journal")) in
+    let counted = with_rule (with_rule logged (number_rule (codes "recent") MAX_RECENT_COMMITS)) (number_rule (codes "limit") MAX_ROWS) in
     with_rule counted (option_rule (codes "conflicts"))
 
 -- `recover`, whose word is the store's folder
@@ -97,10 +98,11 @@ IsRuleOf (Some word) ByRow = word ≡ codes "row"
 -- the settings are of the command, and of the words for each of its arguments
 abbrev pub AreOf : Option Text → (Text → Option Text) → Settings → Type 0
 AreOf command word_of (Recover dir) = (command ≡ Some (codes "recover")) × (word_of (codes "dir") ≡ Some dir.now)
-AreOf command word_of (Run table script threads store recent limit conflicts) =
+AreOf command word_of (Run table script threads store journal recent limit conflicts) =
     (command ≡ Some (codes "run"))
     × (word_of (codes "table") ≡ Some table.now) × (word_of (codes "script") ≡ Some script.now)
     × (word_of (codes "threads") ≡ Some (flag_word threads)) × (word_of (codes "store") ≡ option_map (λ w. w.now) store)
+    × (word_of (codes "journal") ≡ Some (flag_word journal))
     × IsNumberOf RECENT_COMMITS (word_of (codes "recent")) recent × IsNumberOf MAX_ROWS (word_of (codes "limit")) limit
     × IsRuleOf (word_of (codes "conflicts")) conflicts
 
@@ -108,11 +110,16 @@ AreOf command word_of (Run table script threads store recent limit conflicts) =
 abbrev pub NamesFolder : Text → Type 0
 NamesFolder word = 0 < length word
 
--- the numbers are within their limits, and a folder has a name
+-- a journal is asked for only beside a store, and not with threads
+abbrev pub HasPlace : Bool → Bool → Bool → Type 0
+HasPlace journal stored threads = journal ≡ true → (stored ≡ true) × (threads ≡ false)
+
+-- the numbers are within their limits, a folder has a name, and a journal has a place
 abbrev pub IsWithinLimits : Settings → Type 0
 IsWithinLimits (Recover dir) = NamesFolder dir.now
-IsWithinLimits (Run table script threads store recent limit conflicts) =
+IsWithinLimits (Run table script threads store journal recent limit conflicts) =
     (1 ≤ recent) × (recent ≤ MAX_RECENT_COMMITS) × (1 ≤ limit) × (limit ≤ MAX_ROWS) × IfSome store (λ dir. NamesFolder dir.now)
+    × HasPlace journal (is_some store) threads
 
 -- the crate `clap` takes the words by the usage, and they say these settings
 pub record AreAsked (words : List Text) (settings : Settings) : Type 0 where

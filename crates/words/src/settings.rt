@@ -3,7 +3,7 @@ ghost use Rattle.std.specs.Prelude.{◌≡◌, ◌≤◌, ℕ, Bool, [], Some, I
 ghost use Rattle.clap.specs.Words.{app_of, fault_of, first_value, found_of, kind_of, subcommand_rows_of};
 ghost use Rattle.clap.specs.declared.error.kind.ErrorKind.TheVariants.{OutOfMemory};
 ghost use Rattle.model.specs.declared.clash.ConflictRule.{ConflictRule as Rule};
-ghost use Rattle.words.specs.Words.{flag_word, usage, command_for, word_for, word_in, AreAsked, AreOf, IsNumberOf, IsRuleOf, IsWithinLimits, NamesFolder};
+ghost use Rattle.words.specs.Words.{flag_word, usage, command_for, word_for, word_in, AreAsked, AreOf, HasPlace, IsNumberOf, IsRuleOf, IsWithinLimits, NamesFolder};
 ghost use Rattle.words.specs.declared.settings.Settings.{Settings as Asked};
 
 use crate::usage::program;
@@ -29,6 +29,8 @@ pub enum Settings<'a> {
         threads: bool,
         /// The folder that the store is made in, by a name that isn't empty; none where nothing is said.
         store: Option<&'a str>,
+        /// Whether the store has a journal. It is asked for only beside a store, and not with threads.
+        journal: bool,
         /// How many commits may come between a transaction's begin and its commit, 1 to 65,536; 64 where nothing is said.
         recent: usize,
         /// The most rows that the table may have, 1 to 2,147,483,647; that many where nothing is said.
@@ -48,9 +50,9 @@ pub enum Settings<'a> {
 /// # Errors
 ///
 /// `clap`'s error, with its text, where the words are not of the usage
-/// `pdt run TABLE SCRIPT [--threads] [--store DIR] [--recent N] [--limit N] [--conflicts column|row]` or
-/// `pdt recover DIR`, where a DIR is empty, where an N is out of its range, where help is asked for, and where a growth is
-/// refused.
+/// `pdt run TABLE SCRIPT [--threads] [--store DIR] [--journal] [--recent N] [--limit N] [--conflicts column|row]` or
+/// `pdt recover DIR`, where a DIR is empty, where an N is out of its range, where a journal is asked for without a store or with
+/// threads, where help is asked for, and where a growth is refused.
 pub fn read_words<'a>(alloc: Global, words: &'a [&'a str]) -> Result<Settings<'a>, Error>
     ensures said { IfOk result (AreOf (command_for (map (λ word. word.now) words.now)) (word_for (map (λ word. word.now) words.now))) }
     ensures within { IfOk result (λ settings. IsWithinLimits settings) }
@@ -76,7 +78,7 @@ fn settings_by<'a>(command: &mut Command<'a>, words: &'a [&'a str]) -> Result<Se
         Some(settings) => Ok(settings),
         None => Err(command.error(
             ErrorKind::ValueValidation,
-            "the conflict rule is column or row",
+            "--conflicts is column or row; --journal stands beside --store, and not beside --threads",
         )?),
     }
 }
@@ -108,6 +110,7 @@ fn run_settings<'a>(run: &ArgMatches<'a>) -> Option<Settings<'a>>
     let script = run.get_str("script")?;
     let threads = flag_in(run.get_str("threads"))?;
     let store = store_in(run.get_str("store"))?;
+    let journal = journal_in(run.get_str("journal"), store.is_some(), threads)?;
     let most = MAX_RECENT_COMMITS as u64;
     let recent = count_in(run.get_str("recent"), RECENT_COMMITS, most)? as usize;
     let limit = count_in(run.get_str("limit"), MAX_ROWS, MAX_ROWS)?;
@@ -117,6 +120,7 @@ fn run_settings<'a>(run: &ArgMatches<'a>) -> Option<Settings<'a>>
         script,
         threads,
         store,
+        journal,
         recent,
         limit,
         conflicts,
@@ -164,6 +168,20 @@ fn flag_in(word: Option<&str>) -> Option<bool>
         "false" => Some(false),
         _ => None,
     }
+}
+
+/// Whether a journal is asked for, by the word for it; none where it is no such word, or a journal has no place.
+fn journal_in(word: Option<&str>, stored: bool, threads: bool) -> Option<bool>
+    ensures said { IfSome result (λ given. option_map (λ w. w.now) word.entry ≡ Some (flag_word given)) }
+    ensures within { IfSome result (λ given. HasPlace given stored threads) }
+    ensures none { IsNone result → (given : Bool) → option_map (λ w. w.now) word.entry ≡ Some (flag_word given)
+        → HasPlace given stored threads → ⊥ }
+{
+    let journal = flag_in(word)?;
+    if journal && (threads || !stored) {
+        return None;
+    }
+    Some(journal)
 }
 
 /// The count that a word writes, or the usual one where there is no word; none where it isn't 1 to the largest.

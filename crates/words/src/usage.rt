@@ -25,6 +25,9 @@ const THREADS_HELP: &str = "Makes each client's calls on a thread of its own";
 const STORE_HELP: &str =
     "The folder that the store is made in: it has none of the store's files yet";
 
+const JOURNAL_HELP: &str =
+    "Keeps a journal in the store: a commit is on the disk before its reply is printed";
+
 const RECOVER_ABOUT: &str = "Prints the table that a store has";
 
 const DIR_HELP: &str = "The folder of the store";
@@ -58,6 +61,7 @@ fn run_command<'a>(alloc: Global) -> Result<Command<'a>, AllocError>
         .arg(file(alloc, "script", "SCRIPT", SCRIPT_HELP))?
         .arg(flag(alloc, "threads", THREADS_HELP))?
         .arg(folder_option(alloc, "store", "DIR", STORE_HELP))?
+        .arg(flag(alloc, "journal", JOURNAL_HELP))?
         .arg(number(alloc, "recent", RECENT_HELP, MAX_RECENT_COMMITS as u64))?
         .arg(number(alloc, "limit", LIMIT_HELP, MAX_ROWS))?
         .arg(option(alloc, "conflicts", "RULE", CONFLICTS_HELP))

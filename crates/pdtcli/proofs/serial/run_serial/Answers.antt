@@ -1,49 +1,19 @@
-use Rattle.std.proofs.Common.{◌≡◌, ◌++◌, ◌∷◌, ◌<◌, ◌∙◌, ℕ, None, Some, Option, List, [], length, get_or}
+use Rattle.std.proofs.Common.{◌≡◌, ◌++◌, ◌∷◌, ◌<◌, ◌∙◌, ℕ, None, Option, List, [], length, get_or}
 use Rattle.std.proofs.Common.{set, replicate}
 use Rattle.std.proofs.Common.{refl, ap, sym, subst, append_assoc, arith, rules}
-use Rattle.std.specs.Prelude.{IfNone, IfSome, IsTrue, slice_get}
-use Rattle.std.specs.List.{All}
-use Rattle.std.proofs.Math.Seq.{get_or-append_seam}
-use Rattle.std.proofs.lemmas.List.{append-nil, get_or-replicate, length-append, length-replicate}
+use Rattle.std.specs.Prelude.{IfSome, IsTrue, slice_get}
+use Rattle.std.proofs.lemmas.List.{append-nil, get_or-replicate, length-replicate}
 use Rattle.std.proofs.lemmas.Option.{slice_get-get_or}
-use Rattle.values.specs.Shape.{Columns}
-use Rattle.inputs.specs.declared.call.Call.{Call}
 use Rattle.inputs.specs.declared.call.ClientCall.{ClientCall}
 use Rattle.inputs.specs.Typed.{is_typed_call}
 use Rattle.pdtcli.specs.declared.reply.ReplyLine.{ReplyLine}
 use Rattle.devices.specs.Appending.{Taken, taken_by}
 use Rattle.txn.specs.Txn.{Transaction}
-use Rattle.manager.specs.Managed.{IsOwn, Managed}
+use Rattle.manager.specs.Managed.{IsOwn}
 use Rattle.pdtcli.specs.Run.{IsRun, Side, SideStep, State, Step, counts_after, decided_count, joined, line_of}
-use Rattle.pdtcli.proofs.RunLemmas.{ready_again, made_again, IsRun-more}
+use Rattle.pdtcli.proofs.RunLemmas.{IsRun-more, made_again, next_of, none_left, ready_again, typed_in, whole_of}
 use Rattle.pdtcli.proofs.CountLemmas.{counts_of, counts_after-call, length-counts_of, get_or-counts_of, decided_count-bound}
 use Rattle.pdtcli.proofs.serial.run_serial.Goals as goal
-
--- the calls before the next one, itself and those after it are all
-whole_of : (calls before left rest : List ClientCall) (asked : ClientCall) → left ≡ asked ∷ rest → before ++ left ≡ calls
-    → before ++ asked ∷ rest ≡ calls
-whole_of calls before left rest asked next split = ap (λ (xs : List ClientCall). before ++ xs) (sym next) ∙ split
-
--- what holds of all calls holds of the next one
-next_of : (P : ClientCall → Type 0) (calls before left rest : List ClientCall) (asked : ClientCall)
-    → All P calls → left ≡ asked ∷ rest → before ++ left ≡ calls → P asked
-next_of P calls before left rest asked all next parts =
-    let split = whole_of calls before left rest asked next parts in
-    let here : get_or calls (length before) asked ≡ asked =
-    ap (λ (xs : List ClientCall). get_or xs (length before) asked) (sym split) ∙ get_or-append_seam before asked rest asked in
-    subst P here
-    (all (length before) asked (omega (arith, length-append before (asked ∷ rest), ap (λ (xs : List ClientCall). length xs) split)))
-
--- a call that is typed under the manager's schema is so under that of a transaction of it
-typed_in : (schema : Columns) (m : Managed) (asked : Call) (mine : Option Transaction) → IsTrue (is_typed_call schema asked)
-    → m.schema ≡ schema → IfSome mine (IsOwn m) → IfSome mine (λ txn. IsTrue (is_typed_call txn.schema asked))
-typed_in schema m asked None typed same own = tt
-typed_in schema m asked (Some txn) typed same own =
-    subst (λ (s : Columns). IsTrue (is_typed_call s asked)) (sym (own.schema ∙ same)) typed
-
-none_left : (next : Option ClientCall) (P : Type 0) → IfNone next P → ((asked : ClientCall) → next ≡ Some asked → ⊥) → P
-none_left None P h none = h
-none_left (Some asked) P h none = absurd (none asked refl)
 
 pub loop-asked-init : goal.loop-asked-init
 loop-asked-init g c =

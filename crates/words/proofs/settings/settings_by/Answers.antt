@@ -1,4 +1,4 @@
-use Rattle.std.proofs.Common.{◌∙◌, ap, map, sym}
+use Rattle.std.proofs.Common.{◌∙◌, ap, map, refl, sym}
 use Rattle.std.specs.Option.{option_map}
 use Rattle.clap.specs.Words.{App, fault_of, kind_of, is_simple, is_simple_and_free, subcommand_of, takes}
 use Rattle.words.specs.Words.{word_in}
@@ -32,3 +32,12 @@ returns-in-Some-clause-faultless c =
     let is = c.requires in
     let words = map (λ word. word.now) c.args.words.now in
     sym (ap (λ (a : App). fault_of a words) is) ∙ c.in_ok-matches.ensures.kinds (ap is_simple_and_free is ∙ usage-free)
+
+pub returns-clause-taken : goal.returns-clause-taken
+returns-clause-taken c settings asked =
+    let is = c.requires in
+    let words = map (λ word. word.now) c.args.words.now in
+    let read = (c.in_ok-matches.ensures.ok.2 (ap is_simple is ∙ usage-simple)).1 ∙ ap (λ (a : App). subcommand_of a words) is in
+    let said = AreOf-same _ _ _ _ (sym (ap (λ o. option_map (λ p. p.0) o) read))
+    (λ id. sym (ap (λ o. word_in (option_map (λ p. p.1) o) id) read)) settings asked.said in
+    absurd ((rw c.in-None.is at c.command_settings.ensures.none) refl settings said asked.within)

@@ -1,0 +1,3 @@
+mod JournalLemmas
+mod RecoveryLemmas
+mod RunLemmas

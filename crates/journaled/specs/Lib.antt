@@ -1,0 +1,4 @@
+pub mod Journaled
+pub mod Laws
+pub mod Recovery
+pub mod Run
