@@ -10,8 +10,8 @@ mod journals;
 mod streams;
 
 use crate::files::{
-    StorePaths, bytes_of, column_path, header_path, images_path, is_missing, journal_path,
-    make_store, remove_store, store_paths, stored_bytes,
+    StoreFiles, StorePaths, bytes_of, column_path, header_path, images_path, is_missing,
+    journal_path, make_store, remove_store, store_paths, stored_bytes,
 };
 use crate::journals::Journaling;
 use crate::streams::hold_streams;
@@ -211,12 +211,11 @@ fn run<T: Threads + Wait + Sync>(
     }
 }
 
-/// A store that is made in a folder: its files, a device over each column's, and its journals where they were asked for.
+/// A store that is made in a folder: its files, and what they are made as.
 #[derive(Drop)]
 struct FolderStore {
     paths: StorePaths,
-    devices: Vec<Box<dyn ColumnDevice + Send>>,
-    journals: Option<Journaling>,
+    files: StoreFiles,
 }
 
 /// Makes the files of a store of these columns in the folder.
@@ -229,17 +228,8 @@ fn store_in_folder(
     let alloc = rt.alloc();
     let header = stored_header(alloc, schema)?;
     let paths = store_paths(alloc, dir, schema.width())?;
-    // Room comes first: once the files are made each device has its place.
-    let mut devices: Vec<Box<dyn ColumnDevice + Send>> = Vec::with_capacity(alloc, schema.width())?;
-    let made = make_store(rt, dir, &paths, journaled, header.as_slice())?;
-    for column in made.columns {
-        devices.push(column)?;
-    }
-    Ok(FolderStore {
-        paths,
-        devices,
-        journals: made.journals,
-    })
+    let files = make_store(rt, dir, &paths, journaled, header.as_slice())?;
+    Ok(FolderStore { paths, files })
 }
 
 /// Runs what was opened over a store in the folder. Where the store isn't made, no file of it stays.
@@ -251,11 +241,15 @@ fn run_in_folder<T: Threads + Wait + Sync>(
 ) -> Result<u8, Refusal>
     requires { opened.script.schema ≡ opened.manager.schema }
 {
-    let FolderStore {
-        paths,
-        devices,
-        journals: _journals,
-    } = store_in_folder(rt, dir, opened.schema(), false)?;
+    // Room comes first: once the files are made each device has its place.
+    let mut devices: Vec<Box<dyn ColumnDevice + Send>> = Vec::with_capacity(
+        rt.alloc(),
+        opened.schema().width(),
+    )?;
+    let FolderStore { paths, files } = store_in_folder(rt, dir, opened.schema(), false)?;
+    for column in files.columns {
+        devices.push(column)?;
+    }
     let answer = run_over(rt, turns, opened, devices);
     if let Err(Refusal::Store(_)) = &answer {
         remove_store(rt, &paths, false);
@@ -268,12 +262,16 @@ fn run_in_folder<T: Threads + Wait + Sync>(
 fn run_with_journal(rt: &HostRuntime, dir: &str, opened: Opened) -> Result<u8, Refusal>
     requires { opened.script.schema ≡ opened.manager.schema }
 {
-    let FolderStore {
-        paths,
-        devices,
-        journals,
-    } = store_in_folder(rt, dir, opened.schema(), true)?;
-    let answer = match journals {
+    // As above.
+    let mut devices: Vec<Box<dyn ColumnDevice + Send>> = Vec::with_capacity(
+        rt.alloc(),
+        opened.schema().width(),
+    )?;
+    let FolderStore { paths, files } = store_in_folder(rt, dir, opened.schema(), true)?;
+    for column in files.columns {
+        devices.push(column)?;
+    }
+    let answer = match files.journals {
         Some(journals) => run_journaled_over(rt, opened, journals, devices),
         None => Err(Refusal::CannotMake),
     };
