@@ -6,6 +6,7 @@ ghost use Rattle.journal.specs.Reading.{long_at, word_at};
 
 use crate::check::crc_from;
 use crate::fault::HeaderFault;
+use crate::room::put_behind;
 use std::marker::Model;
 use values::NoMemory;
 
@@ -91,9 +92,9 @@ impl Header {
     }
 }
 
-/// The seed of a salt.
+/// The seed of the frames of a journal with this salt.
 #[tactic(auto, unfolding(crate::specs::Header::seed_of))]
-fn seed_of(salt: u64) -> u32
+pub fn seed_of(salt: u64) -> u32
     ensures { result ≡ seed_of salt }
 {
     crc_from(ALL_ONES, &salt.to_be_bytes())
@@ -108,15 +109,21 @@ pub fn write_header(header: &Header, out: &mut Vec<u8>) -> Result<(), NoMemory>
     ensures ok { OnOk result (out.new.items ≡ out.old.items ++ header_bytes header.now) }
     ensures err { OnErr result (out.new.items ≡ out.old.items) }
 {
-    // Once there is room for all of it, nothing below is refused.
-    out.reserve(HEADER_BYTES)?;
-    out.extend_from_slice(&MAGIC.to_be_bytes())?;
-    out.extend_from_slice(&VERSION.to_be_bytes())?;
-    out.extend_from_slice(&header.salt().to_be_bytes())?;
-    out.extend_from_slice(&header.store().to_be_bytes())?;
-    out.extend_from_slice(&header.base().to_be_bytes())?;
-    out.extend_from_slice(&check_of(header).to_be_bytes())?;
-    Ok(())
+    Ok(out.extend_from_slice(&spelt_header(header))?)
+}
+
+/// The bytes of a header. Takes no memory.
+pub fn spelt_header(header: &Header) -> [u8; HEADER_BYTES]
+    ensures { result ≡ header_bytes header.now }
+{
+    let mut bytes = [0; HEADER_BYTES];
+    let end = put_behind(&mut bytes, 0, &MAGIC.to_be_bytes());
+    let end = put_behind(&mut bytes, end, &VERSION.to_be_bytes());
+    let end = put_behind(&mut bytes, end, &header.salt().to_be_bytes());
+    let end = put_behind(&mut bytes, end, &header.store().to_be_bytes());
+    let end = put_behind(&mut bytes, end, &header.base().to_be_bytes());
+    put_behind(&mut bytes, end, &check_of(header).to_be_bytes());
+    bytes
 }
 
 /// The check of a header.

@@ -13,17 +13,18 @@ mod frame;
 mod header;
 mod laws;
 mod reading;
+mod room;
 mod witness;
 mod writing;
 
 pub use check::crc_from;
 pub use fault::HeaderFault;
 pub use frame::{Ending, Frame, Reading};
-pub use header::{Header, read_header, write_header};
+pub use header::{Header, read_header, seed_of, spelt_header, write_header};
 pub use laws::{
     a_burst_is_found, a_changed_byte_is_found, a_crash_leaves_whole_frames, a_header_is_guarded,
     a_header_is_spelt, a_header_reads_back, a_journal_goes_on, a_journal_survives,
     a_prefix_reads_as_whole_frames, frames_read_back, rot_is_told, what_reads_is_spelt,
 };
 pub use reading::read_frames;
-pub use writing::write_frame;
+pub use writing::{frame_head, write_frame};
