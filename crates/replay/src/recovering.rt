@@ -82,6 +82,8 @@ pub fn recover(
     ensures number { IfOk result (λ r. newest_number r.manager ≡ image.number
         + length (logged_since (decoded image.table.schema table) frames.entry.seed frames.entry.base image.number frames.entry.bytes.now)) }
     ensures schema { IfOk result (λ r. r.manager.schema ≡ image.table.schema) }
+    ensures limits { IfOk result (λ r. (r.manager.start.limit ≡ limits.row_limit) × (r.manager.start.recent ≡ limits.recent)
+        × (r.manager.start.rule ≡ limits.conflicts)) }
 
     ensures whole { IfOk result (λ r. r.whole ≡ length frames.entry.bytes.now
         - length (read_of frames.entry.seed (frames.entry.base + 1) frames.entry.bytes.now).rest) }

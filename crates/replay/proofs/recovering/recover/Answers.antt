@@ -53,6 +53,16 @@ opened_schema c = ap (λ (m : Managed). m.schema) c.in_ok-manager.ensures.ok
 opened_number : (c : After-replay) → newest_number c.in_ok-manager.manager ≡ c.args.image.number
 opened_number c = let none : c.args.image.number + 0 ≡ c.args.image.number = omega arith in ap newest_number c.in_ok-manager.ensures.ok ∙ none
 
+pub returns-clause-limits : goal.returns-clause-limits
+returns-clause-limits c =
+    let before = (goal.at.returns-clause-limits c).After-replay in
+    let opened = before.in_ok-manager.ensures.ok in
+    let replayed = c.in_ok-replay.ensures.ok in (
+      replayed.limit ∙ ap (λ (m : Managed). m.start.limit) opened,
+      replayed.recent ∙ ap (λ (m : Managed). m.start.recent) opened,
+      replayed.rule ∙ ap (λ (m : Managed). m.start.rule) opened,
+    )
+
 pub returns-clause-rows : goal.returns-clause-rows
 returns-clause-rows c =
     let before = (goal.at.returns-clause-rows c).After-replay in
