@@ -46,6 +46,18 @@ typedef struct {
   uint32_t cause;
 } text_fault;
 
+/* what the header of a journal says: what the seed of its checks is made from, the name of the store that it is of, and the number of
+   the commit before its first frame */
+typedef struct {
+  uint64_t salt, store, base;
+} journal_header;
+
+/* what was reopened on an image and a journal: how many bytes of the frames are whole, and the number of the newest commit; or the
+   commit that a fault names, 0 where it names none */
+typedef struct {
+  uint64_t whole, newest, fault;
+} reopened;
+
 extern uint32_t pdtr_open(const uint8_t *, size_t, size_t, uint64_t, bool, text_fault *, handle *);
 extern uint32_t pdtr_open_columns(const uint8_t *, size_t, size_t, const numbers *, size_t, const offsets *, size_t, const slice *,
                                   size_t, size_t, uint64_t, bool, pdt_place *, handle *);
@@ -112,6 +124,15 @@ extern uint32_t pdtr_pin(handle *, handle *);
 extern uint32_t pdtr_pin_again(handle *, handle *);
 extern uint64_t pdtr_pinned(handle *);
 extern void pdtr_unpin(handle *);
+
+/* the journal: a header has 36 bytes, and a frame's head 28 */
+extern uint32_t pdtr_check(uint32_t, const uint8_t *, size_t);
+extern bool pdtr_journal_header(uint64_t, uint64_t, uint64_t, uint8_t *, size_t);
+extern uint32_t pdtr_journal_read(const uint8_t *, size_t, journal_header *);
+extern bool pdtr_frame_head(uint64_t, uint64_t, uint64_t, const uint8_t *, size_t, uint8_t *, size_t);
+extern uint32_t pdtr_part(handle *, handle *, handle *, uint32_t, handle *);
+extern uint32_t pdtr_reopen(const uint8_t *, size_t, const slice *, size_t, size_t, uint64_t, bool, uint64_t, uint32_t, uint64_t, uint64_t,
+                            const uint8_t *, size_t, reopened *, handle *);
 
 /* ---- the objects */
 

@@ -7,3 +7,5 @@ mod TruthLemmas
 mod EntryLemmas
 mod FillingLemmas
 mod Crossing
+mod ReopeningLemmas
+mod PreparedLemmas

@@ -2,6 +2,7 @@ pub mod Held
 pub mod Cells
 pub mod Told
 pub mod Opening
+pub mod Reopening
 pub mod TextFaults
 pub mod Writes
 pub mod Marks
@@ -10,6 +11,7 @@ pub mod Numbers
 pub mod Texts
 pub mod Truths
 pub mod Stored
+pub mod Journals
 pub mod Entries
 pub mod Filling
 pub mod Columns

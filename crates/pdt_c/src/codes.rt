@@ -1,15 +1,19 @@
 //! What a call answers C, as numbers. `pdt.h` has their names.
 ghost use Rattle.std.specs.Prelude.{◌≡◌, ◌≢◌, ◌<◌, ◌⊎◌, IfOk, IfErr, Ok, Err};
+ghost use Rattle.pdt_c.specs.Reopening.{told_fault};
 ghost use Rattle.pdt_c.specs.Told.{told, code_of_reply};
-ghost use Rattle.pdt_c.specs.declared.codes.TheConstants.{BAD_TABLE, NOT_ASCENDING, NO_MEMORY, SHAPE};
+ghost use Rattle.pdt_c.specs.declared.codes.TheConstants.{BAD_TABLE, DONE, NOT_ASCENDING, NO_MEMORY, ROT, SHAPE, TOO_LONG};
+ghost use Rattle.codec.specs.declared.fault.SpellFault.TheVariants as spell_fault;
 ghost use Rattle.txn.specs.declared.fault.WriteFault.TheVariants as write_fault;
 
 use crate::passed::cells::CellFault;
+use codec::SpellFault;
 use devices::StoreFault;
 use frames::ReadFault;
 use inputs::TableFault;
 use manager::OpenFault;
 use model::{CommitReply, WriteReply};
+use replay::RecoverFault;
 use txn::WriteFault;
 use values::SchemaFault;
 
@@ -42,6 +46,14 @@ pub(crate) const BAD_STORE: u32 = 12;
 pub(crate) const NO_IMAGE: u32 = 13;
 
 pub(crate) const NOT_ASCENDING: u32 = 18;
+
+pub(crate) const ROT: u32 = 21;
+
+pub(crate) const GAP: u32 = 22;
+
+pub(crate) const MISFIT: u32 = 23;
+
+pub(crate) const TOO_LONG: u32 = 26;
 
 /// The code of cells that aren't there.
 pub(crate) fn code_of_cells(fault: CellFault) -> u32
@@ -89,6 +101,7 @@ pub(crate) fn code_of_commit(reply: CommitReply) -> (u32, u64)
 
 pub(crate) fn code_of_table(fault: TableFault) -> u32
     ensures some { 0 < result }
+    ensures below { result < ROT }
     ensures bad { result ≡ BAD_TABLE → fault ≢ TableFault.NoMemory }
     ensures other { (result ≢ SHAPE) × (result ≢ NOT_ASCENDING) }
 {
@@ -113,7 +126,8 @@ pub(crate) fn code_of_opening(fault: OpenFault) -> u32
 }
 
 pub(crate) fn code_of_reading(fault: ReadFault) -> u32
-    ensures { 0 < result }
+    ensures some { 0 < result }
+    ensures below { result < ROT }
 {
     match fault {
         ReadFault::NoMemory => NO_MEMORY,
@@ -129,5 +143,31 @@ pub(crate) fn code_of_store(fault: StoreFault) -> u32
         // A device in memory fails only where memory is refused.
         StoreFault::NoMemory | StoreFault::DeviceFailed(_) => NO_MEMORY,
         _ => BAD_STORE,
+    }
+}
+
+/// The code of why a part isn't spelt.
+pub(crate) fn code_of_spelling(fault: SpellFault) -> u32
+    ensures some { result ≢ DONE }
+    ensures long { result ≡ TOO_LONG → fault ≡ spell_fault.TooLong }
+{
+    match fault {
+        SpellFault::TooLong => TOO_LONG,
+        SpellFault::NoMemory => NO_MEMORY,
+    }
+}
+
+/// The code of why nothing is recovered, and the commit that the fault names: 0 where it names none.
+pub(crate) fn code_of_recovery(fault: RecoverFault) -> (u32, u64)
+    ensures { result ≡ told_fault fault }
+{
+    match fault {
+        RecoverFault::Rot(commit) => (ROT, commit),
+        RecoverFault::Gap(commit) => (GAP, commit),
+        RecoverFault::BadPayload(commit, _) | RecoverFault::Misfit(commit) => (MISFIT, commit),
+        RecoverFault::NumbersSpent => (MISFIT, 0),
+        RecoverFault::BadLimit => (BAD_LIMIT, 0),
+        RecoverFault::TooManyRows => (TOO_MANY_ROWS, 0),
+        RecoverFault::NoMemory => (NO_MEMORY, 0),
     }
 }

@@ -22,7 +22,7 @@ use stable::StableTable;
 use std::alloc::Global;
 
 /// What conflicts: changes of one row, or of one column of one row.
-fn rule_of(by_row: bool) -> ConflictRule
+pub(crate) fn rule_of(by_row: bool) -> ConflictRule
     ensures { result ≡ rule_of by_row }
 {
     if by_row {

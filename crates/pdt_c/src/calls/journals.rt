@@ -1,0 +1,207 @@
+//! What C writes into a journal, and reads of one: its header, the heads of its frames, and the parts of their payloads.
+ghost use Rattle.std.specs.Prelude.{◌≡◌, ◌≢◌, ◌≤◌, ◌<◌, ◌^◌, ◌⊎◌, ◌↔◌, ◌++◌, Err, IfOk, IfSome, IsSome, IsTrue, IsFalse, MatchOption, None, Some, length, take};
+ghost use Rattle.codec.specs.Fit.{EntriesFit};
+ghost use Rattle.codec.specs.declared.fault.SpellFault.TheVariants as spell_fault;
+ghost use Rattle.journal.specs.Check.{crc};
+ghost use Rattle.journal.specs.Frame.{frame_bytes};
+ghost use Rattle.journal.specs.Header.{header_bytes, header_in, header_with, seed_of};
+ghost use Rattle.manager.specs.Managed.{IsOwn};
+ghost use Rattle.manager.specs.Prepared.{IsPrepared, tree_in};
+ghost use Rattle.pdt_c.specs.Journals.{IsLong, IsPartOf, IsToldHeader};
+ghost use Rattle.pdt_c.specs.Stored.{bytes_at};
+ghost use Rattle.pdt_c.specs.declared.codes.TheConstants.{DONE, TOO_LONG};
+
+use crate::codes::{DONE, ROT, code_of_spelling};
+use crate::handles::decision::Decision;
+use crate::handles::image::{Columns, Image};
+use crate::handles::store::Store;
+use crate::handles::transaction::{OpenTxn, Transaction};
+use crate::handles::{decision, image, store, transaction};
+use codec::{SpellFault, commit_entries_fit, write_part};
+use delta::DeltaTree;
+use journal::{Frame, Header, crc_from, frame_head, read_header, seed_of, spelt_header};
+use manager::{Manager, Prepared};
+use std::alloc::Global;
+use values::Schema;
+
+/// How many bytes a journal's header has.
+const HEADER_BYTES: usize = 36;
+
+/// How many bytes stand in front of a frame's payload.
+const HEAD_BYTES: usize = 28;
+
+/// The greatest number of bytes that a frame's payload has.
+const MAX_PAYLOAD: usize = u32::MAX as usize;
+
+/// What a journal's header says.
+#[repr(C)]
+#[derive(Clone, Copy)]
+pub struct JournalHeader {
+    /// What the seed of its checks is made from.
+    pub salt: u64,
+    /// The name of the store that it is of.
+    pub store: u64,
+    /// The number of the commit before its first frame.
+    pub base: u64,
+}
+
+/// The register of CRC-32C after bytes, from this one on.
+#[unsafe(no_mangle)]
+pub extern "C" fn pdtr_check(from: u32, bytes: &[u8]) -> u32
+    ensures { result ≡ crc from bytes.now }
+{
+    crc_from(from, bytes)
+}
+
+/// Puts the bytes of a header where there is room for them, and says whether it did: there is none of a salt whose seed is
+/// 0, or of a base that no commit has. Takes no memory.
+#[unsafe(no_mangle)]
+pub extern "C" fn pdtr_journal_header(salt: u64, store: u64, base: u64, out: &mut [u8]) -> bool
+    ensures put { IsTrue result → MatchOption (header_with salt store base) ⊥ (λ h. take 36 out.new ≡ header_bytes h) }
+    ensures none { IsFalse result → (header_with salt store base ≡ None) ⊎ (length out.old < 36) }
+    ensures kept { IsFalse result → out.new ≡ out.old }
+{
+    let Some(header) = Header::new(salt, store, base) else {
+        return false;
+    };
+    if out.len() < HEADER_BYTES {
+        return false;
+    }
+    out[..HEADER_BYTES].copy_from_slice(&spelt_header(&header));
+    true
+}
+
+/// Tells what the header says that bytes begin with, or that they begin with none. Takes no memory.
+#[unsafe(no_mangle)]
+pub extern "C" fn pdtr_journal_read(bytes: &[u8], header: &mut JournalHeader) -> u32
+    ensures { IsToldHeader (header_in bytes.now) result header.old header.new }
+{
+    match read_header(bytes) {
+        Ok((found, _)) => {
+            *header = JournalHeader {
+                salt: found.salt(),
+                store: found.store(),
+                base: found.base(),
+            };
+            DONE
+        }
+        Err(_) => ROT,
+    }
+}
+
+/// Puts the bytes that stand before the payload of a frame where there is room for them, under the seed of a journal's salt,
+/// and says whether it did: a frame has fewer than 2^32 bytes of payload. Takes no memory.
+#[unsafe(no_mangle)]
+pub extern "C" fn pdtr_frame_head(
+    salt: u64,
+    number: u64,
+    synced: u64,
+    payload: &[u8],
+    head: &mut [u8],
+) -> bool
+    ensures put { IsTrue result → take 28 head.new ++ payload.now ≡ frame_bytes (seed_of salt) (record
+        { number = number; synced = synced; payload = payload.now }) }
+    ensures room { IsTrue result ↔ (28 ≤ length head.old) × (length payload.now < 2 ^ 32) }
+    ensures kept { IsFalse result → head.new ≡ head.old }
+{
+    if head.len() < HEAD_BYTES || payload.len() > MAX_PAYLOAD {
+        return false;
+    }
+    let frame = Frame {
+        number,
+        synced,
+        payload,
+    };
+    head[..HEAD_BYTES].copy_from_slice(&frame_head(seed_of(salt), &frame));
+    true
+}
+
+/// Puts the part of a payload that says what was decided for this transaction, under the table's number, into a handle that
+/// holds nothing, as its column 0: no bytes where the table is left. Nothing else changes.
+#[unsafe(no_mangle)]
+pub extern "C" fn pdtr_part(
+    alloc: Global,
+    store: &mut Store,
+    txn: &mut Transaction,
+    decision: &mut Decision,
+    table: u32,
+    part: &mut Image,
+) -> u32
+    requires store { IsSome store.old.value }
+    requires txn { IsSome txn.old.value }
+    requires decision { IsSome decision.old.value }
+    requires own { IfSome store.old.value (λ m. IfSome txn.old.value (λ t. IsOwn m t.txn)) }
+    requires prepared { IfSome store.old.value (λ m. IfSome txn.old.value (λ t. IfSome decision.old.value (IsPrepared m t.txn))) }
+    ensures kept { (store.new.value ≡ store.old.value) × (txn.new.value ≡ txn.old.value) × (decision.new.value ≡ decision.old.value) }
+
+    // The part is that of the decided tree's entries, and is read as them again.
+    ensures done { result ≡ DONE → IfSome store.old.value (λ m. IfSome decision.old.value (λ d. IfSome part.new.value (λ p.
+        IsPartOf m.schema table (tree_in d) (bytes_at p 0)))) }
+    ensures held { result ≡ DONE → IsSome part.new.value }
+    ensures long { result ≡ TOO_LONG → IfSome decision.old.value (λ d. IsLong (tree_in d)) }
+    ensures refused { result ≢ DONE → part.new.value ≡ part.old.value }
+{
+    let manager = store::take(alloc, store);
+    let begun = transaction::take(alloc, txn);
+    let prepared = decision::take(alloc, decision);
+    let spelt = spell(alloc, &manager, &begun, &prepared, table);
+    decision::put(decision, prepared);
+    transaction::put(txn, begun);
+    store::put(store, manager);
+    match spelt {
+        Ok(columns) => {
+            image::put(part, columns);
+            DONE
+        }
+        Err(fault) => code_of_spelling(fault),
+    }
+}
+
+/// The part of what was decided.
+fn spell(
+    alloc: Global,
+    manager: &Manager,
+    begun: &OpenTxn,
+    prepared: &Prepared,
+    table: u32,
+) -> Result<Box<Columns>, SpellFault>
+    requires own { IsOwn manager.now begun.now.txn }
+    requires prepared { IsPrepared manager.now begun.now.txn prepared.now }
+    ensures ok { IfOk result (λ p. IsPartOf manager.now.schema table (tree_in prepared.now) (bytes_at p.value 0)) }
+    ensures long { result ≡ Err spell_fault.TooLong → IsLong (tree_in prepared.now) }
+{
+    // These are called for what their clauses tell.
+    commit_entries_fit();
+    let _history = manager.history();
+    let _begin = begun.txn.begin();
+    match prepared.tree() {
+        Some(tree) => part_of(alloc, manager.newest().schema(), table, tree),
+        None => one_column(alloc, Vec::new(alloc)),
+    }
+}
+
+/// The part of a commit's tree.
+fn part_of(
+    alloc: Global,
+    schema: &Schema,
+    table: u32,
+    tree: &DeltaTree,
+) -> Result<Box<Columns>, SpellFault>
+    requires fits { EntriesFit schema.now tree.now.entries }
+    ensures ok { IfOk result (λ p. IsPartOf schema.now table (Some tree.now) (bytes_at p.value 0)) }
+    ensures long { result ≡ Err spell_fault.TooLong → IsLong (Some tree.now) }
+{
+    let mut bytes = Vec::new(alloc);
+    write_part(schema, table, tree, &mut bytes)?;
+    one_column(alloc, bytes)
+}
+
+/// The bytes of one column.
+fn one_column(alloc: Global, bytes: Vec<u8>) -> Result<Box<Columns>, SpellFault>
+    ensures ok { IfOk result (λ columns. bytes_at columns.value 0 ≡ bytes.items) }
+    ensures err { result ≢ Err spell_fault.TooLong }
+{
+    let mut columns = Vec::new(alloc);
+    columns.push(bytes)?;
+    Ok(Box::new(alloc, Columns { bytes: columns })?)
+}
