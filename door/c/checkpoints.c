@@ -6,6 +6,7 @@
 struct pdt_snapshot {
   pdt_store *store;
   handle version;   /* the newest one when it began */
+  uint64_t commits; /* the number of its table */
   handle table;     /* made by the first write */
   uint64_t rebuilt; /* that of the store when it began */
   bool is_written, is_installed;
@@ -17,14 +18,14 @@ pdt_code pdt_checkpoint_begin(pdt_store *store, uint64_t *commits, pdt_snapshot 
   if (!store) return PDT_MISUSE;
   pdt_snapshot *snapshot = calloc(1, sizeof *snapshot);
   if (!snapshot) return PDT_NOMEM;
-  handle before = {NULL};
+  replaced before = {{{NULL}}};
   int code = pdti_enter(store);
   if (!code) {
     code = (int)pdtr_checkpoint_begin(&store->raw, &snapshot->version);
     if (!code) {
       store->snapshots++;
       snapshot->rebuilt = ++store->rebuilt;
-      if (commits) *commits = pdtr_commits(&store->raw);
+      snapshot->commits = store->newest;
       before = pdti_refresh(store);
     }
     pdti_leave(store);
@@ -35,6 +36,7 @@ pdt_code pdt_checkpoint_begin(pdt_store *store, uint64_t *commits, pdt_snapshot 
     return code;
   }
   snapshot->store = store;
+  if (commits) *commits = snapshot->commits;
   *out = snapshot;
   return PDT_OK;
 }
@@ -46,8 +48,7 @@ pdt_code pdt_checkpoint_write(pdt_snapshot *snapshot, const char *folder) {
   uint8_t *chunk = malloc(CHUNK);
   if (!chunk) return PDT_NOMEM;
   handle image = {NULL};
-  if (!snapshot->table.at) code = (int)pdtr_snapshot_table(&snapshot->version, &snapshot->table);
-  if (!code) code = (int)pdtr_table_image(&snapshot->table, &image);
+  code = pdti_snapshot_image(snapshot, &image);
   if (!code) {
     code = pdti_write_files(snapshot->store, &image, folder, chunk);
     int why = errno;
@@ -59,12 +60,21 @@ pdt_code pdt_checkpoint_write(pdt_snapshot *snapshot, const char *folder) {
   return code;
 }
 
+int pdti_snapshot_image(pdt_snapshot *snapshot, handle *image) {
+  pdt_store *store = snapshot->store;
+  if (store->database && pdti_wait_until_safe(store->database, snapshot->commits)) return PDT_FAILED;
+  int code = snapshot->table.at ? PDT_OK : (int)pdtr_snapshot_table(&snapshot->version, &snapshot->table);
+  return code ? code : (int)pdtr_table_image(&snapshot->table, image);
+}
+
+void pdti_snapshot_is_written(pdt_snapshot *snapshot) { snapshot->is_written = true; }
+
 pdt_code pdt_checkpoint_install(pdt_snapshot *snapshot) {
   if (!snapshot || !snapshot->is_written || snapshot->is_installed) return PDT_MISUSE;
   pdt_store *store = snapshot->store;
   if (pdti_enter(store)) return PDT_MISUSE;
   int code = store->rebuilt == snapshot->rebuilt ? (int)pdtr_restack(&store->raw, &snapshot->table) : PDT_SUPERSEDED;
-  handle before = {NULL};
+  replaced before = {{{NULL}}};
   if (!code) {
     store->rebuilt++;
     store->done.checkpoints++;
@@ -99,8 +109,9 @@ typedef struct {
 static int make_draft(pdt_store *store, draft *made) {
   if (pdti_enter(store)) return PDT_MISUSE;
   int code = (int)pdtr_share(&store->raw, &made->version);
-  made->commits = pdtr_commits(&store->raw);
+  made->commits = store->newest;
   pdti_leave(store);
+  if (!code && store->database && pdti_wait_until_safe(store->database, made->commits)) code = PDT_FAILED;
   if (!code) code = (int)pdtr_snapshot_table(&made->version, &made->table);
   if (!code) code = (int)pdtr_table_image(&made->table, &made->image);
   return code;

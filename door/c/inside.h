@@ -136,41 +136,60 @@ extern uint32_t pdtr_reopen(const uint8_t *, size_t, const slice *, size_t, size
 
 /* ---- the objects */
 
+/* The locks of a store, which all tables of a database share. */
+typedef struct {
+  pthread_mutex_t lock;        /* held in each call on a raw but the opening and the closing */
+  struct timespec since;       /* when it was taken */
+  uint64_t longest;            /* the longest time that it was held, in nanoseconds */
+  atomic_uint_fast64_t waits;  /* how often a thread found it taken */
+  pthread_mutex_t fresh_lock;  /* which no call holds for longer than it takes to begin a transaction over each table */
+} pdti_locks;
+
+typedef struct pdti_table pdti_table;
+
 struct pdt_store {
   handle raw;
-  pthread_mutex_t lock; /* held in each call on raw but the opening and the closing */
-  atomic_size_t open;   /* how many transactions are open: an abort lowers it without the lock */
-  size_t recent;        /* how many of the last commits are kept */
-  size_t width, key;    /* the columns never change, and are read without the lock */
+  pdti_locks *locks;      /* its own, or its database's */
+  pdti_locks own_locks;
+  pdt_database *database; /* null where it is a store alone */
+  pdti_table *table;      /* what it is there */
+  atomic_size_t open;     /* how many transactions are open: an abort lowers it without the lock */
+  size_t recent;          /* how many of the last commits are kept */
+  size_t width, key;      /* the columns never change, and are read without the lock */
   int types[PDT_MAX_COLUMNS];
   size_t name_bytes[PDT_MAX_COLUMNS]; /* a name may have a zero byte */
   char names[PDT_MAX_COLUMNS][PDT_MAX_NAME + 1];
 
   /* under the lock */
-  size_t snapshots;      /* how many checkpoints have begun and not ended */
-  uint64_t rebuilt;      /* how often what stands below the Write-PDT was made anew */
-  struct timespec since; /* when the lock was taken */
-  uint64_t longest;      /* the longest time that it was held, in nanoseconds */
+  size_t snapshots; /* how many checkpoints have begun and not ended */
+  uint64_t rebuilt; /* how often what stands below the Write-PDT was made anew */
+  uint64_t newest;  /* the number of the newest table: of a database's, the number that its last commit has there */
+  uint64_t *made_by; /* of a database's: the numbers there of its last commits and of the table before them, each at its own number
+                        modulo recent + 1 */
   struct {
     uint64_t commits, conflicts, too_old, full, folds, checkpoints, superseded;
   } done;
 
-  /* under a lock of their own, which no call holds for longer than it takes to begin a transaction */
-  pthread_mutex_t fresh_lock;
-  handle fresh;         /* the newest version; nothing where malloc refused it, and then a begin takes the other lock */
+  /* under fresh_lock */
+  handle fresh;         /* the version that begins take: nothing where malloc refused it, and then a begin takes the other lock */
   uint64_t commits;     /* its number */
+  handle coming;        /* a newer one, which begins take once its commits are safe */
+  uint64_t coming_commits;
+  handle leaving;       /* one between the two, whose commits are being written */
+  uint64_t leaving_commits;
   pthread_cond_t moved; /* the number has grown */
   size_t waiting;       /* how many threads wait for that */
   pdt_pinned *oldest, *youngest; /* the pins, in the order of their numbers */
   size_t pins;
 
   atomic_uint_fast64_t begins; /* of transactions, also over pins */
-  atomic_uint_fast64_t waits;  /* how often a thread found the lock taken */
 };
 
 struct pdt_txn {
   handle raw;
   pdt_store *store;
+  pdt_work *work;   /* that it is a part of, if it is */
+  uint64_t begun;   /* the number of the table that it sees */
   bool is_prepared; /* its commit is */
   handle decision;  /* of a prepared commit: the store's lock is held then. Nothing where it changes nothing */
   pthread_t by;     /* the thread that prepared it, and holds the lock */
@@ -192,12 +211,69 @@ int pdti_enter(pdt_store *store);
 /* Gives it back. */
 void pdti_leave(pdt_store *store);
 
-/* Shares the newest version with begins, before the lock is given back. What was shared before is let go by pdti_drop, after. */
-handle pdti_refresh(pdt_store *store);
-void pdti_drop(handle version);
+/* Versions that begins took and take no more: they are let go of without a lock. */
+typedef struct {
+  handle at[3];
+} replaced;
+
+/* Whether the newest table has a commit that a crash could take away, so that begins don't see it yet. */
+bool pdti_is_hidden(const pdt_store *store);
+
+/* Shares the newest version with begins, or keeps it for them until its commits are safe; before the lock is given back. */
+replaced pdti_refresh(pdt_store *store);
+void pdti_drop(replaced versions);
+
+/* The same of a version that was taken already, or is nothing, with fresh_lock held. */
+replaced pdti_share(pdt_store *store, handle version);
+
+/* The commits up to a number are safe: begins take the version that was kept for them. With fresh_lock held. */
+replaced pdti_publish(pdt_store *store, uint64_t safe);
+
+/* Keeps the number of a database that the table's newest commit has there. Under the lock. */
+void pdti_number(pdt_store *store, uint64_t local, uint64_t number);
+
+/* Begins over the version that begins take, with fresh_lock held; nothing is there where malloc refused it. */
+int pdti_begin_fresh(pdt_store *store, pdt_txn *txn);
+
+/* Begins over the newest version, once it may be read, and shares it again. Where it fails nothing has begun. */
+int pdti_begin_newest(pdt_store *store, pdt_txn *txn);
+
+/* Counts a commit that was decided. Under the lock. */
+void pdti_count(pdt_store *store, int code);
+
+/* Whether a transaction changes nothing, so that its commit is its abort. */
+bool pdti_is_idle(pdt_txn *txn);
+
+/* Ends a transaction that leaves no record. */
+void pdti_end(pdt_txn *txn);
+
+/* Frees a transaction whose handle is empty. */
+void pdti_forget(pdt_txn *txn);
 
 /* A lock that tells the thread which has it so, when it asks again. */
 int pdti_make_lock(pthread_mutex_t *lock);
+
+/* ---- a database's part in a commit */
+
+/* Commits a transaction over one of its tables; what pdt_commit answers. */
+int pdti_commit_in(pdt_database *database, pdt_txn *txn, uint64_t *commits);
+
+/* Under the lock: whether it takes commits; the frame of a prepared one, whose number it answers; and what that is given up by. */
+int pdti_may_commit(const pdt_database *database);
+int pdti_stage_one(pdt_database *database, pdt_txn *txn, uint64_t *number);
+void pdti_unstage(pdt_database *database);
+
+/* Installs what is staged, gives the lock back, and waits as the database's sync says. */
+int pdti_install_in(pdt_database *database, pdt_txn *txn);
+
+/* The newest commit. Under the lock. */
+uint64_t pdti_newest(const pdt_database *database);
+
+/* The newest commit that begins may see. With fresh_lock held. */
+uint64_t pdti_seen(const pdt_database *database);
+
+/* Waits until the device has a commit. */
+int pdti_wait_until_safe(pdt_database *database, uint64_t number);
 
 /* ---- slices: one of nothing still has an address that may be read */
 
@@ -209,6 +285,22 @@ static inline const uint8_t *bytes_at(const void *bytes, size_t len) { return le
 static inline uint8_t *room_at(void *room, size_t len) { return len ? room : pdti_no_room; }
 
 /* ---- opening */
+
+/* What a caller asks for, whose struct may be a later one with further members: those are zeros. */
+int pdti_options_of(const pdt_options *given, pdt_options *options);
+
+/* Makes the locks of a store or of a database, or none of them. */
+int pdti_make_locks(pdti_locks *locks);
+void pdti_destroy_locks(pdti_locks *locks);
+
+/* Keeps the columns of a store whose handle has just been filled, and hands it out; where that fails it is let go. */
+int pdti_adopt(pdt_store *store, const pdt_options *options, pdt_store **out);
+
+/* Lets go of a store that nobody uses. */
+void pdti_free_store(pdt_store *store);
+
+/* Whether a store is in use. Under the lock. */
+bool pdti_is_used(pdt_store *store);
 
 /* The header of a store: a record that names the columns, each in quotes, since a name may have commas, quotes and ends of lines. */
 enum { HEADER_BYTES = PDT_MAX_COLUMNS * (2 * PDT_MAX_NAME + 16) };
@@ -223,6 +315,11 @@ int pdti_width_of(const uint8_t *header, size_t len, size_t *width);
 /* ---- files */
 
 enum { CHUNK = 1 << 20 };
+
+/* The bytes of a checkpoint that has begun, once a crash can't take its commits away: of a database PDT_FAILED where that is never. */
+int pdti_snapshot_image(pdt_snapshot *snapshot, handle *image);
+/* They are written. */
+void pdti_snapshot_is_written(pdt_snapshot *snapshot);
 
 /* Whether a store can be made in a folder: it is there, may be read, and has no file of one. Nothing is changed by it. */
 int pdti_try_folder(const pdt_store *store, const char *folder);

@@ -55,14 +55,37 @@ void pdt_layer_close(pdt_layer *layer) {
   free(layer);
 }
 
-size_t pdt_layer_size(pdt_layer *layer) { return layer ? pdtr_layer_len(&layer->raw) : 0; }
+size_t pdt_layer_size(pdt_layer *layer) { return layer && layer->raw.at ? pdtr_layer_len(&layer->raw) : 0; }
 
 pdt_code pdt_entry_at(pdt_layer *layer, size_t index, pdt_entry *entry, int64_t *numbers, void *out, size_t room) {
   if (!layer || !entry || !numbers || (!out && room)) return PDT_MISUSE;
+  if (!layer->raw.at) return PDT_MISSING; /* of a commit that changed another table */
   return (int)pdtr_entry(&layer->raw, index, entry, numbers, layer->width, room_at(out, room), room);
 }
 
 /* ---- the feed */
+
+/* The number that the commit has in the manager of a database's table, or 0 where that commit changed another table. PDT_MISSING
+   where it isn't kept, or a crash could take it away yet. Under the lock. */
+static int find_commit(pdt_store *store, uint64_t number, uint64_t *local) {
+  size_t kept = pdtr_kept(&store->raw);
+  uint64_t newest = pdtr_commits(&store->raw), low = newest - kept, high = newest;
+  pthread_mutex_lock(&store->locks->fresh_lock);
+  bool is_seen = number <= pdti_seen(store->database);
+  pthread_mutex_unlock(&store->locks->fresh_lock);
+  size_t slots = store->recent + 1;
+  if (!is_seen || number <= store->made_by[low % slots]) return PDT_MISSING;
+  while (low + 1 < high) { /* the commits above low, up to high: the first is at the number or before it */
+    uint64_t middle = low + (high - low) / 2;
+    if (store->made_by[middle % slots] < number) {
+      low = middle;
+    } else {
+      high = middle;
+    }
+  }
+  *local = store->made_by[high % slots] == number ? high : 0;
+  return PDT_OK;
+}
 
 pdt_code pdt_changes(pdt_store *store, uint64_t number, pdt_layer **out) {
   if (!out) return PDT_MISUSE;
@@ -72,7 +95,9 @@ pdt_code pdt_changes(pdt_store *store, uint64_t number, pdt_layer **out) {
   if (!layer) return PDT_NOMEM;
   int code = pdti_enter(store);
   if (!code) {
-    code = (int)pdtr_changes(&store->raw, number, &layer->raw);
+    uint64_t local = number;
+    if (store->database) code = find_commit(store, number, &local);
+    if (!code && (!store->database || local)) code = (int)pdtr_changes(&store->raw, local, &layer->raw);
     pdti_leave(store);
   }
   if (code) {
@@ -101,12 +126,12 @@ pdt_code pdt_wait(pdt_store *store, uint64_t after, uint64_t milliseconds, uint6
   if (!store) return PDT_MISUSE;
   struct timespec end = later(milliseconds);
   int late = 0;
-  pthread_mutex_lock(&store->fresh_lock);
+  pthread_mutex_lock(&store->locks->fresh_lock);
   store->waiting++;
-  while (store->commits <= after && !late) late = pthread_cond_timedwait(&store->moved, &store->fresh_lock, &end);
+  while (store->commits <= after && !late) late = pthread_cond_timedwait(&store->moved, &store->locks->fresh_lock, &end);
   store->waiting--;
   uint64_t number = store->commits;
-  pthread_mutex_unlock(&store->fresh_lock);
+  pthread_mutex_unlock(&store->locks->fresh_lock);
   if (commits) *commits = number;
   return number > after ? PDT_OK : PDT_MISSING;
 }

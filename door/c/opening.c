@@ -26,8 +26,7 @@ size_t pdti_header(const pdt_store *store, char *text) {
 
 /* ---- options */
 
-/* What a caller asks for, whose struct may be a later one with further members: those are zeros. */
-static int options_of(const pdt_options *given, pdt_options *options) {
+int pdti_options_of(const pdt_options *given, pdt_options *options) {
   *options = (pdt_options){sizeof *options, 65536, 2147483647, false};
   if (!given) return PDT_OK;
   if (given->size < sizeof *given) return PDT_MISUSE;
@@ -41,32 +40,30 @@ static int options_of(const pdt_options *given, pdt_options *options) {
 
 /* ---- texts */
 
-/* Makes the locks of a store, or none of them. */
-static int make_locks(pdt_store *store) {
+/* Makes the condition that a store's waits wait for. */
+static int make_condition(pthread_cond_t *moved) {
   pthread_condattr_t kind;
   if (pthread_condattr_init(&kind)) return -1;
-  int bad = pthread_condattr_setclock(&kind, CLOCK_MONOTONIC) || pthread_cond_init(&store->moved, &kind);
+  int bad = pthread_condattr_setclock(&kind, CLOCK_MONOTONIC) || pthread_cond_init(moved, &kind);
   pthread_condattr_destroy(&kind);
-  if (bad) return -1;
-  if (pthread_mutex_init(&store->fresh_lock, NULL)) {
-    pthread_cond_destroy(&store->moved);
-    return -1;
-  }
-  if (pdti_make_lock(&store->lock)) {
-    pthread_mutex_destroy(&store->fresh_lock);
-    pthread_cond_destroy(&store->moved);
-    return -1;
-  }
-  return 0;
+  return bad ? -1 : 0;
 }
 
-/* Keeps the columns of a store whose handle has just been filled, and hands it out. */
-static int adopt(pdt_store *store, const pdt_options *options, pdt_store **out) {
-  if (make_locks(store)) {
+/* Makes the locks of a store alone and its condition, or none of them. */
+static int make_own(pdt_store *store) {
+  if (make_condition(&store->moved)) return -1;
+  if (!pdti_make_locks(&store->own_locks)) return 0;
+  pthread_cond_destroy(&store->moved);
+  return -1;
+}
+
+int pdti_adopt(pdt_store *store, const pdt_options *options, pdt_store **out) {
+  if (make_own(store)) {
     pdtr_close(&store->raw);
     free(store);
     return PDT_NOMEM;
   }
+  store->locks = &store->own_locks;
   store->recent = options->recent;
   (void)pdtr_pin(&store->raw, &store->fresh);
   store->width = pdtr_width(&store->raw);
@@ -107,7 +104,7 @@ pdt_code pdt_open_csv(const void *csv, size_t bytes, const pdt_options *options,
   if (!out) return PDT_MISUSE;
   *out = NULL;
   pdt_options asked;
-  if ((!csv && bytes) || options_of(options, &asked)) return PDT_MISUSE;
+  if ((!csv && bytes) || pdti_options_of(options, &asked)) return PDT_MISUSE;
   pdt_store *store = calloc(1, sizeof *store);
   if (!store) return PDT_NOMEM;
   text_fault found = {0, 0, 0};
@@ -117,7 +114,7 @@ pdt_code pdt_open_csv(const void *csv, size_t bytes, const pdt_options *options,
     free(store);
     return code;
   }
-  return adopt(store, &asked, out);
+  return pdti_adopt(store, &asked, out);
 }
 
 /* It is the text of a table with no rows. */
@@ -178,7 +175,7 @@ pdt_code pdt_open_columns(const pdt_column *columns, size_t count, size_t key, c
   if (!out) return PDT_MISUSE;
   *out = NULL;
   pdt_options asked;
-  if ((!columns && count) || options_of(options, &asked)) return PDT_MISUSE;
+  if ((!columns && count) || pdti_options_of(options, &asked)) return PDT_MISUSE;
   char header[HEADER_BYTES];
   size_t len = 0;
   pdt_place at = {0, 0};
@@ -197,7 +194,7 @@ pdt_code pdt_open_columns(const pdt_column *columns, size_t count, size_t key, c
     free(store);
     return code;
   }
-  return adopt(store, &asked, out);
+  return pdti_adopt(store, &asked, out);
 }
 
 /* ---- images as bytes */
@@ -207,7 +204,7 @@ pdt_code pdt_recover_from(const void *header, size_t len, const pdt_bytes *colum
   if (!out) return PDT_MISUSE;
   *out = NULL;
   pdt_options asked;
-  if ((!header && len) || (!columns && count) || options_of(options, &asked)) return PDT_MISUSE;
+  if ((!header && len) || (!columns && count) || pdti_options_of(options, &asked)) return PDT_MISUSE;
   if (count > PDT_MAX_COLUMNS) return PDT_BAD_STORE;
   slice slices[PDT_MAX_COLUMNS] = {{pdti_no_bytes, 0}};
   for (size_t column = 0; column < count; column++) {
@@ -224,5 +221,5 @@ pdt_code pdt_recover_from(const void *header, size_t len, const pdt_bytes *colum
     return code;
   }
   if (generation) *generation = found;
-  return adopt(store, &asked, out);
+  return pdti_adopt(store, &asked, out);
 }

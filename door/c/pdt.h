@@ -1,7 +1,9 @@
 /* Narthexmace from C: an ordered table under snapshot isolation, which takes updates without touching its sorted columns.
 
-   Objects. A pdt_store is a table; a pdt_txn is an open transaction over it; a pdt_pinned is a version of the table that is kept.
-   Each is made by a call, known by its address, and let go by a call: pdt_close; pdt_commit or pdt_abort; pdt_unpin.
+   Objects. A pdt_store is a table; a pdt_txn is an open transaction over it; a pdt_pinned is a version of the table that is kept; a
+   pdt_database is a folder of tables; a pdt_work is an open transaction over all of them.
+   Each is made by a call, known by its address, and let go by a call: pdt_close; pdt_commit or pdt_abort; pdt_unpin;
+   pdt_database_close; pdt_work_commit or pdt_work_abort.
 
    Threads. Calls on one pdt_store may come from several threads: each takes the store's lock, but for begins and pins, which take
    one that no call holds for longer than a begin. A pdt_txn is used by one thread at a time; transactions of several threads read
@@ -27,7 +29,8 @@
    order of the columns: a text's number is how many bytes it has, a truth's is 0 or 1. There are as many bytes as the
    numbers say, and no more. A row has all columns, a key the first pdt_key_columns of them.
 
-   Nothing folds, cuts or checkpoints by itself: pdt_size says what has grown. */
+   Of a store alone nothing folds, cuts or checkpoints by itself, and what was committed ends with the process: pdt_size says what
+   has grown. A pdt_database is a folder of stores that last, and does all of it by itself. */
 #ifndef PDT_H
 #define PDT_H
 
@@ -65,7 +68,14 @@ typedef enum pdt_code {
   PDT_EXISTS = 16,        /* a file of a store is there already */
   PDT_SUPERSEDED = 17,    /* since the checkpoint began something else has folded or checkpointed */
   PDT_NOT_ASCENDING = 18, /* a row's key isn't above that of the row before it */
-  PDT_DEVICE_FAILED = 19  /* the caller's write didn't take the bytes */
+  PDT_DEVICE_FAILED = 19, /* the caller's write didn't take the bytes */
+  PDT_LOCKED = 20,        /* another process, or this one, has the database open */
+  PDT_ROT = 21,           /* what was safe is damaged: pdt_report says which file, or which commit */
+  PDT_GAP = 22,           /* a commit, or a file of the database, is missing: pdt_report says which */
+  PDT_MISFIT = 23,        /* the journal isn't of these tables: pdt_report says at which commit */
+  PDT_UNSURE = 24,        /* the device failed over the commit: it is there or not, as the next opening tells */
+  PDT_FAILED = 25,        /* the device has failed: the database takes no write until it is opened again */
+  PDT_TOO_LONG = 26       /* what the transaction changes takes 4 GiB or more in the journal */
 } pdt_code;
 
 /* A sentence for a code, in English; never null. */
@@ -78,6 +88,8 @@ enum { PDT_MAX_COLUMNS = 32, PDT_MAX_NAME = 64, PDT_MAX_TEXT = 4096 };
 
 typedef struct pdt_store pdt_store;
 typedef struct pdt_txn pdt_txn;
+typedef struct pdt_database pdt_database;
+typedef struct pdt_work pdt_work;
 
 /* What a store is opened with. A null pointer, or zeros but for the size, stand for 65,536, 2,147,483,647 and conflicts by column. */
 typedef struct pdt_options {
@@ -153,8 +165,8 @@ typedef struct pdt_bytes {
 pdt_code pdt_recover_from(const void *header, size_t len, const pdt_bytes *columns, size_t count, const pdt_options *options,
                           uint32_t *generation, pdt_store **store);
 
-/* Closes a store. PDT_MISUSE while a transaction is open, a pin is kept, a checkpoint begun or a thread in pdt_wait: the store stays
-   then. Null is no error.
+/* Closes a store. PDT_MISUSE while a transaction is open, a pin is kept, a checkpoint begun or a thread in pdt_wait, and of a table of
+   a database: the store stays then. Null is no error.
    Called when no other thread uses the store any more. */
 pdt_code pdt_close(pdt_store *store);
 
@@ -265,7 +277,8 @@ void pdt_checkpoint_end(pdt_snapshot *snapshot);
    lock once, and shares it again. */
 pdt_code pdt_begin(pdt_store *store, pdt_txn **txn);
 
-/* The number of the table that a transaction sees: how many commits made it. PDT_MISUSE. */
+/* The number of the table that a transaction sees: how many commits made it, and of a database the number of the last one of them.
+   PDT_MISUSE. */
 pdt_code pdt_begun(pdt_txn *txn, uint64_t *commits);
 
 /* Ends a transaction and leaves no record of it, also one whose commit this thread has prepared. One that another thread has
@@ -274,7 +287,9 @@ void pdt_abort(pdt_txn *txn);
 
 /* Commits a transaction: PDT_OK, PDT_CONFLICT, PDT_TOO_OLD or PDT_FULL, and it is over; *commits, if not null, is the
    number of the newest table then. PDT_NOMEM: it stays open as it was, and may commit again. PDT_MISUSE.
-   One that changes nothing ends as by pdt_abort, and takes no number: PDT_OK, and *commits is the number that it saw. */
+   One that changes nothing ends as by pdt_abort, and takes no number: PDT_OK, and *commits is the number that it saw.
+   Over a table of a database it waits as enum pdt_sync says, and *commits is the number of the database's newest commit. Then also
+   PDT_UNSURE: it is over, and is there or not; PDT_FAILED, PDT_TOO_LONG: it stays open as it was. */
 pdt_code pdt_commit(pdt_txn *txn, uint64_t *commits);
 
 /* ---- pins: versions that are kept, so that transactions begin over one whatever was committed since */
@@ -309,7 +324,9 @@ void pdt_unpin(pdt_pinned *pin);
 pdt_code pdt_prepare(pdt_txn *txn, uint64_t *commits);
 
 /* Does what was prepared: the transaction is committed, and over. It takes no memory and can't be refused.
-   PDT_MISUSE where this thread hasn't prepared it: nothing changes. */
+   PDT_MISUSE where this thread hasn't prepared it: nothing changes.
+   Over a table of a database it puts the frame into the journal, and waits as pdt_commit does once it has given the lock back:
+   PDT_UNSURE as there. PDT_FAILED where the device has failed since: it is prepared still, and is given up. */
 pdt_code pdt_install(pdt_txn *txn);
 
 /* Lets go of what was prepared: the store is as if it had never been, and the transaction is open as before.
@@ -427,7 +444,8 @@ pdt_code pdt_own_layer(pdt_txn *txn, pdt_layer **layer);
 
 /* What the commit of a number changed: its entries over the table of the number before, whose image under them is the table of this
    number. PDT_MISSING where it isn't one of the last pdt_options.recent commits, or came before the last cut: *layer is null then, as
-   after PDT_NOMEM and PDT_MISUSE. Takes memory for each entry, and copies no row; commits wait for it. */
+   after PDT_NOMEM and PDT_MISUSE. Of a database's commit that changed other tables there are no entries. Takes memory for each
+   entry, and copies no row; commits wait for it. */
 pdt_code pdt_changes(pdt_store *store, uint64_t number, pdt_layer **layer);
 
 /* Waits until the newest table has a number above this one, for so many milliseconds at most. *commits, if not null, is its number.
@@ -444,6 +462,120 @@ size_t pdt_layer_size(pdt_layer *layer);
    pdt_columns, and their texts into room bytes at out. PDT_MISSING past the end, PDT_TOO_SMALL (entry->bytes says what
    would do), PDT_MISUSE. In logarithmic time. */
 pdt_code pdt_entry_at(pdt_layer *layer, size_t index, pdt_entry *entry, int64_t *numbers, void *out, size_t room);
+
+/* ---- databases: folders of tables that last
+
+   A database is a folder with tables in it, by name, and a journal of their commits. Each table is a pdt_store: it is begun over,
+   read, written and committed as any other, and what was answered PDT_OK is there when the folder is opened again, whatever ended
+   the process, or the machine. All tables of a database have one lock and one numbering: a commit has the number that
+   comes after that of the commit before, whichever table that one changed, and numbers go on when the folder is opened again.
+   A thread of its own folds, makes images of the tables and takes away what is no longer needed: nobody calls pdt_fold, pdt_cut or
+   pdt_checkpoint for it.
+
+   Files. Nothing in the folder is to be changed or renamed by hand. It may be copied while no process has it open. */
+
+/* What a commit of a database that was answered PDT_OK survives. */
+enum pdt_sync {
+  PDT_SYNC_FULL = 0,   /* the machine: it was answered after the device had it. Commits that wait share a write and a sync */
+  PDT_SYNC_NORMAL = 1, /* the process: it was answered after the kernel had it. The device has it a second later, or sooner,
+                          and without the upkeep's thread at the next pdt_upkeep */
+  PDT_SYNC_OFF = 2     /* neither: it was answered from memory. The device has it as under PDT_SYNC_NORMAL */
+};
+
+/* What a database is opened with. A null pointer, or zeros but for the size, stand for the values that are said here. */
+typedef struct pdt_database_options {
+  size_t size;                 /* sizeof(pdt_database_options): a later version may have more members, zeros here; else PDT_MISUSE */
+  int sync;                    /* one of enum pdt_sync: full */
+  bool early_reads;            /* whether a begin takes the newest table, also where a crash could take its last commits away: no */
+  bool no_upkeep;              /* whether the database has no thread of its own, so that pdt_upkeep is called instead: no */
+  uint64_t fold_entries;       /* a Write-PDT of so many entries is folded: 1,024 */
+  uint64_t checkpoint_entries; /* a table whose layers have so many entries, and a fiftieth of its rows, gets an image: 10,000 */
+  uint64_t journal_bytes;      /* above so many bytes of journal each table whose image is old gets one: 67,108,864 */
+} pdt_database_options;
+
+/* What an opening found. A later version may have more members. */
+typedef struct pdt_report {
+  size_t size;         /* sizeof(pdt_report), set by the caller; a smaller one is PDT_MISUSE */
+  uint64_t commits;    /* the number of the newest commit */
+  uint64_t replayed;   /* how many commits were read from the journal, because an image doesn't have them */
+  uint64_t torn_bytes; /* how many bytes at the journal's end are no whole commit, which nobody was told of: they are cut off */
+  uint64_t fault;      /* at PDT_ROT, PDT_GAP and PDT_MISFIT the commit, or 0 where it is a file */
+  char file[64];       /* the file in the folder that a code is about, or nothing */
+} pdt_report;
+
+/* Opens the database in a folder, which is made where there is none: not those above it. *report, which may be null, says what was
+   found. PDT_LOCKED; PDT_ROT, PDT_GAP, PDT_MISFIT, PDT_BAD_STORE, PDT_NO_IMAGE: report->fault and report->file say of what;
+   PDT_IO, PDT_NOMEM, PDT_MISUSE: *database is null then, and no file of it has changed.
+   It takes memory for all tables and for the journal. */
+pdt_code pdt_database_open(const char *folder, const pdt_database_options *options, pdt_database **database, pdt_report *report);
+
+/* Closes a database and its tables. What was committed is on the device then, whatever the sync; where that fails it is closed
+   all the same, and the answer is PDT_UNSURE. PDT_MISUSE while a work or a transaction is open, a pin is kept, a checkpoint begun or a
+   thread in pdt_wait: it stays open then. Null is no error. Called when no other thread uses it any more. */
+pdt_code pdt_database_close(pdt_database *database);
+
+/* Makes a table of a name over columns, as pdt_open_columns does, and over a CSV text, as pdt_open_csv does: a header alone makes
+   an empty one. It is on the device when this returns, with its options, which it keeps. It lasts until it is dropped, and the
+   store until the database is closed.
+   A name has 1 to 64 bytes of UTF-8, none of them below 32 or 127: else PDT_SHAPE. PDT_EXISTS where there is a table of the name,
+   PDT_IO, PDT_FAILED, PDT_NOMEM, PDT_MISUSE, and those of the openings: *store is null then, and there is no such table. */
+pdt_code pdt_table_create(pdt_database *database, const char *name, const pdt_column *columns, size_t count, size_t key,
+                          const pdt_options *options, pdt_place *place, pdt_store **store);
+pdt_code pdt_table_create_csv(pdt_database *database, const char *name, const void *csv, size_t bytes, const pdt_options *options,
+                              pdt_fault *fault, pdt_store **store);
+
+/* The table of a name: PDT_MISSING where there is none. PDT_MISUSE. It is the same store each time; pdt_close of it is PDT_MISUSE. */
+pdt_code pdt_table_open(pdt_database *database, const char *name, pdt_store **store);
+
+/* The name of a table, by an index that counts from 0 in the order in which they were made, into room bytes at name, with a zero
+   byte at its end: PDT_MAX_NAME + 1 bytes are enough. PDT_MISSING past the last one, PDT_TOO_SMALL, PDT_MISUSE. */
+pdt_code pdt_table_name(pdt_database *database, size_t index, char *name, size_t room);
+
+/* Drops the table of a name, and its store with it. PDT_MISSING where there is none. PDT_MISUSE while a transaction or a work is
+   open over it, a pin is kept, a checkpoint begun or a thread in pdt_wait. PDT_IO, PDT_FAILED, PDT_NOMEM: it stays. */
+pdt_code pdt_table_drop(pdt_database *database, const char *name);
+
+/* Begins a work: a transaction over all tables of a database, which it sees at one moment. PDT_NOMEM, PDT_MISUSE: *work is null
+   then. It waits for no commit. A work is used by one thread at a time. */
+pdt_code pdt_work_begin(pdt_database *database, pdt_work **work);
+
+/* The work's transaction over a table: for all calls that read, write and mark. pdt_commit, pdt_prepare and pdt_abort of it
+   are PDT_MISUSE, or do nothing: it ends with the work. The same one each time. PDT_MISSING where the table was made after the
+   work began, PDT_NOMEM, PDT_MISUSE: *txn is null then. */
+pdt_code pdt_work_on(pdt_work *work, pdt_store *store, pdt_txn **txn);
+
+/* Commits on all tables that the work has changed, or on none, as one commit with one number. PDT_OK; PDT_CONFLICT,
+   PDT_TOO_OLD or PDT_FULL where one of the tables answers so: nothing is committed on any. The work is over then, as after
+   PDT_UNSURE. PDT_NOMEM, PDT_FAILED, PDT_TOO_LONG, PDT_MISUSE: it stays open as it was.
+   *commits, if not null, is the number of the commit, or that of the newest table where there is none. One that changes nothing
+   ends as by pdt_work_abort: PDT_OK, and *commits is the number that it saw. */
+pdt_code pdt_work_commit(pdt_work *work, uint64_t *commits);
+
+/* Ends a work and leaves nothing of it. Null is no error. It takes no lock that a commit holds. */
+void pdt_work_abort(pdt_work *work);
+
+/* Does what is due of folds, images and files that are no longer needed, where the database has no thread of its own that
+   does it; and waits for that one where it has. PDT_OK also where nothing was due. PDT_IO, PDT_FAILED, PDT_NOMEM: it is due again.
+   PDT_MISUSE. Commits wait for a fold of as many entries as pdt_database_options says. */
+pdt_code pdt_upkeep(pdt_database *database);
+
+/* What a database has counted since its opening, and what it keeps now. A later version may have more members. */
+typedef struct pdt_database_counts {
+  size_t size;            /* sizeof(pdt_database_counts), set by the caller; a smaller one is PDT_MISUSE */
+  uint64_t commits;       /* the number of the newest commit */
+  uint64_t safe;          /* the number of the newest one that is known to be on the device */
+  uint64_t batches;       /* how often frames were written, of one commit or of several */
+  uint64_t syncs;         /* how often the journal was synced */
+  uint64_t folds;         /* that the upkeep made */
+  uint64_t images;        /* that it made */
+  uint64_t faults;        /* how often something that was due has failed */
+  uint64_t journal_bytes; /* how many bytes the files of the journal have now */
+  size_t journal_files;   /* and how many they are */
+  size_t tables;
+} pdt_database_counts;
+
+/* Counts. PDT_MISUSE. */
+pdt_code pdt_database_count(pdt_database *database, pdt_database_counts *counts);
 
 #ifdef __cplusplus
 }

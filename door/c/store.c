@@ -27,6 +27,13 @@ const char *pdt_text(int code) {
       "a fold or another checkpoint came since the checkpoint began",
       [PDT_NOT_ASCENDING] = "a row's key isn't above that of the row before it",
       [PDT_DEVICE_FAILED] = "the caller's write didn't take the bytes",
+      [PDT_LOCKED] = "the database is open already",
+      [PDT_ROT] = "a file of the database is damaged",
+      [PDT_GAP] = "a commit, or a file of the database, is missing",
+      [PDT_MISFIT] = "the journal isn't of these tables",
+      [PDT_UNSURE] = "the device failed over the commit, which is there or not",
+      [PDT_FAILED] = "the device has failed, and nothing is written until the database is opened again",
+      [PDT_TOO_LONG] = "what the transaction changes is too long for the journal",
   };
   return code >= 0 && (size_t)code < sizeof texts / sizeof *texts && texts[code] ? texts[code] : "no such code";
 }
@@ -43,60 +50,122 @@ int pdti_make_lock(pthread_mutex_t *lock) {
   return bad;
 }
 
+int pdti_make_locks(pdti_locks *locks) {
+  if (pthread_mutex_init(&locks->fresh_lock, NULL)) return -1;
+  if (!pdti_make_lock(&locks->lock)) return 0;
+  pthread_mutex_destroy(&locks->fresh_lock);
+  return -1;
+}
+
+void pdti_destroy_locks(pdti_locks *locks) {
+  pthread_mutex_destroy(&locks->fresh_lock);
+  pthread_mutex_destroy(&locks->lock);
+}
+
 int pdti_enter(pdt_store *store) {
-  int bad = pthread_mutex_trylock(&store->lock);
+  pdti_locks *locks = store->locks;
+  int bad = pthread_mutex_trylock(&locks->lock);
   if (bad == EBUSY) {
-    bad = pthread_mutex_lock(&store->lock); /* EDEADLK where this thread has it */
-    if (!bad) store->waits++;
+    bad = pthread_mutex_lock(&locks->lock); /* EDEADLK where this thread has it */
+    if (!bad) locks->waits++;
   }
   if (bad) return PDT_MISUSE;
-  clock_gettime(CLOCK_MONOTONIC, &store->since);
+  clock_gettime(CLOCK_MONOTONIC, &locks->since);
   return PDT_OK;
 }
 
 void pdti_leave(pdt_store *store) {
+  pdti_locks *locks = store->locks;
   struct timespec now;
   clock_gettime(CLOCK_MONOTONIC, &now);
-  int64_t held = (int64_t)(now.tv_sec - store->since.tv_sec) * 1000000000 + (now.tv_nsec - store->since.tv_nsec);
-  if (held > (int64_t)store->longest) store->longest = (uint64_t)held;
-  pthread_mutex_unlock(&store->lock);
+  int64_t held = (int64_t)(now.tv_sec - locks->since.tv_sec) * 1000000000 + (now.tv_nsec - locks->since.tv_nsec);
+  if (held > (int64_t)locks->longest) locks->longest = (uint64_t)held;
+  pthread_mutex_unlock(&locks->lock);
 }
 
-/* ---- the newest version, for begins */
+/* ---- the version that begins take */
 
-handle pdti_refresh(pdt_store *store) {
-  handle next = {NULL};
-  (void)pdtr_pin(&store->raw, &next); /* nothing, where malloc refuses it */
-  uint64_t commits = pdtr_commits(&store->raw);
-  pthread_mutex_lock(&store->fresh_lock);
-  handle before = store->fresh;
-  store->fresh = next;
+/* The table that begins take has another number. */
+static void move(pdt_store *store, uint64_t commits) {
+  if (store->commits == commits) return;
   store->commits = commits;
   if (store->waiting) pthread_cond_broadcast(&store->moved);
-  pthread_mutex_unlock(&store->fresh_lock);
+}
+
+replaced pdti_share(pdt_store *store, handle version) {
+  bool is_hidden = pdti_is_hidden(store);
+  replaced before = {{store->coming}};
+  store->coming.at = NULL;
+  if (version.at && is_hidden) {
+    store->coming = version;
+    store->coming_commits = store->newest;
+    return before;
+  }
+  before.at[1] = store->leaving;
+  store->leaving.at = NULL;
+  before.at[2] = store->fresh;
+  store->fresh = version;
+  if (!is_hidden) move(store, store->newest);
   return before;
 }
 
-void pdti_drop(handle version) {
-  if (version.at) pdtr_unpin(&version);
+replaced pdti_publish(pdt_store *store, uint64_t safe) {
+  replaced before = {{{NULL}}};
+  if (store->leaving.at) {
+    before.at[0] = store->fresh;
+    store->fresh = store->leaving;
+    store->leaving.at = NULL;
+    move(store, store->leaving_commits);
+  }
+  if (store->coming.at && store->coming_commits <= safe) {
+    before.at[1] = store->fresh;
+    store->fresh = store->coming;
+    store->coming.at = NULL;
+    move(store, store->coming_commits);
+  }
+  return before;
+}
+
+replaced pdti_refresh(pdt_store *store) {
+  handle next = {NULL};
+  (void)pdtr_pin(&store->raw, &next); /* nothing, where malloc refuses it */
+  if (!store->database) store->newest = pdtr_commits(&store->raw);
+  pthread_mutex_lock(&store->locks->fresh_lock);
+  replaced before = pdti_share(store, next);
+  pthread_mutex_unlock(&store->locks->fresh_lock);
+  return before;
+}
+
+void pdti_drop(replaced versions) {
+  for (int i = 0; i < 3; i++)
+    if (versions.at[i].at) pdtr_unpin(&versions.at[i]);
 }
 
 /* ---- what a store has */
 
-pdt_code pdt_close(pdt_store *store) {
-  if (!store) return PDT_OK;
-  if (pdti_enter(store)) return PDT_MISUSE;
-  pthread_mutex_lock(&store->fresh_lock);
+bool pdti_is_used(pdt_store *store) {
+  pthread_mutex_lock(&store->locks->fresh_lock);
   bool is_used = store->open || store->snapshots || store->pins || store->waiting;
-  pthread_mutex_unlock(&store->fresh_lock);
-  pdti_leave(store);
-  if (is_used) return PDT_MISUSE;
-  pdti_drop(store->fresh);
+  pthread_mutex_unlock(&store->locks->fresh_lock);
+  return is_used;
+}
+
+void pdti_free_store(pdt_store *store) {
+  pdti_drop((replaced){{store->fresh, store->leaving, store->coming}});
   pdtr_close(&store->raw);
   pthread_cond_destroy(&store->moved);
-  pthread_mutex_destroy(&store->fresh_lock);
-  pthread_mutex_destroy(&store->lock);
+  if (store->locks == &store->own_locks) pdti_destroy_locks(store->locks);
+  free(store->made_by);
   free(store);
+}
+
+pdt_code pdt_close(pdt_store *store) {
+  if (!store) return PDT_OK;
+  if (store->database || pdti_enter(store)) return PDT_MISUSE;
+  bool is_used = pdti_is_used(store);
+  pdti_leave(store);
+  if (is_used) return PDT_MISUSE;
+  pdti_free_store(store);
   return PDT_OK;
 }
 
@@ -108,7 +177,7 @@ const char *pdt_column_name(const pdt_store *store, size_t column) { return stor
 pdt_code pdt_size(pdt_store *store, pdt_sizes *sizes) {
   if (!store || !sizes) return PDT_MISUSE;
   int held = pdti_enter(store); /* by this thread, where a commit of its own is prepared */
-  sizes->commits = pdtr_commits(&store->raw);
+  sizes->commits = store->newest;
   sizes->write_entries = pdtr_write_entries(&store->raw);
   sizes->read_entries = pdtr_read_entries(&store->raw);
   sizes->open_transactions = store->open;
@@ -121,7 +190,7 @@ pdt_code pdt_size(pdt_store *store, pdt_sizes *sizes) {
 pdt_code pdt_fold(pdt_store *store) {
   if (!store || pdti_enter(store)) return PDT_MISUSE;
   int code = (int)pdtr_fold(&store->raw);
-  handle before = {NULL};
+  replaced before = {{{NULL}}};
   if (!code) {
     store->rebuilt++;
     store->done.folds++;
@@ -173,13 +242,13 @@ pdt_code pdt_count(pdt_store *store, pdt_counts *counts) {
   counts->superseded = store->done.superseded;
   counts->kept = pdtr_kept(&store->raw);
   counts->kept_entries = kept_entries(store, counts->kept, pdtr_commits(&store->raw));
-  counts->longest_hold = store->longest;
+  counts->longest_hold = store->locks->longest;
   if (!held) pdti_leave(store);
-  counts->waits = store->waits;
+  counts->waits = store->locks->waits;
   counts->begins = store->begins;
-  pthread_mutex_lock(&store->fresh_lock);
+  pthread_mutex_lock(&store->locks->fresh_lock);
   counts->pins = store->pins;
   counts->oldest_pin = store->oldest ? store->oldest->commits : 0;
-  pthread_mutex_unlock(&store->fresh_lock);
+  pthread_mutex_unlock(&store->locks->fresh_lock);
   return PDT_OK;
 }

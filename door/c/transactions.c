@@ -3,20 +3,38 @@
 
 /* ---- begins */
 
-/* Begins over the newest version: as it is shared, or where malloc refused to share it, under the store's lock. Then it is shared
-   again, so that the next begin needs no lock of the store's. */
-static int begin_newest(pdt_store *store, handle *txn) {
-  pthread_mutex_lock(&store->fresh_lock);
+int pdti_begin_fresh(pdt_store *store, pdt_txn *txn) {
+  txn->begun = store->commits;
+  return (int)pdtr_begin_at(&store->fresh, 0, &txn->raw);
+}
+
+/* Begins under the store's lock, where malloc has refused to share a version. Then it is shared again, so that the next begin needs
+   no lock of the store's. In a database a version may be hidden until its commits are safe. */
+static int begin_locked(pdt_store *store, pdt_txn *txn) {
+  for (;;) {
+    int held = pdti_enter(store); /* by this thread, where a commit of its own is prepared */
+    uint64_t number = store->newest;
+    bool is_hidden = pdti_is_hidden(store);
+    int code = PDT_OK;
+    replaced before = {{{NULL}}};
+    if (!is_hidden) {
+      txn->begun = number;
+      code = (int)pdtr_begin(&store->raw, 0, &txn->raw);
+      before = pdti_refresh(store);
+    }
+    if (!held) pdti_leave(store);
+    pdti_drop(before);
+    if (!is_hidden) return code;
+    if (held || pdti_wait_until_safe(store->database, number)) return PDT_NOMEM;
+  }
+}
+
+int pdti_begin_newest(pdt_store *store, pdt_txn *txn) {
+  pthread_mutex_lock(&store->locks->fresh_lock);
   bool is_shared = store->fresh.at;
-  int code = is_shared ? (int)pdtr_begin_at(&store->fresh, 0, txn) : PDT_OK;
-  pthread_mutex_unlock(&store->fresh_lock);
-  if (is_shared) return code;
-  int held = pdti_enter(store); /* by this thread, where a commit of its own is prepared */
-  code = (int)pdtr_begin(&store->raw, 0, txn);
-  handle before = pdti_refresh(store);
-  if (!held) pdti_leave(store);
-  pdti_drop(before);
-  return code;
+  int code = is_shared ? pdti_begin_fresh(store, txn) : PDT_OK;
+  pthread_mutex_unlock(&store->locks->fresh_lock);
+  return is_shared ? code : begin_locked(store, txn);
 }
 
 /* Makes a transaction that begins over the newest version, or over that of a pin. */
@@ -27,11 +45,12 @@ static int begin(pdt_store *store, pdt_pinned *pin, pdt_txn **out) {
   store->open++; /* before it begins: the store may not be closed under it */
   int code;
   if (pin) {
+    txn->begun = pin->commits;
     pthread_mutex_lock(&pin->lock);
     code = (int)pdtr_begin_at(&pin->version, 0, &txn->raw);
     pthread_mutex_unlock(&pin->lock);
   } else {
-    code = begin_newest(store, &txn->raw);
+    code = pdti_begin_newest(store, txn);
   }
   if (code) {
     free(txn);
@@ -51,7 +70,7 @@ pdt_code pdt_begin(pdt_store *store, pdt_txn **out) {
 
 pdt_code pdt_begun(pdt_txn *txn, uint64_t *commits) {
   if (!txn || !commits) return PDT_MISUSE;
-  *commits = pdtr_begun(&txn->raw);
+  *commits = txn->begun;
   return PDT_OK;
 }
 
@@ -61,7 +80,7 @@ pdt_code pdt_begun(pdt_txn *txn, uint64_t *commits) {
 static int enter_pin(pdt_store *store, pdt_pinned *pin) {
   int code = (int)pdtr_pin_again(&store->fresh, &pin->version);
   if (code) return code;
-  pin->commits = pdtr_pinned(&pin->version);
+  pin->commits = store->commits;
   pin->older = store->youngest;
   if (pin->older) {
     pin->older->younger = pin;
@@ -76,7 +95,7 @@ static int enter_pin(pdt_store *store, pdt_pinned *pin) {
 /* Shares the newest version where malloc refused that before. */
 static void share_again(pdt_store *store) {
   int held = pdti_enter(store); /* by this thread, where a commit of its own is prepared */
-  handle before = pdti_refresh(store);
+  replaced before = pdti_refresh(store);
   if (!held) pdti_leave(store);
   pdti_drop(before);
 }
@@ -91,14 +110,14 @@ pdt_code pdt_pin(pdt_store *store, uint64_t *commits, pdt_pinned **out) {
     return PDT_NOMEM;
   }
   pin->store = store;
-  pthread_mutex_lock(&store->fresh_lock);
+  pthread_mutex_lock(&store->locks->fresh_lock);
   if (!store->fresh.at) {
-    pthread_mutex_unlock(&store->fresh_lock);
+    pthread_mutex_unlock(&store->locks->fresh_lock);
     share_again(store);
-    pthread_mutex_lock(&store->fresh_lock);
+    pthread_mutex_lock(&store->locks->fresh_lock);
   }
   int code = store->fresh.at ? enter_pin(store, pin) : PDT_NOMEM;
-  pthread_mutex_unlock(&store->fresh_lock);
+  pthread_mutex_unlock(&store->locks->fresh_lock);
   if (code) {
     pthread_mutex_destroy(&pin->lock);
     free(pin);
@@ -121,64 +140,63 @@ void pdt_unpin(pdt_pinned *pin) {
   if (!pin) return;
   pdt_store *store = pin->store;
   pdtr_unpin(&pin->version); /* without a lock: what was replaced since may go with it */
-  pthread_mutex_lock(&store->fresh_lock);
+  pthread_mutex_lock(&store->locks->fresh_lock);
   *(pin->older ? &pin->older->younger : &store->oldest) = pin->younger;
   *(pin->younger ? &pin->younger->older : &store->youngest) = pin->older;
   store->pins--;
-  pthread_mutex_unlock(&store->fresh_lock);
+  pthread_mutex_unlock(&store->locks->fresh_lock);
   pthread_mutex_destroy(&pin->lock);
   free(pin);
 }
 
 /* ---- ends */
 
-/* Counts a commit that was decided. Under the store's lock. */
-static void count(pdt_store *store, int code) {
+void pdti_count(pdt_store *store, int code) {
   if (code == PDT_OK) store->done.commits++;
   if (code == PDT_CONFLICT) store->done.conflicts++;
   if (code == PDT_TOO_OLD) store->done.too_old++;
   if (code == PDT_FULL) store->done.full++;
 }
 
-/* Ends a transaction that leaves no record. */
-static void end(pdt_txn *txn) {
+void pdti_forget(pdt_txn *txn) {
   pdt_store *store = txn->store;
-  pdtr_abort(&txn->raw); /* what it shares with the store is counted atomically */
   free(txn);
   store->open--; /* the last touch, after all before it in every thread's eyes: the store may be closed from now on */
 }
 
-void pdt_abort(pdt_txn *txn) {
-  if (!txn || (txn->is_prepared && pdt_give_up(txn))) return; /* another thread has it prepared, and goes on with it */
-  end(txn);
+void pdti_end(pdt_txn *txn) {
+  pdtr_abort(&txn->raw); /* what it shares with the store is counted atomically */
+  pdti_forget(txn);
 }
 
-/* Whether a transaction changes nothing, so that its commit is its abort; *commits is the number that it sees. */
-static bool is_idle(pdt_txn *txn, uint64_t *commits) {
-  if (pdtr_own_entries(&txn->raw)) return false;
-  if (commits) *commits = pdtr_begun(&txn->raw);
-  return true;
+void pdt_abort(pdt_txn *txn) {
+  if (!txn || txn->work) return; /* a work's ends with it */
+  if (txn->is_prepared && pdt_give_up(txn)) return; /* another thread has it prepared, and goes on with it */
+  pdti_end(txn);
 }
+
+bool pdti_is_idle(pdt_txn *txn) { return !pdtr_own_entries(&txn->raw); }
 
 pdt_code pdt_commit(pdt_txn *txn, uint64_t *commits) {
-  if (!txn || txn->is_prepared) return PDT_MISUSE;
-  if (is_idle(txn, commits)) {
-    end(txn);
+  if (!txn || txn->is_prepared || txn->work) return PDT_MISUSE;
+  pdt_store *store = txn->store;
+  if (store->database) return pdti_commit_in(store->database, txn, commits);
+  if (pdti_is_idle(txn)) {
+    if (commits) *commits = txn->begun;
+    pdti_end(txn);
     return PDT_OK;
   }
-  pdt_store *store = txn->store;
   uint64_t number = 0;
   if (pdti_enter(store)) return PDT_MISUSE;
   int code = (int)pdtr_commit(&store->raw, &txn->raw, &number);
-  handle before = {NULL};
-  count(store, code);
+  replaced before = {{{NULL}}};
+  pdti_count(store, code);
   if (code == PDT_OK) before = pdti_refresh(store);
   pdti_leave(store);
   pdti_drop(before);
   if (code == PDT_NOMEM) return code;
   if (commits) *commits = number;
-  free(txn);
-  store->open--;
+  pdti_forget(txn);
   return code;
 }
 
@@ -190,29 +208,46 @@ static void prepared_here(pdt_txn *txn) {
   txn->process = getpid();
 }
 
+/* Ends a transaction whose commit was decided, and is refused. Under the store's lock. */
+static void end_refused(pdt_store *store, pdt_txn *txn, int code) {
+  uint64_t number = 0;
+  pdtr_install(&store->raw, &txn->raw, &txn->decision, &number);
+  pdti_count(store, code);
+}
+
 pdt_code pdt_prepare(pdt_txn *txn, uint64_t *commits) {
-  if (!txn || txn->is_prepared) return PDT_MISUSE;
-  if (is_idle(txn, commits)) {
+  if (!txn || txn->is_prepared || txn->work) return PDT_MISUSE;
+  if (pdti_is_idle(txn)) {
+    if (commits) *commits = txn->begun;
     prepared_here(txn);
     return PDT_OK;
   }
   pdt_store *store = txn->store;
   uint64_t number = 0;
   if (pdti_enter(store)) return PDT_MISUSE;
-  int code = (int)pdtr_prepare(&store->raw, &txn->raw, &number, &txn->decision);
-  if (code == PDT_OK) {
-    prepared_here(txn); /* and keeps the lock */
-  } else if (code == PDT_NOMEM) {
-    pdti_leave(store);
-    return code;
-  } else { /* nothing is left to be written before it: it ends as a commit does */
-    pdtr_install(&store->raw, &txn->raw, &txn->decision, &number);
-    count(store, code);
-    pdti_leave(store);
-    free(txn);
-    store->open--;
+  int code = store->database ? pdti_may_commit(store->database) : PDT_OK;
+  bool is_open = code;
+  if (!code) {
+    code = (int)pdtr_prepare(&store->raw, &txn->raw, &number, &txn->decision);
+    is_open = code == PDT_NOMEM;
   }
+  if (!code && store->database) {
+    code = pdti_stage_one(store->database, txn, &number);
+    is_open = code;
+  }
+  if (!code) {
+    prepared_here(txn); /* and keeps the lock */
+    if (commits) *commits = number;
+    return code;
+  }
+  if (!is_open) { /* nothing is left to be written before it: it ends as a commit does */
+    end_refused(store, txn, code);
+    if (store->database) number = pdti_newest(store->database);
+  }
+  pdti_leave(store);
+  if (is_open) return code;
   if (commits) *commits = number;
+  pdti_forget(txn);
   return code;
 }
 
@@ -223,18 +258,18 @@ static bool is_prepared_here(const pdt_txn *txn) {
 pdt_code pdt_install(pdt_txn *txn) {
   if (!is_prepared_here(txn)) return PDT_MISUSE;
   if (!txn->decision.at) {
-    end(txn);
+    pdti_end(txn);
     return PDT_OK;
   }
   pdt_store *store = txn->store;
+  if (store->database) return pdti_install_in(store->database, txn);
   uint64_t number = 0;
   int code = (int)pdtr_install(&store->raw, &txn->raw, &txn->decision, &number);
-  count(store, code);
-  handle before = pdti_refresh(store);
+  pdti_count(store, code);
+  replaced before = pdti_refresh(store);
   pdti_leave(store);
   pdti_drop(before);
-  free(txn);
-  store->open--;
+  pdti_forget(txn);
   return code;
 }
 
@@ -243,6 +278,7 @@ pdt_code pdt_give_up(pdt_txn *txn) {
   txn->is_prepared = false;
   if (!txn->decision.at) return PDT_OK;
   pdtr_give_up(&txn->decision);
+  if (txn->store->database) pdti_unstage(txn->store->database);
   pdti_leave(txn->store);
   return PDT_OK;
 }

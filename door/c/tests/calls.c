@@ -40,7 +40,7 @@ static uint64_t rows_of(pdt_txn *txn) {
 }
 
 static void texts(void) {
-  for (int code = PDT_OK; code <= PDT_DEVICE_FAILED; code++) is("a text", 1, strcmp(pdt_text(code), "no such code") != 0);
+  for (int code = PDT_OK; code <= PDT_TOO_LONG; code++) is("a text", 1, strcmp(pdt_text(code), "no such code") != 0);
   is("no such code", 0, strcmp(pdt_text(-1), "no such code"));
   is("no such code", 0, strcmp(pdt_text(1000), "no such code"));
   is("the version that runs is that of the header", 0, strcmp(PDT_VERSION, pdt_version()));

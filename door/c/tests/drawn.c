@@ -14,7 +14,7 @@ static const char *const names[] = {
 };
 enum { CALLS = sizeof names / sizeof *names, KEYS = 24, CLIENTS = 4, PINS = 3, MARKS = 3, COMMITS = 300, TEXT = 12, WIDTH = 4 };
 enum { FILES = 1 << 16 }; /* bytes of a column of an image */
-static long replies[CALLS][PDT_DEVICE_FAILED + 1], counts[CALLS], made;
+static long replies[CALLS][PDT_TOO_LONG + 1], counts[CALLS], made;
 static int last; /* which call was made last */
 static uint64_t seed, first_seed;
 static const char *room;
@@ -38,7 +38,7 @@ static void drew(const char *name) {
 /* The code of the call that was made last. */
 static void answers(const char *what, int wanted, int found) {
   is(what, wanted, found);
-  if (found >= 0 && found <= PDT_DEVICE_FAILED) replies[last][found]++;
+  if (found >= 0 && found <= PDT_TOO_LONG) replies[last][found]++;
 }
 /* Makes a call and counts it. */
 #define D(name, ...) (drew(#name), name(__VA_ARGS__))
@@ -633,7 +633,7 @@ static void columns(void) {
   const char *name = D(pdt_column_name, store, (size_t)column);
   is("name", 0, column < WIDTH ? strcmp(heads[column], name) : name != NULL);
   is("the version", 0, strcmp(PDT_VERSION, D(pdt_version)));
-  answers("a sentence", code < 0 || code > PDT_DEVICE_FAILED, strcmp("no such code", D(pdt_text, code)) == 0);
+  answers("a sentence", code < 0 || code > PDT_TOO_LONG, strcmp("no such code", D(pdt_text, code)) == 0);
 }
 static void upkeep(void) {
   switch (below(9)) {

@@ -1,0 +1,203 @@
+/* What the files of a database share: the object, its journal, its images and who may do what to them.
+
+   Locks, in the order in which they are taken: `round_lock`, `files_lock`, the lock of the tables, `turn_lock`, `fresh_lock`. A begin
+   takes the last one alone. Whoever writes the journal has the turn, and holds no lock while it writes. */
+#ifndef PDT_DATABASE_H
+#define PDT_DATABASE_H
+
+#include "inside.h"
+
+/* Bytes that grow. */
+typedef struct {
+  uint8_t *at;
+  size_t len, room;
+} buffer;
+
+/* Makes room for so many bytes more. */
+int pdti_reserve(buffer *into, size_t more);
+
+/* A file of the journal: journal-SEQ has the frames after its base, up to that of the next one. */
+typedef struct {
+  uint64_t seq;
+  uint64_t base;  /* the number of the commit before its first frame */
+  uint64_t bytes; /* how many it has: 0 before the first frame is written, when it has no header and no base either */
+} journal_file;
+
+enum { JOURNAL_FILES = 4096, HEADER = 36, HEAD = 28 };
+
+/* How long a file is, and the CRC-32C of its bytes. */
+typedef struct {
+  uint64_t len;
+  uint32_t check;
+} file_mark;
+
+/* An image of a table. */
+typedef struct {
+  uint64_t number; /* it has the commits up to this one */
+  uint64_t folder; /* and stands in the folder image-TABLE-FOLDER: no other image ever has it */
+  file_mark header, columns[PDT_MAX_COLUMNS];
+} table_image;
+
+/* A table of a database. */
+struct pdti_table {
+  pdt_store *store;
+  uint32_t number; /* in the frames: no other table ever has it */
+  char name[PDT_MAX_NAME + 1];
+  pdt_options options;
+  size_t width;
+  table_image image; /* that the manifest names; under files_lock */
+};
+
+struct pdt_database {
+  pdti_locks locks; /* of all its tables */
+  int dir, lock_file;
+  uint64_t name, salt;
+  pdt_database_options options; /* as they stand, with no zeros */
+  pid_t process;                /* which opened it */
+
+  /* changed under round_lock and both of `locks` and with the turn, and read with any of the four */
+  pdti_table **tables;
+  replaced *replaced; /* one for each of the tables that there is room for: of who has the turn */
+  size_t count, room;
+  atomic_size_t works; /* how many are open */
+
+  /* under the lock of the tables */
+  uint64_t newest;   /* the number of the newest commit */
+  buffer pending;    /* the frames that nobody has written yet, each without its head: room for it, then its payload */
+  size_t staged;     /* how many bytes after those are a frame that isn't one yet */
+  bool takes_none;   /* the device has failed */
+
+  /* of who has the turn */
+  buffer writing;
+  int file;                          /* the last one of the journal */
+  journal_file files[JOURNAL_FILES]; /* changed under turn_lock too */
+  size_t file_count;
+
+  /* under turn_lock */
+  pthread_mutex_t turn_lock;
+  pthread_cond_t turn_ends;
+  bool is_led;                    /* somebody has the turn */
+  bool has_failed;                /* the device has */
+  uint64_t written, safe;         /* the newest commit that the kernel has, and that the device has */
+  uint64_t batches, syncs;
+  int next_file;                  /* the next one of the journal, whose name is safe: whoever has the turn goes on in it */
+  uint64_t next_seq;
+
+  atomic_uint_fast64_t published; /* the newest commit that begins may see; changed under fresh_lock */
+
+  /* the manifest, and the files that it names */
+  pthread_mutex_t files_lock;
+  uint32_t next_table;
+  uint64_t next_folder;
+
+  /* the upkeep */
+  pthread_t thread;
+  bool has_thread;
+  pthread_mutex_t upkeep_lock;
+  pthread_cond_t upkeep_wakes;
+  bool stops;
+  pthread_mutex_t round_lock; /* one round at a time */
+  atomic_uint_fast64_t folds, images, faults;
+};
+
+/* ---- journals.c */
+
+/* Puts the frame of prepared commits after the pending ones, which makes it none of them yet. The transactions stand in the order of
+   their tables' numbers. Under the lock, as is the next. */
+int pdti_stage(pdt_database *database, pdt_txn *const *txns, size_t count);
+/* Makes it one of them, and answers its number. Nothing of it can fail. */
+uint64_t pdti_append(pdt_database *database);
+
+/* Waits until a commit is as safe as the database's sync says. PDT_UNSURE where the device fails. */
+int pdti_wait_for(pdt_database *database, uint64_t number);
+
+/* Writes what is pending and, if it is asked for, has the device take all that was written. */
+int pdti_flush(pdt_database *database, bool syncs);
+
+/* Waits until nobody writes, and nobody does until the turn ends: the tables may be changed then. */
+void pdti_take_turn(pdt_database *database);
+void pdti_end_turn(pdt_database *database);
+
+/* Makes the next file of the journal, in which the next frame is written. */
+int pdti_turn_over(pdt_database *database);
+
+/* The first file of the journal that an image wants, where the oldest one has the commits up to a number. */
+uint64_t pdti_first_wanted(pdt_database *database, uint64_t oldest);
+/* Takes away the files before it. */
+void pdti_remove_journals(pdt_database *database, uint64_t first);
+
+/* No commit is taken any more. */
+void pdti_fail(pdt_database *database);
+
+/* ---- images.c */
+
+/* Writes an image of a table into a folder of its own: where it is, how long its files are and their checks. With files_lock held. */
+int pdti_write_image(pdt_database *database, const pdti_table *entry, handle *bytes, table_image *image);
+
+/* Reads the image that the manifest names, tests its checks, and opens it with the journal's frames. *file is the one that a code is
+   about. */
+int pdti_open_image(pdt_database *database, pdti_table *entry, uint64_t base, const buffer *frames, reopened *found, char *file);
+
+/* Takes away the folder of an image. */
+void pdti_remove_image(pdt_database *database, uint64_t table, uint64_t folder);
+
+/* ---- manifest.c */
+
+/* Writes the manifest anew, with the tables and one more, if it is not null, after a commit that is safe. What it named before is named
+   no longer once it answers PDT_OK; where it answers otherwise either may be. With files_lock held. */
+int pdti_write_manifest(pdt_database *database, uint64_t number, const pdti_table *added);
+
+/* Reads the manifest: the names, the number that it is of, the first file of the journal that it wants, and the tables, which have no
+   store yet. PDT_MISSING where there is none. */
+int pdti_read_manifest(pdt_database *database, uint64_t *number, uint64_t *first);
+
+/* Takes away the images that the manifest doesn't name. With files_lock held. */
+void pdti_remove_images(pdt_database *database);
+
+/* ---- folders.c: files by their names in the database's folder */
+
+int pdti_open_in(int dir, const char *name, int how);
+int pdti_write_to(int file, const void *bytes, size_t len);
+int pdti_sync(int file);      /* the data, and how long it is */
+int pdti_sync_in(int dir);    /* the names */
+int pdti_read_in(int dir, const char *name, buffer *into);
+int pdti_close_synced(int file, int code);
+
+/* Calls with each name in a folder that begins so and goes on with a number, or two that a dash parts. */
+typedef void (*pdti_each)(void *context, const char *name, uint64_t first, uint64_t second);
+int pdti_names(int dir, const char *front, pdti_each each, void *context);
+
+/* ---- upkeep.c */
+
+int pdti_start_upkeep(pdt_database *database);
+void pdti_stop_upkeep(pdt_database *database);
+
+/* ---- recovering.c */
+
+/* Makes the folder where it isn't there, and its name safe. */
+int pdti_make_folder(const char *folder);
+
+/* Locks it for this opening. */
+int pdti_lock_folder(pdt_database *database);
+
+/* Opens what is in it, or makes it new. */
+int pdti_open_folder(pdt_database *database, pdt_report *report);
+
+/* ---- databases.c */
+
+/* Makes room for one table more, which a database that nobody else has yet may be given. */
+int pdti_reserve_entry(pdt_database *database);
+int pdti_add_entry(pdt_database *database, pdti_table *entry);
+void pdti_free_entry(pdti_table *entry);
+
+/* Makes the store of a table one of a database's, once it has room for the numbers that its last commits have there. */
+int pdti_make_room_for_numbers(pdt_store *store);
+void pdti_attach(pdt_database *database, pdti_table *entry);
+
+/* Whether this thread has a commit prepared: then it has the lock, and waits for nobody who may wait for that. */
+bool pdti_has_prepared(pdt_database *database);
+
+/* Whether the database is this process's: a child of fork has none. */
+static inline bool pdti_is_ours(const pdt_database *database) { return database && database->process == getpid(); }
+
+#endif

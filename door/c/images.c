@@ -1,0 +1,127 @@
+/* The images of a database's tables: a folder of files for each, whose lengths and checks the manifest has. */
+#include "database.h"
+
+#include <fcntl.h>
+#include <stdio.h>
+#include <sys/stat.h>
+
+enum { ALL_ONES = -1, NAME = 64 };
+
+static void folder_of(char *name, uint64_t table, uint64_t folder) {
+  snprintf(name, NAME, "image-%llu-%llu", (unsigned long long)table, (unsigned long long)folder);
+}
+
+/* The name of a file in it: the header's where column is negative. */
+static void file_of(char *name, int column) {
+  if (column < 0) {
+    snprintf(name, NAME, "header.csv");
+  } else {
+    snprintf(name, NAME, "column-%d.pdt", column);
+  }
+}
+
+/* ---- writing */
+
+/* A file that is written, and what is known of it so far. */
+typedef struct {
+  int file;
+  file_mark mark;
+} marked_file;
+
+static int put_marked(void *context, size_t column, const uint8_t *bytes, size_t len) {
+  marked_file *into = context;
+  (void)column;
+  into->mark.check = pdtr_check(into->mark.check, bytes_at(bytes, len), len);
+  into->mark.len += len;
+  return pdti_write_to(into->file, bytes, len);
+}
+
+/* Writes one file of an image, synced. */
+static int write_one(const pdt_store *store, handle *image, int dir, int column, uint8_t *chunk, file_mark *mark) {
+  char name[NAME];
+  file_of(name, column);
+  marked_file into = {pdti_open_in(dir, name, O_WRONLY | O_CREAT | O_EXCL), {0, (uint32_t)ALL_ONES}};
+  if (into.file < 0) return PDT_IO;
+  int code;
+  if (column < 0) {
+    char header[HEADER_BYTES];
+    code = put_marked(&into, PDT_HEADER, (const uint8_t *)header, pdti_header(store, header));
+  } else {
+    code = pdti_hand_column(image, (size_t)column, chunk, put_marked, &into) ? PDT_OK : PDT_IO;
+  }
+  *mark = into.mark;
+  return pdti_close_synced(into.file, code);
+}
+
+int pdti_write_image(pdt_database *database, const pdti_table *entry, handle *bytes, table_image *image) {
+  char name[NAME];
+  image->folder = database->next_folder++; /* what an earlier try left may be named yet */
+  folder_of(name, entry->number, image->folder);
+  if (mkdirat(database->dir, name, 0777)) return PDT_IO;
+  int dir = pdti_open_in(database->dir, name, O_RDONLY | O_DIRECTORY);
+  uint8_t *chunk = malloc(CHUNK);
+  int code = dir < 0 ? PDT_IO : chunk ? PDT_OK : PDT_NOMEM;
+  for (int column = -1; column < (int)entry->width && !code; column++)
+    code = write_one(entry->store, bytes, dir, column, chunk, column < 0 ? &image->header : &image->columns[column]);
+  if (!code) code = pdti_sync_in(dir);
+  if (!code) code = pdti_sync_in(database->dir);
+  int why = errno;
+  free(chunk);
+  if (dir >= 0) close(dir);
+  if (code) pdti_remove_image(database, entry->number, image->folder);
+  errno = why;
+  return code;
+}
+
+void pdti_remove_image(pdt_database *database, uint64_t table, uint64_t folder) {
+  char name[NAME], file[2 * NAME];
+  int why = errno;
+  folder_of(name, table, folder);
+  for (int column = -1; column < PDT_MAX_COLUMNS; column++) {
+    char one[NAME];
+    file_of(one, column);
+    snprintf(file, sizeof file, "%s/%s", name, one);
+    if (unlinkat(database->dir, file, 0) && errno == ENOENT && column >= 0) break; /* they were made in their order */
+  }
+  unlinkat(database->dir, name, AT_REMOVEDIR);
+  errno = why;
+}
+
+/* ---- reading */
+
+/* Reads a file, and tests its length and its check. */
+static int read_marked(int dir, const char *folder, int column, const file_mark *mark, buffer *into, char *file) {
+  char name[NAME];
+  file_of(name, column);
+  snprintf(file, NAME, "%.40s/%.20s", folder, name);
+  int code = pdti_read_in(dir, file, into);
+  if (code) return code == PDT_MISSING ? PDT_GAP : code;
+  bool is_whole = into->len == mark->len && pdtr_check((uint32_t)ALL_ONES, bytes_at(into->at, into->len), into->len) == mark->check;
+  return is_whole ? PDT_OK : PDT_ROT;
+}
+
+int pdti_open_image(pdt_database *database, pdti_table *entry, uint64_t base, const buffer *frames, reopened *found, char *file) {
+  char folder[NAME];
+  buffer header = {NULL, 0, 0}, columns[PDT_MAX_COLUMNS];
+  slice slices[PDT_MAX_COLUMNS] = {{pdti_no_bytes, 0}};
+  memset(columns, 0, sizeof columns);
+  folder_of(folder, entry->number, entry->image.folder);
+  int code = read_marked(database->dir, folder, -1, &entry->image.header, &header, file);
+  for (size_t i = 0; i < entry->width && !code; i++) {
+    code = read_marked(database->dir, folder, (int)i, &entry->image.columns[i], &columns[i], file);
+    slices[i] = (slice){bytes_at(columns[i].at, columns[i].len), columns[i].len};
+  }
+  pdt_store *store = code ? NULL : calloc(1, sizeof *store);
+  if (!code && !store) code = PDT_NOMEM;
+  if (!code) {
+    const pdt_options *options = &entry->options;
+    *file = 0; /* it isn't the image's, whatever comes */
+    code = (int)pdtr_reopen(bytes_at(header.at, header.len), header.len, slices, entry->width, options->recent, options->row_limit,
+                            options->by_row, entry->image.number, entry->number, database->salt, base, bytes_at(frames->at, frames->len),
+                            frames->len, found, &store->raw);
+    if (code) free(store);
+  }
+  free(header.at);
+  for (size_t i = 0; i < entry->width; i++) free(columns[i].at);
+  return code ? code : pdti_adopt(store, &entry->options, &entry->store);
+}

@@ -1,0 +1,319 @@
+/* The journal of a database: how frames are gathered under the lock, and written and synced without one, several at once. */
+#include "database.h"
+
+#include <fcntl.h>
+#include <stdio.h>
+
+/* What stands in the room of a frame's head until it is written: only then it is known which commits are safe. */
+typedef struct {
+  uint64_t number;
+  uint32_t len; /* of the payload */
+} unwritten;
+
+enum { BATCH_ROOM = 1 << 24 };
+
+/* ---- under the lock of the tables */
+
+/* Puts what a prepared commit changes of its table after what is staged. */
+static int stage_part(pdt_database *database, pdt_txn *txn) {
+  handle part = {NULL};
+  pdt_store *store = txn->store;
+  int code = (int)pdtr_part(&store->raw, &txn->raw, &txn->decision, store->table->number, &part);
+  if (code) return code;
+  buffer *pending = &database->pending;
+  size_t len = pdtr_image_len(&part, 0);
+  if (len > UINT32_MAX - (database->staged - HEAD)) code = PDT_TOO_LONG;
+  if (!code) code = pdti_reserve(pending, database->staged + len);
+  if (!code) {
+    database->staged += pdtr_image_read(&part, 0, 0, pending->at + pending->len + database->staged, len);
+  }
+  pdtr_image_close(&part);
+  return code;
+}
+
+int pdti_stage(pdt_database *database, pdt_txn *const *txns, size_t count) {
+  int code = pdti_reserve(&database->pending, HEAD);
+  database->staged = HEAD;
+  for (size_t i = 0; i < count && !code; i++) code = stage_part(database, txns[i]);
+  if (code) database->staged = 0;
+  return code;
+}
+
+void pdti_unstage(pdt_database *database) { database->staged = 0; }
+
+uint64_t pdti_append(pdt_database *database) {
+  unwritten head = {++database->newest, (uint32_t)(database->staged - HEAD)};
+  memcpy(database->pending.at + database->pending.len, &head, sizeof head);
+  database->pending.len += database->staged;
+  database->staged = 0;
+  return head.number;
+}
+
+int pdti_may_commit(const pdt_database *database) {
+  if (!pdti_is_ours(database)) return PDT_MISUSE;
+  return database->takes_none ? PDT_FAILED : PDT_OK;
+}
+
+/* ---- what begins may see */
+
+static bool hides(const pdt_database *database) {
+  return database->options.sync == PDT_SYNC_FULL && !database->options.early_reads;
+}
+
+bool pdti_is_hidden(const pdt_store *store) {
+  return store->database && hides(store->database) && store->newest > store->database->published;
+}
+
+uint64_t pdti_newest(const pdt_database *database) { return database->newest; }
+
+uint64_t pdti_seen(const pdt_database *database) { return hides(database) ? database->published : database->newest; }
+
+/* ---- of who has the turn */
+
+/* What is written in one turn. */
+typedef struct {
+  uint64_t upto; /* the number of its last commit, or of an earlier one where it has none */
+  bool syncs;
+} batch;
+
+/* Takes what is pending, and the versions that its commits made. PDT_MISUSE where this thread has a commit prepared, since what it
+   has staged is neither pending nor written. */
+static int take_batch(pdt_database *database, batch *taken) {
+  if (pthread_mutex_lock(&database->locks.lock)) return PDT_MISUSE;
+  buffer frames = database->pending;
+  database->pending = database->writing;
+  database->pending.len = 0;
+  database->writing = frames;
+  taken->upto = database->newest;
+  pthread_mutex_lock(&database->locks.fresh_lock);
+  for (size_t i = 0; i < database->count; i++) {
+    pdt_store *store = database->tables[i]->store;
+    if (!store->coming.at) continue;
+    store->leaving = store->coming; /* nothing is there: a turn that failed was the last one */
+    store->leaving_commits = store->coming_commits;
+    store->coming.at = NULL;
+  }
+  pthread_mutex_unlock(&database->locks.fresh_lock);
+  pthread_mutex_unlock(&database->locks.lock);
+  return PDT_OK;
+}
+
+/* Makes the heads of the frames that are written. */
+static void make_heads(pdt_database *database) {
+  buffer *frames = &database->writing;
+  for (size_t at = 0; at < frames->len;) {
+    unwritten head;
+    memcpy(&head, frames->at + at, sizeof head);
+    const uint8_t *payload = frames->at + at + HEAD;
+    pdtr_frame_head(database->salt, head.number, database->safe, bytes_at(payload, head.len), head.len, frames->at + at, HEAD);
+    at += HEAD + head.len;
+  }
+}
+
+/* Goes on in the next file, once the device has all of this one: no file is behind one that may be torn. */
+static int go_on(pdt_database *database, int next) {
+  if (database->safe < database->written && pdti_sync(database->file)) return PDT_IO;
+  close(database->file);
+  pthread_mutex_lock(&database->turn_lock);
+  database->file = next;
+  database->files[database->file_count++] = (journal_file){.seq = database->next_seq - 1};
+  pthread_mutex_unlock(&database->turn_lock);
+  return PDT_OK;
+}
+
+/* Writes the header of a file that has no byte yet. */
+static int write_header(pdt_database *database, uint64_t base) {
+  uint8_t header[HEADER];
+  if (!pdtr_journal_header(database->salt, database->name, base, header, sizeof header)) return PDT_NOMEM;
+  return pdti_write_to(database->file, header, sizeof header);
+}
+
+static int write_frames(pdt_database *database) {
+  buffer *frames = &database->writing;
+  if (!frames->len) return PDT_OK;
+  unwritten first;
+  memcpy(&first, frames->at, sizeof first);
+  pthread_mutex_lock(&database->turn_lock);
+  int next = database->next_file;
+  database->next_file = -1;
+  pthread_mutex_unlock(&database->turn_lock);
+  if (next >= 0 && go_on(database, next)) {
+    close(next);
+    return PDT_IO;
+  }
+  journal_file *last = &database->files[database->file_count - 1];
+  bool is_new = !last->bytes;
+  if (is_new && write_header(database, first.number - 1)) return PDT_IO;
+  make_heads(database);
+  if (pdti_write_to(database->file, frames->at, frames->len)) return PDT_IO;
+  pthread_mutex_lock(&database->turn_lock);
+  if (is_new) *last = (journal_file){last->seq, first.number - 1, HEADER};
+  last->bytes += frames->len;
+  pthread_mutex_unlock(&database->turn_lock);
+  return PDT_OK;
+}
+
+/* The commits up to a number are safe: begins take the versions that they made, of all tables at once. */
+static void publish(pdt_database *database, uint64_t upto) {
+  if (!hides(database)) return;
+  replaced *before = database->replaced; /* of who has the turn, as are the tables then */
+  size_t count = database->count;
+  pthread_mutex_lock(&database->locks.fresh_lock);
+  database->published = upto;
+  for (size_t i = 0; i < count; i++) before[i] = pdti_publish(database->tables[i]->store, upto);
+  pthread_mutex_unlock(&database->locks.fresh_lock);
+  for (size_t i = 0; i < count; i++) pdti_drop(before[i]);
+}
+
+/* No commit is taken any more: what the device made of the last bytes isn't known, and isn't asked again. */
+void pdti_fail(pdt_database *database) {
+  pthread_mutex_lock(&database->locks.lock);
+  database->takes_none = true;
+  pthread_mutex_unlock(&database->locks.lock);
+  pthread_mutex_lock(&database->turn_lock);
+  database->has_failed = true;
+  pthread_mutex_unlock(&database->turn_lock);
+}
+
+/* Empties the room of a batch, and gives back what a long one took. */
+static void empty_batch(buffer *frames) {
+  frames->len = 0;
+  if (frames->room <= BATCH_ROOM) return;
+  free(frames->at);
+  *frames = (buffer){NULL, 0, 0};
+}
+
+/* Writes what is pending. PDT_MISUSE as take_batch. */
+static int lead(pdt_database *database, bool syncs) {
+  batch taken = {0, syncs};
+  if (take_batch(database, &taken)) return PDT_MISUSE;
+  bool is_empty = !database->writing.len;
+  int code = write_frames(database);
+  if (!code && syncs) code = pdti_sync(database->file);
+  empty_batch(&database->writing);
+  if (code) {
+    pdti_fail(database);
+    return PDT_UNSURE;
+  }
+  if (syncs) publish(database, taken.upto);
+  pthread_mutex_lock(&database->turn_lock);
+  database->written = taken.upto;
+  if (syncs) database->safe = taken.upto;
+  database->batches += !is_empty;
+  database->syncs += syncs;
+  pthread_mutex_unlock(&database->turn_lock);
+  return PDT_OK;
+}
+
+/* Waits for the turn, with turn_lock held. */
+static void take_turn(pdt_database *database) {
+  while (database->is_led) pthread_cond_wait(&database->turn_ends, &database->turn_lock);
+  database->is_led = true;
+}
+
+static void end_turn(pdt_database *database) {
+  database->is_led = false;
+  pthread_cond_broadcast(&database->turn_ends);
+}
+
+void pdti_take_turn(pdt_database *database) {
+  pthread_mutex_lock(&database->turn_lock);
+  take_turn(database);
+  pthread_mutex_unlock(&database->turn_lock);
+}
+
+void pdti_end_turn(pdt_database *database) {
+  pthread_mutex_lock(&database->turn_lock);
+  end_turn(database);
+  pthread_mutex_unlock(&database->turn_lock);
+}
+
+/* Waits until a number is reached, and writes where nobody else does. */
+static int wait_turns(pdt_database *database, const uint64_t *reached, uint64_t number, bool syncs) {
+  pthread_mutex_lock(&database->turn_lock);
+  while (*reached < number && !database->has_failed) {
+    if (database->is_led) {
+      pthread_cond_wait(&database->turn_ends, &database->turn_lock);
+      continue;
+    }
+    database->is_led = true;
+    pthread_mutex_unlock(&database->turn_lock);
+    bool is_held = lead(database, syncs) == PDT_MISUSE;
+    pthread_mutex_lock(&database->turn_lock);
+    end_turn(database);
+    if (is_held) break;
+  }
+  int code = *reached >= number ? PDT_OK : PDT_UNSURE;
+  pthread_mutex_unlock(&database->turn_lock);
+  return code;
+}
+
+int pdti_wait_until_safe(pdt_database *database, uint64_t number) {
+  return wait_turns(database, &database->safe, number, true);
+}
+
+int pdti_wait_for(pdt_database *database, uint64_t number) {
+  if (hides(database) && number <= database->published) return PDT_OK; /* with no lock: what a reader saw */
+  switch (database->options.sync) {
+    case PDT_SYNC_FULL: return pdti_wait_until_safe(database, number);
+    case PDT_SYNC_NORMAL: return wait_turns(database, &database->written, number, false);
+    default: return PDT_OK;
+  }
+}
+
+int pdti_flush(pdt_database *database, bool syncs) {
+  if (pthread_mutex_lock(&database->locks.lock)) return PDT_MISUSE; /* this thread has a commit prepared */
+  uint64_t number = database->newest;
+  pthread_mutex_unlock(&database->locks.lock);
+  return wait_turns(database, syncs ? &database->safe : &database->written, number, syncs);
+}
+
+/* ---- files */
+
+static void name_of(char *name, size_t room, uint64_t seq) { snprintf(name, room, "journal-%llu", (unsigned long long)seq); }
+
+int pdti_turn_over(pdt_database *database) {
+  pthread_mutex_lock(&database->turn_lock);
+  bool is_due = database->next_file < 0 && database->files[database->file_count - 1].bytes && database->file_count < JOURNAL_FILES;
+  uint64_t seq = database->next_seq;
+  pthread_mutex_unlock(&database->turn_lock);
+  if (!is_due) return PDT_OK;
+  char name[64];
+  name_of(name, sizeof name, seq);
+  int file = pdti_open_in(database->dir, name, O_WRONLY | O_CREAT | O_TRUNC | O_APPEND);
+  if (file < 0) return PDT_IO;
+  if (pdti_sync_in(database->dir)) { /* an empty file says nothing, also where it stays */
+    int why = errno;
+    close(file);
+    errno = why;
+    return PDT_IO;
+  }
+  pthread_mutex_lock(&database->turn_lock);
+  database->next_file = file;
+  database->next_seq = seq + 1;
+  pthread_mutex_unlock(&database->turn_lock);
+  return PDT_OK;
+}
+
+uint64_t pdti_first_wanted(pdt_database *database, uint64_t oldest) {
+  pthread_mutex_lock(&database->turn_lock);
+  size_t at = 0;
+  while (at + 1 < database->file_count && database->files[at + 1].bytes && database->files[at + 1].base <= oldest) at++;
+  uint64_t seq = database->files[at].seq;
+  pthread_mutex_unlock(&database->turn_lock);
+  return seq;
+}
+
+void pdti_remove_journals(pdt_database *database, uint64_t first) {
+  for (;;) {
+    pthread_mutex_lock(&database->turn_lock);
+    uint64_t seq = database->files[0].seq;
+    bool is_wanted = database->file_count < 2 || seq >= first;
+    if (!is_wanted) memmove(database->files, database->files + 1, --database->file_count * sizeof *database->files);
+    pthread_mutex_unlock(&database->turn_lock);
+    if (is_wanted) return;
+    char name[64];
+    name_of(name, sizeof name, seq);
+    unlinkat(database->dir, name, 0);
+  }
+}

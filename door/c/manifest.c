@@ -1,0 +1,201 @@
+/* The manifest of a database: which tables it has, and for each the image that stands for it, with the length and the check of
+   each file. It is one file, `manifest`, written anew under another name and then renamed: one or the other is there, whole.
+
+     narthexmace 1
+     database NAME SALT         both in hexadecimal
+     at COMMIT FILE             the number of a commit that was safe, and the first file of the journal that an image wants
+     next TABLE FOLDER          the numbers of the next table and of the next image's folder
+     table NUMBER COMMIT FOLDER RECENT LIMIT BY_ROW WIDTH NAME
+     LENGTH CHECK               of the header's file, and then of each column's
+     end CHECK                  of all bytes before this line */
+#include "database.h"
+
+#include <fcntl.h>
+#include <inttypes.h>
+#include <stdarg.h>
+#include <stdio.h>
+
+enum { ALL_ONES = -1, LINE = 256 };
+
+static uint32_t check_of(const void *bytes, size_t len) { return pdtr_check((uint32_t)ALL_ONES, bytes_at(bytes, len), len); }
+
+/* ---- writing */
+
+static int put_line(buffer *text, const char *form, ...) {
+  if (pdti_reserve(text, LINE)) return PDT_NOMEM;
+  va_list words;
+  va_start(words, form);
+  int len = vsnprintf((char *)text->at + text->len, LINE, form, words);
+  va_end(words);
+  text->len += (size_t)len;
+  return PDT_OK;
+}
+
+static int put_table(buffer *text, const pdti_table *entry) {
+  const pdt_options *options = &entry->options;
+  const table_image *image = &entry->image;
+  int code = put_line(text, "table %" PRIu32 " %" PRIu64 " %" PRIu64 " %zu %" PRIu64 " %d %zu %s\n", entry->number, image->number,
+                      image->folder, options->recent, options->row_limit, options->by_row, entry->width, entry->name);
+  for (size_t i = 0; i <= entry->width && !code; i++) {
+    const file_mark *mark = i ? &image->columns[i - 1] : &image->header;
+    code = put_line(text, "%" PRIu64 " %08" PRIx32 "\n", mark->len, mark->check);
+  }
+  return code;
+}
+
+/* The commits that all images have. */
+static uint64_t oldest_image(const pdt_database *database, uint64_t number, const pdti_table *added) {
+  uint64_t oldest = added && added->image.number < number ? added->image.number : number;
+  for (size_t i = 0; i < database->count; i++)
+    if (database->tables[i]->image.number < oldest) oldest = database->tables[i]->image.number;
+  return oldest;
+}
+
+static int put_manifest(pdt_database *database, uint64_t number, const pdti_table *added, buffer *text) {
+  uint64_t first = pdti_first_wanted(database, oldest_image(database, number, added));
+  int code = put_line(text, "narthexmace 1\ndatabase %016" PRIx64 " %016" PRIx64 "\n", database->name, database->salt);
+  if (!code) code = put_line(text, "at %" PRIu64 " %" PRIu64 "\n", number, first);
+  if (!code) code = put_line(text, "next %" PRIu32 " %" PRIu64 "\n", database->next_table, database->next_folder);
+  for (size_t i = 0; i < database->count && !code; i++) code = put_table(text, database->tables[i]);
+  if (!code && added) code = put_table(text, added);
+  return code ? code : put_line(text, "end %08" PRIx32 "\n", check_of(text->at, text->len));
+}
+
+int pdti_write_manifest(pdt_database *database, uint64_t number, const pdti_table *added) {
+  buffer text = {NULL, 0, 0};
+  int code = put_manifest(database, number, added, &text);
+  if (!code) {
+    int file = pdti_open_in(database->dir, "manifest-new", O_WRONLY | O_CREAT | O_TRUNC);
+    code = file < 0 ? PDT_IO : pdti_close_synced(file, pdti_write_to(file, text.at, text.len));
+  }
+  if (!code && renameat(database->dir, "manifest-new", database->dir, "manifest")) code = PDT_IO;
+  if (!code) code = pdti_sync_in(database->dir);
+  int why = errno;
+  free(text.at);
+  errno = why;
+  return code;
+}
+
+/* ---- reading: what isn't as it is written is damaged */
+
+/* The text that is left, of which what was read is gone. */
+typedef struct {
+  const char *at;
+  bool is_bad;
+} reader;
+
+static void take_word(reader *text, const char *word) {
+  size_t len = strlen(word);
+  if (strncmp(text->at, word, len)) text->is_bad = true;
+  if (!text->is_bad) text->at += len;
+}
+
+/* A number, and what ends it. */
+static uint64_t take_number(reader *text, int base, char end) {
+  char *stop;
+  if (text->is_bad || strchr(" +-\n", *text->at)) {
+    text->is_bad = true;
+    return 0;
+  }
+  errno = 0;
+  uint64_t number = strtoull(text->at, &stop, base);
+  if (errno || stop == text->at || *stop != end) text->is_bad = true;
+  if (!text->is_bad) text->at = stop + 1;
+  return number;
+}
+
+static file_mark take_mark(reader *text) {
+  uint64_t len = take_number(text, 10, ' ');
+  return (file_mark){len, (uint32_t)take_number(text, 16, '\n')};
+}
+
+static void take_name(reader *text, char *name) {
+  const char *end = strchr(text->at, '\n');
+  if (!end || end == text->at || end - text->at > PDT_MAX_NAME) text->is_bad = true;
+  if (text->is_bad) return;
+  memcpy(name, text->at, (size_t)(end - text->at));
+  name[end - text->at] = 0;
+  text->at = end + 1;
+}
+
+static void take_table(reader *text, pdti_table *entry) {
+  take_word(text, "table ");
+  entry->number = (uint32_t)take_number(text, 10, ' ');
+  entry->image.number = take_number(text, 10, ' ');
+  entry->image.folder = take_number(text, 10, ' ');
+  entry->options.size = sizeof entry->options;
+  entry->options.recent = (size_t)take_number(text, 10, ' ');
+  entry->options.row_limit = take_number(text, 10, ' ');
+  entry->options.by_row = take_number(text, 10, ' ');
+  entry->width = (size_t)take_number(text, 10, ' ');
+  take_name(text, entry->name);
+  if (entry->width > PDT_MAX_COLUMNS) text->is_bad = true;
+  entry->image.header = take_mark(text);
+  for (size_t i = 0; i < entry->width && !text->is_bad; i++) entry->image.columns[i] = take_mark(text);
+}
+
+/* Adds an entry to those of a database that nobody else has yet. */
+static int take_entries(pdt_database *database, reader *text) {
+  while (!text->is_bad && *text->at) {
+    pdti_table *entry = calloc(1, sizeof *entry);
+    if (!entry) return PDT_NOMEM;
+    take_table(text, entry);
+    int code = text->is_bad ? PDT_ROT : pdti_add_entry(database, entry);
+    if (code) {
+      free(entry);
+      return code;
+    }
+  }
+  return text->is_bad ? PDT_ROT : PDT_OK;
+}
+
+/* The text of a manifest without its last line, whose check is right: a zero byte ends it. */
+static int open_text(buffer *text) {
+  enum { END = 13 }; /* "end 01234567\n" */
+  if (text->len < END || pdti_reserve(text, 1)) return text->len < END ? PDT_ROT : PDT_NOMEM;
+  text->at[text->len] = 0;
+  reader last = {(const char *)text->at + text->len - END, false};
+  take_word(&last, "end ");
+  uint64_t check = take_number(&last, 16, '\n');
+  text->len -= END;
+  if (last.is_bad || check != check_of(text->at, text->len) || memchr(text->at, 0, text->len)) return PDT_ROT;
+  text->at[text->len] = 0;
+  return PDT_OK;
+}
+
+int pdti_read_manifest(pdt_database *database, uint64_t *number, uint64_t *first) {
+  buffer bytes = {NULL, 0, 0};
+  int code = pdti_read_in(database->dir, "manifest", &bytes);
+  if (!code) code = open_text(&bytes);
+  if (!code) {
+    reader text = {(const char *)bytes.at, false};
+    take_word(&text, "narthexmace 1\ndatabase ");
+    database->name = take_number(&text, 16, ' ');
+    database->salt = take_number(&text, 16, '\n');
+    take_word(&text, "at ");
+    *number = take_number(&text, 10, ' ');
+    *first = take_number(&text, 10, '\n');
+    take_word(&text, "next ");
+    database->next_table = (uint32_t)take_number(&text, 10, ' ');
+    database->next_folder = take_number(&text, 10, '\n');
+    code = take_entries(database, &text);
+  }
+  free(bytes.at);
+  return code;
+}
+
+/* ---- what it doesn't name */
+
+static bool is_named(const pdt_database *database, uint64_t table, uint64_t folder) {
+  for (size_t i = 0; i < database->count; i++)
+    if (database->tables[i]->number == table && database->tables[i]->image.folder == folder) return true;
+  return false;
+}
+
+static void remove_unnamed(void *context, const char *name, uint64_t table, uint64_t folder) {
+  pdt_database *database = context;
+  (void)name;
+  if (!is_named(database, table, folder)) pdti_remove_image(database, table, folder);
+}
+
+void pdti_remove_images(pdt_database *database) { (void)pdti_names(database->dir, "image-", remove_unnamed, database); }

@@ -1,0 +1,287 @@
+/* Opening a database: what its folder has, and where its journal goes on. Nothing is changed before all of it is found. */
+#include "database.h"
+
+#include <fcntl.h>
+#include <stdio.h>
+#include <sys/file.h>
+#include <sys/random.h>
+#include <sys/stat.h>
+
+/* Names the file that a code is about. */
+static int about(pdt_report *report, const char *file, int code) {
+  if (code) snprintf(report->file, sizeof report->file, "%s", file);
+  return code;
+}
+
+/* ---- the folder */
+
+int pdti_make_folder(const char *folder) {
+  if (mkdir(folder, 0777)) return errno == EEXIST ? PDT_OK : PDT_IO;
+  char parent[4096];
+  int len = snprintf(parent, sizeof parent, "%s/..", folder);
+  if (len < 0 || len >= (int)sizeof parent) return PDT_MISUSE;
+  int dir = pdti_open_in(AT_FDCWD, parent, O_RDONLY | O_DIRECTORY);
+  int code = dir < 0 || pdti_sync_in(dir) ? PDT_IO : PDT_OK;
+  if (code && (errno == EACCES || errno == EPERM)) code = PDT_OK; /* it is another's, who keeps it */
+  int why = errno;
+  if (dir >= 0) close(dir);
+  errno = why;
+  return code;
+}
+
+int pdti_lock_folder(pdt_database *database) {
+  database->lock_file = pdti_open_in(database->dir, "lock", O_RDWR | O_CREAT);
+  if (database->lock_file < 0) return PDT_IO;
+  int bad;
+  do bad = flock(database->lock_file, LOCK_EX | LOCK_NB);
+  while (bad && errno == EINTR);
+  return !bad ? PDT_OK : errno == EWOULDBLOCK ? PDT_LOCKED : PDT_IO;
+}
+
+/* ---- what is new */
+
+/* What stands in a folder without a manifest, of which one would have told. */
+typedef struct {
+  int dir;
+  size_t count;
+} leftovers;
+
+static void count_image(void *context, const char *name, uint64_t table, uint64_t folder) {
+  (void)name, (void)table, (void)folder;
+  ((leftovers *)context)->count++;
+}
+
+static void count_journal(void *context, const char *name, uint64_t seq, uint64_t second) {
+  leftovers *found = context;
+  struct stat about;
+  (void)seq, (void)second;
+  if (fstatat(found->dir, name, &about, 0) || about.st_size) found->count++; /* an empty one was made, and nothing came of it */
+}
+
+/* Draws what its frames are told by from any other's. */
+static int draw(uint64_t *number) {
+  ssize_t got;
+  do got = getrandom(number, sizeof *number, 0);
+  while (got < 0 && errno == EINTR);
+  return got == sizeof *number ? PDT_OK : PDT_IO;
+}
+
+/* Makes an empty file of the journal, and its name safe. */
+static int make_journal(pdt_database *database, uint64_t seq) {
+  char name[64];
+  snprintf(name, sizeof name, "journal-%llu", (unsigned long long)seq);
+  int file = pdti_open_in(database->dir, name, O_WRONLY | O_CREAT | O_TRUNC | O_APPEND);
+  if (file < 0) return PDT_IO;
+  close(file);
+  return pdti_sync_in(database->dir);
+}
+
+/* Makes the manifest of a database in a folder that has none, after its journal. Where images or frames are there, it is lost. */
+static int make_new(pdt_database *database) {
+  leftovers found = {database->dir, 0};
+  if (pdti_names(database->dir, "image-", count_image, &found)) return PDT_IO;
+  if (pdti_names(database->dir, "journal-", count_journal, &found)) return PDT_IO;
+  if (found.count) return PDT_GAP;
+  uint8_t header[HEADER];
+  do { /* a salt of which there are no frames is drawn once in 2^32 times */
+    if (draw(&database->name) || draw(&database->salt)) return PDT_IO;
+  } while (!pdtr_journal_header(database->salt, database->name, 0, header, sizeof header));
+  database->next_table = database->next_folder = 1;
+  database->files[0] = (journal_file){.seq = 1};
+  database->file_count = 1;
+  return make_journal(database, 1) ? PDT_IO : pdti_write_manifest(database, 0, NULL);
+}
+
+/* ---- the journal */
+
+/* What was read of the journal: the frames of its files, one after the other. */
+typedef struct {
+  pdt_database *database;
+  buffer frames;
+  size_t starts[JOURNAL_FILES]; /* where those of each file begin */
+  size_t fronts[JOURNAL_FILES]; /* and how many bytes stand before them in the file: its header, or none where it has no header */
+  uint64_t first;               /* the number of the first file that an image wants */
+  bool is_full;
+} journal_read;
+
+/* Enters a file of the journal in the order of their numbers. */
+static void list_file(void *context, const char *name, uint64_t seq, uint64_t second) {
+  journal_read *read = context;
+  pdt_database *database = read->database;
+  (void)name;
+  if (second || seq < read->first) return;
+  if (database->file_count == JOURNAL_FILES) {
+    read->is_full = true;
+    return;
+  }
+  size_t at = database->file_count++;
+  for (; at && database->files[at - 1].seq > seq; at--) database->files[at] = database->files[at - 1];
+  database->files[at] = (journal_file){.seq = seq};
+}
+
+/* Reads a file after those before it. What has no header is the end of a journal, or damaged: what it says tells which. */
+static int read_file(journal_read *read, size_t at, char *name) {
+  journal_file *file = &read->database->files[at];
+  snprintf(name, 64, "journal-%llu", (unsigned long long)file->seq);
+  if (file->seq != read->first + at) return PDT_GAP;
+  buffer bytes = {NULL, 0, 0};
+  int code = pdti_read_in(read->database->dir, name, &bytes);
+  if (code == PDT_MISSING) code = PDT_GAP;
+  if (!code) {
+    journal_header header = {0, 0, 0};
+    bool is_headed = !pdtr_journal_read(bytes_at(bytes.at, bytes.len), bytes.len, &header);
+    size_t front = is_headed ? HEADER : 0;
+    if (is_headed && (header.salt != read->database->salt || header.store != read->database->name)) code = PDT_MISFIT;
+    if (!code) code = pdti_reserve(&read->frames, bytes.len + 1);
+    if (!code) {
+      *file = (journal_file){file->seq, header.base, bytes.len};
+      read->starts[at] = read->frames.len;
+      read->fronts[at] = front;
+      if (bytes.len > front) memcpy(read->frames.at + read->frames.len, bytes.at + front, bytes.len - front);
+      read->frames.len += bytes.len - front;
+    }
+  }
+  free(bytes.at);
+  return code;
+}
+
+/* Reads the files of the journal from the first that an image wants. */
+static int read_journal(journal_read *read, pdt_report *report) {
+  pdt_database *database = read->database;
+  database->file_count = 0;
+  if (pdti_names(database->dir, "journal-", list_file, read)) return PDT_IO;
+  if (read->is_full || !database->file_count) return about(report, "journal", PDT_GAP);
+  for (size_t i = 0; i < database->file_count; i++) {
+    char name[64];
+    int code = read_file(read, i, name);
+    if (code) return about(report, name, code);
+  }
+  return PDT_OK;
+}
+
+/* ---- the tables */
+
+/* Opens the tables over their images, with the commits since. */
+static int open_tables(journal_read *read, uint64_t number, reopened *found, pdt_report *report) {
+  pdt_database *database = read->database;
+  uint64_t base = read->fronts[0] ? database->files[0].base : number;
+  uint64_t oldest = UINT64_MAX;
+  for (size_t i = 0; i < database->count; i++) {
+    pdti_table *entry = database->tables[i];
+    int code = pdti_open_image(database, entry, base, &read->frames, found, report->file);
+    if (code) {
+      report->fault = found->fault;
+      return code;
+    }
+    report->file[0] = 0;
+    if (entry->image.number < oldest) oldest = entry->image.number;
+  }
+  if (database->count) report->replayed = found->newest - oldest;
+  return PDT_OK;
+}
+
+/* ---- where the journal goes on */
+
+/* The last file that has bytes behind its header. */
+static size_t last_with_frames(const journal_read *read) {
+  const pdt_database *database = read->database;
+  size_t at = database->file_count - 1;
+  while (at && database->files[at].bytes <= read->fronts[at]) at--;
+  return at;
+}
+
+/* Whether the files stand behind one another: none was begun before all in those before it was safe. */
+static bool is_chain(const journal_read *read, const reopened *found, size_t last) {
+  const pdt_database *database = read->database;
+  for (size_t i = 0; i < database->file_count; i++)
+    if (read->fronts[i] && found->newest < database->files[i].base) return false;
+  return found->whole >= read->starts[last];
+}
+
+/* Cuts a file to so many bytes, and has the device take them. */
+static int cut_file(pdt_database *database, journal_file *file, uint64_t bytes) {
+  char name[64];
+  snprintf(name, sizeof name, "journal-%llu", (unsigned long long)file->seq);
+  int one = pdti_open_in(database->dir, name, O_WRONLY | O_APPEND);
+  if (one < 0) return PDT_IO;
+  int code = file->bytes > bytes && ftruncate(one, (off_t)bytes) ? PDT_IO : PDT_OK;
+  if (!code) file->bytes = bytes;
+  return pdti_close_synced(one, code);
+}
+
+/* Cuts off what is torn, so that frames go on there. */
+static int cut_torn(journal_read *read, const reopened *found, pdt_report *report) {
+  pdt_database *database = read->database;
+  size_t last = last_with_frames(read);
+  if (!is_chain(read, found, last)) {
+    report->fault = found->newest + 1;
+    return PDT_ROT;
+  }
+  report->torn_bytes = read->frames.len - found->whole;
+  return cut_file(database, &database->files[last], read->fronts[last] + (found->whole - read->starts[last]));
+}
+
+/* Opens the last file of the journal, in which frames go on. */
+static int open_last(pdt_database *database) {
+  char name[64];
+  journal_file *last = &database->files[database->file_count - 1];
+  snprintf(name, sizeof name, "journal-%llu", (unsigned long long)last->seq);
+  database->file = pdti_open_in(database->dir, name, O_WRONLY | O_APPEND);
+  database->next_seq = last->seq + 1;
+  return database->file < 0 ? PDT_IO : PDT_OK;
+}
+
+/* Begins a new file where no table wants one of those that are there, but for one with no bytes. */
+static int begin_anew(pdt_database *database, uint64_t number) {
+  if (database->file_count == 1 && !database->files[0].bytes) return PDT_OK;
+  uint64_t seq = database->files[database->file_count - 1].seq + 1;
+  if (make_journal(database, seq)) return PDT_IO;
+  database->files[0] = (journal_file){.seq = seq};
+  database->file_count = 1;
+  return pdti_write_manifest(database, number, NULL);
+}
+
+static void remove_old_journal(void *context, const char *name, uint64_t seq, uint64_t second) {
+  pdt_database *database = context;
+  if (!second && seq < database->files[0].seq) unlinkat(database->dir, name, 0);
+}
+
+/* ---- all of it */
+
+/* Finds the tables and where the journal goes on, and changes nothing before all of it is found. */
+static int recover(pdt_database *database, journal_read *read, pdt_report *report) {
+  uint64_t number = 0;
+  int code = pdti_read_manifest(database, &number, &read->first);
+  if (code == PDT_MISSING) {
+    code = make_new(database);
+    read->first = 1;
+  }
+  if (code) return about(report, "manifest", code);
+  code = read_journal(read, report);
+  reopened found = {0, number, 0};
+  if (!code) code = open_tables(read, number, &found, report);
+  if (!code) code = database->count ? cut_torn(read, &found, report) : begin_anew(database, number);
+  if (!code) code = open_last(database);
+  if (code) return code;
+  report->commits = found.newest;
+  database->newest = database->written = database->safe = found.newest;
+  database->published = found.newest;
+  for (size_t i = 0; i < database->count && !code; i++) code = pdti_make_room_for_numbers(database->tables[i]->store);
+  for (size_t i = 0; i < database->count && !code; i++) pdti_attach(database, database->tables[i]);
+  return code;
+}
+
+int pdti_open_folder(pdt_database *database, pdt_report *report) {
+  journal_read *read = calloc(1, sizeof *read);
+  if (!read) return PDT_NOMEM;
+  read->database = database;
+  int code = recover(database, read, report);
+  int why = errno;
+  free(read->frames.at);
+  free(read);
+  errno = why;
+  if (code) return code;
+  pdti_remove_images(database);
+  (void)pdti_names(database->dir, "journal-", remove_old_journal, database);
+  return PDT_OK;
+}

@@ -1,0 +1,215 @@
+/* The tables of a database: how they are made, found and dropped. */
+#include "database.h"
+
+/* ---- names */
+
+/* Whether bytes are UTF-8: none is cut short, longer than it need be, a half of a pair, or above 10FFFF. */
+static bool is_utf8(const uint8_t *at, size_t len) {
+  for (const uint8_t *end = at + len; at < end;) {
+    uint32_t lead = *at++, more = lead < 0x80 ? 0 : lead < 0xc2 ? 4 : lead < 0xe0 ? 1 : lead < 0xf0 ? 2 : lead < 0xf5 ? 3 : 4;
+    if (more == 4 || (size_t)(end - at) < more) return false;
+    uint32_t point = more ? lead & (0x3f >> more) : lead;
+    for (uint32_t i = 0; i < more; i++, at++) {
+      if ((*at & 0xc0) != 0x80) return false;
+      point = point << 6 | (*at & 0x3f);
+    }
+    static const uint32_t least[] = {0, 0x80, 0x800, 0x10000};
+    if (point < least[more] || point > 0x10ffff || (point >= 0xd800 && point < 0xe000)) return false;
+  }
+  return true;
+}
+
+/* A name is text without what would end a line or a word of a shell's. */
+static bool is_name(const char *name) {
+  size_t len = strnlen(name, PDT_MAX_NAME + 1);
+  if (!len || len > PDT_MAX_NAME) return false;
+  for (size_t i = 0; i < len; i++)
+    if ((uint8_t)name[i] < 32 || name[i] == 127) return false;
+  return is_utf8((const uint8_t *)name, len);
+}
+
+static pdti_table *find(pdt_database *database, const char *name) {
+  for (size_t i = 0; i < database->count; i++)
+    if (!strcmp(database->tables[i]->name, name)) return database->tables[i];
+  return NULL;
+}
+
+pdt_code pdt_table_open(pdt_database *database, const char *name, pdt_store **store) {
+  if (!store) return PDT_MISUSE;
+  *store = NULL;
+  if (!name || !pdti_is_ours(database)) return PDT_MISUSE;
+  pthread_mutex_lock(&database->locks.fresh_lock);
+  pdti_table *entry = find(database, name);
+  if (entry) *store = entry->store;
+  pthread_mutex_unlock(&database->locks.fresh_lock);
+  return entry ? PDT_OK : PDT_MISSING;
+}
+
+pdt_code pdt_table_name(pdt_database *database, size_t index, char *name, size_t room) {
+  if (!pdti_is_ours(database) || (!name && room)) return PDT_MISUSE;
+  pthread_mutex_lock(&database->locks.fresh_lock);
+  int code = index < database->count ? PDT_OK : PDT_MISSING;
+  size_t len = code ? 0 : strlen(database->tables[index]->name) + 1;
+  if (!code && len > room) code = PDT_TOO_SMALL;
+  if (!code) memcpy(name, database->tables[index]->name, len);
+  pthread_mutex_unlock(&database->locks.fresh_lock);
+  return code;
+}
+
+/* Changes the list of tables while nobody writes, commits or begins. */
+static void lock_tables(pdt_database *database) {
+  pdti_take_turn(database);
+  pthread_mutex_lock(&database->locks.lock);
+  pthread_mutex_lock(&database->locks.fresh_lock);
+}
+
+static void unlock_tables(pdt_database *database) {
+  pthread_mutex_unlock(&database->locks.fresh_lock);
+  pthread_mutex_unlock(&database->locks.lock);
+  pdti_end_turn(database);
+}
+
+/* The number of a commit that is safe once this returns, and that is the newest one as it begins. */
+static int safe_number(pdt_database *database, uint64_t *number) {
+  pthread_mutex_lock(&database->locks.lock);
+  *number = database->newest;
+  int code = pdti_may_commit(database);
+  pthread_mutex_unlock(&database->locks.lock);
+  return code ? code : pdti_wait_until_safe(database, *number) ? PDT_FAILED : PDT_OK;
+}
+
+/* Writes the first image of a table. */
+static int write_first(pdt_database *database, pdti_table *entry) {
+  pdt_snapshot *snapshot = NULL;
+  handle image = {NULL};
+  int code = pdt_checkpoint_begin(entry->store, NULL, &snapshot);
+  if (!code) code = pdti_snapshot_image(snapshot, &image);
+  if (!code) code = pdti_write_image(database, entry, &image, &entry->image);
+  int why = errno;
+  if (image.at) pdtr_image_close(&image);
+  pdt_checkpoint_end(snapshot);
+  errno = why;
+  return code;
+}
+
+/* Makes a store a table of a database: its image first, then the manifest, and then it is there. With files_lock held. */
+static int add_table(pdt_database *database, pdti_table *entry) {
+  uint64_t number = 0;
+  if (find(database, entry->name)) return PDT_EXISTS;
+  if (database->next_table == UINT32_MAX) return PDT_FULL;
+  int code = safe_number(database, &number);
+  if (code) return code;
+  entry->number = database->next_table++;
+  code = write_first(database, entry);
+  if (code) return code;
+  entry->image.number = number;
+  lock_tables(database);
+  code = pdti_reserve_entry(database);
+  unlock_tables(database);
+  if (!code) code = pdti_write_manifest(database, number, entry);
+  if (code) return code;
+  lock_tables(database);
+  pdti_attach(database, entry);
+  database->tables[database->count++] = entry; /* after the last one, since its number is the greatest */
+  unlock_tables(database);
+  return PDT_OK;
+}
+
+/* Makes a table of a store that was opened for it, and hands it out. */
+static int create(pdt_database *database, const char *name, const pdt_options *options, pdt_store *store, pdt_store **out) {
+  pdti_table *entry = calloc(1, sizeof *entry);
+  int code = entry ? pdti_make_room_for_numbers(store) : PDT_NOMEM;
+  if (!code) {
+    entry->store = store;
+    entry->width = store->width;
+    (void)pdti_options_of(options, &entry->options);
+    memcpy(entry->name, name, strlen(name) + 1);
+    pthread_mutex_lock(&database->round_lock);
+    pthread_mutex_lock(&database->files_lock);
+    code = add_table(database, entry);
+    pthread_mutex_unlock(&database->files_lock);
+    pthread_mutex_unlock(&database->round_lock);
+  }
+  if (!code) {
+    *out = store;
+    return PDT_OK;
+  }
+  int why = errno;
+  free(entry);
+  pdti_free_store(store);
+  errno = why;
+  return code;
+}
+
+/* Whether a table may be made; *store is null then. */
+static int may_create(pdt_database *database, const char *name, pdt_store **store) {
+  if (!store) return PDT_MISUSE;
+  *store = NULL;
+  if (!name || !pdti_is_ours(database) || pdti_has_prepared(database)) return PDT_MISUSE;
+  return is_name(name) ? PDT_OK : PDT_SHAPE;
+}
+
+pdt_code pdt_table_create(pdt_database *database, const char *name, const pdt_column *columns, size_t count, size_t key,
+                          const pdt_options *options, pdt_place *place, pdt_store **out) {
+  pdt_store *store = NULL;
+  int code = may_create(database, name, out);
+  if (!code) code = pdt_open_columns(columns, count, key, options, place, &store);
+  return code ? code : create(database, name, options, store, out);
+}
+
+pdt_code pdt_table_create_csv(pdt_database *database, const char *name, const void *csv, size_t bytes, const pdt_options *options,
+                              pdt_fault *fault, pdt_store **out) {
+  pdt_store *store = NULL;
+  int code = may_create(database, name, out);
+  if (!code) code = pdt_open_csv(csv, bytes, options, fault, &store);
+  return code ? code : create(database, name, options, store, out);
+}
+
+/* Takes an entry out of the list, or puts it back where it stood. */
+static void take_out(pdt_database *database, size_t at) {
+  lock_tables(database);
+  memmove(database->tables + at, database->tables + at + 1, (--database->count - at) * sizeof *database->tables);
+  unlock_tables(database);
+}
+
+static void put_back(pdt_database *database, size_t at, pdti_table *entry) {
+  lock_tables(database);
+  memmove(database->tables + at + 1, database->tables + at, (database->count++ - at) * sizeof *database->tables);
+  database->tables[at] = entry;
+  unlock_tables(database);
+}
+
+/* Drops a table. Where that fails and the manifest may be without it, the manifest is written with it again, or no commit is taken any
+   more: it would be of a table that the next opening doesn't know. */
+static int drop(pdt_database *database, const char *name) {
+  size_t at = 0;
+  while (at < database->count && strcmp(database->tables[at]->name, name)) at++;
+  if (at == database->count) return PDT_MISSING;
+  pdti_table *entry = database->tables[at];
+  uint64_t number = 0;
+  int code = safe_number(database, &number);
+  if (code) return code;
+  if (pdti_is_used(entry->store)) return PDT_MISUSE;
+  take_out(database, at);
+  code = pdti_write_manifest(database, number, NULL);
+  if (code) {
+    int why = errno;
+    put_back(database, at, entry);
+    if (pdti_write_manifest(database, number, NULL)) pdti_fail(database);
+    errno = why;
+    return code;
+  }
+  pdti_remove_image(database, entry->number, entry->image.folder);
+  pdti_free_entry(entry);
+  return PDT_OK;
+}
+
+pdt_code pdt_table_drop(pdt_database *database, const char *name) {
+  if (!name || !pdti_is_ours(database) || pdti_has_prepared(database)) return PDT_MISUSE;
+  pthread_mutex_lock(&database->round_lock); /* the upkeep's checkpoints are none of the caller's */
+  pthread_mutex_lock(&database->files_lock);
+  int code = drop(database, name);
+  pthread_mutex_unlock(&database->files_lock);
+  pthread_mutex_unlock(&database->round_lock);
+  return code;
+}

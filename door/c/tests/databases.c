@@ -1,0 +1,556 @@
+/* Databases: what is made, kept, found again and refused. */
+#define _POSIX_C_SOURCE 200809L
+#include <dirent.h>
+#include <fcntl.h>
+#include <pdt.h>
+#include <pthread.h>
+#include <signal.h>
+#include <stdio.h>
+#include <stdlib.h>
+#include <string.h>
+#include <sys/stat.h>
+#include <sys/wait.h>
+#include <unistd.h>
+
+static int failures;
+static void is(const char *what, long long wanted, long long found) {
+  if (wanted == found) return;
+  failures++;
+  fprintf(stderr, "%s: wanted %lld, found %lld\n", what, wanted, found);
+}
+
+static const char *room; /* the folder in which all of it is done */
+static char place[512];
+static const char *folder_of(const char *name) {
+  snprintf(place, sizeof place, "%s/%s", room, name);
+  return place;
+}
+
+static pdt_report report;
+static pdt_database_options options = {.size = sizeof options, .no_upkeep = true};
+
+static int try_open(const char *name, pdt_database **database) {
+  report = (pdt_report){.size = sizeof report};
+  return pdt_database_open(folder_of(name), &options, database, &report);
+}
+static pdt_database *opened(const char *name) {
+  pdt_database *database = NULL;
+  is("open", PDT_OK, try_open(name, &database));
+  if (!database) fprintf(stderr, "%s: fault %llu, file %s\n", name, (unsigned long long)report.fault, report.file), exit(1);
+  return database;
+}
+static void closed(pdt_database *database) { is("close", PDT_OK, pdt_database_close(database)); }
+
+static const char csv[] = "id:int:key,qty:int\n10,1\n20,2\n30,3\n";
+
+static pdt_store *created(pdt_database *database, const char *name) {
+  pdt_store *store = NULL;
+  is("create", PDT_OK, pdt_table_create_csv(database, name, csv, sizeof csv - 1, NULL, NULL, &store));
+  return store;
+}
+static pdt_store *table(pdt_database *database, const char *name) {
+  pdt_store *store = NULL;
+  is("table", PDT_OK, pdt_table_open(database, name, &store));
+  return store;
+}
+static pdt_txn *begun(pdt_store *store) {
+  pdt_txn *txn = NULL;
+  is("begin", PDT_OK, pdt_begin(store, &txn));
+  return txn;
+}
+static void set(pdt_txn *txn, int64_t key, int64_t qty) { is("set", PDT_OK, pdt_set(txn, &key, NULL, 0, 1, qty, NULL)); }
+static uint64_t committed(pdt_store *store, int64_t key, int64_t qty) {
+  pdt_txn *txn = begun(store);
+  uint64_t number = 0;
+  set(txn, key, qty);
+  is("commit", PDT_OK, pdt_commit(txn, &number));
+  return number;
+}
+static long long in(pdt_txn *txn, int64_t key) {
+  int64_t row[2] = {0, -1};
+  return pdt_get(txn, &key, NULL, 0, row, NULL, 0, NULL) ? -1 : row[1];
+}
+static long long qty(pdt_store *store, int64_t key) {
+  pdt_txn *txn = begun(store);
+  long long found = in(txn, key);
+  pdt_abort(txn);
+  return found;
+}
+static pdt_work *working(pdt_database *database) {
+  pdt_work *work = NULL;
+  is("work", PDT_OK, pdt_work_begin(database, &work));
+  return work;
+}
+static pdt_txn *on(pdt_work *work, pdt_store *store) {
+  pdt_txn *txn = NULL;
+  is("on", PDT_OK, pdt_work_on(work, store, &txn));
+  return txn;
+}
+static pdt_database_counts counted(pdt_database *database) {
+  pdt_database_counts counts = {.size = sizeof counts};
+  is("count", PDT_OK, pdt_database_count(database, &counts));
+  return counts;
+}
+
+/* ---- what is made is found again, with its numbers */
+
+static void lasts(void) {
+  pdt_database *database = opened("lasts");
+  is("a new one", 0, (long long)report.commits);
+  char name[PDT_MAX_NAME + 1];
+  is("no table", PDT_MISSING, pdt_table_name(database, 0, name, sizeof name));
+  pdt_store *items = created(database, "items"), *orders = created(database, "orders");
+  is("the first commit", 1, (long long)committed(items, 10, 11));
+  is("of another table", 2, (long long)committed(orders, 20, 22));
+  is("and again", 3, (long long)committed(items, 20, 33));
+  pdt_sizes sizes;
+  is("size", PDT_OK, pdt_size(orders, &sizes));
+  is("the number of a table", 2, (long long)sizes.commits);
+  pdt_txn *txn = begun(orders);
+  uint64_t number = 0;
+  is("begun", PDT_OK, pdt_begun(txn, &number));
+  is("its number", 2, (long long)number);
+  is("nothing to commit", PDT_OK, pdt_commit(txn, &number));
+  is("the number that it saw", 2, (long long)number);
+  closed(database);
+
+  database = opened("lasts");
+  is("commits", 3, (long long)report.commits);
+  is("replayed", 3, (long long)report.replayed);
+  is("torn", 0, (long long)report.torn_bytes);
+  is("the first name", PDT_OK, pdt_table_name(database, 0, name, sizeof name));
+  is("is items", 0, strcmp(name, "items"));
+  is("the second name", PDT_OK, pdt_table_name(database, 1, name, sizeof name));
+  is("is orders", 0, strcmp(name, "orders"));
+  is("too small", PDT_TOO_SMALL, pdt_table_name(database, 1, name, 6));
+  items = table(database, "items");
+  orders = table(database, "orders");
+  is("items 10", 11, qty(items, 10));
+  is("items 20", 33, qty(items, 20));
+  is("items 30", 3, qty(items, 30));
+  is("orders 20", 22, qty(orders, 20));
+  is("goes on", 4, (long long)committed(orders, 10, 44));
+  is("the same store", 1, items == table(database, "items"));
+  closed(database);
+  database = opened("lasts");
+  is("orders 10", 44, qty(table(database, "orders"), 10));
+  closed(database);
+}
+
+/* ---- names, columns and misuse */
+
+static void refuses(void) {
+  pdt_database *database = opened("refuses");
+  pdt_store *items = created(database, "items"), *store = items;
+  is("there already", PDT_EXISTS, pdt_table_create_csv(database, "items", csv, sizeof csv - 1, NULL, NULL, &store));
+  is("no store", 1, !store);
+  static const char *const bad[] = {"", "a\nb", "\x7f", "\xff", "\xc0\x80", "\xed\xa0\x80", "\xf4\x90\x80\x80", "\xe2\x82",
+                                    "12345678901234567890123456789012345678901234567890123456789012345"};
+  for (size_t i = 0; i < sizeof bad / sizeof *bad; i++)
+    is("a bad name", PDT_SHAPE, pdt_table_create_csv(database, bad[i], csv, sizeof csv - 1, NULL, NULL, &store));
+  is("a text that is no table", PDT_BAD_TABLE, pdt_table_create_csv(database, "x", "id", 2, NULL, NULL, &store));
+  is("none of it", PDT_MISSING, pdt_table_open(database, "x", &store));
+  static const char *const good[] = {"a", "\xc3\xa9t\xc3\xa9 \xe2\x82\xac \xf0\x9f\x98\x80", "a b/../c",
+                                     "1234567890123456789012345678901234567890123456789012345678901234"};
+  for (size_t i = 0; i < sizeof good / sizeof *good; i++) created(database, good[i]);
+  int64_t ids[] = {1, 2};
+  pdt_column columns[] = {{"id", PDT_INT, 2, ids, NULL, NULL, 0}};
+  pdt_place where = {9, 9};
+  is("over columns", PDT_OK, pdt_table_create(database, "columns", columns, 1, 1, NULL, &where, &store));
+  ids[1] = 1;
+  is("not ascending", PDT_NOT_ASCENDING, pdt_table_create(database, "other", columns, 1, 1, NULL, &where, &store));
+  is("at", 1, (long long)where.row);
+  is("a table isn't closed", PDT_MISUSE, pdt_close(items));
+
+  pdt_txn *txn = begun(items);
+  is("an open transaction", PDT_MISUSE, pdt_database_close(database));
+  is("of its table", PDT_MISUSE, pdt_table_drop(database, "items"));
+  pdt_abort(txn);
+  pdt_work *work = working(database);
+  is("an open work", PDT_MISUSE, pdt_database_close(database));
+  is("over it", PDT_MISUSE, pdt_table_drop(database, "items"));
+  txn = on(work, items);
+  is("the same one", 1, txn == on(work, items));
+  is("a part isn't committed", PDT_MISUSE, pdt_commit(txn, NULL));
+  is("nor prepared", PDT_MISUSE, pdt_prepare(txn, NULL));
+  pdt_abort(txn);
+  set(txn, 10, 5); /* it is there still */
+  pdt_work_abort(work);
+  is("nothing of it", 1, qty(items, 10));
+  is("no such table", PDT_MISSING, pdt_table_drop(database, "nothing"));
+  is("a drop", PDT_OK, pdt_table_drop(database, "items"));
+  is("is gone", PDT_MISSING, pdt_table_open(database, "items", &store));
+  items = created(database, "items");
+  is("a new one of the name", 1, qty(items, 10));
+  closed(database);
+  database = opened("refuses");
+  for (size_t i = 0; i < sizeof good / sizeof *good; i++) table(database, good[i]);
+  is("the new one is found", 1, qty(table(database, "items"), 10));
+  closed(database);
+  is("null", PDT_MISUSE, pdt_database_open(NULL, NULL, &database, NULL));
+  is("empty", PDT_MISUSE, pdt_database_open("", NULL, &database, NULL));
+  is("a folder above that isn't there", PDT_IO, try_open("no/such", &database));
+  options.sync = 3;
+  is("no such sync", PDT_MISUSE, try_open("refuses", &database));
+  options.sync = PDT_SYNC_FULL;
+}
+
+/* ---- works */
+
+static void works(void) {
+  pdt_database *database = opened("works");
+  pdt_store *a = created(database, "a"), *b = created(database, "b"), *c = created(database, "c");
+  pdt_work *reader = working(database);
+  pdt_work *work = working(database);
+  set(on(work, a), 10, 100);
+  set(on(work, b), 10, 200);
+  set(on(work, c), 10, 300);
+  is("its own read", 100, in(on(work, a), 10));
+  uint64_t number = 0;
+  is("commit", PDT_OK, pdt_work_commit(work, &number));
+  is("one number", 1, (long long)number);
+  is("all of it", 100 + 200 + 300, qty(a, 10) + qty(b, 10) + qty(c, 10));
+  is("a reader's moment", 1 + 1 + 1, in(on(reader, a), 10) + in(on(reader, b), 10) + in(on(reader, c), 10));
+  is("nothing to commit", PDT_OK, pdt_work_commit(reader, &number));
+  is("the number that it saw", 0, (long long)number);
+
+  /* a conflict on one table leaves all of them */
+  work = working(database);
+  set(on(work, a), 20, 1);
+  set(on(work, b), 20, 2);
+  committed(b, 20, 3);
+  is("conflict", PDT_CONFLICT, pdt_work_commit(work, &number));
+  is("the newest", 2, (long long)number);
+  is("a stays", 2, qty(a, 20));
+  is("b stays", 3, qty(b, 20));
+  pdt_counts counts = {.size = sizeof counts};
+  is("count", PDT_OK, pdt_count(b, &counts));
+  is("counted where it was", 1, (long long)counts.conflicts);
+
+  /* a commit over one table, of a transaction that began before a work's */
+  pdt_txn *txn = begun(a);
+  set(txn, 30, 7);
+  work = working(database);
+  set(on(work, a), 30, 8);
+  set(on(work, c), 30, 9);
+  is("the first", PDT_OK, pdt_work_commit(work, &number));
+  is("the second", PDT_CONFLICT, pdt_commit(txn, &number));
+
+  /* what each commit changed, by numbers that are the database's */
+  pdt_layer *layer = NULL;
+  is("changes of 1", PDT_OK, pdt_changes(a, 1, &layer));
+  is("one entry", 1, (long long)pdt_layer_size(layer));
+  pdt_layer_close(layer);
+  is("changes of 2, which b has", PDT_OK, pdt_changes(a, 2, &layer));
+  is("none", 0, (long long)pdt_layer_size(layer));
+  pdt_entry entry;
+  int64_t cells[2];
+  is("no entry", PDT_MISSING, pdt_entry_at(layer, 0, &entry, cells, NULL, 0));
+  pdt_layer_close(layer);
+  is("changes of 4", PDT_MISSING, pdt_changes(a, 4, &layer));
+  is("changes of 0", PDT_MISSING, pdt_changes(a, 0, &layer));
+  is("wait", PDT_OK, pdt_wait(c, 1, 0, &number));
+  is("c's number", 3, (long long)number);
+
+  /* a table that was made after the work began */
+  work = working(database);
+  pdt_store *later = created(database, "later");
+  is("later", PDT_MISSING, pdt_work_on(work, later, &txn));
+  pdt_work_abort(work);
+
+  /* a commit in two parts */
+  txn = begun(later);
+  set(txn, 10, 6);
+  is("prepare", PDT_OK, pdt_prepare(txn, &number));
+  is("its number", 4, (long long)number);
+  is("not by this thread", PDT_MISUSE, pdt_upkeep(database));
+  is("nor this", PDT_MISUSE, pdt_database_close(database));
+  is("give up", PDT_OK, pdt_give_up(txn));
+  is("prepare again", PDT_OK, pdt_prepare(txn, &number));
+  is("install", PDT_OK, pdt_install(txn));
+  is("the next", 5, (long long)committed(a, 10, 0));
+  closed(database);
+
+  database = opened("works");
+  is("commits", 5, (long long)report.commits);
+  a = table(database, "a");
+  b = table(database, "b");
+  c = table(database, "c");
+  is("a 10", 0, qty(a, 10));
+  is("b 10", 200, qty(b, 10));
+  is("c 10", 300, qty(c, 10));
+  is("a 20", 2, qty(a, 20));
+  is("b 20", 3, qty(b, 20));
+  is("a 30", 8, qty(a, 30));
+  is("c 30", 9, qty(c, 30));
+  is("later 10", 6, qty(table(database, "later"), 10));
+  closed(database);
+}
+
+/* ---- upkeep: images, and a journal that doesn't grow */
+
+static int names_with(const char *name, const char *front) {
+  DIR *names = opendir(folder_of(name));
+  int count = 0;
+  for (struct dirent *one; names && (one = readdir(names));) count += !strncmp(one->d_name, front, strlen(front));
+  if (names) closedir(names);
+  return count;
+}
+
+static void keeps(void) {
+  options.fold_entries = 8;
+  options.checkpoint_entries = 20;
+  options.journal_bytes = 2000;
+  pdt_database *database = opened("keeps");
+  pdt_store *hot = created(database, "hot"), *cold = created(database, "cold");
+  committed(cold, 10, -10);
+  for (int64_t i = 0; i < 300; i++) {
+    pdt_txn *txn = begun(hot);
+    int64_t row[] = {1000 + i, i};
+    is("insert", PDT_OK, pdt_insert(txn, row, NULL, 0));
+    is("commit", PDT_OK, pdt_commit(txn, NULL));
+    if (i % 5 == 4) is("upkeep", PDT_OK, pdt_upkeep(database));
+  }
+  committed(hot, 10, -1);
+  is("upkeep", PDT_OK, pdt_upkeep(database));
+  pdt_database_counts counts = counted(database);
+  is("commits", 302, (long long)counts.commits);
+  is("all safe", 302, (long long)counts.safe);
+  is("some images", 1, counts.images >= 10);
+  is("some folds", 1, counts.folds >= 10);
+  is("no fault", 0, (long long)counts.faults);
+  is("few files", 1, counts.journal_files <= 3);
+  is("few bytes", 1, counts.journal_bytes < 6000);
+  is("few in the folder too", 1, names_with("keeps", "journal-") <= (int)counts.journal_files + 1); /* the next one may be made */
+  is("an image for each table", 2, names_with("keeps", "image-"));
+  closed(database);
+  database = opened("keeps");
+  is("few to replay", 1, report.replayed < 200);
+  hot = table(database, "hot");
+  for (int64_t i = 0; i < 300; i++) is("a row", i, qty(hot, 1000 + i));
+  is("the last", -1, qty(hot, 10));
+  is("the cold one", -10, qty(table(database, "cold"), 10));
+  closed(database);
+  options = (pdt_database_options){.size = sizeof options, .no_upkeep = true};
+}
+
+/* ---- one process */
+
+static void locks(void) {
+  pdt_database *database = opened("locks"), *other = NULL;
+  pdt_store *items = created(database, "items");
+  is("twice", PDT_LOCKED, try_open("locks", &other));
+  pid_t child = fork();
+  if (!child) { /* it has none of what its parent opened */
+    bool right = try_open("locks", &other) == PDT_LOCKED && pdt_database_close(database) == PDT_MISUSE &&
+                 pdt_upkeep(database) == PDT_MISUSE;
+    pdt_txn *txn = NULL;
+    int64_t key = 10;
+    right = right && !pdt_begin(items, &txn) && !pdt_set(txn, &key, NULL, 0, 1, 5, NULL) && pdt_prepare(txn, NULL) == PDT_MISUSE &&
+            pdt_commit(txn, NULL) == PDT_MISUSE;
+    _exit(!right);
+  }
+  int status = -1;
+  waitpid(child, &status, 0);
+  is("the child", 0, status);
+  committed(items, 10, 5);
+  closed(database);
+  database = opened("locks");
+  is("what the parent did", 5, qty(table(database, "items"), 10));
+  closed(database);
+}
+
+/* ---- damage is told */
+
+static void copy_folder(const char *from, const char *to) {
+  char words[1200];
+  snprintf(words, sizeof words, "rm -rf '%s/%s' && cp -r '%s/%s' '%s/%s'", room, to, room, from, room, to);
+  is("copy", 0, system(words));
+}
+static void change(const char *name, const char *file, long at, int with) {
+  char path[1024];
+  snprintf(path, sizeof path, "%s/%s/%s", room, name, file);
+  FILE *one = fopen(path, "r+b");
+  if (!one || fseek(one, at, at < 0 ? SEEK_END : SEEK_SET)) fprintf(stderr, "no %s\n", path), exit(1);
+  int was = fgetc(one);
+  fseek(one, -1, SEEK_CUR);
+  fputc(was ^ with, one);
+  fclose(one);
+}
+static void damaged(const char *what, int wanted, long long fault, const char *file) {
+  pdt_database *database = NULL;
+  is(what, wanted, try_open("damaged", &database));
+  is("no database", 1, !database);
+  is("the commit", fault, (long long)report.fault);
+  if (strcmp(report.file, file)) is(file, 0, 1), fprintf(stderr, "%s: file %s\n", what, report.file);
+}
+static void removed(const char *file) {
+  char path[1024];
+  snprintf(path, sizeof path, "%s/damaged/%s", room, file);
+  is("unlink", 0, unlink(path));
+}
+
+static void is_told(void) {
+  pdt_database *database = opened("whole");
+  pdt_store *items = created(database, "items");
+  for (int64_t i = 0; i < 5; i++) committed(items, 10, i);
+  closed(database);
+  for (int at = 0; at < 12; at++) {
+    copy_folder("whole", "damaged");
+    change("damaged", "image-1-1/column-1.pdt", at, 1 << at % 8);
+    damaged("a bit of a column", PDT_ROT, 0, "image-1-1/column-1.pdt");
+  }
+  copy_folder("whole", "damaged");
+  change("damaged", "image-1-1/header.csv", 0, 1);
+  damaged("a bit of a header", PDT_ROT, 0, "image-1-1/header.csv");
+  copy_folder("whole", "damaged");
+  removed("image-1-1/column-0.pdt");
+  damaged("a column that is missing", PDT_GAP, 0, "image-1-1/column-0.pdt");
+  copy_folder("whole", "damaged");
+  change("damaged", "manifest", 30, 1);
+  damaged("a bit of the manifest", PDT_ROT, 0, "manifest");
+  copy_folder("whole", "damaged");
+  removed("manifest");
+  damaged("a manifest that is missing", PDT_GAP, 0, "manifest");
+  copy_folder("whole", "damaged");
+  removed("journal-1");
+  damaged("a journal that is missing", PDT_GAP, 0, "journal");
+  database = opened("other");
+  committed(created(database, "items"), 10, 1);
+  closed(database);
+  copy_folder("whole", "damaged");
+  char words[1200];
+  snprintf(words, sizeof words, "cp '%s/other/journal-1' '%s/damaged/journal-1'", room, room);
+  is("cp", 0, system(words));
+  damaged("the journal of another", PDT_MISFIT, 0, "journal-1");
+  copy_folder("whole", "damaged");
+  snprintf(words, sizeof words, "mv '%s/damaged/journal-1' '%s/damaged/journal-2'", room, room);
+  is("mv", 0, system(words));
+  damaged("a file that is out of turn", PDT_GAP, 0, "journal-2");
+  copy_folder("whole", "damaged");
+  change("damaged", "journal-1", 36 + 30, 1);
+  damaged("a bit of the first frame", PDT_ROT, 1, "");
+  copy_folder("whole", "damaged");
+  change("damaged", "journal-1", -1, 1); /* the last one: nobody says that it was safe */
+  database = NULL;
+  is("a bit of the last frame", PDT_OK, try_open("damaged", &database));
+  is("is torn", 1, report.torn_bytes > 0);
+  is("commits", 4, (long long)report.commits);
+  is("the last but one", 3, qty(table(database, "items"), 10));
+  is("goes on", 5, (long long)committed(table(database, "items"), 10, 50));
+  closed(database);
+  is("again", PDT_OK, try_open("damaged", &database));
+  is("nothing is torn", 0, (long long)report.torn_bytes);
+  is("what came after", 50, qty(table(database, "items"), 10));
+  closed(database);
+}
+
+/* ---- threads: money moves between three tables, and the sum stands in each work */
+
+enum { THREADS = 8, MOVES = 300, ACCOUNTS = 50 };
+static pdt_store *banks[3];
+static pdt_database *bank;
+static _Atomic int moves, bad_sums;
+
+static int64_t sum_of(pdt_work *work) {
+  int64_t sum = 0;
+  for (int i = 0; i < 3; i++) {
+    int64_t numbers[ACCOUNTS];
+    size_t count = ACCOUNTS;
+    is("ints", PDT_OK, pdt_ints(on(work, banks[i]), 1, 0, numbers, &count));
+    for (size_t k = 0; k < count; k++) sum += numbers[k];
+  }
+  return sum;
+}
+static void *mover(void *context) {
+  unsigned seed = (unsigned)(size_t)context;
+  for (int done = 0; done < MOVES;) {
+    pdt_work *work = working(bank);
+    if (sum_of(work) != 3 * ACCOUNTS * 100) bad_sums++;
+    pdt_txn *from = on(work, banks[rand_r(&seed) % 3]), *to = on(work, banks[rand_r(&seed) % 3]);
+    int64_t one = rand_r(&seed) % ACCOUNTS, other = rand_r(&seed) % ACCOUNTS;
+    if (from == to && one == other) {
+      pdt_work_abort(work);
+      continue;
+    }
+    set(from, one, in(from, one) - 1);
+    set(to, other, in(to, other) + 1);
+    int code = pdt_work_commit(work, NULL);
+    if (code && code != PDT_CONFLICT) is("move", PDT_OK, code);
+    if (!code) done++, moves++;
+  }
+  return NULL;
+}
+/* A folder that is copied while it is written: the copy has some moment's state, or it is told that it has none. */
+static int copied; /* how many of the copies were opened */
+static void is_copied(const char *name) {
+  copy_folder(name, "copy");
+  pdt_database *copy = NULL;
+  int code = try_open("copy", &copy);
+  if (code) {
+    is("a copy that is told to be none", 1, code == PDT_ROT || code == PDT_GAP);
+    return;
+  }
+  copied++;
+  int64_t sum = 0;
+  for (size_t i = 0; i < 3; i++) {
+    char called[PDT_MAX_NAME + 1];
+    is("name", PDT_OK, pdt_table_name(copy, i, called, sizeof called));
+    pdt_txn *txn = begun(table(copy, called));
+    int64_t numbers[ACCOUNTS];
+    size_t count = ACCOUNTS;
+    is("ints", PDT_OK, pdt_ints(txn, 1, 0, numbers, &count));
+    for (size_t k = 0; k < count; k++) sum += numbers[k];
+    pdt_abort(txn);
+  }
+  is("the sum of a copy", 3 * ACCOUNTS * 100, sum);
+  closed(copy);
+}
+
+static void threads(int sync, bool has_upkeep) {
+  options.sync = sync;
+  options.no_upkeep = !has_upkeep;
+  options.fold_entries = 64;
+  options.checkpoint_entries = 100;
+  char name[32];
+  snprintf(name, sizeof name, "bank-%d-%d", sync, has_upkeep);
+  bank = opened(name);
+  int64_t ids[ACCOUNTS], money[ACCOUNTS];
+  for (int i = 0; i < ACCOUNTS; i++) ids[i] = i, money[i] = 100;
+  pdt_column columns[] = {{"id", PDT_INT, ACCOUNTS, ids, NULL, NULL, 0}, {"money", PDT_INT, ACCOUNTS, money, NULL, NULL, 0}};
+  static const char *const names[] = {"north", "south", "west"};
+  for (int i = 0; i < 3; i++) is("bank", PDT_OK, pdt_table_create(bank, names[i], columns, 2, 1, NULL, NULL, &banks[i]));
+  moves = 0;
+  pthread_t all[THREADS];
+  for (size_t i = 0; i < THREADS; i++) is("thread", 0, pthread_create(&all[i], NULL, mover, (void *)(i + 1)));
+  for (int i = 0; i < 5; i++) is_copied(name);
+  for (size_t i = 0; i < THREADS; i++) pthread_join(all[i], NULL);
+  is("bad sums", 0, bad_sums);
+  is("commits", moves, (long long)counted(bank).commits);
+  closed(bank);
+  bank = opened(name);
+  for (int i = 0; i < 3; i++) banks[i] = table(bank, names[i]);
+  is("commits then", moves, (long long)report.commits);
+  pdt_work *work = working(bank);
+  is("the sum", 3 * ACCOUNTS * 100, sum_of(work));
+  pdt_work_abort(work);
+  closed(bank);
+  options = (pdt_database_options){.size = sizeof options, .no_upkeep = true};
+}
+
+int main(int argc, char **argv) {
+  if (argc < 2) return 2;
+  room = argv[1];
+  lasts();
+  refuses();
+  works();
+  keeps();
+  locks();
+  is_told();
+  threads(PDT_SYNC_FULL, true);
+  threads(PDT_SYNC_FULL, false);
+  threads(PDT_SYNC_NORMAL, true);
+  threads(PDT_SYNC_OFF, true);
+  is("some copies are opened", 1, copied > 0);
+  return failures ? 1 : 0;
+}

@@ -1,0 +1,199 @@
+/* What comes of a database when one call of the system fails, or that one and all after it: no commit that was answered is lost, none is
+   answered after the journal has failed, reads go on, and the next opening finds it whole. Linked with --wrap of the calls. */
+#define _POSIX_C_SOURCE 200809L
+#include <errno.h>
+#include <fcntl.h>
+#include <pdt.h>
+#include <stdarg.h>
+#include <stdio.h>
+#include <stdlib.h>
+#include <string.h>
+#include <sys/stat.h>
+#include <unistd.h>
+
+static int failures;
+static void is(const char *what, long long wanted, long long found) {
+  if (wanted == found) return;
+  failures++;
+  fprintf(stderr, "%s: wanted %lld, found %lld\n", what, wanted, found);
+}
+
+/* ---- the calls, the n-th of which fails */
+
+static long calls, fails_at = -1; /* and those after it, where it stays so */
+static long fallen;               /* how many have failed */
+static bool stays;
+static int with;
+static const char *failed; /* the name of the first that did */
+
+static bool falls(const char *name) {
+  long at = calls++;
+  bool now = fails_at >= 0 && (at == fails_at || (stays && at > fails_at));
+  if (now && !failed) failed = name;
+  fallen += now;
+  if (now) errno = with;
+  return now;
+}
+
+int __real_openat(int, const char *, int, ...);
+ssize_t __real_write(int, const void *, size_t);
+int __real_renameat(int, const char *, int, const char *);
+int __real_unlinkat(int, const char *, int);
+int __real_mkdirat(int, const char *, mode_t);
+int __real_ftruncate(int, off_t);
+ssize_t __real_read(int, void *, size_t);
+
+int __wrap_openat(int dir, const char *path, int how, ...) {
+  va_list rest;
+  va_start(rest, how);
+  int mode = how & O_CREAT ? va_arg(rest, int) : 0;
+  va_end(rest);
+  return falls("openat") ? -1 : __real_openat(dir, path, how, mode);
+}
+ssize_t __wrap_write(int file, const void *bytes, size_t len) {
+  if (!falls("write")) return __real_write(file, bytes, len);
+  if (len > 3 && with == ENOSPC) (void)!__real_write(file, bytes, len / 2); /* the disk took a part, of which it doesn't tell */
+  return -1;
+}
+ssize_t __wrap_read(int file, void *bytes, size_t len) { return falls("read") ? -1 : __real_read(file, bytes, len); }
+int __wrap_fdatasync(int file) {
+  (void)file;
+  return falls("fdatasync") ? -1 : 0;
+}
+int __wrap_fsync(int file) {
+  (void)file;
+  return falls("fsync") ? -1 : 0;
+}
+int __wrap_renameat(int a, const char *from, int b, const char *to) { return falls("renameat") ? -1 : __real_renameat(a, from, b, to); }
+int __wrap_unlinkat(int dir, const char *path, int how) { return falls("unlinkat") ? -1 : __real_unlinkat(dir, path, how); }
+int __wrap_mkdirat(int dir, const char *path, mode_t mode) { return falls("mkdirat") ? -1 : __real_mkdirat(dir, path, mode); }
+int __wrap_ftruncate(int file, off_t len) { return falls("ftruncate") ? -1 : __real_ftruncate(file, len); }
+
+/* ---- the run */
+
+static pdt_database_options options = {.size = sizeof options, .no_upkeep = true, .fold_entries = 4, .checkpoint_entries = 8,
+                                       .journal_bytes = 600};
+static const char csv[] = "id:int:key,qty:int\n0,0\n1,0\n2,0\n";
+enum { KEYS = 3, COMMITS = 24 };
+
+/* What was told so far. */
+typedef struct {
+  uint64_t answered; /* the number of the last commit that was answered PDT_OK */
+  uint64_t unsure;   /* and of one that was answered PDT_UNSURE, or 0 */
+  bool is_made;      /* the table is */
+} told;
+
+static int set(pdt_store *store, int64_t key, int64_t qty, uint64_t *number) {
+  pdt_txn *txn = NULL;
+  int code = pdt_begin(store, &txn);
+  if (code) return code;
+  is("set", PDT_OK, pdt_set(txn, &key, NULL, 0, 1, qty, NULL));
+  code = pdt_commit(txn, number);
+  if (code == PDT_FAILED) pdt_abort(txn);
+  return code;
+}
+
+/* Reads go on whatever has failed, and see no commit that wasn't answered. */
+static void reads(pdt_store *store, uint64_t answered) {
+  pdt_txn *txn = NULL;
+  is("a begin", PDT_OK, pdt_begin(store, &txn));
+  uint64_t number = 99;
+  is("begun", PDT_OK, pdt_begun(txn, &number));
+  is("what is seen", (long long)answered, (long long)number);
+  int64_t row[2], key = (int64_t)(answered % KEYS);
+  is("a get", PDT_OK, pdt_get(txn, &key, NULL, 0, row, NULL, 0, NULL));
+  is("the newest", (long long)answered, row[1]);
+  is("a commit of nothing", PDT_OK, pdt_commit(txn, NULL));
+}
+
+static void run_in(pdt_database *database, told *said) {
+  pdt_store *store = NULL;
+  int code = pdt_table_open(database, "items", &store);
+  if (code) code = pdt_table_create_csv(database, "items", csv, sizeof csv - 1, NULL, NULL, &store);
+  if (code) {
+    is("a creation that fails", 1, code == PDT_IO || code == PDT_FAILED);
+    return;
+  }
+  said->is_made = true;
+  bool has_failed = false;
+  for (int i = 0; i < COMMITS; i++) {
+    uint64_t number = 0, wanted = said->answered + 1;
+    long fell = fallen;
+    code = set(store, (int64_t)(wanted % KEYS), (int64_t)wanted, &number);
+    if (has_failed) is("after a failure", PDT_FAILED, code);
+    else if (fallen > fell) is("over a failure", PDT_UNSURE, code);
+    if (code == PDT_OK) is("number", (long long)wanted, (long long)number), said->answered = number;
+    else if (!has_failed) is("a commit", PDT_UNSURE, code), said->unsure = wanted, has_failed = true;
+    reads(store, said->answered);
+    if (i % 3 == 2) {
+      code = pdt_upkeep(database);
+      if (has_failed) is("an upkeep after a failure", PDT_FAILED, code);
+      else if (code) is("an upkeep", 1, code == PDT_IO || code == PDT_FAILED || code == PDT_UNSURE);
+      if (code == PDT_FAILED) has_failed = true;
+      reads(store, said->answered);
+    }
+  }
+}
+
+static void run(const char *folder, told *said) {
+  pdt_database *database = NULL;
+  pdt_report report = {.size = sizeof report};
+  int code = pdt_database_open(folder, &options, &database, &report);
+  if (code) {
+    is("an opening that fails", PDT_IO, code);
+    return;
+  }
+  if (said->unsure && report.commits == said->unsure) said->answered = said->unsure; /* it is there, and stays */
+  said->unsure = 0;
+  run_in(database, said);
+  code = pdt_database_close(database);
+  if (code) is("a close", PDT_UNSURE, code);
+}
+
+static void look(const char *folder, const told *said) {
+  pdt_database *database = NULL;
+  pdt_report report = {.size = sizeof report};
+  is("open again", PDT_OK, pdt_database_open(folder, &options, &database, &report));
+  if (!database) return;
+  uint64_t most = said->unsure ? said->unsure : said->answered;
+  is("what was answered", 1, report.commits >= said->answered && report.commits <= most);
+  pdt_store *store = NULL;
+  int code = pdt_table_open(database, "items", &store);
+  if (said->is_made) is("the table", PDT_OK, code);
+  if (!code) reads(store, report.commits);
+  is("close", PDT_OK, pdt_database_close(database));
+}
+
+static void remove_all(const char *path) {
+  char words[700];
+  snprintf(words, sizeof words, "rm -rf '%s'", path);
+  if (system(words)) exit(1);
+}
+
+int main(int argc, char **argv) {
+  if (argc < 3) return 2;
+  char folder[400];
+  snprintf(folder, sizeof folder, "%s/faults", argv[1]);
+  int every = atoi(argv[2]); /* of how many calls one fails */
+  told none = {0, 0, false};
+  calls = 0;
+  run(folder, &none);
+  is("all is answered", COMMITS, (long long)none.answered);
+  look(folder, &none);
+  long all = calls;
+  int runs = 0;
+  for (int way = 0; way < 4 && failures < 10; way++)
+    for (long at = way % every; at < all && failures < 10; at += every, runs++) {
+      remove_all(folder);
+      told said = {0, 0, false};
+      int before = failures;
+      calls = 0, failed = NULL, fails_at = at, stays = way & 1, with = way & 2 ? ENOSPC : EIO;
+      run(folder, &said);
+      if (at % 2) run(folder, &said); /* opened while it fails, or afterwards */
+      fails_at = -1;
+      look(folder, &said);
+      if (failures != before) fprintf(stderr, "call %ld of %ld, %s, %s, %s\n", at, all, failed, stays ? "and all after it" : "once", strerror(with));
+    }
+  printf("%ld calls, %d runs, %d failures\n", all, runs, failures);
+  return failures ? 1 : 0;
+}

@@ -1,0 +1,419 @@
+/* What a loss of power leaves of a database. A run is written down, call by call: which files it makes, writes, syncs, renames and
+   takes away, and what it answers. Then folders are made as the power may leave them after each call: with all that was done, with
+   only what was synced, and with some of what wasn't, file by file and folder by folder. Each is opened, and has to hold what was
+   answered by then, and what was not answered whole or not at all. Under another sync it has to hold the first commits, however
+   many. Linked with --wrap of the calls.
+   power FOLDER EVERY SYNC SEED */
+#define _POSIX_C_SOURCE 200809L
+#include <errno.h>
+#include <fcntl.h>
+#include <pdt.h>
+#include <stdarg.h>
+#include <stdio.h>
+#include <stdlib.h>
+#include <string.h>
+#include <sys/stat.h>
+#include <unistd.h>
+
+static int failures;
+static void is(const char *what, long long wanted, long long found) {
+  if (wanted == found) return;
+  failures++;
+  fprintf(stderr, "%s: wanted %lld, found %lld\n", what, wanted, found);
+}
+
+/* ---- what is written down */
+
+enum kind { MAKE, MAKE_FOLDER, WRITE, CUT, SYNC, RENAME, REMOVE, ANSWER };
+typedef struct {
+  enum kind kind;
+  int of;               /* the folder or file that it changes */
+  int object;           /* that it makes */
+  char name[48], to[48]; /* in the folder */
+  uint8_t *bytes;
+  size_t len;
+  uint64_t number; /* that was answered */
+  int tables;
+} event;
+
+enum { EVENTS = 1 << 16, OBJECTS = 1 << 13, FDS = 256, PARENT = 0, TOP = 1 };
+static event events[EVENTS];
+static int count, objects = 2;
+static bool listens, is_folder[OBJECTS] = {true, true};
+static int object_of[FDS]; /* of a file that is open, and 0 of others */
+static const char *top;    /* the path of the folder */
+
+static event *add(enum kind kind, int of) {
+  if (count == EVENTS) fprintf(stderr, "too many calls\n"), exit(1);
+  events[count] = (event){.kind = kind, .of = of};
+  return &events[count++];
+}
+
+/* The object of a name in a folder as it stands after all events, or -1. */
+static int find_in(int folder, const char *name) {
+  int found = -1;
+  for (int i = 0; i < count; i++) {
+    const event *one = &events[i];
+    if (one->of != folder) continue;
+    if ((one->kind == MAKE || one->kind == MAKE_FOLDER) && !strcmp(one->name, name)) found = one->object;
+    if (one->kind == REMOVE && !strcmp(one->name, name)) found = -1;
+    if (one->kind == RENAME && !strcmp(one->name, name)) found = -1;
+    if (one->kind == RENAME && !strcmp(one->to, name)) found = one->object;
+  }
+  return found;
+}
+
+/* The folder that a path leads through, and the last name of it. */
+static int folder_of(int folder, const char *path, char *name) {
+  const char *slash = strchr(path, '/');
+  if (!slash) {
+    snprintf(name, 48, "%s", path);
+    return folder;
+  }
+  char first[48];
+  snprintf(first, sizeof first, "%.*s", (int)(slash - path), path);
+  return folder_of(find_in(folder, first), slash + 1, name);
+}
+
+int __real_openat(int, const char *, int, ...);
+int __real_close(int);
+ssize_t __real_write(int, const void *, size_t);
+int __real_ftruncate(int, off_t);
+int __real_renameat(int, const char *, int, const char *);
+int __real_unlinkat(int, const char *, int);
+int __real_mkdirat(int, const char *, mode_t);
+int __real_mkdir(const char *, mode_t);
+
+static int object_at(int dir, const char *path) {
+  if (dir == AT_FDCWD) return !strcmp(path, top) ? TOP : PARENT;
+  if (!strcmp(path, ".")) return object_of[dir];
+  char name[48];
+  int folder = folder_of(object_of[dir], path, name);
+  return find_in(folder, name);
+}
+
+/* Commits as another thread would: while a file of the journal is made, once that is there, and while an image is written. */
+static void meanwhile(void);
+static bool soon;
+void *__real_calloc(size_t, size_t);
+void *__wrap_calloc(size_t many, size_t len) { /* the next call of the library that takes memory */
+  if (soon) soon = false, meanwhile();
+  return __real_calloc(many, len);
+}
+
+int __wrap_openat(int dir, const char *path, int how, ...) {
+  va_list rest;
+  va_start(rest, how);
+  int mode = how & O_CREAT ? va_arg(rest, int) : 0;
+  va_end(rest);
+  if (how & O_CREAT && !strncmp(path, "journal-", 8)) meanwhile(), soon = true;
+  int file = __real_openat(dir, path, how, mode);
+  if (!listens || file < 0) return file;
+  int object = object_at(dir, path);
+  if (object < 0) {
+    char name[48];
+    event *one = add(MAKE, 0);
+    one->of = folder_of(object_of[dir], path, name);
+    one->object = object = objects++;
+    memcpy(one->name, name, sizeof name);
+  } else if (how & O_TRUNC) {
+    add(CUT, object);
+  }
+  if (file < FDS) object_of[file] = object;
+  return file;
+}
+int __wrap_close(int file) {
+  if (listens && file >= 0 && file < FDS) object_of[file] = 0;
+  return __real_close(file);
+}
+ssize_t __wrap_write(int file, const void *bytes, size_t len) {
+  ssize_t done = __real_write(file, bytes, len);
+  if (!listens || done <= 0 || file >= FDS || object_of[file] < 2) return done;
+  event *one = add(WRITE, object_of[file]);
+  one->bytes = malloc((size_t)done);
+  memcpy(one->bytes, bytes, (size_t)done);
+  one->len = (size_t)done;
+  return done;
+}
+static int synced(int file, int bad) {
+  if (listens && !bad && file < FDS) add(SYNC, object_of[file]);
+  return bad;
+}
+int __wrap_fdatasync(int file) { return synced(file, 0); } /* the power stays on here: nothing is really synced */
+int __wrap_fsync(int file) { return synced(file, 0); }
+int __wrap_ftruncate(int file, off_t len) {
+  int bad = __real_ftruncate(file, len);
+  if (listens && !bad) add(CUT, object_of[file])->len = (size_t)len;
+  return bad;
+}
+int __wrap_renameat(int dir, const char *from, int to_dir, const char *to) {
+  int object = listens ? object_at(dir, from) : 0, bad = __real_renameat(dir, from, to_dir, to);
+  if (!listens || bad) return bad;
+  event *one = add(RENAME, object_of[dir]);
+  one->object = object;
+  snprintf(one->name, sizeof one->name, "%s", from);
+  snprintf(one->to, sizeof one->to, "%s", to);
+  return 0;
+}
+int __wrap_unlinkat(int dir, const char *path, int how) {
+  int bad = __real_unlinkat(dir, path, how);
+  if (!listens || bad) return bad;
+  char name[48];
+  int folder = folder_of(object_of[dir], path, name);
+  memcpy(add(REMOVE, folder)->name, name, sizeof name);
+  return 0;
+}
+static int made(int folder, const char *name, int bad) {
+  if (!listens || bad) return bad;
+  event *one = add(MAKE_FOLDER, folder);
+  one->object = objects++;
+  is_folder[one->object] = true;
+  snprintf(one->name, sizeof one->name, "%s", name);
+  return 0;
+}
+int __wrap_mkdirat(int dir, const char *path, mode_t mode) {
+  meanwhile();
+  return made(object_of[dir], path, __real_mkdirat(dir, path, mode));
+}
+int __wrap_mkdir(const char *path, mode_t mode) {
+  int bad = __real_mkdir(path, mode);
+  if (!listens || bad) return bad;
+  event *one = add(MAKE_FOLDER, PARENT);
+  one->object = TOP;
+  snprintf(one->name, sizeof one->name, "top");
+  return 0;
+}
+
+/* ---- the run */
+
+enum { COMMITS = 120, KEYS = 7 };
+
+static pdt_database_options options = {.size = sizeof options, .no_upkeep = true, .fold_entries = 6, .checkpoint_entries = 16,
+                                       .journal_bytes = 1500};
+static const char csv[] = "id:int:key,qty:int\n0,0\n1,0\n2,0\n3,0\n4,0\n5,0\n6,0\n";
+static const char *const names[] = {"left", "right"};
+
+static void answer(uint64_t number, int tables) {
+  event *one = add(ANSWER, -1);
+  one->number = number;
+  one->tables = tables;
+}
+
+/* Each commit sets one key of both tables to its number. */
+static uint64_t step(pdt_database *database, pdt_store *const *stores, uint64_t number) {
+  pdt_work *work = NULL;
+  uint64_t done = 0;
+  is("work", PDT_OK, pdt_work_begin(database, &work));
+  for (int i = 0; i < 2; i++) {
+    pdt_txn *txn = NULL;
+    int64_t key = (int64_t)(number % KEYS);
+    is("on", PDT_OK, pdt_work_on(work, stores[i], &txn));
+    is("set", PDT_OK, pdt_set(txn, &key, NULL, 0, 1, (int64_t)number, NULL));
+  }
+  is("commit", PDT_OK, pdt_work_commit(work, &done));
+  is("number", (long long)number, (long long)done);
+  return done;
+}
+
+static pdt_database *running;
+static pdt_store *const *running_stores;
+static uint64_t number;
+static void commit_one(void) {
+  number = step(running, running_stores, number + 1);
+  answer(number, 2);
+}
+static void meanwhile(void) {
+  if (listens && running) commit_one();
+}
+
+static void run(const char *folder) {
+  top = folder;
+  listens = true;
+  for (int opening = 0; opening < 3; opening++) {
+    pdt_database *database = NULL;
+    is("open", PDT_OK, pdt_database_open(folder, &options, &database, NULL));
+    pdt_store *stores[2];
+    if (!opening) answer(0, 0);
+    for (int i = 0; i < 2; i++) {
+      if (opening) {
+        is("table", PDT_OK, pdt_table_open(database, names[i], &stores[i]));
+      } else {
+        is("create", PDT_OK, pdt_table_create_csv(database, names[i], csv, sizeof csv - 1, NULL, NULL, &stores[i]));
+        answer(0, i + 1);
+      }
+    }
+    running = database;
+    running_stores = stores;
+    for (int i = 0; i < COMMITS / 3; i++) {
+      commit_one();
+      if (i % 4 == 3) is("upkeep", PDT_OK, pdt_upkeep(database));
+    }
+    running = NULL;
+    is("close", PDT_OK, pdt_database_close(database));
+  }
+  listens = false;
+}
+
+/* ---- what the power leaves */
+
+static unsigned seed = 1;
+static int drawn(int below) { return below > 0 ? rand_r(&seed) % below : 0; }
+
+enum left { ALL, SYNCED, SOME };
+
+/* Up to which event a file or a folder is left, of those before `end`. */
+static int left_of(int object, int end, enum left way) {
+  if (way == ALL) return end;
+  int last = 0, later = 0;
+  for (int i = 0; i < end; i++) {
+    if (events[i].of != object) continue;
+    if (events[i].kind == SYNC) last = i, later = 0;
+    else if (events[i].kind != ANSWER) later++;
+  }
+  if (way == SYNCED || !later) return last;
+  int more = drawn(later + 1), at = last;
+  while (more && ++at < end) more -= events[at].of == object && events[at].kind != ANSWER && events[at].kind != SYNC;
+  return at + 1 < end ? at + 1 : end;
+}
+
+static void put_file(const char *path, int object, int end, enum left way) {
+  int until = left_of(object, end, way);
+  static uint8_t bytes[1 << 20];
+  size_t len = 0;
+  for (int i = 0; i < until; i++) {
+    const event *one = &events[i];
+    if (one->of != object) continue;
+    if (one->kind == CUT) len = one->len;
+    if (one->kind == WRITE) {
+      memcpy(bytes + len, one->bytes, one->len);
+      len += one->len;
+    }
+  }
+  if (way == SOME && until < end && drawn(2)) { /* a part of the next write, and maybe zeros where the rest would be */
+    for (int i = until; i < end; i++) {
+      const event *one = &events[i];
+      if (one->of != object || one->kind != WRITE) continue;
+      size_t some = (size_t)drawn((int)one->len + 1);
+      memcpy(bytes + len, one->bytes, some);
+      bool zeros = drawn(2);
+      if (zeros) memset(bytes + len + some, 0, one->len - some);
+      len += zeros ? one->len : some;
+      break;
+    }
+  }
+  FILE *file = fopen(path, "wb");
+  if (!file || fwrite(bytes, 1, len, file) != len || fclose(file)) perror(path), exit(1);
+}
+
+/* The names of a folder, and what they name. */
+typedef struct {
+  int object[512];
+  char name[512][48];
+  int count;
+} names_held;
+static void take_out(names_held *held, const char *name) {
+  for (int k = 0; k < held->count; k++) {
+    if (strcmp(held->name[k], name)) continue;
+    held->object[k] = held->object[--held->count];
+    memmove(held->name[k], held->name[held->count], 48);
+    return;
+  }
+}
+
+/* What a folder holds: of the changes of its names that weren't synced any may be left, since no rule says in which order they last. */
+static void put_folder(const char *path, int folder, int end, enum left way) {
+  int until = left_of(folder, end, way == SOME ? SYNCED : way);
+  static names_held all[4];
+  static int depth;
+  names_held *held = &all[depth++];
+  held->count = 0;
+  __real_mkdir(path, 0777);
+  for (int i = 0; i < end; i++) {
+    const event *one = &events[i];
+    if (one->of != folder || (i >= until && (way != SOME || drawn(2)))) continue;
+    if (one->kind == RENAME || one->kind == REMOVE) take_out(held, one->name);
+    if (one->kind == RENAME) take_out(held, one->to);
+    if (one->kind == MAKE || one->kind == MAKE_FOLDER || one->kind == RENAME) {
+      held->object[held->count] = one->object;
+      memcpy(held->name[held->count++], one->kind == RENAME ? one->to : one->name, 48);
+    }
+  }
+  for (int k = 0; k < held->count; k++) {
+    char inner[600];
+    snprintf(inner, sizeof inner, "%s/%.47s", path, held->name[k]);
+    if (is_folder[held->object[k]]) put_folder(inner, held->object[k], end, way);
+    else put_file(inner, held->object[k], end, way);
+  }
+  depth--;
+}
+
+/* ---- what is found */
+
+/* The number of the last commit up to this one that set the key. */
+static long long value_at(uint64_t commits, int key) {
+  for (uint64_t n = commits; n; n--)
+    if (n % KEYS == (uint64_t)key) return (long long)n;
+  return 0;
+}
+
+static void look(const char *folder, int end, const char *way) {
+  uint64_t answered = 0;
+  int tables = 0, before = failures;
+  for (int i = 0; i < end; i++)
+    if (events[i].kind == ANSWER) answered = events[i].number, tables = events[i].tables;
+  pdt_database *database = NULL;
+  pdt_report report = {.size = sizeof report};
+  is("open", PDT_OK, pdt_database_open(folder, &options, &database, &report));
+  if (database) {
+    bool lasts = options.sync == PDT_SYNC_FULL || (options.sync == PDT_SYNC_NORMAL && !strcmp(way, "all"));
+    if (lasts) is("what was answered is there", 1, report.commits >= answered);
+    is("and one more at most", 1, report.commits <= answered + 1);
+    pdt_store *stores[2];
+    for (int i = 0; i < 2; i++) {
+      int code = pdt_table_open(database, names[i], &stores[i]);
+      if (i < tables) is("a table", PDT_OK, code);
+      if (code) continue;
+      pdt_txn *txn = NULL;
+      is("begin", PDT_OK, pdt_begin(stores[i], &txn));
+      for (int key = 0; key < KEYS; key++) {
+        int64_t name = key, row[2] = {0, -1};
+        is("get", PDT_OK, pdt_get(txn, &name, NULL, 0, row, NULL, 0, NULL));
+        is("a cell", value_at(report.commits, key), row[1]);
+      }
+      pdt_abort(txn);
+    }
+    if (tables == 2) step(database, stores, report.commits + 1); /* it goes on */
+    is("close", PDT_OK, pdt_database_close(database));
+  }
+  if (failures != before)
+    fprintf(stderr, "after call %d of %d (%s), fault %llu, file %s, answered %llu, found %llu\n", end, count, way,
+            (unsigned long long)report.fault, report.file, (unsigned long long)answered, (unsigned long long)report.commits);
+}
+
+static void remove_all(const char *path) {
+  char words[700];
+  snprintf(words, sizeof words, "rm -rf '%s'", path);
+  if (system(words)) exit(1);
+}
+
+int main(int argc, char **argv) {
+  if (argc < 3) return 2;
+  char folder[400], left[400];
+  snprintf(folder, sizeof folder, "%s/run", argv[1]);
+  snprintf(left, sizeof left, "%s/left", argv[1]);
+  int every = atoi(argv[2]); /* of how many calls one is looked at */
+  if (argc > 3) options.sync = atoi(argv[3]);
+  if (argc > 4) seed = (unsigned)atoi(argv[4]);
+  run(folder);
+  static const char *const ways[] = {"all", "synced", "some"};
+  int looked = 0;
+  for (int end = drawn(every); end <= count && failures < 20; end += 1 + drawn(2 * every - 1))
+    for (enum left way = ALL; way <= SOME; way++, looked++) {
+      /* a folder whose name isn't safe yet is made anew */
+      remove_all(left);
+      if (left_of(PARENT, end, way) || way == ALL) put_folder(left, TOP, end, way);
+      look(left, end, ways[way]);
+    }
+  printf("%d calls, %d folders, %d failures\n", count, looked, failures);
+  return failures ? 1 : 0;
+}

@@ -1,0 +1,128 @@
+/* Each of the allocations of a run over a database is refused once, in turn: the call that wanted it says so, the same call then does
+   its work, what is found in the end is right each time, and no memory stays. Linked with --wrap of malloc, calloc, realloc and free. */
+#include <pdt.h>
+#include <stdio.h>
+#include <stdlib.h>
+#include <string.h>
+
+static long left = -1, refused;
+void *__real_malloc(size_t);
+void *__real_calloc(size_t, size_t);
+void *__real_realloc(void *, size_t);
+void __real_free(void *);
+static int refuse(void) {
+  if (left != 0) return left > 0 ? (left--, 0) : 0;
+  left = -1;
+  refused++;
+  return 1;
+}
+static long blocks; /* how many are there */
+static void *counted(void *at) { return blocks += at != NULL, at; }
+void *__wrap_malloc(size_t len) { return counted(refuse() ? NULL : __real_malloc(len)); }
+void *__wrap_calloc(size_t count, size_t len) { return counted(refuse() ? NULL : __real_calloc(count, len)); }
+void *__wrap_realloc(void *at, size_t len) {
+  void *now = refuse() ? NULL : __real_realloc(at, len);
+  return at ? now : counted(now);
+}
+void __wrap_free(void *at) {
+  blocks -= at != NULL;
+  __real_free(at);
+}
+
+static long answered;
+/* Makes a call, and once more where memory was refused. */
+#define CALL(call)                                                                   \
+  do {                                                                               \
+    int code_ = (call);                                                              \
+    if (code_ == PDT_NOMEM) answered++, code_ = (call);                              \
+    if (code_ != PDT_OK) return fprintf(stderr, "%s: %s\n", #call, pdt_text(code_)), 1; \
+  } while (0)
+
+static const pdt_database_options options = {.size = sizeof options, .no_upkeep = true, .fold_entries = 3, .checkpoint_entries = 5,
+                                             .journal_bytes = 400};
+static const char csv[] = "id:int:key,qty:int,name:text\n1,0,a\n2,0,b\n3,0,c\n";
+enum { COMMITS = 9 };
+
+/* The sum of a column as a transaction sees it. */
+static int sum_is(pdt_txn *txn, int64_t wanted) {
+  int64_t qty[8], sum = 0;
+  size_t count = 8;
+  CALL(pdt_ints(txn, 1, 0, qty, &count));
+  for (size_t i = 0; i < count; i++) sum += qty[i];
+  return sum == wanted ? 0 : (fprintf(stderr, "a sum is %lld, not %lld\n", (long long)sum, (long long)wanted), 1);
+}
+
+/* A commit over both tables, and one over the first alone. */
+static int commit(pdt_database *database, pdt_store *a, pdt_store *b, int64_t n) {
+  pdt_work *work;
+  pdt_txn *txn;
+  uint64_t number = 0;
+  int64_t one = 1, two = 2, row[] = {100 + n, 1, 1};
+  CALL(pdt_work_begin(database, &work));
+  CALL(pdt_work_on(work, a, &txn));
+  CALL(pdt_set(txn, &one, NULL, 0, 1, n, NULL));
+  CALL(pdt_work_on(work, b, &txn));
+  CALL(pdt_set(txn, &two, NULL, 0, 1, n, NULL));
+  if (n == COMMITS) CALL(pdt_insert(txn, row, "x", 1));
+  CALL(pdt_work_commit(work, &number));
+  if (number != (uint64_t)(2 * n - 1)) return fprintf(stderr, "number %llu\n", (unsigned long long)number), 1;
+  CALL(pdt_begin(a, &txn));
+  CALL(pdt_set(txn, &two, NULL, 0, 1, n, NULL));
+  CALL(pdt_commit(txn, NULL));
+  CALL(pdt_begin(a, &txn)); /* what was answered is seen */
+  if (sum_is(txn, 2 * n)) return 1;
+  pdt_abort(txn);
+  return 0;
+}
+
+static int run(const char *folder) {
+  pdt_database *database;
+  pdt_store *a, *b, *c;
+  pdt_txn *txn;
+  pdt_layer *layer;
+  CALL(pdt_database_open(folder, &options, &database, NULL));
+  CALL(pdt_table_create_csv(database, "a", csv, sizeof csv - 1, NULL, NULL, &a));
+  CALL(pdt_table_create_csv(database, "b", csv, sizeof csv - 1, NULL, NULL, &b));
+  CALL(pdt_table_create_csv(database, "c", csv, sizeof csv - 1, NULL, NULL, &c));
+  for (int64_t n = 1; n <= COMMITS; n++) {
+    if (commit(database, a, b, n)) return 1;
+    if (n % 3 == 0) CALL(pdt_upkeep(database));
+  }
+  CALL(pdt_changes(a, 2 * COMMITS, &layer));
+  if (pdt_layer_size(layer) != 1) return fprintf(stderr, "%zu changes\n", pdt_layer_size(layer)), 1;
+  pdt_layer_close(layer);
+  CALL(pdt_table_drop(database, "c"));
+  CALL(pdt_database_close(database));
+  CALL(pdt_database_open(folder, &options, &database, NULL));
+  CALL(pdt_table_open(database, "a", &a));
+  CALL(pdt_table_open(database, "b", &b));
+  if (pdt_table_open(database, "c", &c) != PDT_MISSING) return fprintf(stderr, "c is there\n"), 1;
+  CALL(pdt_begin(a, &txn));
+  if (sum_is(txn, 2 * COMMITS)) return 1;
+  pdt_abort(txn);
+  CALL(pdt_begin(b, &txn));
+  if (sum_is(txn, COMMITS + 1)) return 1;
+  pdt_abort(txn);
+  CALL(pdt_database_close(database));
+  return 0;
+}
+
+int main(int argc, char **argv) {
+  if (argc < 3) return 2;
+  char folder[400], words[500];
+  snprintf(folder, sizeof folder, "%s/scarce", argv[1]);
+  snprintf(words, sizeof words, "rm -rf '%s'", folder);
+  int every = atoi(argv[2]);
+  long runs = 0;
+  for (long at = 0;; at += every, runs++) {
+    if (system(words)) return 1;
+    long before = blocks, refusals = refused;
+    left = at;
+    if (run(folder)) return fprintf(stderr, "allocation %ld\n", at), 1;
+    left = -1;
+    if (blocks != before) return fprintf(stderr, "allocation %ld: %ld blocks stay\n", at, blocks - before), 1;
+    if (refused == refusals) break; /* there was no such allocation */
+  }
+  printf("%ld runs, %ld refused, %ld answered\n", runs, refused, answered);
+  return answered ? 0 : 1;
+}

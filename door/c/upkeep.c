@@ -1,0 +1,224 @@
+/* What keeps a database fast and small while others commit: folds, images of the tables, and files that are needed no longer. */
+#include "database.h"
+
+enum { EVERY_MS = 20, SYNC_ROUNDS = 50 };
+
+/* ---- what is due */
+
+/* How large a table and its layers are. */
+typedef struct {
+  uint64_t rows, write_entries, read_entries, newest;
+} measure;
+
+/* No transaction of the caller's counts is begun for it. */
+static uint64_t rows_of(pdt_store *store) {
+  handle txn = {NULL};
+  pthread_mutex_lock(&store->locks->fresh_lock);
+  if (store->fresh.at) (void)pdtr_begin_at(&store->fresh, 0, &txn);
+  pthread_mutex_unlock(&store->locks->fresh_lock);
+  if (!txn.at) return 0;
+  uint64_t rows = pdtr_rows(&txn);
+  pdtr_abort(&txn);
+  return rows;
+}
+
+static int measure_table(pdt_store *store, measure *of) {
+  if (pdti_enter(store)) return PDT_MISUSE;
+  of->write_entries = pdtr_write_entries(&store->raw);
+  of->read_entries = pdtr_read_entries(&store->raw);
+  of->newest = store->newest;
+  pdti_leave(store);
+  of->rows = rows_of(store);
+  return PDT_OK;
+}
+
+/* Each scan merges the entries of the layers: a fiftieth of the rows costs it little. */
+static bool wants_image(const pdt_database *database, const measure *of) {
+  uint64_t entries = of->write_entries + of->read_entries;
+  return entries >= database->options.checkpoint_entries && entries >= of->rows / 50;
+}
+
+/* Whether the journal is longer than it may be, so that what keeps its oldest file is let go. */
+static bool is_long(pdt_database *database) {
+  uint64_t bytes = 0;
+  pthread_mutex_lock(&database->turn_lock);
+  for (size_t i = 0; i < database->file_count; i++) bytes += database->files[i].bytes;
+  pthread_mutex_unlock(&database->turn_lock);
+  return bytes > database->options.journal_bytes;
+}
+
+/* ---- images */
+
+/* Makes an image of a table, has the manifest name it, and makes it the stable table in memory. With files_lock held. */
+static int make_image(pdt_database *database, pdti_table *entry) {
+  pdt_snapshot *snapshot = NULL;
+  handle bytes = {NULL};
+  table_image made, before = entry->image;
+  int code = pdt_checkpoint_begin(entry->store, &made.number, &snapshot);
+  if (!code) code = pdti_snapshot_image(snapshot, &bytes);
+  if (!code) code = pdti_write_image(database, entry, &bytes, &made);
+  int why = errno;
+  if (bytes.at) pdtr_image_close(&bytes);
+  errno = why;
+  if (!code) {
+    uint64_t number = made.number; /* it is safe: the bytes of a table are made of no other */
+    entry->image = made;
+    code = pdti_write_manifest(database, number, NULL);
+    if (code) entry->image = before; /* either may be named: both stay */
+  }
+  if (!code) {
+    database->images++;
+    pdti_remove_images(database);
+    pdti_snapshot_is_written(snapshot);
+    code = pdt_checkpoint_install(snapshot);
+    if (code == PDT_SUPERSEDED) code = PDT_OK; /* a fold of the caller's came between: the image is as good */
+  }
+  pdt_checkpoint_end(snapshot);
+  return code;
+}
+
+/* The image of a table that no commit has changed since is that of later commits too. */
+static void renumber(pdti_table *entry, const measure *of, uint64_t safe) {
+  if (of->newest <= entry->image.number && safe > entry->image.number) entry->image.number = safe;
+}
+
+/* Lets go of the files of the journal that no image wants any more, once the manifest says so. With files_lock held. */
+static int tidy(pdt_database *database, uint64_t safe) {
+  uint64_t oldest = safe;
+  for (size_t i = 0; i < database->count; i++)
+    if (database->tables[i]->image.number < oldest) oldest = database->tables[i]->image.number;
+  uint64_t first = pdti_first_wanted(database, oldest);
+  if (first == database->files[0].seq) return PDT_OK;
+  int code = pdti_write_manifest(database, safe, NULL);
+  if (!code) pdti_remove_journals(database, first);
+  return code;
+}
+
+/* ---- a round */
+
+/* What is known at the begin of a round. */
+typedef struct {
+  uint64_t safe;
+  uint64_t wanted; /* each table gets an image that has the commits up to here */
+} round;
+
+static round begin_round(pdt_database *database) {
+  bool is_journal_long = is_long(database);
+  pthread_mutex_lock(&database->turn_lock);
+  round now = {database->safe, 0};
+  /* its first file goes once each image has the commits that are in it */
+  if (is_journal_long) now.wanted = database->file_count > 1 && database->files[1].bytes ? database->files[1].base : database->safe;
+  pthread_mutex_unlock(&database->turn_lock);
+  return now;
+}
+
+/* Folds a Write-PDT that is large. */
+static int fold_where_large(pdt_database *database, pdt_store *store) {
+  measure of;
+  int code = measure_table(store, &of);
+  if (code || of.write_entries < database->options.fold_entries) return code;
+  code = pdt_fold(store);
+  database->folds += !code;
+  return code;
+}
+
+/* Does what is due of a table. With files_lock held. */
+static int keep_table(pdt_database *database, pdti_table *entry, const round *now) {
+  measure of;
+  int code = measure_table(entry->store, &of);
+  if (code) return code;
+  renumber(entry, &of, now->safe);
+  if (wants_image(database, &of) || entry->image.number < now->wanted) {
+    code = pdti_turn_over(database); /* so that the file that is written now goes some day too */
+    if (!code) code = make_image(database, entry);
+    if (code) return code;
+  }
+  return fold_where_large(database, entry->store); /* after an image those that came while it was written, into an empty tree */
+}
+
+/* Whether it takes commits: else there is nothing to keep up with, and no image may be made of what isn't safe. */
+static bool takes_commits(pdt_database *database) {
+  pthread_mutex_lock(&database->locks.lock);
+  bool takes = !database->takes_none;
+  pthread_mutex_unlock(&database->locks.lock);
+  return takes;
+}
+
+/* One round at a time. */
+static int work_round(pdt_database *database) {
+  if (!takes_commits(database)) return PDT_FAILED;
+  pthread_mutex_lock(&database->round_lock);
+  pthread_mutex_lock(&database->files_lock);
+  round now = begin_round(database);
+  int code = PDT_OK;
+  for (size_t i = 0; i < database->count; i++) {
+    int one = keep_table(database, database->tables[i], &now);
+    if (one) code = one;
+  }
+  int last = tidy(database, now.safe);
+  if (last) code = last;
+  database->faults += code != PDT_OK;
+  pthread_mutex_unlock(&database->files_lock);
+  pthread_mutex_unlock(&database->round_lock);
+  return code;
+}
+
+pdt_code pdt_upkeep(pdt_database *database) {
+  if (!pdti_is_ours(database)) return PDT_MISUSE;
+  int code = pdti_flush(database, true);
+  if (code) return code == PDT_MISUSE ? code : PDT_FAILED;
+  return work_round(database);
+}
+
+/* ---- the thread */
+
+/* Waits until the next round, or until it is told to stop. */
+static bool goes_on(pdt_database *database) {
+  struct timespec at;
+  clock_gettime(CLOCK_MONOTONIC, &at);
+  at.tv_nsec += EVERY_MS * 1000000L;
+  if (at.tv_nsec >= 1000000000L) at.tv_sec++, at.tv_nsec -= 1000000000L;
+  pthread_mutex_lock(&database->upkeep_lock);
+  int late = 0;
+  while (!database->stops && !late) late = pthread_cond_timedwait(&database->upkeep_wakes, &database->upkeep_lock, &at);
+  bool stops = database->stops;
+  pthread_mutex_unlock(&database->upkeep_lock);
+  return !stops;
+}
+
+/* What was answered before the device had it is there a second later. */
+static void flush_late(pdt_database *database, unsigned turn) {
+  int sync = database->options.sync;
+  if (sync == PDT_SYNC_FULL) return;
+  if (turn % SYNC_ROUNDS == 0) {
+    (void)pdti_flush(database, true);
+  } else if (sync == PDT_SYNC_OFF && turn % 5 == 0) {
+    (void)pdti_flush(database, false);
+  }
+}
+
+static void *keep_up(void *context) {
+  pdt_database *database = context;
+  for (unsigned turn = 0; goes_on(database); turn++) {
+    flush_late(database, turn);
+    (void)work_round(database); /* what fails is due again */
+  }
+  return NULL;
+}
+
+int pdti_start_upkeep(pdt_database *database) {
+  if (database->options.no_upkeep) return PDT_OK;
+  database->stops = false;
+  database->has_thread = !pthread_create(&database->thread, NULL, keep_up, database);
+  return database->has_thread ? PDT_OK : PDT_NOMEM;
+}
+
+void pdti_stop_upkeep(pdt_database *database) {
+  if (!database->has_thread) return;
+  pthread_mutex_lock(&database->upkeep_lock);
+  database->stops = true;
+  pthread_cond_signal(&database->upkeep_wakes);
+  pthread_mutex_unlock(&database->upkeep_lock);
+  pthread_join(database->thread, NULL);
+  database->has_thread = false;
+}
