@@ -10,12 +10,29 @@
 (10, 'Ann', 2) True 3 [4]
 >>> store.close()
 
-What lasts: commits are in memory alone. ``Store.checkpoint`` writes the newest table into a folder, and ``recover``
-opens it again; what was committed since the last checkpoint is lost with the process.
+That table lies in memory. A database is a folder of tables that last, whatever ends the process or the machine:
 
-Threads: a store or a pin is for any threads at once, a transaction or a snapshot for one at a time, which is checked.
-``Store.pin`` keeps a table, over which several threads read side by side, each in a snapshot of its own. Calls into the
-library give up the interpreter's lock.
+>>> db = narthexmace.connect("shop")  # made where there is none
+>>> items = db.create("items", "id:int:key,name:text,qty:int\\n")  # an empty table; later it is db["items"]
+>>> with items.begin() as txn:
+...     txn.insert((1, "ink", 7))  # it is on the disk once the block has ended
+>>> db.close()
+>>> with narthexmace.connect("shop") as db:
+...     orders = db.create("orders", {"id": [1], "qty": [0]}, key="id")
+...     with db.begin() as txn:  # over all tables: both writes are committed, or none
+...         txn["items"].set(1, "qty", 5)
+...         txn["orders"].set(1, "qty", 2)
+...     with db.read() as tables:  # all tables at one moment
+...         print(list(db), tables["items"][:], tables["orders"][:])
+['items', 'orders'] [(1, 'ink', 5)] [(1, 2)]
+
+What lasts: in a database each commit that was answered, as ``sync`` of ``connect`` says. Those of a store alone are in
+memory: ``Store.checkpoint`` writes the newest table into a folder, and ``recover`` opens it again; what was committed
+since the last checkpoint is lost with the process.
+
+Threads: a database, a store or a pin is for any threads at once, a transaction or a snapshot for one at a time, which
+is checked. ``Store.pin`` keeps a table, over which several threads read side by side, each in a snapshot of its own.
+Calls into the library give up the interpreter's lock.
 
 Who follows a store has from ``Store.changes`` what each commit changed, and from ``Store.wait`` word of the next one.
 
@@ -26,6 +43,7 @@ Errors: each is an ``Error``, with its ``code`` and a sentence, and one of Pytho
 """
 from ._batches import Batch, Pieces, Texts
 from ._cells import Column
+from ._database import Database, DatabaseCounts, Report, connect
 from ._errors import (
     BadLimit,
     BadStore,
@@ -35,9 +53,13 @@ from ._errors import (
     Duplicate,
     Error,
     Exists,
+    Failed,
     FileFailed,
     Full,
+    Gap,
     Lent,
+    Locked,
+    Misfit,
     Missing,
     Misuse,
     NoImage,
@@ -45,17 +67,21 @@ from ._errors import (
     NotAscending,
     NotKept,
     ReadOnly,
+    Rot,
     Shape,
     Superseded,
+    TooLong,
     TooManyRows,
     TooOld,
     TooSmall,
+    Unsure,
 )
 from ._layers import Entry
 from ._pin import Pin
 from ._snapshot import Rank, Snapshot
 from ._store import Counts, Sizes, Store, open, recover, version
 from ._transaction import Transaction
+from ._work import Moment, Work
 
 __all__ = [
     "BadLimit",
@@ -65,16 +91,23 @@ __all__ = [
     "Column",
     "Conflict",
     "Counts",
+    "Database",
+    "DatabaseCounts",
     "DeviceFailed",
     "Duplicate",
     "Entry",
     "Error",
     "Exists",
+    "Failed",
     "FileFailed",
     "Full",
+    "Gap",
     "Lent",
+    "Locked",
+    "Misfit",
     "Missing",
     "Misuse",
+    "Moment",
     "NoImage",
     "NoMemory",
     "NotAscending",
@@ -83,16 +116,22 @@ __all__ = [
     "Pin",
     "Rank",
     "ReadOnly",
+    "Report",
+    "Rot",
     "Shape",
     "Sizes",
     "Snapshot",
     "Store",
     "Superseded",
     "Texts",
+    "TooLong",
     "TooManyRows",
     "TooOld",
     "TooSmall",
     "Transaction",
+    "Unsure",
+    "Work",
+    "connect",
     "open",
     "recover",
     "version",

@@ -6,7 +6,7 @@ import operator
 from typing import Any, Iterable, List, Mapping, NamedTuple, Sequence, Tuple, Union
 
 from ._errors import Shape
-from ._library import MAX_TEXT
+from ._library import MAX_TEXT, library
 
 Cell = Union[int, str, bool]
 Row = Tuple[Cell, ...]
@@ -25,6 +25,19 @@ class Column(NamedTuple):
     name: str
     type: str
     key: bool
+
+
+def columns_at(store: Any) -> Tuple[Column, ...]:
+    """The columns of a store at an address."""
+    key_columns = library.pdt_key_columns(store)
+    return tuple(
+        Column(
+            library.pdt_column_name(store, place).decode(),
+            TYPES[library.pdt_column_type(store, place)],
+            place < key_columns,
+        )
+        for place in range(library.pdt_columns(store))
+    )
 
 
 def is_truth(value: object) -> bool:

@@ -6,7 +6,7 @@ import errno
 import os
 from typing import Any, Dict, Optional, Tuple, Type, Union
 
-from ._library import FaultOf, library
+from ._library import FaultOf, ReportOf, library
 
 Path = Union[str, bytes, "os.PathLike[str]"]
 
@@ -64,7 +64,7 @@ class Duplicate(Error):
 
 
 class Missing(Error, KeyError):
-    """There is no row of the key, or no savepoint any more."""
+    """There is no row of the key, no savepoint any more, or no table of the name."""
 
     code = 6
 
@@ -153,7 +153,7 @@ class _OfFiles(Error, OSError):
             self.errno, self.strerror = errno, os.strerror(errno)
 
     def __reduce__(self) -> Tuple[Any, ...]:
-        return type(self), (*self.args, self.errno, self.filename)
+        return type(self), (*self.args, self.errno, self.filename), vars(self)
 
 
 class FileFailed(_OfFiles):
@@ -163,7 +163,7 @@ class FileFailed(_OfFiles):
 
 
 class Exists(_OfFiles, FileExistsError):
-    """A file of a store is in the folder already, which is ``filename``."""
+    """A file of a store is in the folder already, which is ``filename``, or a table of the name in that database."""
 
     code = 16
 
@@ -186,6 +186,59 @@ class DeviceFailed(Error):
     code = 19
 
 
+class Locked(_OfFiles, BlockingIOError):
+    """The database is open already, in another process or in this one. ``filename`` is its folder."""
+
+    code = 20
+
+
+class _OfDatabase(_OfFiles):
+    """What the files of a database are refused for. ``filename`` is the damaged or missing file, or the folder."""
+
+    #: The file that it is about, by its name in the folder, or None.
+    file: Optional[str] = None
+    #: The number of the commit that it is about, or None.
+    commit: Optional[int] = None
+
+
+class Rot(_OfDatabase):
+    """What was safe is damaged: ``file`` says which file, or ``commit`` which commit. No file was changed."""
+
+    code = 21
+
+
+class Gap(_OfDatabase):
+    """A file of the database, or a commit, is missing: ``file`` or ``commit`` says which. No file was changed."""
+
+    code = 22
+
+
+class Misfit(_OfDatabase):
+    """The journal isn't of these tables: ``commit`` or ``file`` says where that was seen. No file was changed."""
+
+    code = 23
+
+
+class Unsure(_OfFiles):
+    """The device failed over the commit. The transaction is over: it is there or not, as the next opening tells."""
+
+    code = 24
+    #: The number that the commit has if it is there.
+    commits: int = 0
+
+
+class Failed(_OfFiles):
+    """The device has failed: the database takes no write until it is opened again. The transaction stays open."""
+
+    code = 25
+
+
+class TooLong(Error):
+    """What the transaction changes takes 4 GiB or more in the journal. It stays open: go back, or commit less."""
+
+    code = 26
+
+
 _KINDS: Tuple[Type[Error], ...] = (
     NoMemory,
     Conflict,
@@ -206,9 +259,19 @@ _KINDS: Tuple[Type[Error], ...] = (
     Superseded,
     NotAscending,
     DeviceFailed,
+    Locked,
+    Rot,
+    Gap,
+    Misfit,
+    Unsure,
+    Failed,
+    TooLong,
 )
 _BY_CODE: Dict[int, Type[Error]] = {kind.code: kind for kind in _KINDS}
-_OF_FILES: Dict[int, Type[_OfFiles]] = {kind.code: kind for kind in (FileFailed, Exists)}
+_OF_FILES: Dict[int, Type[_OfFiles]] = {kind.code: kind for kind in (FileFailed, Exists, Locked, Unsure, Failed)}
+_OF_DATABASES: Dict[int, Type[_OfDatabase]] = {kind.code: kind for kind in (Rot, Gap, Misfit)}
+#: Those of files that have one reason, whatever C was told last.
+_REASONS = {Exists.code: errno.EEXIST, Locked.code: errno.EWOULDBLOCK}
 
 
 def error_of(code: int) -> Error:
@@ -224,14 +287,40 @@ def check(code: int) -> None:
 
 def check_files(code: int, folder: Path) -> None:
     """As ``check``, of a call that reads or writes the files of a folder."""
-    if code not in (FileFailed.code, Exists.code):
+    if code not in _OF_FILES:
         check(code)
         return
-    number = ctypes.get_errno() if code == FileFailed.code else errno.EEXIST
+    number = ctypes.get_errno() if code == FileFailed.code else _REASONS.get(code)
     sentence = library.pdt_text(code).decode()
     if code == FileFailed.code:
-        sentence = f"{sentence}: {os.strerror(number)}"
+        sentence = f"{sentence}: {os.strerror(ctypes.get_errno())}"
     raise _OF_FILES[code](f"{sentence}: {os.fsdecode(folder)!r}", number, folder)
+
+
+def check_made(code: int, name: str, folder: Path) -> int:
+    """Raises what the files of a database are refused for where a table of a name is made, and answers other codes."""
+    if code == Exists.code:
+        raise Exists(f"there is a table {name!r} already: {os.fsdecode(folder)!r}", errno.EEXIST, folder)
+    if code in _OF_FILES:
+        check_files(code, folder)
+    return code
+
+
+def check_opening(code: int, folder: Path, report: ReportOf) -> None:
+    """As ``check``, of the opening of a database: the report says which file or which commit it is about."""
+    file: Optional[str] = report.file.decode(errors="replace") or None
+    where = folder if file is None else os.path.join(os.fsdecode(folder), file)
+    if not code or code in _OF_FILES:
+        check_files(code, where)
+        return
+    commit: Optional[int] = report.fault or None
+    about = [repr(file)] if file is not None else [f"commit {commit}"] if commit is not None else []
+    sentence = f"{library.pdt_text(code).decode()}: {' in '.join([*about, repr(os.fsdecode(folder))])}"
+    if code not in _OF_DATABASES:
+        raise _BY_CODE.get(code, Error)(sentence)
+    error = _OF_DATABASES[code](sentence, None, where)
+    error.file, error.commit = file, commit
+    raise error
 
 
 def check_text(code: int, fault: FaultOf) -> None:

@@ -3,12 +3,14 @@ from __future__ import annotations
 
 import ctypes
 import threading
+import warnings
 import weakref
 from contextlib import contextmanager
 from ctypes import byref, c_uint64, c_void_p
 from typing import Any, Iterator, List, NoReturn, Optional, Sequence, Tuple
 
-from ._errors import Lent, Misuse, check
+from ._cells import Shaping, columns_at
+from ._errors import Lent, Misuse, check, error_of
 from ._library import CountsOf, library
 
 
@@ -21,13 +23,16 @@ class Single:
         raise TypeError(f"a {type(self).__name__} can't be copied or pickled: it stands for memory of this process")
 
 
-class StoreHandle(Single):
-    """A store's address, which several threads may have at once. It is freed when nothing uses it any more.
+class Shared(Single):
+    """An address that several threads may have at once. It is freed when nothing uses it any more.
 
-    ``with handle as at`` is a call on the store. C's own lock orders the calls; the lock here only counts those that go
-    on, so that the store isn't freed in one. It may be taken twice by one thread, since the interpreter may drop a
-    transaction at any point.
+    ``with handle as at`` is a call on it. C's own locks order the calls; the lock here only counts those that go on, so
+    that nothing is freed in one. It may be taken twice by one thread, since the interpreter may drop a transaction at
+    any point.
     """
+
+    #: What it is the address of, for people.
+    kind = ""
 
     def __init__(self) -> None:
         #: What an opening fills: whoever interrupts the opening then, it is let go with this.
@@ -39,7 +44,7 @@ class StoreHandle(Single):
     def __enter__(self) -> int:
         with self._lock:
             if self.room.value is None or self._ending:
-                raise Misuse("the store is closed")
+                raise Misuse(f"the {self.kind} is closed")
             self._calls += 1
             return self.room.value
 
@@ -49,52 +54,92 @@ class StoreHandle(Single):
         self.free_if_ending()
 
     def close(self) -> None:
-        """Frees the store. Misuse while a transaction is open, a pin kept, or another thread in a call."""
+        """Frees it. Misuse while something is open over it, or another thread in a call."""
         with self._lock:
             if self._calls:
-                raise Misuse("another thread is in a call of the store")
-            if not self._free():
+                raise Misuse(f"another thread is in a call of the {self.kind}")
+            code = self._free()
+            if code == Misuse.code:
                 raise Misuse(self._why_open())
+        check(code)
+
+    def end(self) -> None:
+        """Takes no more calls, and frees it now, or with the end of the last thing that is open over it."""
+        self._ending = True
+        self.free_if_ending()
+
+    def free_if_ending(self) -> None:
+        """Frees what takes no more calls, once none goes on and nothing is open over it."""
+        if not self._ending:
+            return
+        with self._lock:
+            code = Misuse.code if self._calls else self._free()
+        if code not in (0, Misuse.code):
+            warnings.warn(f"the {self.kind} was closed, and {error_of(code)}", RuntimeWarning, stacklevel=2)
+
+    def _free(self) -> int:
+        """Frees it, and answers C's code: PDT_MISUSE where something is open over it. It stays then."""
+        at, self.room = self.room, c_void_p()  # before the call: who interrupts it must not free it again
+        code = self._freed(at)
+        if code == Misuse.code:
+            self.room = at
+        return code
+
+    def _freed(self, at: c_void_p) -> int:
+        """C's call that frees it; a null pointer is no error."""
+        raise NotImplementedError
 
     def _why_open(self) -> str:
-        """Why C doesn't close the store."""
+        """Why C doesn't free it."""
+        raise NotImplementedError
+
+    def __del__(self) -> None:
+        self.end()
+
+
+class StoreHandle(Shared):
+    """A store's address."""
+
+    kind = "store"
+    #: The name of a table of a database; a store alone has none.
+    name: Optional[str] = None
+
+    def _freed(self, at: c_void_p) -> int:
+        return int(library.pdt_close(at))
+
+    def _why_open(self) -> str:
         counts = CountsOf(ctypes.sizeof(CountsOf))
         check(library.pdt_count(self.room, byref(counts)))
         if counts.pins:
             return f"the store has {counts.pins} pin{'s' if counts.pins > 1 else ''}: close them first"
         return "a transaction or a snapshot of the store is open"
 
-    def end(self) -> None:
-        """Takes no more calls, and frees the store now, or with the end of its last transaction and pin."""
-        self._ending = True
-        self.free_if_ending()
+    def shaping(self) -> Shaping:
+        """Its columns, and how cells go there and come back."""
+        with self as at:
+            return Shaping(columns_at(at))
 
-    def free_if_ending(self) -> None:
-        """Frees a store that takes no more calls, once none goes on, no transaction is open and no pin kept."""
-        if not self._ending:
-            return
-        with self._lock:
-            if not self._calls:
-                self._free()
-
-    def _free(self) -> bool:
-        """Frees the store, and says whether it is free: a transaction may be open, or a pin kept."""
-        at, self.room = self.room, c_void_p()  # before the call: who interrupts it must not free the store again
-        if library.pdt_close(at) == Misuse.code:
-            self.room = at
-        return self.room.value is None
-
-    def __del__(self) -> None:
-        self.end()
+    def has_numbered(self, number: int) -> bool:
+        """Whether a number above that of the newest table is that of a commit, which changed another table."""
+        return False
 
 
-class _Address(Single):
-    """The address of an open transaction, which is aborted when nobody keeps this any more."""
+class Address(Single):
+    """An address that is let go when nobody keeps this any more; a call of C's fills its room."""
 
-    __slots__ = ("room", "store")
+    __slots__ = ("room",)
+
+    def __init__(self) -> None:
+        self.room = c_void_p()
+
+
+class _OpenAddress(Address):
+    """The address of an open transaction, which is aborted then."""
+
+    __slots__ = ("store",)
 
     def __init__(self, store: StoreHandle) -> None:
-        self.room = c_void_p()
+        super().__init__()
         self.store = store
 
     def __del__(self) -> None:
@@ -131,13 +176,13 @@ class PinHandle(Single):
         self._pinned = None
 
 
-class _PinAddress(Single):
-    """The address of a pin, which is let go when nobody keeps this any more."""
+class _PinAddress(Address):
+    """The address of a pin."""
 
-    __slots__ = ("room", "store")
+    __slots__ = ("store",)
 
     def __init__(self, store: StoreHandle) -> None:
-        self.room = c_void_p()
+        super().__init__()
         self.store = store
 
     def __del__(self) -> None:
@@ -155,13 +200,13 @@ class TransactionHandle(Single):
 
     def __init__(self, store: StoreHandle, pin: Optional[PinHandle] = None) -> None:
         """Begins a transaction over the newest table, or over that of a pin."""
-        address = _Address(store)
+        address = _OpenAddress(store)
         if pin is not None:
             pin.begin(address.room)
         else:
             with store as at:
                 check(library.pdt_begin(at, byref(address.room)))
-        self._address: Optional[_Address] = address
+        self._address: Optional[Address] = address
         self._lock = threading.Lock()
         # the views that were lent, and the memory under each: neither is kept alive by this
         self._lent: List[Tuple["weakref.ref[memoryview]", "weakref.ref[Any]"]] = []
@@ -196,6 +241,9 @@ class TransactionHandle(Single):
         if not self._lock.acquire(blocking=False):
             raise Misuse("another thread is in a call of the transaction")
 
+    def may_end_alone(self) -> None:
+        """Misuse of a part of a work, which ends with that."""
+
     def lend(self, runs: Sequence[Any]) -> List[memoryview]:
         """A view of int64 over each run of the library's memory, for reading. Made in a call."""
         self._lent = [(view, memory) for view, memory in self._lent if memory() is not None]
@@ -208,10 +256,10 @@ class TransactionHandle(Single):
 
     def take_back(self) -> None:
         """Takes back what was lent, and raises Lent where it is in use. Made in a call, before it moves anything."""
-        if self._lent and not self._released():
+        if self._lent and not self._release_lent():
             raise Lent("numbers that were lent are still in use: let go of the arrays over them, or copy them")
 
-    def _released(self) -> bool:
+    def _release_lent(self) -> bool:
         """Releases the views that were lent, and says whether nothing reads the memory, as a part of a view may."""
         for view, _ in self._lent:
             _release(view())
@@ -228,7 +276,7 @@ class TransactionHandle(Single):
         """Ends the transaction: at once, or once nothing reads what it lent."""
         self._take_lock()
         try:
-            self._released()
+            self._release_lent()
             self._address = None
         finally:
             self._lock.release()

@@ -3,15 +3,23 @@ from __future__ import annotations
 
 import ctypes
 import os
-from ctypes import c_bool, c_char_p, c_int, c_int64, c_size_t, c_uint32, c_uint64, c_void_p
+from ctypes import c_bool, c_char, c_char_p, c_int, c_int64, c_size_t, c_uint32, c_uint64, c_void_p
 from pathlib import Path
 
 #: The environment variable that names another library than the one that was packed.
 PLACE = "NARTHEXMACE_LIBRARY"
 
+#: What a number of a commit isn't.
+NO_NUMBER = 2**64 - 1
+MAX_NAME = 64
 MAX_TEXT = 4096
 MAX_RECENT = 65_536
 MAX_ROWS = 2_147_483_647
+
+# What a database is opened with where nothing else is said.
+FOLD_ENTRIES = 1024
+CHECKPOINT_ENTRIES = 10_000
+JOURNAL_BYTES = 67_108_864
 
 
 class Options(ctypes.Structure):
@@ -98,6 +106,51 @@ class FaultOf(ctypes.Structure):
     _fields_ = [("row", c_uint64), ("column", c_uint64), ("cause", c_char_p)]
 
 
+class DatabaseOptions(ctypes.Structure):
+    """pdt_database_options"""
+
+    _fields_ = [
+        ("size", c_size_t),
+        ("sync", c_int),
+        ("early_reads", c_bool),
+        ("no_upkeep", c_bool),
+        ("fold_entries", c_uint64),
+        ("checkpoint_entries", c_uint64),
+        ("journal_bytes", c_uint64),
+    ]
+
+
+class ReportOf(ctypes.Structure):
+    """pdt_report"""
+
+    _fields_ = [
+        ("size", c_size_t),
+        ("commits", c_uint64),
+        ("replayed", c_uint64),
+        ("torn_bytes", c_uint64),
+        ("fault", c_uint64),
+        ("file", c_char * 64),
+    ]
+
+
+class DatabaseCountsOf(ctypes.Structure):
+    """pdt_database_counts"""
+
+    _fields_ = [
+        ("size", c_size_t),
+        ("commits", c_uint64),
+        ("safe", c_uint64),
+        ("batches", c_uint64),
+        ("syncs", c_uint64),
+        ("folds", c_uint64),
+        ("images", c_uint64),
+        ("faults", c_uint64),
+        ("journal_bytes", c_uint64),
+        ("journal_files", c_size_t),
+        ("tables", c_size_t),
+    ]
+
+
 # Each call's result, and its arguments. A pointer to what the call fills is a void pointer here, so that an array, a
 # part of one and a number by reference may all stand there.
 _CELLS = [c_void_p, c_char_p, c_size_t]  # numbers, texts, and how many bytes the texts have
@@ -146,6 +199,19 @@ _CALLS = {
     "layer_close": (None, [c_void_p]),
     "layer_size": (c_size_t, [c_void_p]),
     "entry_at": (c_int, [c_void_p, c_size_t, c_void_p, c_void_p, c_void_p, c_size_t]),
+    "database_open": (c_int, [c_char_p, c_void_p, c_void_p, c_void_p]),
+    "database_close": (c_int, [c_void_p]),
+    "database_count": (c_int, [c_void_p, c_void_p]),
+    "upkeep": (c_int, [c_void_p]),
+    "table_create": (c_int, [c_void_p, c_char_p, c_void_p, c_size_t, c_size_t, c_void_p, c_void_p, c_void_p]),
+    "table_create_csv": (c_int, [c_void_p, c_char_p, c_char_p, c_size_t, c_void_p, c_void_p, c_void_p]),
+    "table_open": (c_int, [c_void_p, c_char_p, c_void_p]),
+    "table_name": (c_int, [c_void_p, c_size_t, c_void_p, c_size_t]),
+    "table_drop": (c_int, [c_void_p, c_char_p]),
+    "work_begin": (c_int, [c_void_p, c_void_p]),
+    "work_on": (c_int, [c_void_p, c_void_p, c_void_p]),
+    "work_commit": (c_int, [c_void_p, c_void_p]),
+    "work_abort": (None, [c_void_p]),
 }
 
 

@@ -72,10 +72,11 @@ class Snapshot(Single):
         return number.value
 
     def abort(self) -> None:
-        """Ends it without a trace. Aborting again is no error."""
+        """Ends it without a trace. Aborting again is no error. Misuse of one table of several, which end at once."""
         self._handle.abort()
 
     def __enter__(self: Self) -> Self:
+        self._handle.may_end_alone()
         return self
 
     def __exit__(

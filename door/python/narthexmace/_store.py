@@ -4,23 +4,21 @@ from __future__ import annotations
 import ctypes
 import math
 import operator
-import os
 import time
 from ctypes import byref, c_uint64
 from itertools import chain
 from types import TracebackType
-from typing import Any, Iterator, List, Mapping, NamedTuple, Optional, Sequence, Tuple, Type
+from typing import Iterator, List, Mapping, NamedTuple, Optional, Tuple, Type
 
-from ._cells import TYPES, Column, Shaping
-from ._columns import PassedColumns
-from ._errors import BadLimit, BadTable, Misuse, Missing, NotAscending, NotKept, Path, check, check_files, check_text
+from ._cells import Column
+from ._errors import Misuse, Missing, NotKept, Path, check, check_files
 from ._handles import PinHandle, Single, StoreHandle, TransactionHandle
 from ._layers import Entry, Layer
-from ._library import MAX_RECENT, MAX_ROWS, CountsOf, FaultOf, Options, PlaceOf, SizesOf, library
+from ._library import MAX_RECENT, MAX_ROWS, CountsOf, SizesOf, library
+from ._opening import calls_alone, folder_of, open_table, options_of
 from ._pin import Pin
 from ._snapshot import Snapshot
-from ._tables import KeyNames, Named, Table, columns_of, fault_of_columns, named_columns
-from ._tables import text_of_columns, text_of_table
+from ._tables import KeyNames, Table
 from ._transaction import Transaction
 
 
@@ -98,49 +96,9 @@ def open(
 
     BadTable, Shape (the columns), TooManyRows, BadLimit, NoMemory; OSError where the file can't be read.
     """
-    options = _options(recent, row_limit, conflicts)
-    columns = columns_of(table)
-    if columns is not None:
-        return _over_columns(columns, key, types, options)
-    if key is not None or types is not None:
-        raise TypeError("key and types go with columns; a CSV text names its own in its header")
-    return _over_text(text_of_table(table), options)
-
-
-def _over_text(text: bytes, options: Options) -> "Store":
-    handle, fault = StoreHandle(), FaultOf()
-    check_text(library.pdt_open_csv(text, len(text), byref(options), byref(fault), byref(handle.room)), fault)
+    options, handle = options_of(recent, row_limit, conflicts), StoreHandle()
+    open_table(calls_alone(), table, key, types, options, handle.room)
     return Store(handle)
-
-
-def _over_columns(
-    columns: Mapping[str, Any], key: Optional[KeyNames], types: Optional[Mapping[str, str]], options: Options
-) -> "Store":
-    """Columns in ascending key go into the table from where they lie; others are sorted, by way of a text."""
-    named = named_columns(columns, key, types)
-    passed, handle, place = PassedColumns(named), StoreHandle(), PlaceOf()
-    keys = sum(column.key for column in named)
-    try:
-        check(
-            library.pdt_open_columns(
-                byref(passed.columns), len(named), keys, byref(options), byref(place), byref(handle.room)
-            )
-        )
-    except BadTable:
-        raise BadTable(fault_of_columns(named)) from None
-    except NotAscending:
-        return _sorted(named, options)
-    return Store(handle)
-
-
-def _sorted(columns: Sequence[Named], options: Options) -> "Store":
-    """Opens a store over columns whose rows stand in any order."""
-    try:
-        return _over_text(text_of_columns(columns), options)
-    except BadTable as fault:  # of the records only their keys can be refused: all cells were read before
-        if fault.record is None:
-            raise
-        raise BadTable(f"row {fault.record - 2}, which counts from 0, has the key of an earlier one") from None
 
 
 def recover(
@@ -152,17 +110,21 @@ def recover(
 
     FileFailed, BadTable (the header), BadStore, NoImage, TooManyRows, BadLimit, NoMemory.
     """
-    options = _options(recent, row_limit, conflicts)
+    options = options_of(recent, row_limit, conflicts)
     handle = StoreHandle()
-    check_files(library.pdt_recover(_folder(folder), byref(options), byref(handle.room)), folder)
+    check_files(library.pdt_recover(folder_of(folder), byref(options), byref(handle.room)), folder)
     return Store(handle)
 
 
 class Store(Single):
     """A table that takes commits. Several threads may use it at once; each transaction is for one thread.
 
-    Commits are in memory alone. What a checkpoint has written lasts; what was committed since the last one is lost with
-    the process, and with ``close``. Nothing folds or checkpoints by itself: ``sizes`` says what has grown.
+    Of a store alone, which ``open`` or ``recover`` gives, commits are in memory. What a checkpoint has written lasts;
+    what was committed since the last one is lost with the process, and with ``close``. Nothing folds or checkpoints by
+    itself: ``sizes`` says what has grown.
+
+    A table of a database, which ``connect`` opens, is a store too. Its commits last, and nobody need fold or checkpoint
+    it. Its numbers are those of the database, so that a commit that changed other tables alone takes one here too.
 
     Commits are counted, and no record of one is kept but what each of the last ``recent`` ones changed, which
     ``changes`` shows. So what a store keeps doesn't grow with the number of its commits.
@@ -174,8 +136,10 @@ class Store(Single):
 
     def __init__(self, handle: StoreHandle) -> None:
         self._handle = handle
-        with handle as at:
-            self._shaping = Shaping(_columns_at(at))
+        self._shaping = handle.shaping()
+
+    def _stands_for(self, handle: StoreHandle) -> bool:
+        return self._handle is handle
 
     @property
     def columns(self) -> Tuple[Column, ...]:
@@ -225,7 +189,7 @@ class Store(Single):
         Exists, FileFailed, NoMemory: what was written is removed.
         """
         with self._handle as at:
-            check_files(library.pdt_checkpoint(at, _folder(folder)), folder)
+            check_files(library.pdt_checkpoint(at, folder_of(folder)), folder)
 
     def sizes(self) -> Sizes:
         """What has grown."""
@@ -249,15 +213,25 @@ class Store(Single):
 
         ``for number, entries in store.changes(after=n)``: the numbers are n + 1, n + 2 and so on, with none left out.
         The entries stand over the table before their commit, and make of it the table of their number. A row that was
-        replaced is an insert and a delete of one key: who keeps rows by key does a commit's deletes first.
+        replaced is an insert and a delete of one key: who keeps rows by key does a commit's deletes first. In a
+        database a commit that changed other tables alone has no entries here.
 
         NotKept, at the call or at a later step, where the next commit isn't kept: more than ``recent`` came since, or a
         cut. So is a number above the newest one, which this store never had. NoMemory.
         """
-        number, newest = _number(after), self.sizes().commits
-        if number == newest:
+        number, newest = _number(after), self._newest()
+        if number == newest or number > newest and self._handle.has_numbered(number):
             return iter(())
         return self._changes(self._layer_of(number + 1, newest), number + 1, newest)
+
+    def _newest(self) -> int:
+        """The number of the table that begins take. A commit whose number is above it isn't to be seen yet."""
+        commits = c_uint64()
+        with self._handle as at:
+            code = library.pdt_wait(at, 2**64 - 1, 0, byref(commits))  # which waits for nothing, and tells it
+        if code != Missing.code:
+            check(code)
+        return commits.value
 
     def _changes(self, layer: Layer, number: int, newest: int) -> Iterator[Tuple[int, List[Entry]]]:
         while True:
@@ -309,6 +283,7 @@ class Store(Single):
         """Closes the store: what no checkpoint has written is gone. Closing again is no error.
 
         Misuse while a transaction or a snapshot is open, a pin kept, or another thread in a call: it stays open then.
+        Misuse also of a table of a database, which ``Database.close`` closes.
         """
         self._handle.close()
 
@@ -318,25 +293,20 @@ class Store(Single):
     def __exit__(
         self, kind: Optional[Type[BaseException]], error: Optional[BaseException], trace: Optional[TracebackType]
     ) -> None:
-        """Closes the store; at an exception it is closed with the last of its transactions and pins."""
+        """Closes the store; at an exception it is closed with the last of its transactions and pins.
+
+        Of a table of a database nothing is done.
+        """
+        if self._handle.name is not None:
+            return
         if kind is None:
             self.close()
         else:
             self._handle.end()
 
     def __repr__(self) -> str:
-        return f"<Store of {', '.join(self._shaping.names)}>"
-
-
-def _options(recent: int, row_limit: int, conflicts: str) -> Options:
-    if not 1 <= recent <= MAX_RECENT:
-        raise BadLimit(f"recent is {recent}, and not from 1 to {MAX_RECENT:,}")
-    if not 1 <= row_limit <= MAX_ROWS:
-        raise BadLimit(f"row_limit is {row_limit}, and not from 1 to {MAX_ROWS:,}")
-    if conflicts not in ("column", "row"):
-        raise BadLimit(f'conflicts is {conflicts!r}, and not "column" or "row"')
-    size = ctypes.sizeof(Options)
-    return Options(size, operator.index(recent), operator.index(row_limit), conflicts == "row")
+        name = "" if self._handle.name is None else f" {self._handle.name!r}"
+        return f"<Store{name} of {', '.join(self._shaping.names)}>"
 
 
 def _number(number: int) -> int:
@@ -344,22 +314,3 @@ def _number(number: int) -> int:
     if not 0 <= operator.index(number) < 2**64 - 1:
         raise Misuse("the numbers of tables count from 0")
     return operator.index(number)
-
-
-def _folder(folder: Path) -> bytes:
-    path = os.fsencode(folder)
-    if b"\0" in path:
-        raise Misuse("a path has no null character")
-    return path
-
-
-def _columns_at(store: int) -> Tuple[Column, ...]:
-    key_columns = library.pdt_key_columns(store)
-    return tuple(
-        Column(
-            library.pdt_column_name(store, place).decode(),
-            TYPES[library.pdt_column_type(store, place)],
-            place < key_columns,
-        )
-        for place in range(library.pdt_columns(store))
-    )

@@ -9,10 +9,18 @@ from typing import Iterator, Mapping, Optional, Sequence, Type, Union
 from ._cells import Cell, Key
 from ._errors import Shape, check, error_of
 from ._layers import Entry, Layer
-from ._library import library
+from ._library import NO_NUMBER, library
 from ._snapshot import Snapshot
 
-_NO_NUMBER = 2**64 - 1
+
+def check_commit(code: int, number: int) -> None:
+    """As ``check``, of a commit, which tells the number of the newest table where it ends a transaction."""
+    if not code:
+        return
+    error = error_of(code)
+    if number != NO_NUMBER:
+        error.commits = number  # type: ignore[attr-defined]
+    raise error
 
 
 class Transaction(Snapshot):
@@ -30,23 +38,23 @@ class Transaction(Snapshot):
 
         A transaction that changes nothing takes no number: it ends as by ``abort``, and answers ``begun``.
 
-        What begins later sees the new table. It is in memory alone: it lasts once a checkpoint has written the table
-        (``Store.checkpoint``), and is lost with the process before.
+        What begins later sees the new table. That of a store alone is in memory: it lasts once a checkpoint has written
+        it (``Store.checkpoint``), and is lost with the process before. That of a database lasts, as its ``sync`` says.
+        Where this is one table of several (``Database.begin``) the call is Misuse: these are committed at once.
 
         Conflict, TooOld and Full end it: begin again, and do the work again. NoMemory and Lent leave it open as it was.
+        In a database Unsure ends it too, and Failed and TooLong leave it open.
         """
-        number = c_uint64(_NO_NUMBER)
+        number = c_uint64(NO_NUMBER)
         with self._handle as at:
+            self._handle.may_end_alone()
             self._handle.take_back()
             try:
                 code = library.pdt_commit(at, byref(number))
             finally:  # an interrupt comes here too: C has freed the transaction if it has told a number
-                if number.value != _NO_NUMBER:
+                if number.value != NO_NUMBER:
                     self._handle.committed()
-        if code:
-            error = error_of(code)
-            error.commits = number.value  # type: ignore[attr-defined]
-            raise error
+        check_commit(code, number.value)
         return number.value
 
     def __exit__(

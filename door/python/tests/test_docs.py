@@ -41,6 +41,11 @@ class Documents(unittest.TestCase):
             narthexmace.Store.close, narthexmace.Transaction.commit,
         ):  # fmt: skip
             self.assertRegex(thing.__doc__ or "", r"checkpoint", thing)
+        for thing in (
+            narthexmace, narthexmace.connect, narthexmace.Database, narthexmace.Database.create,
+            narthexmace.Database.close, narthexmace.Work.commit, narthexmace.Transaction.commit, narthexmace.Store,
+        ):  # fmt: skip
+            self.assertRegex(thing.__doc__ or "", r"\bdevice|\blasts?\b|survives", thing)
 
     def test_the_package(self) -> None:
         self.assertGreater(self.run_examples("narthexmace", narthexmace.__doc__ or ""), 3)

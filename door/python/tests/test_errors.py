@@ -23,7 +23,8 @@ ROWS = [(10, "Ann", 7, True), (20, "Bob", 2, False)]
 
 def codes() -> dict:
     """The codes of pdt.h, by name."""
-    lines = (Path(__file__).parents[2] / "c/pdt.h").read_text().splitlines()
+    header = (Path(__file__).parents[2] / "c/pdt.h").read_text()
+    lines = header[: header.index("} pdt_code;")].splitlines()
     parts = (line.split("=") for line in lines if line.startswith("  PDT_") and "=" in line)
     return {name.strip(): int(value.split(",")[0].split("/")[0]) for name, value in parts}
 
@@ -36,7 +37,8 @@ class Codes(unittest.TestCase):
             "PDT_BAD_LIMIT": "BadLimit", "PDT_TOO_MANY_ROWS": "TooManyRows", "PDT_TOO_SMALL": "TooSmall",
             "PDT_BAD_STORE": "BadStore", "PDT_NO_IMAGE": "NoImage", "PDT_MISUSE": "Misuse", "PDT_IO": "FileFailed",
             "PDT_EXISTS": "Exists", "PDT_SUPERSEDED": "Superseded", "PDT_NOT_ASCENDING": "NotAscending",
-            "PDT_DEVICE_FAILED": "DeviceFailed",
+            "PDT_DEVICE_FAILED": "DeviceFailed", "PDT_LOCKED": "Locked", "PDT_ROT": "Rot", "PDT_GAP": "Gap",
+            "PDT_MISFIT": "Misfit", "PDT_UNSURE": "Unsure", "PDT_FAILED": "Failed", "PDT_TOO_LONG": "TooLong",
         }  # fmt: skip
         there = codes()
         self.assertEqual(set(there), {"PDT_OK", *names})
@@ -52,7 +54,11 @@ class Codes(unittest.TestCase):
         refused = narthexmace.Conflict()
         refused.commits = 7
         file = narthexmace.FileFailed("a file failed", 2, "folder")
-        for fault in (narthexmace.Missing(), narthexmace._errors.bad_text(3, 1, "no value"), file, refused):
+        unsure = narthexmace.Unsure("the device failed", None, "folder")
+        unsure.commits = 7
+        locked = narthexmace.Locked("it is open", errno.EWOULDBLOCK, "folder")
+        missing, bad = narthexmace.Missing(), narthexmace._errors.bad_text(3, 1, "no value")
+        for fault in (missing, bad, file, refused, unsure, locked):
             again = pickle.loads(pickle.dumps(fault))
             self.assertEqual((type(again), str(again), vars(again)), (type(fault), str(fault), vars(fault)))
         again = pickle.loads(pickle.dumps(file))
@@ -63,7 +69,8 @@ class Codes(unittest.TestCase):
             ("NoMemory", MemoryError), ("Missing", KeyError), ("Shape", ValueError), ("BadTable", ValueError),
             ("BadLimit", ValueError), ("TooManyRows", ValueError), ("BadStore", ValueError), ("Misuse", RuntimeError),
             ("Lent", BufferError), ("ReadOnly", AttributeError), ("FileFailed", OSError), ("Exists", FileExistsError),
-            ("NotAscending", ValueError),
+            ("NotAscending", ValueError), ("Locked", BlockingIOError), ("Rot", OSError), ("Gap", OSError),
+            ("Misfit", OSError), ("Unsure", OSError), ("Failed", OSError),
         ]:  # fmt: skip
             self.assertTrue(issubclass(getattr(narthexmace, kind), own), kind)
         self.assertTrue(issubclass(narthexmace.NotKept, narthexmace.Missing))

@@ -11,6 +11,11 @@ import narthexmace
 _BEHIND = {"__len__", "__getitem__", "__iter__", "__contains__", "__enter__", "__exit__", "__repr__", "__array__"}
 
 
+#: The names of databases, which test_drawn_databases draws; test_drawn draws all others.
+DATABASES = {"Database", "DatabaseCounts", "Report", "Moment", "Work", "connect", "Locked", "Rot", "Gap", "Misfit",
+             "Unsure", "Failed", "TooLong"}  # fmt: skip
+
+
 def is_public(kind: type, name: str) -> bool:
     return not name.startswith("_") or (name in _BEHIND and not issubclass(kind, tuple))
 
@@ -40,6 +45,19 @@ def arguments(call: Any, first: int) -> List[str]:
 
 
 def wanted() -> Set[str]:
+    """Each public name but those of databases."""
+    return {name for name in all_wanted() if not is_of_databases(name)}
+
+
+def wanted_of_databases() -> Set[str]:
+    return {name for name in all_wanted() if is_of_databases(name)}
+
+
+def is_of_databases(name: str) -> bool:
+    return name.split(".")[0].split("(")[0] in DATABASES
+
+
+def all_wanted() -> Set[str]:
     """Each public name, as `Store.begin`, and each argument of a public call, as `Store.begin(client)`."""
     names = set()
     for kind in classes():
@@ -85,7 +103,7 @@ class Watch:
     def sees(self, frame: Any) -> bool:
         return frame.f_code.co_filename in self.files
 
-    def called(self, name: str, places: List[str], call: Any, *given: Any, **words: Any) -> Any:
+    def called(self, name: str, places: List[str], call: Any, /, *given: Any, **words: Any) -> Any:
         """Makes a call, and counts it with its arguments, unless it is refused."""
         answer = call(*given, **words)
         self.drawn.update([name, *(f"{name}({it})" for it in [*places[: len(given)], *words])])

@@ -1,0 +1,260 @@
+"""Databases: folders of tables that last."""
+from __future__ import annotations
+
+import ctypes
+import operator
+import os
+from ctypes import byref
+from types import TracebackType
+from typing import Any, Dict, Iterator, Mapping, NamedTuple, Optional, Type
+
+from ._database_handles import DatabaseHandle, WorkHandle, name_of
+from ._errors import BadLimit, Misuse, Path, Shape, Unsure, check_files, check_made, check_opening
+from ._handles import Single
+from ._library import CHECKPOINT_ENTRIES, FOLD_ENTRIES, JOURNAL_BYTES, MAX_NAME, MAX_RECENT, MAX_ROWS
+from ._library import DatabaseOptions, ReportOf, library
+from ._opening import Calls, folder_of, open_table, options_of
+from ._store import Store
+from ._tables import KeyNames, Table
+from ._work import Moment, Work
+
+_SYNCS = {"full": 0, "normal": 1, "off": 2}
+
+
+class Report(NamedTuple):
+    """What the opening of a database found.
+
+    ``commits`` is the number of the newest commit. ``replayed`` is how many commits were read from the journal, because
+    an image of a table doesn't have them. ``torn_bytes`` is how many bytes at the journal's end were no whole commit,
+    which nobody was told of: they were cut off.
+    """
+
+    commits: int
+    replayed: int
+    torn_bytes: int
+
+
+class DatabaseCounts(NamedTuple):
+    """What a database has counted since its opening, and what it keeps now.
+
+    ``commits`` is the number of the newest commit, and ``safe`` that of the newest one that is known to be on the
+    device. ``batches`` is how often the journal was written, of one commit or of several at once, and ``syncs`` how
+    often it was synced. ``folds`` and ``images`` of tables were made by the upkeep, and ``faults`` is how often
+    something that was due has failed. The files of the journal are ``journal_files``, and have ``journal_bytes``.
+    """
+
+    commits: int
+    safe: int
+    batches: int
+    syncs: int
+    folds: int
+    images: int
+    faults: int
+    journal_bytes: int
+    journal_files: int
+    tables: int
+
+
+def connect(
+    folder: Path,
+    *,
+    sync: str = "full",
+    early_reads: bool = False,
+    upkeep: bool = True,
+    fold_entries: int = FOLD_ENTRIES,
+    checkpoint_entries: int = CHECKPOINT_ENTRIES,
+    journal_bytes: int = JOURNAL_BYTES,
+) -> "Database":
+    """Opens the database in a folder, which is made where there is none: ``with narthexmace.connect("shop") as db:``.
+
+    ``sync`` is what a commit survives once it is answered. "full": the end of the process and of the machine, since it
+    is on the device; commits of several threads share a sync. "normal": the end of the process; the device has it a
+    second later, or sooner. "off": neither, until the device has it, a second later or sooner, or at ``close``.
+
+    With ``early_reads`` what begins sees commits that aren't on the device yet, which a crash could take away.
+
+    A thread of C's own folds, makes images of tables and takes away files that are no longer needed. Without ``upkeep``
+    there is none: ``Database.upkeep`` does it, and has the device take what a ``sync`` other than "full" has left for
+    later. A table's newest changes are folded once they have ``fold_entries``
+    entries. It gets an image once all its changes since the last one have ``checkpoint_entries``, and as many as a
+    fiftieth of its rows. Above ``journal_bytes`` of journal each table whose image is old gets one.
+
+    Locked: it is open already, here or in another process. Rot: what was safe is damaged. Gap: a file or a commit is
+    missing. Misfit: the journal isn't of these tables. BadStore, BadTable, NoImage: a file can't be read as what it is.
+    Each says which file, or which commit. FileFailed: a file can't be made or read, also where the folder above isn't
+    there. BadLimit: an option isn't one. NoMemory: all tables, and the journal, are read into memory. After each of
+    them no file has changed.
+    """
+    options = _options_of(sync, early_reads, upkeep, fold_entries, checkpoint_entries, journal_bytes)
+    handle, report, path = DatabaseHandle(folder), ReportOf(ctypes.sizeof(ReportOf)), folder_of(folder)
+    if not path:
+        raise Misuse("the folder of a database has a name")
+    check_opening(library.pdt_database_open(path, byref(options), byref(handle.room), byref(report)), folder, report)
+    return Database(handle, Report(report.commits, report.replayed, report.torn_bytes))
+
+
+def _options_of(
+    sync: str, early_reads: bool, upkeep: bool, fold_entries: int, checkpoint_entries: int, journal_bytes: int
+) -> DatabaseOptions:
+    if sync not in _SYNCS:
+        raise BadLimit(f'sync is {sync!r}, and not "full", "normal" or "off"')
+    limits = {"fold_entries": fold_entries, "checkpoint_entries": checkpoint_entries, "journal_bytes": journal_bytes}
+    for name, limit in limits.items():
+        if not 1 <= operator.index(limit) < 2**64:
+            raise BadLimit(f"{name} is {limit}, and not from 1 to 2**64 - 1")
+    given = (operator.index(limit) for limit in limits.values())
+    return DatabaseOptions(ctypes.sizeof(DatabaseOptions), _SYNCS[sync], bool(early_reads), not upkeep, *given)
+
+
+class Database(Single):
+    """A folder of tables that last. What a commit answered is there when the folder is opened again.
+
+    ``db["items"]`` is a table by its name, a ``Store``: one that ``open`` gives lies in memory, and one of a database
+    lasts. ``db.create`` makes one. ``with db.begin() as txn:`` is a transaction over all of them, and ``with db.read()
+    as tables:`` reads all of them at one moment. ``for name in db`` and ``len(db)`` go over the tables.
+
+    Any threads may use it at once. One process has it open at a time, and a child of fork doesn't. With ``with`` it is
+    closed at the end of the block. One that is dropped is closed too, once its tables and transactions are, with a
+    ResourceWarning. Nothing in the folder is to be changed by hand; it may be copied while it is closed.
+    """
+
+    __slots__ = ("_handle", "_report", "_stores", "__weakref__")
+
+    def __init__(self, handle: DatabaseHandle, report: Report) -> None:
+        self._handle = handle
+        self._report = report
+        self._stores: Dict[str, Store] = {}  # so that each is made once
+
+    @property
+    def report(self) -> Report:
+        """What the opening found."""
+        return self._report
+
+    # ---- tables
+
+    def create(
+        self,
+        name: str,
+        table: Table,
+        *,
+        key: Optional[KeyNames] = None,
+        types: Optional[Mapping[str, str]] = None,
+        recent: int = MAX_RECENT,
+        row_limit: int = MAX_ROWS,
+        conflicts: str = "column",
+    ) -> Store:
+        """Makes a table of a name over what ``open`` takes: a CSV text, the path of one, or columns.
+
+        A header alone makes an empty one: ``db.create("items", "id:int:key,name:text\\n")``. The table is on the device
+        when this returns, with its options, which it keeps: those of ``open``.
+
+        Exists, where there is a table of the name; Shape, where the name hasn't 1 to 64 bytes of UTF-8 without control
+        characters; FileFailed, Failed, NoMemory, Misuse, and those of ``open``. There is no such table then.
+        """
+        options = options_of(recent, row_limit, conflicts)
+        encoded = name_of(name)
+        if encoded is None or len(encoded) > MAX_NAME or any(byte < 32 or byte == 127 for byte in encoded):
+            raise Shape(f"the name {name!r} is not a text of 1 to {MAX_NAME} bytes without control characters")
+        room = ctypes.c_void_p()
+        with self._handle as at:
+            open_table(self._calls_in(at, name, encoded), table, key, types, options, room)
+        return self[name]
+
+    def _calls_in(self, at: int, name: str, encoded: bytes) -> Calls:
+        """C's calls that make a table of a name."""
+
+        def text(*given: Any) -> int:
+            return check_made(library.pdt_table_create_csv(at, encoded, *given), name, self._handle.folder)
+
+        def columns(*given: Any) -> int:
+            return check_made(library.pdt_table_create(at, encoded, *given), name, self._handle.folder)
+
+        return Calls(text, columns)
+
+    def __getitem__(self, name: str) -> Store:
+        """The table of a name, the same object each time. Missing, which is a KeyError, where there is none."""
+        table = self._handle.table(name)
+        store = self._stores.get(name)
+        if store is None or not store._stands_for(table):
+            store = self._stores[name] = Store(table)
+        return store
+
+    def __contains__(self, name: object) -> bool:
+        """Whether there is a table of a name."""
+        return self._handle.has(name)
+
+    def __iter__(self) -> Iterator[str]:
+        """The names of the tables, in the order in which they were made."""
+        return iter(self._handle.names())
+
+    def __len__(self) -> int:
+        """How many tables there are."""
+        return int(self._handle.counts().tables)
+
+    def drop(self, name: str) -> None:
+        """Drops the table of a name: it is gone when this returns, and a call on it raises Misuse.
+
+        Missing, where there is none. Misuse, while a transaction or a snapshot is open over it, a pin kept, or another
+        thread in a call of it. FileFailed, Failed, NoMemory: it stays.
+        """
+        self._handle.drop(name)
+        self._stores.pop(name, None)
+
+    # ---- transactions over all tables
+
+    def begin(self) -> Work:
+        """Begins a transaction over all tables, which it sees at one moment. It waits for no commit. NoMemory."""
+        return Work(WorkHandle(self._handle))
+
+    def read(self) -> Moment:
+        """All tables as they are at this moment, for reading. It commits nothing, and waits for no commit. NoMemory."""
+        return Moment(WorkHandle(self._handle))
+
+    # ---- as a whole
+
+    def upkeep(self) -> None:
+        """Does what is due of folds, images and files. What was committed before is on the device then.
+
+        FileFailed, Failed, NoMemory: it is due again.
+        """
+        with self._handle as at:
+            check_files(library.pdt_upkeep(at), self._handle.folder)
+
+    def counts(self) -> DatabaseCounts:
+        """What it has counted since its opening, and what it keeps now."""
+        counts = self._handle.counts()
+        return DatabaseCounts(*(getattr(counts, name) for name in DatabaseCounts._fields))
+
+    def close(self) -> None:
+        """Closes it and its tables. What was committed is on the device then. Closing again is no error.
+
+        Misuse while a transaction or a snapshot is open, a pin kept, or another thread in a call: it stays open then.
+        Unsure, where the device fails: it is closed, and the last commits are there or not.
+        """
+        try:
+            self._handle.close()
+        except Unsure:
+            raise Unsure(f"it is closed, and its last commits are there or not: {self._folder!r}", None, self._folder)
+
+    def __enter__(self) -> "Database":
+        return self
+
+    def __exit__(
+        self, kind: Optional[Type[BaseException]], error: Optional[BaseException], trace: Optional[TracebackType]
+    ) -> None:
+        """Closes it; at an exception it is closed with the last of its transactions and pins."""
+        if kind is None:
+            self.close()
+        else:
+            self._handle.end()
+
+    @property
+    def _folder(self) -> str:
+        return os.fsdecode(self._handle.folder)
+
+    def __repr__(self) -> str:
+        if not self._handle.is_open:
+            return f"<Database {self._folder!r}, closed>"
+        names = self._handle.names()
+        tables = f" of {', '.join(names)}" if names else " without tables"
+        return f"<Database {self._folder!r}{tables}, {self._handle.counts().commits} commits>"

@@ -1,0 +1,315 @@
+"""The addresses of a database, its tables and its works: a call gets one for as long as it goes on."""
+from __future__ import annotations
+
+import ctypes
+import os
+import threading
+import warnings
+import weakref
+from ctypes import byref, c_uint64, c_void_p
+from typing import Callable, Dict, List, Optional
+
+from ._cells import Shaping, columns_at
+from ._errors import Misuse, Missing, Path, check, check_files
+from ._handles import Address, Shared, Single, StoreHandle, TransactionHandle
+from ._library import MAX_NAME, NO_NUMBER, CountsOf, DatabaseCountsOf, library
+
+
+def name_of(name: object) -> Optional[bytes]:
+    """A table's name for C, or None of what is the name of none."""
+    try:
+        encoded = name.encode() if isinstance(name, str) else b""
+    except UnicodeEncodeError:
+        return None
+    return None if b"\0" in encoded or not encoded else encoded
+
+
+class DatabaseHandle(Shared):
+    """A database's address. A call on one of its tables is a call on it, too."""
+
+    kind = "database"
+
+    def __init__(self, folder: Path) -> None:
+        super().__init__()
+        self.folder = folder
+        self._process = os.getpid()
+        # those that somebody has: a drop takes their addresses away
+        self._tables: "weakref.WeakValueDictionary[bytes, TableHandle]" = weakref.WeakValueDictionary()
+        self._tables_lock = threading.RLock()
+
+    def __enter__(self) -> int:
+        if os.getpid() != self._process:
+            raise Misuse("a child of fork has nothing that its parent opened: connect again once that has closed it")
+        return super().__enter__()
+
+    @property
+    def is_open(self) -> bool:
+        """Whether it may be used: not by a child of fork."""
+        return self.room.value is not None and not self._ending and os.getpid() == self._process
+
+    def counts(self) -> DatabaseCountsOf:
+        counts = DatabaseCountsOf(ctypes.sizeof(DatabaseCountsOf))
+        with self as at:
+            check(library.pdt_database_count(at, byref(counts)))
+        return counts
+
+    # ---- tables
+
+    def names(self) -> List[str]:
+        """The names of the tables, in the order in which they were made."""
+        names: List[str] = []
+        room = ctypes.create_string_buffer(MAX_NAME + 1)
+        with self._tables_lock, self as at:  # no table is dropped meanwhile, which would move the others
+            while True:
+                code = library.pdt_table_name(at, len(names), room, len(room))
+                if code == Missing.code:
+                    return names
+                check(code)
+                names.append(room.value.decode())
+
+    def has(self, name: object) -> bool:
+        encoded, room = name_of(name), c_void_p()
+        with self as at:
+            code: int = Missing.code if encoded is None else library.pdt_table_open(at, encoded, byref(room))
+        if code != Missing.code:
+            check(code)
+        return code == 0
+
+    def table(self, name: object) -> "TableHandle":
+        """The table of a name, the same one for as long as somebody has it. Missing where there is none."""
+        encoded, room = name_of(name), c_void_p()
+        with self._tables_lock, self as at:
+            handle = None if encoded is None else self._tables.get(encoded)
+            if handle is not None:
+                return handle
+            code: int = Missing.code if encoded is None else library.pdt_table_open(at, encoded, byref(room))
+            if code == Missing.code or encoded is None:
+                raise self._missing(name)
+            check(code)
+            handle = self._tables[encoded] = TableHandle(self, encoded.decode(), room)
+            return handle
+
+    def _missing(self, name: object) -> Missing:
+        return Missing(f"there is no table {name!r} in {os.fsdecode(self.folder)!r}")
+
+    def drop(self, name: object) -> None:
+        """Drops a table, and takes its address from those who have it. Missing, Misuse, and those of files."""
+        encoded = name_of(name)
+        if encoded is None:
+            raise self._missing(name)
+        with self._tables_lock, self as at:
+            table = self._tables.get(encoded)
+
+            def call() -> int:
+                return int(library.pdt_table_drop(at, encoded))
+
+            code = call() if table is None else table.dropped_by(call)
+            if code == 0:
+                self._tables.pop(encoded, None)
+        if code == Missing.code:
+            raise self._missing(name)
+        if code == Misuse.code:
+            raise Misuse(f"a transaction or a snapshot is open over the table {name!r}, or a pin is kept")
+        check_files(code, self.folder)
+
+    # ---- the end
+
+    def _freed(self, at: c_void_p) -> int:
+        return int(library.pdt_database_close(at))
+
+    def _why_open(self) -> str:
+        if os.getpid() != self._process:
+            return "a child of fork can't close what its parent opened"
+        for table in list(self._tables.values()):
+            pins = table.pins()
+            if pins:
+                return f"the table {table.name!r} has {pins} pin{'s' if pins > 1 else ''}: close them first"
+        return "a transaction or a snapshot of the database is open"
+
+    def __del__(self) -> None:
+        if self.is_open:
+            warnings.warn(f"an unclosed database: {os.fsdecode(self.folder)!r}", ResourceWarning, source=self)
+        self.end()
+
+
+class TableHandle(StoreHandle):
+    """The address of a table, whose database frees it. Who has it keeps the database open."""
+
+    kind = "table"
+
+    def __init__(self, database: DatabaseHandle, name: str, room: c_void_p) -> None:
+        super().__init__()
+        self.database = database
+        self.name: str = name
+        self.room = room
+        self._shaping = Shaping(columns_at(self.room.value))
+
+    def __enter__(self) -> int:
+        self.database.__enter__()
+        try:
+            with self._lock:
+                if self.room.value is None:
+                    raise Misuse(f"the table {self.name!r} was dropped")
+                self._calls += 1
+                return self.room.value
+        except BaseException:
+            self.database.__exit__()
+            raise
+
+    def __exit__(self, *_: object) -> None:
+        with self._lock:
+            self._calls -= 1
+        self.database.__exit__()
+
+    def close(self) -> None:
+        raise Misuse(f"the table {self.name!r} is closed with its database, and need not be closed")
+
+    def end(self) -> None:
+        """Does nothing: the database frees it."""
+
+    def free_if_ending(self) -> None:
+        self.database.free_if_ending()
+
+    def shaping(self) -> Shaping:
+        return self._shaping  # columns never change
+
+    def has_numbered(self, number: int) -> bool:
+        return bool(number <= self.database.counts().commits)
+
+    def pins(self) -> int:
+        """How many pins are kept. Asked by who closes the database, so that it is no call."""
+        counts = CountsOf(ctypes.sizeof(CountsOf))
+        if self.room.value is not None:
+            check(library.pdt_count(self.room, byref(counts)))
+        return int(counts.pins)
+
+    def dropped_by(self, call: Callable[[], int]) -> int:
+        """Makes the call that drops it, and takes no more calls where C has done it. Misuse under another's call."""
+        with self._lock:
+            if self._calls:
+                raise Misuse(f"another thread is in a call of the table {self.name!r}")
+            at, self.room = self.room, c_void_p()  # before the call: who interrupts it must not use it again
+            code = call()
+            if code:
+                self.room = at
+            return code
+
+
+# ---- works
+
+
+class _WorkAddress(Address):
+    """The address of an open work, which is aborted when nobody keeps this any more."""
+
+    __slots__ = ("database",)
+
+    def __init__(self, database: DatabaseHandle) -> None:
+        super().__init__()
+        self.database = database
+
+    def __del__(self) -> None:
+        library.pdt_work_abort(self.room)  # null where the work has committed
+        self.database.free_if_ending()
+
+
+class _PartAddress(Address):
+    """The address of a work's transaction over a table. It stays for as long as the work does, which this keeps."""
+
+    __slots__ = ("table", "work")
+
+    def __init__(self, table: TableHandle, work: _WorkAddress) -> None:
+        super().__init__()
+        self.table = table
+        self.work = work
+
+
+class PartHandle(TransactionHandle):
+    """The address of a work's transaction over a table. One thread may have it, or that of another part, at a time."""
+
+    def __init__(self, address: _PartAddress, lock: threading.Lock) -> None:
+        self._address = address
+        self._lock = lock  # that of the work
+        self._lent = []
+
+    def may_end_alone(self) -> None:
+        raise Misuse("a table of a transaction over several ends with that: commit or abort the whole")
+
+    def abort(self) -> None:
+        self.may_end_alone()
+
+    def let_go(self) -> None:
+        """Takes no more calls. Made in a call of the work, which ends: what is lent keeps its memory."""
+        self._release_lent()
+        self._address = None
+
+
+class WorkHandle(Single):
+    """A work's address, which one thread may have at a time, and with it those of its parts."""
+
+    def __init__(self, database: DatabaseHandle) -> None:
+        """Begins a work over all tables."""
+        address = _WorkAddress(database)
+        with database as at:
+            check(library.pdt_work_begin(at, byref(address.room)))
+        self.database = database
+        self._address: Optional[_WorkAddress] = address
+        self._lock = threading.Lock()
+        self._parts: Dict[str, PartHandle] = {}
+
+    @property
+    def is_open(self) -> bool:
+        return self._address is not None
+
+    def _take_lock(self) -> None:
+        if not self._lock.acquire(blocking=False):
+            raise Misuse("another thread is in a call of the transaction")
+
+    def part(self, table: TableHandle) -> PartHandle:
+        """The work's transaction over a table. Missing where that was made after it began."""
+        self._take_lock()
+        try:
+            if self._address is None:
+                raise Misuse("the transaction is over")
+            if table.name not in self._parts:
+                address = _PartAddress(table, self._address)
+                with table as at:
+                    code = library.pdt_work_on(self._address.room, at, byref(address.room))
+                if code == Missing.code:
+                    raise Missing(f"the table {table.name!r} was made after the transaction began")
+                check(code)
+                self._parts[table.name] = PartHandle(address, self._lock)
+            return self._parts[table.name]
+        finally:
+            self._lock.release()
+
+    def commit(self, number: c_uint64) -> int:
+        """Commits, and answers C's code; a number that was told says that the work is over."""
+        self._take_lock()
+        try:
+            if self._address is None:
+                raise Misuse("the transaction is over")
+            for part in self._parts.values():
+                part.take_back()
+            number.value = NO_NUMBER
+            try:
+                return int(library.pdt_work_commit(self._address.room, byref(number)))
+            finally:  # an interrupt comes here too: C has freed the work if it has told a number
+                if number.value != NO_NUMBER:
+                    self._address.room = c_void_p()
+                    self._let_go()
+        finally:
+            self._lock.release()
+
+    def abort(self) -> None:
+        """Ends the work: at once, or once nothing reads what its parts lent."""
+        self._take_lock()
+        try:
+            self._let_go()
+        finally:
+            self._lock.release()
+
+    def _let_go(self) -> None:
+        for part in self._parts.values():
+            part.let_go()
+        self._parts.clear()
+        self._address = None

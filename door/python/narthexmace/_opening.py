@@ -1,0 +1,97 @@
+"""How a table is opened: over a CSV text, or over columns; as a store alone, or as a table of a database."""
+from __future__ import annotations
+
+import ctypes
+import operator
+import os
+from ctypes import byref, c_void_p
+from typing import Any, Callable, Mapping, NamedTuple, Optional, Sequence
+
+from ._columns import PassedColumns
+from ._errors import BadLimit, BadTable, Misuse, NotAscending, Path, check, check_text
+from ._library import MAX_RECENT, MAX_ROWS, FaultOf, Options, PlaceOf, library
+from ._tables import KeyNames, Named, Table, columns_of, fault_of_columns, named_columns
+from ._tables import text_of_columns, text_of_table
+
+
+class Calls(NamedTuple):
+    """C's calls that open a table over a text and over columns: a store alone, or in a database, which it has then."""
+
+    text: Callable[..., int]
+    columns: Callable[..., int]
+
+
+def calls_alone() -> Calls:
+    """Those that open a store alone."""
+    return Calls(library.pdt_open_csv, library.pdt_open_columns)
+
+
+def open_table(
+    calls: Calls,
+    table: Table,
+    key: Optional[KeyNames],
+    types: Optional[Mapping[str, str]],
+    options: Options,
+    room: c_void_p,
+) -> None:
+    """Opens a table, whose address goes into room. BadTable, Shape, and those of C's calls."""
+    columns = columns_of(table)
+    if columns is not None:
+        _over_columns(calls, columns, key, types, options, room)
+        return
+    if key is not None or types is not None:
+        raise TypeError("key and types go with columns; a CSV text names its own in its header")
+    _over_text(calls, text_of_table(table), options, room)
+
+
+def _over_text(calls: Calls, text: bytes, options: Options, room: c_void_p) -> None:
+    fault = FaultOf()
+    check_text(calls.text(text, len(text), byref(options), byref(fault), byref(room)), fault)
+
+
+def _over_columns(
+    calls: Calls,
+    columns: Mapping[str, Any],
+    key: Optional[KeyNames],
+    types: Optional[Mapping[str, str]],
+    options: Options,
+    room: c_void_p,
+) -> None:
+    """Columns in ascending key go into the table from where they lie; others are sorted, by way of a text."""
+    named = named_columns(columns, key, types)
+    passed, place = PassedColumns(named), PlaceOf()
+    keys = sum(column.key for column in named)
+    try:
+        check(calls.columns(byref(passed.columns), len(named), keys, byref(options), byref(place), byref(room)))
+    except BadTable:
+        raise BadTable(fault_of_columns(named)) from None
+    except NotAscending:
+        _sorted(calls, named, options, room)
+
+
+def _sorted(calls: Calls, columns: Sequence[Named], options: Options, room: c_void_p) -> None:
+    """Opens a table over columns whose rows stand in any order."""
+    try:
+        _over_text(calls, text_of_columns(columns), options, room)
+    except BadTable as fault:  # of the records only their keys can be refused: all cells were read before
+        if fault.record is None:
+            raise
+        raise BadTable(f"row {fault.record - 2}, which counts from 0, has the key of an earlier one") from None
+
+
+def options_of(recent: int, row_limit: int, conflicts: str) -> Options:
+    if not 1 <= recent <= MAX_RECENT:
+        raise BadLimit(f"recent is {recent}, and not from 1 to {MAX_RECENT:,}")
+    if not 1 <= row_limit <= MAX_ROWS:
+        raise BadLimit(f"row_limit is {row_limit}, and not from 1 to {MAX_ROWS:,}")
+    if conflicts not in ("column", "row"):
+        raise BadLimit(f'conflicts is {conflicts!r}, and not "column" or "row"')
+    size = ctypes.sizeof(Options)
+    return Options(size, operator.index(recent), operator.index(row_limit), conflicts == "row")
+
+
+def folder_of(folder: Path) -> bytes:
+    path = os.fsencode(folder)
+    if b"\0" in path:
+        raise Misuse("a path has no null character")
+    return path
