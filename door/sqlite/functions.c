@@ -85,10 +85,24 @@ static void f_checkpoint(sqlite3_context *to, int argc, sqlite3_value **argv) {
   else answer(to, pdt_checkpoint(s->store, folder));
 }
 
+/* Drops a table of a database: DROP TABLE leaves it there. */
+static void f_drop(sqlite3_context *to, int argc, sqlite3_value **argv) {
+  (void)argc;
+  const char *folder = (const char *)sqlite3_value_text(argv[0]), *name = (const char *)sqlite3_value_text(argv[1]);
+  failure why;
+  if (!folder || !name) refuse(to, sqlite3_mprintf("pdt: name a folder and a table, as pdt_drop('DIR', 'NAME')"));
+  else if (!stores_drop(folder, name, &why)) {
+    refuse(to, why.text ? sqlite3_mprintf("pdt: %s", why.text) : NULL);
+    sqlite3_result_error_code(to, why.code);
+    sqlite3_free(why.text);
+  }
+}
+
 int functions_make(connection *c) {
   const int flags = SQLITE_UTF8 | SQLITE_DIRECTONLY;
   int code = sqlite3_create_function(c->db, "pdt_fold", 1, flags, c, f_fold, NULL, NULL);
   if (!code) code = sqlite3_create_function(c->db, "pdt_cut", 1, flags, c, f_cut, NULL, NULL);
   if (!code) code = sqlite3_create_function(c->db, "pdt_checkpoint", 2, flags, c, f_checkpoint, NULL, NULL);
+  if (!code) code = sqlite3_create_function(c->db, "pdt_drop", 2, flags, c, f_drop, NULL, NULL);
   return code;
 }

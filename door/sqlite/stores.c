@@ -11,104 +11,22 @@
 SQLITE_EXTENSION_INIT3
 
 struct shared {
-  char *path; /* with no link and no dot in it */
+  char *name; /* the path, with no link and no dot in it, or the table's name in its database */
   bool is_folder;
+  database *in; /* null of a store alone */
   pdt_options options;
   pdt_store *store;
+  bool is_made; /* whether the table was made for the one that has it, and goes with it */
   unsigned users;
   shared *next;
 };
 
-static pthread_mutex_t lock = PTHREAD_MUTEX_INITIALIZER; /* of all that stands below */
+static pthread_mutex_t lock = PTHREAD_MUTEX_INITIALIZER; /* of all that stands below, and in databases.c */
 static shared *all;
-
-/* ---- declarations */
-
-/* What a word says after its `name=`; null if it has another name. */
-static const char *value_of(const char *word, const char *name) {
-  size_t len = strlen(name);
-  if (sqlite3_strnicmp(word, name, (int)len)) return NULL;
-  for (word += len; *word == ' '; word++) {
-  }
-  if (*word++ != '=') return NULL;
-  for (; *word == ' '; word++) {
-  }
-  return word;
-}
-
-/* A literal without its quotes, a doubled one of them single; a word in no quotes as it stands. sqlite3_malloc's. */
-static char *unquoted(const char *word) {
-  char *out = sqlite3_mprintf("%s", word), quote = *word, *to = out;
-  if (!out || (quote != '\'' && quote != '"')) return out;
-  for (const char *from = word + 1; *from; from++) {
-    if (*from == quote && *++from != quote) break;
-    *to++ = *from;
-  }
-  *to = 0;
-  return out;
-}
-
-/* A whole number in decimal digits, from 1 on. */
-static bool number_of(const char *word, uint64_t *number) {
-  char *end;
-  errno = 0;
-  unsigned long long value = strtoull(word, &end, 10);
-  if (*word < '0' || *word > '9' || *end || errno || !value) return false;
-  *number = value;
-  return true;
-}
-
-static char *read_path(const char *word, bool is_folder, declaration *out) {
-  if (out->path) return sqlite3_mprintf("a table has one file or one store");
-  out->is_folder = is_folder;
-  out->path = unquoted(word);
-  return out->path ? NULL : sqlite3_mprintf("%s", pdt_text(PDT_NOMEM));
-}
-
-static char *read_word(const char *word, declaration *out) {
-  const char *value;
-  uint64_t number = 0;
-  if (*word == '\'' || *word == '"') return read_path(word, false, out);
-  if ((value = value_of(word, "store"))) return read_path(value, true, out);
-  if ((value = value_of(word, "recent"))) {
-    if (!number_of(value, &number) || number > SIZE_MAX)
-      return sqlite3_mprintf("recent is a number from 1 on, not %s", value);
-    out->options.recent = (size_t)number;
-    return NULL;
-  }
-  if ((value = value_of(word, "limit"))) {
-    if (!number_of(value, &number)) return sqlite3_mprintf("limit is a number from 1 on, not %s", value);
-    out->options.row_limit = number;
-    return NULL;
-  }
-  if ((value = value_of(word, "conflicts"))) {
-    out->options.by_row = !sqlite3_stricmp(value, "row");
-    if (out->options.by_row || !sqlite3_stricmp(value, "column")) return NULL;
-    return sqlite3_mprintf("conflicts is row or column, not %s", value);
-  }
-  return sqlite3_mprintf("no such word: %s", word);
-}
-
-char *declaration_read(int words, const char *const *word, declaration *out) {
-  memset(out, 0, sizeof *out);
-  out->options.size = sizeof out->options;
-  char *error = NULL;
-  for (int i = 0; i < words && !error; i++) error = read_word(word[i], out);
-  if (!error && !out->path)
-    error = sqlite3_mprintf("name a file, as pdt('table.csv'), or a folder, as pdt(store='DIR')");
-  if (error) declaration_free(out);
-  return error;
-}
-
-void declaration_free(declaration *declared) {
-  sqlite3_free(declared->path);
-  declared->path = NULL;
-}
 
 /* ---- opening */
 
-/* Reads a file whole into memory, which is the caller's to free. */
-static int read_file(const char *path, char **bytes, size_t *len) {
+int read_file(const char *path, char **bytes, size_t *len) {
   FILE *file = fopen(path, "rb");
   if (!file) return PDT_IO;
   size_t room = 0, count = 0;
@@ -150,10 +68,12 @@ static int open_store(const declaration *declared, pdt_store **store) {
   return code;
 }
 
-/* The sentence of a code, with the file and its cause. */
-static char *sentence(const char *path, int code, int cause) {
-  if (code == PDT_IO) return sqlite3_mprintf("%s: %s: %s", path, pdt_text(code), strerror(cause));
-  return sqlite3_mprintf("%s: %s", path, pdt_text(code));
+void *failure_of(failure *why, int code, const char *place, int library_code) {
+  const char *text = pdt_text(library_code);
+  why->code = code;
+  if (library_code == PDT_IO) why->text = sqlite3_mprintf("%s: %s: %s", place, text, strerror(errno));
+  else why->text = sqlite3_mprintf("%s: %s", place, text);
+  return NULL;
 }
 
 static bool same_options(const pdt_options *a, const pdt_options *b) {
@@ -162,62 +82,156 @@ static bool same_options(const pdt_options *a, const pdt_options *b) {
 
 /* ---- the stores of the process; the callers hold the lock */
 
-static shared *find(const char *path, bool is_folder) {
+static shared *find(const database *in, const char *name, bool is_folder) {
   shared *entry = all;
-  while (entry && (entry->is_folder != is_folder || strcmp(entry->path, path))) entry = entry->next;
+  while (entry && (entry->in != in || entry->is_folder != is_folder || strcmp(entry->name, name))) entry = entry->next;
   return entry;
 }
 
-static shared *add(const char *path, const declaration *declared, char **error) {
+/* Enters a store, which it takes over. Null where memory is refused. */
+static shared *enter(const char *name, const declaration *declared, database *in, pdt_store *store, bool is_made) {
   shared *entry = sqlite3_malloc((int)sizeof *entry);
-  char *kept = sqlite3_mprintf("%s", path);
-  pdt_store *store = NULL;
-  int code = entry && kept ? open_store(declared, &store) : PDT_NOMEM;
-  if (code) {
-    *error = sentence(declared->path, code, errno);
+  char *kept = sqlite3_mprintf("%s", name);
+  if (!entry || !kept) {
     sqlite3_free(kept);
     sqlite3_free(entry);
     return NULL;
   }
-  *entry = (shared){kept, declared->is_folder, declared->options, store, 0, all};
+  *entry = (shared){kept, declared->is_folder, in, declared->options, store, is_made, 0, all};
   all = entry;
   return entry;
 }
 
-static shared *join(const char *path, const declaration *declared, char **error) {
-  shared *entry = find(path, declared->is_folder);
+/* Opens a store alone. */
+static shared *add(const char *path, const declaration *declared, failure *why) {
+  pdt_store *store = NULL;
+  int code = open_store(declared, &store);
+  if (code) return failure_of(why, SQLITE_ERROR, declared->place, code);
+  shared *entry = enter(path, declared, NULL, store, false);
+  if (entry) return entry;
+  pdt_close(store);
+  return failure_of(why, SQLITE_ERROR, declared->place, PDT_NOMEM);
+}
+
+static shared *join_alone(const char *path, const declaration *declared, failure *why) {
+  shared *entry = find(NULL, path, declared->is_folder);
   if (entry && !same_options(&entry->options, &declared->options)) {
-    *error = sqlite3_mprintf("%s is open with another recent, limit or conflicts", declared->path);
+    why->code = SQLITE_ERROR;
+    why->text = sqlite3_mprintf("%s is open with another recent, limit or conflicts", declared->place);
     return NULL;
   }
-  if (!entry) entry = add(path, declared, error);
-  if (entry) entry->users++;
+  return entry ? entry : add(path, declared, why);
+}
+
+/* Finds a table in its database, or makes it where that is asked for. */
+static pdt_store *find_table(database *in, const declaration *declared, bool create, bool *is_made, failure *why) {
+  pdt_store *store = NULL;
+  int code = pdt_table_open(databases_get(in), declared->table, &store);
+  bool is_declared = declared->width || declared->path;
+  if (code == PDT_MISSING && create && is_declared) {
+    *is_made = true;
+    return databases_make(in, declared, why);
+  }
+  if (code && code != PDT_MISSING) return failure_of(why, SQLITE_ERROR, declared->place, code);
+  if (!code && has_columns(store, declared)) return store;
+  why->code = SQLITE_ERROR;
+  if (!code) why->text = sqlite3_mprintf("%s has other columns", declared->place);
+  else if (!create) why->text = sqlite3_mprintf("%s has no table %s", declared->folder, declared->table);
+  else
+    why->text = sqlite3_mprintf("%s has no table %s, and no columns are declared to make it with", declared->folder,
+                                declared->table);
+  return NULL;
+}
+
+static shared *add_table(database *in, const declaration *declared, bool create, failure *why) {
+  bool is_made = false;
+  pdt_store *store = find_table(in, declared, create, &is_made, why);
+  shared *entry = store ? enter(declared->table, declared, in, store, is_made) : NULL;
+  if (store && !entry) {
+    if (is_made) pdt_table_drop(databases_get(in), declared->table);
+    failure_of(why, SQLITE_ERROR, declared->place, PDT_NOMEM);
+  }
   return entry;
 }
 
-shared *stores_join(const declaration *declared, char **error) {
-  char *path = realpath(declared->path, NULL);
-  if (!path) {
-    *error = sentence(declared->path, errno == ENOMEM ? PDT_NOMEM : PDT_IO, errno);
-    return NULL;
+/* Each table has its database once. */
+static shared *join_table(const declaration *declared, bool create, failure *why) {
+  bool may_make = create && (declared->width || declared->path);
+  database *in = databases_join(declared->folder, declared->sync, may_make, why);
+  if (!in) return NULL;
+  shared *entry = find(in, declared->table, false);
+  if (entry && has_columns(entry->store, declared)) {
+    databases_leave(in);
+    entry->is_made = false; /* it is somebody else's too */
+    return entry;
   }
+  entry = entry ? NULL : add_table(in, declared, create, why);
+  if (entry) return entry;
+  if (!why->code) {
+    why->code = SQLITE_ERROR;
+    why->text = sqlite3_mprintf("%s has other columns", declared->place);
+  }
+  databases_leave(in);
+  return NULL;
+}
+
+shared *stores_join(const declaration *declared, bool create, failure *why) {
+  *why = (failure){SQLITE_OK, NULL};
+  char *path = declared->folder ? NULL : realpath(declared->path, NULL);
+  if (!declared->folder && !path)
+    return failure_of(why, SQLITE_ERROR, declared->place, errno == ENOMEM ? PDT_NOMEM : PDT_IO);
   pthread_mutex_lock(&lock);
-  shared *entry = join(path, declared, error);
+  shared *entry = declared->folder ? join_table(declared, create, why) : join_alone(path, declared, why);
+  if (entry) entry->users++;
   pthread_mutex_unlock(&lock);
   free(path);
   return entry;
 }
 
+/* Takes a store from the list. */
+static void forget(shared *entry) {
+  shared **at = &all;
+  while (*at != entry) at = &(*at)->next;
+  *at = entry->next;
+  sqlite3_free(entry->name);
+  sqlite3_free(entry);
+}
+
 void stores_leave(shared *entry) {
   pthread_mutex_lock(&lock);
-  if (!--entry->users && !pdt_close(entry->store)) {
-    shared **at = &all;
-    while (*at != entry) at = &(*at)->next;
-    *at = entry->next;
-    sqlite3_free(entry->path);
-    sqlite3_free(entry);
+  if (!--entry->users) {
+    database *in = entry->in;
+    if (in && entry->is_made) pdt_table_drop(databases_get(in), entry->name); /* where a work has it it stays, empty */
+    if (in || !pdt_close(entry->store)) forget(entry);
+    if (in) databases_leave(in);
   }
   pthread_mutex_unlock(&lock);
 }
 
+void stores_keep(shared *entry) {
+  pthread_mutex_lock(&lock);
+  entry->is_made = false;
+  pthread_mutex_unlock(&lock);
+}
+
 pdt_store *stores_get(const shared *entry) { return entry->store; }
+database *stores_database(const shared *entry) { return entry->in; }
+
+bool stores_drop(const char *folder, const char *table, failure *why) {
+  *why = (failure){SQLITE_OK, NULL};
+  pthread_mutex_lock(&lock);
+  database *in = databases_join(folder, ANY_SYNC, false, why);
+  if (in && find(in, table, false)) {
+    why->code = SQLITE_LOCKED;
+    why->text = sqlite3_mprintf("%s in %s is a table of a connection: drop that first", table, folder);
+  } else if (in) {
+    int code = pdt_table_drop(databases_get(in), table);
+    if (code == PDT_MISSING) *why = (failure){SQLITE_ERROR, sqlite3_mprintf("%s has no table %s", folder, table)};
+    else if (code == PDT_MISUSE)
+      *why = (failure){SQLITE_LOCKED, sqlite3_mprintf("%s: a transaction is open over its tables", folder)};
+    else if (code) failure_of(why, code == PDT_IO || code == PDT_FAILED ? SQLITE_IOERR : SQLITE_ERROR, folder, code);
+  }
+  if (in) databases_leave(in);
+  pthread_mutex_unlock(&lock);
+  return !why->code;
+}

@@ -1,31 +1,76 @@
-/* The stores that the connections of a process share. A store is known by the file or the folder that it was opened
-   from: whoever names it again gets the same one, with all commits since. It is closed when the last connection lets
-   it go. */
+/* The stores and the databases that the connections of a process share. A store is known by the file or the folder that it
+   was opened from, a table of a database by the folder and its name there: whoever names it again gets the same one, with
+   all commits since. A store is closed when the last connection lets it go, a database when the last of its tables is. */
 #ifndef STORES_H
 #define STORES_H
 
 #include <pdt.h>
 #include <stdbool.h>
 
-/* What a table is declared with: pdt('table.csv', recent=.., limit=.., conflicts=..), or store='DIR' in the file's
-   place. */
+enum { KEY_COLUMNS = 4 };
+
+/* What a table is declared with: pdt('table.csv', recent=.., limit=.., conflicts=..); store='DIR' in the file's place; or
+   database='DIR', table='NAME', sync=.. and what a table is made of that isn't there: columns, or the file. */
 typedef struct declaration {
-  char *path;     /* of the CSV file, or of the folder; sqlite3_malloc's */
+  char *path;     /* of the CSV file, or of the store's folder; sqlite3_malloc's, as the next ones; null where neither is named */
   bool is_folder; /* whether it is a store's folder */
   pdt_options options;
+  char *folder, *table; /* of a database, and the table's name there; null of a store alone */
+  int sync;             /* one of enum pdt_sync; -1 where it isn't said */
+  char *place;          /* what a table is of, for whoever reads it: the path, or the table and its folder */
+  size_t width, keys;   /* how many columns are declared, and how many make the key */
+  char names[PDT_MAX_COLUMNS][PDT_MAX_NAME + 1], key[KEY_COLUMNS][PDT_MAX_NAME + 1];
+  int types[PDT_MAX_COLUMNS];
 } declaration;
 
 /* Reads the words of a declaration. Null, or a sentence that says what is wrong, which is sqlite3_malloc's. */
 char *declaration_read(int words, const char *const *word, declaration *out);
 void declaration_free(declaration *declared);
+/* The columns as the record of CSV that names them, sqlite3_malloc's; null where memory is refused. */
+char *declaration_header(const declaration *declared);
+
+/* Why something can't be had: one of SQLite's codes, and a sentence, which is sqlite3_malloc's. */
+typedef struct failure {
+  int code;
+  char *text;
+} failure;
+
+/* ---- stores.c */
 
 typedef struct shared shared;
+typedef struct database database;
 
-/* Opens a store, or joins the one of the same file. *error is a sentence, sqlite3_malloc's, where null is returned.
-   Takes the lock of all stores, and holds it while a file is read. */
-shared *stores_join(const declaration *declared, char **error);
-/* Lets a store go, in which the caller has no open transaction. */
+/* Opens a store, or joins the one of the same place. A table that its database lacks is made where it is created. Null,
+   and a failure, where it can't be had. Takes the lock of all stores, and holds it while files are read and written. */
+shared *stores_join(const declaration *declared, bool create, failure *why);
+/* Lets a store go, in which the caller has no open transaction. A table that was made for it alone is dropped. */
 void stores_leave(shared *entry);
+/* What was made for it stays. */
+void stores_keep(shared *entry);
 pdt_store *stores_get(const shared *entry);
+/* The database that it is a table of; null where it is a store alone. */
+database *stores_database(const shared *entry);
+
+/* Drops a table of the database in a folder, which no connection of the process has. False, and a failure, where it can't. */
+bool stores_drop(const char *folder, const char *table, failure *why);
+
+/* A failure with one of the library's codes for a place, whose cause errno has, where it is a file's. Null. */
+void *failure_of(failure *why, int code, const char *place, int library_code);
+/* Reads a file whole into memory, which is the caller's to free. One of the library's codes. */
+int read_file(const char *path, char **bytes, size_t *len);
+
+/* ---- databases.c: all but the last one are called with the lock of all stores held */
+
+enum { ANY_SYNC = -2 }; /* for who asks for no table: as it is open */
+
+/* Opens the database of a folder, which is made where that may be, or joins the one that is open. Null, and a failure,
+   where it can't be had. */
+database *databases_join(const char *folder, int sync, bool may_make, failure *why);
+void databases_leave(database *in);
+/* Makes a table of what is declared: of the columns, or of the file. Null, and a failure, where it can't be. */
+pdt_store *databases_make(database *in, const declaration *declared, failure *why);
+/* Whether the columns that are declared are those of a table. */
+bool has_columns(pdt_store *store, const declaration *declared);
+pdt_database *databases_get(const database *in);
 
 #endif

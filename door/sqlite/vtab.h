@@ -10,11 +10,10 @@
 #include <stddef.h>
 #include <stdint.h>
 
-enum { KEY_COLUMNS = 4 };
-
 typedef struct connection connection;
 typedef struct session session;
 typedef struct cursor cursor;
+typedef struct view view;
 
 struct connection {
   sqlite3 *db;
@@ -23,18 +22,29 @@ struct connection {
   size_t levels;       /* of the open transaction: one for itself, and one for each savepoint, as SQLite has told */
 };
 
+/* A transaction over all tables of a database, of which a connection's views see one moment. It ends with the last of
+   them, or is committed. */
+typedef struct work {
+  pdt_work *raw;
+  view *views;
+  bool doomed; /* whether writes of a table had to be undone, and couldn't be */
+} work;
+
 /* What a transaction reads and writes. Cursors that outlive it keep it. */
-typedef struct view {
+struct view {
   pdt_txn *txn;   /* null once its writes were committed or given up */
+  work *work;     /* that has it; null of a store alone, and where txn is null */
+  view *beside;   /* the next one in the work */
   uint64_t edits; /* how many writes it has seen: cells that were read before one are stale */
   cursor *cursors;
-} view;
+};
 
 struct session {
   connection *owner;
   session *next;
-  char *schema, *name, *path; /* the path as it was declared */
-  shared *shared;             /* null once it was let go, and so is the store */
+  char *schema, *name, *place; /* the place as it was declared */
+  shared *shared;              /* null once it was let go, and so are the next two */
+  database *in;                /* null of a store alone too */
   pdt_store *store;
   size_t width, keys, text_room; /* text_room: bytes enough for the texts of any row */
   unsigned tables; /* SQLite's objects for it */
@@ -92,8 +102,10 @@ int fail(sqlite3_vtab *base, int code);
 int refuse_doomed(sqlite3_vtab *base, const session *s);
 
 /* Takes a view, if the transaction has none. A write outside a transaction has one of its own: cursors that are open
-   then read on in theirs. */
+   then read on in theirs. So it is of a database's tables, which are entered together. */
 int view_enter(sqlite3_vtab *base, bool write);
+/* The view has no writes any more. */
+void view_unwrite(session *s);
 /* Lets the session's view go. Cursors that stand in it read on, unless it has writes, which are no more to be seen. */
 void view_leave(session *s);
 void view_free(session *s, view *v);
@@ -119,12 +131,23 @@ void transaction_end(session *s);
    none. A schema that was read anew has its table's session still, with its commits; so has one whose DROP was rolled
    back. */
 session *session_open(connection *c, const char *schema, const char *name, const declaration *declared, bool create,
-                      char **error);
+                      failure *why);
 /* Takes a session from its connection. It lets its store go when no cursor reads in it, and goes itself when SQLite has
    no object for it. */
 void session_detach(session *s);
 /* Frees what a session that was taken from its connection needs no more. */
 void session_tidy(session *s);
+
+/* ---- works.c */
+
+/* Begins a view of a database's table: in the connection's work there, or in one that begins. One of SQLite's codes. */
+int work_enter(sqlite3_vtab *base, view *v);
+/* Takes a view from its work, which ends with the last one. */
+void work_leave(view *v);
+/* Undoes what a session has written and marked in a work that may go on. */
+void work_undo(session *s);
+/* Commits the tables of a work, but for what was written of one that was dropped. One of SQLite's codes. */
+int work_commit(sqlite3_vtab *base, work *w);
 
 /* ---- transactions.c: what SQLite tells of transactions and savepoints, through any of its objects */
 
@@ -263,7 +286,7 @@ int x_update(sqlite3_vtab *base, int argc, sqlite3_value **argv, sqlite3_int64 *
 session *session_named(connection *c, const char *name, char **why);
 /* Has SQLite make its object for a table, which it otherwise does when a statement first names it. One of its codes. */
 int touch(sqlite3 *db, const char *schema, const char *name);
-/* pdt_fold('t'), pdt_cut('t'), pdt_checkpoint('t', DIR). One of SQLite's codes. */
+/* pdt_fold('t'), pdt_cut('t'), pdt_checkpoint('t', DIR), pdt_drop(DIR, NAME). One of SQLite's codes. */
 int functions_make(connection *c);
 
 /* ---- layers.c */

@@ -231,6 +231,13 @@ static int update(sqlite3_vtab *base, const key *from, sqlite3_value **values) {
   return key_compare(s, from, &to) ? refuse(base, move_row(base, from, &to, bytes)) : set_row(base, from, values);
 }
 
+/* Refuses to write beside a table that the commit wouldn't be one with. */
+static int refuse_second(sqlite3_vtab *base, const session *writer) {
+  bool is_alone = !session_of(base)->in && !writer->in;
+  return say(base, SQLITE_ERROR, "pdt: a transaction writes %s, and this one has written %s",
+             is_alone ? "one table of pdt" : "tables of one database of pdt, or one table alone", writer->name);
+}
+
 /* A row is written: deleted where there is one value, inserted where the first is NULL, and changed otherwise. One
    that the same statement has taken away already is passed over, as in SQLite's own tables. */
 int x_update(sqlite3_vtab *base, int argc, sqlite3_value **argv, sqlite3_int64 *rowid) {
@@ -239,9 +246,7 @@ int x_update(sqlite3_vtab *base, int argc, sqlite3_value **argv, sqlite3_int64 *
   key k;
   if (s->doomed) return refuse_doomed(base, s);
   const session *writer = writer_of(s->owner);
-  if (writer && writer != s)
-    return say(base, SQLITE_ERROR, "pdt: a transaction writes one table of pdt, and this one has written %s",
-               writer->name);
+  if (writer && writer != s && (!s->in || s->in != writer->in)) return refuse_second(base, writer);
   int code = write_starts(base);
   if (code) return code;
   if (argc > 1 && sqlite3_value_type(argv[0]) == SQLITE_NULL) return insert(base, argv + 2);

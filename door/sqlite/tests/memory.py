@@ -25,6 +25,16 @@ BLOCKS = [  # each as one: all of its statements, or none
     ["BEGIN", "UPDATE t SET qty = 6 WHERE id = 30", "SAVEPOINT a", "DROP TABLE t", "ROLLBACK TO a",
      "DELETE FROM t WHERE id = 33", "COMMIT"],
 ]
+PAIR = "CREATE TABLE {} (id INTEGER PRIMARY KEY, qty INTEGER) WITHOUT ROWID"
+MAKE = "CREATE VIRTUAL TABLE {table} USING pdt(database='{folder}', table='{table}', sync=off, id INTEGER PRIMARY KEY, qty INTEGER)"
+PAIRS = [  # the same over both tables of a database
+    ["INSERT INTO t VALUES (1, 1), (2, 2), (3, 3)"],
+    ["BEGIN", "INSERT INTO u SELECT id + 10, qty FROM t", "UPDATE t SET qty = qty + 1", "COMMIT"],
+    ["SAVEPOINT a", "DELETE FROM t WHERE id = 1", "SAVEPOINT b", "DELETE FROM u", "ROLLBACK TO b",
+     "UPDATE u SET id = id + 100", "RELEASE a"],
+    ["BEGIN", "DELETE FROM u WHERE id = 112", "UPDATE t SET qty = 7 WHERE id = 2", "SAVEPOINT a", "DROP TABLE t",
+     "ROLLBACK TO a", "COMMIT"],
+]
 READS = ["SELECT * FROM t ORDER BY id DESC, slot DESC", "SELECT sum(qty) FROM t WHERE id > 20"]
 READS += ["SELECT qty FROM t WHERE id = 21 AND slot IN ('s', 't')"]
 READS += ["SELECT pdt_fold('t')", "SELECT * FROM pdt_layers('t')"]
@@ -72,6 +82,41 @@ def session(extension, folder, refuse, n):
     return left == 0
 
 
+def make(connection, create):
+    """Makes a table, at once or at a second time."""
+    try:
+        connection.run(create)
+    except Error as error:
+        assert error.code == NOMEM or error.text.endswith("memory was refused"), error
+        connection.run(create)
+
+
+def of_database(extension, folder, refuse, n):
+    """The same over two tables of a database, which is closed and opened behind it."""
+    virtual, plain = Connection(extension=extension), Connection(extension=None)
+    refuse(n)
+    for table in ("t", "u"):
+        make(virtual, MAKE.format(table=table, folder=folder))
+        plain.run(PAIR.format(table))
+    for block in PAIRS:
+        if is_done(virtual, block):
+            assert is_done(plain, block), block
+        is_done(virtual, ["SELECT * FROM t JOIN u ON u.id = t.id + 10"])
+    left = refuse(0)
+    for _ in range(2):
+        for table in ("t", "u"):
+            found, wanted = virtual.run(f"SELECT * FROM {table}"), plain.run(f"SELECT * FROM {table}")
+            assert found == wanted, f"allocation {n}: found {found}, wanted {wanted}"
+        virtual.close()
+        virtual = Connection(extension=extension)
+        for table in ("t", "u"):
+            virtual.run(MAKE.format(table=table, folder=folder))
+    virtual.close()
+    plain.close()
+    assert memory_used() == 0, f"allocation {n} leaves {memory_used()} bytes"
+    return left == 0
+
+
 def main():
     extension = Path(sys.argv[1]).resolve()
     refuse = ctypes.CDLL(str(extension)).refuse
@@ -82,7 +127,14 @@ def main():
         while session(extension, folder, refuse, n):
             n += 1
     assert n > 100, f"only {n} allocations"
-    print(f"{n - 1} allocations refused in turn")
+    last = 1
+    while True:
+        with tempfile.TemporaryDirectory() as folder:
+            if not of_database(extension, f"{folder}/shop", refuse, last):
+                break
+        last += 1
+    assert last > 100, f"only {last} allocations of a database"
+    print(f"{n - 1} allocations refused in turn, and {last - 1} of a database")
 
 
 if __name__ == "__main__":

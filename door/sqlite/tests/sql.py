@@ -95,6 +95,11 @@ class Connection:
         """Takes the connection's one trace callback away from whoever has it."""
         _lib.sqlite3_trace_v2(self._db, 0, None, None)
 
+    def refuse_commits(self, is_on):
+        """Sets a commit hook that refuses each commit of SQLite's own, or none."""
+        self._hook = ctypes.CFUNCTYPE(ctypes.c_int, ctypes.c_void_p)(lambda _: 1) if is_on else None
+        _lib.sqlite3_commit_hook(self._db, self._hook, None)
+
     def close(self):
         """Closes the connection, in which no statement is open."""
         if _lib.sqlite3_close(self._db):
