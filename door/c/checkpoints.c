@@ -62,8 +62,8 @@ pdt_code pdt_checkpoint_write(pdt_snapshot *snapshot, const char *folder) {
 
 int pdti_snapshot_image(pdt_snapshot *snapshot, handle *image) {
   pdt_store *store = snapshot->store;
-  if (store->database && pdti_wait_until_safe(store->database, snapshot->commits)) return PDT_FAILED;
-  int code = snapshot->table.at ? PDT_OK : (int)pdtr_snapshot_table(&snapshot->version, &snapshot->table);
+  int code = store->database ? pdti_wait_for_image(store->database, snapshot->commits) : PDT_OK;
+  if (!code && !snapshot->table.at) code = (int)pdtr_snapshot_table(&snapshot->version, &snapshot->table);
   return code ? code : (int)pdtr_table_image(&snapshot->table, image);
 }
 

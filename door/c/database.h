@@ -157,7 +157,6 @@ void pdti_remove_images(pdt_database *database);
 /* ---- folders.c: files by their names in the database's folder */
 
 int pdti_open_in(int dir, const char *name, int how);
-int pdti_write_to(int file, const void *bytes, size_t len);
 int pdti_sync(int file);      /* the data, and how long it is */
 int pdti_sync_in(int dir);    /* the names */
 int pdti_read_in(int dir, const char *name, buffer *into);
@@ -174,7 +173,7 @@ void pdti_stop_upkeep(pdt_database *database);
 
 /* ---- recovering.c */
 
-/* Makes the folder where it isn't there, and its name safe. */
+/* Makes the folder where it isn't there. */
 int pdti_make_folder(const char *folder);
 
 /* Locks it for this opening. */
@@ -190,9 +189,10 @@ int pdti_reserve_entry(pdt_database *database);
 int pdti_add_entry(pdt_database *database, pdti_table *entry);
 void pdti_free_entry(pdti_table *entry);
 
-/* Makes the store of a table one of a database's, once it has room for the numbers that its last commits have there. */
+/* Makes the store of a table one of a database's, once it has room for the numbers that its last commits have there. The number that it
+   begins with is of a commit that is safe. */
 int pdti_make_room_for_numbers(pdt_store *store);
-void pdti_attach(pdt_database *database, pdti_table *entry);
+void pdti_attach(pdt_database *database, pdti_table *entry, uint64_t number);
 
 /* Whether this thread has a commit prepared: then it has the lock, and waits for nobody who may wait for that. */
 bool pdti_has_prepared(pdt_database *database);

@@ -104,14 +104,14 @@ int pdti_make_room_for_numbers(pdt_store *store) {
   return store->made_by ? PDT_OK : PDT_NOMEM;
 }
 
-void pdti_attach(pdt_database *database, pdti_table *entry) {
+void pdti_attach(pdt_database *database, pdti_table *entry, uint64_t number) {
   pdt_store *store = entry->store;
   pdti_destroy_locks(&store->own_locks);
   store->locks = &database->locks;
   store->database = database;
   store->table = entry;
-  store->commits = database->newest;
-  pdti_number(store, pdtr_commits(&store->raw), database->newest);
+  store->commits = number;
+  pdti_number(store, pdtr_commits(&store->raw), number);
 }
 
 void pdti_number(pdt_store *store, uint64_t local, uint64_t number) {
@@ -194,6 +194,13 @@ pdt_code pdt_database_count(pdt_database *database, pdt_database_counts *counts)
   size_t size = counts->size;
   memset(counts, 0, size); /* what this version doesn't know is 0 */
   counts->size = size;
+  pthread_mutex_lock(&database->turn_lock); /* first: what is safe isn't newer than the newest then */
+  counts->safe = database->safe;
+  counts->batches = database->batches;
+  counts->syncs = database->syncs;
+  counts->journal_files = database->file_count;
+  for (size_t i = 0; i < database->file_count; i++) counts->journal_bytes += database->files[i].bytes;
+  pthread_mutex_unlock(&database->turn_lock);
   int held = pthread_mutex_lock(&database->locks.lock); /* by this thread, where a commit of its own is prepared */
   counts->commits = database->newest;
   counts->tables = database->count;
@@ -201,12 +208,5 @@ pdt_code pdt_database_count(pdt_database *database, pdt_database_counts *counts)
   counts->folds = database->folds;
   counts->images = database->images;
   counts->faults = database->faults;
-  pthread_mutex_lock(&database->turn_lock);
-  counts->safe = database->safe;
-  counts->batches = database->batches;
-  counts->syncs = database->syncs;
-  counts->journal_files = database->file_count;
-  for (size_t i = 0; i < database->file_count; i++) counts->journal_bytes += database->files[i].bytes;
-  pthread_mutex_unlock(&database->turn_lock);
   return PDT_OK;
 }

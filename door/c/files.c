@@ -36,18 +36,6 @@ static int sync_file(int file) {
   return bad;
 }
 
-static int write_all(int file, const uint8_t *bytes, size_t len) {
-  while (len) {
-    ssize_t done = write(file, bytes, len);
-    if (done < 0 && errno == EINTR) continue;
-    if (!done) errno = EIO;
-    if (done <= 0) return PDT_IO;
-    bytes += done;
-    len -= (size_t)done;
-  }
-  return PDT_OK;
-}
-
 /* Closes a file whose bytes stand written, synced first. A close that a signal cuts off has closed it. */
 static int end_file(int file, int code) {
   if (!code && sync_file(file)) code = PDT_IO;
@@ -71,7 +59,7 @@ static int write_header(const pdt_store *store, const char *folder, int *made) {
   char text[HEADER_BYTES];
   size_t len = pdti_header(store, text);
   int file = make_file(folder, -1, made);
-  return file < 0 ? -file : end_file(file, write_all(file, (const uint8_t *)text, len));
+  return file < 0 ? -file : end_file(file, pdti_write_to(file, text, len));
 }
 
 bool pdti_hand_column(handle *image, size_t column, uint8_t *chunk, pdt_write write, void *context) {
@@ -87,7 +75,7 @@ bool pdti_hand_column(handle *image, size_t column, uint8_t *chunk, pdt_write wr
 
 static int append(void *file, size_t column, const uint8_t *bytes, size_t len) {
   (void)column;
-  return write_all(*(const int *)file, bytes, len);
+  return pdti_write_to(*(const int *)file, bytes, len);
 }
 
 static int write_column(handle *image, const char *folder, size_t column, uint8_t *chunk, int *made) {

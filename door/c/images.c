@@ -81,7 +81,7 @@ void pdti_remove_image(pdt_database *database, uint64_t table, uint64_t folder) 
     char one[NAME];
     file_of(one, column);
     snprintf(file, sizeof file, "%s/%s", name, one);
-    if (unlinkat(database->dir, file, 0) && errno == ENOENT && column >= 0) break; /* they were made in their order */
+    unlinkat(database->dir, file, 0); /* a crash may have left any of them */
   }
   unlinkat(database->dir, name, AT_REMOVEDIR);
   errno = why;

@@ -275,6 +275,11 @@ uint64_t pdti_seen(const pdt_database *database);
 /* Waits until the device has a commit. */
 int pdti_wait_until_safe(pdt_database *database, uint64_t number);
 
+/* Waits until what a transaction saw is as safe as the database's sync says; and until the device has what an image is made of: else
+   PDT_FAILED. PDT_MISUSE where that isn't yet, and this thread has a commit prepared: whoever writes waits for the lock. */
+int pdti_wait_for_seen(pdt_database *database, uint64_t number);
+int pdti_wait_for_image(pdt_database *database, uint64_t number);
+
 /* ---- slices: one of nothing still has an address that may be read */
 
 extern const uint8_t pdti_no_bytes[1];
@@ -299,8 +304,9 @@ int pdti_adopt(pdt_store *store, const pdt_options *options, pdt_store **out);
 /* Lets go of a store that nobody uses. */
 void pdti_free_store(pdt_store *store);
 
-/* Whether a store is in use. Under the lock. */
+/* Whether a store is in use. Under the lock; the second with fresh_lock held too. */
 bool pdti_is_used(pdt_store *store);
+bool pdti_is_used_now(const pdt_store *store);
 
 /* The header of a store: a record that names the columns, each in quotes, since a name may have commas, quotes and ends of lines. */
 enum { HEADER_BYTES = PDT_MAX_COLUMNS * (2 * PDT_MAX_NAME + 16) };
@@ -315,6 +321,9 @@ int pdti_width_of(const uint8_t *header, size_t len, size_t *width);
 /* ---- files */
 
 enum { CHUNK = 1 << 20 };
+
+/* Writes all of the bytes, or PDT_IO. */
+int pdti_write_to(int file, const void *bytes, size_t len);
 
 /* The bytes of a checkpoint that has begun, once a crash can't take its commits away: of a database PDT_FAILED where that is never. */
 int pdti_snapshot_image(pdt_snapshot *snapshot, handle *image);

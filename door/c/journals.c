@@ -128,6 +128,9 @@ static int write_header(pdt_database *database, uint64_t base) {
   return pdti_write_to(database->file, header, sizeof header);
 }
 
+/* The last file of the journal, with turn_lock held: the upkeep takes away those before it without the turn, and then it moves. */
+static journal_file *last_file(pdt_database *database) { return &database->files[database->file_count - 1]; }
+
 static int write_frames(pdt_database *database) {
   buffer *frames = &database->writing;
   if (!frames->len) return PDT_OK;
@@ -141,12 +144,14 @@ static int write_frames(pdt_database *database) {
     close(next);
     return PDT_IO;
   }
-  journal_file *last = &database->files[database->file_count - 1];
-  bool is_new = !last->bytes;
+  pthread_mutex_lock(&database->turn_lock);
+  bool is_new = !last_file(database)->bytes;
+  pthread_mutex_unlock(&database->turn_lock);
   if (is_new && write_header(database, first.number - 1)) return PDT_IO;
   make_heads(database);
   if (pdti_write_to(database->file, frames->at, frames->len)) return PDT_IO;
   pthread_mutex_lock(&database->turn_lock);
+  journal_file *last = last_file(database);
   if (is_new) *last = (journal_file){last->seq, first.number - 1, HEADER};
   last->bytes += frames->len;
   pthread_mutex_unlock(&database->turn_lock);
@@ -253,12 +258,33 @@ int pdti_wait_until_safe(pdt_database *database, uint64_t number) {
 }
 
 int pdti_wait_for(pdt_database *database, uint64_t number) {
-  if (hides(database) && number <= database->published) return PDT_OK; /* with no lock: what a reader saw */
   switch (database->options.sync) {
     case PDT_SYNC_FULL: return pdti_wait_until_safe(database, number);
     case PDT_SYNC_NORMAL: return wait_turns(database, &database->written, number, false);
     default: return PDT_OK;
   }
+}
+
+/* Whether nothing is to be waited for before a commit is as safe as the database's sync says, or until the device has it. */
+static bool is_there(pdt_database *database, uint64_t number, bool is_safe) {
+  if (!is_safe && database->options.sync == PDT_SYNC_OFF) return true;
+  if (hides(database) && number <= database->published) return true; /* with no lock: what a reader saw */
+  is_safe |= database->options.sync == PDT_SYNC_FULL;
+  pthread_mutex_lock(&database->turn_lock);
+  bool is_reached = number <= (is_safe ? database->safe : database->written);
+  pthread_mutex_unlock(&database->turn_lock);
+  return is_reached;
+}
+
+int pdti_wait_for_seen(pdt_database *database, uint64_t number) {
+  if (is_there(database, number, false)) return PDT_OK;
+  return pdti_has_prepared(database) ? PDT_MISUSE : pdti_wait_for(database, number);
+}
+
+int pdti_wait_for_image(pdt_database *database, uint64_t number) {
+  if (is_there(database, number, true)) return PDT_OK;
+  if (pdti_has_prepared(database)) return PDT_MISUSE;
+  return pdti_wait_until_safe(database, number) ? PDT_FAILED : PDT_OK;
 }
 
 int pdti_flush(pdt_database *database, bool syncs) {

@@ -319,7 +319,8 @@ void pdt_unpin(pdt_pinned *pin);
    From PDT_OK on the store's lock is kept: other threads' calls on the store wait, and their commits; begins and pins don't, and are
    of the newest table as it was. This thread's are PDT_MISUSE but for begins and pins, the ends of transactions that change nothing,
    pdt_size, pdt_count, pdt_wait, pdt_abort and pdt_checkpoint_end, and so are writes and marks of the transaction; reads of
-   transactions are not.
+   transactions are not. Over a table of a database the end of a transaction that changes nothing is PDT_MISUSE too while what it saw
+   isn't as safe as enum pdt_sync says, but by pdt_abort: it stays open then.
    Of a transaction that changes nothing no lock is kept: pdt_install ends it, and it takes no number. */
 pdt_code pdt_prepare(pdt_txn *txn, uint64_t *commits);
 
@@ -435,8 +436,8 @@ typedef struct pdt_entry {
   uint32_t kind;
 } pdt_entry;
 
-/* The Read-PDT and the Write-PDT of the newest table, both of one moment. PDT_NOMEM, PDT_MISUSE: both are null then.
-   Takes memory for each entry, and copies no row; commits wait for it. */
+/* The Read-PDT and the Write-PDT of the newest table, both of one moment; of a database's table also where it isn't safe yet.
+   PDT_NOMEM, PDT_MISUSE: both are null then. Takes memory for each entry, and copies no row; commits wait for it. */
 pdt_code pdt_layers(pdt_store *store, pdt_layer **read, pdt_layer **write);
 
 /* The entries of a transaction's own writes. PDT_NOMEM, PDT_MISUSE: *layer is null then. */
@@ -505,7 +506,8 @@ typedef struct pdt_report {
 
 /* Opens the database in a folder, which is made where there is none: not those above it. *report, which may be null, says what was
    found. PDT_LOCKED; PDT_ROT, PDT_GAP, PDT_MISFIT, PDT_BAD_STORE, PDT_NO_IMAGE: report->fault and report->file say of what;
-   PDT_IO, PDT_NOMEM, PDT_MISUSE: *database is null then, and no file of it has changed.
+   PDT_IO, PDT_NOMEM, PDT_MISUSE: *database is null then, and no file of it has changed, but that what is torn may be cut off at PDT_IO
+   and PDT_NOMEM.
    It takes memory for all tables and for the journal. */
 pdt_code pdt_database_open(const char *folder, const pdt_database_options *options, pdt_database **database, pdt_report *report);
 
@@ -518,7 +520,8 @@ pdt_code pdt_database_close(pdt_database *database);
    an empty one. It is on the device when this returns, with its options, which it keeps. It lasts until it is dropped, and the
    store until the database is closed.
    A name has 1 to 64 bytes of UTF-8, none of them below 32 or 127: else PDT_SHAPE. PDT_EXISTS where there is a table of the name,
-   PDT_IO, PDT_FAILED, PDT_NOMEM, PDT_MISUSE, and those of the openings: *store is null then, and there is no such table. */
+   PDT_IO, PDT_FAILED, PDT_NOMEM, PDT_MISUSE, and those of the openings: *store is null then, and there is no such table. (Where the
+   device fails twice over its making, a later opening may find it, as it was made.) */
 pdt_code pdt_table_create(pdt_database *database, const char *name, const pdt_column *columns, size_t count, size_t key,
                           const pdt_options *options, pdt_place *place, pdt_store **store);
 pdt_code pdt_table_create_csv(pdt_database *database, const char *name, const void *csv, size_t bytes, const pdt_options *options,

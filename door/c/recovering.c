@@ -16,11 +16,12 @@ static int about(pdt_report *report, const char *file, int code) {
 /* ---- the folder */
 
 int pdti_make_folder(const char *folder) {
-  if (mkdir(folder, 0777)) return errno == EEXIST ? PDT_OK : PDT_IO;
-  char parent[4096];
-  int len = snprintf(parent, sizeof parent, "%s/..", folder);
-  if (len < 0 || len >= (int)sizeof parent) return PDT_MISUSE;
-  int dir = pdti_open_in(AT_FDCWD, parent, O_RDONLY | O_DIRECTORY);
+  return mkdir(folder, 0777) && errno != EEXIST ? PDT_IO : PDT_OK;
+}
+
+/* Makes the name of the folder safe, whoever made it. */
+static int keep_folder(const pdt_database *database) {
+  int dir = pdti_open_in(database->dir, "..", O_RDONLY | O_DIRECTORY);
   int code = dir < 0 || pdti_sync_in(dir) ? PDT_IO : PDT_OK;
   if (code && (errno == EACCES || errno == EPERM)) code = PDT_OK; /* it is another's, who keeps it */
   int why = errno;
@@ -79,8 +80,9 @@ static int make_journal(pdt_database *database, uint64_t seq) {
 /* Makes the manifest of a database in a folder that has none, after its journal. Where images or frames are there, it is lost. */
 static int make_new(pdt_database *database) {
   leftovers found = {database->dir, 0};
-  if (pdti_names(database->dir, "image-", count_image, &found)) return PDT_IO;
-  if (pdti_names(database->dir, "journal-", count_journal, &found)) return PDT_IO;
+  int code = pdti_names(database->dir, "image-", count_image, &found);
+  if (!code) code = pdti_names(database->dir, "journal-", count_journal, &found);
+  if (code) return code;
   if (found.count) return PDT_GAP;
   uint8_t header[HEADER];
   do { /* a salt of which there are no frames is drawn once in 2^32 times */
@@ -89,7 +91,7 @@ static int make_new(pdt_database *database) {
   database->next_table = database->next_folder = 1;
   database->files[0] = (journal_file){.seq = 1};
   database->file_count = 1;
-  return make_journal(database, 1) ? PDT_IO : pdti_write_manifest(database, 0, NULL);
+  return keep_folder(database) || make_journal(database, 1) ? PDT_IO : pdti_write_manifest(database, 0, NULL);
 }
 
 /* ---- the journal */
@@ -149,7 +151,8 @@ static int read_file(journal_read *read, size_t at, char *name) {
 static int read_journal(journal_read *read, pdt_report *report) {
   pdt_database *database = read->database;
   database->file_count = 0;
-  if (pdti_names(database->dir, "journal-", list_file, read)) return PDT_IO;
+  int listed = pdti_names(database->dir, "journal-", list_file, read);
+  if (listed) return listed;
   if (read->is_full || !database->file_count) return about(report, "journal", PDT_GAP);
   for (size_t i = 0; i < database->file_count; i++) {
     char name[64];
@@ -257,6 +260,8 @@ static int recover(pdt_database *database, journal_read *read, pdt_report *repor
     read->first = 1;
   }
   if (code) return about(report, "manifest", code);
+  /* what a process left that was killed may have names that aren't safe: nothing is relied on, or taken away, before they are */
+  if (pdti_sync_in(database->dir)) return PDT_IO;
   code = read_journal(read, report);
   reopened found = {0, number, 0};
   if (!code) code = open_tables(read, number, &found, report);
@@ -267,7 +272,7 @@ static int recover(pdt_database *database, journal_read *read, pdt_report *repor
   database->newest = database->written = database->safe = found.newest;
   database->published = found.newest;
   for (size_t i = 0; i < database->count && !code; i++) code = pdti_make_room_for_numbers(database->tables[i]->store);
-  for (size_t i = 0; i < database->count && !code; i++) pdti_attach(database, database->tables[i]);
+  for (size_t i = 0; i < database->count && !code; i++) pdti_attach(database, database->tables[i], found.newest);
   return code;
 }
 

@@ -143,9 +143,11 @@ void pdti_drop(replaced versions) {
 
 /* ---- what a store has */
 
+bool pdti_is_used_now(const pdt_store *store) { return store->open || store->snapshots || store->pins || store->waiting; }
+
 bool pdti_is_used(pdt_store *store) {
   pthread_mutex_lock(&store->locks->fresh_lock);
-  bool is_used = store->open || store->snapshots || store->pins || store->waiting;
+  bool is_used = pdti_is_used_now(store);
   pthread_mutex_unlock(&store->locks->fresh_lock);
   return is_used;
 }

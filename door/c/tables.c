@@ -92,6 +92,13 @@ static int write_first(pdt_database *database, pdti_table *entry) {
   return code;
 }
 
+/* Writes the manifest without a table that couldn't be made, and that the one before may name. */
+static void without_table(pdt_database *database, uint64_t number, const pdti_table *entry) {
+  int why = errno;
+  if (!pdti_write_manifest(database, number, NULL)) pdti_remove_image(database, entry->number, entry->image.folder);
+  errno = why;
+}
+
 /* Makes a store a table of a database: its image first, then the manifest, and then it is there. With files_lock held. */
 static int add_table(pdt_database *database, pdti_table *entry) {
   uint64_t number = 0;
@@ -106,10 +113,13 @@ static int add_table(pdt_database *database, pdti_table *entry) {
   lock_tables(database);
   code = pdti_reserve_entry(database);
   unlock_tables(database);
-  if (!code) code = pdti_write_manifest(database, number, entry);
+  if (!code) {
+    code = pdti_write_manifest(database, number, entry);
+    if (code) without_table(database, number, entry);
+  }
   if (code) return code;
   lock_tables(database);
-  pdti_attach(database, entry);
+  pdti_attach(database, entry, number);
   database->tables[database->count++] = entry; /* after the last one, since its number is the greatest */
   unlock_tables(database);
   return PDT_OK;
@@ -165,13 +175,16 @@ pdt_code pdt_table_create_csv(pdt_database *database, const char *name, const vo
   return code ? code : create(database, name, options, store, out);
 }
 
-/* Takes an entry out of the list, or puts it back where it stood. */
-static void take_out(pdt_database *database, size_t at) {
+/* Takes an entry out of the list, where nothing has begun over it: no work begins meanwhile. */
+static int take_out(pdt_database *database, size_t at) {
   lock_tables(database);
-  memmove(database->tables + at, database->tables + at + 1, (--database->count - at) * sizeof *database->tables);
+  bool is_used = pdti_is_used_now(database->tables[at]->store);
+  if (!is_used) memmove(database->tables + at, database->tables + at + 1, (--database->count - at) * sizeof *database->tables);
   unlock_tables(database);
+  return is_used ? PDT_MISUSE : PDT_OK;
 }
 
+/* Puts it back where it stood. */
 static void put_back(pdt_database *database, size_t at, pdti_table *entry) {
   lock_tables(database);
   memmove(database->tables + at + 1, database->tables + at, (database->count++ - at) * sizeof *database->tables);
@@ -189,8 +202,8 @@ static int drop(pdt_database *database, const char *name) {
   uint64_t number = 0;
   int code = safe_number(database, &number);
   if (code) return code;
-  if (pdti_is_used(entry->store)) return PDT_MISUSE;
-  take_out(database, at);
+  code = take_out(database, at);
+  if (code) return code;
   code = pdti_write_manifest(database, number, NULL);
   if (code) {
     int why = errno;

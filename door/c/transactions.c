@@ -257,11 +257,12 @@ static bool is_prepared_here(const pdt_txn *txn) {
 
 pdt_code pdt_install(pdt_txn *txn) {
   if (!is_prepared_here(txn)) return PDT_MISUSE;
-  if (!txn->decision.at) {
-    pdti_end(txn);
-    return PDT_OK;
-  }
   pdt_store *store = txn->store;
+  if (!txn->decision.at) {
+    int code = store->database ? pdti_wait_for_seen(store->database, txn->begun) : PDT_OK; /* as a commit of nothing does */
+    if (code != PDT_MISUSE) pdti_end(txn);
+    return code;
+  }
   if (store->database) return pdti_install_in(store->database, txn);
   uint64_t number = 0;
   int code = (int)pdtr_install(&store->raw, &txn->raw, &txn->decision, &number);

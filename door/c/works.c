@@ -99,7 +99,8 @@ static int commit_all(pdt_database *database, pdt_txn *const *txns, size_t count
 int pdti_commit_in(pdt_database *database, pdt_txn *txn, uint64_t *commits) {
   if (!pdti_is_ours(database)) return PDT_MISUSE;
   if (pdti_is_idle(txn)) {
-    int code = pdti_wait_for(database, txn->begun); /* what it saw may not be safe yet, if reads are early */
+    int code = pdti_wait_for_seen(database, txn->begun); /* it may not be safe yet, if reads are early */
+    if (code == PDT_MISUSE) return code;
     if (commits) *commits = txn->begun;
     pdti_end(txn);
     return code;
@@ -187,13 +188,14 @@ static pdt_work *new_work(pdt_database *database, size_t count) {
 }
 
 /* Takes the version of each table that begins take, all of them at one moment. PDT_MISSING where *hidden has none, since malloc has
-   refused to share it. With fresh_lock held. */
+   refused to share it: it is open then, so that nobody drops it. With fresh_lock held. */
 static int take_versions(pdt_work *work, pdt_store **hidden) {
   pdt_database *database = work->database;
   for (size_t i = 0; i < database->count; i++) {
     pdt_store *store = database->tables[i]->store;
     if (!store->fresh.at) {
       *hidden = store;
+      store->open++;
       return PDT_MISSING;
     }
     part *one = &work->parts[work->count];
@@ -207,11 +209,12 @@ static int take_versions(pdt_work *work, pdt_store **hidden) {
   return PDT_OK;
 }
 
-/* Has a version shared again: a transaction that begins does so. */
+/* Has a version shared again: a transaction that begins does so. The store is open no longer. */
 static int share_again(pdt_store *store) {
   pdt_txn *txn = NULL;
   int code = pdt_begin(store, &txn);
   pdt_abort(txn);
+  store->open--;
   return code;
 }
 
@@ -289,7 +292,8 @@ pdt_code pdt_work_commit(pdt_work *work, uint64_t *commits) {
   if (!work || !pdti_is_ours(work->database)) return PDT_MISUSE;
   size_t count = gather(work);
   if (!count) {
-    int code = pdti_wait_for(work->database, work->begun); /* what it saw may not be safe yet, if reads are early */
+    int code = pdti_wait_for_seen(work->database, work->begun); /* it may not be safe yet, if reads are early */
+    if (code == PDT_MISUSE) return code;
     if (commits) *commits = work->begun;
     end_work(work);
     return code;

@@ -1,15 +1,18 @@
 /* Databases: what is made, kept, found again and refused. */
-#define _POSIX_C_SOURCE 200809L
+#define _DEFAULT_SOURCE
 #include <dirent.h>
 #include <fcntl.h>
 #include <pdt.h>
 #include <pthread.h>
+#include <sched.h>
 #include <signal.h>
+#include <stdbool.h>
 #include <stdio.h>
 #include <stdlib.h>
 #include <string.h>
 #include <sys/stat.h>
 #include <sys/wait.h>
+#include <time.h>
 #include <unistd.h>
 
 static int failures;
@@ -177,6 +180,16 @@ static void refuses(void) {
   set(txn, 10, 5); /* it is there still */
   pdt_work_abort(work);
   is("nothing of it", 1, qty(items, 10));
+  pdt_pinned *pin = NULL;
+  is("pin", PDT_OK, pdt_pin(items, NULL, &pin));
+  is("a kept pin", PDT_MISUSE, pdt_table_drop(database, "items"));
+  is("of its table", PDT_MISUSE, pdt_database_close(database));
+  pdt_unpin(pin);
+  pdt_snapshot *snapshot = NULL;
+  is("checkpoint", PDT_OK, pdt_checkpoint_begin(items, NULL, &snapshot));
+  is("one that has begun", PDT_MISUSE, pdt_table_drop(database, "items"));
+  is("of its table", PDT_MISUSE, pdt_database_close(database));
+  pdt_checkpoint_end(snapshot);
   is("no such table", PDT_MISSING, pdt_table_drop(database, "nothing"));
   is("a drop", PDT_OK, pdt_table_drop(database, "items"));
   is("is gone", PDT_MISSING, pdt_table_open(database, "items", &store));
@@ -269,6 +282,8 @@ static void works(void) {
   is("prepare again", PDT_OK, pdt_prepare(txn, &number));
   is("install", PDT_OK, pdt_install(txn));
   is("the next", 5, (long long)committed(a, 10, 0));
+  is("an idle work", PDT_OK, pdt_work_commit(working(database), &number));
+  is("the number that it saw", 5, (long long)number);
   closed(database);
 
   database = opened("works");
@@ -332,6 +347,97 @@ static void keeps(void) {
   is("the cold one", -10, qty(table(database, "cold"), 10));
   closed(database);
   options = (pdt_database_options){.size = sizeof options, .no_upkeep = true};
+}
+
+/* What was answered before the device had it is there soon after: the thread sees to it. */
+static void syncs_late(int sync) {
+  options.sync = sync;
+  options.no_upkeep = false;
+  pdt_database *database = opened(sync == PDT_SYNC_OFF ? "off" : "normal");
+  committed(created(database, "items"), 10, 1);
+  int tries = 0;
+  while (counted(database).safe < 1 && tries++ < 100) usleep(100000);
+  is("safe", 1, (long long)counted(database).safe);
+  closed(database);
+  options = (pdt_database_options){.size = sizeof options, .no_upkeep = true};
+}
+
+/* A table that no commit changes keeps no file of the journal, however short that is. */
+static void keeps_no_idle(void) {
+  options.fold_entries = 8;
+  options.checkpoint_entries = 20;
+  pdt_database *database = opened("idle");
+  pdt_store *hot = created(database, "hot"), *idle = created(database, "idle");
+  for (int64_t i = 0; i < 200; i++) {
+    pdt_txn *txn = begun(hot);
+    is("insert", PDT_OK, pdt_insert(txn, (int64_t[]){1000 + i, i}, NULL, 0));
+    is("commit", PDT_OK, pdt_commit(txn, NULL));
+    if (i % 5 == 4) is("upkeep", PDT_OK, pdt_upkeep(database));
+  }
+  is("few files", 1, counted(database).journal_files <= 3);
+  pdt_counts counts = {.size = sizeof counts};
+  is("count", PDT_OK, pdt_count(idle, &counts));
+  is("and no image", 0, (long long)counts.checkpoints);
+  closed(database);
+  options = (pdt_database_options){.size = sizeof options, .no_upkeep = true};
+}
+
+/* What a crash has left, whichever of its files, is taken away. */
+static void tidies(void) {
+  pdt_database *database = opened("tidies");
+  committed(created(database, "items"), 10, 5);
+  closed(database);
+  static const char *const left[] = {"tidies/image-1-77", "tidies/image-9-2"};
+  for (int i = 0; i < 2; i++) is("mkdir", 0, mkdir(folder_of(left[i]), 0777));
+  static const char *const files[] = {"tidies/image-1-77/column-1.pdt", "tidies/image-1-77/column-31.pdt", "tidies/journal-0"};
+  for (int i = 0; i < 3; i++) {
+    FILE *file = fopen(folder_of(files[i]), "wb");
+    if (!file || fputs("left", file) < 0 || fclose(file)) is("a file", 0, -1);
+  }
+  database = opened("tidies");
+  is("its image alone", 1, names_with("tidies", "image-"));
+  is("its journal alone", 1, names_with("tidies", "journal-"));
+  is("what was committed", 5, qty(table(database, "items"), 10));
+  closed(database);
+}
+
+/* A table keeps its options. */
+static void keeps_options(void) {
+  static const char three[] = "id:int:key,a:int,b:int\n1,0,0\n2,0,0\n3,0,0\n";
+  static const pdt_options asked = {.size = sizeof asked, .recent = 2, .row_limit = 4, .by_row = true};
+  pdt_database *database = opened("options");
+  pdt_store *store = NULL;
+  is("create", PDT_OK, pdt_table_create_csv(database, "t", three, sizeof three - 1, &asked, NULL, &store));
+  for (int opening = 0; opening < 3; opening++) {
+    int64_t key = 1;
+    pdt_txn *one = begun(store), *two = begun(store), *old = begun(store), *full = begun(store);
+    is("a", PDT_OK, pdt_set(one, &key, NULL, 0, 1, opening + 5, NULL));
+    is("b", PDT_OK, pdt_set(two, &key, NULL, 0, 2, opening + 5, NULL));
+    is("the first", PDT_OK, pdt_commit(one, NULL));
+    is("conflicts by row", PDT_CONFLICT, pdt_commit(two, NULL));
+    is("insert", PDT_OK, pdt_insert(full, (int64_t[]){8, 0, 0}, NULL, 0));
+    is("the limit of rows", PDT_FULL, pdt_insert(full, (int64_t[]){9, 0, 0}, NULL, 0));
+    pdt_abort(full);
+    key = 3;
+    is("set", PDT_OK, pdt_set(old, &key, NULL, 0, 1, opening + 5, NULL));
+    for (key = 1; key <= 2; key++) {
+      one = begun(store);
+      is("set", PDT_OK, pdt_set(one, &key, NULL, 0, 2, opening + 10, NULL));
+      is("commit", PDT_OK, pdt_commit(one, NULL));
+    }
+    is("the last two are kept", PDT_TOO_OLD, pdt_commit(old, NULL));
+    if (opening == 1) {
+      options.checkpoint_entries = 1;
+      closed(database);
+      database = opened("options");
+      is("upkeep", PDT_OK, pdt_upkeep(database)); /* a manifest that is written over what was read */
+    }
+    closed(database);
+    options.checkpoint_entries = 0;
+    database = opened("options");
+    store = table(database, "t");
+  }
+  closed(database);
 }
 
 /* ---- one process */
@@ -538,6 +644,45 @@ static void threads(int sync, bool has_upkeep) {
   options = (pdt_database_options){.size = sizeof options, .no_upkeep = true};
 }
 
+/* Works begin and last while tables are made and dropped: a table that one of them has isn't dropped. */
+enum { DROPS = 12 };
+static _Atomic bool dropping;
+static void *worker(void *context) {
+  (void)context;
+  while (dropping) {
+    pdt_work *work = working(bank);
+    nanosleep(&(struct timespec){0, 30000000}, NULL); /* longer than a drop takes, once it isn't refused */
+    pdt_work_abort(work);
+    nanosleep(&(struct timespec){0, 3000000}, NULL);
+  }
+  return NULL;
+}
+static void *setter(void *store) { /* whoever has the turn keeps a drop waiting */
+  for (int64_t qty = 0; dropping; qty++) {
+    pdt_txn *txn = begun(store);
+    set(txn, 10, qty);
+    is("commit", PDT_OK, pdt_commit(txn, NULL));
+  }
+  return NULL;
+}
+static void drops(void) {
+  bank = opened("drops");
+  pdt_store *kept = created(bank, "kept");
+  dropping = true;
+  pthread_t all[3];
+  for (int i = 0; i < 2; i++) is("thread", 0, pthread_create(&all[i], NULL, worker, NULL));
+  is("thread", 0, pthread_create(&all[2], NULL, setter, kept));
+  for (int i = 0; i < DROPS; i++) {
+    created(bank, "dropped");
+    int code;
+    while ((code = pdt_table_drop(bank, "dropped")) == PDT_MISUSE) sched_yield();
+    is("drop", PDT_OK, code);
+  }
+  dropping = false;
+  for (int i = 0; i < 3; i++) pthread_join(all[i], NULL);
+  closed(bank);
+}
+
 int main(int argc, char **argv) {
   if (argc < 2) return 2;
   room = argv[1];
@@ -545,12 +690,18 @@ int main(int argc, char **argv) {
   refuses();
   works();
   keeps();
+  syncs_late(PDT_SYNC_NORMAL);
+  syncs_late(PDT_SYNC_OFF);
+  keeps_no_idle();
+  tidies();
+  keeps_options();
   locks();
   is_told();
   threads(PDT_SYNC_FULL, true);
   threads(PDT_SYNC_FULL, false);
   threads(PDT_SYNC_NORMAL, true);
   threads(PDT_SYNC_OFF, true);
+  drops();
   is("some copies are opened", 1, copied > 0);
   return failures ? 1 : 0;
 }

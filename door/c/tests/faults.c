@@ -93,8 +93,10 @@ static int set(pdt_store *store, int64_t key, int64_t qty, uint64_t *number) {
   return code;
 }
 
-/* Reads go on whatever has failed, and see no commit that wasn't answered. */
-static void reads(pdt_store *store, uint64_t answered) {
+/* Reads go on whatever has failed, and see no commit that wasn't answered; early ones see it, and are told so when they end. */
+static void reads(pdt_store *store, uint64_t answered, uint64_t unsure) {
+  bool is_early = options.early_reads && unsure > answered;
+  if (is_early) answered = unsure;
   pdt_txn *txn = NULL;
   is("a begin", PDT_OK, pdt_begin(store, &txn));
   uint64_t number = 99;
@@ -103,7 +105,7 @@ static void reads(pdt_store *store, uint64_t answered) {
   int64_t row[2], key = (int64_t)(answered % KEYS);
   is("a get", PDT_OK, pdt_get(txn, &key, NULL, 0, row, NULL, 0, NULL));
   is("the newest", (long long)answered, row[1]);
-  is("a commit of nothing", PDT_OK, pdt_commit(txn, NULL));
+  is("a commit of nothing", is_early ? PDT_UNSURE : PDT_OK, pdt_commit(txn, NULL));
 }
 
 static void run_in(pdt_database *database, told *said) {
@@ -124,13 +126,13 @@ static void run_in(pdt_database *database, told *said) {
     else if (fallen > fell) is("over a failure", PDT_UNSURE, code);
     if (code == PDT_OK) is("number", (long long)wanted, (long long)number), said->answered = number;
     else if (!has_failed) is("a commit", PDT_UNSURE, code), said->unsure = wanted, has_failed = true;
-    reads(store, said->answered);
+    reads(store, said->answered, said->unsure);
     if (i % 3 == 2) {
       code = pdt_upkeep(database);
       if (has_failed) is("an upkeep after a failure", PDT_FAILED, code);
       else if (code) is("an upkeep", 1, code == PDT_IO || code == PDT_FAILED || code == PDT_UNSURE);
       if (code == PDT_FAILED) has_failed = true;
-      reads(store, said->answered);
+      reads(store, said->answered, said->unsure);
     }
   }
 }
@@ -160,7 +162,7 @@ static void look(const char *folder, const told *said) {
   pdt_store *store = NULL;
   int code = pdt_table_open(database, "items", &store);
   if (said->is_made) is("the table", PDT_OK, code);
-  if (!code) reads(store, report.commits);
+  if (!code) reads(store, report.commits, 0);
   is("close", PDT_OK, pdt_database_close(database));
 }
 
@@ -182,12 +184,13 @@ int main(int argc, char **argv) {
   look(folder, &none);
   long all = calls;
   int runs = 0;
-  for (int way = 0; way < 4 && failures < 10; way++)
+  for (int way = 0; way < 8 && failures < 10; way++)
     for (long at = way % every; at < all && failures < 10; at += every, runs++) {
       remove_all(folder);
       told said = {0, 0, false};
       int before = failures;
       calls = 0, failed = NULL, fails_at = at, stays = way & 1, with = way & 2 ? ENOSPC : EIO;
+      options.early_reads = way & 4;
       run(folder, &said);
       if (at % 2) run(folder, &said); /* opened while it fails, or afterwards */
       fails_at = -1;

@@ -1,35 +1,13 @@
 /* Each allocation of an opening over columns, of checkpoints in one part and in two, and of recoveries is refused once, in turn:
    the call says so, made again it does its work, and no memory stays. Linked with --wrap of malloc, calloc, realloc and free. */
 #define _POSIX_C_SOURCE 200809L
+#include "refusing.h"
+
 #include <pdt.h>
 #include <stdio.h>
 #include <stdlib.h>
 #include <string.h>
 #include <unistd.h>
-
-static long left = -1;
-static bool refused;
-void *__real_malloc(size_t);
-void *__real_calloc(size_t, size_t);
-void *__real_realloc(void *, size_t);
-void __real_free(void *);
-static bool refuse(void) {
-  if (left != 0) return left > 0 ? (left--, false) : false;
-  left = -1;
-  return refused = true;
-}
-static long blocks; /* how many are there */
-static void *counted(void *at) { return blocks += at != NULL, at; }
-void *__wrap_malloc(size_t len) { return counted(refuse() ? NULL : __real_malloc(len)); }
-void *__wrap_calloc(size_t count, size_t len) { return counted(refuse() ? NULL : __real_calloc(count, len)); }
-void *__wrap_realloc(void *at, size_t len) {
-  void *now = refuse() ? NULL : __real_realloc(at, len);
-  return at ? now : counted(now);
-}
-void __wrap_free(void *at) {
-  blocks -= at != NULL;
-  __real_free(at);
-}
 
 /* Makes a call, and once more where memory was refused. */
 #define CALL(call)                                                                   \

@@ -1,33 +1,11 @@
 /* Each of the allocations of a run is refused once, in turn: the call that wanted it says so, the same call then does its
    work, the last sum is right each time, and no memory stays. Linked with --wrap of malloc, calloc, realloc and free. */
+#include "refusing.h"
+
 #include <pdt.h>
 #include <stdio.h>
 #include <stdlib.h>
 #include <string.h>
-
-static long left = -1, refused;
-void *__real_malloc(size_t);
-void *__real_calloc(size_t, size_t);
-void *__real_realloc(void *, size_t);
-void __real_free(void *);
-static int refuse(void) {
-  if (left != 0) return left > 0 ? (left--, 0) : 0;
-  left = -1;
-  refused++;
-  return 1;
-}
-static long blocks; /* how many are there */
-static void *counted(void *at) { return blocks += at != NULL, at; }
-void *__wrap_malloc(size_t len) { return counted(refuse() ? NULL : __real_malloc(len)); }
-void *__wrap_calloc(size_t count, size_t len) { return counted(refuse() ? NULL : __real_calloc(count, len)); }
-void *__wrap_realloc(void *at, size_t len) {
-  void *now = refuse() ? NULL : __real_realloc(at, len);
-  return at ? now : counted(now);
-}
-void __wrap_free(void *at) {
-  blocks -= at != NULL;
-  __real_free(at);
-}
 
 static long answered;
 /* Makes a call, and once more where memory was refused. */

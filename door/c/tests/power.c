@@ -2,12 +2,14 @@
    takes away, and what it answers. Then folders are made as the power may leave them after each call: with all that was done, with
    only what was synced, and with some of what wasn't, file by file and folder by folder. Each is opened, and has to hold what was
    answered by then, and what was not answered whole or not at all. Under another sync it has to hold the first commits, however
-   many. Linked with --wrap of the calls.
+   many. And runs are killed before a call, in the midst of a write too, and opened again by another process, which goes on with what the
+   kernel has: a loss of power right after that leaves no less. Linked with --wrap of the calls.
    power FOLDER EVERY SYNC SEED */
 #define _POSIX_C_SOURCE 200809L
 #include <errno.h>
 #include <fcntl.h>
 #include <pdt.h>
+#include <setjmp.h>
 #include <stdarg.h>
 #include <stdio.h>
 #include <stdlib.h>
@@ -34,6 +36,7 @@ typedef struct {
   size_t len;
   uint64_t number; /* that was answered */
   int tables;
+  bool lasts; /* whatever the sync: the database was closed */
 } event;
 
 enum { EVENTS = 1 << 16, OBJECTS = 1 << 13, FDS = 256, PARENT = 0, TOP = 1 };
@@ -42,6 +45,20 @@ static int count, objects = 2;
 static bool listens, is_folder[OBJECTS] = {true, true};
 static int object_of[FDS]; /* of a file that is open, and 0 of others */
 static const char *top;    /* the path of the folder */
+
+/* The call before which the process is killed, or -1. What it had open is closed, and what it had in memory is lost. */
+static long calls, killed_at = -1;
+static jmp_buf killed;
+int __real_close(int);
+static bool is_killed(void) { return listens && calls++ == killed_at; }
+static void die(void) {
+  for (int file = 0; file < FDS; file++)
+    if (object_of[file]) {
+      __real_close(file);
+      object_of[file] = 0;
+    }
+  longjmp(killed, 1);
+}
 
 static event *add(enum kind kind, int of) {
   if (count == EVENTS) fprintf(stderr, "too many calls\n"), exit(1);
@@ -76,7 +93,6 @@ static int folder_of(int folder, const char *path, char *name) {
 }
 
 int __real_openat(int, const char *, int, ...);
-int __real_close(int);
 ssize_t __real_write(int, const void *, size_t);
 int __real_ftruncate(int, off_t);
 int __real_renameat(int, const char *, int, const char *);
@@ -87,6 +103,7 @@ int __real_mkdir(const char *, mode_t);
 static int object_at(int dir, const char *path) {
   if (dir == AT_FDCWD) return !strcmp(path, top) ? TOP : PARENT;
   if (!strcmp(path, ".")) return object_of[dir];
+  if (!strcmp(path, "..")) return PARENT;
   char name[48];
   int folder = folder_of(object_of[dir], path, name);
   return find_in(folder, name);
@@ -106,6 +123,7 @@ int __wrap_openat(int dir, const char *path, int how, ...) {
   va_start(rest, how);
   int mode = how & O_CREAT ? va_arg(rest, int) : 0;
   va_end(rest);
+  if (is_killed()) die();
   if (how & O_CREAT && !strncmp(path, "journal-", 8)) meanwhile(), soon = true;
   int file = __real_openat(dir, path, how, mode);
   if (!listens || file < 0) return file;
@@ -127,26 +145,32 @@ int __wrap_close(int file) {
   return __real_close(file);
 }
 ssize_t __wrap_write(int file, const void *bytes, size_t len) {
-  ssize_t done = __real_write(file, bytes, len);
+  bool dies = is_killed();
+  ssize_t done = __real_write(file, bytes, dies ? len / 2 : len);
+  if (dies && done <= 0) die();
   if (!listens || done <= 0 || file >= FDS || object_of[file] < 2) return done;
   event *one = add(WRITE, object_of[file]);
   one->bytes = malloc((size_t)done);
   memcpy(one->bytes, bytes, (size_t)done);
   one->len = (size_t)done;
+  if (dies) die();
   return done;
 }
 static int synced(int file, int bad) {
+  if (is_killed()) die();
   if (listens && !bad && file < FDS) add(SYNC, object_of[file]);
   return bad;
 }
 int __wrap_fdatasync(int file) { return synced(file, 0); } /* the power stays on here: nothing is really synced */
 int __wrap_fsync(int file) { return synced(file, 0); }
 int __wrap_ftruncate(int file, off_t len) {
+  if (is_killed()) die();
   int bad = __real_ftruncate(file, len);
   if (listens && !bad) add(CUT, object_of[file])->len = (size_t)len;
   return bad;
 }
 int __wrap_renameat(int dir, const char *from, int to_dir, const char *to) {
+  if (is_killed()) die();
   int object = listens ? object_at(dir, from) : 0, bad = __real_renameat(dir, from, to_dir, to);
   if (!listens || bad) return bad;
   event *one = add(RENAME, object_of[dir]);
@@ -156,6 +180,7 @@ int __wrap_renameat(int dir, const char *from, int to_dir, const char *to) {
   return 0;
 }
 int __wrap_unlinkat(int dir, const char *path, int how) {
+  if (is_killed()) die();
   int bad = __real_unlinkat(dir, path, how);
   if (!listens || bad) return bad;
   char name[48];
@@ -172,10 +197,12 @@ static int made(int folder, const char *name, int bad) {
   return 0;
 }
 int __wrap_mkdirat(int dir, const char *path, mode_t mode) {
+  if (is_killed()) die();
   meanwhile();
   return made(object_of[dir], path, __real_mkdirat(dir, path, mode));
 }
 int __wrap_mkdir(const char *path, mode_t mode) {
+  if (is_killed()) die();
   int bad = __real_mkdir(path, mode);
   if (!listens || bad) return bad;
   event *one = add(MAKE_FOLDER, PARENT);
@@ -193,10 +220,11 @@ static pdt_database_options options = {.size = sizeof options, .no_upkeep = true
 static const char csv[] = "id:int:key,qty:int\n0,0\n1,0\n2,0\n3,0\n4,0\n5,0\n6,0\n";
 static const char *const names[] = {"left", "right"};
 
-static void answer(uint64_t number, int tables) {
+static void answer(uint64_t number, int tables, bool lasts) {
   event *one = add(ANSWER, -1);
   one->number = number;
   one->tables = tables;
+  one->lasts = lasts;
 }
 
 /* Each commit sets one key of both tables to its number. */
@@ -220,38 +248,65 @@ static pdt_store *const *running_stores;
 static uint64_t number;
 static void commit_one(void) {
   number = step(running, running_stores, number + 1);
-  answer(number, 2);
+  answer(number, 2, false);
 }
 static void meanwhile(void) {
   if (listens && running) commit_one();
 }
 
-static void run(const char *folder) {
+/* What an opening finds is on the device then, and so is what a close leaves. */
+static void open_once(const char *folder) {
+  pdt_database *database = NULL;
+  pdt_report report = {.size = sizeof report};
+  is("open", PDT_OK, pdt_database_open(folder, &options, &database, &report));
+  if (!database) exit(1);
+  is("what is found", 1, report.commits <= number + 1 && (options.sync == PDT_SYNC_OFF || report.commits >= number));
+  number = report.commits;
+  pdt_store *stores[2];
+  int there = 0;
+  while (there < 2 && !pdt_table_open(database, names[there], &stores[there])) there++;
+  answer(number, there, true);
+  for (; there < 2; there++) {
+    is("create", PDT_OK, pdt_table_create_csv(database, names[there], csv, sizeof csv - 1, NULL, NULL, &stores[there]));
+    answer(number, there + 1, true);
+  }
+  running = database;
+  running_stores = stores;
+  for (int i = 0; i < COMMITS / 3; i++) {
+    commit_one();
+    if (i % 4 == 3) is("upkeep", PDT_OK, pdt_upkeep(database));
+  }
+  running = NULL;
+  is("close", PDT_OK, pdt_database_close(database));
+  answer(number, 2, true);
+}
+
+static int died; /* at which event */
+static void run(const char *folder, bool is_made) {
+  static int left;
   top = folder;
   listens = true;
-  for (int opening = 0; opening < 3; opening++) {
-    pdt_database *database = NULL;
-    is("open", PDT_OK, pdt_database_open(folder, &options, &database, NULL));
-    pdt_store *stores[2];
-    if (!opening) answer(0, 0);
-    for (int i = 0; i < 2; i++) {
-      if (opening) {
-        is("table", PDT_OK, pdt_table_open(database, names[i], &stores[i]));
-      } else {
-        is("create", PDT_OK, pdt_table_create_csv(database, names[i], csv, sizeof csv - 1, NULL, NULL, &stores[i]));
-        answer(0, i + 1);
-      }
-    }
-    running = database;
-    running_stores = stores;
-    for (int i = 0; i < COMMITS / 3; i++) {
-      commit_one();
-      if (i % 4 == 3) is("upkeep", PDT_OK, pdt_upkeep(database));
-    }
+  left = 3;
+  if (is_made && mkdir(folder, 0777)) exit(1); /* by the caller, who syncs nothing */
+  if (setjmp(killed)) {
+    died = count;
+    killed_at = -1;
     running = NULL;
-    is("close", PDT_OK, pdt_database_close(database));
+    soon = false;
+  }
+  while (left) {
+    open_once(folder);
+    left--;
   }
   listens = false;
+}
+static void forget(void) {
+  for (int i = 0; i < count; i++) free(events[i].bytes);
+  count = 0;
+  objects = 2;
+  calls = 0;
+  number = 0;
+  memset(is_folder + 2, 0, sizeof is_folder - 2 * sizeof *is_folder);
 }
 
 /* ---- what the power leaves */
@@ -357,15 +412,20 @@ static long long value_at(uint64_t commits, int key) {
 }
 
 static void look(const char *folder, int end, const char *way) {
-  uint64_t answered = 0;
+  uint64_t answered = 0, lasting = 0;
   int tables = 0, before = failures;
   for (int i = 0; i < end; i++)
-    if (events[i].kind == ANSWER) answered = events[i].number, tables = events[i].tables;
+    if (events[i].kind == ANSWER) {
+      answered = events[i].number;
+      tables = events[i].tables;
+      if (events[i].lasts) lasting = answered;
+    }
   pdt_database *database = NULL;
   pdt_report report = {.size = sizeof report};
   is("open", PDT_OK, pdt_database_open(folder, &options, &database, &report));
   if (database) {
     bool lasts = options.sync == PDT_SYNC_FULL || (options.sync == PDT_SYNC_NORMAL && !strcmp(way, "all"));
+    is("what was opened, or closed, is there", 1, report.commits >= lasting);
     if (lasts) is("what was answered is there", 1, report.commits >= answered);
     is("and one more at most", 1, report.commits <= answered + 1);
     pdt_store *stores[2];
@@ -396,6 +456,18 @@ static void remove_all(const char *path) {
   if (system(words)) exit(1);
 }
 
+/* Looks at what is left after so many events, in each way. */
+static int look_at(const char *left, int end) {
+  static const char *const ways[] = {"all", "synced", "some"};
+  for (enum left way = ALL; way <= SOME; way++) {
+    remove_all(left);
+    /* a folder whose name isn't safe yet is made anew */
+    if (left_of(PARENT, end, way) || way == ALL) put_folder(left, TOP, end, way);
+    look(left, end, ways[way]);
+  }
+  return SOME + 1;
+}
+
 int main(int argc, char **argv) {
   if (argc < 3) return 2;
   char folder[400], left[400];
@@ -404,16 +476,18 @@ int main(int argc, char **argv) {
   int every = atoi(argv[2]); /* of how many calls one is looked at */
   if (argc > 3) options.sync = atoi(argv[3]);
   if (argc > 4) seed = (unsigned)atoi(argv[4]);
-  run(folder);
-  static const char *const ways[] = {"all", "synced", "some"};
+  run(folder, false);
   int looked = 0;
-  for (int end = drawn(every); end <= count && failures < 20; end += 1 + drawn(2 * every - 1))
-    for (enum left way = ALL; way <= SOME; way++, looked++) {
-      /* a folder whose name isn't safe yet is made anew */
-      remove_all(left);
-      if (left_of(PARENT, end, way) || way == ALL) put_folder(left, TOP, end, way);
-      look(left, end, ways[way]);
-    }
-  printf("%d calls, %d folders, %d failures\n", count, looked, failures);
+  for (int end = drawn(every); end <= count && failures < 20; end += 1 + drawn(2 * every - 1)) looked += look_at(left, end);
+  long all = calls;
+  for (long at = drawn(2 * every); at < all && failures < 20; at += 1 + drawn(12 * every)) {
+    remove_all(folder);
+    forget();
+    killed_at = at;
+    run(folder, drawn(2));
+    for (int end = died; end <= count && failures < 20; end += 1 + drawn(end < died + 60 ? 15 : count)) looked += look_at(left, end);
+    if (failures) fprintf(stderr, "killed before call %ld of %ld, at event %d\n", at, all, died), at = all;
+  }
+  printf("%ld calls, %d folders, %d failures\n", all, looked, failures);
   return failures ? 1 : 0;
 }
