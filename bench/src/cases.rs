@@ -1,12 +1,14 @@
 //! The cases: each asks one question, and answers it by a table.
 mod begins;
 mod commits;
+mod durable;
 mod files;
 mod folds;
 mod keys;
 mod loads;
 mod lookups;
 mod marks;
+mod openings;
 mod pin_scans;
 mod pins;
 mod prepared;
@@ -14,6 +16,7 @@ mod rebases;
 mod scans;
 mod sql;
 mod sql_transactions;
+mod syncs;
 mod transactions;
 mod writes;
 
@@ -37,6 +40,10 @@ pub struct Size {
     pub calls: usize,
     /// The calls of a turn where threads make them.
     pub thread_calls: usize,
+    /// The commits of a turn where each waits for the disk.
+    pub durable: usize,
+    /// The commits of a journal.
+    pub journal: usize,
     /// The turns of each way.
     pub rounds: usize,
 }
@@ -58,6 +65,8 @@ impl Size {
         ],
         calls: 10_000,
         thread_calls: 200_000,
+        durable: 800,
+        journal: 100_000,
         rounds: 7,
     };
 
@@ -71,6 +80,8 @@ impl Size {
         rebases: &[Rebase { own: 10, commits: 1, each: 1_000 }, Rebase { own: 300, commits: 100, each: 1 }],
         calls: 200,
         thread_calls: 2_000,
+        durable: 64,
+        journal: 500,
         rounds: 2,
     };
 }
@@ -89,7 +100,7 @@ pub struct Case {
     pub run: fn(&Size) -> Table,
 }
 
-pub const CASES: [Case; 17] = [
+pub const CASES: [Case; 20] = [
     Case { name: scans::NAME, run: scans::run },
     Case { name: keys::NAME, run: keys::run },
     Case { name: lookups::NAME, run: lookups::run },
@@ -104,6 +115,9 @@ pub const CASES: [Case; 17] = [
     Case { name: folds::NAME, run: folds::run },
     Case { name: rebases::NAME, run: rebases::run },
     Case { name: files::NAME, run: files::run },
+    Case { name: durable::NAME, run: durable::run },
+    Case { name: syncs::NAME, run: syncs::run },
+    Case { name: openings::NAME, run: openings::run },
     Case { name: loads::NAME, run: loads::run },
     Case { name: sql::NAME, run: sql::run },
     Case { name: sql_transactions::NAME, run: sql_transactions::run },

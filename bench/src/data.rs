@@ -119,6 +119,11 @@ pub fn store(kind: KeyKind, rows: usize) -> Store {
 
 /// A store over a table of so many rows under a key of one number, handed over by columns: the blocks of each lie together.
 pub fn by_columns(rows: usize) -> Store {
+    with_columns(rows, |columns| Store::from_columns(columns, 1, &Options::default()).expect("the columns are a table"))
+}
+
+/// Calls with the columns of such a table.
+pub fn with_columns<T>(rows: usize, call: impl FnOnce(&[(&str, ColumnValues<'_>)]) -> T) -> T {
     let ids: Vec<i64> = numbers(rows).collect();
     let quantities: Vec<i64> = ids.iter().map(|id| qty_of(*id)).collect();
     let (mut names, mut offsets) = (String::new(), vec![0]);
@@ -126,12 +131,11 @@ pub fn by_columns(rows: usize) -> Store {
         names.push_str(&name_of(*id));
         offsets.push(names.len() as u64);
     }
-    let columns = [
+    call(&[
         ("id", ColumnValues::Ints(&ids)),
         ("name", ColumnValues::Texts { offsets: &offsets, bytes: names.as_bytes() }),
         ("qty", ColumnValues::Ints(&quantities)),
-    ];
-    Store::from_columns(&columns, 1, &Options::default()).expect("the columns are a table")
+    ])
 }
 
 /// A store over the table of a text.

@@ -1,4 +1,4 @@
-//! Measures the library through its door, beside plain Rust and SQLite in memory. Each case asks one question; every way to
+//! Measures the library through its door, beside plain Rust and SQLite. Each case asks one question; every way to
 //! do it is taken in turn, its answer compared with the one that is due, and the least of several turns is its time.
 //!
 //!     bench [--size small|full] [--only NAME,..] [--csv DIR]
@@ -10,6 +10,7 @@ mod data;
 mod drawn;
 mod machine;
 mod options;
+mod room;
 mod sqlite;
 mod table;
 mod threads;

@@ -1,4 +1,4 @@
-//! SQLite in memory, by its C interface.
+//! SQLite, by its C interface: in memory, and in a file.
 mod ffi;
 
 use crate::data::{KeyKind, csv, name_of, numbers, qty_of};
@@ -7,11 +7,13 @@ use std::env;
 use std::ffi::{CStr, CString, c_int};
 use std::fs;
 use std::marker::PhantomData;
+use std::os::unix::ffi::OsStrExt;
+use std::path::Path;
 use std::process;
 use std::ptr::{self, NonNull};
 use std::slice;
 
-/// A database in memory. SQLite is asked for the mode in which threads may share one.
+/// A database in memory, or in a file. SQLite is asked for the mode in which threads may share one.
 pub struct Database {
     raw: NonNull<ffi::Sqlite3>,
 }
@@ -20,6 +22,9 @@ pub struct Database {
 unsafe impl Send for Database {}
 // SAFETY: the same.
 unsafe impl Sync for Database {}
+
+/// How long a connection waits for others.
+const BUSY_MILLISECONDS: c_int = 60_000;
 
 /// A value that is bound to a statement.
 #[derive(Clone, Copy)]
@@ -30,11 +35,24 @@ pub enum Bound<'b> {
 
 impl Database {
     pub fn in_memory() -> Database {
+        Database::opened(c":memory:", ffi::OPEN_MEMORY)
+    }
+
+    /// A connection to the database in a file, which is made where there is none. It waits for others that write.
+    pub fn in_file(file: &Path) -> Database {
+        let name = CString::new(file.as_os_str().as_bytes()).expect("no zero in a path");
+        let database = Database::opened(&name, 0);
+        // SAFETY: the database is open.
+        unsafe { ffi::sqlite3_busy_timeout(database.raw.as_ptr(), BUSY_MILLISECONDS) };
+        database
+    }
+
+    fn opened(name: &CStr, more: c_int) -> Database {
         let mut raw = ptr::null_mut();
-        let flags = ffi::OPEN_READWRITE | ffi::OPEN_CREATE | ffi::OPEN_MEMORY | ffi::OPEN_FULLMUTEX;
+        let flags = ffi::OPEN_READWRITE | ffi::OPEN_CREATE | ffi::OPEN_FULLMUTEX | more;
         // SAFETY: the name ends with a zero, and there is room for a pointer.
-        let code = unsafe { ffi::sqlite3_open_v2(c":memory:".as_ptr(), &mut raw, flags, ptr::null()) };
-        assert_eq!(ffi::OK, code, "SQLite opens a database in memory");
+        let code = unsafe { ffi::sqlite3_open_v2(name.as_ptr(), &mut raw, flags, ptr::null()) };
+        assert_eq!(ffi::OK, code, "SQLite opens {name:?}");
         Database { raw: NonNull::new(raw).expect("an opened database") }
     }
 
@@ -174,6 +192,7 @@ pub fn version() -> String {
     unsafe { CStr::from_ptr(ffi::sqlite3_libversion()) }.to_string_lossy().into_owned()
 }
 
+pub const CREATE: &str = "CREATE TABLE items (id INTEGER PRIMARY KEY, name TEXT NOT NULL, qty INTEGER NOT NULL)";
 pub const INSERT: &str = "INSERT INTO items VALUES (?, ?, ?)";
 pub const DELETE: &str = "DELETE FROM items WHERE id = ?";
 pub const SET: &str = "UPDATE items SET qty = ? WHERE id = ?";
@@ -184,7 +203,15 @@ pub const STATE: &str = "SELECT sum(qty) + count(*) FROM items";
 /// A database with the empty table that the cases use.
 pub fn empty() -> Database {
     let database = Database::in_memory();
-    database.run("CREATE TABLE items (id INTEGER PRIMARY KEY, name TEXT NOT NULL, qty INTEGER NOT NULL)");
+    database.run(CREATE);
+    database
+}
+
+/// A connection to a database in a file, with a write-ahead log and so durable as a word of `synchronous` says.
+pub fn logged(file: &Path, synchronous: &str) -> Database {
+    let database = Database::in_file(file);
+    database.run("PRAGMA journal_mode = WAL");
+    database.run(&format!("PRAGMA synchronous = {synchronous}"));
     database
 }
 

@@ -3,13 +3,13 @@ use super::{Size, percent};
 use crate::baseline::files;
 use crate::data::{KeyKind, csv, last_byte, numbers, opened, qty_of};
 use crate::drawn::scattered;
+use crate::room::Room;
 use crate::table::{Line, Table, Unit, grouped};
 use crate::timing::{Turn, clocked, least, way};
 use crate::updates::{begun, sum};
 use narthexmace::{Column, ColumnType, Options, Store};
 use std::fmt::Write;
 use std::path::{Path, PathBuf};
-use std::{env, fs, process};
 
 pub const NAME: &str = "files";
 
@@ -42,33 +42,6 @@ fn four_ints(rows: usize) -> String {
         writeln!(text, "{number},{a},{b},{}", qty_of(number)).expect("a string takes what is written");
     }
     text
-}
-
-/// A folder of our own, which is removed at the end.
-struct Room(PathBuf);
-
-impl Room {
-    fn new() -> Room {
-        let folder = env::temp_dir().join(format!("narthexmace-bench-{}", process::id()));
-        fs::create_dir(&folder).expect("a folder can be made");
-        Room(folder)
-    }
-
-    /// A folder with no files.
-    fn empty(&self, name: &str) -> PathBuf {
-        let folder = self.0.join(name);
-        if folder.exists() {
-            fs::remove_dir_all(&folder).expect("a folder of our own can be removed");
-        }
-        fs::create_dir(&folder).expect("a folder can be made");
-        folder
-    }
-}
-
-impl Drop for Room {
-    fn drop(&mut self) {
-        let _ = fs::remove_dir_all(&self.0);
-    }
 }
 
 fn two_lines(size: &Size, room: &Room, word: &str, csv: &str) -> [Line; 2] {

@@ -29,6 +29,7 @@ unsafe extern "C" {
     pub fn sqlite3_libversion() -> *const c_char;
     pub fn sqlite3_open_v2(name: *const c_char, db: *mut *mut Sqlite3, flags: c_int, vfs: *const c_char) -> c_int;
     pub fn sqlite3_close(db: *mut Sqlite3) -> c_int;
+    pub fn sqlite3_busy_timeout(db: *mut Sqlite3, milliseconds: c_int) -> c_int;
     pub fn sqlite3_enable_load_extension(db: *mut Sqlite3, on: c_int) -> c_int;
     pub fn sqlite3_load_extension(
         db: *mut Sqlite3,

@@ -2,7 +2,8 @@
 use crate::cells::filled;
 use crate::error::done;
 use crate::store::ColumnType;
-use crate::{Error, Transaction, ffi};
+use crate::transaction::Open;
+use crate::{Error, ffi};
 use std::iter::FusedIterator;
 use std::slice;
 
@@ -83,7 +84,7 @@ impl<'t> Batch<'t> {
     }
 
     /// The cells of the columns from one position of the table up to another.
-    pub(crate) fn read(txn: &'t Transaction<'_>, chosen: &[usize], from: u64, to: u64) -> Result<Batch<'t>, Error> {
+    pub(crate) fn read(txn: &'t Open<'_>, chosen: &[usize], from: u64, to: u64) -> Result<Batch<'t>, Error> {
         let rows = usize::try_from(to - from).map_err(|_| Error::NoMemory)?;
         let mut columns = Vec::new();
         columns.try_reserve_exact(chosen.len())?;
@@ -136,7 +137,7 @@ impl<'t> Ints<'t> {
     }
 
     /// The pieces of an int column from one position of the table up to another.
-    fn read(txn: &'t Transaction<'_>, column: usize, from: u64, to: u64) -> Result<Ints<'t>, Error> {
+    fn read(txn: &'t Open<'_>, column: usize, from: u64, to: u64) -> Result<Ints<'t>, Error> {
         let none = ffi::Piece { at: std::ptr::null(), count: 0, number: 0 };
         let mut pieces = Vec::new();
         let mut at = from;
@@ -200,7 +201,7 @@ impl Texts {
     }
 
     /// The texts of a text column, so many rows from a position on.
-    fn read(txn: &Transaction<'_>, column: usize, from: u64, rows: usize) -> Result<Texts, Error> {
+    fn read(txn: &Open<'_>, column: usize, from: u64, rows: usize) -> Result<Texts, Error> {
         let mut lengths = filled(rows, 0i64)?;
         let mut bytes = filled(rows.saturating_mul(16).max(ffi::MAX_TEXT), 0u8)?;
         let (mut done, mut end) = (0, 0);
@@ -233,15 +234,23 @@ fn offsets_of(lengths: &[i64]) -> Result<Vec<usize>, Error> {
     Ok(offsets)
 }
 
+/// The truths of a bool column from a position on, as many as there is room for. Answers how many came.
+pub(crate) fn truths(txn: &Open<'_>, column: usize, from: u64, room: &mut [u8]) -> Result<usize, Error> {
+    let mut count = room.len();
+    // SAFETY: the transaction is open, and there is room for as many truths as `count` says.
+    done(unsafe { ffi::pdt_bools(txn.raw(), column, from, room.as_mut_ptr(), &mut count) })?;
+    Ok(count)
+}
+
 /// The truths of a bool column, so many rows from a position on.
-fn read_truths(txn: &Transaction<'_>, column: usize, from: u64, rows: usize) -> Result<Vec<bool>, Error> {
+fn read_truths(txn: &Open<'_>, column: usize, from: u64, rows: usize) -> Result<Vec<bool>, Error> {
     let mut bytes = filled(rows, 0u8)?;
-    let count = txn.bools(column, from, &mut bytes)?;
+    let count = truths(txn, column, from, &mut bytes)?;
     assert_eq!(rows, count, "each truth between two positions of a table is handed out");
-    let mut truths = Vec::new();
-    truths.try_reserve_exact(rows)?;
-    truths.extend(bytes.iter().map(|byte| *byte != 0));
-    Ok(truths)
+    let mut read = Vec::new();
+    read.try_reserve_exact(rows)?;
+    read.extend(bytes.iter().map(|byte| *byte != 0));
+    Ok(read)
 }
 
 /// How many cells came, and how many bytes their texts have.
@@ -251,13 +260,7 @@ struct Read {
 }
 
 /// Reads the cells of a column from a position on, as many as there is room for.
-fn read_cells(
-    txn: &Transaction<'_>,
-    column: usize,
-    from: u64,
-    numbers: &mut [i64],
-    texts: &mut [u8],
-) -> Result<Read, Error> {
+fn read_cells(txn: &Open<'_>, column: usize, from: u64, numbers: &mut [i64], texts: &mut [u8]) -> Result<Read, Error> {
     let mut read = Read { cells: numbers.len(), bytes: 0 };
     let (count, bytes) = (&mut read.cells, &mut read.bytes);
     let (room, out) = (texts.len(), texts.as_mut_ptr().cast());
@@ -269,7 +272,7 @@ fn read_cells(
 /// The batches of a range of positions, in order. After one that was refused none comes.
 #[derive(Debug)]
 pub struct Batches<'t> {
-    txn: &'t Transaction<'t>,
+    txn: &'t Open<'t>,
     columns: Vec<usize>,
     at: u64,
     to: u64,
@@ -279,7 +282,7 @@ pub struct Batches<'t> {
 impl<'t> Batches<'t> {
     /// The batches of so many rows from one position of the table up to another.
     pub(crate) fn over(
-        txn: &'t Transaction<'_>,
+        txn: &'t Open<'_>,
         chosen: &[usize],
         from: u64,
         to: u64,

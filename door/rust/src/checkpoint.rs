@@ -1,6 +1,7 @@
 //! A checkpoint while others commit.
 use crate::error::done;
-use crate::store::{Keeper, path_of};
+use crate::keeper::Keeper;
+use crate::store::path_of;
 use crate::{Error, Store, ffi};
 use std::fmt;
 use std::path::Path;

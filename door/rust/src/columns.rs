@@ -60,11 +60,52 @@ impl ColumnValues<'_> {
     }
 }
 
+/// Columns as the library takes them: where their values lie, and their names, each with a zero.
+pub(crate) struct Passed<'a> {
+    columns: &'a [(&'a str, ColumnValues<'a>)],
+    names: Vec<CString>,
+}
+
+impl<'a> Passed<'a> {
+    pub(crate) fn of(columns: &'a [(&'a str, ColumnValues<'a>)]) -> Result<Passed<'a>, Error> {
+        let mut names = Vec::new();
+        names.try_reserve_exact(columns.len())?;
+        for (name, _) in columns {
+            let mut bytes = Vec::new();
+            bytes.try_reserve_exact(name.len() + 1)?;
+            bytes.extend_from_slice(name.as_bytes());
+            names.push(CString::new(bytes).map_err(|_| Error::BadTable)?);
+        }
+        Ok(Passed { columns, names })
+    }
+
+    /// Makes a call of the library that opens a store over them.
+    pub(crate) fn open(
+        &self,
+        call: impl FnOnce(&[ffi::Column], *mut ffi::Place, *mut *mut ffi::Store) -> c_int,
+    ) -> Result<*mut ffi::Store, ColumnsError> {
+        let mut passed = Vec::new();
+        passed.try_reserve_exact(self.columns.len()).map_err(Error::from)?;
+        passed.extend(self.columns.iter().zip(&self.names).map(|((_, values), name)| values.passed(name)));
+        let (mut place, mut raw) = (ffi::Place::default(), ptr::null_mut());
+        let code = call(&passed, &mut place, &mut raw);
+        let ffi::Place { row, column } = place;
+        match code {
+            ffi::SHAPE => Err(ColumnsError::Value { row, column }),
+            ffi::NOT_ASCENDING => Err(ColumnsError::NotAscending { row }),
+            code => {
+                done(code)?;
+                Ok(raw)
+            }
+        }
+    }
+}
+
 /// Why columns make no store. Rows and columns count from 0.
 #[derive(Clone, Copy, Debug, PartialEq, Eq)]
 pub enum ColumnsError {
-    /// The value at this row of this column is none of its type, or the column ends before that row, or goes on past the
-    /// first column: a text has offsets that descend or pass the bytes, is no UTF-8, or has more than 4,096 bytes.
+    /// The value at this row of this column is none of its type, or the column ends before that row, or goes on past
+    /// the first column: a text has offsets that descend or pass the bytes, is no UTF-8, or has more than 4,096 bytes.
     Value {
         /// The first such row of the column.
         row: u64,
@@ -124,8 +165,8 @@ pub enum ImagePart {
 pub enum CheckpointError<E> {
     /// What took the bytes failed so at this part; nothing was asked of it after that.
     Write(ImagePart, E),
-    /// [`Error::NoMemory`], or [`Error::Misuse`] of a thread that has a commit of the store prepared: nothing was handed
-    /// out.
+    /// [`Error::NoMemory`], or [`Error::Misuse`] of a thread that has a commit of the store prepared: nothing was
+    /// handed out.
     Other(Error),
 }
 
@@ -187,34 +228,16 @@ impl Store {
         options: &Options,
     ) -> Result<Store, ColumnsError> {
         let options = options.passed()?;
-        let mut names = Vec::new();
-        names.try_reserve_exact(columns.len()).map_err(Error::from)?;
-        for (name, _) in columns {
-            let mut bytes = Vec::new();
-            bytes.try_reserve_exact(name.len() + 1).map_err(Error::from)?;
-            bytes.extend_from_slice(name.as_bytes());
-            names.push(CString::new(bytes).map_err(|_| Error::BadTable)?);
-        }
-        let mut passed = Vec::new();
-        passed.try_reserve_exact(columns.len()).map_err(Error::from)?;
-        passed.extend(columns.iter().zip(&names).map(|((_, values), name)| values.passed(name)));
-        let (mut place, mut raw) = (ffi::Place::default(), ptr::null_mut());
-        // SAFETY: each column has as many values as it says, where it says; all is there during the call.
-        let code = unsafe { ffi::pdt_open_columns(passed.as_ptr(), passed.len(), key, &options, &mut place, &mut raw) };
-        let ffi::Place { row, column } = place;
-        match code {
-            ffi::SHAPE => Err(ColumnsError::Value { row, column }),
-            ffi::NOT_ASCENDING => Err(ColumnsError::NotAscending { row }),
-            code => {
-                done(code)?;
-                // SAFETY: an opening that is done hands out a store.
-                Ok(unsafe { Store::adopt(raw) }?)
-            }
-        }
+        let raw = Passed::of(columns)?.open(|columns, place, raw| {
+            // SAFETY: each column has as many values as it says, where it says; all is there during the call.
+            unsafe { ffi::pdt_open_columns(columns.as_ptr(), columns.len(), key, &options, place, raw) }
+        })?;
+        // SAFETY: an opening that is done hands out a store.
+        Ok(unsafe { Store::adopt(raw) }?)
     }
 
-    /// Opens a store over an image that [`checkpoint_to`](Store::checkpoint_to) handed out: the bytes of its header, and
-    /// of its columns.
+    /// Opens a store over an image that [`checkpoint_to`](Store::checkpoint_to) handed out: the bytes of its header,
+    /// and of its columns.
     ///
     /// [`Error::BadTable`] (the header), [`Error::BadStore`], [`Error::NoImage`], [`Error::TooManyRows`],
     /// [`Error::BadLimit`], [`Error::NoMemory`].

@@ -1,6 +1,5 @@
 //! Why a call did not do what it was asked.
-use crate::Transaction;
-use crate::ffi;
+use crate::{Transaction, Work, ffi};
 use std::ffi::{CStr, c_int};
 use std::fmt;
 use std::io;
@@ -20,14 +19,16 @@ pub enum Error {
     Full,
     /// There is a row of the key.
     Duplicate,
-    /// There is no row of the key, the mark is gone, or the changes of a commit aren't kept any more.
+    /// There is no row of the key, the mark is gone, or the changes of a commit aren't kept any more. Or there is no
+    /// table of the name, or none when the work began.
     Missing,
     /// The cells don't fit the columns: their number, a type, a text above 4,096 bytes, a key column that would be set,
-    /// or a column that isn't there.
+    /// or a column that isn't there. Or a table can't have the name.
     Shape,
     /// The text is no table: [`OpenError`] has the fault.
     BadTable,
-    /// A limit of the [`Options`](crate::Options) is outside its range.
+    /// A limit of the [`Options`](crate::Options), or of the [`DatabaseOptions`](crate::DatabaseOptions), is outside
+    /// its range.
     BadLimit,
     /// The table has more rows than the limit.
     TooManyRows,
@@ -38,14 +39,15 @@ pub enum Error {
     /// The files hold no whole image.
     NoImage,
     /// The call may not be made now: this thread has a commit of the store prepared, or the checkpoint is not written
-    /// yet, or written, or installed already. Or a path has a zero byte, or more bytes than the library takes.
+    /// yet, or written, or installed already. Or a path has a zero byte, or more bytes than the library takes. Of a
+    /// database: the table is in use, or is another database's, or the work's transaction over it is out already.
     Misuse,
     /// A file can't be made, written, synced or read.
     Io {
         /// What the system says, as [`io::Error::from_raw_os_error`] takes it.
         errno: i32,
     },
-    /// A file of a store is there already.
+    /// A file of a store is there already, or a table of the name.
     Exists,
     /// A fold or another checkpoint came since the checkpoint began.
     Superseded,
@@ -53,6 +55,21 @@ pub enum Error {
     NotAscending,
     /// What took the bytes of a checkpoint failed.
     DeviceFailed,
+    /// Another process, or this one, has the database open.
+    Locked,
+    /// What was safe in a database is damaged: [`DatabaseError`](crate::DatabaseError) says which file, or which
+    /// commit.
+    Rot,
+    /// A commit of a database, or a file, is missing: [`DatabaseError`](crate::DatabaseError) says which.
+    Gap,
+    /// The journal isn't of the database's tables: [`DatabaseError`](crate::DatabaseError) says at which commit.
+    Misfit,
+    /// The device failed over a commit, which is over: it is there or not, as the next opening of its database tells.
+    Unsure,
+    /// The device has failed: the database takes no write until it is opened again.
+    Failed,
+    /// What a transaction changes takes 4 GiB or more in the journal.
+    TooLong,
 }
 
 impl Error {
@@ -77,6 +94,13 @@ impl Error {
             Error::Superseded => ffi::SUPERSEDED,
             Error::NotAscending => ffi::NOT_ASCENDING,
             Error::DeviceFailed => ffi::DEVICE_FAILED,
+            Error::Locked => ffi::LOCKED,
+            Error::Rot => ffi::ROT,
+            Error::Gap => ffi::GAP,
+            Error::Misfit => ffi::MISFIT,
+            Error::Unsure => ffi::UNSURE,
+            Error::Failed => ffi::FAILED,
+            Error::TooLong => ffi::TOO_LONG,
         }
     }
 
@@ -102,6 +126,13 @@ impl Error {
             ffi::SUPERSEDED => Error::Superseded,
             ffi::NOT_ASCENDING => Error::NotAscending,
             ffi::DEVICE_FAILED => Error::DeviceFailed,
+            ffi::LOCKED => Error::Locked,
+            ffi::ROT => Error::Rot,
+            ffi::GAP => Error::Gap,
+            ffi::MISFIT => Error::Misfit,
+            ffi::UNSURE => Error::Unsure,
+            ffi::FAILED => Error::Failed,
+            ffi::TOO_LONG => Error::TooLong,
             _ => unreachable!("pdt.h has no code {code}"),
         }
     }
@@ -194,46 +225,80 @@ impl fmt::Display for OpenError {
 
 impl std::error::Error for OpenError {}
 
-/// Why a transaction isn't committed. Where memory was refused, or the call may not be made now, it is given back as it
-/// was, and may commit again; else it is over, and the number is that of the newest table.
+/// Why a commit of a `T`, a transaction or a work, is refused. Where the variant has it, it is given back as it was,
+/// and may commit again; else it is over, and a number is that of the newest table.
 #[derive(Debug)]
-pub enum CommitError<'s> {
-    /// A commit since the transaction began changed what it changed.
+#[non_exhaustive]
+pub enum Refusal<T> {
+    /// A commit since it began changed what it changed.
     Conflict(u64),
-    /// More commits came since the transaction began than are kept, or a cut.
+    /// More commits came since it began than are kept, or a cut.
     TooOld(u64),
-    /// The table would have more rows than its limit.
+    /// A table would have more rows than its limit.
     Full(u64),
-    /// Memory was refused: the transaction, still open.
-    NoMemory(Transaction<'s>),
-    /// This thread has another commit of the store prepared: the transaction, still open.
-    Misuse(Transaction<'s>),
+    /// The device failed over the commit, which is there or not, as the next opening of the database tells.
+    Unsure,
+    /// Memory was refused: it is still open.
+    NoMemory(T),
+    /// This thread has another commit of the store, or of the database, prepared: it is still open.
+    Misuse(T),
+    /// The device of the database has failed, which takes no write until it is opened again: it is still open, for
+    /// reads.
+    Failed(T),
+    /// What it changes takes 4 GiB or more in the journal: it is still open.
+    TooLong(T),
 }
 
-impl fmt::Display for CommitError<'_> {
+/// Why a transaction isn't committed.
+pub type CommitError<'s> = Refusal<Transaction<'s>>;
+
+/// Why a work isn't committed.
+pub type WorkError<'d> = Refusal<Work<'d>>;
+
+impl<T> Refusal<T> {
+    /// What the library has answered to a commit: `given_back` is open where the refusal has it, and is over where it
+    /// is handed out beside it.
+    pub(crate) fn of(code: c_int, number: u64, given_back: T) -> (Refusal<T>, Option<T>) {
+        let ended = match code {
+            ffi::NOMEM => return (Refusal::NoMemory(given_back), None),
+            ffi::MISUSE => return (Refusal::Misuse(given_back), None),
+            ffi::FAILED => return (Refusal::Failed(given_back), None),
+            ffi::TOO_LONG => return (Refusal::TooLong(given_back), None),
+            ffi::CONFLICT => Refusal::Conflict(number),
+            ffi::TOO_OLD => Refusal::TooOld(number),
+            ffi::FULL => Refusal::Full(number),
+            ffi::UNSURE => Refusal::Unsure,
+            code => unreachable!("no commit answers {code}"),
+        };
+        (ended, Some(given_back))
+    }
+
+    /// The same without the number, and without what is given back.
+    pub fn error(&self) -> Error {
+        match self {
+            Refusal::Conflict(_) => Error::Conflict,
+            Refusal::TooOld(_) => Error::TooOld,
+            Refusal::Full(_) => Error::Full,
+            Refusal::Unsure => Error::Unsure,
+            Refusal::NoMemory(_) => Error::NoMemory,
+            Refusal::Misuse(_) => Error::Misuse,
+            Refusal::Failed(_) => Error::Failed,
+            Refusal::TooLong(_) => Error::TooLong,
+        }
+    }
+}
+
+impl<T> fmt::Display for Refusal<T> {
     fn fmt(&self, f: &mut fmt::Formatter<'_>) -> fmt::Result {
         self.error().fmt(f)
     }
 }
 
-impl std::error::Error for CommitError<'_> {}
+impl<T: fmt::Debug> std::error::Error for Refusal<T> {}
 
-impl CommitError<'_> {
-    /// The same without the number and the transaction.
-    pub fn error(&self) -> Error {
-        match self {
-            CommitError::Conflict(_) => Error::Conflict,
-            CommitError::TooOld(_) => Error::TooOld,
-            CommitError::Full(_) => Error::Full,
-            CommitError::NoMemory(_) => Error::NoMemory,
-            CommitError::Misuse(_) => Error::Misuse,
-        }
-    }
-}
-
-/// Lets a transaction that was given back go, so that it is aborted.
-impl From<CommitError<'_>> for Error {
-    fn from(refused: CommitError<'_>) -> Error {
+/// Lets what was given back go, so that it is aborted.
+impl<T> From<Refusal<T>> for Error {
+    fn from(refused: Refusal<T>) -> Error {
         refused.error()
     }
 }
@@ -244,7 +309,7 @@ mod tests {
 
     #[test]
     fn each_code_has_a_variant_and_a_sentence() {
-        for code in ffi::NOMEM..=ffi::DEVICE_FAILED {
+        for code in ffi::NOMEM..=ffi::TOO_LONG {
             let error = Error::of(code);
             assert_eq!(code, error.code());
             assert_ne!("no such code", error.to_string());

@@ -1,4 +1,7 @@
 //! The declarations of `door/c/pdt.h`, in its order.
+mod databases;
+
+pub use databases::*;
 use std::ffi::{c_char, c_int, c_void};
 use std::marker::{PhantomData, PhantomPinned};
 
@@ -149,6 +152,13 @@ pub const EXISTS: c_int = 16;
 pub const SUPERSEDED: c_int = 17;
 pub const NOT_ASCENDING: c_int = 18;
 pub const DEVICE_FAILED: c_int = 19;
+pub const LOCKED: c_int = 20;
+pub const ROT: c_int = 21;
+pub const GAP: c_int = 22;
+pub const MISFIT: c_int = 23;
+pub const UNSURE: c_int = 24;
+pub const FAILED: c_int = 25;
+pub const TOO_LONG: c_int = 26;
 
 pub const INT: c_int = 1;
 pub const TEXT: c_int = 2;

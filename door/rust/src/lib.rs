@@ -2,10 +2,13 @@
 //! columns.
 //!
 //! A [`Store`] is a table that threads share. A [`Transaction`] reads the table as it was when it began, with its own
-//! writes, row by row or column by column ([`Batch`]), and is committed, or aborted when it is dropped. Of two transactions
-//! that change the same cells the first that commits wins, and the other one gets a conflict. A [`Pin`] keeps the table of a
-//! number, so that many begin over it. [`Store::changes_after`] hands out what each commit changed, and [`Store::wait`] waits
-//! for the next one.
+//! writes, row by row or column by column ([`Batch`]), and is committed, or aborted when it is dropped. Of two
+//! transactions that change the same cells the first that commits wins, and the other one gets a conflict. A [`Pin`]
+//! keeps the table of a number, so that many begin over it. [`Store::changes_after`] hands out what each commit
+//! changed, and [`Store::wait`] waits for the next one.
+//!
+//! A [`Database`] is a folder of tables that last. A commit over one of them ([`Table`]), or over several by a
+//! [`Work`], is there when the folder is opened again.
 //!
 //! ```
 //! use narthexmace::{Error, Options, Store, cells};
@@ -172,6 +175,93 @@
 //! });
 //! # Ok::<(), Error>(())
 //! ```
+//!
+//! A table of a database can't outlive it:
+//!
+//! ```compile_fail,E0505
+//! # use narthexmace::{Database, DatabaseOptions, Error};
+//! let (database, _) = Database::open("shop", &DatabaseOptions::default())?;
+//! let items = database.table("items")?;
+//! drop(database);
+//! println!("{}", items.begin()?.rows());
+//! # Ok::<(), Error>(())
+//! ```
+//!
+//! nor be there when it is closed:
+//!
+//! ```compile_fail,E0505
+//! # use narthexmace::{Database, DatabaseOptions, Error};
+//! let (database, _) = Database::open("shop", &DatabaseOptions::default())?;
+//! let work = database.begin()?;
+//! database.close()?;
+//! work.commit()?;
+//! # Ok::<(), Error>(())
+//! ```
+//!
+//! A work's transaction can't outlive the work:
+//!
+//! ```compile_fail,E0505
+//! # use narthexmace::{Database, DatabaseOptions, Error};
+//! # let (database, _) = Database::open("shop", &DatabaseOptions::default())?;
+//! # let items = database.table("items")?;
+//! let work = database.begin()?;
+//! let on_items = work.on(&items)?;
+//! work.commit()?;
+//! println!("{}", on_items.rows());
+//! # Ok::<(), Error>(())
+//! ```
+//!
+//! nor the handle of its table:
+//!
+//! ```compile_fail,E0505
+//! # use narthexmace::{Database, DatabaseOptions, Error};
+//! # let (database, _) = Database::open("shop", &DatabaseOptions::default())?;
+//! # let items = database.table("items")?;
+//! # let work = database.begin()?;
+//! let on_items = work.on(&items)?;
+//! drop(items);
+//! println!("{}", on_items.rows());
+//! # Ok::<(), Error>(())
+//! ```
+//!
+//! and has no commit of its own:
+//!
+//! ```compile_fail,E0599
+//! # use narthexmace::{Database, DatabaseOptions, Error};
+//! # let (database, _) = Database::open("shop", &DatabaseOptions::default())?;
+//! # let items = database.table("items")?;
+//! # let work = database.begin()?;
+//! work.on(&items)?.commit()?;
+//! # Ok::<(), Error>(())
+//! ```
+//!
+//! A work may be sent to a thread, but two threads can't share it:
+//!
+//! ```compile_fail,E0277
+//! # use narthexmace::{Database, DatabaseOptions, Error};
+//! # let (database, _) = Database::open("shop", &DatabaseOptions::default())?;
+//! # let items = database.table("items")?;
+//! let work = database.begin()?;
+//! std::thread::scope(|threads| {
+//!     threads.spawn(|| work.on(&items).is_ok());
+//!     threads.spawn(|| work.on(&items).is_ok());
+//! });
+//! # Ok::<(), Error>(())
+//! ```
+//!
+//! and its transactions stay on its thread:
+//!
+//! ```compile_fail,E0277
+//! # use narthexmace::{Database, DatabaseOptions, Error};
+//! # let (database, _) = Database::open("shop", &DatabaseOptions::default())?;
+//! # let items = database.table("items")?;
+//! let work = database.begin()?;
+//! let on_items = work.on(&items)?;
+//! std::thread::scope(|threads| {
+//!     threads.spawn(move || on_items.rows());
+//! });
+//! # Ok::<(), Error>(())
+//! ```
 #![deny(missing_docs, unsafe_op_in_unsafe_fn, clippy::undocumented_unsafe_blocks)]
 
 mod batch;
@@ -180,14 +270,21 @@ mod changes;
 mod checkpoint;
 mod columns;
 mod counts;
+mod database;
 mod error;
 mod ffi;
+mod keeper;
 mod marks;
+mod opening;
+mod options;
 mod pin;
 mod prepared;
+mod reads;
 mod store;
+mod table;
 mod texts;
 mod transaction;
+mod work;
 
 pub use batch::{Batch, Batches, Ints, Piece, Texts, Values};
 pub use cells::{Cell, CellRef, Row};
@@ -195,12 +292,17 @@ pub use changes::{Change, Changes, Entries, Entry, Layer};
 pub use checkpoint::Checkpoint;
 pub use columns::{CheckpointError, ColumnValues, ColumnsError, ImagePart};
 pub use counts::Counts;
-pub use error::{CommitError, Error, OpenError, TableFault};
+pub use database::Database;
+pub use error::{CommitError, Error, OpenError, Refusal, TableFault, WorkError};
 pub use marks::Mark;
+pub use opening::{DatabaseCounts, DatabaseError, DatabaseOptions, Report, SyncMode};
+pub use options::{ConflictRule, Options};
 pub use pin::Pin;
 pub use prepared::Prepared;
-pub use store::{Column, ColumnType, ConflictRule, Options, Sizes, Store};
-pub use transaction::{Rank, Transaction};
+pub use store::{Column, ColumnType, Sizes, Store};
+pub use table::Table;
+pub use transaction::{Alone, Ending, Rank, Transaction};
+pub use work::{InWork, Part, Work};
 
 /// The version of the library that runs, as `0.2.0`.
 ///

@@ -11,7 +11,7 @@ pub struct Mark {
 
 /// The marks that stand, by their levels: the number of each, which no other mark of the program has.
 #[derive(Default)]
-pub(crate) struct Marks(Vec<u64>);
+pub struct Marks(Vec<u64>);
 
 impl Marks {
     /// Makes room for one mark more.

@@ -1,6 +1,6 @@
 //! Versions that are kept.
 use crate::error::done;
-use crate::store::Keeper;
+use crate::keeper::Keeper;
 use crate::{Error, Store, Transaction, ffi};
 use std::fmt;
 use std::ptr::{self, NonNull};
@@ -9,8 +9,8 @@ use std::ptr::{self, NonNull};
 /// side by side: each begins a transaction of its own.
 ///
 /// While it is there, what commits, folds and checkpoints have replaced since is kept with it. It is let go when it is
-/// dropped; the transactions that began at it stay. It borrows its store or, where [`Store::pin_shared`] made it, keeps a
-/// share of it, and so do its transactions.
+/// dropped; the transactions that began at it stay. It borrows its store or, where [`Store::pin_shared`] made it, keeps
+/// a share of it, and so do its transactions.
 ///
 /// ```
 /// use narthexmace::{Error, Options, Store};

@@ -1,5 +1,5 @@
 //! A commit in two parts.
-use crate::{Store, Transaction, ffi};
+use crate::{CommitError, Store, Transaction, ffi};
 use std::fmt;
 use std::marker::PhantomData;
 
@@ -8,11 +8,11 @@ use std::marker::PhantomData;
 /// aborted.
 ///
 /// It has the store's lock, and so it stays on its thread. Commits of other threads wait, and so do their folds and
-/// checkpoints; begins and pins don't, and are of the newest table as it was. Other calls of this thread on the store answer
-/// [`Error::Misuse`](crate::Error::Misuse), but for begins and pins, and those that ask for the columns, [`Store::sizes`],
-/// [`Store::counts`] and [`Store::wait`]; [`Store::cut`] panics. Threads that then make calls on other stores do so in one
-/// order of the stores, or each may wait for the other for ever. One that is forgotten ([`std::mem::forget`]) keeps the
-/// lock: other threads' commits, and the store's drop by one of them, never end.
+/// checkpoints; begins and pins don't, and are of the newest table as it was. Other calls of this thread on the store
+/// answer [`Error::Misuse`](crate::Error::Misuse), but for begins and pins, and those that ask for the columns,
+/// [`Store::sizes`], [`Store::counts`] and [`Store::wait`]; [`Store::cut`] panics. Threads that then make calls on
+/// other stores do so in one order of the stores, or each may wait for the other for ever. One that is forgotten
+/// ([`std::mem::forget`]) keeps the lock: other threads' commits, and the store's drop by one of them, never end.
 ///
 /// A transaction that changes nothing keeps no lock, and takes no number: its end is that of an abort.
 ///
@@ -56,12 +56,31 @@ impl<'s> Prepared<'s> {
     }
 
     /// Commits, and answers the number. It takes no memory, and can't be refused.
+    ///
+    /// # Panics
+    ///
+    /// Over a table of a [`Database`](crate::Database) whose device fails: see [`try_install`](Prepared::try_install).
     pub fn install(self) -> u64 {
-        // SAFETY: the transaction is open, and prepared on this thread; it is over then, and nothing uses it any more.
-        let code = unsafe { ffi::pdt_install(self.txn.raw()) };
-        debug_assert_eq!(ffi::OK, code);
-        self.txn.forget();
-        self.number
+        self.try_install().expect("the device of the database takes the commit")
+    }
+
+    /// The same over a table of a [`Database`](crate::Database), whose device may fail: it puts the commit into the
+    /// journal, and waits as [`Transaction::commit`] does. [`CommitError::Unsure`] as there. [`CommitError::Failed`]
+    /// where the device has failed since the commit was prepared: it is given up, and the transaction comes back.
+    pub fn try_install(self) -> Result<u64, CommitError<'s>> {
+        // SAFETY: the transaction is open, and prepared on this thread; it is over then, unless the answer is FAILED.
+        match unsafe { ffi::pdt_install(self.txn.raw()) } {
+            ffi::OK => {
+                self.txn.forget();
+                Ok(self.number)
+            }
+            ffi::FAILED => Err(CommitError::Failed(self.give_up())),
+            code => {
+                debug_assert_eq!(ffi::UNSURE, code);
+                self.txn.forget();
+                Err(CommitError::Unsure)
+            }
+        }
     }
 
     /// Gives the commit up: the store is as if it had never been asked, and the transaction open as before.

@@ -1,53 +1,15 @@
 //! A table, and what is asked of it as a whole.
 use crate::cells::owned;
 use crate::error::done;
-use crate::{Checkpoint, Counts, Error, OpenError, Pin, TableFault, Transaction, ffi};
+use crate::keeper::Keeper;
+use crate::table::Handle;
+use crate::{Checkpoint, Counts, Error, OpenError, Options, Pin, TableFault, Transaction, ffi};
 use std::ffi::{CStr, c_char, c_int};
 use std::fmt;
-use std::ops::Deref;
 use std::os::unix::ffi::OsStrExt;
 use std::path::Path;
 use std::ptr::{self, NonNull};
 use std::sync::Arc;
-
-/// What a store is opened with.
-#[derive(Clone, Copy, Debug, PartialEq, Eq)]
-pub struct Options {
-    /// How many commits may come between a transaction's begin and its commit: 1 to 65,536, which is the default.
-    pub recent: usize,
-    /// How many rows a table may have: 1 to 2,147,483,647, which is the default.
-    pub row_limit: u64,
-    /// Which changes of one row conflict: by column, which is the default, or by row.
-    pub conflicts: ConflictRule,
-}
-
-/// Which changes of one row conflict. An insert, a delete or a replacement of the row conflicts by either rule.
-#[derive(Clone, Copy, Debug, Default, PartialEq, Eq)]
-pub enum ConflictRule {
-    /// Those of one column.
-    #[default]
-    ByColumn,
-    /// Any two.
-    ByRow,
-}
-
-impl Default for Options {
-    fn default() -> Options {
-        Options { recent: 65_536, row_limit: 2_147_483_647, conflicts: ConflictRule::ByColumn }
-    }
-}
-
-impl Options {
-    /// For the library, to which a zero stands for the default: here it is a limit outside its range.
-    pub(crate) fn passed(&self) -> Result<ffi::Options, Error> {
-        if self.recent == 0 || self.row_limit == 0 {
-            return Err(Error::BadLimit);
-        }
-        let by_row = self.conflicts == ConflictRule::ByRow;
-        let size = size_of::<ffi::Options>();
-        Ok(ffi::Options { size, recent: self.recent, row_limit: self.row_limit, by_row })
-    }
-}
 
 /// The type of a column.
 #[derive(Clone, Copy, Debug, PartialEq, Eq, Hash)]
@@ -88,12 +50,19 @@ pub struct Sizes {
 /// What it keeps doesn't grow with its commits: the newest version, those that pins and open transactions have, and the
 /// changes of the last [`Options::recent`] commits.
 ///
-/// A transaction that is forgotten ([`std::mem::forget`]) stays open, and so do a checkpoint and a pin: then the store's
-/// memory is never freed.
+/// A table of a [`Database`](crate::Database) is a store too, which its drop doesn't close. There nobody needs
+/// [`fold`](Store::fold), [`cut`](Store::cut) and checkpoints: the database does it by itself.
+///
+/// A transaction that is forgotten ([`std::mem::forget`]) stays open, and so do a checkpoint and a pin: then the
+/// store's memory is never freed.
 pub struct Store {
     raw: NonNull<ffi::Store>,
     columns: Vec<Column>,
     key_columns: usize,
+    /// Whether its drop closes it: else its database does.
+    is_own: bool,
+    /// Keeps its database open, where nothing beside it does.
+    _handle: Option<Handle<'static>>,
 }
 
 // SAFETY: a store is no thread's own, and closed by whichever drops it.
@@ -121,7 +90,8 @@ impl Store {
         let options = options.passed()?;
         let mut raw = ptr::null_mut();
         let mut fault = ffi::Fault { place: ffi::Place::default(), cause: ptr::null() };
-        // SAFETY: the pointer and the length are one slice's; the options, the fault and `raw` are there during the call.
+        // SAFETY: the pointer and the length are one slice's; the options, the fault and `raw` are there during the
+        // call.
         let code = unsafe { ffi::pdt_open_csv(csv.as_ptr().cast(), csv.len(), &options, &mut fault, &mut raw) };
         if code == ffi::BAD_TABLE {
             // SAFETY: at this code the library has told the fault.
@@ -153,8 +123,28 @@ impl Store {
     /// # Safety
     /// `raw` is a store that is open, which nobody else has.
     pub(crate) unsafe fn adopt(raw: *mut ffi::Store) -> Result<Store, Error> {
+        // SAFETY: the caller promises it.
+        unsafe { Store::with_columns(raw, true, None) }
+    }
+
+    /// A table of a database, with its columns. The handle is with the store, or beside it.
+    ///
+    /// # Safety
+    /// `raw` is the store of the handle's table. A handle beside it is there as long as the store.
+    pub(crate) unsafe fn of_database(raw: *mut ffi::Store, handle: Option<Handle<'static>>) -> Result<Store, Error> {
+        // SAFETY: a handle keeps the table and its database.
+        unsafe { Store::with_columns(raw, false, handle) }
+    }
+
+    /// # Safety
+    /// `raw` is a store that is open as long as this one is there. Nobody else has it, if it is its own.
+    unsafe fn with_columns(
+        raw: *mut ffi::Store,
+        is_own: bool,
+        handle: Option<Handle<'static>>,
+    ) -> Result<Store, Error> {
         let raw = NonNull::new(raw).expect("an opening that is done hands out a store");
-        let mut store = Store { raw, columns: Vec::new(), key_columns: 0 }; // closed again where a column is refused
+        let mut store = Store { raw, columns: Vec::new(), key_columns: 0, is_own, _handle: handle };
         // SAFETY: the store is open.
         let (width, key) = unsafe { (ffi::pdt_columns(raw.as_ptr()), ffi::pdt_key_columns(raw.as_ptr())) };
         store.key_columns = key;
@@ -289,8 +279,8 @@ impl Store {
     /// stands in; in memory it is the stable table then. Once it answers `Ok` the table is durable, as far as these
     /// folders go: who made others further up syncs them. Commits wait for two folds.
     ///
-    /// [`Error::Exists`], [`Error::Io`], [`Error::NoMemory`]: what was written is removed, and the stable table is as it
-    /// was; [`Error::Misuse`] of a path that no file can have, and of an empty one.
+    /// [`Error::Exists`], [`Error::Io`], [`Error::NoMemory`]: what was written is removed, and the stable table is as
+    /// it was; [`Error::Misuse`] of a path that no file can have, and of an empty one.
     pub fn checkpoint(&self, folder: impl AsRef<Path>) -> Result<(), Error> {
         let folder = path_of(folder.as_ref())?;
         // SAFETY: the store is open while `self` is there; the path ends with a zero, and is there during the call.
@@ -306,24 +296,6 @@ impl Store {
     /// The same of a store that is shared: the checkpoint keeps it.
     pub fn begin_checkpoint_shared(self: &Arc<Store>) -> Result<Checkpoint<'static>, Error> {
         begin_checkpoint(Keeper::Shared(Arc::clone(self)))
-    }
-}
-
-/// The store of what has begun over it, which keeps it open: by a borrow, or by a share.
-#[derive(Clone)]
-pub(crate) enum Keeper<'s> {
-    Lent(&'s Store),
-    Shared(Arc<Store>),
-}
-
-impl Deref for Keeper<'_> {
-    type Target = Store;
-
-    fn deref(&self) -> &Store {
-        match self {
-            Keeper::Lent(store) => store,
-            Keeper::Shared(store) => store,
-        }
     }
 }
 
@@ -356,8 +328,11 @@ fn begin_checkpoint(store: Keeper<'_>) -> Result<Checkpoint<'_>, Error> {
 
 impl Drop for Store {
     fn drop(&mut self) {
-        // SAFETY: nobody else uses the store, since each transaction, checkpoint and pin keeps it. One that was forgotten
-        // is still open: the library answers MISUSE then, and the store stays.
+        if !self.is_own {
+            return;
+        }
+        // SAFETY: nobody else uses the store, since each transaction, checkpoint and pin keeps it. One that was
+        // forgotten is still open: the library answers MISUSE then, and the store stays.
         unsafe { ffi::pdt_close(self.raw.as_ptr()) };
     }
 }

@@ -2,12 +2,13 @@
 use crate::cells::filled;
 use crate::error::done;
 use crate::store::ColumnType;
-use crate::{Error, Transaction, ffi};
+use crate::transaction::Open;
+use crate::{Error, ffi};
 use std::ffi::c_char;
 use std::{ptr, slice, str};
 
 /// The texts of a text column from one position of the table up to another.
-pub(crate) fn lent<'t>(txn: &'t Transaction<'_>, column: usize, from: u64, to: u64) -> Result<Vec<&'t str>, Error> {
+pub(crate) fn lent<'t>(txn: &'t Open<'_>, column: usize, from: u64, to: u64) -> Result<Vec<&'t str>, Error> {
     if txn.store().columns().get(column).ok_or(Error::Shape)?.column_type != ColumnType::Text {
         return Err(Error::Shape);
     }
@@ -29,10 +30,11 @@ pub(crate) fn lent<'t>(txn: &'t Transaction<'_>, column: usize, from: u64, to: u
 /// A text that the library hands out of a transaction.
 ///
 /// # Safety
-/// `pdt_texts` has filled both, and until `'t` ends its transaction makes no write, goes back to no mark and isn't over.
+/// `pdt_texts` has filled both, and until `'t` ends its transaction makes no write, goes back to no mark and isn't
+/// over.
 unsafe fn text_at<'t>(at: *const c_char, len: i64) -> &'t str {
-    // SAFETY: so many bytes lie there, which nobody writes, and they stay as long as the caller promises; where there are
-    // none the address isn't null.
+    // SAFETY: so many bytes lie there, which nobody writes, and they stay as long as the caller promises; where there
+    // are none the address isn't null.
     let bytes = unsafe { slice::from_raw_parts(at.cast(), len as usize) };
     debug_assert!(str::from_utf8(bytes).is_ok());
     // SAFETY: the library hands out the bytes of a text of a column, each of which it tested when it came in.

@@ -1,15 +1,13 @@
-//! An open transaction: its writes, and its reads row by row.
-use crate::batch::{Batch, Batches};
-use crate::cells::{Passed, filled, row_of};
+//! An open transaction: how it ends, its writes and its marks.
+use crate::cells::Passed;
 use crate::error::done;
+use crate::keeper::Keeper;
 use crate::marks::{Mark, Marks};
-use crate::store::{ColumnType, Keeper};
-use crate::{CellRef, CommitError, Error, Prepared, Row, Store, ffi, texts};
-use std::ffi::{c_int, c_void};
+use crate::{CellRef, CommitError, Error, Prepared, Refusal, Store, ffi};
+use std::ffi::c_int;
 use std::fmt;
-use std::mem::{ManuallyDrop, take};
-use std::ops::{Bound, RangeBounds};
-use std::ptr::{self, NonNull};
+use std::mem::take;
+use std::ptr::NonNull;
 
 /// Room for the texts of a row that is read without asking twice.
 pub(crate) const TEXT_ROOM: usize = 512;
@@ -27,17 +25,72 @@ pub struct Rank {
 /// that is dropped is aborted. It may be sent to another thread, and is used by one at a time. It borrows its store or,
 /// where [`Store::begin_shared`] began it, keeps a share of it.
 ///
-/// Writes want it for themselves (`&mut self`), so that what a [`Batch`] or a text borrows stays where it is.
+/// Writes want it for themselves (`&mut self`), so that what a [`Batch`](crate::Batch) or a text borrows stays where it
+/// is.
 ///
 /// A row and a key are given as anything that iterates over cells: `[10]`, [`cells!`](crate::cells), a `&Row`.
-pub struct Transaction<'s> {
-    raw: NonNull<ffi::Txn>,
-    store: Keeper<'s>,
+///
+/// A work's transaction over a table is a [`Part`](crate::Part): the same reads, writes and marks, but it ends with the
+/// work, and is neither committed nor prepared. What is to take either is generic: `fn f<E: Ending>(txn: &mut
+/// Transaction<'_, E>)`.
+pub struct Transaction<'s, E: Ending = Alone> {
+    pub(crate) open: Open<'s>,
     marks: Marks,
+    ending: E,
 }
 
 // SAFETY: a `pdt_txn` is used by one thread at a time, whichever that is: it isn't `Sync`, so no two threads have it.
+// One that is a part of a work stays on the work's thread.
 unsafe impl Send for Transaction<'_> {}
+
+/// The library's transaction, which is open, and the store that it is over.
+#[derive(Debug)]
+pub(crate) struct Open<'s> {
+    raw: NonNull<ffi::Txn>,
+    store: Keeper<'s>,
+}
+
+impl Open<'_> {
+    pub(crate) fn raw(&self) -> *mut ffi::Txn {
+        self.raw.as_ptr()
+    }
+
+    pub(crate) fn store(&self) -> &Store {
+        &self.store
+    }
+}
+
+/// How a transaction ends: by itself ([`Alone`]), or with its work ([`InWork`](crate::InWork)).
+pub trait Ending: sealed::Ends {}
+
+pub(crate) mod sealed {
+    use crate::ffi;
+    use crate::marks::Marks;
+
+    /// What is done once nothing uses a transaction any more.
+    pub trait Ends {
+        /// Called once, with its store still there.
+        fn end(&mut self, txn: *mut ffi::Txn, marks: Marks);
+    }
+}
+
+/// A transaction that ends by itself: it is committed, or aborted when it is dropped.
+#[derive(Debug)]
+pub struct Alone {
+    /// The library has ended it already.
+    is_over: bool,
+}
+
+impl Ending for Alone {}
+
+impl sealed::Ends for Alone {
+    fn end(&mut self, txn: *mut ffi::Txn, _: Marks) {
+        if !self.is_over {
+            // SAFETY: the transaction is open, and nothing uses it any more; its store is kept, and so is open.
+            unsafe { ffi::pdt_abort(txn) };
+        }
+    }
+}
 
 impl<'s> Transaction<'s> {
     /// A transaction that has just begun.
@@ -45,30 +98,12 @@ impl<'s> Transaction<'s> {
     /// # Safety
     /// `raw` is open, a transaction over this store, and nobody else has it.
     pub(crate) unsafe fn adopt(raw: NonNull<ffi::Txn>, store: Keeper<'s>) -> Transaction<'s> {
-        Transaction { raw, store, marks: Marks::default() }
-    }
-
-    pub(crate) fn raw(&self) -> *mut ffi::Txn {
-        self.raw.as_ptr()
-    }
-
-    /// The store that it is over.
-    pub fn store(&self) -> &Store {
-        &self.store
-    }
-
-    /// The number of the table that it sees beneath its own writes: how many commits made it.
-    pub fn begun(&self) -> u64 {
-        let mut number = 0;
-        // SAFETY: the transaction is open.
-        let code = unsafe { ffi::pdt_begun(self.raw(), &mut number) };
-        debug_assert_eq!(ffi::OK, code);
-        number
+        Transaction { open: Open { raw, store }, marks: Marks::default(), ending: Alone { is_over: false } }
     }
 
     /// Commits, and answers the number of the newest table; one that changes nothing takes no number, is never refused,
-    /// and answers the number that it [saw](Transaction::begun). It is over then, unless memory was refused: then
-    /// [`CommitError::NoMemory`] gives it back as it was.
+    /// and answers the number that it [saw](Transaction::begun). It is over then, unless the refusal gives it back: as
+    /// [`CommitError::NoMemory`] does, where memory was refused.
     ///
     /// ```
     /// use narthexmace::{CommitError, Error, Options, Store};
@@ -80,9 +115,13 @@ impl<'s> Transaction<'s> {
     /// assert!(matches!(second.commit(), Err(CommitError::Conflict(1))));
     /// # Ok::<(), Error>(())
     /// ```
+    ///
+    /// Over a table of a [`Database`](crate::Database) it waits as its [`SyncMode`](crate::SyncMode) says, and the number
+    /// is that of the database's newest commit. Then also [`CommitError::Unsure`], which may come of one that changes
+    /// nothing too where reads are early, [`CommitError::Failed`] and [`CommitError::TooLong`].
     pub fn commit(self) -> Result<u64, CommitError<'s>> {
         let mut number = 0;
-        // SAFETY: the transaction is open; unless the answer is NOMEM or MISUSE it is over.
+        // SAFETY: the transaction is open; it is over then, unless the answer is one that gives it back.
         let code = unsafe { ffi::pdt_commit(self.raw(), &mut number) };
         if code != ffi::OK {
             return Err(self.refused(code, number));
@@ -95,39 +134,64 @@ impl<'s> Transaction<'s> {
     /// log, and does it or gives it up. Refused as [`commit`](Transaction::commit).
     pub fn prepare(self) -> Result<Prepared<'s>, CommitError<'s>> {
         let mut number = 0;
-        // SAFETY: the transaction is open; unless the answer is OK, NOMEM or MISUSE it is over.
+        // SAFETY: the transaction is open; it is so after OK too, and over after an answer that doesn't give it back.
         let code = unsafe { ffi::pdt_prepare(self.raw(), &mut number) };
         if code == ffi::OK { Ok(Prepared::new(self, number)) } else { Err(self.refused(code, number)) }
     }
 
     /// The refusal of a commit, which has ended the transaction unless it gives it back.
     fn refused(self, code: c_int, number: u64) -> CommitError<'s> {
-        let refusal = match code {
-            ffi::NOMEM => return CommitError::NoMemory(self),
-            ffi::MISUSE => return CommitError::Misuse(self),
-            ffi::CONFLICT => CommitError::Conflict(number),
-            ffi::TOO_OLD => CommitError::TooOld(number),
-            ffi::FULL => CommitError::Full(number),
-            code => unreachable!("no commit answers {code}"),
-        };
-        self.forget();
+        let (refusal, over) = Refusal::of(code, number, self);
+        if let Some(over) = over {
+            over.forget();
+        }
         refusal
     }
 
     /// Lets a transaction go that the library has ended.
-    pub(crate) fn forget(self) {
-        let mut over = ManuallyDrop::new(self);
-        drop(take(&mut over.marks));
-        // SAFETY: what is over is neither used nor dropped any more, so that its store is taken out of it once.
-        drop(unsafe { ptr::read(&over.store) });
+    pub(crate) fn forget(mut self) {
+        self.ending.is_over = true;
     }
 
     /// Ends the transaction and leaves no record of it, as a drop does.
     pub fn abort(self) {}
+}
+
+impl<'s, E: Ending> Transaction<'s, E> {
+    /// A work's transaction, with the marks that stand in it.
+    ///
+    /// # Safety
+    /// `raw` is open as long as `'s`, a transaction over this store, and nobody else uses it.
+    pub(crate) unsafe fn lent(
+        raw: NonNull<ffi::Txn>,
+        store: Keeper<'s>,
+        marks: Marks,
+        ending: E,
+    ) -> Transaction<'s, E> {
+        Transaction { open: Open { raw, store }, marks, ending }
+    }
+
+    pub(crate) fn raw(&self) -> *mut ffi::Txn {
+        self.open.raw()
+    }
+
+    /// The store that it is over.
+    pub fn store(&self) -> &Store {
+        self.open.store()
+    }
+
+    /// The number of the table that it sees beneath its own writes: how many commits made it.
+    pub fn begun(&self) -> u64 {
+        let mut number = 0;
+        // SAFETY: the transaction is open.
+        let code = unsafe { ffi::pdt_begun(self.raw(), &mut number) };
+        debug_assert_eq!(ffi::OK, code);
+        number
+    }
 
     /// Inserts a row. [`Error::Duplicate`], [`Error::Full`], [`Error::Shape`], [`Error::NoMemory`].
     pub fn insert<'c, C: Into<CellRef<'c>>>(&mut self, row: impl IntoIterator<Item = C>) -> Result<(), Error> {
-        let row = Passed::of(row, self.store.columns())?;
+        let row = Passed::of(row, self.store().columns())?;
         // SAFETY: the transaction is open; there are as many numbers as columns, and as many bytes as is said.
         done(unsafe { ffi::pdt_insert(self.raw(), row.numbers(), row.texts(), row.bytes()) })
     }
@@ -149,7 +213,7 @@ impl<'s> Transaction<'s> {
     ) -> Result<(), Error> {
         let key = self.key(key)?;
         let cell = cell.into();
-        cell.check(self.store.columns().get(column).ok_or(Error::Shape)?)?;
+        cell.check(self.store().columns().get(column).ok_or(Error::Shape)?)?;
         let (number, text) = (cell.number(), cell.bytes().as_ptr().cast());
         // SAFETY: the transaction is open; there are as many numbers as key columns, and as many bytes as is said; of a
         // text column the cell is a text, whose number is how many bytes it has.
@@ -178,8 +242,8 @@ impl<'s> Transaction<'s> {
         Ok(self.marks.push(level))
     }
 
-    /// Undoes the writes since a mark, as if they had never been asked for. The mark stays, and those after it are gone.
-    /// It takes no memory. [`Error::Missing`] of a mark that is gone, or of another transaction: nothing changes.
+    /// Undoes the writes since a mark, as if they had never been asked for. The mark stays, and those after it are
+    /// gone. It takes no memory. [`Error::Missing`] of a mark that is gone, or of another transaction: nothing changes.
     pub fn back_to(&mut self, mark: &Mark) -> Result<(), Error> {
         let level = self.marks.level(mark)?;
         // SAFETY: the transaction is open.
@@ -198,169 +262,19 @@ impl<'s> Transaction<'s> {
         Ok(())
     }
 
-    /// How many rows there are.
-    pub fn rows(&self) -> u64 {
-        let mut rows = 0;
-        // SAFETY: the transaction is open.
-        let code = unsafe { ffi::pdt_rows(self.raw(), &mut rows) };
-        debug_assert_eq!(ffi::OK, code);
-        rows
-    }
-
-    /// Where a key stands: a range of keys is the positions between two ranks. In logarithmic time. [`Error::Shape`],
-    /// [`Error::NoMemory`].
-    pub fn rank<'c, C: Into<CellRef<'c>>>(&self, key: impl IntoIterator<Item = C>) -> Result<Rank, Error> {
-        let key = self.key(key)?;
-        let mut rank = Rank { below: 0, there: false };
-        let (below, there) = (&mut rank.below, &mut rank.there);
-        // SAFETY: the transaction is open; there are as many numbers as key columns, and as many bytes as is said.
-        done(unsafe { ffi::pdt_rank(self.raw(), key.numbers(), key.texts(), key.bytes(), below, there) })?;
-        Ok(rank)
-    }
-
-    /// The row of a key, or none. [`Error::Shape`], [`Error::NoMemory`].
-    pub fn get<'c, C: Into<CellRef<'c>>>(&self, key: impl IntoIterator<Item = C>) -> Result<Option<Row>, Error> {
-        let key = self.key(key)?;
-        self.read_row(|numbers, out, room, needed| {
-            // SAFETY: the transaction is open; the key is as many numbers as key columns, and as many bytes as is said;
-            // `read_row` hands in room for a row.
-            unsafe { ffi::pdt_get(self.raw(), key.numbers(), key.texts(), key.bytes(), numbers, out, room, needed) }
-        })
-    }
-
-    /// The row at a position, or none past the end. [`Error::NoMemory`].
-    pub fn row_at(&self, position: u64) -> Result<Option<Row>, Error> {
-        self.read_row(|numbers, out, room, needed| {
-            // SAFETY: the transaction is open; `read_row` hands in room for a row.
-            unsafe { ffi::pdt_row_at(self.raw(), position, numbers, out, room, needed) }
-        })
-    }
-
-    /// The cells of chosen columns between two positions, cut to the end of the table: see [`Batch`]. [`Error::Shape`]
-    /// of a column that isn't there, [`Error::NoMemory`].
-    pub fn batch(&self, columns: &[usize], positions: impl RangeBounds<u64>) -> Result<Batch<'_>, Error> {
-        let (from, to) = self.within(positions);
-        Batch::read(self, columns, from, to)
-    }
-
-    /// The same, in batches of so many rows, one at least; the last one has what is left. [`Error::Shape`] of a column
-    /// that isn't there, [`Error::NoMemory`]; and each batch of its own [`Error::NoMemory`], after which none comes.
-    ///
-    /// ```
-    /// use narthexmace::{Error, Options, Store};
-    /// let store = Store::open("id:int:key,qty:int\n10,7\n20,2\n30,4\n", &Options::default())?;
-    /// let txn = store.begin()?;
-    /// let mut sums = Vec::new();
-    /// for batch in txn.batches(&[1], .., 2)? {
-    ///     sums.push(batch?.ints(0).unwrap().iter().sum::<i64>());
-    /// }
-    /// assert_eq!(vec![9, 4], sums);
-    /// # Ok::<(), Error>(())
-    /// ```
-    pub fn batches(
-        &self,
-        columns: &[usize],
-        positions: impl RangeBounds<u64>,
-        rows: usize,
-    ) -> Result<Batches<'_>, Error> {
-        let (from, to) = self.within(positions);
-        Batches::over(self, columns, from, to, rows)
-    }
-
-    /// The texts of a text column between two positions, cut to the end of the table, each lent where it lies: no byte is
-    /// copied, and no write, commit or abort of the transaction compiles while one is there. [`Error::Shape`] of a column
-    /// that isn't there or isn't one of texts, [`Error::NoMemory`].
-    ///
-    /// ```
-    /// use narthexmace::{Error, Options, Store};
-    /// let store = Store::open("id:int:key,name:text\n10,Ann\n20,Bob\n30,\n", &Options::default())?;
-    /// let mut txn = store.begin()?;
-    /// txn.set([20], 1, "Rob")?;
-    /// assert_eq!(vec!["Rob", ""], txn.texts(1, 1..)?);
-    /// # Ok::<(), Error>(())
-    /// ```
-    pub fn texts(&self, column: usize, positions: impl RangeBounds<u64>) -> Result<Vec<&str>, Error> {
-        let (from, to) = self.within(positions);
-        texts::lent(self, column, from, to)
-    }
-
-    /// The truths of a bool column from a position on, a byte of 0 or 1 for each, as many as there is room for and rows to
-    /// the end of the table. Answers how many bytes were written; those after them stay. [`Error::Shape`] of a column that
-    /// isn't there or isn't one of truths.
-    ///
-    /// ```
-    /// use narthexmace::{Error, Options, Store};
-    /// let store = Store::open("id:int:key,ok:bool\n10,true\n20,false\n30,true\n", &Options::default())?;
-    /// let txn = store.begin()?;
-    /// let mut truths = [9; 4];
-    /// assert_eq!(2, txn.bools(1, 1, &mut truths)?);
-    /// assert_eq!([0, 1, 9, 9], truths);
-    /// # Ok::<(), Error>(())
-    /// ```
-    pub fn bools(&self, column: usize, from: u64, truths: &mut [u8]) -> Result<usize, Error> {
-        if self.store.columns().get(column).ok_or(Error::Shape)?.column_type != ColumnType::Bool {
-            return Err(Error::Shape);
-        }
-        let mut count = truths.len();
-        // SAFETY: the transaction is open, and there is room for as many truths as `count` says.
-        done(unsafe { ffi::pdt_bools(self.raw(), column, from, truths.as_mut_ptr(), &mut count) })?;
-        Ok(count)
-    }
-
-    fn key<'c, C: Into<CellRef<'c>>>(&self, key: impl IntoIterator<Item = C>) -> Result<Passed, Error> {
-        Passed::of(key, &self.store.columns()[..self.store.key_columns()])
-    }
-
-    /// The positions from the first up to but without the second, both cut to the length of the table.
-    fn within(&self, positions: impl RangeBounds<u64>) -> (u64, u64) {
-        let rows = self.rows();
-        let from = match positions.start_bound() {
-            Bound::Included(from) => *from,
-            Bound::Excluded(before) => before.saturating_add(1),
-            Bound::Unbounded => 0,
-        };
-        let to = match positions.end_bound() {
-            Bound::Included(last) => last.saturating_add(1),
-            Bound::Excluded(to) => *to,
-            Bound::Unbounded => rows,
-        };
-        let to = to.min(rows);
-        (from.min(to), to)
-    }
-
-    /// Reads a row by a call of the library, which is handed room for as many numbers as columns, and for texts: first
-    /// what does for most rows, then what the library asked for.
-    fn read_row(&self, call: impl Fn(*mut i64, *mut c_void, usize, *mut usize) -> c_int) -> Result<Option<Row>, Error> {
-        let mut numbers = [0; ffi::MAX_COLUMNS];
-        let mut first = [0u8; TEXT_ROOM];
-        let mut more;
-        let mut room = &mut first[..];
-        loop {
-            let mut needed = 0;
-            match call(numbers.as_mut_ptr(), room.as_mut_ptr().cast(), room.len(), &mut needed) {
-                ffi::MISSING => return Ok(None),
-                ffi::TOO_SMALL => {
-                    more = filled(needed, 0u8)?;
-                    room = &mut more;
-                }
-                code => {
-                    done(code)?;
-                    let texts = std::str::from_utf8(&room[..needed]).expect("the texts of a row are UTF-8");
-                    return row_of(self.store.columns(), &numbers, texts).map(Some);
-                }
-            }
-        }
+    /// A key, as the library takes it.
+    pub(crate) fn key<'c, C: Into<CellRef<'c>>>(&self, key: impl IntoIterator<Item = C>) -> Result<Passed, Error> {
+        Passed::of(key, &self.store().columns()[..self.store().key_columns()])
     }
 }
 
-impl Drop for Transaction<'_> {
+impl<E: Ending> Drop for Transaction<'_, E> {
     fn drop(&mut self) {
-        // SAFETY: the transaction is open, and nothing uses it any more; its store is kept, and so is open.
-        unsafe { ffi::pdt_abort(self.raw()) };
+        self.ending.end(self.open.raw(), take(&mut self.marks));
     }
 }
 
-impl fmt::Debug for Transaction<'_> {
+impl<E: Ending> fmt::Debug for Transaction<'_, E> {
     fn fmt(&self, f: &mut fmt::Formatter<'_>) -> fmt::Result {
         f.debug_struct("Transaction").field("store", self.store()).finish_non_exhaustive()
     }

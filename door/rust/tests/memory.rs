@@ -1,127 +1,14 @@
 //! Each allocation of a run is refused in turn, this crate's own among them: the call answers `NoMemory`, or did
 //! without, made again it does its work, and the table at the end is as wanted.
-use narthexmace::{Change, CommitError, Entry, Error, Options, Prepared, Row, Store, Transaction, cells};
-use std::cell::Cell;
+#[path = "fixtures/memory.rs"]
+mod fixtures;
+
+use fixtures::{GRANTED, LIVE, Run};
+use narthexmace::{Change, Entry, Error, Options, Row, Store, Transaction, cells};
 use std::collections::BTreeSet;
-use std::ffi::c_void;
 use std::path::Path;
-use std::ptr::null_mut;
 use std::sync::Arc;
 use std::{env, fs, process};
-
-thread_local! {
-    /// How many allocations of this thread it has not freed.
-    static LIVE: Cell<isize> = const { Cell::new(0) };
-    /// How many allocations of this thread are granted before one is refused; none is where there is no number.
-    static GRANTED: Cell<Option<usize>> = const { Cell::new(None) };
-}
-
-// glibc's own, under the names that stand below
-unsafe extern "C" {
-    fn __libc_malloc(size: usize) -> *mut c_void;
-    fn __libc_calloc(count: usize, size: usize) -> *mut c_void;
-    fn __libc_realloc(at: *mut c_void, size: usize) -> *mut c_void;
-    fn __libc_free(at: *mut c_void);
-}
-
-/// Whether this allocation is the one to be refused.
-fn is_refused() -> bool {
-    let granted = GRANTED.get();
-    GRANTED.set(granted.and_then(|count| count.checked_sub(1)));
-    granted == Some(0)
-}
-
-/// Makes an allocation, unless it is the one to be refused.
-fn allocated(allocation: impl FnOnce() -> *mut c_void) -> *mut c_void {
-    if is_refused() {
-        return null_mut();
-    }
-    LIVE.set(LIVE.get() + 1);
-    allocation()
-}
-
-#[unsafe(no_mangle)]
-extern "C" fn malloc(size: usize) -> *mut c_void {
-    // SAFETY: as malloc is called.
-    allocated(|| unsafe { __libc_malloc(size) })
-}
-
-#[unsafe(no_mangle)]
-extern "C" fn calloc(count: usize, size: usize) -> *mut c_void {
-    // SAFETY: as calloc is called.
-    allocated(|| unsafe { __libc_calloc(count, size) })
-}
-
-/// # Safety
-/// As free's.
-#[unsafe(no_mangle)]
-unsafe extern "C" fn free(at: *mut c_void) {
-    LIVE.set(LIVE.get() - isize::from(!at.is_null()));
-    // SAFETY: as free is called.
-    unsafe { __libc_free(at) }
-}
-
-/// # Safety
-/// As realloc's.
-#[unsafe(no_mangle)]
-unsafe extern "C" fn realloc(at: *mut c_void, size: usize) -> *mut c_void {
-    if at.is_null() {
-        return malloc(size);
-    }
-    // SAFETY: as realloc is called.
-    if is_refused() { null_mut() } else { unsafe { __libc_realloc(at, size) } }
-}
-
-/// A run in which one allocation is refused.
-struct Run {
-    /// How many allocations are granted before that one, or none after it.
-    granted: Option<usize>,
-    /// The calls that were told of it.
-    told: BTreeSet<&'static str>,
-}
-
-impl Run {
-    /// Makes a call, its allocations counted.
-    fn counted<T>(&mut self, call: impl FnOnce() -> T) -> T {
-        GRANTED.set(self.granted);
-        let answer = call();
-        self.granted = GRANTED.replace(None);
-        answer
-    }
-
-    /// Makes a call, and again where it was refused.
-    fn made<T>(&mut self, name: &'static str, mut call: impl FnMut() -> Result<T, Error>) -> T {
-        match self.counted(&mut call) {
-            Err(Error::NoMemory) => {
-                self.told.insert(name);
-                call().unwrap()
-            }
-            answer => answer.unwrap(),
-        }
-    }
-
-    /// Commits a transaction, and again where it was refused and given back.
-    fn committed(&mut self, txn: Transaction<'_>) -> u64 {
-        match self.counted(|| txn.commit()) {
-            Err(CommitError::NoMemory(again)) => {
-                self.told.insert("commit");
-                again.commit().unwrap()
-            }
-            answer => answer.unwrap(),
-        }
-    }
-
-    /// Prepares the commit of a transaction, and again where it was refused and given back.
-    fn prepared<'s>(&mut self, txn: Transaction<'s>) -> Prepared<'s> {
-        match self.counted(|| txn.prepare()) {
-            Err(CommitError::NoMemory(again)) => {
-                self.told.insert("prepare");
-                again.prepare().unwrap()
-            }
-            answer => answer.unwrap(),
-        }
-    }
-}
 
 const TABLE: &str = "id:int:key,name:text,ok:bool,qty:int\n10,Ann,false,1\n20,Bob,true,2\n30,Cid,true,3\n";
 const CALLS: [&str; 23] = [

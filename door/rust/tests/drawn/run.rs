@@ -328,7 +328,7 @@ impl<'s> Run<'s> {
             Err(CommitError::Conflict(newest)) => Err((Refusal::Conflict, newest)),
             Err(CommitError::TooOld(newest)) => Err((Refusal::TooOld, newest)),
             Err(CommitError::Full(newest)) => Err((Refusal::Full, newest)),
-            Err(refused @ (CommitError::NoMemory(_) | CommitError::Misuse(_))) => panic!("{refused}"),
+            Err(refused) => panic!("{refused}"),
         };
         assert_eq!(wanted.map_err(|refusal| (refusal, number)), found);
         match wanted {

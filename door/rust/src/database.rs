@@ -1,0 +1,322 @@
+//! A folder of tables that last.
+use crate::cells::owned;
+use crate::columns::Passed;
+use crate::error::done;
+use crate::keeper::Keeper;
+use crate::opening::unfilled;
+use crate::store::path_of;
+use crate::table::{Handle, Handles};
+use crate::{
+    ColumnValues, ColumnsError, DatabaseCounts, DatabaseError, DatabaseOptions, Error, OpenError, Options, Report,
+    Store, Table, TableFault, Work, ffi,
+};
+use std::ffi::{CStr, c_char, c_int};
+use std::fmt;
+use std::path::Path;
+use std::ptr::{self, NonNull};
+use std::sync::{Arc, Mutex, MutexGuard, PoisonError};
+
+/// A folder of tables that last. What was committed on one of them, or on several by a [`Work`], is there when the
+/// folder is opened again, whatever ended the process, or the machine. All tables have one numbering of commits, which
+/// goes on then. A thread of its own folds, makes images of the tables and takes away what is no longer needed. Threads
+/// share it.
+///
+/// Nothing in the folder is to be changed by hand; it may be copied while no process has it open.
+///
+/// A table, a transaction, a pin or a work that is forgotten ([`std::mem::forget`]) stays, and so the database is never
+/// closed, but by the end of its process.
+///
+/// ```
+/// # fn run(folder: &std::path::Path) -> Result<(), narthexmace::Error> {
+/// use narthexmace::{Database, DatabaseOptions, Options, cells};
+/// let (database, report) = Database::open(folder, &DatabaseOptions::default())?;
+/// assert_eq!(0, report.commits);
+/// database.create("people", "id:int:key,name:text\n", &Options::default())?;
+/// let people = database.table("people")?;
+/// let mut txn = people.begin()?;
+/// txn.insert(cells![10, "Ann"])?;
+/// txn.commit()?; // on the device once this returns
+/// drop(people);
+/// database.close()?;
+///
+/// let (database, report) = Database::open(folder, &DatabaseOptions::default())?;
+/// assert_eq!((1, 1), (report.commits, report.replayed));
+/// assert_eq!(vec!["people"], database.names()?);
+/// assert_eq!(1, database.table("people")?.begin()?.rows());
+/// # Ok(())
+/// # }
+/// # let folder = std::env::temp_dir().join(format!("narthexmace-database-{}", std::process::id()));
+/// # run(&folder).unwrap();
+/// # std::fs::remove_dir_all(&folder).unwrap();
+/// ```
+pub struct Database {
+    raw: NonNull<ffi::Database>,
+    handles: Mutex<Handles>,
+    is_closed: bool,
+}
+
+// SAFETY: a database is no thread's own, and closed by whichever drops it.
+unsafe impl Send for Database {}
+// SAFETY: each call on a `pdt_database` but its close takes its locks. The close comes when nobody has the database.
+unsafe impl Sync for Database {}
+
+/// The name of a table, as the library takes it.
+type Name = [c_char; ffi::MAX_NAME + 1];
+
+impl Database {
+    /// Opens the database in a folder, which is made where there is none: not those above it.
+    ///
+    /// [`DatabaseError`] says why it isn't opened, and of damage which file or which commit is at fault.
+    pub fn open(folder: impl AsRef<Path>, options: &DatabaseOptions) -> Result<(Database, Report), DatabaseError> {
+        let folder = path_of(folder.as_ref())?;
+        let options = options.passed()?;
+        let (mut raw, mut report) = (ptr::null_mut(), unfilled());
+        // SAFETY: the path ends with a zero; it, the options, `raw` and the report, which says its size, are there
+        // during the call.
+        let opened = done(unsafe { ffi::pdt_database_open(folder.as_ptr(), &options, &mut raw, &mut report) });
+        let report = Report::told(opened, &report)?;
+        let raw = NonNull::new(raw).expect("an opening that is done hands out a database");
+        Ok((Database { raw, handles: Mutex::default(), is_closed: false }, report))
+    }
+
+    /// The address by which the library knows the database.
+    pub(crate) fn as_raw(&self) -> *mut ffi::Database {
+        self.raw.as_ptr()
+    }
+
+    /// Who has which tables.
+    pub(crate) fn handles(&self) -> MutexGuard<'_, Handles> {
+        self.handles.lock().unwrap_or_else(PoisonError::into_inner)
+    }
+
+    /// Makes a table of a name over a CSV text, as [`Store::open`] does: a header alone makes an empty one. It is on
+    /// the device when this returns, with its options, which it keeps, and it lasts until it is dropped.
+    ///
+    /// A name has 1 to 64 bytes, none of them below 32 or 127: else [`Error::Shape`]. [`Error::Exists`] where there is a
+    /// table of the name; [`Error::Io`], [`Error::Failed`]; [`Error::Misuse`] where this thread has a commit of the
+    /// database prepared; and those of [`Store::open`]. Where it is this crate that memory is refused to, the table is
+    /// there after [`Error::NoMemory`], and [`table`](Database::table) has it: else there is no such table after an error.
+    pub fn create(&self, name: &str, csv: impl AsRef<[u8]>, options: &Options) -> Result<Table<'_>, OpenError> {
+        let (passed, csv, options) = (name_of(name)?, csv.as_ref(), options.passed()?);
+        let mut raw = ptr::null_mut();
+        let mut fault = ffi::Fault { place: ffi::Place::default(), cause: ptr::null() };
+        // SAFETY: the database is open while `self` is there; the name ends with a zero, the pointer and the length are
+        // one slice's, and all is there during the call.
+        let code = unsafe {
+            let (text, bytes) = (csv.as_ptr().cast(), csv.len());
+            ffi::pdt_table_create_csv(self.as_raw(), passed.as_ptr(), text, bytes, &options, &mut fault, &mut raw)
+        };
+        if code == ffi::BAD_TABLE {
+            // SAFETY: at this code the library has told the fault.
+            return Err(OpenError::BadTable(unsafe { TableFault::told(&fault) }));
+        }
+        done(code)?;
+        Ok(self.table(name)?)
+    }
+
+    /// Makes a table of a name over columns, as [`Store::from_columns`] does; else as [`create`](Database::create).
+    pub fn create_from_columns(
+        &self,
+        name: &str,
+        columns: &[(&str, ColumnValues<'_>)],
+        key: usize,
+        options: &Options,
+    ) -> Result<Table<'_>, ColumnsError> {
+        let (passed, options) = (name_of(name)?, options.passed()?);
+        Passed::of(columns)?.open(|columns, place, raw| {
+            let (at, count) = (columns.as_ptr(), columns.len());
+            // SAFETY: the database is open while `self` is there; the name ends with a zero, each column has as many
+            // values as it says, where it says, and all is there during the call.
+            unsafe { ffi::pdt_table_create(self.as_raw(), passed.as_ptr(), at, count, key, &options, place, raw) }
+        })?;
+        Ok(self.table(name)?)
+    }
+
+    /// The table of a name: [`Error::Missing`] where there is none, [`Error::NoMemory`].
+    pub fn table(&self, name: &str) -> Result<Table<'_>, Error> {
+        let (raw, handle) = taken(Keeper::Lent(self), name)?;
+        // SAFETY: the handle is of this store's table.
+        unsafe { Table::adopt(raw, handle) }
+    }
+
+    /// The same of a database that is shared: a store that keeps a share of it. The database is closed once it and all
+    /// such are gone.
+    ///
+    /// ```
+    /// # fn run(folder: &std::path::Path) -> Result<(), narthexmace::Error> {
+    /// use narthexmace::{Database, DatabaseOptions, Error, Options, Store, Work};
+    /// use std::sync::Arc;
+    ///
+    /// struct Session {
+    ///     database: Arc<Database>,
+    ///     items: Store,
+    ///     open: Option<Work<'static>>,
+    /// }
+    ///
+    /// impl Session {
+    ///     fn insert(&mut self, id: i64) -> Result<(), Error> {
+    ///         let work = self.open.get_or_insert(self.database.begin_shared()?);
+    ///         work.on(&self.items)?.insert([id])
+    ///     }
+    /// }
+    ///
+    /// let database = Arc::new(Database::open(folder, &DatabaseOptions::default())?.0);
+    /// database.create("items", "id:int:key\n", &Options::default())?;
+    /// let items = database.table_shared("items")?;
+    /// let mut session = Session { database, items, open: None };
+    /// session.insert(1)?;
+    /// session.insert(2)?;
+    /// assert_eq!(1, session.open.take().unwrap().commit()?);
+    /// assert_eq!(2, session.items.begin()?.rows());
+    /// # Ok(())
+    /// # }
+    /// # let folder = std::env::temp_dir().join(format!("narthexmace-session-{}", std::process::id()));
+    /// # run(&folder).unwrap();
+    /// # std::fs::remove_dir_all(&folder).unwrap();
+    /// ```
+    pub fn table_shared(self: &Arc<Database>, name: &str) -> Result<Store, Error> {
+        let (raw, handle) = taken(Keeper::Shared(Arc::clone(self)), name)?;
+        // SAFETY: the store is a table of a database, both of which stay as long as the handle, which the store has.
+        unsafe { Store::of_database(raw, Some(handle)) }
+    }
+
+    /// The names of the tables, in the order in which they were made. Where others make or drop tables meanwhile, those
+    /// may be among them or not. [`Error::NoMemory`].
+    pub fn names(&self) -> Result<Vec<String>, Error> {
+        let tables = self.counts().tables;
+        let mut names = Vec::new();
+        names.try_reserve_exact(tables)?;
+        for index in (0..tables).rev() {
+            // from the last one: a drop meanwhile moves later tables to the front, so that one comes twice, and none is
+            // left out
+            if let Some(name) = self.name_at(index)?.filter(|name| names.last() != Some(name)) {
+                names.push(name);
+            }
+        }
+        names.reverse();
+        Ok(names)
+    }
+
+    fn name_at(&self, index: usize) -> Result<Option<String>, Error> {
+        let mut name: Name = [0; ffi::MAX_NAME + 1];
+        // SAFETY: the database is open while `self` is there, and there is as much room as is said.
+        match unsafe { ffi::pdt_table_name(self.as_raw(), index, name.as_mut_ptr(), name.len()) } {
+            ffi::MISSING => Ok(None),
+            code => {
+                done(code)?;
+                // SAFETY: the library has written the name into the room, with a zero at its end.
+                let name = unsafe { CStr::from_ptr(name.as_ptr()) };
+                owned(name.to_str().expect("the name of a table is UTF-8")).map(Some)
+            }
+        }
+    }
+
+    /// Drops the table of a name.
+    ///
+    /// [`Error::Missing`] where there is none. [`Error::Misuse`] while anybody has it ([`Table`], or a store by
+    /// [`table_shared`](Database::table_shared)), while a work is open that began when it was there, and where this
+    /// thread has a commit of the database prepared. [`Error::Io`], [`Error::Failed`], [`Error::NoMemory`]: it stays.
+    pub fn drop_table(&self, name: &str) -> Result<(), Error> {
+        let passed = name_of(name).map_err(|_| Error::Missing)?;
+        let table = {
+            let mut handles = self.handles();
+            let table = self.find(&passed)? as usize;
+            handles.begin_drop(table)?;
+            table
+        };
+        // SAFETY: the database is open while `self` is there, and the name ends with a zero; nobody has the table or
+        // takes it.
+        let dropped = done(unsafe { ffi::pdt_table_drop(self.as_raw(), passed.as_ptr()) });
+        self.handles().end_drop(table);
+        dropped
+    }
+
+    /// The store of the table of a name, or `Missing`. It stays there while the handles are locked.
+    fn find(&self, name: &Name) -> Result<*mut ffi::Store, Error> {
+        let mut raw = ptr::null_mut();
+        // SAFETY: the database is open while `self` is there; the name ends with a zero, and it and `raw` are there
+        // during the call.
+        done(unsafe { ffi::pdt_table_open(self.as_raw(), name.as_ptr(), &mut raw) })?;
+        Ok(raw)
+    }
+
+    /// Begins a work: a transaction over all tables, which it sees at one moment. It waits for no commit.
+    /// [`Error::NoMemory`].
+    pub fn begin(&self) -> Result<Work<'_>, Error> {
+        Work::begun(Keeper::Lent(self))
+    }
+
+    /// The same of a database that is shared: the work keeps it, and so it can be kept beside it, in a session.
+    pub fn begin_shared(self: &Arc<Database>) -> Result<Work<'static>, Error> {
+        Work::begun(Keeper::Shared(Arc::clone(self)))
+    }
+
+    /// Does what is due of folds, images and files that are no longer needed, where the database has no thread of its
+    /// own ([`DatabaseOptions::upkeep`]); and waits for that one where it has. [`Error::Io`], [`Error::Failed`],
+    /// [`Error::NoMemory`]: it is due again. [`Error::Misuse`] where this thread has a commit of the database prepared.
+    pub fn upkeep(&self) -> Result<(), Error> {
+        // SAFETY: the database is open while `self` is there.
+        done(unsafe { ffi::pdt_upkeep(self.as_raw()) })
+    }
+
+    /// What it has counted since its opening, and what it keeps now.
+    pub fn counts(&self) -> DatabaseCounts {
+        let mut counts =
+            ffi::DatabaseCounts { size: size_of::<ffi::DatabaseCounts>(), ..ffi::DatabaseCounts::default() };
+        // SAFETY: the database is open while `self` is there, and the counts say how much room they have.
+        let code = unsafe { ffi::pdt_database_count(self.as_raw(), &mut counts) };
+        assert_eq!(ffi::OK, code, "a database counts whatever else it does");
+        DatabaseCounts::told(&counts)
+    }
+
+    /// Closes the database, as a drop does, and says how that went. What was committed is on the device then, whatever
+    /// the [`SyncMode`](crate::SyncMode). [`Error::Unsure`] where that fails: it is closed all the same.
+    /// [`Error::Misuse`] where a table's transaction, a pin or a work was forgotten: it stays open then, until the
+    /// process ends.
+    pub fn close(mut self) -> Result<(), Error> {
+        done(self.end())
+    }
+
+    fn end(&mut self) -> c_int {
+        self.is_closed = true;
+        // SAFETY: nobody else uses the database, since each table and work keeps it. Where a transaction of one was
+        // forgotten the library answers MISUSE, and the database stays.
+        unsafe { ffi::pdt_database_close(self.as_raw()) }
+    }
+}
+
+impl Drop for Database {
+    fn drop(&mut self) {
+        if !self.is_closed {
+            self.end();
+        }
+    }
+}
+
+impl fmt::Debug for Database {
+    fn fmt(&self, f: &mut fmt::Formatter<'_>) -> fmt::Result {
+        f.debug_struct("Database").field("tables", &self.counts().tables).finish_non_exhaustive()
+    }
+}
+
+/// The store of the table of a name, and a handle of it.
+fn taken<'d>(database: Keeper<'d, Database>, name: &str) -> Result<(*mut ffi::Store, Handle<'d>), Error> {
+    let name = name_of(name).map_err(|_| Error::Missing)?;
+    let raw = {
+        let mut handles = database.handles();
+        let raw = database.find(&name)?;
+        handles.take(raw as usize)?;
+        raw
+    };
+    Ok((raw, Handle { database, table: raw as usize }))
+}
+
+/// A name and a zero, or `Shape` where a table can't have it.
+fn name_of(name: &str) -> Result<Name, Error> {
+    if name.is_empty() || name.len() > ffi::MAX_NAME || name.bytes().any(|byte| byte < 32 || byte == 127) {
+        return Err(Error::Shape);
+    }
+    let mut passed: Name = [0; ffi::MAX_NAME + 1];
+    passed.iter_mut().zip(name.bytes()).for_each(|(to, byte)| *to = byte as c_char);
+    Ok(passed)
+}

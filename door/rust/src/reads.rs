@@ -1,0 +1,158 @@
+//! What a transaction reads.
+use crate::batch::{self, Batch, Batches};
+use crate::cells::{filled, row_of};
+use crate::error::done;
+use crate::store::ColumnType;
+use crate::transaction::{Ending, Rank, TEXT_ROOM};
+use crate::{CellRef, Error, Row, Transaction, ffi, texts};
+use std::ffi::{c_int, c_void};
+use std::ops::{Bound, RangeBounds};
+
+impl<E: Ending> Transaction<'_, E> {
+    /// How many rows there are.
+    pub fn rows(&self) -> u64 {
+        let mut rows = 0;
+        // SAFETY: the transaction is open.
+        let code = unsafe { ffi::pdt_rows(self.raw(), &mut rows) };
+        debug_assert_eq!(ffi::OK, code);
+        rows
+    }
+
+    /// Where a key stands: a range of keys is the positions between two ranks. In logarithmic time. [`Error::Shape`],
+    /// [`Error::NoMemory`].
+    pub fn rank<'c, C: Into<CellRef<'c>>>(&self, key: impl IntoIterator<Item = C>) -> Result<Rank, Error> {
+        let key = self.key(key)?;
+        let mut rank = Rank { below: 0, there: false };
+        let (below, there) = (&mut rank.below, &mut rank.there);
+        // SAFETY: the transaction is open; there are as many numbers as key columns, and as many bytes as is said.
+        done(unsafe { ffi::pdt_rank(self.raw(), key.numbers(), key.texts(), key.bytes(), below, there) })?;
+        Ok(rank)
+    }
+
+    /// The row of a key, or none. [`Error::Shape`], [`Error::NoMemory`].
+    pub fn get<'c, C: Into<CellRef<'c>>>(&self, key: impl IntoIterator<Item = C>) -> Result<Option<Row>, Error> {
+        let key = self.key(key)?;
+        self.read_row(|numbers, out, room, needed| {
+            // SAFETY: the transaction is open; the key is as many numbers as key columns, and as many bytes as is said;
+            // `read_row` hands in room for a row.
+            unsafe { ffi::pdt_get(self.raw(), key.numbers(), key.texts(), key.bytes(), numbers, out, room, needed) }
+        })
+    }
+
+    /// The row at a position, or none past the end. [`Error::NoMemory`].
+    pub fn row_at(&self, position: u64) -> Result<Option<Row>, Error> {
+        self.read_row(|numbers, out, room, needed| {
+            // SAFETY: the transaction is open; `read_row` hands in room for a row.
+            unsafe { ffi::pdt_row_at(self.raw(), position, numbers, out, room, needed) }
+        })
+    }
+
+    /// The cells of chosen columns between two positions, cut to the end of the table: see [`Batch`]. [`Error::Shape`]
+    /// of a column that isn't there, [`Error::NoMemory`].
+    pub fn batch(&self, columns: &[usize], positions: impl RangeBounds<u64>) -> Result<Batch<'_>, Error> {
+        let (from, to) = self.within(positions);
+        Batch::read(&self.open, columns, from, to)
+    }
+
+    /// The same, in batches of so many rows, one at least; the last one has what is left. [`Error::Shape`] of a column
+    /// that isn't there, [`Error::NoMemory`]; and each batch of its own [`Error::NoMemory`], after which none comes.
+    ///
+    /// ```
+    /// use narthexmace::{Error, Options, Store};
+    /// let store = Store::open("id:int:key,qty:int\n10,7\n20,2\n30,4\n", &Options::default())?;
+    /// let txn = store.begin()?;
+    /// let mut sums = Vec::new();
+    /// for batch in txn.batches(&[1], .., 2)? {
+    ///     sums.push(batch?.ints(0).unwrap().iter().sum::<i64>());
+    /// }
+    /// assert_eq!(vec![9, 4], sums);
+    /// # Ok::<(), Error>(())
+    /// ```
+    pub fn batches(
+        &self,
+        columns: &[usize],
+        positions: impl RangeBounds<u64>,
+        rows: usize,
+    ) -> Result<Batches<'_>, Error> {
+        let (from, to) = self.within(positions);
+        Batches::over(&self.open, columns, from, to, rows)
+    }
+
+    /// The texts of a text column between two positions, cut to the end of the table, each lent where it lies: no byte
+    /// is copied, and no write, commit or abort of the transaction compiles while one is there. [`Error::Shape`] of a
+    /// column that isn't there or isn't one of texts, [`Error::NoMemory`].
+    ///
+    /// ```
+    /// use narthexmace::{Error, Options, Store};
+    /// let store = Store::open("id:int:key,name:text\n10,Ann\n20,Bob\n30,\n", &Options::default())?;
+    /// let mut txn = store.begin()?;
+    /// txn.set([20], 1, "Rob")?;
+    /// assert_eq!(vec!["Rob", ""], txn.texts(1, 1..)?);
+    /// # Ok::<(), Error>(())
+    /// ```
+    pub fn texts(&self, column: usize, positions: impl RangeBounds<u64>) -> Result<Vec<&str>, Error> {
+        let (from, to) = self.within(positions);
+        texts::lent(&self.open, column, from, to)
+    }
+
+    /// The truths of a bool column from a position on, a byte of 0 or 1 for each, as many as there is room for and rows
+    /// to the end of the table. Answers how many bytes were written; those after them stay. [`Error::Shape`] of a
+    /// column that isn't there or isn't one of truths.
+    ///
+    /// ```
+    /// use narthexmace::{Error, Options, Store};
+    /// let store = Store::open("id:int:key,ok:bool\n10,true\n20,false\n30,true\n", &Options::default())?;
+    /// let txn = store.begin()?;
+    /// let mut truths = [9; 4];
+    /// assert_eq!(2, txn.bools(1, 1, &mut truths)?);
+    /// assert_eq!([0, 1, 9, 9], truths);
+    /// # Ok::<(), Error>(())
+    /// ```
+    pub fn bools(&self, column: usize, from: u64, truths: &mut [u8]) -> Result<usize, Error> {
+        if self.store().columns().get(column).ok_or(Error::Shape)?.column_type != ColumnType::Bool {
+            return Err(Error::Shape);
+        }
+        batch::truths(&self.open, column, from, truths)
+    }
+
+    /// The positions from the first up to but without the second, both cut to the length of the table.
+    fn within(&self, positions: impl RangeBounds<u64>) -> (u64, u64) {
+        let rows = self.rows();
+        let from = match positions.start_bound() {
+            Bound::Included(from) => *from,
+            Bound::Excluded(before) => before.saturating_add(1),
+            Bound::Unbounded => 0,
+        };
+        let to = match positions.end_bound() {
+            Bound::Included(last) => last.saturating_add(1),
+            Bound::Excluded(to) => *to,
+            Bound::Unbounded => rows,
+        };
+        let to = to.min(rows);
+        (from.min(to), to)
+    }
+
+    /// Reads a row by a call of the library, which is handed room for as many numbers as columns, and for texts: first
+    /// what does for most rows, then what the library asked for.
+    fn read_row(&self, call: impl Fn(*mut i64, *mut c_void, usize, *mut usize) -> c_int) -> Result<Option<Row>, Error> {
+        let mut numbers = [0; ffi::MAX_COLUMNS];
+        let mut first = [0u8; TEXT_ROOM];
+        let mut more;
+        let mut room = &mut first[..];
+        loop {
+            let mut needed = 0;
+            match call(numbers.as_mut_ptr(), room.as_mut_ptr().cast(), room.len(), &mut needed) {
+                ffi::MISSING => return Ok(None),
+                ffi::TOO_SMALL => {
+                    more = filled(needed, 0u8)?;
+                    room = &mut more;
+                }
+                code => {
+                    done(code)?;
+                    let texts = std::str::from_utf8(&room[..needed]).expect("the texts of a row are UTF-8");
+                    return row_of(self.store().columns(), &numbers, texts).map(Some);
+                }
+            }
+        }
+    }
+}
