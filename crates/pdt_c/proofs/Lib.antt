@@ -8,4 +8,5 @@ mod EntryLemmas
 mod FillingLemmas
 mod Crossing
 mod ReopeningLemmas
+mod ImportingLemmas
 mod PreparedLemmas

@@ -3,6 +3,7 @@ pub mod Cells
 pub mod Told
 pub mod Opening
 pub mod Reopening
+pub mod Importing
 pub mod TextFaults
 pub mod Writes
 pub mod Marks

@@ -1,8 +1,9 @@
 //! What a call answers C, as numbers. `pdt.h` has their names.
 ghost use Rattle.std.specs.Prelude.{◌≡◌, ◌≢◌, ◌<◌, ◌⊎◌, IfOk, IfErr, Ok, Err};
+ghost use Rattle.pdt_c.specs.Importing.{told_marks, told_reading};
 ghost use Rattle.pdt_c.specs.Reopening.{told_fault};
 ghost use Rattle.pdt_c.specs.Told.{told, code_of_reply};
-ghost use Rattle.pdt_c.specs.declared.codes.TheConstants.{BAD_TABLE, DONE, NOT_ASCENDING, NO_MEMORY, ROT, SHAPE, TOO_LONG};
+ghost use Rattle.pdt_c.specs.declared.codes.TheConstants.{BAD_STORE, BAD_TABLE, DONE, NOT_ASCENDING, NO_MEMORY, ROT, SHAPE, TOO_LONG};
 ghost use Rattle.codec.specs.declared.fault.SpellFault.TheVariants as spell_fault;
 ghost use Rattle.txn.specs.declared.fault.WriteFault.TheVariants as write_fault;
 
@@ -10,6 +11,7 @@ use crate::passed::cells::CellFault;
 use codec::SpellFault;
 use devices::StoreFault;
 use frames::ReadFault;
+use images::ImagesFault;
 use inputs::TableFault;
 use manager::OpenFault;
 use model::{CommitReply, WriteReply};
@@ -54,6 +56,9 @@ pub(crate) const GAP: u32 = 22;
 pub(crate) const MISFIT: u32 = 23;
 
 pub(crate) const TOO_LONG: u32 = 26;
+
+/// No column has this number.
+pub(crate) const NO_COLUMN: u64 = 64;
 
 /// The code of cells that aren't there.
 pub(crate) fn code_of_cells(fault: CellFault) -> u32
@@ -104,6 +109,7 @@ pub(crate) fn code_of_table(fault: TableFault) -> u32
     ensures below { result < ROT }
     ensures bad { result ≡ BAD_TABLE → fault ≢ TableFault.NoMemory }
     ensures other { (result ≢ SHAPE) × (result ≢ NOT_ASCENDING) }
+    ensures text { result ≢ BAD_STORE }
 {
     match fault {
         TableFault::NoMemory => NO_MEMORY,
@@ -133,6 +139,23 @@ pub(crate) fn code_of_reading(fault: ReadFault) -> u32
         ReadFault::NoMemory => NO_MEMORY,
         ReadFault::NoImage => NO_IMAGE,
         _ => BAD_STORE,
+    }
+}
+
+/// The code of why columns store no image, and the column that the fault names: `NO_COLUMN` where it names none.
+pub(crate) fn code_of_columns(fault: ReadFault) -> (u32, u64)
+    ensures { result ≡ told_reading fault }
+{
+    match fault {
+        ReadFault::BadFrame(column, _)
+        | ReadFault::TypesDiffer(column)
+        | ReadFault::BadBlock(column, _, _) => (BAD_STORE, column as u64),
+        ReadFault::NoImage => (NO_IMAGE, NO_COLUMN),
+        ReadFault::NoMemory => (NO_MEMORY, NO_COLUMN),
+        ReadFault::WrongCount
+        | ReadFault::CountsDiffer
+        | ReadFault::TooManyRows
+        | ReadFault::NotAscending(_) => (BAD_STORE, NO_COLUMN),
     }
 }
 
@@ -169,5 +192,18 @@ pub(crate) fn code_of_recovery(fault: RecoverFault) -> (u32, u64)
         RecoverFault::BadLimit => (BAD_LIMIT, 0),
         RecoverFault::TooManyRows => (TOO_MANY_ROWS, 0),
         RecoverFault::NoMemory => (NO_MEMORY, 0),
+    }
+}
+
+/// The code of why the number of an image isn't known, and the mark that the fault names: 0 where it names none.
+pub(crate) fn code_of_marks(fault: ImagesFault) -> (u32, u64)
+    ensures { result ≡ told_marks fault }
+{
+    match fault {
+        ImagesFault::Rot(mark) => (ROT, mark),
+        ImagesFault::Gap(mark) => (GAP, mark),
+        ImagesFault::BadMark(mark) => (MISFIT, mark),
+        ImagesFault::Unmarked(_) => (MISFIT, 0),
+        ImagesFault::NoMemory => (NO_MEMORY, 0),
     }
 }

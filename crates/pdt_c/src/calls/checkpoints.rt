@@ -6,7 +6,7 @@ ghost use Rattle.manager.specs.Pinned.{pin_of};
 ghost use Rattle.manager.specs.Restacked.{restacked_of, stable_below, stable_of};
 ghost use Rattle.pdt_c.specs.declared.codes.TheConstants.{DONE};
 
-use crate::calls::images::stored_columns;
+use crate::calls::image_bytes::stored_columns;
 use crate::codes::{DONE, NO_MEMORY, code_of_store};
 use crate::handles::image::Image;
 use crate::handles::next_table::{MadeTable, NextTable};
