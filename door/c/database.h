@@ -91,8 +91,8 @@ struct pdt_database {
   uint64_t next_folder;
 
   /* the upkeep */
-  pthread_t thread;
-  bool has_thread;
+  pthread_t thread, syncer; /* the second where a commit is answered before the device has it */
+  bool has_thread, has_syncer;
   pthread_mutex_t upkeep_lock;
   pthread_cond_t upkeep_wakes;
   bool stops;
@@ -179,8 +179,28 @@ int pdti_make_folder(const char *folder);
 /* Locks it for this opening. */
 int pdti_lock_folder(pdt_database *database);
 
+/* Begins the journal of a new database, under its name: a salt that is drawn, and a file with no bytes. */
+int pdti_begin_journal(pdt_database *database);
+
 /* Opens what is in it, or makes it new. */
 int pdti_open_folder(pdt_database *database, pdt_report *report);
+
+/* ---- importing.c: folders that the program has made */
+
+/* Whether the folder has files of a run with a journal. */
+bool pdti_has_run(const pdt_database *database);
+
+/* Makes a database of them in the folder, which has no manifest: it has one afterwards. Where it fails the files stay as they were, and
+   the next opening does it from the beginning. */
+int pdti_import(pdt_database *database, pdt_report *report);
+
+/* Takes away the files of the run that the database was made of. One that stays is taken away by the next opening. */
+void pdti_remove_run(pdt_database *database);
+
+/* ---- tables.c */
+
+/* Writes the first image of a table. With files_lock held, or where nobody else has the database yet. */
+int pdti_write_first(pdt_database *database, pdti_table *entry);
 
 /* ---- databases.c */
 

@@ -58,6 +58,11 @@ typedef struct {
   uint64_t whole, newest, fault;
 } reopened;
 
+/* the newest image of a run's store: how many commits had made it; or the column or the mark that a fault names */
+typedef struct {
+  uint64_t number, place;
+} marked_image;
+
 extern uint32_t pdtr_open(const uint8_t *, size_t, size_t, uint64_t, bool, text_fault *, handle *);
 extern uint32_t pdtr_open_columns(const uint8_t *, size_t, size_t, const numbers *, size_t, const offsets *, size_t, const slice *,
                                   size_t, size_t, uint64_t, bool, pdt_place *, handle *);
@@ -133,6 +138,7 @@ extern bool pdtr_frame_head(uint64_t, uint64_t, uint64_t, const uint8_t *, size_
 extern uint32_t pdtr_part(handle *, handle *, handle *, uint32_t, handle *);
 extern uint32_t pdtr_reopen(const uint8_t *, size_t, const slice *, size_t, size_t, uint64_t, bool, uint64_t, uint32_t, uint64_t, uint64_t,
                             const uint8_t *, size_t, reopened *, handle *);
+extern uint32_t pdtr_marked(const uint8_t *, size_t, const slice *, size_t, uint64_t, uint64_t, const uint8_t *, size_t, marked_image *);
 
 /* ---- the objects */
 

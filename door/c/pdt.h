@@ -494,13 +494,16 @@ typedef struct pdt_database_options {
   uint64_t journal_bytes;      /* above so many bytes of journal each table whose image is old gets one: 67,108,864 */
 } pdt_database_options;
 
+/* The name of the table of a database that was a folder of the program's. */
+#define PDT_IMPORTED "table"
+
 /* What an opening found. A later version may have more members. */
 typedef struct pdt_report {
   size_t size;         /* sizeof(pdt_report), set by the caller; a smaller one is PDT_MISUSE */
   uint64_t commits;    /* the number of the newest commit */
   uint64_t replayed;   /* how many commits were read from the journal, because an image doesn't have them */
   uint64_t torn_bytes; /* how many bytes at the journal's end are no whole commit, which nobody was told of: they are cut off */
-  uint64_t fault;      /* at PDT_ROT, PDT_GAP and PDT_MISFIT the commit, or 0 where it is a file */
+  uint64_t fault;      /* at PDT_ROT, PDT_GAP and PDT_MISFIT the commit, or 0 where it is a file; of images.pdt the mark */
   char file[64];       /* the file in the folder that a code is about, or nothing */
 } pdt_report;
 
@@ -508,7 +511,10 @@ typedef struct pdt_report {
    found. PDT_LOCKED; PDT_ROT, PDT_GAP, PDT_MISFIT, PDT_BAD_STORE, PDT_NO_IMAGE: report->fault and report->file say of what;
    PDT_IO, PDT_NOMEM, PDT_MISUSE: *database is null then, and no file of it has changed, but that what is torn may be cut off at PDT_IO
    and PDT_NOMEM.
-   It takes memory for all tables and for the journal. */
+   It takes memory for all tables and for the journal.
+   A folder that the program has made by `pdt run TABLE SCRIPT --store FOLDER --journal` becomes a database with one table, of the name
+   PDT_IMPORTED: it has the rows of the newest image and of the commits since, and numbers go on after the last. The program's files are
+   gone then. It isn't to be opened while the run is still going on: the program locks nothing. */
 pdt_code pdt_database_open(const char *folder, const pdt_database_options *options, pdt_database **database, pdt_report *report);
 
 /* Closes a database and its tables. What was committed is on the device then, whatever the sync; where that fails it is closed

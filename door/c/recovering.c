@@ -77,6 +77,16 @@ static int make_journal(pdt_database *database, uint64_t seq) {
   return pdti_sync_in(database->dir);
 }
 
+int pdti_begin_journal(pdt_database *database) {
+  uint8_t header[HEADER];
+  do /* a salt of which there are no frames is drawn once in 2^32 times */
+    if (draw(&database->salt)) return PDT_IO;
+  while (!pdtr_journal_header(database->salt, database->name, 0, header, sizeof header));
+  database->files[0] = (journal_file){.seq = 1};
+  database->file_count = 1;
+  return keep_folder(database) ? PDT_IO : make_journal(database, 1);
+}
+
 /* Makes the manifest of a database in a folder that has none, after its journal. Where images or frames are there, it is lost. */
 static int make_new(pdt_database *database) {
   leftovers found = {database->dir, 0};
@@ -84,14 +94,8 @@ static int make_new(pdt_database *database) {
   if (!code) code = pdti_names(database->dir, "journal-", count_journal, &found);
   if (code) return code;
   if (found.count) return PDT_GAP;
-  uint8_t header[HEADER];
-  do { /* a salt of which there are no frames is drawn once in 2^32 times */
-    if (draw(&database->name) || draw(&database->salt)) return PDT_IO;
-  } while (!pdtr_journal_header(database->salt, database->name, 0, header, sizeof header));
   database->next_table = database->next_folder = 1;
-  database->files[0] = (journal_file){.seq = 1};
-  database->file_count = 1;
-  return keep_folder(database) || make_journal(database, 1) ? PDT_IO : pdti_write_manifest(database, 0, NULL);
+  return draw(&database->name) || pdti_begin_journal(database) ? PDT_IO : pdti_write_manifest(database, 0, NULL);
 }
 
 /* ---- the journal */
@@ -179,7 +183,7 @@ static int open_tables(journal_read *read, uint64_t number, reopened *found, pdt
     report->file[0] = 0;
     if (entry->image.number < oldest) oldest = entry->image.number;
   }
-  if (database->count) report->replayed = found->newest - oldest;
+  if (database->count) report->replayed += found->newest - oldest;
   return PDT_OK;
 }
 
@@ -220,7 +224,7 @@ static int cut_torn(journal_read *read, const reopened *found, pdt_report *repor
     report->fault = found->newest + 1;
     return PDT_ROT;
   }
-  report->torn_bytes = read->frames.len - found->whole;
+  report->torn_bytes += read->frames.len - found->whole;
   return cut_file(database, &database->files[last], read->fronts[last] + (found->whole - read->starts[last]));
 }
 
@@ -255,7 +259,11 @@ static void remove_old_journal(void *context, const char *name, uint64_t seq, ui
 static int recover(pdt_database *database, journal_read *read, pdt_report *report) {
   uint64_t number = 0;
   int code = pdti_read_manifest(database, &number, &read->first);
-  if (code == PDT_MISSING) {
+  if (code == PDT_MISSING && pdti_has_run(database)) {
+    code = pdti_import(database, report);
+    if (code) return code;
+    code = pdti_read_manifest(database, &number, &read->first);
+  } else if (code == PDT_MISSING) {
     code = make_new(database);
     read->first = 1;
   }
@@ -287,6 +295,7 @@ int pdti_open_folder(pdt_database *database, pdt_report *report) {
   errno = why;
   if (code) return code;
   pdti_remove_images(database);
+  pdti_remove_run(database);
   (void)pdti_names(database->dir, "journal-", remove_old_journal, database);
   return PDT_OK;
 }

@@ -78,8 +78,7 @@ static int safe_number(pdt_database *database, uint64_t *number) {
   return code ? code : pdti_wait_until_safe(database, *number) ? PDT_FAILED : PDT_OK;
 }
 
-/* Writes the first image of a table. */
-static int write_first(pdt_database *database, pdti_table *entry) {
+int pdti_write_first(pdt_database *database, pdti_table *entry) {
   pdt_snapshot *snapshot = NULL;
   handle image = {NULL};
   int code = pdt_checkpoint_begin(entry->store, NULL, &snapshot);
@@ -107,7 +106,7 @@ static int add_table(pdt_database *database, pdti_table *entry) {
   int code = safe_number(database, &number);
   if (code) return code;
   entry->number = database->next_table++;
-  code = write_first(database, entry);
+  code = pdti_write_first(database, entry);
   if (code) return code;
   entry->image.number = number;
   lock_tables(database);

@@ -199,10 +199,14 @@ static void flush_late(pdt_database *database, unsigned turn) {
 
 static void *keep_up(void *context) {
   pdt_database *database = context;
-  for (unsigned turn = 0; goes_on(database); turn++) {
-    flush_late(database, turn);
-    (void)work_round(database); /* what fails is due again */
-  }
+  while (goes_on(database)) (void)work_round(database); /* what fails is due again */
+  return NULL;
+}
+
+/* A thread of its own, since an image may take longer than a second to write. */
+static void *keep_safe(void *context) {
+  pdt_database *database = context;
+  for (unsigned turn = 0; goes_on(database); turn++) flush_late(database, turn);
   return NULL;
 }
 
@@ -210,15 +214,20 @@ int pdti_start_upkeep(pdt_database *database) {
   if (database->options.no_upkeep) return PDT_OK;
   database->stops = false;
   database->has_thread = !pthread_create(&database->thread, NULL, keep_up, database);
-  return database->has_thread ? PDT_OK : PDT_NOMEM;
+  if (!database->has_thread) return PDT_NOMEM;
+  if (database->options.sync == PDT_SYNC_FULL) return PDT_OK;
+  database->has_syncer = !pthread_create(&database->syncer, NULL, keep_safe, database);
+  if (!database->has_syncer) pdti_stop_upkeep(database);
+  return database->has_syncer ? PDT_OK : PDT_NOMEM;
 }
 
 void pdti_stop_upkeep(pdt_database *database) {
   if (!database->has_thread) return;
   pthread_mutex_lock(&database->upkeep_lock);
   database->stops = true;
-  pthread_cond_signal(&database->upkeep_wakes);
+  pthread_cond_broadcast(&database->upkeep_wakes);
   pthread_mutex_unlock(&database->upkeep_lock);
   pthread_join(database->thread, NULL);
-  database->has_thread = false;
+  if (database->has_syncer) pthread_join(database->syncer, NULL);
+  database->has_thread = database->has_syncer = false;
 }

@@ -42,8 +42,9 @@ static void *tell(failure *why, const char *folder, int code, const pdt_report *
   char *place = NULL;
   int cause = errno;
   const char *stroke = report->file[0] ? "/" : "";
+  const char *of = strcmp(report->file, "images.pdt") ? "commit" : "mark"; /* of a folder that the program has made */
   if (report->fault)
-    place = sqlite3_mprintf("%s%s%s, at commit %llu", folder, stroke, report->file, (unsigned long long)report->fault);
+    place = sqlite3_mprintf("%s%s%s, at %s %llu", folder, stroke, report->file, of, (unsigned long long)report->fault);
   else place = sqlite3_mprintf("%s%s%s", folder, stroke, report->file);
   errno = cause;
   failure_of(why, opening_code(code), place ? place : folder, code);

@@ -398,6 +398,13 @@ static void tidies(void) {
   is("its image alone", 1, names_with("tidies", "image-"));
   is("its journal alone", 1, names_with("tidies", "journal-"));
   is("what was committed", 5, qty(table(database, "items"), 10));
+  FILE *file = fopen(folder_of("tidies/manifest-new"), "wb"); /* longer than the one that is written next */
+  for (int i = 0; file && i < 5000; i++) fputc('x', file);
+  if (!file || fclose(file)) is("a file", 0, -1);
+  created(database, "more");
+  closed(database);
+  database = opened("tidies");
+  is("another table", 1, qty(table(database, "more"), 10));
   closed(database);
 }
 

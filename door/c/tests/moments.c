@@ -139,7 +139,7 @@ static void *commits(void *context) {
 
 /* ---- what isn't on the device isn't seen */
 
-static void sees(pdt_database *database, pdt_store *store, uint64_t number) {
+static void sees(pdt_database *database, pdt_store *store, uint64_t number, bool is_kept) {
   uint64_t found = 99;
   pdt_txn *txn = begun(store);
   is("begun", PDT_OK, pdt_begun(txn, &found));
@@ -154,7 +154,7 @@ static void sees(pdt_database *database, pdt_store *store, uint64_t number) {
   is("its end", PDT_OK, pdt_work_commit(work, &found));
   is("what a work sees", (long long)number, (long long)found);
   pdt_layer *layer = NULL;
-  if (number) is("what it changed", PDT_OK, pdt_changes(store, number, &layer));
+  if (number && is_kept) is("what it changed", PDT_OK, pdt_changes(store, number, &layer));
   pdt_layer_close(layer);
   is("no more changes", PDT_MISSING, pdt_changes(store, number + 1, &layer));
   is("no wait is over", PDT_MISSING, pdt_wait(store, number, 0, &found));
@@ -176,22 +176,22 @@ static void hides(void) {
   start(&one, commits);
   is("a sync", 1, comes(&syncs_begun, 1));
   start(&two, commits);
-  pass(30);
+  for (int i = 0; i < 5000 && counted(database).commits < 2; i++) pass(1);
   is("both are installed", 2, (long long)counted(database).commits);
-  sees(database, store, 0);
+  sees(database, store, 0, true);
   is("a fold", PDT_OK, pdt_fold(store));
-  sees(database, store, 0);
+  sees(database, store, 0, true);
   is("nobody is woken", 0, waiter.ends);
   syncs_let = 1;
   is("the next sync", 1, comes(&syncs_begun, 2));
   is("the first is answered", PDT_OK, joined(&one));
-  sees(database, store, 1);
+  sees(database, store, 1, true);
   is("the waiter is woken", 1, comes(&waiter.ends, 1));
   is("and told", PDT_OK, joined(&waiter));
   is("the second isn't", 0, two.ends);
   let_syncs();
   is("the second is answered", PDT_OK, joined(&two));
-  sees(database, store, 2);
+  sees(database, store, 2, true);
   closed(database);
 }
 
@@ -358,8 +358,9 @@ static void tables(void) {
   hold_syncs();
   renames_wait = 0;
   renames_let = 1;
-  pass(30); /* the maker has the turn, and waits for the lock */
+  pass(100); /* the maker has the turn, and waits for the lock */
   other.goes = 1;
+  if (!comes(&maker.ends, 1)) let_syncs(); /* it came later than that, and waits for the turn: nothing is shown */
   is("the creation", PDT_OK, joined(&maker));
   uint64_t number = 0;
   pdt_txn *txn = begun(maker.store);
@@ -388,7 +389,7 @@ static void dropped(void) {
   pdt_database *database = opened("dropped", &options, NULL);
   pdt_store *a = created(database, "a"), *found = NULL;
   bool met = false;
-  for (int i = 0; i < 20 && !met; i++) {
+  for (int i = 0; i < 50 && !met; i++) {
     if (pdt_table_open(database, "b", &found)) found = created(database, "b");
     task one = {.store = a, .key = 0}, two = {.store = a, .key = 1}, dropper = {.database = database, .name = "b"};
     hold_syncs();
@@ -420,6 +421,13 @@ static void dropped(void) {
   closed(database);
 }
 
+static void *keeps_up(void *context) {
+  task *one = context;
+  one->code = pdt_upkeep(one->database);
+  one->ends = 1;
+  return NULL;
+}
+
 /* ---- a manifest that is there, and of which the device isn't sure */
 
 static void unsure(void) {
@@ -446,6 +454,28 @@ static void unsure(void) {
   closed(database);
   database = opened("unsure", &options, NULL);
   is("nor then", PDT_MISSING, pdt_table_open(database, "b", &store));
+  closed(database);
+
+  /* an image: both that may be named stay */
+  options.checkpoint_entries = 1;
+  database = opened("unsure", &options, NULL);
+  is("a", PDT_OK, pdt_table_open(database, "a", &a));
+  one = (task){.store = a, .key = 1};
+  start(&one, commits);
+  is("a commit", PDT_OK, joined(&one));
+  hold_renames();
+  maker = (task){.database = database};
+  start(&maker, keeps_up);
+  is("a manifest", 1, comes(&renames_begun, 1));
+  fails_fsyncs = 1;
+  renames_wait = 0;
+  renames_let = 1;
+  is("an upkeep that fails", PDT_IO, joined(&maker));
+  closed(database);
+  database = opened("unsure", &options, NULL);
+  is("it is there", PDT_OK, pdt_table_open(database, "a", &a));
+  sees(database, a, 2, false);
+  is("and due again", PDT_OK, pdt_upkeep(database));
   closed(database);
 }
 
@@ -485,6 +515,25 @@ static void late(int sync, const char *name) {
   closed(database);
 }
 
+/* Also while the upkeep is over an image for longer than that. */
+static void late_under_image(void) {
+  pdt_database_options options = {.size = sizeof options, .sync = PDT_SYNC_NORMAL, .checkpoint_entries = 1};
+  pdt_database *database = opened("long", &options, NULL);
+  pdt_store *store = created(database, "a");
+  hold_renames();
+  task one = {.store = store, .key = 0}, two = {.store = store, .key = 1};
+  start(&one, commits);
+  is("commit", PDT_OK, joined(&one));
+  is("a manifest", 1, comes(&renames_begun, 1));
+  start(&two, commits);
+  is("commit", PDT_OK, joined(&two));
+  for (int i = 0; i < 500 && counted(database).safe < 2; i++) pass(10);
+  is("is on the device", 2, (long long)counted(database).safe);
+  renames_wait = 0;
+  renames_let = 1 << 20;
+  closed(database);
+}
+
 int main(int argc, char **argv) {
   if (argc < 2) return 2;
   room = argv[1];
@@ -497,5 +546,6 @@ int main(int argc, char **argv) {
   goes_on();
   late(PDT_SYNC_NORMAL, "late");
   late(PDT_SYNC_OFF, "later");
+  late_under_image();
   return failures ? 1 : 0;
 }

@@ -3,8 +3,9 @@
    only what was synced, and with some of what wasn't, file by file and folder by folder. Each is opened, and has to hold what was
    answered by then, and what was not answered whole or not at all. Under another sync it has to hold the first commits, however
    many. And runs are killed before a call, in the midst of a write too, and opened again by another process, which goes on with what the
-   kernel has: a loss of power right after that leaves no less. Linked with --wrap of the calls.
-   power FOLDER EVERY SYNC SEED */
+   kernel has: a loss of power right after that leaves no less. Where RUN is said, a folder that the program has made becomes a database in
+   place of a new one. Linked with --wrap of the calls.
+   power FOLDER EVERY SYNC SEED RUN */
 #define _POSIX_C_SOURCE 200809L
 #include <errno.h>
 #include <fcntl.h>
@@ -281,13 +282,106 @@ static void open_once(const char *folder) {
   answer(number, 2, true);
 }
 
+/* ---- the same over a folder that the program has made, which is there and was synced: its last commit is number 4 */
+
+enum { MADE = 4 };
+static const char *program_run;
+static int begins; /* the events before are of the folder as it was made */
+
+static void lay_file(const char *name) {
+  static uint8_t bytes[1 << 16];
+  char path[700];
+  snprintf(path, sizeof path, "%s/%s", program_run, name);
+  FILE *file = fopen(path, "rb");
+  if (!file) perror(path), exit(1);
+  size_t len = fread(bytes, 1, sizeof bytes, file);
+  fclose(file);
+  event *one = add(MAKE, TOP);
+  int object = one->object = objects++;
+  snprintf(one->name, sizeof one->name, "%s", name);
+  one = add(WRITE, object);
+  one->bytes = malloc(len);
+  memcpy(one->bytes, bytes, len);
+  one->len = len;
+  add(SYNC, object);
+}
+
+/* Each commit sets the name of one row to its number. */
+static void step_imported(pdt_database *database, uint64_t wanted) {
+  pdt_store *store = NULL;
+  pdt_txn *txn = NULL;
+  int64_t key = 10;
+  uint64_t done = 0;
+  char name[24];
+  int len = snprintf(name, sizeof name, "%llu", (unsigned long long)wanted);
+  is("table", PDT_OK, pdt_table_open(database, PDT_IMPORTED, &store));
+  is("begin", PDT_OK, pdt_begin(store, &txn));
+  is("set", PDT_OK, pdt_set(txn, &key, NULL, 0, 1, len, name));
+  is("commit", PDT_OK, pdt_commit(txn, &done));
+  is("number", (long long)wanted, (long long)done);
+}
+
+static void look_imported(pdt_database *database, uint64_t commits) {
+  pdt_store *store = NULL;
+  pdt_txn *txn = NULL;
+  int64_t key = 10, row[3];
+  uint64_t rows = 0;
+  char name[24] = {0}, wanted[24] = "a";
+  is("what the program made is there", 1, commits >= MADE);
+  if (commits > MADE) snprintf(wanted, sizeof wanted, "%llu", (unsigned long long)commits);
+  is("table", PDT_OK, pdt_table_open(database, PDT_IMPORTED, &store));
+  if (!store) return;
+  is("begin", PDT_OK, pdt_begin(store, &txn));
+  is("rows", PDT_OK, pdt_rows(txn, &rows));
+  is("four", 4, (long long)rows);
+  is("get", PDT_OK, pdt_get(txn, &key, NULL, 0, row, name, sizeof name - 1, NULL));
+  is("the name", 0, strcmp(wanted, name));
+  pdt_abort(txn);
+  step_imported(database, commits + 1);
+}
+
+static void put_folder(const char *path, int folder, int end, int way);
+static void lay_run(const char *folder) {
+  static const char *const files[] = {"header.csv", "column-0.pdt", "column-1.pdt", "column-2.pdt", "images.pdt", "journal.pdt"};
+  event *one = add(MAKE_FOLDER, PARENT);
+  one->object = TOP;
+  snprintf(one->name, sizeof one->name, "top");
+  add(SYNC, PARENT);
+  for (int i = 0; i < 6; i++) lay_file(files[i]);
+  add(SYNC, TOP);
+  put_folder(folder, TOP, count, 0);
+  number = MADE;
+  answer(number, 1, true);
+  begins = count;
+}
+
+static void open_imported(const char *folder) {
+  pdt_database *database = NULL;
+  pdt_report report = {.size = sizeof report};
+  is("open", PDT_OK, pdt_database_open(folder, &options, &database, &report));
+  if (!database) exit(1);
+  is("what is found", 1, report.commits <= number + 1 && (options.sync == PDT_SYNC_OFF || report.commits >= number));
+  number = report.commits;
+  answer(number, 1, true);
+  for (int i = 0; i < COMMITS / 6; i++) {
+    step_imported(database, number + 1);
+    answer(++number, 1, false);
+    if (i % 4 == 3) is("upkeep", PDT_OK, pdt_upkeep(database));
+  }
+  is("close", PDT_OK, pdt_database_close(database));
+  answer(number, 1, true);
+}
+
+/* ---- all of it */
+
 static int died; /* at which event */
 static void run(const char *folder, bool is_made) {
   static int left;
   top = folder;
+  if (program_run) lay_run(folder);
   listens = true;
   left = 3;
-  if (is_made && mkdir(folder, 0777)) exit(1); /* by the caller, who syncs nothing */
+  if (is_made && !program_run && mkdir(folder, 0777)) exit(1); /* by the caller, who syncs nothing */
   if (setjmp(killed)) {
     died = count;
     killed_at = -1;
@@ -295,7 +389,8 @@ static void run(const char *folder, bool is_made) {
     soon = false;
   }
   while (left) {
-    open_once(folder);
+    if (program_run) open_imported(folder);
+    else open_once(folder);
     left--;
   }
   listens = false;
@@ -376,7 +471,7 @@ static void take_out(names_held *held, const char *name) {
 }
 
 /* What a folder holds: of the changes of its names that weren't synced any may be left, since no rule says in which order they last. */
-static void put_folder(const char *path, int folder, int end, enum left way) {
+static void put_folder(const char *path, int folder, int end, int way) {
   int until = left_of(folder, end, way == SOME ? SYNCED : way);
   static names_held all[4];
   static int depth;
@@ -429,7 +524,8 @@ static void look(const char *folder, int end, const char *way) {
     if (lasts) is("what was answered is there", 1, report.commits >= answered);
     is("and one more at most", 1, report.commits <= answered + 1);
     pdt_store *stores[2];
-    for (int i = 0; i < 2; i++) {
+    if (program_run) look_imported(database, report.commits);
+    for (int i = 0; i < 2 && !program_run; i++) {
       int code = pdt_table_open(database, names[i], &stores[i]);
       if (i < tables) is("a table", PDT_OK, code);
       if (code) continue;
@@ -476,9 +572,10 @@ int main(int argc, char **argv) {
   int every = atoi(argv[2]); /* of how many calls one is looked at */
   if (argc > 3) options.sync = atoi(argv[3]);
   if (argc > 4) seed = (unsigned)atoi(argv[4]);
+  program_run = argc > 5 ? argv[5] : NULL;
   run(folder, false);
   int looked = 0;
-  for (int end = drawn(every); end <= count && failures < 20; end += 1 + drawn(2 * every - 1)) looked += look_at(left, end);
+  for (int end = begins + drawn(every); end <= count && failures < 20; end += 1 + drawn(2 * every - 1)) looked += look_at(left, end);
   long all = calls;
   for (long at = drawn(2 * every); at < all && failures < 20; at += 1 + drawn(12 * every)) {
     remove_all(folder);

@@ -197,7 +197,7 @@ class _OfDatabase(_OfFiles):
 
     #: The file that it is about, by its name in the folder, or None.
     file: Optional[str] = None
-    #: The number of the commit that it is about, or None.
+    #: The number of the commit that it is about, or None. Where ``file`` is ``images.pdt`` it is the number of a mark.
     commit: Optional[int] = None
 
 

@@ -2,6 +2,7 @@
 import errno
 import gc
 import os
+import shutil
 import threading
 import unittest
 import warnings
@@ -52,6 +53,27 @@ class Openings(Case):
             txn.set(2, "qty", 21)
             self.assertEqual(txn.commit(), 4)  # numbers go on
             self.assertEqual(repr(db), f"<Database {str(self.folder)!r} of items, orders, 4 commits>")
+
+    def test_a_folder_of_the_program_becomes_a_database(self) -> None:
+        shutil.copytree(HERE.parent / "c/tests/fixtures/run", self.folder)
+        left = [(10, "a", False), (15, "x", True), (20, "bb", False), (40, "dd", True)]
+        with self.connect() as db:
+            self.assertEqual((list(db), db.report), (["table"], narthexmace.Report(commits=4, replayed=2, torn_bytes=0)))
+            self.assertEqual(rows(db["table"]), left)
+            txn = db["table"].begin()
+            txn.set(10, "name", "b")
+            self.assertEqual(txn.commit(), 5)  # numbers go on
+        self.assertFalse((self.folder / "journal.pdt").exists())
+        with self.connect() as db:
+            self.assertEqual(db.report, narthexmace.Report(commits=5, replayed=1, torn_bytes=0))
+            self.assertEqual(rows(db["table"]), [(10, "b", False), *left[1:]])
+
+    def test_a_damaged_folder_of_the_program_is_told(self) -> None:
+        shutil.copytree(HERE.parent / "c/tests/fixtures/run", self.folder)
+        marks = self.folder / "images.pdt"
+        marks.write_bytes(marks.read_bytes()[:-1])
+        fault = self.refused(narthexmace.Misfit, self.connect)
+        self.assertEqual(fault.file, "images.pdt")
 
     def test_a_folder_is_named_as_paths_are(self) -> None:
         for folder in (str(self.folder), os.fsencode(self.folder), self.folder):
