@@ -205,27 +205,42 @@ static bool is_chain(const journal_read *read, const reopened *found, size_t las
   return found->whole >= read->starts[last];
 }
 
-/* Cuts a file to so many bytes, and has the device take them. */
-static int cut_file(pdt_database *database, journal_file *file, uint64_t bytes) {
-  char name[64];
-  snprintf(name, sizeof name, "journal-%llu", (unsigned long long)file->seq);
-  int one = pdti_open_in(database->dir, name, O_WRONLY | O_APPEND);
-  if (one < 0) return PDT_IO;
-  int code = file->bytes > bytes && ftruncate(one, (off_t)bytes) ? PDT_IO : PDT_OK;
-  if (!code) file->bytes = bytes;
-  return pdti_close_synced(one, code);
+/* Puts the header and the frames of a file into another one, which the device takes. */
+static int copy_frames(const journal_read *read, size_t at, size_t frames, const char *name) {
+  pdt_database *database = read->database;
+  uint8_t header[HEADER];
+  size_t front = read->fronts[at];
+  if (front && !pdtr_journal_header(database->salt, database->name, database->files[at].base, header, sizeof header)) return PDT_ROT;
+  int file = pdti_open_in(database->dir, name, O_WRONLY | O_CREAT | O_TRUNC);
+  if (file < 0) return PDT_IO;
+  int code = pdti_write_to(file, header, front);
+  return pdti_close_synced(file, code ? code : pdti_write_to(file, read->frames.at + read->starts[at], frames));
 }
 
-/* Cuts off what is torn, so that frames go on there. */
-static int cut_torn(journal_read *read, const reopened *found, pdt_report *report) {
+/* Writes a file anew with so many bytes of frames. Where a sync has failed before, the system may hold bytes that the device hasn't, and
+   takes them for written: only what is written again is sure to be there. */
+static int write_anew(const journal_read *read, size_t at, size_t frames) {
   pdt_database *database = read->database;
+  journal_file *file = &database->files[at];
+  if (!file->bytes) return PDT_OK;
+  char name[64];
+  snprintf(name, sizeof name, "journal-%llu", (unsigned long long)file->seq);
+  int code = copy_frames(read, at, frames, "journal-new");
+  if (!code && renameat(database->dir, "journal-new", database->dir, name)) code = PDT_IO;
+  if (!code) code = pdti_sync_in(database->dir);
+  if (!code) file->bytes = read->fronts[at] + frames;
+  return code;
+}
+
+/* Leaves what is torn behind, so that frames go on there. */
+static int cut_torn(journal_read *read, const reopened *found, pdt_report *report) {
   size_t last = last_with_frames(read);
   if (!is_chain(read, found, last)) {
     report->fault = found->newest + 1;
     return PDT_ROT;
   }
   report->torn_bytes += read->frames.len - found->whole;
-  return cut_file(database, &database->files[last], read->fronts[last] + (found->whole - read->starts[last]));
+  return write_anew(read, last, found->whole - read->starts[last]);
 }
 
 /* Opens the last file of the journal, in which frames go on. */

@@ -38,6 +38,7 @@ typedef struct {
   uint64_t number; /* that was answered */
   int tables;
   bool lasts; /* whatever the sync: the database was closed */
+  bool is_lost; /* of bytes: their sync failed, and the system takes them for written */
 } event;
 
 enum { EVENTS = 1 << 16, OBJECTS = 1 << 13, FDS = 256, PARENT = 0, TOP = 1 };
@@ -157,8 +158,21 @@ ssize_t __wrap_write(int file, const void *bytes, size_t len) {
   if (dies) die();
   return done;
 }
+/* The next sync of a file fails. What was to be synced is read as it was written, and no later sync writes it. */
+static bool fails;
+static int fail_sync(int object) {
+  fails = false;
+  for (int i = count - 1; i >= 0; i--) {
+    if (events[i].of != object) continue;
+    if (events[i].kind == SYNC) break;
+    events[i].is_lost = events[i].kind == WRITE;
+  }
+  errno = EIO;
+  return -1;
+}
 static int synced(int file, int bad) {
   if (is_killed()) die();
+  if (listens && fails && file < FDS) return fail_sync(object_of[file]);
   if (listens && !bad && file < FDS) add(SYNC, object_of[file]);
   return bad;
 }
@@ -256,6 +270,21 @@ static void meanwhile(void) {
 }
 
 /* What an opening finds is on the device then, and so is what a close leaves. */
+/* A commit whose sync fails, and a close that can't make up for it. The device may have it, and has what was answered before. */
+static void fail_once(pdt_database *database, pdt_store *const *stores) {
+  pdt_work *work = NULL;
+  is("work", PDT_OK, pdt_work_begin(database, &work));
+  for (int i = 0; i < 2; i++) {
+    pdt_txn *txn = NULL;
+    int64_t key = (int64_t)((number + 1) % KEYS);
+    is("on", PDT_OK, pdt_work_on(work, stores[i], &txn));
+    is("set", PDT_OK, pdt_set(txn, &key, NULL, 0, 1, (int64_t)(number + 1), NULL));
+  }
+  fails = true;
+  is("a commit that isn't synced", PDT_UNSURE, pdt_work_commit(work, NULL));
+  is("a close", PDT_UNSURE, pdt_database_close(database));
+}
+
 static void open_once(const char *folder) {
   pdt_database *database = NULL;
   pdt_report report = {.size = sizeof report};
@@ -278,7 +307,8 @@ static void open_once(const char *folder) {
     if (i % 4 == 3) is("upkeep", PDT_OK, pdt_upkeep(database));
   }
   running = NULL;
-  is("close", PDT_OK, pdt_database_close(database));
+  if (options.sync == PDT_SYNC_FULL) fail_once(database, stores); /* what comes of it is what the next opening says */
+  else is("close", PDT_OK, pdt_database_close(database));
   answer(number, 2, true);
 }
 
@@ -436,6 +466,7 @@ static void put_file(const char *path, int object, int end, enum left way) {
     if (one->kind == CUT) len = one->len;
     if (one->kind == WRITE) {
       memcpy(bytes + len, one->bytes, one->len);
+      if (one->is_lost && way != ALL) memset(bytes + len, 0, one->len);
       len += one->len;
     }
   }
@@ -445,6 +476,7 @@ static void put_file(const char *path, int object, int end, enum left way) {
       if (one->of != object || one->kind != WRITE) continue;
       size_t some = (size_t)drawn((int)one->len + 1);
       memcpy(bytes + len, one->bytes, some);
+      if (one->is_lost) memset(bytes + len, 0, some);
       bool zeros = drawn(2);
       if (zeros) memset(bytes + len + some, 0, one->len - some);
       len += zeros ? one->len : some;
