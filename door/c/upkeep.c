@@ -1,6 +1,8 @@
 /* What keeps a database fast and small while others commit: folds, images of the tables, and files that are needed no longer. */
 #include "database.h"
 
+#include <signal.h>
+
 enum { EVERY_MS = 20, SYNC_ROUNDS = 50 };
 
 /* ---- what is due */
@@ -199,7 +201,13 @@ static void flush_late(pdt_database *database, unsigned turn) {
 
 static void *keep_up(void *context) {
   pdt_database *database = context;
-  while (goes_on(database)) (void)work_round(database); /* what fails is due again */
+  for (unsigned pause = 0; goes_on(database);) {
+    if (pause) {
+      pause--;
+    } else if (work_round(database)) {
+      pause = SYNC_ROUNDS; /* what fails is due again: a full disk is tried once in a second */
+    }
+  }
   return NULL;
 }
 
@@ -210,13 +218,23 @@ static void *keep_safe(void *context) {
   return NULL;
 }
 
+/* Makes a thread that takes no signal: those are the caller's threads'. */
+static bool start(pthread_t *thread, void *(*run)(void *), pdt_database *database) {
+  sigset_t all, before;
+  sigfillset(&all);
+  if (pthread_sigmask(SIG_SETMASK, &all, &before)) return false;
+  bool is_made = !pthread_create(thread, NULL, run, database);
+  pthread_sigmask(SIG_SETMASK, &before, NULL);
+  return is_made;
+}
+
 int pdti_start_upkeep(pdt_database *database) {
   if (database->options.no_upkeep) return PDT_OK;
   database->stops = false;
-  database->has_thread = !pthread_create(&database->thread, NULL, keep_up, database);
+  database->has_thread = start(&database->thread, keep_up, database);
   if (!database->has_thread) return PDT_NOMEM;
   if (database->options.sync == PDT_SYNC_FULL) return PDT_OK;
-  database->has_syncer = !pthread_create(&database->syncer, NULL, keep_safe, database);
+  database->has_syncer = start(&database->syncer, keep_safe, database);
   if (!database->has_syncer) pdti_stop_upkeep(database);
   return database->has_syncer ? PDT_OK : PDT_NOMEM;
 }
