@@ -449,8 +449,23 @@ static void keeps_options(void) {
 
 /* ---- one process */
 
+/* How many files are open, and how many of those aren't closed at an exec. */
+static int open_files(int *stay) {
+  int count = 0;
+  *stay = 0;
+  for (int file = 3; file < 256; file++) {
+    int flags = fcntl(file, F_GETFD);
+    count += flags >= 0;
+    *stay += flags >= 0 && !(flags & FD_CLOEXEC);
+  }
+  return count;
+}
+
 static void locks(void) {
+  int stay, before, found = open_files(&before);
   pdt_database *database = opened("locks"), *other = NULL;
+  is("some files are open", 1, open_files(&stay) > found);
+  is("none stays at an exec", before, stay);
   pdt_store *items = created(database, "items");
   is("twice", PDT_LOCKED, try_open("locks", &other));
   pid_t child = fork();
@@ -471,6 +486,7 @@ static void locks(void) {
   database = opened("locks");
   is("what the parent did", 5, qty(table(database, "items"), 10));
   closed(database);
+  is("all files are closed", found, open_files(&stay));
 }
 
 /* ---- damage is told */

@@ -26,9 +26,18 @@ static bool stays;
 static int with;
 static const char *failed; /* the name of the first that did */
 
+/* Whether a signal may cut a call off. */
+static bool may_be_cut(const char *name) {
+  static const char *const all[] = {"openat", "write", "read", "fdatasync", "fsync"};
+  for (size_t i = 0; i < sizeof all / sizeof *all; i++)
+    if (!strcmp(name, all[i])) return true;
+  return false;
+}
+
 static bool falls(const char *name) {
   long at = calls++;
   bool now = fails_at >= 0 && (at == fails_at || (stays && at > fails_at));
+  if (now && with == EINTR && !may_be_cut(name)) return false;
   if (now && !failed) failed = name;
   fallen += now;
   if (now) errno = with;
@@ -123,7 +132,7 @@ static void run_in(pdt_database *database, told *said) {
     long fell = fallen;
     code = set(store, (int64_t)(wanted % KEYS), (int64_t)wanted, &number);
     if (has_failed) is("after a failure", PDT_FAILED, code);
-    else if (fallen > fell) is("over a failure", PDT_UNSURE, code);
+    else if (fallen > fell && with != EINTR) is("over a failure", PDT_UNSURE, code);
     if (code == PDT_OK) is("number", (long long)wanted, (long long)number), said->answered = number;
     else if (!has_failed) is("a commit", PDT_UNSURE, code), said->unsure = wanted, has_failed = true;
     reads(store, said->answered, said->unsure);
@@ -197,6 +206,16 @@ int main(int argc, char **argv) {
       look(folder, &said);
       if (failures != before) fprintf(stderr, "call %ld of %ld, %s, %s, %s\n", at, all, failed, stays ? "and all after it" : "once", strerror(with));
     }
+  options.early_reads = false;
+  for (long at = 0; at < all && failures < 10; at += every, runs++) { /* a call that a signal cuts off is made again */
+    remove_all(folder);
+    told said = {0, 0, false};
+    calls = 0, failed = NULL, fails_at = at, stays = false, with = EINTR;
+    run(folder, &said);
+    fails_at = -1;
+    is("all is answered", COMMITS, (long long)said.answered);
+    look(folder, &said);
+  }
   printf("%ld calls, %d runs, %d failures\n", all, runs, failures);
   return failures ? 1 : 0;
 }
