@@ -70,21 +70,15 @@ uint64_t pdti_seen(const pdt_database *database) { return hides(database) ? data
 
 /* ---- of who has the turn */
 
-/* What is written in one turn. */
-typedef struct {
-  uint64_t upto; /* the number of its last commit, or of an earlier one where it has none */
-  bool syncs;
-} batch;
-
-/* Takes what is pending, and the versions that its commits made. PDT_MISUSE where this thread has a commit prepared, since what it
+/* Takes what is pending, with the number of its last commit, and the versions that its commits made. PDT_MISUSE where this thread has a commit prepared, since what it
    has staged is neither pending nor written. */
-static int take_batch(pdt_database *database, batch *taken) {
+static int take_batch(pdt_database *database, uint64_t *upto) {
   if (pthread_mutex_lock(&database->locks.lock)) return PDT_MISUSE;
   buffer frames = database->pending;
   database->pending = database->writing;
   database->pending.len = 0;
   database->writing = frames;
-  taken->upto = database->newest;
+  *upto = database->newest;
   pthread_mutex_lock(&database->locks.fresh_lock);
   for (size_t i = 0; i < database->count; i++) {
     pdt_store *store = database->tables[i]->store;
@@ -111,11 +105,12 @@ static void make_heads(pdt_database *database) {
 }
 
 /* Goes on in the next file, once the device has all of this one: no file is behind one that may be torn. */
-static int go_on(pdt_database *database, int next) {
+static int go_on(pdt_database *database) {
   if (database->safe < database->written && pdti_sync(database->file)) return PDT_IO;
   close(database->file);
-  pthread_mutex_lock(&database->turn_lock);
-  database->file = next;
+  pthread_mutex_lock(&database->turn_lock); /* at once: before, the next one is there, so that none is made, and it has this number */
+  database->file = database->next_file;
+  database->next_file = -1;
   database->files[database->file_count++] = (journal_file){.seq = database->next_seq - 1};
   pthread_mutex_unlock(&database->turn_lock);
   return PDT_OK;
@@ -137,13 +132,9 @@ static int write_frames(pdt_database *database) {
   unwritten first;
   memcpy(&first, frames->at, sizeof first);
   pthread_mutex_lock(&database->turn_lock);
-  int next = database->next_file;
-  database->next_file = -1;
+  bool has_next = database->next_file >= 0;
   pthread_mutex_unlock(&database->turn_lock);
-  if (next >= 0 && go_on(database, next)) {
-    close(next);
-    return PDT_IO;
-  }
+  if (has_next && go_on(database)) return PDT_IO;
   pthread_mutex_lock(&database->turn_lock);
   bool is_new = !last_file(database)->bytes;
   pthread_mutex_unlock(&database->turn_lock);
@@ -190,8 +181,8 @@ static void empty_batch(buffer *frames) {
 
 /* Writes what is pending. PDT_MISUSE as take_batch. */
 static int lead(pdt_database *database, bool syncs) {
-  batch taken = {0, syncs};
-  if (take_batch(database, &taken)) return PDT_MISUSE;
+  uint64_t upto;
+  if (take_batch(database, &upto)) return PDT_MISUSE;
   bool is_empty = !database->writing.len;
   int code = write_frames(database);
   if (!code && syncs) code = pdti_sync(database->file);
@@ -200,10 +191,10 @@ static int lead(pdt_database *database, bool syncs) {
     pdti_fail(database);
     return PDT_UNSURE;
   }
-  if (syncs) publish(database, taken.upto);
+  if (syncs) publish(database, upto);
   pthread_mutex_lock(&database->turn_lock);
-  database->written = taken.upto;
-  if (syncs) database->safe = taken.upto;
+  database->written = upto;
+  if (syncs) database->safe = upto;
   database->batches += !is_empty;
   database->syncs += syncs;
   pthread_mutex_unlock(&database->turn_lock);
