@@ -1,6 +1,6 @@
 /* Databases at chosen moments: calls of the system are held in one thread while others go on, or fail once. What is told is that no
    reader sees what a crash could take away, that none waits for ever, and what a step leaves that comes between two others. Linked with
-   --wrap of write, fdatasync, fsync and renameat. */
+   --wrap of write, fdatasync, fsync, renameat and close. */
 #define _POSIX_C_SOURCE 200809L
 #include <errno.h>
 #include <pdt.h>
@@ -59,6 +59,17 @@ ssize_t __wrap_write(int file, const void *bytes, size_t len) {
   if (slow_headers && len == 36) pass(30);
   if (holds_writes) hold(&writes_begun, &writes_let);
   return __real_write(file, bytes, len);
+}
+/* A close of this thread's, which comes once the journal goes on in another file. */
+static _Thread_local bool holds_close;
+static atomic_int closes_begun, closes_let;
+int __real_close(int);
+int __wrap_close(int file) {
+  if (holds_close) {
+    holds_close = false;
+    hold(&closes_begun, &closes_let);
+  }
+  return __real_close(file);
 }
 int __wrap_fdatasync(int file) { /* the power stays on: nothing is really synced */
   (void)file;
@@ -515,6 +526,32 @@ static void late(int sync, const char *name) {
   closed(database);
 }
 
+/* While who has the turn goes on in the next file of the journal, the upkeep wants another one: it waits for that one's frames. */
+static void *commits_held(void *context) {
+  holds_close = true;
+  return commits(context);
+}
+static void next_file(void) {
+  pdt_database_options options = {.size = sizeof options, .checkpoint_entries = 1};
+  pdt_database *database = opened("next", &options, NULL);
+  pdt_store *a = created(database, "a"), *b = created(database, "b");
+  task one = {.store = a, .key = 0}, two = {.store = b, .key = 1};
+  start(&one, commits);
+  is("commit", PDT_OK, joined(&one));
+  for (int i = 0; i < 500 && counted(database).images < 1; i++) pass(10);
+  start(&two, commits_held);
+  if (comes(&closes_begun, 1)) pass(200); /* some rounds of the upkeep */
+  closes_let = 1 << 20;
+  is("commit", PDT_OK, joined(&two));
+  for (int i = 0; i < 500 && counted(database).images < 2; i++) pass(10); /* its manifest names the files that are wanted */
+  closed(database);
+  options.no_upkeep = true;
+  pdt_report report = {.size = sizeof report};
+  database = opened("next", &options, &report);
+  is("all commits", 2, (long long)report.commits);
+  closed(database);
+}
+
 /* Also while the upkeep is over an image for longer than that. */
 static void late_under_image(void) {
   pdt_database_options options = {.size = sizeof options, .sync = PDT_SYNC_NORMAL, .checkpoint_entries = 1};
@@ -547,5 +584,6 @@ int main(int argc, char **argv) {
   late(PDT_SYNC_NORMAL, "late");
   late(PDT_SYNC_OFF, "later");
   late_under_image();
+  next_file();
   return failures ? 1 : 0;
 }
