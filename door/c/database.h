@@ -23,7 +23,7 @@ typedef struct {
   uint64_t bytes; /* how many it has: 0 before the first frame is written, when it has no header and no base either */
 } journal_file;
 
-enum { JOURNAL_FILES = 4096, HEADER = 36, HEAD = 28 };
+enum { JOURNAL_FILES = 4096, HEADER = 36, HEAD = 28, FILE_NAME = 64 };
 
 /* How long a file is, and the CRC-32C of its bytes. */
 typedef struct {
@@ -117,6 +117,9 @@ int pdti_flush(pdt_database *database, bool syncs);
 /* Waits until nobody writes, and nobody does until the turn ends: the tables may be changed then. */
 void pdti_take_turn(pdt_database *database);
 void pdti_end_turn(pdt_database *database);
+
+/* The name of a file of the journal, for which there is room for FILE_NAME bytes. */
+void pdti_name_journal(char *name, uint64_t seq);
 
 /* Makes the next file of the journal, in which the next frame is written. */
 int pdti_turn_over(pdt_database *database);

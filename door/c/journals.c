@@ -287,7 +287,7 @@ int pdti_flush(pdt_database *database, bool syncs) {
 
 /* ---- files */
 
-static void name_of(char *name, size_t room, uint64_t seq) { snprintf(name, room, "journal-%llu", (unsigned long long)seq); }
+void pdti_name_journal(char *name, uint64_t seq) { snprintf(name, FILE_NAME, "journal-%llu", (unsigned long long)seq); }
 
 int pdti_turn_over(pdt_database *database) {
   pthread_mutex_lock(&database->turn_lock);
@@ -295,8 +295,8 @@ int pdti_turn_over(pdt_database *database) {
   uint64_t seq = database->next_seq;
   pthread_mutex_unlock(&database->turn_lock);
   if (!is_due) return PDT_OK;
-  char name[64];
-  name_of(name, sizeof name, seq);
+  char name[FILE_NAME];
+  pdti_name_journal(name, seq);
   int file = pdti_open_in(database->dir, name, O_WRONLY | O_CREAT | O_TRUNC | O_APPEND);
   if (file < 0) return PDT_IO;
   if (pdti_sync_in(database->dir)) { /* an empty file says nothing, also where it stays */
@@ -329,8 +329,8 @@ void pdti_remove_journals(pdt_database *database, uint64_t first) {
     if (!is_wanted) memmove(database->files, database->files + 1, --database->file_count * sizeof *database->files);
     pthread_mutex_unlock(&database->turn_lock);
     if (is_wanted) return;
-    char name[64];
-    name_of(name, sizeof name, seq);
+    char name[FILE_NAME];
+    pdti_name_journal(name, seq);
     unlinkat(database->dir, name, 0);
   }
 }

@@ -69,8 +69,8 @@ static int draw(uint64_t *number) {
 
 /* Makes an empty file of the journal, and its name safe. */
 static int make_journal(pdt_database *database, uint64_t seq) {
-  char name[64];
-  snprintf(name, sizeof name, "journal-%llu", (unsigned long long)seq);
+  char name[FILE_NAME];
+  pdti_name_journal(name, seq);
   int file = pdti_open_in(database->dir, name, O_WRONLY | O_CREAT | O_TRUNC | O_APPEND);
   if (file < 0) return PDT_IO;
   close(file);
@@ -128,7 +128,7 @@ static void list_file(void *context, const char *name, uint64_t seq, uint64_t se
 /* Reads a file after those before it. What has no header is the end of a journal, or damaged: what it says tells which. */
 static int read_file(journal_read *read, size_t at, char *name) {
   journal_file *file = &read->database->files[at];
-  snprintf(name, 64, "journal-%llu", (unsigned long long)file->seq);
+  pdti_name_journal(name, file->seq);
   if (file->seq != read->first + at) return PDT_GAP;
   buffer bytes = {NULL, 0, 0};
   int code = pdti_read_in(read->database->dir, name, &bytes);
@@ -159,7 +159,7 @@ static int read_journal(journal_read *read, pdt_report *report) {
   if (listed) return listed;
   if (read->is_full || !database->file_count) return about(report, "journal", PDT_GAP);
   for (size_t i = 0; i < database->file_count; i++) {
-    char name[64];
+    char name[FILE_NAME];
     int code = read_file(read, i, name);
     if (code) return about(report, name, code);
   }
@@ -223,8 +223,8 @@ static int write_anew(const journal_read *read, size_t at, size_t frames) {
   pdt_database *database = read->database;
   journal_file *file = &database->files[at];
   if (!file->bytes) return PDT_OK;
-  char name[64];
-  snprintf(name, sizeof name, "journal-%llu", (unsigned long long)file->seq);
+  char name[FILE_NAME];
+  pdti_name_journal(name, file->seq);
   int code = copy_frames(read, at, frames, "journal-new");
   if (!code && renameat(database->dir, "journal-new", database->dir, name)) code = PDT_IO;
   if (!code) code = pdti_sync_in(database->dir);
@@ -245,9 +245,9 @@ static int cut_torn(journal_read *read, const reopened *found, pdt_report *repor
 
 /* Opens the last file of the journal, in which frames go on. */
 static int open_last(pdt_database *database) {
-  char name[64];
+  char name[FILE_NAME];
   journal_file *last = &database->files[database->file_count - 1];
-  snprintf(name, sizeof name, "journal-%llu", (unsigned long long)last->seq);
+  pdti_name_journal(name, last->seq);
   database->file = pdti_open_in(database->dir, name, O_WRONLY | O_APPEND);
   database->next_seq = last->seq + 1;
   return database->file < 0 ? PDT_IO : PDT_OK;
