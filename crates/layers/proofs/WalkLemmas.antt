@@ -1,6 +1,6 @@
 -- Steps of the walk that folds one tree into another.
-use Rattle.std.proofs.Common.{◌≡◌, ℕ, ◌+◌, ◌<◌, ◌≤◌, ◌^◌, Bool, true, false, cond, Some, None, List, [], ◌∷◌, ◌++◌, length, drop, nat_cmp}
-use Rattle.std.proofs.Common.{Ordering, Less, Equal, Greater, refl, sym, ap, ◌∙◌, subst, arith}
+use Rattle.std.proofs.Common.{◌≡◌, ℕ, ◌+◌, ◌-◌, ◌<◌, ◌≤◌, ◌^◌, Bool, true, false, cond, Some, None, List, [], ◌∷◌, ◌++◌, length, drop, nat_cmp}
+use Rattle.std.proofs.Common.{map, Ordering, Less, Equal, Greater, refl, sym, ap, ◌∙◌, subst, arith}
 use Rattle.std.specs.Prelude.{slice_get}
 use Rattle.std.specs.List.{All}
 use Rattle.std.specs.Ordering.{is_gt}
@@ -86,6 +86,17 @@ into_there : (key_cols : ℕ) (r : Ordering) (lower upper c : Change) → positi
 into_there key_cols Less lower upper c is = cc
 into_there key_cols Equal lower upper c is = into_is key_cols lower upper c is
 into_there key_cols Greater lower upper c is = cc
+
+-- over a lower tree with no entries
+lowered_none : (us : List Entry) → us ≡ map (lowered_entry 0 0) us
+lowered_none [] = refl
+lowered_none (u ∷ us) =
+    let stays : u.sid ≡ (u.sid + 0) - 0 = omega arith in
+    λ i. entry_at (stays i) u.change ∷ lowered_none us i
+
+pub folds_into_none : (key_cols : ℕ) (lowers uppers : List Entry) → length lowers ≡ 0 → uppers ≡ folded_entries key_cols lowers uppers
+folds_into_none key_cols [] uppers none = lowered_none uppers
+folds_into_none key_cols (l ∷ lowers) uppers none = absurd (omega (arith, none))
 
 -- what comes of a lower and an upper entry that are next
 module _ (key_cols added gone : ℕ) (own u : Entry) (lowers us : List Entry) where

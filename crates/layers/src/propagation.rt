@@ -6,6 +6,7 @@ ghost use Rattle.layers.specs.Propagation.{IsNext, next_tree, composed_tree};
 
 use crate::walk::fold_all;
 use delta::{ChangeRef, DeltaTree, Fold, SharedEntry};
+use model::folds_to_composed;
 use smallvec::SmallVec;
 use std::alloc::Global;
 use values::NoMemory;
@@ -18,7 +19,8 @@ type Uppers<'a> = SmallVec<Option<&'a SharedEntry>, 31>;
 
 /// The lower tree with the upper one, which is over its image, folded into it (Héman et al. 2010, "Propagate"): a copy
 /// of the lower tree, with an edit for each upper entry, or, where those are many, a tree built in one walk over both.
-/// Rows are shared: one is copied only where a cell of it is set.
+/// Over a lower tree with no entries it is a copy of the upper one, which shares its nodes. Rows are shared: one is copied
+/// only where a cell of it is set.
 ///
 /// # Errors
 ///
@@ -27,13 +29,25 @@ pub fn propagate(alloc: Global, lower: &DeltaTree, upper: &DeltaTree) -> Result<
     requires { AreConsecutive lower.now upper.now }
     ensures { IfOk result (λ tree. (w : AreConsecutive lower.now upper.now) → tree ≡ composed_tree lower.now upper.now w) }
 {
-    if upper.len() > lower.len() / EDIT_RATIO {
+    if lower.len() == 0 {
+        fold_into_none(lower, upper)
+    } else if upper.len() > lower.len() / EDIT_RATIO {
         fold_all(alloc, lower, upper)
     } else if upper.len() == 1 {
         fold_only(alloc, lower, upper)
     } else {
         fold_each(alloc, lower, upper)
     }
+}
+
+/// A copy of the upper tree, which is over a lower one with no entries.
+fn fold_into_none(lower: &DeltaTree, upper: &DeltaTree) -> Result<DeltaTree, NoMemory>
+    requires consecutive { AreConsecutive lower.now upper.now }
+    requires none { length lower.now.entries ≡ 0 }
+    ensures { IfOk result (λ tree. (w : AreConsecutive lower.now upper.now) → tree ≡ composed_tree lower.now upper.now w) }
+{
+    folds_to_composed();
+    Ok(upper.copy()?)
 }
 
 /// A copy of the lower tree, with an edit for the only upper entry.
