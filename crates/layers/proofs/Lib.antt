@@ -9,3 +9,4 @@ pub mod WalkLemmas
 pub mod TurnedLemmas
 pub mod StillLemmas
 pub mod ListLemmas
+pub mod ShiftLemmas

@@ -1,21 +1,20 @@
 -- Entries in a list, which move past another tree where they stand.
-use Rattle.std.proofs.Common.{Bor, is_lt, ltb, nat_cmp, Ordering, Less, Equal, Greater, ◌≡◌, ℕ, zero, suc, ◌+◌, ◌-◌, ◌<◌, ◌≤◌, ◌^◌, ◌⊎◌}
-use Rattle.std.proofs.Common.{inl, inr, Bool, true, false, T, Option, Some, None, List, [], ◌∷◌, ◌++◌, map, length, take, drop, refl, sym}
+use Rattle.std.proofs.Common.{Bor, nat_cmp, Ordering, Less, Equal, Greater, ◌≡◌, ℕ, zero, suc, ◌+◌, ◌-◌, ◌<◌, ◌≤◌, ◌^◌}
+use Rattle.std.proofs.Common.{inl, inr, Bool, true, false, T, Option, Some, None, List, [], ◌∷◌, map, length, take, drop, refl, sym}
 use Rattle.std.proofs.Common.{ap, ◌∙◌, subst, arith}
 use Rattle.std.specs.Prelude.{is_some, nat_lt, slice_get, slice_index_or, slice_set}
 use Rattle.std.specs.Option.{option_copied}
 use Rattle.std.specs.List.{All, list_all}
-use Rattle.std.specs.List.Sorted.{IsNonDecreasingBy, IsPartitionPoint}
 use Rattle.std.specs.Ordering.{ordering_then}
 use Rattle.std.specs.Cmp.{ranked}
 use Rattle.std.proofs.lemmas.Bool.Decides.{nat_tests}
-use Rattle.std.proofs.lemmas.Option.{get_or_from_slice_get, slice_get-get_or, slice_get_within}
-use Rattle.std.proofs.lemmas.List.{append-nil, length-drop, take_more_set, drop-set-lt}
+use Rattle.std.proofs.lemmas.Option.{slice_get-get_or, slice_get_within}
+use Rattle.std.proofs.lemmas.List.{take_more_set, drop-set-lt}
 use Rattle.model.specs.declared.clash.ClashKind.{ClashKind}
 use Rattle.model.specs.declared.clash.ConflictRule.TheVariants.{ByColumn}
 use Rattle.model.specs.declared.clash.ConflictRule.{ConflictRule}
 use Rattle.model.specs.declared.entry.Entry.{Entry}
-use Rattle.model.specs.Entries.{are_ordered, change_cmp, entry_at, entry_cmp}
+use Rattle.model.specs.Entries.{are_ordered, entry_at, entry_cmp}
 use Rattle.model.specs.Places.{insert_count, delete_count}
 use Rattle.model.specs.Rebasing.{clash_of_entries, clash_with, first_clash, first_clash_from, or_clash, rebased_entry, rebased_entries}
 use Rattle.delta.specs.Search.{IsSplit}
@@ -25,9 +24,9 @@ use Rattle.layers.specs.Held.{moved_by}
 use Rattle.layers.specs.Over.{AreAligned}
 use Rattle.layers.specs.Passing.{IsCursor, AreBefore}
 use Rattle.layers.specs.Serialization.{clash_cmp, clash_with_head}
-use Rattle.model.proofs.CallerLemmas.{both, first, less, second}
+use Rattle.model.proofs.CallerLemmas.{both, first, second}
 use Rattle.layers.proofs.ClashLemmas.{agrees, clash_order, rebased_place, unclashed_entry}
-use Rattle.layers.proofs.PassLemmas.{is_before, tested, greater_sid, sids_greater, sids_less, split_none, split_some, all_still}
+use Rattle.layers.proofs.PassLemmas.{is_before, tested, greater_sid, sids_greater, split_none, split_some, all_still}
 use Rattle.layers.proofs.SerialLemmas.{head_drop, clear_next, moved_next, none_left, all_taken, holds_at, agree, order_y, clash_is}
 use Rattle.layers.proofs.SerialLemmas.{in_order, small_sid}
 use Rattle.layers.proofs.StillLemmas.{stand_still}
@@ -41,60 +40,6 @@ same_at n xs ys e h at = sym (by n ys) ∙ sym (ap (λ (zs : List Entry). slice_
     by zero zs = refl
     by (suc m) [] = refl
     by (suc m) (z ∷ zs) = by m zs
-
--- ---- the rest of a list from an index on
-
-pub mid_whole : (n : ℕ) (es : List Entry) → take (length es - n) (drop n es) ≡ drop n es
-mid_whole n es = all_taken (length es - n) (drop n es) (omega (arith, length-drop n es))
-
-pub put_rest : (n : ℕ) (es new : List Entry) → take n es ++ (new ++ drop (length es - n) (drop n es)) ≡ take n es ++ new
-put_rest n es new =
-    ap (λ (zs : List Entry). take n es ++ (new ++ zs)) (none_left (length es - n) (drop n es) (omega (arith, length-drop n es)))
-    ∙ ap (λ (zs : List Entry). take n es ++ zs) (append-nil new)
-
--- ---- entries in order
-
-pub sids_ascend : (key_cols : ℕ) (es : List Entry) → T (are_ordered key_cols es) → IsNonDecreasingBy (λ e. e.sid) es
-sids_ascend key_cols [] order i j d le lt = absurd (omega arith)
-sids_ascend key_cols (e ∷ es) order zero zero d le lt = omega arith
-sids_ascend key_cols (e ∷ es) order (suc i) zero d le lt = absurd (omega arith)
-sids_ascend key_cols (e ∷ es) order zero (suc j) d le lt =
-    past es j d (first (list_all (λ z. is_lt (entry_cmp key_cols e z)) es) (are_ordered key_cols es) order) (omega arith)
-  where
-    past : (zs : List Entry) (k : ℕ) (z : Entry) → T (list_all (λ z. is_lt (entry_cmp key_cols e z)) zs) → k < length zs
-        → e.sid ≤ (slice_index_or zs k z).sid
-    past [] k z h below = absurd (omega arith)
-    past (y ∷ zs) zero z h below =
-        elim (sids_less e.sid y.sid (change_cmp key_cols e.change y.change) (less _ (first (is_lt (entry_cmp key_cols e y)) _ h))) [
-          | inl gt ↦ omega arith
-          | inr same ↦ let level = same.0 in omega (arith, level)
-        ]
-    past (y ∷ zs) (suc k) z h below = past zs k z (second (is_lt (entry_cmp key_cols e y)) _ h) (omega arith)
-sids_ascend key_cols (e ∷ es) order (suc i) (suc j) d le lt =
-    sids_ascend key_cols es (second (list_all (λ z. is_lt (entry_cmp key_cols e z)) es) (are_ordered key_cols es) order) i j d
-    (omega arith) (omega arith)
-
--- those before a cut
-pub all_below : (sid : ℕ) (es : List Entry) (n : ℕ) → n ≤ length es
-    → IsPartitionPoint (λ e. ltb e.sid sid ≡ true) (λ e. ltb e.sid sid ≡ false) es n
-    → T (list_all (λ e. nat_lt e.sid sid) (take n es))
-all_below sid es zero within cut = tt
-all_below sid [] (suc n) within cut = tt
-all_below sid (e ∷ es) (suc n) within cut =
-    both (nat_lt e.sid sid) _ (subst T (sym (cut.0 zero e (omega arith) (omega arith))) tt)
-    (all_below sid es n (omega arith)
-    ((λ k d low high. cut.0 (suc k) d (omega arith) (omega arith)), (λ k d low high. cut.1 (suc k) d (omega arith) (omega arith))))
-
-pub small_at : (n : ℕ) (es : List Entry) (e : Entry) → All (λ z. z.sid < 2 ^ 63) es → slice_get es n ≡ Some e → e.sid < 2 ^ 63
-small_at n es e small at =
-    subst (λ (z : Entry). z.sid < 2 ^ 63) (get_or_from_slice_get es n e e at) (small n e (slice_get_within es n e at))
-
--- as many rows up as down
-pub moved_none : (added gone : ℕ) (es : List Entry) → added ≡ gone → es ≡ map (moved_by added gone) es
-moved_none added gone [] same = refl
-moved_none added gone (e ∷ es) same =
-    let stays : e.sid ≡ (e.sid + added) - gone = omega (arith, same) in
-    λ i. entry_at (stays i) e.change ∷ moved_none added gone es same i
 
 pub some_is : (a b : Entry) → ◌≡◌ {A = Option Entry} (Some a) (Some b) → a ≡ b
 some_is a b h = cc

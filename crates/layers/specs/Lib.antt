@@ -5,3 +5,4 @@ pub mod Serialization
 pub mod Walk
 pub mod Held
 pub mod Passage
+pub mod Shifts

@@ -9,6 +9,7 @@
 
 mod ahead;
 mod beside;
+mod blocks;
 mod clash;
 mod cursor;
 mod list;
@@ -16,6 +17,7 @@ mod meeting;
 mod passage;
 mod propagation;
 mod rebase;
+mod shift;
 mod walk;
 
 pub use model::{Clash, ClashKind, ConflictRule};
