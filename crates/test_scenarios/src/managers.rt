@@ -5,6 +5,7 @@ ghost use Rattle.manager.specs.Managed.{Managed, IsOwn};
 
 mod checkpoints;
 mod cuts;
+mod late_commits;
 mod openings;
 mod pins;
 mod refusals;

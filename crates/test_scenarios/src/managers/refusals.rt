@@ -107,7 +107,11 @@ pub(super) fn is_shown(manager: &Manager, want: &Shown) -> bool {
 }
 
 /// One write of another transaction commits, where there is one.
-fn another(alloc: Global, manager: &mut Manager, named: Option<ItemWrite>) -> Result<(), NoMemory>
+pub(super) fn another(
+    alloc: Global,
+    manager: &mut Manager,
+    named: Option<ItemWrite>,
+) -> Result<(), NoMemory>
     ensures kept { (other : Transaction) → IsOwn manager.old other → IsOwn manager.new other }
 {
     if let Some(named) = named {
