@@ -1,5 +1,6 @@
 mod ExtendLemmas
 mod BelowLemmas
+mod BoundsLemmas
 mod FaultLemmas
 mod GatherLemmas
 mod HalvingLemmas
@@ -10,6 +11,7 @@ mod PushLemmas
 mod RankLemmas
 mod RowsLemmas
 mod RunLemmas
+mod SpanLemmas
 mod StableLemmas
 mod StandLemmas
 mod WholeLemmas

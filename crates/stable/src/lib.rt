@@ -7,6 +7,7 @@
 //! table is, and `thiserror` for what a fault shows.
 #![tactic(auto)]
 
+mod bounds;
 mod column;
 mod columns;
 mod fault;

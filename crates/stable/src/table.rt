@@ -1,5 +1,5 @@
 //! The table in key order.
-ghost use Rattle.std.specs.Prelude.{◌≡◌, ◌<◌, ◌≤◌, IfOk, IsOk, IsOkUnless, MatchOption, map, Some, Err, None, is_some, length, get_or, slice_get, []};
+ghost use Rattle.std.specs.Prelude.{◌≡◌, ◌+◌, ◌<◌, ◌≤◌, IfOk, IsOk, IsOkUnless, MatchOption, map, Some, Err, None, is_some, length, get_or, slice_get, []};
 ghost use Rattle.std.specs.List.{All};
 ghost use Rattle.values.specs.Lent.{value_of};
 ghost use Rattle.values.specs.Orders.{key_cmp};
@@ -7,8 +7,10 @@ ghost use Rattle.values.specs.Shape.{key_of, list_fault};
 ghost use Rattle.values.specs.declared.limits.TheConstants.{MAX_ROWS};
 ghost use Rattle.model.specs.Table.{rank, row_at};
 ghost use Rattle.stable.specs.Rows.{AreEven, cell_of, column_at, first_columns, row_count, rows_of};
+ghost use Rattle.stable.specs.Spans.{HasCells, IsSpan};
 ghost use Rattle.stable.specs.Stable.{IsNumberKey, IsStable, build_fault, holds_key, table_in};
 
+use crate::bounds::bound;
 use crate::column::Column;
 use crate::columns::{first_fault_of, row_count};
 use crate::fault::BuildFault;
@@ -208,7 +210,9 @@ impl StableTable {
         }
     }
 
-    /// How many rows have a key below that of these cells, of whatever types.
+    /// How many rows have a key below that of these cells, of whatever types. Rows are halved until those that are left
+    /// have all of the key's cells but the last, which is then found in its column. Cells that the row before those and
+    /// the row after them share with the key are read no more: each between has them too.
     fn rank_of_cells(&self, key: &[Value]) -> u64
         ensures rank { result ≡ rank key.now (table_in self.now) }
         ensures few { result ≤ MAX_ROWS }
@@ -216,15 +220,39 @@ impl StableTable {
     {
         let mut low = 0;
         let mut high = self.len();
+        let key_cols = self.schema.key_cols();
+        let mut tied_before: usize = 0;
+        let mut tied_after: usize = 0;
         while low < high {
+            let tied = tied_before.min(tied_after);
+            if tied < key_cols && tied + 1 == key.len() {
+                return self.rank_among(key, tied, low, high);
+            }
             let middle = low + (high - low) / 2;
-            if self.compare_key(middle, key).is_lt() {
+            let (order, cells) = self.compare_from(middle, key, tied);
+            if order.is_lt() {
                 low = middle + 1;
+                tied_before = cells;
             } else {
                 high = middle;
+                tied_after = cells;
             }
         }
         low
+    }
+
+    /// The place of a key among rows that have all of its cells but the last, which stands in column `col`.
+    fn rank_among(&self, key: &[Value], col: usize, low: u64, high: u64) -> u64
+        requires column { col < self.now.schema.key_cols }
+        requires last { col + 1 ≡ length key.now }
+        requires span { IsSpan self.now.schema.key_cols key.now self.now.rows col low high }
+        ensures rank { result ≡ rank key.now (table_in self.now) }
+        ensures few { result ≤ MAX_ROWS }
+    {
+        // A table tells with its length that its rows ascend, and a schema with its key that each has its cells.
+        let _rows = self.len();
+        let _key_cols = self.schema.key_cols();
+        bound(self.column(col), low as usize, high as usize, &key[col]) as u64
     }
 
     /// How the key of a row stands to that of these cells.
@@ -232,15 +260,31 @@ impl StableTable {
         requires { sid < length self.now.rows }
         ensures { result ≡ key_cmp (key_of self.now.schema.key_cols (get_or self.now.rows sid [])) key.now }
     {
+        self.compare_from(sid, key, 0).0
+    }
+
+    /// How the key of a row stands to that of these cells, where it has those before column `from`; and in how many of the
+    /// first columns it has them.
+    fn compare_from(&self, sid: u64, key: &[Value], from: usize) -> (Ordering, usize)
+        requires row { sid < length self.now.rows }
+        requires key { from ≤ self.now.schema.key_cols }
+        requires cell { from ≤ length key.now }
+        requires tied { HasCells from key.now (get_or self.now.rows sid []) }
+        ensures order { result.0 ≡ key_cmp (key_of self.now.schema.key_cols (get_or self.now.rows sid [])) key.now }
+        ensures tied { HasCells result.1 key.now (get_or self.now.rows sid []) }
+        ensures key { result.1 ≤ self.now.schema.key_cols }
+        ensures cell { result.1 ≤ length key.now }
+    {
         let key_cols = self.schema.key_cols();
-        for col in 0..key_cols.min(key.len()) {
+        let cells = key_cols.min(key.len());
+        for col in from..cells {
             let cell = key[col].as_ref();
             match self.value(sid, col).cmp(&cell) {
                 Ordering::Equal => {}
-                unequal => return unequal,
+                unequal => return (unequal, col),
             }
         }
-        key_cols.cmp(&key.len())
+        (key_cols.cmp(&key.len()), cells)
     }
 }
 

@@ -1,0 +1,37 @@
+use Rattle.std.proofs.Common.{◌+◌, ◌-◌, ◌/◌, ◌<◌, is_lt, length, map, sym, ap, ◌∙◌, arith, false}
+use Rattle.std.proofs.lemmas.List.{get_or-map}
+use Rattle.std.proofs.lemmas.Option.{get_or_from_slice_get}
+use Rattle.values.specs.declared.value.Value.TheVariants.{Bool as Truth}
+use Rattle.stable.specs.Bounds.{is_before}
+use Rattle.stable.proofs.BoundsLemmas.{lowered, raised}
+use Rattle.stable.proofs.bounds.bound_of_truth.Goals as goal
+
+pub loop-low-preserved-then-is_lt : goal.loop-low-preserved-then-is_lt
+loop-low-preserved-then-is_lt c =
+    let low = c.loop-low.low in
+    let high = c.loop-low.high in
+    let middle = low + (high - low) / 2 in
+    let within : middle < length c.args.truths.now =
+    omega (arith, c.loop-low-test.true, c.loop-low.invariant.within, c.requires.within) in
+    raised (Truth c.args.truth.now) (map Truth c.args.truths.now) c.args.start c.args.stop c.requires.parted low high middle
+    c.loop-low.invariant (omega arith) (omega (arith, c.loop-low-test.true))
+    (ap (is_before (Truth c.args.truth.now)) (get_or-map Truth c.args.truths.now middle false (Truth false) within
+    ∙ ap Truth (get_or_from_slice_get c.args.truths.now middle c.get.result false c.get.ensures))
+    ∙ ap is_lt (sym c.cmp.ensures)
+    ∙ sym c.is_lt.ensures
+    ∙ c.if-is_lt.true)
+
+pub loop-low-preserved : goal.loop-low-preserved
+loop-low-preserved c =
+    let low = c.loop-low.low in
+    let high = c.loop-low.high in
+    let middle = low + (high - low) / 2 in
+    let within : middle < length c.args.truths.now =
+    omega (arith, c.loop-low-test.true, c.loop-low.invariant.within, c.requires.within) in
+    lowered (Truth c.args.truth.now) (map Truth c.args.truths.now) c.args.start c.args.stop c.requires.parted low high middle
+    c.loop-low.invariant (omega arith) (omega (arith, c.loop-low-test.true))
+    (ap (is_before (Truth c.args.truth.now)) (get_or-map Truth c.args.truths.now middle false (Truth false) within
+    ∙ ap Truth (get_or_from_slice_get c.args.truths.now middle c.get.result false c.get.ensures))
+    ∙ ap is_lt (sym c.cmp.ensures)
+    ∙ sym c.is_lt.ensures
+    ∙ c.if-is_lt.false)
