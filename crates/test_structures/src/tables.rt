@@ -6,6 +6,7 @@
 mod faults;
 mod keys;
 mod kinds;
+mod ranks;
 mod runs;
 
 use crate::assertions::assert_holds;

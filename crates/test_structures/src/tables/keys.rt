@@ -15,7 +15,7 @@ type Cells = &'static [ValueRef<'static>];
 type Case = (&'static str, Cells, u64, bool);
 
 /// The schema of columns of these types, all of which are the key.
-fn keyed(alloc: Global, types: &[ColumnType]) -> Result<Schema, Fail> {
+pub(super) fn keyed(alloc: Global, types: &[ColumnType]) -> Result<Schema, Fail> {
     let mut cols = Vec::new(alloc);
     for (name, column) in ["first", "second", "third", "fourth"].iter().zip(types) {
         cols.push((*name, *column))?;
