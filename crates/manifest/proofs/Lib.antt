@@ -1,0 +1,5 @@
+pub mod ReaderLemmas
+pub mod NumberLemmas
+pub mod LineLemmas
+pub mod LoopLemmas
+pub mod ManifestLemmas
