@@ -90,23 +90,49 @@ static void take_word(reader *text, const char *word) {
   if (!text->is_bad) text->at += len;
 }
 
-/* A number, and what ends it. */
-static uint64_t take_number(reader *text, int base, char end) {
-  char *stop;
-  if (text->is_bad || strchr(" +-\n", *text->at)) {
-    text->is_bad = true;
-    return 0;
+/* What ends a number. */
+static void take_end(reader *text, char end) {
+  if (*text->at != end) text->is_bad = true;
+  if (!text->is_bad) text->at++;
+}
+
+static bool is_digit(char byte) { return byte >= '0' && byte <= '9'; }
+
+/* A decimal number up to `most`, without a sign or a zero before it, and what ends it. */
+static uint64_t take_number(reader *text, uint64_t most, char end) {
+  uint64_t number = 0;
+  if (!text->is_bad && !is_digit(*text->at)) text->is_bad = true;
+  if (!text->is_bad && *text->at == '0' && is_digit(text->at[1])) text->is_bad = true;
+  for (; !text->is_bad && is_digit(*text->at); text->at++) {
+    uint64_t digit = (uint64_t)(*text->at - '0');
+    if (number > most / 10 || digit > most - 10 * number) text->is_bad = true;
+    number = 10 * number + digit;
   }
-  errno = 0;
-  uint64_t number = strtoull(text->at, &stop, base);
-  if (errno || stop == text->at || *stop != end) text->is_bad = true;
-  if (!text->is_bad) text->at = stop + 1;
-  return number;
+  take_end(text, end);
+  return text->is_bad ? 0 : number;
+}
+
+/* So many hexadecimal digits, none of them a capital, and what ends them. */
+static uint64_t take_digits(reader *text, int digits, char end) {
+  uint64_t number = 0;
+  for (; digits && !text->is_bad; digits--) {
+    char byte = *text->at;
+    if (is_digit(byte)) {
+      number = 16 * number + (uint64_t)(byte - '0');
+    } else if (byte >= 'a' && byte <= 'f') {
+      number = 16 * number + (uint64_t)(byte - 'a') + 10;
+    } else {
+      text->is_bad = true;
+    }
+    if (!text->is_bad) text->at++;
+  }
+  take_end(text, end);
+  return text->is_bad ? 0 : number;
 }
 
 static file_mark take_mark(reader *text) {
-  uint64_t len = take_number(text, 10, ' ');
-  return (file_mark){len, (uint32_t)take_number(text, 16, '\n')};
+  uint64_t len = take_number(text, UINT64_MAX, ' ');
+  return (file_mark){len, (uint32_t)take_digits(text, 8, '\n')};
 }
 
 static void take_name(reader *text, char *name) {
@@ -120,16 +146,15 @@ static void take_name(reader *text, char *name) {
 
 static void take_table(reader *text, pdti_table *entry) {
   take_word(text, "table ");
-  entry->number = (uint32_t)take_number(text, 10, ' ');
-  entry->image.number = take_number(text, 10, ' ');
-  entry->image.folder = take_number(text, 10, ' ');
+  entry->number = (uint32_t)take_number(text, UINT32_MAX, ' ');
+  entry->image.number = take_number(text, UINT64_MAX, ' ');
+  entry->image.folder = take_number(text, UINT64_MAX, ' ');
   entry->options.size = sizeof entry->options;
-  entry->options.recent = (size_t)take_number(text, 10, ' ');
-  entry->options.row_limit = take_number(text, 10, ' ');
-  entry->options.by_row = take_number(text, 10, ' ');
-  entry->width = (size_t)take_number(text, 10, ' ');
+  entry->options.recent = (size_t)take_number(text, SIZE_MAX, ' ');
+  entry->options.row_limit = take_number(text, UINT64_MAX, ' ');
+  entry->options.by_row = take_number(text, 1, ' ');
+  entry->width = (size_t)take_number(text, PDT_MAX_COLUMNS, ' ');
   take_name(text, entry->name);
-  if (entry->width > PDT_MAX_COLUMNS) text->is_bad = true;
   entry->image.header = take_mark(text);
   for (size_t i = 0; i < entry->width && !text->is_bad; i++) entry->image.columns[i] = take_mark(text);
 }
@@ -156,7 +181,7 @@ static int open_text(buffer *text) {
   text->at[text->len] = 0;
   reader last = {(const char *)text->at + text->len - END, false};
   take_word(&last, "end ");
-  uint64_t check = take_number(&last, 16, '\n');
+  uint64_t check = take_digits(&last, 8, '\n');
   text->len -= END;
   if (last.is_bad || check != check_of(text->at, text->len) || memchr(text->at, 0, text->len)) return PDT_ROT;
   text->at[text->len] = 0;
@@ -170,14 +195,14 @@ int pdti_read_manifest(pdt_database *database, uint64_t *number, uint64_t *first
   if (!code) {
     reader text = {(const char *)bytes.at, false};
     take_word(&text, "narthexmace 1\ndatabase ");
-    database->name = take_number(&text, 16, ' ');
-    database->salt = take_number(&text, 16, '\n');
+    database->name = take_digits(&text, 16, ' ');
+    database->salt = take_digits(&text, 16, '\n');
     take_word(&text, "at ");
-    *number = take_number(&text, 10, ' ');
-    *first = take_number(&text, 10, '\n');
+    *number = take_number(&text, UINT64_MAX, ' ');
+    *first = take_number(&text, UINT64_MAX, '\n');
     take_word(&text, "next ");
-    database->next_table = (uint32_t)take_number(&text, 10, ' ');
-    database->next_folder = take_number(&text, 10, '\n');
+    database->next_table = (uint32_t)take_number(&text, UINT32_MAX, ' ');
+    database->next_folder = take_number(&text, UINT64_MAX, '\n');
     code = take_entries(database, &text);
   }
   free(bytes.at);

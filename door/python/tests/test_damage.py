@@ -2,6 +2,7 @@
 import errno
 import os
 import pickle
+import re
 import shutil
 import unittest
 from pathlib import Path
@@ -14,6 +15,36 @@ from narthexmace import _library
 from .folders import ITEMS, Case, insert, rows
 
 ROWS = [(1, "ink", 7), (2, "pen", 2), (3, "pad", 5)]
+
+#: How many bytes the last line of a manifest has.
+LAST_LINE = 13
+
+#: What of a manifest's lines is replaced, and by what: what it says stays the same, or wraps round to the same.
+OTHERWISE = [
+    (rb"\nat ", rb"\nat 0"),
+    (rb"\nat ", rb"\nat +"),
+    (rb"\nnext (\d+) ", rb"\nnext 0\1 "),
+    (rb"\nnext (\d+) ", lambda found: b"\nnext %d " % (int(found[1]) + 2**32)),
+    (rb"\ntable (\d+) ", lambda found: b"\ntable %d " % (int(found[1]) + 2**32)),
+    (rb"\ntable (\d+) ", rb"\ntable 0x\1 "),
+    (rb"\ndatabase [0-9a-f]+", lambda found: found[0].upper().replace(b"DATABASE", b"database")),
+    (rb"\ndatabase ", rb"\ndatabase 0"),
+    (rb" 0 3 items\n", rb" 00 3 items\n"),
+    (rb" 0 3 items\n", rb" 2 3 items\n"),
+    (rb" 0 3 items\n(\d+) ", rb" 0 3 items\n0\1 "),
+    (rb" 0 3 items\n(\d+) ", rb" 0 3 items\n\1 0"),
+]
+
+
+def check_of(text: bytes) -> int:
+    """The register of CRC-32C after the bytes, from all ones."""
+    register = 0xFFFFFFFF
+    for byte in text:
+        register ^= byte
+        for _ in range(8):
+            register = register >> 1 ^ (0x82F63B78 if register & 1 else 0)
+    return register
+
 
 #: The device takes no more bytes than it has, and then as many as are asked for: Python ignores SIGXFSZ.
 FAILING = """\
@@ -117,6 +148,17 @@ class Damage(Case):
             self.turned(path, place)
             self.assertEqual(self.refused_opening(narthexmace.Rot).file, "manifest")
             path.write_bytes(whole)
+
+    def test_a_manifest_that_is_spelt_otherwise(self) -> None:
+        path = self.folder / "manifest"
+        whole = path.read_bytes()
+        for old, new in OTHERWISE:
+            body, changes = re.subn(old, new, whole[:-LAST_LINE], count=1)
+            self.assertEqual(changes, 1, old)
+            path.write_bytes(b"%send %08x\n" % (body, check_of(body)))
+            self.assertEqual(self.refused_opening(narthexmace.Rot).file, "manifest")
+        path.write_bytes(whole)
+        self.connect().close()
 
     def test_a_file_that_is_missing(self) -> None:
         for pattern in ("image-*/column-0.pdt", "image-*/header.csv", "journal-*", "manifest"):
