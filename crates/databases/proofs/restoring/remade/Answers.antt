@@ -1,0 +1,29 @@
+use Rattle.std.proofs.Common.{ℕ, List, inl, subst}
+use Rattle.devices.specs.Stored.{Image}
+use Rattle.manager.specs.Managed.{newest_table}
+use Rattle.model.specs.Table.{rows_of}
+use Rattle.databases.specs.Restored.{AreRemade, IsUnmade}
+use Rattle.databases.proofs.restoring.remade.Goals as goal
+
+pub returns-in-Err-clause-err : goal.returns-in-Err-clause-err
+returns-in-Err-clause-err c generation =
+    let image : Image = record { generation = generation; table = c.args.image.table } in
+    inl
+    (subst
+    (λ (bytes : List ℕ). IsUnmade image c.args.image.number c.args.table c.args.seed c.args.journal.now.base bytes c.in-Err.fault)
+    c.as_slice.ensures.value (record { told = c.in-Err.ensures.fault; sound = c.in-Err.ensures.sound }))
+
+pub returns-then-is_chain-clause-ok : goal.returns-then-is_chain-clause-ok
+returns-then-is_chain-clause-ok c generation =
+    let image : Image = record { generation = generation; table = c.args.image.table } in
+    subst
+    (λ (bytes : List ℕ). AreRemade image c.args.image.number c.args.table c.args.seed c.args.journal.now.base bytes
+    (rows_of (newest_table c.in-Ok.recovered.manager)))
+    c.as_slice.ensures.value
+    (record {
+      rows_are = c.in-Ok.ensures.rows;
+      ending = c.in-Ok.ensures.ending;
+      prefix = λ t commits safe crash is.
+          let p = c.in-Ok.ensures.prefix t commits safe crash is in
+          record { whole = p.whole; enough = p.enough; inside = p.inside; rows_are = p.rows_are };
+    })
