@@ -1,9 +1,7 @@
 -- The steps of a cursor.
-use Rattle.std.proofs.Common.{◌≡◌, ℕ, zero, suc, ◌+◌, ◌<◌, ◌≤◌, ◌^◌, Bool, true, false, cond, ◌&&◌, T, Option, Some, None, Bor, List, [], ◌∷◌, ◌++◌, map, length, filter, take, drop, is_lt, refl, sym, ap, ◌∙◌, subst, arith, take-append-drop}
+use Rattle.std.proofs.Common.{◌≡◌, ℕ, zero, suc, ◌+◌, ◌<◌, ◌≤◌, ◌^◌, Bool, true, false, cond, ◌&&◌, T, Some, None, List, [], ◌∷◌, ◌++◌, map, length, filter, take, drop, is_lt, refl, sym, ap, ◌∙◌, subst, arith, take-append-drop}
 use Rattle.std.specs.Prelude.{◌==◌, nat_lt, nat_le, ◌||◌, slice_get}
 use Rattle.std.specs.List.{list_all}
-use Rattle.std.specs.Iterator.{YieldsFirstRef}
-use Rattle.std.specs.Option.{option_copied}
 use Rattle.std.proofs.lemmas.Bool.Decides.{nat_tests}
 use Rattle.std.proofs.lemmas.List.{take_more}
 use Rattle.std.proofs.lemmas.Option.{get_or_from_slice_get, slice_get_within}
@@ -19,7 +17,6 @@ use Rattle.merge.specs.Level.{stands_within, IsOver}
 use Rattle.merge.specs.View.{modified_cells, cells_at}
 use Rattle.merge.specs.Cursor.{TreeCursor, entries_left, is_past, IsCursor, entries_past, starts_with_delete, DeletesNext, InsertsNext}
 use Rattle.merge.proofs.LevelLemmas.{le_of, all_from, all_from-after, after_delete}
-use Rattle.delta.proofs.CallerLemmas.{next_is}
 
 pub same_of : (a b : ℕ) → (a == b) ≡ true → a ≡ b
 same_of a b h = grind (arith, nat_tests)
@@ -73,7 +70,7 @@ get-nothing [] (suc n) is = refl
 get-nothing (x ∷ xs) zero is = cc
 get-nothing (x ∷ xs) (suc n) is = get-nothing xs n is
 
-all-append : {X : Type 0} (p : X → Bool) (xs ys : List X) → T (list_all p xs) → T (list_all p ys) → T (list_all p (xs ++ ys))
+pub all-append : {X : Type 0} (p : X → Bool) (xs ys : List X) → T (list_all p xs) → T (list_all p ys) → T (list_all p (xs ++ ys))
 all-append p [] ys h k = k
 all-append p (x ∷ xs) ys h k = both (p x) _ (first (p x) _ h) (all-append p xs ys (second (p x) _ h) k)
 

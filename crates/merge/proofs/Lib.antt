@@ -15,4 +15,9 @@ mod PartLemmas
 mod ColumnsLemmas
 mod BetweenLemmas
 mod KeyRowLemmas
+mod PackedLemmas
+mod FillingLemmas
+mod PackedStepLemmas
+mod PackedFillLemmas
+mod PackedPlaceLemmas
 pub mod CallerLemmas

@@ -27,7 +27,7 @@ use Rattle.merge.proofs.StretchLemmas.{take_append}
 use Rattle.merge.proofs.ViewLemmas.{length-set_cells, or_else, slice_get-set_cells}
 
 -- the cursor over a row more than are left
-over_next : (c : TreeCursor) (row : Row) (below left : List Row) → below ≡ row ∷ left → IsCursor (length below) c
+pub over_next : (c : TreeCursor) (row : Row) (below left : List Row) → below ≡ row ∷ left → IsCursor (length below) c
     → IsCursor (suc (length left)) c
 over_next c row below left rows is = subst (λ (xs : List Row). IsCursor (length xs) c) rows is
 
@@ -204,11 +204,11 @@ module _ (col : ℕ) where
 -- ---- rows that may stand in a column
 
 -- the value that is there, or that of no value
-abbrev value_or_false : Option Value → Value
+abbrev pub value_or_false : Option Value → Value
 value_or_false None = Truth false
 value_or_false (Some value) = value
 
-value-cell : (col : ℕ) (row : Row) → get_or row col (Truth false) ≡ value_or_false (slice_get row col)
+pub value-cell : (col : ℕ) (row : Row) → get_or row col (Truth false) ≡ value_or_false (slice_get row col)
 value-cell col [] = refl
 value-cell zero (x ∷ row) = refl
 value-cell (suc col) (x ∷ row) = value-cell col row

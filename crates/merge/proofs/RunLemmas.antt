@@ -1,9 +1,9 @@
 -- Runs of a column, and what is left past them.
-use Rattle.std.proofs.Common.{◌≡◌, ℕ, zero, suc, ◌+◌, ◌-◌, ◌*◌, ◌/◌, ◌%◌, ◌<◌, ◌≤◌, Bool, true, false, T, Option, Some, None, List, [], ◌∷◌, ◌++◌, length, map, take, drop, get_or, refl, sym, ap, ◌∙◌, arith}
+use Rattle.std.proofs.Common.{◌≡◌, ℕ, zero, suc, ◌+◌, ◌-◌, ◌<◌, ◌≤◌, Bool, true, false, T, Option, Some, None, List, [], ◌∷◌, ◌++◌, length, map, take, drop, get_or, refl, sym, ap, ◌∙◌, arith}
 use Rattle.std.specs.Prelude.{is_none}
 use Rattle.std.specs.List.{All, list_all}
 use Rattle.std.proofs.Math.Seq.{take-add}
-use Rattle.std.proofs.lemmas.List.{drop-drop, drop-take, take-take, take-map, drop-map, map-append}
+use Rattle.std.proofs.lemmas.List.{drop-drop, take-map, drop-map, map-append}
 use Rattle.values.specs.Shape.{Columns, row_fault, fits_schema}
 use Rattle.values.specs.declared.fault.ShapeFault.{ShapeFault}
 use Rattle.values.specs.declared.row.Row.{Row}
@@ -13,7 +13,7 @@ use Rattle.values.specs.declared.value.Value.TheVariants.{Bool as Truth}
 use Rattle.model.specs.Table.{table_of, IsTable}
 use Rattle.model.proofs.CallerLemmas.{first, second}
 use Rattle.stable.specs.Rows.{column_values}
-use Rattle.stable.proofs.CallerLemmas.{fit_at, width_of, run_of_block}
+use Rattle.stable.proofs.CallerLemmas.{fit_at, width_of}
 use Rattle.merge.specs.Fitting.{StandsAt}
 use Rattle.merge.specs.Runs.{part_values}
 use Rattle.merge.specs.declared.run.ColumnPart.{ColumnPart}

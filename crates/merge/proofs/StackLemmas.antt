@@ -174,6 +174,26 @@ module _ (stable : Stable) (read write trans : Tree) (h : AreStacked stable read
       subst (IsTable stable.schema) (sym image_table_is)
       (leaves stable.schema (table_with (table_with (table_in stable) h.lower.effects) h.middle.effects) h.upper.effects h.upper.over)
 
+-- rows that are a table's are a table under their keys
+keyed_rows : (schema : Columns) (t : Table) (rows : List Row) → IsTable schema t → rows ≡ rows_of t → IsTable schema (table_of schema.key_cols rows)
+keyed_rows schema t rows h is =
+    subst (IsTable schema)
+    (sym (ap (table_of schema.key_cols) is ∙ table_of-rows_of schema.key_cols t (passes (is_keyed_table schema.key_cols t) h.keyed))) h
+
+module _ (stable : Stable) (read write trans : Tree) (h : AreStacked stable read write trans) where
+  pub stable_is_table : IsTable stable.schema (table_of stable.schema.key_cols stable.rows)
+  stable_is_table = keyed_rows stable.schema (table_in stable) stable.rows h.lower.over.table (stable_rows_is stable read write trans h)
+
+  pub read_is_table : IsTable stable.schema (table_of stable.schema.key_cols (read_rows (stack_of stable read write trans)))
+  read_is_table =
+      keyed_rows stable.schema (table_with (table_in stable) h.lower.effects) (read_rows (stack_of stable read write trans))
+      h.middle.over.table (read_rows_is stable read write trans h)
+
+  pub write_is_table : IsTable stable.schema (table_of stable.schema.key_cols (write_rows (stack_of stable read write trans)))
+  write_is_table =
+      keyed_rows stable.schema (table_with (table_with (table_in stable) h.lower.effects) h.middle.effects)
+      (write_rows (stack_of stable read write trans)) h.upper.over.table (write_rows_is stable read write trans h)
+
 -- ---- no tree on top
 
 -- no entries leave the rows as they are

@@ -2,7 +2,7 @@
 use Rattle.std.proofs.Common.{◌≡◌, ℕ, zero, suc, ◌<◌, ◌≤◌, Bool, true, false, cond, not, T, Option, Some, None, List, [], ◌∷◌}
 use Rattle.std.proofs.Common.{◌++◌, map, length, filter, take, drop, get_or, Ordering, Less, Equal, Greater, is_gt, nat_cmp, refl}
 use Rattle.std.proofs.Common.{sym, ap, ◌∙◌, subst, arith, take-append-drop, length-set}
-use Rattle.std.specs.Prelude.{◌==◌, slice_get, slice_set, is_none, replicate}
+use Rattle.std.specs.Prelude.{◌==◌, slice_get, slice_set, replicate}
 use Rattle.std.proofs.lemmas.Option.{slice_get_within, slice_get-get_or, slice_get-map}
 use Rattle.std.proofs.lemmas.List.{append-nil, drop_all, length-map, length-replicate, get_or-replicate, map-set, take_all}
 use Rattle.std.specs.Bool.{passes}
@@ -13,10 +13,9 @@ use Rattle.std.specs.Option.{option_map, option_or}
 use Rattle.std.proofs.lemmas.Bool.Decides.{nat_tests}
 use Rattle.values.specs.Lent.{value_of}
 use Rattle.values.specs.declared.value.ValueRef.{ValueRef}
-use Rattle.values.specs.Shape.{Columns, fits_schema, values_fault}
+use Rattle.values.specs.Shape.{Columns, fits_schema}
 use Rattle.values.specs.declared.row.Row.{Row}
 use Rattle.values.specs.declared.value.Value.{Value}
-use Rattle.values.specs.declared.fault.ShapeFault.TheVariants.{WrongCount}
 use Rattle.model.specs.declared.entry.Entry.{Entry}
 use Rattle.model.specs.declared.entry.Change.{Change}
 use Rattle.model.specs.declared.entry.Change.TheVariants.{Ins, Del, Mod}

@@ -6,7 +6,7 @@ use Rattle.model.specs.Entries.{is_insert, are_ordered, IsLawful}
 use Rattle.values.specs.declared.limits.TheConstants.{MAX_ROWS}
 use Rattle.delta.specs.Tree.{Tree}
 use Rattle.stable.specs.Stable.{Stable}
-use Rattle.merge.specs.Image.{Stack, AreStacked, stack_of, read_rows, write_rows, image_rows}
+use Rattle.merge.specs.Image.{AreStacked, stack_of, read_rows, write_rows, image_rows}
 
 -- whether an entry stands at place n or past it, and before the end: an insert may stand after the last row
 abbrev pub stands_within : ℕ → ℕ → Entry → Bool

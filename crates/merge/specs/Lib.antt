@@ -9,3 +9,6 @@ pub mod KeyRow
 pub mod Columns
 pub mod Runs
 pub mod Parts
+pub mod Packed
+pub mod Filling
+pub mod PackedLeft

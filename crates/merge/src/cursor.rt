@@ -60,6 +60,7 @@ impl<'a> Cursor<'a> {
         ensures at { (base : List Cells) → IsOver tree.now.key_cols 0 (length base) tree.now.entries
             → IsLawful tree.now.key_cols tree.now.entries → length base < 2 ^ 62 → rid ≤ length (merged_rows base tree.now.entries)
             → IsCursorAt base rid result }
+        ensures inside { result.index ≤ length tree.now.entries }
     {
         let Start {
             index,
@@ -86,7 +87,7 @@ impl<'a> Cursor<'a> {
 
     /// How many entries are passed.
     #[inline(always)]
-    fn index(&self) -> usize
+    pub(crate) fn index(&self) -> usize
         ensures { result ≡ self.now.index }
     {
         self.index

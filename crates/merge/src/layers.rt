@@ -1,8 +1,13 @@
 //! The layers, and what stands where in their image.
-ghost use Rattle.std.specs.Prelude.{◌≡◌, ◌↔◌, ◌≤◌, ◌<◌, IsTrue, [], length, drop, take, slice_get, is_some};
+ghost use Rattle.std.specs.Prelude.{◌≡◌, ℕ, ◌↔◌, ◌≤◌, ◌<◌, IsTrue, [], length, map, min, drop, take, slice_get, is_some};
+ghost use Rattle.std.specs.List.{All};
 ghost use Rattle.std.specs.Option.{option_map};
 ghost use Rattle.model.specs.Table.{IsTable, rank, row_at};
 ghost use Rattle.merge.specs.Image.{image_rows, image_table};
+ghost use Rattle.merge.specs.Cursor.{IsCursor, rows_left};
+ghost use Rattle.merge.specs.Filling.{IsWide};
+ghost use Rattle.merge.specs.Packed.{IsNumberColumn, IsPacked, number_at};
+ghost use Rattle.merge.specs.PackedLeft.{HasPackedColumn, IsPackedRows, packed_left};
 ghost use Rattle.merge.specs.View.{row_of};
 ghost use Rattle.stable.specs.Rows.{column_at};
 
@@ -10,6 +15,9 @@ use crate::cursor::Cursor;
 use crate::image::{CommittedRows, Image};
 use crate::key_row::{find_in, find_over};
 use crate::level::{Level, StableRows, grown, locate_over};
+use crate::numbers::fill;
+use crate::packed::Packed;
+use crate::packed_rows::PackedRows;
 use crate::runs::ColumnRuns;
 use crate::scan::{MergeScan, Stretches};
 use crate::view::{Layer, RowView};
@@ -167,6 +175,33 @@ impl<'a> Layers<'a> {
         ColumnRuns::new(self.stable.column(col), col, self.stretches(from, to))
     }
 
+    /// Puts the numbers of a column from a position on into a room, as many as there are and fit, and answers how many. The Read-PDT
+    /// is read as it is packed: base rows that stand together are copied, and what it modifies of the column is put in their place.
+    /// No memory is taken.
+    pub fn fill_numbers(&self, packed: &'a Packed, col: usize, from: u64, out: &mut [i64]) -> usize
+        requires packed { IsPacked self.now.read packed.now }
+        requires column { IsNumberColumn self.now.schema col packed.now }
+        ensures count { result ≡ min (length out.old) (length (drop from (image_rows self.now))) }
+        ensures numbers { take result out.new ≡ map (number_at col) (take result (drop from (image_rows self.now))) }
+    {
+        let start = from.min(self.len);
+        let count = (out.len() as u64).min(self.len - start) as usize;
+        let room = &mut out[..count];
+        match self.trans {
+            None => fill(&mut self.packed_from(packed, start), col, room),
+            Some(trans) => {
+                let cursor = Cursor::at(trans, start);
+                let mut rows = Level {
+                    below: self.packed_from(packed, cursor.sid()),
+                    cursor,
+                    layer: Layer::Trans,
+                };
+                fill(&mut rows, col, room);
+            }
+        }
+        count
+    }
+
     /// How many rows have a key below this one, and whether a row has the key: by halving in the stable table and one descent
     /// in each tree. No memory is taken.
     pub fn rank(&self, key: &Key) -> (u64, bool)
@@ -228,6 +263,36 @@ impl<'a> Layers<'a> {
         };
         Level {
             below: under_read,
+            cursor: write,
+            layer: Layer::Write,
+        }
+    }
+
+    /// What is left under the Read-PDT as it is packed, and the Write-PDT, from a position on.
+    fn packed_from(&self, packed: &'a Packed, rid: u64) -> Level<'a, PackedRows<'a>>
+        requires rid { rid ≤ length (write_rows self.now) }
+        requires packed { IsPacked self.now.read packed.now }
+        ensures rows { rows_left result.cursor (packed_left result.below) ≡ drop rid (write_rows self.now) }
+        ensures lawful { IsPackedRows result.below }
+        ensures cursor { IsCursor (length (packed_left result.below)) result.cursor }
+        ensures column { (col : ℕ) → IsNumberColumn self.now.schema col packed.now → HasPackedColumn col result.below }
+        ensures wide { (col : ℕ) → IsNumberColumn self.now.schema col packed.now → All (IsWide col) (packed_left result.below) }
+    {
+        let write = Cursor::at(self.write, rid);
+        let read = Cursor::at(self.read, write.sid());
+        let sid = read.sid();
+        let below = PackedRows {
+            below: StableRows {
+                table: self.stable,
+                sid,
+            },
+            tree: self.read,
+            packed,
+            index: read.index(),
+            sid,
+        };
+        Level {
+            below,
             cursor: write,
             layer: Layer::Write,
         }

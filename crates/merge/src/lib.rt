@@ -13,6 +13,9 @@ mod image;
 mod key_row;
 mod layers;
 mod level;
+mod numbers;
+mod packed;
+mod packed_rows;
 mod part;
 mod run;
 mod runs;
@@ -23,6 +26,7 @@ mod view;
 
 pub use layers::Layers;
 pub use level::grown;
+pub use packed::Packed;
 pub use run::{Run, TextRun, TruthRun};
 pub use runs::ColumnRuns;
 pub use scan::{MergeScan, Stretches};

@@ -14,3 +14,6 @@ returns-clause-at c = λ base over lawful small low.
     let start = c.find_start-index.result in
     let new : TreeCursor = record { tree = c.args.tree.now; index = start.index; sid = start.sid } in
     start_found base new c.args.rid over lawful small low c.find_start-index.ensures.start
+
+pub returns-clause-inside : goal.returns-clause-inside
+returns-clause-inside c = c.find_start-index.ensures.start.within

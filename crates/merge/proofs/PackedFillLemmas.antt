@@ -1,0 +1,218 @@
+-- The numbers of a column under packed modifies, and of packed inserts.
+use Rattle.std.proofs.Common.{◌≡◌, ◌∙◌, ℕ, zero, suc, ◌+◌, ◌-◌, ◌<◌, ◌≤◌, Bool, true, false, cond, T, Some, List, [], ◌∷◌, ◌++◌, length, map, take, drop, slice_get, get_or, refl, sym, ap, subst, arith}
+use Rattle.std.specs.Prelude.{ℤ, ◌==◌, ◌&&◌, nat_lt, nat_le, min, slice_set}
+use Rattle.std.specs.List.{All, list_all}
+use Rattle.std.proofs.lemmas.Bool.Decides.{nat_tests}
+use Rattle.std.proofs.lemmas.List.{length-append, length-map, map-append, take-append-drop}
+use Rattle.std.proofs.lemmas.List.Elements.{All-cons, All-get_or, All-head, All-same, All-tail, All-take}
+use Rattle.std.proofs.Math.Seq.{get_or-append_seam}
+use Rattle.values.specs.declared.row.Row.{Row}
+use Rattle.values.specs.declared.value.Value.{Value}
+use Rattle.values.specs.declared.value.Value.TheVariants.{Bool as Truth}
+use Rattle.model.specs.declared.entry.Entry.{Entry}
+use Rattle.model.specs.declared.entry.Change.{Change}
+use Rattle.model.specs.declared.entry.Change.TheVariants.{Ins, Del, Mod}
+use Rattle.model.specs.Entries.{entry_at, is_modify}
+use Rattle.model.proofs.CallerLemmas.{both, first, second}
+use Rattle.merge.specs.Cursor.{TreeCursor, IsCursor, entries_left, rows_left}
+use Rattle.merge.specs.Filling.{FillsRows, IsWide, KeepsModified, is_near, modified_by, modified_rows, modifies_between, past_modifies, patched, patched_by}
+use Rattle.merge.specs.Packed.{number_at, number_of, packed_at, packed_from, rows_after, rows_in}
+use Rattle.merge.proofs.CursorLemmas.{drop-at, of_lt}
+use Rattle.merge.proofs.LevelLemmas.{of_le}
+use Rattle.merge.proofs.PackedStepLemmas.{between_of}
+
+-- patches of packed modifies are near
+pub near_packed : (k a b : ℕ) (es : List Entry) → T (list_all (modifies_between a b) es) → T (list_all (is_near a b) (packed_from k es))
+near_packed k a b [] h = tt
+near_packed k a b (e ∷ es) h =
+    both (is_near a b (packed_at k e.sid e.change)) _ (one e.change refl)
+    (near_packed (rows_after k e.change) a b es (second (modifies_between a b e) _ h))
+  where
+    here : (a ≤ e.sid) × (e.sid < b) × T (is_modify e.change)
+    here = between_of a b e (first (modifies_between a b e) _ h)
+
+    and : (x y : Bool) → T x → T y → T (x && y)
+    and true true s t = tt
+    and true false s t = t
+    and false y s t = s
+
+    one : (c : Change) → e.change ≡ c → T (is_near a b (packed_at k e.sid c))
+    one (Ins row) is = subst (λ c. T (is_modify c)) is here.2
+    one (Del key) is = subst (λ c. T (is_modify c)) is here.2
+    one (Mod col value) is = and (nat_le a e.sid) (nat_lt e.sid b) (of_le a e.sid here.0) (of_lt e.sid b here.1)
+
+map-set : {X Y : Type 0} (f : X → Y) (xs : List X) (i : ℕ) (x : X) → map f (slice_set xs i x) ≡ slice_set (map f xs) i (f x)
+map-set f [] zero x = refl
+map-set f [] (suc i) x = refl
+map-set f (y ∷ xs) zero x = refl
+map-set f (y ∷ xs) (suc i) x = ap (λ ys. f y ∷ ys) (map-set f xs i x)
+
+set-same : {X Y : Type 0} (f : X → Y) (xs : List X) (i : ℕ) (x d : X) → f x ≡ f (get_or xs i d) → slice_set (map f xs) i (f x) ≡ map f xs
+set-same f [] zero x d e = refl
+set-same f [] (suc i) x d e = refl
+set-same f (y ∷ xs) zero x d e = ap (λ z. z ∷ map f xs) e
+set-same f (y ∷ xs) (suc i) x d e = ap (λ ys. f y ∷ ys) (set-same f xs i x d e)
+
+get-set : (row : Row) (i j : ℕ) (v d : Value) → j < length row → get_or (slice_set row i v) j d ≡ cond (i == j) v (get_or row j d)
+get-set [] i j v d lt = absurd (omega (arith, lt))
+get-set (x ∷ row) zero zero v d lt = refl
+get-set (x ∷ row) zero (suc j) v d lt = ap (λ b. cond b v (get_or row j d)) (sym (apart j))
+  where
+    apart : (j : ℕ) → (0 == suc j) ≡ false
+    apart j = grind (arith, nat_tests)
+get-set (x ∷ row) (suc i) zero v d lt = ap (λ b. cond b v x) (sym (apart i))
+  where
+    apart : (i : ℕ) → (suc i == 0) ≡ false
+    apart i = grind (arith, nat_tests)
+get-set (x ∷ row) (suc i) (suc j) v d lt =
+    get-set row i j v d (omega (arith, lt)) ∙ ap (λ b. cond b v (get_or row j d)) (same i j)
+  where
+    same : (i j : ℕ) → (i == j) ≡ (suc i == suc j)
+    same i j = grind (arith, nat_tests)
+
+module _ (col first_sid : ℕ) (narrow : col < 65535) where
+  length-set_row : (row : Row) (i : ℕ) (v : Value) → length (slice_set row i v) ≡ length row
+  length-set_row [] zero v = refl
+  length-set_row [] (suc i) v = refl
+  length-set_row (x ∷ row) zero v = refl
+  length-set_row (x ∷ row) (suc i) v = ap suc (length-set_row row i v)
+
+  length-set_rows : (xs : List Row) (i : ℕ) (x : Row) → length (slice_set xs i x) ≡ length xs
+  length-set_rows [] zero x = refl
+  length-set_rows [] (suc i) x = refl
+  length-set_rows (y ∷ xs) zero x = refl
+  length-set_rows (y ∷ xs) (suc i) x = ap suc (length-set_rows xs i x)
+
+  wide_set : (xs : List Row) (i other : ℕ) (v : Value) → All (IsWide col) xs
+      → All (IsWide col) (slice_set xs i (slice_set (get_or xs i []) other v))
+  wide_set [] zero other v h = h
+  wide_set [] (suc i) other v h = h
+  wide_set (x ∷ xs) zero other v h =
+      let wide : col < length x = All-head (IsWide col) x xs h in
+      let same = length-set_row x other v in
+      All-cons (IsWide col) (slice_set x other v) xs (omega (arith, same, wide)) (All-tail (IsWide col) x xs h)
+  wide_set (x ∷ xs) (suc i) other v h =
+      All-cons (IsWide col) x (slice_set xs i (slice_set (get_or xs i []) other v)) (All-head (IsWide col) x xs h)
+      (wide_set xs i other v (All-tail (IsWide col) x xs h))
+
+  min_same : (other : ℕ) → (other == col) ≡ true → (min other 65535 == col) ≡ true
+  min_same other e = grind (arith, nat_tests)
+
+  min_other : (other : ℕ) → (other == col) ≡ false → (min other 65535 == col) ≡ false
+  min_other other e = grind (arith, nat_tests)
+
+  one_patch : (k sid other : ℕ) (v : Value) (xs : List Row) → All (IsWide col) xs → sid - first_sid < length xs
+      → map (number_at col) (modified_by first_sid sid (Mod other v) xs)
+      ≡ patched_by col first_sid (packed_at k sid (Mod other v)) (map (number_at col) xs)
+  one_patch k sid other v xs wide lt =
+      let i : ℕ = sid - first_sid in
+      let row : Row = get_or xs i [] in
+      let is_wide : col < length row = All-get_or (IsWide col) xs i [] lt wide in
+      let set = get-set row other col v (Truth false) is_wide in
+      map-set (number_at col) xs i (slice_set row other v)
+      ∙ (elim (other == col) as (λ b. (other == col) ≡ b
+      → slice_set (map (number_at col) xs) i (number_at col (slice_set row other v))
+      ≡ cond (min other 65535 == col) (slice_set (map (number_at col) xs) i (number_of v)) (map (number_at col) xs)) [
+        | true ↦ λ e.
+            ap (slice_set (map (number_at col) xs) i)
+            (ap number_of (set ∙ ap (λ b. cond b v (get_or row col (Truth false))) e))
+            ∙ sym (ap (λ b. cond b (slice_set (map (number_at col) xs) i (number_of v)) (map (number_at col) xs)) (min_same other e))
+        | false ↦ λ e.
+            set-same (number_at col) xs i (slice_set row other v) []
+            (ap number_of (set ∙ ap (λ b. cond b v (get_or row col (Truth false))) e))
+            ∙ sym (ap (λ b. cond b (slice_set (map (number_at col) xs) i (number_of v)) (map (number_at col) xs)) (min_other other e))
+      ] refl)
+
+  pub patched_rows : (k : ℕ) (es : List Entry) (xs : List Row) → All (IsWide col) xs
+      → T (list_all (modifies_between first_sid (first_sid + length xs)) es)
+      → map (number_at col) (modified_rows first_sid es xs) ≡ patched col first_sid (packed_from k es) (map (number_at col) xs)
+  patched_rows k [] xs wide h = refl
+  patched_rows k (e ∷ es) xs wide h = by e.change refl (patched_rows k es)
+    where
+      here : (first_sid ≤ e.sid) × (e.sid < first_sid + length xs) × T (is_modify e.change)
+      here = between_of first_sid (first_sid + length xs) e (first (modifies_between first_sid (first_sid + length xs) e) _ h)
+
+      by : (c : Change) → e.change ≡ c
+          → ((ys : List Row) → All (IsWide col) ys → T (list_all (modifies_between first_sid (first_sid + length ys)) es)
+          → map (number_at col) (modified_rows first_sid es ys) ≡ patched col first_sid (packed_from k es) (map (number_at col) ys))
+          → map (number_at col) (modified_rows first_sid es (modified_by first_sid e.sid e.change xs))
+          ≡ patched col first_sid (packed_from (rows_after k e.change) es)
+          (patched_by col first_sid (packed_at k e.sid e.change) (map (number_at col) xs))
+      by (Ins row) is more = absurd (subst (λ c. T (is_modify c)) is here.2)
+      by (Del key) is more = absurd (subst (λ c. T (is_modify c)) is here.2)
+      by (Mod other v) is more =
+          let ys = modified_by first_sid e.sid (Mod other v) xs in
+          let i : ℕ = e.sid - first_sid in
+          let same : length ys ≡ length xs = length-set_rows xs i (slice_set (get_or xs i []) other v) in
+          ap (λ c. map (number_at col) (modified_rows first_sid es (modified_by first_sid e.sid c xs))) is
+          ∙ more ys (wide_set xs i other v wide)
+          (subst (λ n. T (list_all (modifies_between first_sid (first_sid + n)) es)) (sym same)
+          (second (modifies_between first_sid (first_sid + length xs) e) _ h))
+          ∙ ap (patched col first_sid (packed_from k es)) (one_patch k e.sid other v xs wide (omega (arith, here.0, here.1)))
+          ∙ ap (λ c. patched col first_sid (packed_from (rows_after k c) es)
+          (patched_by col first_sid (packed_at k e.sid c) (map (number_at col) xs))) (sym is)
+
+-- base rows with what a packed tree modifies of them
+pub fills_patched : (col : ℕ) (c : TreeCursor) (most n m k : ℕ) → KeepsModified most n m c → (base left : List Row) (numbers out : List ℤ)
+    → IsCursor (length base) c → FillsRows col base numbers left → length numbers ≡ m → All (IsWide col) base → col < 65535
+    → out ≡ patched col c.sid (packed_from k (take n (entries_left c))) numbers
+    → FillsRows col (rows_left c base) out (rows_left (past_modifies n m c) left) × IsCursor (length left) (past_modifies n m c)
+fills_patched col c most n m k kept base left numbers out cursor p many wide narrow is =
+    let count : length p.passed ≡ m = sym (length-map p.passed (number_at col)) ∙ ap (λ ns. length ns) (sym p.numbers_are) ∙ many in
+    let sum : length base ≡ length p.passed + length left = ap (λ rs. length rs) p.rows ∙ length-append p.passed left in
+    let over = subst (λ j. IsCursor j c) sum cursor in
+    let all = subst (λ j. T (list_all (modifies_between c.sid (c.sid + j)) (take n (entries_left c)))) (sym count) kept.modifies in
+    let first_wide = front_wide p.passed left (All-same (IsWide col) (p.passed ++ left) base (sym p.rows) wide) in (
+      record {
+        passed = modified_rows c.sid (take n (entries_left c)) p.passed;
+        rows = ap (rows_left c) p.rows ∙ kept.rows p.passed left count over;
+        numbers_are =
+            is
+            ∙ ap (patched col c.sid (packed_from k (take n (entries_left c)))) p.numbers_are
+            ∙ sym (patched_rows col c.sid narrow k (take n (entries_left c)) p.passed first_wide all);
+      },
+      kept.cursor (length left) (subst (λ j. IsCursor (j + length left) c) count over),
+    )
+  where
+    front_wide : (xs ys : List Row) → All (IsWide col) (xs ++ ys) → All (IsWide col) xs
+    front_wide xs ys h = All-same (IsWide col) xs (take (length xs) (xs ++ ys)) (sym (front xs)) (All-take (IsWide col) (length xs) (xs ++ ys) h)
+      where
+        front : (zs : List Row) → take (length zs) (zs ++ ys) ≡ zs
+        front [] = refl
+        front (z ∷ zs) = ap (λ ws. z ∷ ws) (front zs)
+
+-- ---- inserts
+
+rows_in-append : (es fs : List Entry) → rows_in (es ++ fs) ≡ rows_in es ++ rows_in fs
+rows_in-append [] fs = refl
+rows_in-append (e ∷ es) fs = by e.change (rows_in-append es fs)
+  where
+    by : (c : Change) → rows_in (es ++ fs) ≡ rows_in es ++ rows_in fs
+        → rows_in (entry_at e.sid c ∷ es ++ fs) ≡ rows_in (entry_at e.sid c ∷ es) ++ rows_in fs
+    by (Ins row) rest = ap (λ rs. row ∷ rs) rest
+    by (Del key) rest = rest
+    by (Mod col value) rest = rest
+
+-- a packed insert's number is that of its row
+pub inserted_number : (col sid i : ℕ) (es : List Entry) (row : Row) (d : ℤ) → slice_get es i ≡ Some (entry_at sid (Ins row))
+    → (length (rows_in (take i es)) < length (map (number_at col) (rows_in es)))
+    × (get_or (map (number_at col) (rows_in es)) (length (rows_in (take i es))) d ≡ number_at col row)
+inserted_number col sid i es row d is =
+    let before = rows_in (take i es) in
+    let rest = rows_in (drop (i + 1) es) in
+    let whole : rows_in es ≡ before ++ row ∷ rest =
+    ap rows_in (sym (take-append-drop i es) ∙ ap (λ xs. take i es ++ xs) (drop-at es i (entry_at sid (Ins row)) is))
+    ∙ rows_in-append (take i es) (entry_at sid (Ins row) ∷ drop (i + 1) es) in
+    let numbers : map (number_at col) (rows_in es) ≡ map (number_at col) before ++ number_at col row ∷ map (number_at col) rest =
+    ap (map (number_at col)) whole ∙ map-append (number_at col) before (row ∷ rest) in
+    let many = length-map before (number_at col) in (
+      omega (
+        arith,
+        many,
+        ap (λ ns. length ns) numbers,
+        length-append (map (number_at col) before) (number_at col row ∷ map (number_at col) rest),
+      ),
+      ap (λ ns. get_or ns (length before) d) numbers
+          ∙ ap (λ n. get_or (map (number_at col) before ++ number_at col row ∷ map (number_at col) rest) n d) (sym many)
+          ∙ get_or-append_seam (map (number_at col) before) (number_at col row) (map (number_at col) rest) d,
+    )

@@ -1,0 +1,182 @@
+//! The numbers of one column, batch by batch: each level fills the caller's room with those of the rows below it, and puts its own
+//! where it changes them (Boncz, Zukowski and Nes 2005, "MonetDB/X100", has vectors for the same reason).
+ghost use Rattle.std.specs.Prelude.{◌≡◌, ℕ, List, ◌<◌, ◌≤◌, length, take, drop, map};
+ghost use Rattle.std.specs.List.{All};
+ghost use Rattle.values.specs.declared.row.Row.{Row as Cells};
+ghost use Rattle.values.specs.declared.limits.TheConstants.{MAX_ROWS};
+ghost use Rattle.values.specs.declared.value.ColumnType.TheVariants as column;
+ghost use Rattle.merge.specs.Cursor.{DeletesNone, IsCursor, rows_left};
+ghost use Rattle.merge.specs.Filling.{FillsRows, HaveNumbers, IsWide};
+ghost use Rattle.merge.specs.Packed.{number_of};
+ghost use Rattle.merge.specs.Parts.{PassesRow};
+ghost use Rattle.merge.specs.Runs.{IsRun, run_values};
+
+use crate::cursor::Step;
+use crate::level::{Level, StableRows};
+use crate::packed::{number_in, number_of};
+use crate::run::{ColumnPart, Run};
+use crate::stretch::StableStretch;
+
+/// Rows that are left, of which the numbers of a column are handed out.
+pub(crate) trait Numbers {
+    /// The rows that are left.
+    ghost left: { Self → List Cells };
+
+    /// What keeps the rows as they are to be.
+    ghost is_lawful: { Self → Type 0 };
+
+    /// The rows have the column, those below too, and the stable ones have numbers in it.
+    ghost has_column: { ℕ → Self → Type 0 };
+
+    /// Puts the numbers of the next rows at the begin of the room, of as many as come together, and answers how many: at least one.
+    fn fill_next(&mut self, col: usize, out: &mut [i64]) -> usize
+        requires lawful { is_lawful self.old }
+        requires column { has_column col self.old }
+        requires some { 0 < length out.old }
+        requires room { length out.old ≤ length (left self.old) }
+        ensures lawful { is_lawful self.new }
+        ensures column { has_column col self.new }
+        ensures length { length out.new ≡ length out.old }
+        ensures some { 0 < result }
+        ensures few { result ≤ length out.old }
+        ensures numbers { FillsRows col (left self.old) (take result out.new) (left self.new) };
+
+    /// Goes past the next row.
+    fn skip_row(&mut self)
+        requires lawful { is_lawful self.old }
+        requires some { 0 < length (left self.old) }
+        ensures lawful { is_lawful self.new }
+        ensures column { (col : ℕ) → has_column col self.old → has_column col self.new }
+        ensures row { PassesRow (left self.old) (left self.new) };
+}
+
+/// Fills the room with the numbers of the next rows in a column.
+#[inline(always)]
+pub(crate) fn fill<N: Numbers>(rows: &mut N, col: usize, out: &mut [i64])
+    requires lawful { N.is_lawful rows.old }
+    requires column { N.has_column col rows.old }
+    requires room { length out.old ≤ length (N.left rows.old) }
+    ensures lawful { N.is_lawful rows.new }
+    ensures column { N.has_column col rows.new }
+    ensures length { length out.new ≡ length out.old }
+    ensures numbers { FillsRows col (N.left rows.old) out.new (N.left rows.new) }
+{
+    let mut done = 0;
+    while done < out.len() {
+        done += rows.fill_next(col, &mut out[done..]);
+    }
+}
+
+impl<'a> Numbers for StableRows<'a> {
+    ghost left = { λ r. drop r.sid r.table.now.rows };
+
+    ghost is_lawful = { λ r. length r.table.now.rows ≤ MAX_ROWS };
+
+    ghost has_column = { λ col r. HaveNumbers col (drop r.sid r.table.now.rows) };
+
+    #[inline(always)]
+    fn fill_next(&mut self, col: usize, out: &mut [i64]) -> usize {
+        let stretch = StableStretch {
+            table: self.table,
+            sid: self.sid,
+            len: out.len() as u64,
+        };
+        let run = ColumnPart::of_stretch(stretch, col).next_run();
+        let count = put_run(run, out);
+        self.sid += count as u64;
+        count
+    }
+
+    #[inline(always)]
+    fn skip_row(&mut self) {
+        self.sid += 1;
+    }
+}
+
+/// Puts the values of a run of numbers at the begin of the room, and answers how many there are.
+#[inline(always)]
+fn put_run(run: Run<'_>, out: &mut [i64]) -> usize
+    requires typed { IsRun column.Int run }
+    requires room { length (run_values run) ≤ length out.old }
+    ensures length { length out.new ≡ length out.old }
+    ensures count { result ≡ length (run_values run.entry) }
+    ensures numbers { take result out.new ≡ map number_of (run_values run.entry) }
+{
+    match run {
+        Run::Ints(ints) => {
+            out[..ints.len()].copy_from_slice(ints);
+            ints.len()
+        }
+        Run::Value(value) => {
+            out[0] = number_of(value);
+            1
+        }
+        Run::Texts(_) | Run::Truths(_) => unreachable!(),
+    }
+}
+
+impl<'a, B: Numbers + Drop> Level<'a, B> {
+    /// Goes past the deletes that come next.
+    #[inline(always)]
+    fn pass_deleted(&mut self)
+        requires below { B.is_lawful self.old.below }
+        requires cursor { IsCursor (length (B.left self.old.below)) self.old.cursor }
+        ensures rows { rows_left self.new.cursor (B.left self.new.below) ≡ rows_left self.old.cursor (B.left self.old.below) }
+        ensures below { B.is_lawful self.new.below }
+        ensures column { (col : ℕ) → B.has_column col self.old.below → B.has_column col self.new.below }
+        ensures wide { (col : ℕ) → All (IsWide col) (B.left self.old.below) → All (IsWide col) (B.left self.new.below) }
+        ensures cursor { IsCursor (length (B.left self.new.below)) self.new.cursor }
+        ensures none { DeletesNone self.new.cursor }
+    {
+        while self.cursor.skip_delete() {
+            self.below.skip_row();
+        }
+    }
+}
+
+impl<'a, B: Numbers + Drop> Numbers for Level<'a, B> {
+    ghost left = { λ l. rows_left l.cursor (B.left l.below) };
+
+    ghost is_lawful = { λ l. B.is_lawful l.below × IsCursor (length (B.left l.below)) l.cursor };
+
+    ghost has_column = { λ col l. B.has_column col l.below × All (IsWide col) (B.left l.below) };
+
+    #[inline(always)]
+    fn fill_next(&mut self, col: usize, out: &mut [i64]) -> usize {
+        self.pass_deleted();
+        match self.cursor.step(out.len() as u64) {
+            Step::Inserted(row) => {
+                out[0] = number_in(row, col);
+                1
+            }
+            Step::Modified(modifies) => {
+                match modifies.value(col) {
+                    Some(value) => {
+                        self.below.skip_row();
+                        out[0] = number_of(value);
+                    }
+                    None => fill(&mut self.below, col, &mut out[..1]),
+                }
+                1
+            }
+            Step::Kept(count) => {
+                fill(&mut self.below, col, &mut out[..count as usize]);
+                self.cursor.pass(count);
+                count as usize
+            }
+        }
+    }
+
+    #[inline(always)]
+    fn skip_row(&mut self) {
+        self.pass_deleted();
+        match self.cursor.step(1) {
+            Step::Inserted(_) => {}
+            Step::Modified(_) => self.below.skip_row(),
+            Step::Kept(_) => {
+                self.below.skip_row();
+                self.cursor.pass(1);
+            }
+        }
+    }
+}
