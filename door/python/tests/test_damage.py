@@ -27,7 +27,7 @@ OTHERWISE = [
     (rb"\nnext (\d+) ", lambda found: b"\nnext %d " % (int(found[1]) + 2**32)),
     (rb"\ntable (\d+) ", lambda found: b"\ntable %d " % (int(found[1]) + 2**32)),
     (rb"\ntable (\d+) ", rb"\ntable 0x\1 "),
-    (rb"\ndatabase [0-9a-f]+", lambda found: found[0].upper().replace(b"DATABASE", b"database")),
+    (rb"\ndatabase [0-9a-f]+ [0-9a-f]+\n", lambda found: found[0].upper().replace(b"DATABASE", b"database")),
     (rb"\ndatabase ", rb"\ndatabase 0"),
     (rb" 0 3 items\n", rb" 00 3 items\n"),
     (rb" 0 3 items\n", rb" 2 3 items\n"),
