@@ -1,5 +1,5 @@
 # Each target is one line; the work is done by the toolchain's command rt.
-.PHONY: try run test examples fmt check door install bench
+.PHONY: try run test examples fmt check door install uninstall bench
 
 # how many checks the gate does at a time: one for each processor and each 6 GB of memory, which one takes at most; two at least
 RT_JOBS ?= $(shell awk -v cores=$$(nproc) '/^MemTotal/ { jobs = int($$2 / 5.8e6); if (jobs > cores) jobs = cores; print jobs < 2 ? 2 : jobs }' /proc/meminfo)
@@ -33,9 +33,14 @@ check:
 door:
 	cd crates/pdt_c && rt lib && $(MAKE) -C ../../door/c
 
-# installs the header, both libraries and pdt.pc: make install PREFIX=/usr/local
+# installs the header, both libraries, what pkg-config and CMake read, and the extension of SQLite where it is built:
+# make install PREFIX=/usr/local LIBDIR=/usr/local/lib INCLUDEDIR=/usr/local/include DESTDIR=
 install: door
-	$(MAKE) -C door/c install
+	$(MAKE) -C door/c install && $(MAKE) -C door/sqlite install
+
+# takes it away, for the same PREFIX, LIBDIR, INCLUDEDIR and DESTDIR
+uninstall:
+	$(MAKE) -C door/c uninstall && $(MAKE) -C door/sqlite uninstall
 
 # measures the library through its doors, beside plain Rust, SQLite and numpy, into bench/out: make bench BENCH="--only scans"
 bench: door
