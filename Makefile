@@ -44,4 +44,4 @@ uninstall:
 
 # measures the library through its doors, beside plain Rust, SQLite and numpy, into bench/out: make bench BENCH="--only scans"
 bench: door
-	cd bench && ./extensions && cargo run --release --locked --offline -- --csv out $(BENCH) && ./batches --csv out && ./plots
+	cd bench && ./extensions && PDT_LIB_DIR=$(CURDIR)/door/c/out cargo run --release --locked --offline -- --csv out $(BENCH) && ./batches --csv out && ./plots

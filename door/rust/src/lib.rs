@@ -23,7 +23,19 @@
 //! # Ok::<(), Error>(())
 //! ```
 //!
-//! The crate links the static library that `make door` builds at the top of the repository, and needs nothing but std.
+//! The crate needs nothing but std, and the library.
+//!
+//! # Linking
+//!
+//! The library is looked for in this order:
+//!
+//! 1. in the folder that `PDT_LIB_DIR` names in the environment of cargo; where it isn't there, nothing else is tried;
+//! 2. where pkg-config has `pdt` of the version of this crate, as `make install` leaves it. `PKG_CONFIG` may name
+//!    another program, and `PKG_CONFIG_PATH` more folders;
+//! 3. in `../c/out` beside this crate, where `make door` builds it at the top of the repository.
+//!
+//! Of a folder that has both, the static library `libpdt.a` is linked, so that the program needs no other file; or else
+//! `libpdt.so`, which the program has to find when it runs.
 //!
 //! # Memory
 //!
