@@ -81,6 +81,7 @@ from ._pin import Pin
 from ._snapshot import Rank, Snapshot
 from ._store import Counts, Sizes, Store, open, recover, version
 from ._transaction import Transaction
+from ._version import __version__ as __version__
 from ._work import Moment, Work
 
 __all__ = [

@@ -513,9 +513,9 @@ class Counts(Case):
 
     def test_the_version(self) -> None:
         header = (HERE.parents[2] / "c/pdt.h").read_text()
-        project = (HERE.parents[1] / "pyproject.toml").read_text()
         self.assertIn(f'#define PDT_VERSION "{narthexmace.version()}"', header)
-        self.assertIn(f'version = "{narthexmace.version()}"', project)
+        self.assertEqual((HERE.parents[3] / "VERSION").read_text().strip(), narthexmace.version())
+        self.assertEqual(narthexmace.__version__, narthexmace.version())
 
     @unittest.skipUnless(os.path.exists("/proc/self/statm"), "no count of pages here")
     def test_what_is_kept_does_not_grow_with_the_commits(self) -> None:
