@@ -62,6 +62,7 @@ impl Size {
             Rebase { own: 10_000, commits: 1, each: 100_000 },
             Rebase { own: 100_000, commits: 1, each: 100_000 },
             Rebase { own: 30_000, commits: 10_000, each: 1 },
+            Rebase { own: 100_000, commits: 60_000, each: 1 },
         ],
         calls: 10_000,
         thread_calls: 200_000,
