@@ -134,7 +134,9 @@ first_filled col most n sid rows own rest is count =
       rows = sym (take_drop n left) ∙ ap (λ rs. take n left ++ rs) (drop-drop n sid rows);
       numbers_are =
           ap (map number_of)
-          (sym (take-append_seam own rest) ∙ ap (λ vs. take (length own) vs) (sym is) ∙ ap (λ k. take k (column_values col (take most left))) (sym count))
+          (sym (take-append_seam own rest)
+          ∙ ap (λ vs. take (length own) vs) (sym is)
+          ∙ ap (λ k. take k (column_values col (take most left))) (sym count))
           ∙ ap (map number_of) (take_values n most left within)
           ∙ numbers_values col (take n left);
     }

@@ -1,15 +1,15 @@
 -- Cursors at a position of each layer, one on the other.
-use Rattle.std.proofs.Common.{◌≡◌, ◌∙◌, ℕ, ◌<◌, ◌≤◌, ◌^◌, List, length, drop, sym, ap, subst, arith}
+use Rattle.std.proofs.Common.{◌≡◌, ◌∙◌, ℕ, ◌<◌, ◌≤◌, ◌^◌, Option, Some, None, List, length, drop, sym, ap, subst, arith}
 use Rattle.values.specs.declared.row.Row.{Row}
 use Rattle.model.specs.declared.entry.Entry.{Entry}
 use Rattle.model.specs.Merging.{merged_rows}
 use Rattle.delta.specs.Tree.{Tree}
 use Rattle.stable.specs.Stable.{Stable}
 use Rattle.model.specs.Entries.{IsLawful}
-use Rattle.merge.specs.Image.{Stack, stack_of, read_rows, write_rows, image_rows}
+use Rattle.merge.specs.Image.{Stack, stack_of, tree_over, read_rows, write_rows, image_rows}
 use Rattle.merge.specs.Level.{IsOver, AreKept}
 use Rattle.merge.specs.Cursor.{TreeCursor, rows_left, IsCursor, IsCursorAt}
-use Rattle.merge.proofs.StackLemmas.{AreLevels, are_levels}
+use Rattle.merge.proofs.StackLemmas.{AreLevels, are_levels, image_rows-none}
 
 -- what the call that places a cursor promises
 abbrev pub Places : Tree → ℕ → TreeCursor → Type 0
@@ -64,3 +64,44 @@ module _ (base left : List Row) (trans : List Entry) (t : TreeCursor) (rid : ℕ
 
   pub own_stands : IsCursor (length left) t
   own_stands = subst (λ (xs : List Row). IsCursor (length xs) t) (sym left_is) ht.cursor
+
+-- the rows that are left under a tree on top: so many of the base's are passed, and the cursor stands over the others
+pub record IsOnTop (base rows : List Row) (rid : ℕ) (t : TreeCursor) : Type 0 where
+  pub within : t.sid ≤ length base
+  pub rows_are : (left : List Row) → left ≡ drop t.sid base → rows_left t left ≡ drop rid rows
+  pub stands : (left : List Row) → left ≡ drop t.sid base → IsCursor (length left) t
+
+-- layers as they keep them, seen as a stack
+module _ (stable : Stable) (read write : Tree) (over : Option Tree) (len : ℕ) (s : Stack)
+    (view : stack_of stable read write (tree_over stable.schema.key_cols over) ≡ s)
+    (kept : AreKept stable read write (tree_over stable.schema.key_cols over) len) where
+  pub counted_is : len ≡ length (image_rows s)
+  counted_is = kept.counted ∙ ap (λ (x : Stack). length (image_rows x)) view
+
+  -- as they stand where it is known what is on top
+  view_with : (top : Option Tree) → over ≡ top → stack_of stable read write (tree_over stable.schema.key_cols top) ≡ s
+  view_with top is = ap (λ o. stack_of stable read write (tree_over stable.schema.key_cols o)) (sym is) ∙ view
+
+  -- with no tree on top the image is what the two lower layers leave
+  pub none_on_top : over ≡ None → write_rows s ≡ image_rows s
+  none_on_top none =
+      ap write_rows (sym (view_with None none))
+      ∙ sym (image_rows-none stable read write)
+      ∙ ap image_rows (view_with None none)
+
+  pub tree_on_top : (trans : Tree) → over ≡ Some trans → (rid : ℕ) (t : TreeCursor) → rid ≤ length (image_rows s) → Places trans rid t
+      → t.tree ≡ trans → IsOnTop (write_rows s) (image_rows s) rid t
+  tree_on_top trans some rid t low places tree_is =
+      let known = view_with (Some trans) some in
+      let own = subst (λ (o : Option Tree). AreKept stable read write (tree_over stable.schema.key_cols o) len) some kept in
+      let at = trans_at stable read write trans len own rid t (subst (λ (x : Stack). rid ≤ length (image_rows x)) (sym known) low) places in
+      let entries = ap (λ (x : Tree). x.entries) tree_is in
+      let base = write_rows (stack_of stable read write trans) in
+      record {
+        within = subst (λ (x : Stack). t.sid ≤ length (write_rows x)) known at.within;
+        rows_are = λ left is.
+            own_is base left trans.entries t rid at (is ∙ ap (λ (x : Stack). drop t.sid (write_rows x)) (sym known)) entries
+            ∙ ap (λ (x : Stack). drop rid (image_rows x)) known;
+        stands = λ left is.
+            own_stands base left trans.entries t rid at (is ∙ ap (λ (x : Stack). drop t.sid (write_rows x)) (sym known)) entries;
+      }

@@ -15,7 +15,8 @@ use Rattle.model.specs.declared.entry.Change.TheVariants.{Ins, Del, Mod}
 use Rattle.model.specs.Entries.{entry_at, is_modify}
 use Rattle.model.proofs.CallerLemmas.{both, first, second}
 use Rattle.merge.specs.Cursor.{TreeCursor, IsCursor, entries_left, rows_left}
-use Rattle.merge.specs.Filling.{FillsRows, IsWide, KeepsModified, is_near, modified_by, modified_rows, modifies_between, past_modifies, patched, patched_by}
+use Rattle.merge.specs.Filling.{FillsRows, IsWide, KeepsModified, is_near, modified_by, modified_rows, modifies_between, past_modifies}
+use Rattle.merge.specs.Filling.{patched, patched_by}
 use Rattle.merge.specs.Packed.{number_at, number_of, packed_at, packed_from, rows_after, rows_in}
 use Rattle.merge.proofs.CursorLemmas.{drop-at, of_lt}
 use Rattle.merge.proofs.LevelLemmas.{of_le}
@@ -175,7 +176,8 @@ fills_patched col c most n m k kept base left numbers out cursor p many wide nar
     )
   where
     front_wide : (xs ys : List Row) → All (IsWide col) (xs ++ ys) → All (IsWide col) xs
-    front_wide xs ys h = All-same (IsWide col) xs (take (length xs) (xs ++ ys)) (sym (front xs)) (All-take (IsWide col) (length xs) (xs ++ ys) h)
+    front_wide xs ys h =
+        All-same (IsWide col) xs (take (length xs) (xs ++ ys)) (sym (front xs)) (All-take (IsWide col) (length xs) (xs ++ ys) h)
       where
         front : (zs : List Row) → take (length zs) (zs ++ ys) ≡ zs
         front [] = refl

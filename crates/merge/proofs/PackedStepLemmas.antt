@@ -17,10 +17,13 @@ use Rattle.model.proofs.CallerLemmas.{both, first, second, changes_at_other, fir
 use Rattle.merge.specs.Cursor.{TreeCursor, DeletesNext, DeletesNone, IsCursor, entries_left, is_past, rows_left, starts_with_delete}
 use Rattle.merge.specs.Filling.{InsertsNone, KeepsModified, modified_by, modified_rows, modifies_between, past_modifies, starts_with_insert}
 use Rattle.merge.specs.Level.{IsOver, stands_within}
+use Rattle.merge.specs.PackedLeft.{IsPackedRows}
 use Rattle.merge.specs.Parts.{PassesRow}
 use Rattle.merge.specs.Packed.{is_gone, is_patch, row_in, sid_of, packed_at, packed_from, rows_after, rows_in}
 use Rattle.merge.specs.declared.packed.PackedEntry.{PackedEntry}
-use Rattle.merge.proofs.CursorLemmas.{all-append, deletes_next, take-at, below_past, drop-at, drop-none, lt_of, of_lt, over_from, over_tail, past-weaken, same_of, starts-none, starts-some}
+use Rattle.merge.specs.declared.packed_rows.PackedRows.{PackedRows}
+use Rattle.merge.proofs.CursorLemmas.{all-append, below_past, deletes_next, drop-at, drop-none, lt_of, of_lt, over_from, over_tail}
+use Rattle.merge.proofs.CursorLemmas.{past-weaken, same_of, starts-none, starts-some, take-at}
 use Rattle.merge.proofs.LevelLemmas.{all_from, all_from-ordered, le_of, merged_rows_from-cell, merged_rows_from-gap, of_le}
 
 -- ---- entries and packed ones
@@ -60,15 +63,44 @@ packed_part packed es i n is =
     ∙ ap (take n) (drop-packed 0 i es ∙ ap (λ m. packed_from m (drop i es)) zero_and)
     ∙ take-packed k n (drop i es)
 
+pub sid-packed : (k sid : ℕ) (c : Change) → sid_of (packed_at k sid c) ≡ sid
+sid-packed k sid (Ins row) = refl
+sid-packed k sid (Del key) = refl
+sid-packed k sid (Mod col value) = refl
+
+patch-packed : (k sid : ℕ) (c : Change) → is_patch (packed_at k sid c) ≡ is_modify c
+patch-packed k sid (Ins row) = refl
+patch-packed k sid (Del key) = refl
+patch-packed k sid (Mod col value) = refl
+
+gone-packed : (k sid : ℕ) (c : Change) → is_gone (packed_at k sid c) ≡ is_delete c
+gone-packed k sid (Ins row) = refl
+gone-packed k sid (Del key) = refl
+gone-packed k sid (Mod col value) = refl
+
 -- a packed entry is that of the entry at its place
 pub record IsPackedAt (es : List Entry) (i : ℕ) (p : PackedEntry) : Type 0 where
   pub entry : Entry
   pub there : slice_get es i ≡ Some entry
   pub packed : p ≡ packed_at (length (rows_in (take i es))) entry.sid entry.change
+  pub sid_is : sid_of p ≡ entry.sid
+  pub patch_is : is_patch p ≡ is_modify entry.change
+  pub gone_is : is_gone p ≡ is_delete entry.change
 
-pub packed_there : (es : List Entry) (i : ℕ) (p : PackedEntry) → slice_get (packed_from 0 es) i ≡ Some p → IsPackedAt es i p
-packed_there es i p is = let found = at 0 es i p is in
-    record { entry = found.0; there = found.1; packed = found.2 ∙ ap (λ n. packed_at n found.0.sid found.0.change) (zero_and (length (rows_in (take i es)))) }
+packed_there : (es : List Entry) (i : ℕ) (p : PackedEntry) → slice_get (packed_from 0 es) i ≡ Some p → IsPackedAt es i p
+packed_there es i p is =
+    let found = at 0 es i p is in
+    let e = found.0 in
+    let k = length (rows_in (take i es)) in
+    let packed : p ≡ packed_at k e.sid e.change = found.2 ∙ ap (λ n. packed_at n e.sid e.change) (zero_and k) in
+    record {
+      entry = e;
+      there = found.1;
+      packed = packed;
+      sid_is = ap sid_of packed ∙ sid-packed k e.sid e.change;
+      patch_is = ap is_patch packed ∙ patch-packed k e.sid e.change;
+      gone_is = ap is_gone packed ∙ gone-packed k e.sid e.change;
+    }
   where
     zero_and : (n : ℕ) → 0 + n ≡ n
     zero_and n = omega arith
@@ -87,7 +119,7 @@ packed_there es i p is = let found = at 0 es i p is in
         let found = at (rows_after k e.change) es i p is in
         (found.0, found.1, found.2 ∙ ap (λ n. packed_at n found.0.sid found.0.change) (rows_after-count k e (take i es)))
 
-pub packed_none : (es : List Entry) (i : ℕ) → slice_get (packed_from 0 es) i ≡ None → slice_get es i ≡ None
+packed_none : (es : List Entry) (i : ℕ) → slice_get (packed_from 0 es) i ≡ None → slice_get es i ≡ None
 packed_none es i is = by 0 es i is
   where
     by : (k : ℕ) (es : List Entry) (i : ℕ) → slice_get (packed_from k es) i ≡ None → slice_get es i ≡ None
@@ -96,12 +128,17 @@ packed_none es i is = by 0 es i is
     by k (e ∷ es) zero is = cc
     by k (e ∷ es) (suc i) is = by (rows_after k e.change) es i is
 
--- ---- what is next
+-- the entry at an index, as a walk has it packed
+pub packed_next : (p : PackedRows) → IsPackedRows p → (i : ℕ) (e : PackedEntry) → slice_get p.packed.now.entries i ≡ Some e
+    → IsPackedAt p.tree.now.entries i e
+packed_next p lawful i e is =
+    packed_there p.tree.now.entries i e (ap (λ ps. slice_get ps i) (sym lawful.packed.entries_are) ∙ is)
 
-pub gone-packed : (k sid : ℕ) (c : Change) → is_gone (packed_at k sid c) ≡ is_delete c
-gone-packed k sid (Ins row) = refl
-gone-packed k sid (Del key) = refl
-gone-packed k sid (Mod col value) = refl
+pub packed_end : (p : PackedRows) → IsPackedRows p → (i : ℕ) → slice_get p.packed.now.entries i ≡ None
+    → slice_get p.tree.now.entries i ≡ None
+packed_end p lawful i is = packed_none p.tree.now.entries i (ap (λ ps. slice_get ps i) (sym lawful.packed.entries_are) ∙ is)
+
+-- ---- what is next
 
 -- the test of an insert
 pub inserts-none : (sid : ℕ) (es : List Entry) (i : ℕ) → slice_get es i ≡ None → starts_with_insert sid (drop i es) ≡ false
@@ -200,7 +237,8 @@ length-modified_rows first (e ∷ es) xs =
 -- what a modify between two places says
 pub between_of : (a b : ℕ) (e : Entry) → T (modifies_between a b e) → (a ≤ e.sid) × (e.sid < b) × T (is_modify e.change)
 between_of a b e h =
-    let f = first (nat_le a e.sid && nat_lt e.sid b) (is_modify e.change) (assoc (nat_le a e.sid) (nat_lt e.sid b) (is_modify e.change) h) in (
+    let here = assoc (nat_le a e.sid) (nat_lt e.sid b) (is_modify e.change) h in
+    let f = first (nat_le a e.sid && nat_lt e.sid b) (is_modify e.change) here in (
       le_of a e.sid (first (nat_le a e.sid) _ f),
       lt_of e.sid b (second (nat_le a e.sid) _ f),
       second (nat_le a e.sid && nat_lt e.sid b) (is_modify e.change) (assoc (nat_le a e.sid) (nat_lt e.sid b) (is_modify e.change) h),
@@ -254,13 +292,16 @@ module _ (first_sid : ℕ) (base : List Row) (rest : List Entry) where
           let ys = modified_by first_sid e.sid (Mod col value) xs in
           let same = length-modified first_sid e.sid (Mod col value) xs in
           let next = more ys
-          (subst (λ n. T (list_all (modifies_between first_sid (first_sid + n)) es)) (sym same) (second (modifies_between first_sid (first_sid + length xs) e) _ all))
+          (subst (λ n. T (list_all (modifies_between first_sid (first_sid + n)) es)) (sym same)
+          (second (modifies_between first_sid (first_sid + length xs) e) _ all))
           (subst (λ n. T (all_from (first_sid + n) rest)) (sym same) far) in
           ap (λ c. merged_rows_from first_sid (xs ++ base) (entry_at e.sid c ∷ es ++ rest)) is
-          ∙ modified_first xs base first_sid (e.sid - first_sid) e.sid col value (es ++ rest) (omega (arith, here.0)) (omega (arith, here.0, here.1))
+          ∙ modified_first xs base first_sid (e.sid - first_sid) e.sid col value (es ++ rest) (omega (arith, here.0))
+          (omega (arith, here.0, here.1))
           ∙ next
           ∙ ap (λ n. modified_rows first_sid es ys ++ merged_rows_from (first_sid + n) base rest) same
-          ∙ ap (λ c. modified_rows first_sid es (modified_by first_sid e.sid c xs) ++ merged_rows_from (first_sid + length xs) base rest) (sym is)
+          ∙ ap (λ c. modified_rows first_sid es (modified_by first_sid e.sid c xs) ++ merged_rows_from (first_sid + length xs) base rest)
+          (sym is)
 
 -- ---- entries in order
 
@@ -301,7 +342,8 @@ module _ (key_cols : ℕ) where
       let here = between_of a b x (first (modifies_between a b x) _ h) in
       let lt = modify_before x e (at es n e is (first (list_all (λ y. is_lt (entry_cmp key_cols x y)) es) _ o)) here.2 other in
       both (modifies_between a e.sid x) _ (between a e.sid x here.0 lt here.2)
-      (all_before a b n es e (second (list_all (λ y. is_lt (entry_cmp key_cols x y)) es) _ o) is other (second (modifies_between a b x) _ h))
+      (all_before a b n es e (second (list_all (λ y. is_lt (entry_cmp key_cols x y)) es) _ o) is other
+      (second (modifies_between a b x) _ h))
     where
       at : (ys : List Entry) (k : ℕ) (e : Entry) → slice_get ys k ≡ Some e → T (list_all (λ y. is_lt (entry_cmp key_cols x y)) ys)
           → T (is_lt (entry_cmp key_cols x e))
@@ -361,16 +403,6 @@ module _ (c : TreeCursor) (most n m : ℕ) (few : m ≤ most) (some : 0 < most �
   }
 
 -- ---- how far base rows go
-
-pub sid-packed : (k sid : ℕ) (c : Change) → sid_of (packed_at k sid c) ≡ sid
-sid-packed k sid (Ins row) = refl
-sid-packed k sid (Del key) = refl
-sid-packed k sid (Mod col value) = refl
-
-pub patch-packed : (k sid : ℕ) (c : Change) → is_patch (packed_at k sid c) ≡ is_modify c
-patch-packed k sid (Ins row) = refl
-patch-packed k sid (Del key) = refl
-patch-packed k sid (Mod col value) = refl
 
 get-drop : (es : List Entry) (i n : ℕ) → slice_get (drop i es) n ≡ slice_get es (i + n)
 get-drop es zero n = let e : n ≡ 0 + n = omega arith in ap (slice_get es) e
@@ -533,7 +565,8 @@ skips_modified c n m kept base left p cursor =
     let next = kept.cursor (length left) (subst (λ j. IsCursor j c) (sum ∙ ap (λ j. j + length left) one) over) in (
       single (modified_rows c.sid (take n (entries_left c)) (p.row ∷ []))
           (length-modified_rows c.sid (take n (entries_left c)) (p.row ∷ []))
-          (subst (λ j. rows_left c base ≡ modified_rows c.sid (take n (entries_left c)) (p.row ∷ []) ++ rows_left (past_modifies n j c) left) (sym one) rows),
+          (subst (λ j. rows_left c base ≡ modified_rows c.sid (take n (entries_left c)) (p.row ∷ []) ++ rows_left (past_modifies n j c) left)
+          (sym one) rows),
       subst (λ j. IsCursor (length left) (past_modifies n j c)) (sym one) next,
     )
   where

@@ -34,8 +34,10 @@ patch-requires c =
     let es = p.tree.now.entries in
     let part = packed_part c.entries-packed.result.now es p.index n (c.entries-packed.ensures ∙ c.requires.lawful.packed.entries_are) in
     let size : n ≡ p.index + n - p.index = omega arith in
-    let near = near_packed (length (rows_in (take p.index es))) p.sid (p.sid + length c.args.out.now) (take n (drop p.index es)) kept.modifies in
-    subst (λ m. T (list_all (is_near p.sid (p.sid + m)) (take (p.index + n - p.index) (drop p.index c.entries-packed.result.now)))) (sym c.fill.ensures.length)
+    let near = near_packed (length (rows_in (take p.index es))) p.sid (p.sid + length c.args.out.now) (take n (drop p.index es))
+    kept.modifies in
+    subst (λ m. T (list_all (is_near p.sid (p.sid + m)) (take (p.index + n - p.index) (drop p.index c.entries-packed.result.now))))
+    (sym c.fill.ensures.length)
     (subst (λ m. T (list_all (is_near p.sid (p.sid + length c.args.out.now)) (take m (drop p.index c.entries-packed.result.now)))) size
     (subst (λ ps. T (list_all (is_near p.sid (p.sid + length c.args.out.now)) ps)) (sym part) near))
 

@@ -8,23 +8,21 @@ use Rattle.merge.specs.Packed.{row_in, rows_in, sid_of}
 use Rattle.merge.specs.PackedLeft.{IsInsertNext, cursor_of}
 use Rattle.merge.specs.declared.packed.PackedEntry.{PackedEntry}
 use Rattle.merge.specs.declared.packed_rows.PackedRows.{PackedRows}
-use Rattle.merge.proofs.PackedStepLemmas.{IsPackedAt, inserts-none, inserts-other, next_no_insert, packed_none, packed_there, row-packed, sid-packed}
+use Rattle.merge.proofs.PackedStepLemmas.{IsPackedAt, inserts-none, inserts-other, next_no_insert, packed_end, packed_next, row-packed}
 use Rattle.merge.proofs.packed_rows.PackedRows.inserted_next.Goals as goal
 
 pub returns-in_err-entry : goal.returns-in_err-entry
 returns-in_err-entry c =
     let p = c.args.self.now in
-    let none = packed_none p.tree.now.entries p.index
-    (ap (λ ps. slice_get ps p.index) (sym c.requires.packed.entries_are) ∙ sym c.entry_at.ensures ∙ c.in_err-entry.was) in
+    let none = packed_end p c.requires p.index (sym c.entry_at.ensures ∙ c.in_err-entry.was) in
     subst (λ (o : Option ℕ). MatchOption o (InsertsNone (cursor_of p)) (λ row. IsInsertNext row p)) (sym c.from_residual.ensures)
     (inserts-none p.sid p.tree.now.entries p.index none)
 
 pub returns-then-sid-self : goal.returns-then-sid-self
 returns-then-sid-self c =
     let p = c.args.self.now in
-    let found = packed_there p.tree.now.entries p.index c.in_ok-entry.entry
-    (ap (λ ps. slice_get ps p.index) (sym c.requires.packed.entries_are) ∙ sym c.entry_at.ensures ∙ c.in_ok-entry.was) in
-    let sid = sym (sid-packed _ found.entry.sid found.entry.change) ∙ ap sid_of (sym found.packed) ∙ sym c.sid.ensures ∙ c.if-sid-self.true in
+    let found = packed_next p c.requires p.index c.in_ok-entry.entry (sym c.entry_at.ensures ∙ c.in_ok-entry.was) in
+    let sid = sym found.sid_is ∙ sym c.sid.ensures ∙ c.if-sid-self.true in
     let is = c.inserted.ensures ∙ ap row_in found.packed in
     by p found sid (row_in _) (row-packed _ found.entry.sid found.entry.change) c.inserted.result is
   where
@@ -50,7 +48,6 @@ returns-then-sid-self c =
 pub returns-else-sid-self : goal.returns-else-sid-self
 returns-else-sid-self c =
     let p = c.args.self.now in
-    let found = packed_there p.tree.now.entries p.index c.in_ok-entry.entry
-    (ap (λ ps. slice_get ps p.index) (sym c.requires.packed.entries_are) ∙ sym c.entry_at.ensures ∙ c.in_ok-entry.was) in
-    let sid = c.sid.ensures ∙ ap sid_of found.packed ∙ sid-packed _ found.entry.sid found.entry.change in
+    let found = packed_next p c.requires p.index c.in_ok-entry.entry (sym c.entry_at.ensures ∙ c.in_ok-entry.was) in
+    let sid = c.sid.ensures ∙ found.sid_is in
     inserts-other p.sid p.tree.now.entries p.index found.entry found.there (λ same. c.if-sid-self.false (sid ∙ same))

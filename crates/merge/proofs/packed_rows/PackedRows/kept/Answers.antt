@@ -3,7 +3,7 @@ use Rattle.merge.specs.Packed.{is_patch, sid_of}
 use Rattle.merge.specs.Filling.{KeepsModified}
 use Rattle.merge.specs.PackedLeft.{cursor_of}
 use Rattle.merge.specs.declared.packed.PackedEntry.{PackedEntry}
-use Rattle.merge.proofs.PackedStepLemmas.{keeps_before, keeps_last, keeps_up_to, low, more_left, one_more, packed_none, packed_there, patch-packed, sid-packed}
+use Rattle.merge.proofs.PackedStepLemmas.{keeps_before, keeps_last, keeps_up_to, low, more_left, one_more, packed_end, packed_next}
 use Rattle.merge.proofs.packed_rows.PackedRows.kept.Goals as goal
 
 pub loop-entry-init : goal.loop-entry-init
@@ -17,10 +17,8 @@ overflow_add-self c =
 pub overflow_sub-rows : goal.overflow_sub-rows
 overflow_sub-rows c =
     let p = c.args.self.now in
-    let packed = c.requires.lawful.packed in
-    let found = packed_there p.tree.now.entries (p.index + c.loop-entry.entries) c.in-Some.entry
-    (ap (λ ps. slice_get ps (p.index + c.loop-entry.entries)) (sym packed.entries_are) ∙ sym c.entry_at.ensures ∙ c.in-Some.is) in
-    let sid = c.sid-then-not-is_modify.ensures ∙ ap sid_of found.packed ∙ sid-packed _ found.entry.sid found.entry.change in
+    let found = packed_next p c.requires.lawful (p.index + c.loop-entry.entries) c.in-Some.entry (sym c.entry_at.ensures ∙ c.in-Some.is) in
+    let sid = c.sid-then-not-is_modify.ensures ∙ found.sid_is in
     omega (
       arith,
       sid,
@@ -31,32 +29,27 @@ overflow_sub-rows c =
 pub returns-then-not-is_modify : goal.returns-then-not-is_modify
 returns-then-not-is_modify c =
     let p = c.args.self.now in
-    let packed = c.requires.lawful.packed in
-    let found = packed_there p.tree.now.entries (p.index + c.loop-entry.entries) c.in-Some.entry
-    (ap (λ ps. slice_get ps (p.index + c.loop-entry.entries)) (sym packed.entries_are) ∙ sym c.entry_at.ensures ∙ c.in-Some.is) in
-    let other = sym (patch-packed _ found.entry.sid found.entry.change) ∙ ap is_patch (sym found.packed) ∙ sym c.is_modify.ensures ∙ c.if-not-is_modify.true in
-    let sid = c.sid.ensures ∙ ap sid_of found.packed ∙ sid-packed _ found.entry.sid found.entry.change in
-    let here = c.sid-then-not-is_modify.ensures ∙ ap sid_of found.packed ∙ sid-packed _ found.entry.sid found.entry.change in
+    let found = packed_next p c.requires.lawful (p.index + c.loop-entry.entries) c.in-Some.entry (sym c.entry_at.ensures ∙ c.in-Some.is) in
+    let other = sym found.patch_is ∙ sym c.is_modify.ensures ∙ c.if-not-is_modify.true in
+    let sid = c.sid.ensures ∙ found.sid_is in
+    let here = c.sid-then-not-is_modify.ensures ∙ found.sid_is in
     let kept = keeps_up_to (cursor_of p) c.args.most c.loop-entry.entries c.loop-entry.invariant.0 c.loop-entry.invariant.1
-    found.entry found.there c.requires.lawful.cursor (omega (arith, sid, c.if-sid-end.false)) other c.requires.deleted c.requires.inserted in
+    found.entry found.there c.requires.lawful.cursor (omega (arith, sid, c.if-sid-end.false)) other c.requires.deleted
+    c.requires.inserted in
     record { kept = subst (λ n. KeepsModified c.args.most c.loop-entry.entries (n - p.sid) (cursor_of p)) (sym here) kept }
 
 pub loop-entry-smaller : goal.loop-entry-smaller
 loop-entry-smaller c =
     let p = c.args.self.now in
-    let packed = c.requires.lawful.packed in
-    let found = packed_there p.tree.now.entries (p.index + c.loop-entry.entries) c.in-Some.entry
-    (ap (λ ps. slice_get ps (p.index + c.loop-entry.entries)) (sym packed.entries_are) ∙ sym c.entry_at.ensures ∙ c.in-Some.is) in
+    let found = packed_next p c.requires.lawful (p.index + c.loop-entry.entries) c.in-Some.entry (sym c.entry_at.ensures ∙ c.in-Some.is) in
     omega (arith, more_left (cursor_of p) c.loop-entry.entries found.entry found.there)
 
 pub loop-entry-preserved : goal.loop-entry-preserved
 loop-entry-preserved c =
     let p = c.args.self.now in
-    let packed = c.requires.lawful.packed in
-    let found = packed_there p.tree.now.entries (p.index + c.loop-entry.entries) c.in-Some.entry
-    (ap (λ ps. slice_get ps (p.index + c.loop-entry.entries)) (sym packed.entries_are) ∙ sym c.entry_at.ensures ∙ c.in-Some.is) in
-    let modifies = sym (patch-packed _ found.entry.sid found.entry.change) ∙ ap is_patch (sym found.packed) ∙ sym c.is_modify.ensures ∙ c.if-not-is_modify.false in
-    let sid = c.sid.ensures ∙ ap sid_of found.packed ∙ sid-packed _ found.entry.sid found.entry.change in (
+    let found = packed_next p c.requires.lawful (p.index + c.loop-entry.entries) c.in-Some.entry (sym c.entry_at.ensures ∙ c.in-Some.is) in
+    let modifies = sym found.patch_is ∙ sym c.is_modify.ensures ∙ c.if-not-is_modify.false in
+    let sid = c.sid.ensures ∙ found.sid_is in (
       omega (arith, more_left (cursor_of p) c.loop-entry.entries found.entry found.there),
       one_more (cursor_of p) c.args.most c.loop-entry.entries found.entry c.requires.lawful.cursor found.there
           (omega (arith, sid, c.if-sid-end.false)) modifies c.loop-entry.invariant.1,
@@ -65,10 +58,8 @@ loop-entry-preserved c =
 pub returns-then-sid-end : goal.returns-then-sid-end
 returns-then-sid-end c =
     let p = c.args.self.now in
-    let packed = c.requires.lawful.packed in
-    let found = packed_there p.tree.now.entries (p.index + c.loop-entry.entries) c.in-Some.entry
-    (ap (λ ps. slice_get ps (p.index + c.loop-entry.entries)) (sym packed.entries_are) ∙ sym c.entry_at.ensures ∙ c.in-Some.is) in
-    let sid = c.sid.ensures ∙ ap sid_of found.packed ∙ sid-packed _ found.entry.sid found.entry.change in
+    let found = packed_next p c.requires.lawful (p.index + c.loop-entry.entries) c.in-Some.entry (sym c.entry_at.ensures ∙ c.in-Some.is) in
+    let sid = c.sid.ensures ∙ found.sid_is in
     record {
       kept = keeps_before (cursor_of p) c.args.most c.loop-entry.entries c.loop-entry.invariant.0 c.loop-entry.invariant.1
           found.entry found.there c.requires.lawful.cursor (omega (arith, sid, c.if-sid-end.true));
@@ -81,7 +72,6 @@ is_none (Some e) h = absurd (h e refl)
 pub returns-in_default : goal.returns-in_default
 returns-in_default c =
     let p = c.args.self.now in
-    let packed = c.requires.lawful.packed in
-    let none = packed_none p.tree.now.entries (p.index + c.loop-entry.entries)
-    (ap (λ ps. slice_get ps (p.index + c.loop-entry.entries)) (sym packed.entries_are) ∙ sym c.entry_at.ensures ∙ is_none c.entry_at.result c.in_default.not-Some) in
+    let none = packed_end p c.requires.lawful (p.index + c.loop-entry.entries)
+    (sym c.entry_at.ensures ∙ is_none c.entry_at.result c.in_default.not-Some) in
     record { kept = keeps_last (cursor_of p) c.args.most c.loop-entry.entries c.loop-entry.invariant.0 c.loop-entry.invariant.1 none }

@@ -17,14 +17,16 @@ pub overflow_add-self : goal.overflow_add-self
 overflow_add-self c =
     let p = c.loop-self.self in
     let lawful = c.loop-self.invariant.0.cursor.lawful in
-    let fits = starts-fits p.tree.now.key_cols p.sid p.tree.now.entries p.index lawful (sym c.deletes_next.ensures ∙ c.loop-self-test.true) in
+    let fits = starts-fits p.tree.now.key_cols p.sid p.tree.now.entries p.index lawful
+    (sym c.deletes_next.ensures ∙ c.loop-self-test.true) in
     omega (arith, fits.1, lawful.counted)
 
 pub loop-self-smaller : goal.loop-self-smaller
 loop-self-smaller c =
     let p = c.loop-self.self in
     let lawful = c.loop-self.invariant.0.cursor.lawful in
-    let fits = starts-fits p.tree.now.key_cols p.sid p.tree.now.entries p.index lawful (sym c.deletes_next.ensures ∙ c.loop-self-test.true) in
+    let fits = starts-fits p.tree.now.key_cols p.sid p.tree.now.entries p.index lawful
+    (sym c.deletes_next.ensures ∙ c.loop-self-test.true) in
     omega (arith, fits.1)
 
 pub loop-self-preserved : goal.loop-self-preserved
@@ -38,7 +40,12 @@ loop-self-preserved c =
     let passed = c.skip_row.ensures.row in
     let over = subst (λ (xs : List Cells). IsCursor (length xs) (cursor_of p)) passed.rows lawful.cursor in
     let left : List Cells = drop c.skip_row.new.self.sid c.skip_row.new.self.table.now.rows in (
-      record { few = c.skip_row.ensures.lawful; inside = omega (arith, fits.1); cursor = next.cursor (length left) over; packed = lawful.packed },
+      record {
+        few = c.skip_row.ensures.lawful;
+        inside = omega (arith, fits.1);
+        cursor = next.cursor (length left) over;
+        packed = lawful.packed;
+      },
       sym (ap (rows_left (cursor_of p)) passed.rows ∙ next.rows passed.row left over) ∙ inv.1,
       λ col h.
           let old = inv.2 col h in

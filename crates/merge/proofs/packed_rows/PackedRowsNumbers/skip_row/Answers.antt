@@ -21,7 +21,12 @@ returns-in-Some-clause-lawful c =
     let within = slice_get_within p.tree.now.entries p.index _ next.there in
     let new : TreeCursor = record { tree = p.tree.now; index = p.index + 1; sid = p.sid } in
     let step = inserts_next (cursor_of p) next.inserted new next.there refl in
-    record { few = lawful.few; inside = omega (arith, within); cursor = step.cursor (length (base_left p)) lawful.cursor; packed = lawful.packed }
+    record {
+      few = lawful.few;
+      inside = omega (arith, within);
+      cursor = step.cursor (length (base_left p)) lawful.cursor;
+      packed = lawful.packed;
+    }
 
 pub returns-in-Some-clause-column : goal.returns-in-Some-clause-column
 returns-in-Some-clause-column c = λ col h.
