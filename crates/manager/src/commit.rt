@@ -223,7 +223,7 @@ impl Manager {
             propagate(self.alloc, newest.write_tree(), &tree)?,
         )?;
         let stable = newest.stable().clone()?;
-        let read = newest.read_tree().clone()?;
+        let read = newest.read().clone()?;
         let number = newest.number() + 1;
         let version = Version::stacked(self.alloc, stable, read, write, number)?;
         Ok(Grant { tree, version })

@@ -7,7 +7,7 @@ use delta::DeltaTree;
 use layers::propagate;
 use std::marker::Model;
 use std::sync::Arc;
-use txn::Version;
+use txn::{ReadTree, Version};
 use values::NoMemory;
 
 /// The newest version with its Write-PDT folded into its Read-PDT, made before anything changes.
@@ -62,10 +62,8 @@ impl Manager {
         ensures { IfOk result (λ folded. IsFolded self.now folded) }
     {
         let newest = &self.newest;
-        let read = Arc::new(
-            self.alloc,
-            propagate(self.alloc, newest.read_tree(), newest.write_tree())?,
-        )?;
+        let tree = propagate(self.alloc, newest.read_tree(), newest.write_tree())?;
+        let read = Arc::new(self.alloc, ReadTree::new(tree))?;
         let none = DeltaTree::new(self.alloc, newest.write_tree().key_cols());
         let write = Arc::new(self.alloc, none)?;
         let stable = newest.stable().clone()?;

@@ -23,6 +23,7 @@ mod passing;
 mod past;
 mod pin;
 mod redo;
+mod repack;
 mod restack;
 
 pub use checkpoint::Rebuilt;

@@ -15,8 +15,8 @@ use values::NoMemory;
 /// manager. While it is kept, so is in memory what commits, folds and checkpoints have replaced since.
 #[derive(Drop)]
 pub struct Pin {
-    version: Version,
-    row_limit: u64,
+    pub(crate) version: Version,
+    pub(crate) row_limit: u64,
 }
 
 impl Model for Pin {

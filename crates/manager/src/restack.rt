@@ -8,7 +8,7 @@ use delta::DeltaTree;
 use stable::StableTable;
 use std::marker::Model;
 use std::sync::Arc;
-use txn::Version;
+use txn::{ReadTree, Version};
 use values::NoMemory;
 
 /// The newest version over another stable table, made before anything changes.
@@ -68,7 +68,7 @@ impl Manager {
         ensures { IfOk result (λ restacked. IsRestacked self.now restacked) }
     {
         let none = DeltaTree::new(self.alloc, table.schema().key_cols());
-        let read = Arc::new(self.alloc, none)?;
+        let read = Arc::new(self.alloc, ReadTree::new(none))?;
         let newest = &self.newest;
         let stable = table.clone()?;
         let write = newest.write_tree().clone()?;

@@ -1,6 +1,6 @@
 -- Numbers of a column, batch by batch.
 use Rattle.std.proofs.Common.{inl, inr, w64, SFits, to_z, of_z, Some, None, slice_get, ◌≡◌, ◌∙◌, ℕ, zero, suc, ◌+◌, ◌-◌, ◌<◌, ◌≤◌, List, [], ◌∷◌, ◌++◌, append_assoc, length, map, take, drop, get_or, refl, sym, ap, subst, arith}
-use Rattle.std.specs.Prelude.{ℤ, false, min, slice_set}
+use Rattle.std.specs.Prelude.{ℤ, IsTrue, false, min, slice_set}
 use Rattle.std.specs.List.{All}
 use Rattle.std.proofs.lemmas.Bool.{cases_lt}
 use Rattle.std.proofs.lemmas.List.{drop-drop, drop_all, length-append, length-map, length-take, map-append, take-append-le}
@@ -9,7 +9,8 @@ use Rattle.std.proofs.Math.Seq.{take-append_seam}
 use Rattle.std.proofs.lemmas.Int.{to_z-of_z}
 use Rattle.values.specs.declared.row.Row.{Row}
 use Rattle.values.specs.declared.value.Value.{Value}
-use Rattle.values.specs.declared.value.Value.TheVariants.{Int, Bool as Truth}
+use Rattle.values.specs.Shape.{has_type}
+use Rattle.values.specs.declared.value.Value.TheVariants.{Int, Text, Bool as Truth}
 use Rattle.values.specs.declared.value.ColumnType.TheVariants as column
 use Rattle.model.specs.Effects.{Cells, set_cells}
 use Rattle.stable.specs.Rows.{column_values}
@@ -21,6 +22,21 @@ use Rattle.merge.specs.Parts.{PassesRow}
 use Rattle.merge.specs.View.{last_cell}
 use Rattle.merge.proofs.PartLemmas.{over_next, value-cell, value_or_false}
 use Rattle.merge.proofs.ViewLemmas.{or_else, slice_get-set_cells}
+
+-- ---- numbers as values
+
+is_own : (v : Value) → IsTrue (has_type column.Int v) → Int (number_of v) ≡ v
+is_own (Int n) h = refl
+is_own (Text t) h = cc h
+is_own (Truth b) h = cc h
+
+-- the numbers of rows in a column of numbers are its values
+pub values_are : (col : ℕ) (rows : List Row) → HaveNumbers col rows → map Int (map (number_at col) rows) ≡ column_values col rows
+values_are col [] have = refl
+values_are col (row ∷ rows) have =
+    let own = is_own (get_or row col (Truth false)) (have 0 row (omega arith)).typed in
+    let rest = values_are col rows (λ k d lt. have (suc k) d (omega (arith, lt))) in
+    λ i. own i ∷ rest i
 
 -- ---- rows that are passed
 

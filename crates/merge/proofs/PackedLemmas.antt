@@ -1,10 +1,8 @@
 -- Packed entries, and what they are packed of.
-use Rattle.std.proofs.Common.{◌≡◌, ℕ, suc, ◌≤◌, List, ◌∷◌, refl, ap, arith}
-use Rattle.values.specs.declared.row.Row.{Row}
-use Rattle.model.specs.declared.entry.Entry.{Entry}
+use Rattle.std.proofs.Common.{ℕ, suc, ◌≤◌, arith}
 use Rattle.model.specs.declared.entry.Change.{Change}
 use Rattle.model.specs.declared.entry.Change.TheVariants.{Ins, Del, Mod}
-use Rattle.merge.specs.Packed.{rows_after, rows_in}
+use Rattle.merge.specs.Packed.{rows_after}
 
 -- an entry inserts a row at most
 pub rows_after-le : (rows : ℕ) (c : Change) → rows_after rows c ≤ suc rows

@@ -1,30 +1,30 @@
--- A walk over a packed Read-PDT that starts at a position.
-use Rattle.std.proofs.Common.{◌≡◌, ◌∙◌, Option, ℕ, ◌<◌, ◌≤◌, List, length, drop, get_or, sym, ap, subst}
+-- Cursors in the lower layers that start at a position, where the numbers of a column are read.
+use Rattle.std.proofs.Common.{◌≡◌, ◌∙◌, Option, ℕ, ◌<◌, ◌≤◌, List, length, drop, take, get_or, sym, ap, subst}
 use Rattle.std.specs.List.{All}
-use Rattle.std.proofs.lemmas.List.Elements.{All-drop, All-same, All-weaker}
+use Rattle.std.proofs.lemmas.List.Elements.{All-drop, All-same, All-take, All-weaker}
 use Rattle.values.specs.declared.row.Row.{Row}
 use Rattle.values.specs.declared.value.ColumnType.{ColumnType}
 use Rattle.values.specs.declared.value.ColumnType.TheVariants as column
+use Rattle.model.specs.Table.{IsTable}
 use Rattle.delta.specs.Tree.{Tree}
 use Rattle.stable.specs.Stable.{Stable}
 use Rattle.merge.specs.Cursor.{TreeCursor, IsCursor, IsCursorAt, rows_left}
 use Rattle.merge.specs.Filling.{HaveNumbers, IsWide}
 use Rattle.merge.specs.Fitting.{StandsAt}
-use Rattle.merge.specs.Image.{Stack, stack_of, tree_over, read_rows, write_rows}
+use Rattle.merge.specs.Image.{Stack, stack_of, tree_over, read_rows, write_rows, image_rows, image_table}
+use Rattle.merge.specs.Packed.{IsNumberColumn}
 use Rattle.merge.specs.Level.{AreKept}
-use Rattle.merge.specs.PackedLeft.{base_left, cursor_of, packed_left}
-use Rattle.merge.specs.declared.packed_rows.PackedRows.{PackedRows}
 use Rattle.merge.proofs.LeftLemmas.{Places, read_at, write_at, write_is, write_stands}
 use Rattle.merge.proofs.RunLemmas.{table_stands}
-use Rattle.merge.proofs.StackLemmas.{read_is_table, stable_is_table, write_is_table}
+use Rattle.merge.proofs.StackLemmas.{image_is_table, read_is_table, stable_is_table, write_is_table}
 
--- a walk over a packed Read-PDT that shows the row at a position first, and a cursor in the Write-PDT over it
-pub record IsPlaced (s : Stack) (rid : ℕ) (w : TreeCursor) (p : PackedRows) : Type 0 where
-  pub rows : rows_left w (packed_left p) ≡ drop rid (write_rows s)
-  pub stands : IsCursor (length (packed_left p)) w
-  pub cursor : IsCursor (length (base_left p)) (cursor_of p)
-  pub wide : (col : ℕ) → col < length s.schema.types → All (IsWide col) (packed_left p)
-  pub numbers : (col : ℕ) → col < length s.schema.types → get_or s.schema.types col column.Int ≡ column.Int → HaveNumbers col (base_left p)
+-- cursors in the Write- and the Read-PDT that show the row at a position first, over the base rows that are left
+pub record IsPlaced (s : Stack) (rid : ℕ) (w r : TreeCursor) (base : List Row) : Type 0 where
+  pub rows : rows_left w (rows_left r base) ≡ drop rid (write_rows s)
+  pub stands : IsCursor (length (rows_left r base)) w
+  pub cursor : IsCursor (length base) r
+  pub wide : (col : ℕ) → col < length s.schema.types → All (IsWide col) (rows_left r base)
+  pub numbers : (col : ℕ) → col < length s.schema.types → get_or s.schema.types col column.Int ≡ column.Int → HaveNumbers col base
 
 module _ (stable : Stable) (read write top : Tree) (len : ℕ) (h : AreKept stable read write top len) where
   abbrev s : Stack
@@ -55,14 +55,12 @@ module _ (stable : Stable) (read write top : Tree) (len : ℕ) (h : AreKept stab
     at_read : IsCursorAt stable.rows w.sid r
     at_read = read_at stable read write top len h w.sid r at_write.within places_r
 
-    -- the walk in the packed tree stands where the cursor does
-    pub placed : (p : PackedRows) → p.below.table.now.rows ≡ stable.rows → p.below.sid ≡ r.sid → cursor_of p ≡ r → IsPlaced s rid w p
-    placed p table_is below_is cursor_is =
-        let base : base_left p ≡ drop r.sid stable.rows = λ i. drop (below_is i) (table_is i) in
-        let left : packed_left p ≡ rows_left r (drop r.sid stable.rows) = λ i. rows_left (cursor_is i) (base i) in
+    pub placed : (base : List Row) → base ≡ drop r.sid stable.rows → IsPlaced s rid w r base
+    placed base base_is =
+        let left : rows_left r base ≡ rows_left r (drop r.sid stable.rows) = ap (rows_left r) base_is in
         let r_entries = ap (λ (t : Tree). t.entries) r_tree in
         let w_entries = ap (λ (t : Tree). t.entries) w_tree in
-        let in_read : packed_left p ≡ drop w.sid (read_rows s) =
+        let in_read : rows_left r base ≡ drop w.sid (read_rows s) =
         left ∙ at_read.rows ∙ ap (λ (t : Tree). drop w.sid (read_rows (stack_of stable t write top))) r_tree in
         record {
           rows =
@@ -71,23 +69,41 @@ module _ (stable : Stable) (read write top : Tree) (len : ℕ) (h : AreKept stab
           stands =
               subst (λ (xs : List Row). IsCursor (length xs) w) (sym left)
               (write_stands stable.rows read.entries write.entries r w rid at_read at_write r_entries w_entries);
-          cursor =
-              subst (λ (x : TreeCursor). IsCursor (length (base_left p)) x) (sym cursor_is)
-              (subst (λ (xs : List Row). IsCursor (length xs) r) (sym base) at_read.cursor);
+          cursor = subst (λ (xs : List Row). IsCursor (length xs) r) (sym base_is) at_read.cursor;
           wide = λ col lt.
-              All-same (IsWide col) (packed_left p) (drop w.sid (read_rows s)) in_read
+              All-same (IsWide col) (rows_left r base) (drop w.sid (read_rows s)) in_read
               (All-drop (IsWide col) w.sid (read_rows s) (wide_read col lt));
           numbers = λ col lt ints.
-              All-same (StandsAt column.Int col) (base_left p) (drop r.sid stable.rows) base
+              All-same (StandsAt column.Int col) base (drop r.sid stable.rows) base_is
               (All-drop (StandsAt column.Int col) r.sid stable.rows (wide_stable col lt ints));
         }
 
--- the rows under a tree on top have the column, as layers are seen
-pub wide_under : (stable : Stable) (read write : Tree) (over : Option Tree) (len : ℕ) (s : Stack)
-    → stack_of stable read write (tree_over stable.schema.key_cols over) ≡ s
-    → AreKept stable read write (tree_over stable.schema.key_cols over) len → (col : ℕ) → col < length s.schema.types
-    → All (IsWide col) (write_rows s)
-wide_under stable read write over len s view kept col lt =
-    let top = tree_over stable.schema.key_cols over in
-    subst (λ (x : Stack). All (IsWide col) (write_rows x)) view
-    (wide_write stable read write top len kept col (subst (λ (x : Stack). col < length x.schema.types) (sym view) lt))
+-- layers as they keep them, seen as a stack
+module _ (stable : Stable) (read write : Tree) (over : Option Tree) (len : ℕ) (s : Stack)
+    (view : stack_of stable read write (tree_over stable.schema.key_cols over) ≡ s)
+    (kept : AreKept stable read write (tree_over stable.schema.key_cols over) len) where
+  abbrev top : Tree
+  top = tree_over stable.schema.key_cols over
+
+  -- the rows under a tree on top have the column
+  pub wide_under : (col : ℕ) → col < length s.schema.types → All (IsWide col) (write_rows s)
+  wide_under col lt =
+      subst (λ (x : Stack). All (IsWide col) (write_rows x)) view
+      (wide_write stable read write top len kept col (subst (λ (x : Stack). col < length x.schema.types) (sym view) lt))
+
+  pub placed_under : (rid : ℕ) (w r : TreeCursor) (below sid : ℕ) → rid ≤ length (write_rows s) → Places write rid w
+      → Places read below r → below ≡ w.sid → sid ≡ r.sid → w.tree ≡ write → r.tree ≡ read
+      → IsPlaced s rid w r (drop sid stable.rows)
+  placed_under rid w r below sid low places_w places_r below_is sid_is w_tree r_tree =
+      subst (λ (x : Stack). IsPlaced x rid w r (drop sid stable.rows)) view
+      (placed stable read write top len kept rid (subst (λ (x : Stack). rid ≤ length (write_rows x)) (sym view) low) w r places_w
+      (subst (λ n. Places read n r) below_is places_r) w_tree r_tree (drop sid stable.rows) (ap (λ n. drop n stable.rows) sid_is))
+
+  -- the rows of the image have numbers in a column of numbers
+  pub image_numbers : (col : ℕ) → IsNumberColumn s.schema col → (from count : ℕ) → HaveNumbers col (take count (drop from (image_rows s)))
+  image_numbers col is from count =
+      let table = subst (λ (x : Stack). IsTable x.schema (image_table x)) view (image_is_table stable read write top kept.stacked) in
+      let Here : Row → Type 0 = StandsAt column.Int col in
+      let all = subst (λ (ty : ColumnType). All (StandsAt ty col) (image_rows s)) is.ints
+      (table_stands s.schema (image_rows s) col table is.there) in
+      All-take Here count (drop from (image_rows s)) (All-drop Here from (image_rows s) all)

@@ -12,3 +12,4 @@ pub mod Parts
 pub mod Packed
 pub mod Filling
 pub mod PackedLeft
+pub mod ReadRows

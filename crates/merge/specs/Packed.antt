@@ -56,10 +56,13 @@ pub record IsPacked (entries : List Entry) (p : PackedView) : Type 0 where
   pub entries_are : p.entries ≡ packed_from 0 entries
   pub columns_are : (col : ℕ) → col < length p.columns → get_or p.columns col [] ≡ map (number_at col) (rows_in entries)
 
--- there is a column of this number, it is one of numbers, and it is packed
-pub record IsNumberColumn (schema : Columns) (col : ℕ) (p : PackedView) : Type 0 where
+-- there is a column of this number, and it is one of numbers
+pub record IsNumberColumn (schema : Columns) (col : ℕ) : Type 0 where
   pub there : col < length schema.types
   pub ints : get_or schema.types col column.Int ≡ column.Int
+
+-- the column of this number is packed
+pub record IsPackedColumn (col : ℕ) (p : PackedView) : Type 0 where
   pub narrow : col < 65535
   pub packed : col < length p.columns
 

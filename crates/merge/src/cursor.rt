@@ -79,7 +79,7 @@ impl<'a> Cursor<'a> {
 
     /// The tree.
     #[inline(always)]
-    fn tree(&self) -> &'a DeltaTree
+    pub(crate) fn tree(&self) -> &'a DeltaTree
         ensures { result.now ≡ self.now.tree }
     {
         self.tree

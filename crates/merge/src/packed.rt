@@ -2,12 +2,12 @@
 //! of a column of numbers reads them in order, where in the tree it waits for each node and each row.
 ghost use Rattle.std.specs.Prelude.{◌≡◌, ◌<◌, ◌^◌, true, false, [], length, map, min, get_or, IfOk};
 ghost use Rattle.values.specs.Lent.{value_of};
-ghost use Rattle.merge.specs.Packed.{IsNumberColumn, IsPacked, number_at, number_of, packed_at, packed_from, rows_after, rows_in, is_gone, is_patch, row_in, sid_of};
+ghost use Rattle.merge.specs.Packed.{IsPacked, IsPackedColumn, number_at, number_of, packed_at, packed_from, rows_after, rows_in, is_gone, is_patch, row_in, sid_of};
 
 use delta::{ChangeRef, DeltaTree, SharedEntry};
 use std::alloc::Global;
 use std::marker::Model;
-use values::{ColumnType, NoMemory, Schema, SharedRow, ValueRef};
+use values::{NoMemory, SharedRow, ValueRef};
 
 /// What stands for the number of a column that has no 16 bits.
 const NARROW: usize = 65_535;
@@ -68,15 +68,13 @@ impl Packed {
         self.entries.as_slice()
     }
 
-    /// Whether the column of this number is one of numbers, and packed: then it may be filled.
-    pub fn has_numbers(&self, schema: &Schema, col: usize) -> bool
-        ensures yes { result ≡ true → IsNumberColumn schema.now col self.now }
-        ensures no { result ≡ false → IsNumberColumn schema.now col self.now → ⊥ }
+    /// Whether the column of this number is packed.
+    #[inline(always)]
+    pub(crate) fn has_column(&self, col: usize) -> bool
+        ensures yes { result ≡ true → IsPackedColumn col self.now }
+        ensures no { result ≡ false → IsPackedColumn col self.now → ⊥ }
     {
-        match schema.types().get(col) {
-            Some(ColumnType::Int) => col < self.columns.len() && col < NARROW,
-            Some(ColumnType::Text | ColumnType::Bool) | None => false,
-        }
+        col < self.columns.len() && col < NARROW
     }
 
     /// The numbers of the inserted rows in a column.

@@ -1,6 +1,6 @@
 -- Numbers of a column, run by run.
 use Rattle.std.proofs.Common.{◌≡◌, ◌∙◌, ℕ, ◌+◌, ◌<◌, ◌≤◌, false, List, [], ◌∷◌, ◌++◌, append_assoc, length, take, drop, map, get_or, refl, sym, ap, subst, arith, inl, inr}
-use Rattle.std.specs.Prelude.{ℤ}
+use Rattle.std.specs.Prelude.{ℤ, min}
 use Rattle.std.proofs.lemmas.Bool.{cases_lt}
 use Rattle.std.proofs.lemmas.List.{append-nil, drop-take, length-append, length-drop, length-map, length-take, map-append, take-map, take_all}
 use Rattle.values.specs.declared.row.Row.{Row}
@@ -46,6 +46,25 @@ numbers_cut col from room to rows cut =
     ap (λ rs. numbers_of (column_values col rs)) cut
     ∙ ap numbers_of (sym (take-map (λ (row : Row). get_or row col (Truth false)) room (drop from rows)))
     ∙ sym (take-map number_of room (column_values col (drop from rows)))
+
+-- a room that is filled with the first values of rows in a column has the first of its numbers
+pub numbers_filled : (col room count : ℕ) (out : List ℤ) (rows : List Row) → count ≡ min room (length rows)
+    → map Int (take count out) ≡ column_values col (take count rows)
+    → take count out ≡ take room (numbers_of (column_values col rows))
+numbers_filled col room count out rows count_is told =
+    let all = numbers_of (column_values col rows) in
+    let many = length-map (column_values col rows) number_of in
+    let wide = length-map rows (λ (row : Row). get_or row col (Truth false)) in
+    let same : take count all ≡ take room all =
+    elim (cases_lt (length rows) room) [
+      | inl l ↦ take_all count all (omega (arith, l, many, wide, count_is)) ∙ sym (take_all room all (omega (arith, l, many, wide)))
+      | inr g ↦ ap (λ n. take n all) (omega (arith, g, count_is))
+    ] in
+    sym (numbers_int (take count out))
+    ∙ ap numbers_of told
+    ∙ ap numbers_of (sym (take-map (λ (row : Row). get_or row col (Truth false)) count rows))
+    ∙ sym (take-map number_of count (column_values col rows))
+    ∙ same
 
 pub length-between : (col from to : ℕ) (rows : List Row) → length (numbers_of (column_values col (drop from (take to rows)))) ≤ length rows
 length-between col from to rows =

@@ -23,7 +23,7 @@ use std::alloc::Global;
 use std::sync::Arc;
 use std::test::Fail;
 use test_fixtures::item_columns;
-use txn::{Txn, Version};
+use txn::{ReadTree, Txn, Version};
 use values::Row;
 
 /// The tree that a transaction left, and what it does by key, as the plain program tells of its writes.
@@ -87,7 +87,7 @@ fn image_of(alloc: Global, stable: &Arc<StableTable>, tree: &DeltaTree) -> Resul
           stable.now.value.schema.key_cols;
     }) 1) }
 {
-    let read = Arc::new(alloc, tree.copy()?)?;
+    let read = Arc::new(alloc, ReadTree::new(tree.copy()?))?;
     let none = Arc::new(alloc, DeltaTree::new(alloc, stable.schema().key_cols()))?;
     Ok(Version::stacked(alloc, stable.clone()?, read, none, 1)?)
 }

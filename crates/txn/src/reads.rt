@@ -1,9 +1,11 @@
 //! What a transaction reads: its version's table with its own writes. No read but those that give a table takes memory
 //! or copies a row.
-ghost use Rattle.std.specs.Prelude.{◌≡◌, ◌<◌, IfOk, drop, is_some, length, slice_get, take};
+ghost use Rattle.std.specs.Prelude.{◌≡◌, ◌<◌, IfOk, drop, is_some, length, map, min, slice_get, take};
 ghost use Rattle.std.specs.Option.{option_map};
 ghost use Rattle.model.specs.Table.{rank, row_at, rows_of};
-ghost use Rattle.stable.specs.Rows.{column_at};
+ghost use Rattle.stable.specs.Rows.{column_at, column_values};
+ghost use Rattle.values.specs.declared.value.Value.TheVariants.{Int};
+ghost use Rattle.merge.specs.Packed.{IsNumberColumn};
 ghost use Rattle.merge.specs.View.{row_of};
 
 use crate::transaction::Txn;
@@ -59,6 +61,17 @@ impl Txn {
         ensures { result ≡ column_at self.now.schema.types (drop from (take to (rows_of (image_of self.now)))) col }
     {
         self.layers().column_runs(col, from, to)
+    }
+
+    /// Puts the numbers of a column from a position on into a room, as many as there are and fit, and answers how many. Base rows that
+    /// stand together are copied; where the Read-PDT is packed, a change of another column costs next to nothing.
+    pub fn fill_numbers(&self, col: usize, from: u64, out: &mut [i64]) -> usize
+        requires { IsNumberColumn self.now.schema col }
+        ensures count { result ≡ min (length out.old) (length (drop from (rows_of (image_of self.now)))) }
+        ensures values { map Int (take result out.new) ≡ column_values col (take result (drop from (rows_of (image_of self.now)))) }
+    {
+        let layers = self.version.layers(&self.tree);
+        layers.fill_numbers(self.version.read().packed(), col, from, out)
     }
 
     /// All rows as a stable table, column by column.

@@ -28,10 +28,10 @@ use values::{Key, NoMemory, Row, Schema, Value};
 /// A client's writes over a snapshot of the table. It ends by a commit or by `abort`: it has no drop.
 pub struct Txn {
     client: u32,
-    version: Version,
+    pub(crate) version: Version,
     row_limit: u64,
     /// The canonical entries of the writes' effects over the snapshot.
-    tree: DeltaTree,
+    pub(crate) tree: DeltaTree,
     /// Each with the reply that was due.
     writes: Vec<(Write, WriteReply)>,
     /// Where its record will stand, should it commit.

@@ -7,7 +7,7 @@ ghost use Rattle.stable.specs.Stable.{IsStable};
 ghost use Rattle.values.specs.Shape.{IsSchema};
 
 use delta::DeltaTree;
-use merge::Layers;
+use merge::{Layers, ReadTree};
 use stable::StableTable;
 use std::alloc::Global;
 use std::marker::Model;
@@ -18,7 +18,7 @@ use values::{NoMemory, Schema, Value};
 #[derive(Drop)]
 struct Base {
     stable: Arc<StableTable>,
-    read: Arc<DeltaTree>,
+    read: Arc<ReadTree>,
     write: Arc<DeltaTree>,
 }
 
@@ -41,7 +41,7 @@ impl Base {
         &self.stable
     }
 
-    fn read(&self) -> &Arc<DeltaTree>
+    fn read(&self) -> &Arc<ReadTree>
         ensures { result.now.value ≡ self.now.read }
     {
         &self.read
@@ -51,6 +51,18 @@ impl Base {
         ensures { result.now.value ≡ self.now.write }
     {
         &self.write
+    }
+
+    /// The same layers with an equal Read-PDT.
+    fn with_read(&self, read: Arc<ReadTree>) -> Result<Base, NoMemory>
+        requires { read.value ≡ self.now.read }
+        ensures { IfOk result (λ base. base ≡ self.now) }
+    {
+        Ok(Base {
+            stable: self.stable.clone()?,
+            read,
+            write: self.write.clone()?,
+        })
     }
 
     /// The columns of the table.
@@ -66,7 +78,7 @@ impl Base {
         requires { IsLayer self.now.stable.schema (lower_table self.now) trans.now }
         ensures { result ≡ stack_of self.now.stable self.now.read self.now.write trans.now }
     {
-        Layers::new(&self.stable, &self.read, &self.write, trans)
+        Layers::new(&self.stable, self.read.tree(), &self.write, trans)
     }
 
     /// How many rows have a key below that of these cells, and whether there is a row of that key.
@@ -91,7 +103,7 @@ impl Base {
         ensures table { image_table result ≡ lower_table self.now }
         ensures layers { result ≡ stack_below self.now.stable self.now.read self.now.write }
     {
-        Layers::committed(&self.stable, &self.read, &self.write)
+        Layers::committed(&self.stable, self.read.tree(), &self.write)
     }
 }
 
@@ -124,8 +136,10 @@ impl Version {
         ensures typed { IsSchema stable.value.schema }
     {
         let key_cols = stable.schema().key_cols();
-        let read = Arc::new(alloc, DeltaTree::new(alloc, key_cols))?;
-        let write = read.clone()?;
+        let under = DeltaTree::new(alloc, key_cols);
+        let over = DeltaTree::new(alloc, key_cols);
+        let read = Arc::new(alloc, ReadTree::new(under))?;
+        let write = Arc::new(alloc, over)?;
         Version::stacked(alloc, stable, read, write, number)
     }
 
@@ -137,7 +151,7 @@ impl Version {
     pub fn stacked(
         alloc: Global,
         stable: Arc<StableTable>,
-        read: Arc<DeltaTree>,
+        read: Arc<ReadTree>,
         write: Arc<DeltaTree>,
         number: u64,
     ) -> Result<Version, NoMemory>
@@ -170,6 +184,42 @@ impl Version {
         })
     }
 
+    /// The same version, with its Read-PDT packed. It takes a walk over that tree for each column; everything else is shared.
+    ///
+    /// # Errors
+    ///
+    /// `NoMemory` where a growth, or a share of a layer, is refused.
+    pub fn packed(&self, alloc: Global) -> Result<Version, NoMemory>
+        ensures { IfOk result (λ packed. packed ≡ self.now) }
+    {
+        let read = self.read().to_packed(alloc, self.schema().width())?;
+        self.with_read(alloc, Arc::new(alloc, read)?)
+    }
+
+    /// The same version, which shares the Read-PDT of another one: an equal tree, packed or not.
+    ///
+    /// # Errors
+    ///
+    /// `NoMemory` where a growth, or a share of a layer, is refused.
+    pub fn with_read_of(&self, alloc: Global, other: &Version) -> Result<Version, NoMemory>
+        requires { other.now.layers.read ≡ self.now.layers.read }
+        ensures { IfOk result (λ version. version ≡ self.now) }
+    {
+        self.with_read(alloc, other.read().clone()?)
+    }
+
+    /// The same version with an equal Read-PDT.
+    fn with_read(&self, alloc: Global, read: Arc<ReadTree>) -> Result<Version, NoMemory>
+        requires { read.value ≡ self.now.layers.read }
+        ensures { IfOk result (λ version. version ≡ self.now) }
+    {
+        let base = self.base.with_read(read)?;
+        Ok(Version {
+            base: Arc::new(alloc, base)?,
+            number: self.number,
+        })
+    }
+
     /// The stable table, which the versions over it share. Takes no memory.
     pub fn stable(&self) -> &Arc<StableTable>
         ensures { result.now.value ≡ self.now.layers.stable }
@@ -178,10 +228,17 @@ impl Version {
     }
 
     /// The Read-PDT, which the versions over it share. Takes no memory.
-    pub fn read_tree(&self) -> &Arc<DeltaTree>
+    pub fn read(&self) -> &Arc<ReadTree>
         ensures { result.now.value ≡ self.now.layers.read }
     {
         self.base.read()
+    }
+
+    /// Its tree. Takes no memory.
+    pub fn read_tree(&self) -> &DeltaTree
+        ensures { result.now ≡ self.now.layers.read }
+    {
+        self.base.read().tree()
     }
 
     /// The Write-PDT. Takes no memory.
@@ -227,6 +284,7 @@ impl Version {
         requires { IsLayer self.now.layers.stable.schema (lower_table self.now.layers) trans.now }
         ensures schema { result.schema ≡ self.now.layers.stable.schema }
         ensures rows { image_rows result ≡ merged_rows (rows_of (lower_table self.now.layers)) trans.now.entries }
+        ensures read { result.read ≡ self.now.layers.read.entries }
     {
         self.base.layers(trans)
     }

@@ -1,15 +1,11 @@
 //! The numbers of one column from a position on, copied into C's room.
-ghost use Rattle.std.specs.Prelude.{◌≡◌, ◌+◌, ◌++◌, ◌≤◌, IsSome, IfSome, length, min, slice_get, take};
-ghost use Rattle.values.specs.declared.value.ColumnType.TheVariants as column;
-ghost use Rattle.merge.specs.Runs.{IsRun, run_values};
-ghost use Rattle.pdt_c.specs.Cells.{numbers_of};
+ghost use Rattle.std.specs.Prelude.{◌≡◌, IsSome, IfSome, length, min, take};
 ghost use Rattle.pdt_c.specs.Numbers.{has_numbers, numbers_from};
 
 use crate::handles::transaction::{Transaction, put, take};
-use merge::Run;
 use std::alloc::Global;
 use txn::Txn;
-use values::{ColumnType, ValueRef};
+use values::ColumnType;
 
 /// Puts the numbers of a column from a position on into C's room, as many as there are and fit, and answers how many. A
 /// column that isn't one of numbers has none.
@@ -39,12 +35,7 @@ fn read_ints(txn: &Txn, col: usize, from: u64, out: &mut [i64]) -> usize
     if !is_of_numbers(txn, col) {
         return 0;
     }
-    let to = from.saturating_add(out.len() as u64).min(txn.len());
-    let mut done = 0;
-    for run in txn.column_runs(col, from, to) {
-        done = put_run(run, out, done);
-    }
-    done
+    txn.fill_numbers(col, from, out)
 }
 
 /// Whether there is a column of this number, and it is one of numbers.
@@ -54,27 +45,5 @@ pub(crate) fn is_of_numbers(txn: &Txn, col: usize) -> bool
     match txn.schema().types().get(col) {
         Some(ColumnType::Int) => true,
         Some(ColumnType::Text | ColumnType::Bool) | None => false,
-    }
-}
-
-/// Puts the numbers of a run after the first `done`, and answers how many there are then.
-fn put_run(run: Run<'_>, out: &mut [i64], done: usize) -> usize
-    requires typed { IsRun column.Int run }
-    requires room { done + length (run_values run) ≤ length out.old }
-    ensures length { length out.new ≡ length out.old }
-    ensures count { result ≡ done + length (run_values run.entry) }
-    ensures numbers { take result out.new ≡ take done out.old ++ numbers_of (run_values run.entry) }
-{
-    match run {
-        Run::Ints(ints) => {
-            let end = done + ints.len();
-            out[done..end].copy_from_slice(ints);
-            end
-        }
-        Run::Value(ValueRef::Int(number)) => {
-            out[done] = number;
-            done + 1
-        }
-        _ => unreachable!(),
     }
 }

@@ -45,6 +45,32 @@ fn pin_newest(alloc: Global, manager: &Manager) -> Result<Box<Pin>, NoMemory>
     Ok(Box::new(alloc, made)?)
 }
 
+/// Packs the Read-PDT of a version that is kept: the version stays the same, and reads no manager meanwhile.
+#[unsafe(no_mangle)]
+pub extern "C" fn pdtr_pack(alloc: Global, pinned: &mut PinnedTable) -> u32
+    requires { IsSome pinned.old.value }
+    ensures { pinned.new.value ≡ pinned.old.value }
+{
+    let version = pin::take(alloc, pinned);
+    match pack(alloc, &version) {
+        Ok(packed) => {
+            pin::put(pinned, packed);
+            DONE
+        }
+        Err(NoMemory) => {
+            pin::put(pinned, version);
+            NO_MEMORY
+        }
+    }
+}
+
+fn pack(alloc: Global, version: &Pin) -> Result<Box<Pin>, NoMemory>
+    ensures { IfOk result (λ packed. packed.value ≡ version.now) }
+{
+    let packed = version.packed(alloc)?;
+    Ok(Box::new(alloc, packed)?)
+}
+
 /// Keeps the version of a handle once more, in a handle that holds nothing.
 #[unsafe(no_mangle)]
 pub extern "C" fn pdtr_pin_again(

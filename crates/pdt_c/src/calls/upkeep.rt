@@ -6,9 +6,10 @@ ghost use Rattle.manager.specs.Managed.{cut_of, HasFolded};
 ghost use Rattle.pdt_c.specs.declared.codes.TheConstants.{DONE};
 
 use crate::codes::{DONE, NO_MEMORY};
+use crate::handles::pin::PinnedTable;
 use crate::handles::store::Store;
 use crate::handles::trees::Trees;
-use crate::handles::{store, trees};
+use crate::handles::{pin, store, trees};
 use manager::{KeptTrees, Manager};
 use std::alloc::Global;
 use values::NoMemory;
@@ -26,6 +27,26 @@ pub extern "C" fn pdtr_fold(alloc: Global, store: &mut Store) -> u32
         Ok(()) => DONE,
         Err(NoMemory) => NO_MEMORY,
     };
+    store::put(store, manager);
+    code
+}
+
+/// Has the newest version share the Read-PDT of a version that is kept, which is equal and was packed. No table changes, and no layer.
+#[unsafe(no_mangle)]
+pub extern "C" fn pdtr_repack(alloc: Global, store: &mut Store, packed: &mut PinnedTable) -> u32
+    requires store { IsSome store.old.value }
+    requires packed { IsSome packed.old.value }
+    requires same { IfSome store.old.value (λ m. IfSome packed.old.value (λ p. p.version.layers.read ≡ m.layers.read)) }
+    ensures kept { store.new.value ≡ store.old.value }
+    ensures pinned { packed.new.value ≡ packed.old.value }
+{
+    let mut manager = store::take(alloc, store);
+    let version = pin::take(alloc, packed);
+    let code = match manager.repack(&version) {
+        Ok(()) => DONE,
+        Err(NoMemory) => NO_MEMORY,
+    };
+    pin::put(packed, version);
     store::put(store, manager);
     code
 }

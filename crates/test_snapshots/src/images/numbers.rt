@@ -1,6 +1,8 @@
-//! The numbers of a column as they are filled through a packed Read-PDT, beside the rows that the plain program merges of the same
-//! entries.
+//! The numbers of a column as they are filled, through a packed Read-PDT and through its tree, beside the rows that the plain program
+//! merges of the same entries.
 ghost use Rattle.merge.specs.Image.{AreStacked};
+ghost use Rattle.std.specs.Prelude.{◌≡◌, IfSome, true};
+ghost use Rattle.std.specs.Option.{option_copied};
 ghost use Rattle.merge.specs.Packed.{IsNumberColumn, IsPacked};
 
 use super::Stack;
@@ -9,7 +11,7 @@ use merge::{Layers, Packed};
 use std::alloc::Global;
 use std::process::Abort;
 use std::test::Fail;
-use values::{Row, ValueRef};
+use values::{ColumnType, Row, Schema, ValueRef};
 
 /// Positions to fill from, with the length of the room.
 static ROOMS: [(u64, usize); 9] = [
@@ -35,14 +37,14 @@ fn has_number(row: Option<&Row>, col: usize, number: Option<&i64>) -> bool {
 /// Whether a room that is filled from a position on has the numbers of the rows there, as many as there are and fit.
 fn is_filled(
     layers: &Layers<'_>,
-    packed: &Packed,
+    packed: Option<&Packed>,
     rows: &[Row],
     col: usize,
     from: u64,
     room: &mut [i64],
 ) -> bool
-    requires packed { IsPacked layers.now.read packed.now }
-    requires column { IsNumberColumn layers.now.schema col packed.now }
+    requires packed { IfSome (option_copied packed) (IsPacked layers.now.read) }
+    requires column { IsNumberColumn layers.now.schema col }
 {
     let count = layers.fill_numbers(packed, col, from, room);
     let due = (rows.len() as u64)
@@ -57,19 +59,26 @@ fn is_filled(
     count as u64 == due
 }
 
+/// Whether a column is one of numbers.
+fn is_of_numbers(schema: &Schema, col: usize) -> bool
+    ensures { result ≡ true → IsNumberColumn schema.now col }
+{
+    matches!(schema.types().get(col), Some(ColumnType::Int))
+}
+
 /// That each room is filled with the numbers of each column that has numbers, and that two columns have some.
 fn assert_filled(
     rt: &impl Abort,
     layers: &Layers<'_>,
-    packed: &Packed,
+    packed: Option<&Packed>,
     rows: &[Row],
     room: &mut [i64],
 )
-    requires { IsPacked layers.now.read packed.now }
+    requires { IfSome (option_copied packed) (IsPacked layers.now.read) }
 {
     let mut columns = 0_usize;
     for col in 0..layers.schema().width() {
-        if packed.has_numbers(layers.schema(), col) {
+        if is_of_numbers(layers.schema(), col) {
             columns = columns.wrapping_add(1);
             for (from, len) in &ROOMS {
                 let len = (*len).min(room.len());
@@ -88,21 +97,12 @@ fn assert_numbers(rt: &impl Abort, alloc: Global, stack: &Stack) -> Result<(), F
     let packed = Packed::of(alloc, read, stack.stable.schema().width())?;
     let mut room = Vec::from_elem(alloc, 0_i64, 2_000)?;
     let own = Layers::new(&stack.stable, read, write, trans);
-    assert_filled(
-        rt,
-        &own,
-        &packed,
-        stack.trans.rows.as_slice(),
-        room.as_mut_slice(),
-    );
     let committed = Layers::committed(&stack.stable, read, write);
-    assert_filled(
-        rt,
-        &committed,
-        &packed,
-        stack.write.rows.as_slice(),
-        room.as_mut_slice(),
-    );
+    let (over, under) = (stack.trans.rows.as_slice(), stack.write.rows.as_slice());
+    assert_filled(rt, &own, Some(&packed), over, room.as_mut_slice());
+    assert_filled(rt, &own, None, over, room.as_mut_slice());
+    assert_filled(rt, &committed, Some(&packed), under, room.as_mut_slice());
+    assert_filled(rt, &committed, None, under, room.as_mut_slice());
     Ok(())
 }
 

@@ -14,14 +14,14 @@ use std::process::Abort;
 use std::sync::Arc;
 use std::test::Fail;
 use test_fixtures::{BASE, Item, ItemWrite, entries_text, item_table, key, write_of};
-use txn::{Parts, Txn, Version, WriteReply};
+use txn::{Parts, ReadTree, Txn, Version, WriteReply};
 use values::NoMemory;
 
 /// A stable table with the trees of two transactions over it, the second over what the first left.
 #[derive(Drop)]
 struct Lower {
     stable: Arc<StableTable>,
-    read: Arc<DeltaTree>,
+    read: Arc<ReadTree>,
     write: Arc<DeltaTree>,
 }
 
@@ -67,7 +67,8 @@ fn make_lower(alloc: Global, named: &[Item], steps: [&[ItemWrite]; 2]) -> Result
     let stable = Arc::new(alloc, item_table(alloc, named)?)?;
     let none = Arc::new(alloc, DeltaTree::new(alloc, stable.schema().key_cols()))?;
     let opening = Version::new(alloc, stable.clone()?, 0)?;
-    let read = Arc::new(alloc, tree_over(alloc, opening, steps[0])?)?;
+    let tree = tree_over(alloc, opening, steps[0])?;
+    let read = Arc::new(alloc, ReadTree::new(tree))?;
     let middle = Version::stacked(alloc, stable.clone()?, read.clone()?, none, 1)?;
     let write = Arc::new(alloc, tree_over(alloc, middle, steps[1])?)?;
     Ok(Lower {
@@ -194,7 +195,7 @@ fn assert_trees(
     changes: [&str; 3],
     label: &str,
 ) -> Result<(), NoMemory> {
-    assert_tree(rt, alloc, &lower.read, changes[0], label)?;
+    assert_tree(rt, alloc, lower.read.tree(), changes[0], label)?;
     assert_tree(rt, alloc, &lower.write, changes[1], label)?;
     assert_tree(rt, alloc, own, changes[2], label)
 }

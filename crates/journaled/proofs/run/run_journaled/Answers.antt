@@ -19,9 +19,10 @@ use Rattle.pdtcli.proofs.CallerLemmas.{next_of, none_left, ready_with, typed_in,
 use Rattle.devices.specs.Appending.{Taken, taken_by}
 use Rattle.txn.specs.Txn.{Transaction}
 use Rattle.manager.specs.Managed.{IsOwn, Managed}
-use Rattle.journaled.specs.Journaled.{Held, IsServed, Journaled}
-use Rattle.journaled.specs.Run.{IsRun, State, Step}
-use Rattle.journaled.proofs.RunLemmas.{IsRun-more, imaged_keeps, lines_text-and, opened_as, refused-more, served_keeps}
+use Rattle.pdtcli.specs.declared.refusal.Refusal.{Refusal}
+use Rattle.journaled.specs.Journaled.{Held, IsServed, Journaled, image_refusal, journaled_over}
+use Rattle.journaled.specs.Run.{IsRun, IsRunRefusal, State, Step}
+use Rattle.journaled.proofs.RunLemmas.{IsRun-more, imaged_keeps, lines_text-and, opened_as, refused-more, served_keeps, unopened}
 use Rattle.journaled.proofs.run.run_journaled.Goals as goal
 
 pub loop-asked-init : goal.loop-asked-init
@@ -185,3 +186,16 @@ returns-clause-ran g c =
       search (rules, written),
       c.status_of.ensures ∙ ap (λ (b : Bool). cond b 1 0) inv.run.5,
     )
+
+pub returns-in-Err-store_image-clause-refused : goal.returns-in-Err-store_image-clause-refused
+returns-in-Err-store_image-clause-refused g c =
+    let taken_of =
+    taken_by (λ b. (goal.ColumnDevice-dyn g (b.vtable, b.value)).contents b.value)
+    (λ b. (goal.ColumnDevice-dyn g (b.vtable, b.value)).failures b.value) in
+    let had : Taken = taken_of c.args.store.devices.items c.args.store.next in
+    let opening : Journaled = journaled_over c.args.opened.manager c.args.journals.commits c.args.journals.images c.args.next in
+    let has : Taken = taken_of c.store_image.new.store.devices.items c.store_image.new.store.next in
+    let refused =
+    unopened c.new-journaled.result had c.in-Err-store_image.fault c.store_image.new.self has c.in-Err-store_image.ensures.imaged in
+    subst (λ (r : Refusal). IsRunRefusal opening had r) (sym c.image_refusal.ensures)
+    (subst (λ (j : Journaled). IsRunRefusal j had (image_refusal c.in-Err-store_image.fault)) c.new-journaled.ensures refused)

@@ -15,8 +15,8 @@ stacked-requires c =
     c.key_cols.ensures.count
     ∙ ap (λ (t : Columns). t.key_cols) c.schema.ensures.columns
     ∙ ap (λ (t : Stable). t.schema.key_cols) c.deref.ensures in
-    let none : l.write ≡ empty_tree s.schema.key_cols = c.in_ok-none.ensures.ok ∙ c.new-2.ensures ∙ ap empty_tree count in
-    let read : l.read ≡ c.args.tree.now = c.in_ok-read.ensures.ok ∙ c.in_ok-copy.ensures in
+    let none : l.write ≡ empty_tree s.schema.key_cols = c.in_ok-none.ensures.ok ∙ c.new-3.ensures ∙ ap empty_tree count in
+    let read : l.read ≡ c.args.tree.now = c.in_ok-read.ensures.ok ∙ c.new.ensures ∙ c.in_ok-copy.ensures in
     one_layer s l c.in_ok-clone.ensures.cases none (subst (IsLayer s.schema (table_in s)) (sym read) c.requires)
 
 pub returns : goal.returns
@@ -26,6 +26,6 @@ returns c =
     c.key_cols.ensures.count
     ∙ ap (λ (t : Columns). t.key_cols) c.schema.ensures.columns
     ∙ ap (λ (t : Stable). t.schema.key_cols) c.deref.ensures in
-    let none : c.in_ok-none.none.value ≡ empty_tree s.schema.key_cols = c.in_ok-none.ensures.ok ∙ c.new-2.ensures ∙ ap empty_tree count in
-    let read : c.in_ok-read.read.value ≡ c.args.tree.now = c.in_ok-read.ensures.ok ∙ c.in_ok-copy.ensures in
+    let none : c.in_ok-none.none.value ≡ empty_tree s.schema.key_cols = c.in_ok-none.ensures.ok ∙ c.new-3.ensures ∙ ap empty_tree count in
+    let read : c.in_ok-read.read.value ≡ c.args.tree.now = c.in_ok-read.ensures.ok ∙ c.new.ensures ∙ c.in_ok-copy.ensures in
     c.in_ok-stacked.ensures ∙ (λ i. numbered (record { stable = c.in_ok-clone.ensures.cases i; read = read i; write = none i }) 1)

@@ -50,7 +50,7 @@ made c w =
     ∙ folded_in c.deref.result.now l.write c.args.tree c.in_ok-propagate.field-0 (c.deref.ensures ∙ c.write_tree.ensures)
     c.in_ok-propagate.ensures two in
     let stable : new.stable ≡ l.stable = c.in_ok-stable.ensures.cases ∙ c.stable.ensures in
-    let read : new.read ≡ l.read = c.in_ok-read.ensures.cases ∙ c.read_tree.ensures in
+    let read : new.read ≡ l.read = c.in_ok-read.ensures.cases ∙ c.read.ensures in
     let stacked : new ≡ record l { write = new.write } = λ j. record { stable = stable j; read = read j; write = new.write } in
     record {
       tree_is = w.tree_is;

@@ -16,8 +16,8 @@ pub propagate-requires : goal.propagate-requires
 propagate-requires c =
     let i = c.self.inside in
     let h = holds c.self.view_is c.self.invariant.0 in
-    let read = c.deref.ensures ∙ c.read_tree.ensures in
-    let write = c.deref-2.ensures ∙ c.write_tree.ensures in
+    let read = c.read_tree.ensures in
+    let write = c.deref.ensures ∙ c.write_tree.ensures in
     subst (λ (e : Tree × Tree). AreConsecutive e.0 e.1) (sym (λ j. (read j, write j)))
     (stacked_trees c.args.self.now i.newest.layers i.newest i.kept.items h)
 
@@ -35,10 +35,11 @@ made c =
     let two = stacked_trees m l i.newest i.kept.items h in
     let read : new.read ≡ composed_tree l.read l.write two =
     c.in_ok-read.ensures.ok
-    ∙ merged_in c.deref.result.now c.deref-2.result.now l.read l.write c.in_ok-propagate.field-0
-    (c.deref.ensures ∙ c.read_tree.ensures) (c.deref-2.ensures ∙ c.write_tree.ensures) c.in_ok-propagate.ensures two in
+    ∙ c.new.ensures
+    ∙ merged_in c.read_tree.result.now c.deref.result.now l.read l.write c.in_ok-tree.tree c.read_tree.ensures
+    (c.deref.ensures ∙ c.write_tree.ensures) c.in_ok-tree.ensures two in
     let key_cols : c.key_cols.result ≡ l.stable.schema.key_cols =
-    c.key_cols.ensures ∙ ap (λ (t : Tree). t.key_cols) (c.deref-3.ensures ∙ c.write_tree-2.ensures) ∙ h.folded.lower.middle.key_cols in
+    c.key_cols.ensures ∙ ap (λ (t : Tree). t.key_cols) (c.deref-2.ensures ∙ c.write_tree-2.ensures) ∙ h.folded.lower.middle.key_cols in
     let write : new.write ≡ empty_tree l.stable.schema.key_cols =
     c.in_ok-write.ensures.ok ∙ c.new-none.ensures ∙ ap empty_tree key_cols in
     let stable : new.stable ≡ l.stable = c.in_ok-stable.ensures.cases ∙ c.stable.ensures in

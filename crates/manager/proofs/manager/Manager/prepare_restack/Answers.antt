@@ -28,7 +28,7 @@ made c =
     let key_cols : c.key_cols.result ≡ l.stable.schema.key_cols =
     c.key_cols.ensures.count ∙ ap (λ (s : Columns). s.key_cols) c.schema.ensures.columns ∙ ap (λ (s : Stable). s.schema.key_cols) lent in
     let read : new.read ≡ empty_tree l.stable.schema.key_cols =
-    c.in_ok-read.ensures.ok ∙ c.new-none.ensures ∙ ap empty_tree key_cols in
+    c.in_ok-read.ensures.ok ∙ c.new.ensures ∙ c.new-none.ensures ∙ ap empty_tree key_cols in
     let stable : new.stable ≡ stable_below l = c.in_ok-stable.ensures.cases ∙ below in
     let write : new.write ≡ l.write = c.in_ok-write.ensures.cases ∙ c.write_tree.ensures in
     let stacked : new ≡ restacked l = λ j. record { stable = stable j; read = read j; write = write j } in

@@ -1,5 +1,4 @@
-use Rattle.std.proofs.Common.{◌∙◌, slice_get, sym, ap}
-use Rattle.merge.specs.Packed.{is_gone, sid_of}
+use Rattle.std.proofs.Common.{◌∙◌, sym}
 use Rattle.merge.proofs.CursorLemmas.{not_same, starts-none, starts-other, starts-same}
 use Rattle.merge.proofs.PackedStepLemmas.{packed_end, packed_next}
 use Rattle.merge.proofs.packed_rows.PackedRows.deletes_next.Goals as goal

@@ -1,10 +1,10 @@
-use Rattle.std.proofs.Common.{◌≡◌, ◌∙◌, ℕ, Option, Some, None, false, slice_get, take, length, sym, ap, subst}
+use Rattle.std.proofs.Common.{◌≡◌, ◌∙◌, ℕ, Option, Some, None, false, take, length, sym, ap, subst}
 use Rattle.std.specs.Prelude.{MatchOption}
 use Rattle.values.specs.declared.row.Row.{Row}
 use Rattle.model.specs.declared.entry.Change.TheVariants.{Ins}
 use Rattle.model.specs.Entries.{entry_at, is_insert}
 use Rattle.merge.specs.Filling.{InsertsNone}
-use Rattle.merge.specs.Packed.{row_in, rows_in, sid_of}
+use Rattle.merge.specs.Packed.{row_in, rows_in}
 use Rattle.merge.specs.PackedLeft.{IsInsertNext, cursor_of}
 use Rattle.merge.specs.declared.packed.PackedEntry.{PackedEntry}
 use Rattle.merge.specs.declared.packed_rows.PackedRows.{PackedRows}

@@ -1,5 +1,4 @@
-use Rattle.std.proofs.Common.{◌≡◌, ◌∙◌, ◌+◌, ◌-◌, Option, Some, None, refl, slice_get, sym, ap, subst, arith, length-drop}
-use Rattle.merge.specs.Packed.{is_patch, sid_of}
+use Rattle.std.proofs.Common.{◌≡◌, ◌∙◌, ◌+◌, ◌-◌, Option, Some, None, refl, sym, subst, arith, length-drop}
 use Rattle.merge.specs.Filling.{KeepsModified}
 use Rattle.merge.specs.PackedLeft.{cursor_of}
 use Rattle.merge.specs.declared.packed.PackedEntry.{PackedEntry}

@@ -1,31 +1,18 @@
-use Rattle.std.proofs.Common.{◌≡◌, ◌∙◌, ◌++◌, Bool, true, List, [], length, take, ap, sym, arith}
-use Rattle.std.specs.Prelude.{ℤ, cond}
-use Rattle.std.proofs.lemmas.List.{append-nil, length-map}
-use Rattle.values.specs.declared.value.Value.{Value}
+use Rattle.std.proofs.Common.{◌≡◌, ◌∙◌, Bool, true, [], length, take, drop, map, get_or, ap, sym, arith}
+use Rattle.std.specs.Prelude.{min, cond}
 use Rattle.model.specs.Table.{rows_of}
 use Rattle.txn.specs.Txn.{image_of}
 use Rattle.pdt_c.specs.Cells.{numbers_of}
 use Rattle.pdt_c.specs.Numbers.{has_numbers}
 use Rattle.pdt_c.specs.Reads.{column_from}
-use Rattle.pdt_c.proofs.NumberLemmas.{range_cut, numbers_cut}
+use Rattle.pdt_c.proofs.NumberLemmas.{numbers_filled}
 use Rattle.pdt_c.proofs.calls.ints.read_ints.Goals as goal
 
 pub returns-clause-numbers : goal.returns-clause-numbers
 returns-clause-numbers c =
     let txn = c.args.txn.now in
-    let col = c.args.col in
-    let from = c.args.from in
     let room = length c.args.out.now in
-    let to = c.min-to.result in
-    let rows = rows_of (image_of txn) in
-    let many = length-map (image_of txn) (λ e. e.1) in
-    let so_far : List ℤ = take c.loop-run.done c.loop-run.out in
-    let has : has_numbers txn col ≡ true = sym c.is_of_numbers.ensures ∙ c.if-not-is_of_numbers.false in
-    let cut = range_cut from room to rows
-    (λ le. omega (arith, le, many, c.len.ensures, c.len.type_inv, c.saturating_add.ensures, c.min-to.ensures))
-    (λ le. omega (arith, le, many, c.len.ensures, c.len.type_inv, c.saturating_add.ensures, c.min-to.ensures)) in
-    sym (append-nil so_far)
-    ∙ ap (λ (vs : List Value). so_far ++ numbers_of vs) (sym c.in-None.ensures.steps.0)
-    ∙ c.loop-run.invariant.3
-    ∙ numbers_cut col from room to rows cut
-    ∙ ap (λ (b : Bool). take room (cond b (numbers_of (column_from txn col from)) [])) (sym has)
+    let has : has_numbers txn c.args.col ≡ true = sym c.is_of_numbers.ensures ∙ c.if-not-is_of_numbers.false in
+    numbers_filled c.args.col room c.fill_numbers.result c.fill_numbers.new.out (drop c.args.from (rows_of (image_of txn)))
+    c.fill_numbers.ensures.count c.fill_numbers.ensures.values
+    ∙ ap (λ (b : Bool). take room (cond b (numbers_of (column_from txn c.args.col c.args.from)) [])) (sym has)

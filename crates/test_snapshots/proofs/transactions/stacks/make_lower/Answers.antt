@@ -24,8 +24,8 @@ stacked-requires c =
     ∙ version_of-alone c.in_ok-clone.field-0.value 0
     ∙ ap (λ (t : Stable). version_at t 0) c.in_ok-clone.ensures.cases in
     let read =
-    layer_of_version (table_version c.in_ok-opening.opening) (version_at s 0) c.in_ok-tree_over.field-0 l.read opened
-    (c.in_ok-clone-3.ensures.cases ∙ c.in_ok-read.ensures.ok) c.in_ok-tree_over.ensures in
+    layer_of_version (table_version c.in_ok-opening.opening) (version_at s 0) c.in_ok-tree.tree l.read opened
+    (c.in_ok-clone-3.ensures.cases ∙ c.in_ok-read.ensures.ok ∙ c.new-5.ensures) c.in_ok-tree.ensures in
     one_layer s l c.in_ok-clone-2.ensures.cases none read
 
 pub returns : goal.returns
@@ -44,12 +44,12 @@ returns c =
     ∙ version_of-alone c.in_ok-clone.field-0.value 0
     ∙ ap (λ (t : Stable). version_at t 0) c.in_ok-clone.ensures.cases in
     let read =
-    layer_of_version (table_version c.in_ok-opening.opening) (version_at s 0) c.in_ok-tree_over.field-0 l.read opened
-    (c.in_ok-clone-3.ensures.cases ∙ c.in_ok-read.ensures.ok) c.in_ok-tree_over.ensures in
+    layer_of_version (table_version c.in_ok-opening.opening) (version_at s 0) c.in_ok-tree.tree l.read opened
+    (c.in_ok-clone-3.ensures.cases ∙ c.in_ok-read.ensures.ok ∙ c.new-5.ensures) c.in_ok-tree.ensures in
     let write = c.in_ok-write.write.value in
     let over : IsLayer l.stable.schema (lower_table l) write =
-    layer_of_version (table_version c.in_ok-middle.middle) (version_of l 1) c.in_ok-tree_over-2.field-0 write
-    (ap table_version c.in_ok-middle.ensures) c.in_ok-write.ensures.ok c.in_ok-tree_over-2.ensures in
+    layer_of_version (table_version c.in_ok-middle.middle) (version_of l 1) c.in_ok-tree_over.field-0 write
+    (ap table_version c.in_ok-middle.ensures) c.in_ok-write.ensures.ok c.in_ok-tree_over.ensures in
     let over_stable = subst (λ (t : Stable). IsLayer t.schema (lower_table l) write) c.in_ok-clone-2.ensures.cases over in
     subst (λ (tree : Tree). AreLower (record { stable = s; read = tree; write = write })) c.in_ok-clone-3.ensures.cases
     (two_layers s l write c.in_ok-clone-2.ensures.cases none read over_stable)

@@ -12,14 +12,14 @@ pub committed-requires : goal.committed-requires
 committed-requires c =
     let inside = c.self.inside in
     subst (λ (e : Stable × (Tree × Tree)). AreBothStacked e.0 e.1.0 e.1.1)
-    (sym (λ i. (c.deref.ensures i, (c.deref-2.ensures i, c.deref-3.ensures i))))
+    (sym (λ i. (c.deref.ensures i, ((c.tree.ensures ∙ c.deref-2.ensures) i, c.deref-3.ensures i))))
     (record { lower = c.self.invariant.lower; middle = c.self.invariant.middle })
 
 pub returns-clause-rows : goal.returns-clause-rows
 returns-clause-rows c =
     let l = c.args.self.now in
     let same =
-    (λ i. stack_below (c.deref.ensures i) (c.deref-2.ensures i) (c.deref-3.ensures i))
+    (λ i. stack_below (c.deref.ensures i) ((c.tree.ensures ∙ c.deref-2.ensures) i) (c.deref-3.ensures i))
     ∙ ap (λ (m : Lower). stack_below m.stable m.read m.write) c.self.view_is in
     ap image_rows (c.committed.ensures ∙ same)
     ∙ merged_rows-nothing (lower_rows l)
@@ -29,12 +29,12 @@ pub returns-clause-table : goal.returns-clause-table
 returns-clause-table c =
     let l = c.args.self.now in
     let same =
-    (λ i. stack_below (c.deref.ensures i) (c.deref-2.ensures i) (c.deref-3.ensures i))
+    (λ i. stack_below (c.deref.ensures i) ((c.tree.ensures ∙ c.deref-2.ensures) i) (c.deref-3.ensures i))
     ∙ ap (λ (m : Lower). stack_below m.stable m.read m.write) c.self.view_is in
     ap image_table (c.committed.ensures ∙ same) ∙ image_table-below l
 
 pub returns-clause-layers : goal.returns-clause-layers
 returns-clause-layers c =
     c.committed.ensures
-    ∙ (λ i. stack_below (c.deref.ensures i) (c.deref-2.ensures i) (c.deref-3.ensures i))
+    ∙ (λ i. stack_below (c.deref.ensures i) ((c.tree.ensures ∙ c.deref-2.ensures) i) (c.deref-3.ensures i))
     ∙ ap (λ (m : Lower). stack_below m.stable m.read m.write) c.self.view_is

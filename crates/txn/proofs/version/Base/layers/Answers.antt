@@ -1,4 +1,4 @@
-use Rattle.std.proofs.Common.{sym, subst}
+use Rattle.std.proofs.Common.{◌∙◌, sym, subst}
 use Rattle.stable.specs.Stable.{Stable}
 use Rattle.delta.specs.Tree.{Tree}
 use Rattle.merge.specs.Image.{IsLayer, AreStacked}
@@ -13,5 +13,5 @@ new-requires c =
     let over : IsLayer l.stable.schema (lower_table l) c.args.trans.now =
     subst (λ (m : Lower). IsLayer m.stable.schema (lower_table m) c.args.trans.now) (sym c.self.view_is) c.requires in
     subst (λ (e : Stable × (Tree × Tree)). AreStacked e.0 e.1.0 e.1.1 c.args.trans.now)
-    (sym (λ i. (c.deref.ensures i, (c.deref-2.ensures i, c.deref-3.ensures i))))
+    (sym (λ i. (c.deref.ensures i, ((c.tree.ensures ∙ c.deref-2.ensures) i, c.deref-3.ensures i))))
     (stacked l c.self.invariant c.args.trans.now over)

@@ -1,0 +1,40 @@
+use Rattle.std.proofs.Common.{◌≡◌, ◌∙◌, List, length, min, take, drop, ap, sym, subst}
+use Rattle.values.specs.declared.row.Row.{Row}
+use Rattle.model.specs.Table.{rows_of}
+use Rattle.model.specs.Merging.{merged_rows}
+use Rattle.delta.specs.Tree.{Tree}
+use Rattle.stable.specs.Rows.{column_values}
+use Rattle.merge.specs.Image.{IsLayer, image_rows}
+use Rattle.txn.specs.Txn.{Transaction, transaction_at, image_of}
+use Rattle.txn.specs.Version.{table_version}
+use Rattle.txn.proofs.ReadsLemmas.{is_layer, image_rows_is}
+use Rattle.txn.proofs.transaction.Txn.fill_numbers.Goals.{After-fill_numbers}
+use Rattle.txn.proofs.transaction.Txn.fill_numbers.Goals as goal
+
+pub layers-layers-requires : goal.layers-layers-requires
+layers-layers-requires c =
+    let inside = c.self.inside in
+    let txn : Transaction = transaction_at (table_version inside.version) inside.row_limit inside.client inside.writes.items in
+    subst (λ (tree : Tree). IsLayer txn.schema txn.table tree) (sym c.self.invariant.1) (is_layer txn c.self.invariant.0)
+
+-- the rows of the layers
+shown : (c : After-fill_numbers) → image_rows c.layers-layers.result ≡ rows_of (image_of c.args.self.now)
+shown c =
+    let inside = c.self.inside in
+    let txn : Transaction = transaction_at (table_version inside.version) inside.row_limit inside.client inside.writes.items in
+    c.layers-layers.ensures.rows
+    ∙ ap (λ (tree : Tree). merged_rows (rows_of txn.table) tree.entries) c.self.invariant.1
+    ∙ image_rows_is txn c.self.invariant.0
+    ∙ ap (λ (t : Transaction). rows_of (image_of t)) c.self.view_is
+
+pub returns-clause-count : goal.returns-clause-count
+returns-clause-count c =
+    c.fill_numbers.ensures.count
+    ∙ ap (λ (rows : List Row). min (length c.args.out.now) (length (drop c.args.from rows)))
+    (shown (goal.at.returns-clause-count c).After-fill_numbers)
+
+pub returns-clause-values : goal.returns-clause-values
+returns-clause-values c =
+    c.fill_numbers.ensures.values
+    ∙ ap (λ (rows : List Row). column_values c.args.col (take c.fill_numbers.result (drop c.args.from rows)))
+    (shown (goal.at.returns-clause-values c).After-fill_numbers)
