@@ -229,3 +229,15 @@ pub(crate) fn stored_bytes(read: &io::Result<Vec<u8>>) -> Result<&[u8], Refusal>
         Err(FileFault::NoMemory) => Err(Refusal::Store(StoreFault::NoMemory)),
     }
 }
+
+/// The bytes of files that were read, or the refusal of the first that wasn't.
+pub(crate) fn bytes_of_all(
+    alloc: Global,
+    files: &[io::Result<Vec<u8>>],
+) -> Result<Vec<&[u8]>, Refusal> {
+    let mut all = Vec::new(alloc);
+    for file in files {
+        all.push(stored_bytes(file)?)?;
+    }
+    Ok(all)
+}

@@ -1,17 +1,19 @@
-//! The program: takes the words, reads the files, makes the devices of a store, prints what a run or a store leaves, and
-//! ends with its status.
+//! The program: takes the words, reads the files, makes the devices of a store, prints what a run, a store or a database leaves,
+//! and ends with its status.
 #![tactic(auto)]
 
 ghost use Rattle.std.specs.Prelude.{◌≡◌, IfOk};
 ghost use Rattle.std.specs.Box.{box_value};
 
+mod database;
 mod files;
 mod journals;
 mod streams;
 
+use crate::database::{lent_files, manifest_path, names_in, read_files};
 use crate::files::{
-    StoreFiles, StorePaths, bytes_of, column_path, header_path, images_path, is_missing,
-    journal_path, make_store, remove_store, store_paths, stored_bytes,
+    StoreFiles, StorePaths, bytes_of, bytes_of_all, column_path, header_path, images_path,
+    is_missing, journal_path, make_store, remove_store, store_paths, stored_bytes,
 };
 use crate::journals::Journaling;
 use crate::streams::hold_streams;
@@ -26,6 +28,7 @@ use std::process::ExitCode;
 use std::sync::{Arc, OnceLock, Wait};
 use std::thread::Threads;
 use std::{env, fs, io, mem};
+use tables::{TableBytes, recover_table, wanted_files};
 use values::{NoMemory, Schema};
 
 /// The status of a command line that asks for nothing.
@@ -180,7 +183,7 @@ fn done<T: Threads + Wait + Sync>(
             };
             run(rt, turns, Inputs { table, script }, place, options)
         }
-        Settings::Recover { dir } => recover_folder(rt, dir),
+        Settings::Recover { dir, table } => recover_folder(rt, dir, table),
     }
 }
 
@@ -373,18 +376,40 @@ fn column_files(
     Ok(files)
 }
 
-/// The bytes of files that were read, or the refusal of the first that wasn't.
-fn bytes_of_all(alloc: Global, files: &[io::Result<Vec<u8>>]) -> Result<Vec<&[u8]>, Refusal> {
-    let mut all = Vec::new(alloc);
-    for file in files {
-        all.push(stored_bytes(file)?)?;
+/// Prints the table that a folder has: that of the name, where it has a database, or else its store's.
+#[inline(never)]
+fn recover_folder(rt: &HostRuntime, dir: &str, name: Option<&str>) -> Result<u8, Refusal> {
+    let manifest = fs::read(rt, manifest_path(rt.alloc(), dir)?.as_str());
+    match name {
+        Some(_) if is_missing(&manifest) => Err(Refusal::NoDatabase),
+        None if is_missing(&manifest) => recover_store(rt, dir),
+        _ => recover_database(rt, dir, stored_bytes(&manifest)?, name),
     }
-    Ok(all)
+}
+
+/// Prints a table of the database in a folder, whose manifest has this text: its image, with the commits of the journal since then.
+fn recover_database(
+    rt: &HostRuntime,
+    dir: &str,
+    text: &[u8],
+    name: Option<&str>,
+) -> Result<u8, Refusal> {
+    let alloc = rt.alloc();
+    let names = names_in(rt, dir)?;
+    let listed = lent(alloc, names.as_slice())?;
+    let wanted = wanted_files(alloc, text, name, listed.as_slice())?;
+    let read = read_files(rt, dir, &wanted)?;
+    let files = lent_files(alloc, &read)?;
+    let bytes = TableBytes {
+        header: files.header,
+        columns: files.columns.as_slice(),
+        journal: files.journal.as_slice(),
+    };
+    recover_table(alloc, text, name, bytes, &mut io::writer(rt))
 }
 
 /// Prints the image that the store in a folder has, with the commits of its journal, where it has one.
-#[inline(never)]
-fn recover_folder(rt: &HostRuntime, dir: &str) -> Result<u8, Refusal> {
+fn recover_store(rt: &HostRuntime, dir: &str) -> Result<u8, Refusal> {
     let alloc = rt.alloc();
     let header = fs::read(rt, header_path(alloc, dir)?.as_str());
     let schema = read_header(alloc, bytes_of(&header))?;

@@ -1,5 +1,6 @@
 -- The lines that the program writes of a refusal.
 use Rattle.std.specs.Prelude.{ℕ, List, Bool, true, false, ◌++◌, Option, Some, None, codes}
+use Rattle.std.specs.Fmt.{decimal}
 use Rattle.pdtcli.specs.declared.output.ShowFault.{ShowFault}
 use Rattle.pdtcli.specs.declared.output.ShowFault.TheVariants as show_fault
 use Rattle.pdtcli.specs.declared.refusal.Refusal.{Refusal}
@@ -28,6 +29,14 @@ part_text (refusal.JournalHeader fault) = codes "store"
 part_text refusal.OtherStore = codes "store"
 part_text (refusal.Images fault) = codes "store"
 part_text (refusal.Commits fault) = codes "store"
+part_text refusal.NoDatabase = codes "store"
+part_text refusal.DamagedManifest = codes "store"
+part_text refusal.NoTable = codes "store"
+part_text refusal.NotNamed = codes "store"
+part_text (refusal.MissingJournal file) = codes "store"
+part_text refusal.BadManifest = codes "store"
+part_text refusal.DamagedHeader = codes "store"
+part_text (refusal.DamagedColumn col) = codes "store"
 part_text refusal.JournalFailed = codes "store"
 part_text (refusal.Run fault) = codes "run"
 part_text (refusal.Threads fault) = codes "run"
@@ -52,6 +61,14 @@ fault_text (refusal.JournalHeader fault) = None
 fault_text refusal.OtherStore = Some (codes "OtherStore")
 fault_text (refusal.Images fault) = None
 fault_text (refusal.Commits fault) = None
+fault_text refusal.NoDatabase = Some (codes "NoDatabase")
+fault_text refusal.DamagedManifest = Some (codes "DamagedManifest")
+fault_text refusal.NoTable = Some (codes "NoTable")
+fault_text refusal.NotNamed = Some (codes "NotNamed")
+fault_text (refusal.MissingJournal file) = Some (codes "MissingJournal " ++ decimal file)
+fault_text refusal.BadManifest = Some (codes "BadManifest")
+fault_text refusal.DamagedHeader = Some (codes "DamagedHeader")
+fault_text (refusal.DamagedColumn col) = Some (codes "DamagedColumn " ++ decimal col)
 fault_text refusal.JournalFailed = Some (codes "JournalFailed")
 fault_text (refusal.Run fault) = Some (codes "NoMemory")
 fault_text (refusal.Threads fault) = None

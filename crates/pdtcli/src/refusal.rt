@@ -18,7 +18,7 @@ use std::error::Error;
 use std::fmt;
 use values::NoMemory;
 
-/// The first part that was refused, in the order of the variants.
+/// The first part that was refused, in the order of the variants; of a database, in the order of the call that says them.
 #[derive(Clone, Copy, Debug, PartialEq, Eq)]
 pub enum Refusal {
     /// The table's file can't be read.
@@ -55,6 +55,22 @@ pub enum Refusal {
     Images(ImagesFault),
     /// The commits of the journal aren't made again over the image.
     Commits(RecoverFault),
+    /// A table is named, and the folder has no database.
+    NoDatabase,
+    /// The manifest of the database is the spelling of none.
+    DamagedManifest,
+    /// No table of the database has the name.
+    NoTable,
+    /// No table is named, and the database hasn't one alone.
+    NotNamed,
+    /// This file of the database's journal isn't there.
+    MissingJournal(u64),
+    /// The manifest's salt makes no seed, or no journal begins after its commit.
+    BadManifest,
+    /// The header of the table's image hasn't its mark.
+    DamagedHeader,
+    /// This column of the table's image hasn't its mark.
+    DamagedColumn(usize),
     /// A device of the journal failed before the first call.
     JournalFailed,
     /// The run had no place for its replies.
@@ -86,6 +102,14 @@ impl Refusal {
             | Refusal::OtherStore
             | Refusal::Images(_)
             | Refusal::Commits(_)
+            | Refusal::NoDatabase
+            | Refusal::DamagedManifest
+            | Refusal::NoTable
+            | Refusal::NotNamed
+            | Refusal::MissingJournal(_)
+            | Refusal::BadManifest
+            | Refusal::DamagedHeader
+            | Refusal::DamagedColumn(_)
             | Refusal::JournalFailed => "store",
             Refusal::Run(_) | Refusal::Threads(_) => "run",
             Refusal::Output(_) => "output",
@@ -116,6 +140,14 @@ impl fmt::Display for Refusal {
             Refusal::OtherStore => write!(f, "pdt: {part}: OtherStore"),
             Refusal::Images(fault) => write!(f, "pdt: {part}: Images {fault}"),
             Refusal::Commits(fault) => write!(f, "pdt: {part}: {fault}"),
+            Refusal::NoDatabase => write!(f, "pdt: {part}: NoDatabase"),
+            Refusal::DamagedManifest => write!(f, "pdt: {part}: DamagedManifest"),
+            Refusal::NoTable => write!(f, "pdt: {part}: NoTable"),
+            Refusal::NotNamed => write!(f, "pdt: {part}: NotNamed"),
+            Refusal::MissingJournal(file) => write!(f, "pdt: {part}: MissingJournal {file}"),
+            Refusal::BadManifest => write!(f, "pdt: {part}: BadManifest"),
+            Refusal::DamagedHeader => write!(f, "pdt: {part}: DamagedHeader"),
+            Refusal::DamagedColumn(col) => write!(f, "pdt: {part}: DamagedColumn {col}"),
             Refusal::JournalFailed => write!(f, "pdt: {part}: JournalFailed"),
             Refusal::Run(NoMemory) => write!(f, "pdt: {part}: NoMemory"),
             Refusal::Threads(fault) => write!(f, "pdt: {part}: {fault}"),

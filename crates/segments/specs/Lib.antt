@@ -1,3 +1,4 @@
+pub mod Listing
 pub mod Marks
 pub mod Naming
 pub mod Pieces

@@ -1,4 +1,4 @@
-//! Why files aren't those of a database, and why no table is meant.
+//! Why files aren't those of a database, which of them isn't there, and why no table is meant.
 ghost use Rattle.std.specs.Prelude.{◌≡◌};
 ghost use Rattle.segments.specs.declared.fault.JoinFault.TheVariants as join_fault;
 
@@ -14,6 +14,13 @@ pub enum JoinFault {
     BadManifest,
     /// A growth was refused.
     NoMemory,
+}
+
+/// A file of a journal that isn't there.
+#[derive(Clone, Copy, Debug, PartialEq, Eq)]
+pub struct MissingFile {
+    /// Its number.
+    pub number: u64,
 }
 
 /// Why no table is meant.

@@ -1,18 +1,21 @@
-//! The files of a database, before any of them is taken for what it says: which table is meant, whether a file of an
-//! image is the one that the manifest means, and the journal's files as the one journal that they are.
+//! The files of a database, before any of them is taken for what it says: which table is meant, whether a file of an image is the one
+//! that the manifest means, which files the journal has, and these as the one journal that they are.
 //!
 //! *What a contract sees.* A piece is the frames of a file, with the base that its header says. A journal in files is its pieces, the
 //! base of the first and the frames of all, behind one another.
 //!
-//! *What it stands on.* `manifest` for what a database has, `journal` for headers and checks, and `values` for want of memory.
+//! *What it stands on.* `manifest` for what a database has, `journal` for headers and checks, `itoa` for the spelling of numbers, and
+//! `values` for want of memory.
 #![tactic(auto)]
 
 mod fault;
+mod listing;
 mod marks;
 mod naming;
 mod pieces;
 
-pub use fault::{JoinFault, NameFault};
+pub use fault::{JoinFault, MissingFile, NameFault};
+pub use listing::last_file;
 pub use marks::{first_damaged, has_mark};
 pub use naming::table_named;
 pub use pieces::{Joined, Piece, are_behind, join_files, last_len};

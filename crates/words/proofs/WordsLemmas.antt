@@ -1,5 +1,5 @@
 -- The words of a command line.
-use Rattle.std.proofs.Common.{◌≡◌, ◌∙◌, true, Option, Some, None, Result, Ok, Err, codes, refl, sym}
+use Rattle.std.proofs.Common.{◌≡◌, true, Option, Some, None, Result, Ok, Err, codes, refl}
 use Rattle.std.specs.Option.{IfSome}
 use Rattle.std.specs.Result.{IsErrAnd, IfErr, IfOk}
 use Rattle.std.specs.Prelude.{Box}
@@ -27,7 +27,7 @@ usage-free = refl
 -- the same command, with the same words for each argument
 pub AreOf-same : (a b : Option Text) (f g : Text → Option Text) → a ≡ b → ((id : Text) → f id ≡ g id) → (settings : Settings)
     → AreOf a f settings → AreOf b g settings
-AreOf-same a b f g command same (Recover dir) h = (sym command ∙ h.0, sym (same (codes "dir")) ∙ h.1)
+AreOf-same a b f g command same (Recover dir table) h = rw (← command, ← same (codes "dir"), ← same (codes "table")) h
 AreOf-same a b f g command same (Run table script threads store journal recent limit conflicts) h =
     rw (← command, ← same (codes "table"), ← same (codes "script"), ← same (codes "threads"), ← same (codes "store"), ← same (codes "journal"), ← same (codes "recent"), ← same (codes "limit"), ← same (codes "conflicts")) h
 

@@ -14,7 +14,8 @@ use Rattle.words.specs.declared.settings.TheConstants.{RECENT_COMMITS}
 use Rattle.words.specs.declared.settings.Settings.{Settings}
 use Rattle.words.specs.declared.settings.Settings.TheVariants.{Run, Recover}
 
--- ---- the usage: `pdt run TABLE SCRIPT [--threads] [--store DIR] [--journal] [--recent N] [--limit N] [--conflicts column|row]`, `pdt recover DIR`
+-- ---- the usage: `pdt run TABLE SCRIPT [--threads] [--store DIR] [--journal] [--recent N] [--limit N] [--conflicts column|row]`,
+-- `pdt recover DIR [--table NAME]`
 
 -- a word that has to be there, by its place
 abbrev pub placed_rule : Text → Rule
@@ -50,9 +51,9 @@ run_usage =
     let counted = with_rule (with_rule logged (number_rule (codes "recent") MAX_RECENT_COMMITS)) (number_rule (codes "limit") MAX_ROWS) in
     with_rule counted (option_rule (codes "conflicts"))
 
--- `recover`, whose word is the store's folder
+-- `recover`, whose word is the folder of a store or a database
 abbrev pub recover_usage : App
-recover_usage = with_rule (new_app (codes "recover")) (folder_rule (codes "dir"))
+recover_usage = with_rule (with_rule (new_app (codes "recover")) (folder_rule (codes "dir"))) (option_rule (codes "table"))
 
 -- the program, of which one of the two commands is asked for
 abbrev pub usage : App
@@ -97,7 +98,9 @@ IsRuleOf (Some word) ByRow = word ≡ codes "row"
 
 -- the settings are of the command, and of the words for each of its arguments
 abbrev pub AreOf : Option Text → (Text → Option Text) → Settings → Type 0
-AreOf command word_of (Recover dir) = (command ≡ Some (codes "recover")) × (word_of (codes "dir") ≡ Some dir.now)
+AreOf command word_of (Recover dir table) =
+    (command ≡ Some (codes "recover"))
+    × (word_of (codes "dir") ≡ Some dir.now) × (word_of (codes "table") ≡ option_map (λ w. w.now) table)
 AreOf command word_of (Run table script threads store journal recent limit conflicts) =
     (command ≡ Some (codes "run"))
     × (word_of (codes "table") ≡ Some table.now) × (word_of (codes "script") ≡ Some script.now)
@@ -116,7 +119,7 @@ HasPlace journal stored threads = journal ≡ true → (stored ≡ true) × (thr
 
 -- the numbers are within their limits, a folder has a name, and a journal has a place
 abbrev pub IsWithinLimits : Settings → Type 0
-IsWithinLimits (Recover dir) = NamesFolder dir.now
+IsWithinLimits (Recover dir table) = NamesFolder dir.now
 IsWithinLimits (Run table script threads store journal recent limit conflicts) =
     (1 ≤ recent) × (recent ≤ MAX_RECENT_COMMITS) × (1 ≤ limit) × (limit ≤ MAX_ROWS) × IfSome store (λ dir. NamesFolder dir.now)
     × HasPlace journal (is_some store) threads

@@ -38,10 +38,12 @@ pub enum Settings<'a> {
         /// Which modifies of one row conflict; those of one column where nothing is said.
         conflicts: ConflictRule,
     },
-    /// Prints the table that a store has.
+    /// Prints the table that a store has, or one of a database.
     Recover {
-        /// The folder of the store, by a name that isn't empty.
+        /// The folder of the store or database, by a name that isn't empty.
         dir: &'a str,
+        /// The table's name in a database; none where nothing is said.
+        table: Option<&'a str>,
     },
 }
 
@@ -51,7 +53,7 @@ pub enum Settings<'a> {
 ///
 /// `clap`'s error, with its text, where the words are not of the usage
 /// `pdt run TABLE SCRIPT [--threads] [--store DIR] [--journal] [--recent N] [--limit N] [--conflicts column|row]` or
-/// `pdt recover DIR`, where a DIR is empty, where an N is out of its range, where a journal is asked for without a store or with
+/// `pdt recover DIR [--table NAME]`, where a DIR is empty, where an N is out of its range, where a journal is asked for without a store or with
 /// threads, where help is asked for, and where a growth is refused.
 pub fn read_words<'a>(alloc: Global, words: &'a [&'a str]) -> Result<Settings<'a>, Error>
     ensures said { IfOk result (AreOf (command_for (map (λ word. word.now) words.now)) (word_for (map (λ word. word.now) words.now))) }
@@ -135,7 +137,8 @@ fn recover_settings<'a>(recover: &ArgMatches<'a>) -> Option<Settings<'a>>
         → IsWithinLimits settings → ⊥ }
 {
     let dir = named(recover.get_str("dir")?)?;
-    Some(Settings::Recover { dir })
+    let table = recover.get_str("table");
+    Some(Settings::Recover { dir, table })
 }
 
 /// The folder that a word names; none where it is empty.

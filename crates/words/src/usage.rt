@@ -28,9 +28,11 @@ const STORE_HELP: &str =
 const JOURNAL_HELP: &str =
     "Keeps a journal in the store: a commit is on the disk before its reply is printed";
 
-const RECOVER_ABOUT: &str = "Prints the table that a store has";
+const RECOVER_ABOUT: &str = "Prints the table that a store has, or one of a database";
 
-const DIR_HELP: &str = "The folder of the store";
+const DIR_HELP: &str = "The folder of the store or the database";
+
+const NAME_HELP: &str = "Which table of a database; it may be left out where there is one alone";
 
 const RECENT_HELP: &str =
     "How many commits may come between a transaction's begin and its commit, 1 to 65536";
@@ -67,13 +69,14 @@ fn run_command<'a>(alloc: Global) -> Result<Command<'a>, AllocError>
         .arg(option(alloc, "conflicts", "RULE", CONFLICTS_HELP))
 }
 
-/// The command that prints the table of a store.
+/// The command that prints the table of a store, or one of a database.
 fn recover_command<'a>(alloc: Global) -> Result<Command<'a>, AllocError>
     ensures { IfOk result (IsCommandOf recover_usage) }
 {
     Command::new(alloc, "recover")
         .about(RECOVER_ABOUT)
-        .arg(folder(alloc, "dir", "DIR", DIR_HELP))
+        .arg(folder(alloc, "dir", "DIR", DIR_HELP))?
+        .arg(option(alloc, "table", "NAME", NAME_HELP))
 }
 
 /// A word that has to be there, by its place.
