@@ -21,8 +21,10 @@ pdt_code pdt_checkpoint_begin(pdt_store *store, uint64_t *commits, pdt_snapshot 
   replaced before = {{{NULL}}};
   int code = pdti_enter(store);
   if (!code) {
+    uint64_t entries = pdtr_write_entries(&store->raw);
     code = (int)pdtr_checkpoint_begin(&store->raw, &snapshot->version);
     if (!code) {
+      store->unpacked += entries;
       store->snapshots++;
       snapshot->rebuilt = ++store->rebuilt;
       snapshot->commits = store->newest;
@@ -77,6 +79,7 @@ pdt_code pdt_checkpoint_install(pdt_snapshot *snapshot) {
   replaced before = {{{NULL}}};
   if (!code) {
     store->rebuilt++;
+    store->unpacked = 0; /* the Read-PDT has no entries then */
     store->done.checkpoints++;
     before = pdti_refresh(store);
   }

@@ -205,6 +205,23 @@ void pdti_remove_run(pdt_database *database);
 /* Writes the first image of a table. With files_lock held, or where nobody else has the database yet. */
 int pdti_write_first(pdt_database *database, pdti_table *entry);
 
+/* Whether a table may be made under a name, and where it is handed out; *store is null then. */
+int pdti_may_create(pdt_database *database, const char *name, pdt_store **store);
+
+/* Makes a table of a store that was opened for it, and hands it out; else the store is freed. */
+int pdti_create_table(pdt_database *database, const char *name, const pdt_options *options, pdt_store *store, pdt_store **out);
+
+/* ---- declared.c: what the numbers of a table's columns are declared as, in a file of its own */
+
+/* Writes it for a table that is made, before its image, with whose name its own is safe. With files_lock held. */
+int pdti_write_types(pdt_database *database, const pdti_table *entry);
+
+/* Reads it, if it is there; its name goes into file, which has room for FILE_NAME bytes. PDT_ROT. */
+int pdti_read_types(pdt_database *database, pdti_table *entry, char *file);
+
+/* Takes it away. */
+void pdti_remove_types(pdt_database *database, uint32_t table);
+
 /* ---- databases.c */
 
 /* Makes room for one table more, which a database that nobody else has yet may be given. */

@@ -76,6 +76,7 @@ extern uint64_t pdtr_commits(handle *);
 extern size_t pdtr_write_entries(handle *);
 extern size_t pdtr_read_entries(handle *);
 extern uint32_t pdtr_fold(handle *);
+extern uint32_t pdtr_repack(handle *, handle *);
 extern uint32_t pdtr_room(size_t, handle *);
 extern void pdtr_cut(handle *);
 extern void pdtr_cut_into(handle *, handle *);
@@ -126,6 +127,7 @@ extern uint32_t pdtr_restack(handle *, handle *);
 extern void pdtr_table_close(handle *);
 
 extern uint32_t pdtr_pin(handle *, handle *);
+extern uint32_t pdtr_pack(handle *);
 extern uint32_t pdtr_pin_again(handle *, handle *);
 extern uint64_t pdtr_pinned(handle *);
 extern void pdtr_unpin(handle *);
@@ -141,6 +143,8 @@ extern uint32_t pdtr_reopen(const uint8_t *, size_t, const slice *, size_t, size
 extern uint32_t pdtr_marked(const uint8_t *, size_t, const slice *, size_t, uint64_t, uint64_t, const uint8_t *, size_t, marked_image *);
 
 /* ---- the objects */
+
+enum { PDTI_FORMAT_BYTES = 64 };
 
 /* The locks of a store, which all tables of a database share. */
 typedef struct {
@@ -165,15 +169,17 @@ struct pdt_store {
   int types[PDT_MAX_COLUMNS];
   size_t name_bytes[PDT_MAX_COLUMNS]; /* a name may have a zero byte */
   char names[PDT_MAX_COLUMNS][PDT_MAX_NAME + 1];
+  char declared[PDT_MAX_COLUMNS][PDTI_FORMAT_BYTES]; /* what the numbers of an int column stand for, or nothing: a format of Arrow's */
 
   /* under the lock */
   size_t snapshots; /* how many checkpoints have begun and not ended */
-  uint64_t rebuilt; /* how often what stands below the Write-PDT was made anew */
+  uint64_t rebuilt;  /* how often what stands below the Write-PDT was made anew */
+  uint64_t unpacked; /* how many entries were folded into the Read-PDT since it was packed */
   uint64_t newest;  /* the number of the newest table: of a database's, the number that its last commit has there */
   uint64_t *made_by; /* of a database's: the numbers there of its last commits and of the table before them, each at its own number
                         modulo recent + 1 */
   struct {
-    uint64_t commits, conflicts, too_old, full, folds, checkpoints, superseded;
+    uint64_t commits, conflicts, too_old, full, folds, checkpoints, superseded, packs;
   } done;
 
   /* under fresh_lock */
@@ -294,6 +300,9 @@ extern int64_t pdti_no_numbers[1];
 
 static inline const uint8_t *bytes_at(const void *bytes, size_t len) { return len ? bytes : pdti_no_bytes; }
 static inline uint8_t *room_at(void *room, size_t len) { return len ? room : pdti_no_room; }
+
+/* Whether bytes are UTF-8: none is cut short, longer than it need be, a half of a pair, or above 10FFFF. */
+bool pdti_is_utf8(const uint8_t *at, size_t len);
 
 /* ---- opening */
 

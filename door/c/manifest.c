@@ -223,4 +223,15 @@ static void remove_unnamed(void *context, const char *name, uint64_t table, uint
   if (!is_named(database, table, folder)) pdti_remove_image(database, table, folder);
 }
 
-void pdti_remove_images(pdt_database *database) { (void)pdti_names(database->dir, "image-", remove_unnamed, database); }
+static void remove_types(void *context, const char *name, uint64_t table, uint64_t second) {
+  pdt_database *database = context;
+  (void)name, (void)second;
+  for (size_t i = 0; i < database->count; i++)
+    if (database->tables[i]->number == table) return;
+  pdti_remove_types(database, (uint32_t)table);
+}
+
+void pdti_remove_images(pdt_database *database) {
+  (void)pdti_names(database->dir, "image-", remove_unnamed, database);
+  (void)pdti_names(database->dir, "types-", remove_types, database);
+}

@@ -68,7 +68,7 @@ typedef enum pdt_code {
   PDT_EXISTS = 16,        /* a file of a store is there already */
   PDT_SUPERSEDED = 17,    /* since the checkpoint began something else has folded or checkpointed */
   PDT_NOT_ASCENDING = 18, /* a row's key isn't above that of the row before it */
-  PDT_DEVICE_FAILED = 19, /* the caller's write didn't take the bytes */
+  PDT_DEVICE_FAILED = 19, /* the caller's write didn't take the bytes, or the caller's stream failed */
   PDT_LOCKED = 20,        /* another process, or this one, has the database open */
   PDT_ROT = 21,           /* what was safe is damaged: pdt_report says which file, or which commit */
   PDT_GAP = 22,           /* a commit, or a file of the database, is missing: pdt_report says which */
@@ -204,13 +204,17 @@ typedef struct pdt_counts {
   uint64_t kept_entries; /* and how many entries they have */
   uint64_t waits;        /* how often a thread found the store's lock taken */
   uint64_t longest_hold; /* the longest time that it was held, in nanoseconds */
+  uint64_t packs;        /* how often a fold packed the Read-PDT for scans */
 } pdt_counts;
 
 /* Counts. PDT_MISUSE. In the time that the kept commits take to be gone through; commits wait for it. */
 pdt_code pdt_count(pdt_store *store, pdt_counts *counts);
 
 /* Folds the Write-PDT into the Read-PDT: later commits are folded into a smaller tree. No table changes, and no open
-   transaction. PDT_NOMEM, PDT_MISUSE. Commits wait for it. */
+   transaction. PDT_NOMEM, PDT_MISUSE. Commits wait for it.
+   Then it packs a Read-PDT of 256 entries or more, where a sixteenth of them came since it was packed last: what begins from there on
+   reads numbers by pdt_ints several times as fast. No commit waits for that, and where malloc refuses the memory (24 bytes an entry,
+   and 8 for each column of a row that is inserted) nothing is packed. */
 pdt_code pdt_fold(pdt_store *store);
 
 /* Lets the changes of the last commits go, before there are pdt_options.recent of them. A transaction that began before the newest

@@ -176,6 +176,7 @@ static int open_tables(journal_read *read, uint64_t number, reopened *found, pdt
   for (size_t i = 0; i < database->count; i++) {
     pdti_table *entry = database->tables[i];
     int code = pdti_open_image(database, entry, base, &read->frames, found, report->file);
+    if (!code) code = pdti_read_types(database, entry, report->file);
     if (code) {
       report->fault = found->fault;
       return code;

@@ -3,29 +3,13 @@
 
 /* ---- names */
 
-/* Whether bytes are UTF-8: none is cut short, longer than it need be, a half of a pair, or above 10FFFF. */
-static bool is_utf8(const uint8_t *at, size_t len) {
-  for (const uint8_t *end = at + len; at < end;) {
-    uint32_t lead = *at++, more = lead < 0x80 ? 0 : lead < 0xc2 ? 4 : lead < 0xe0 ? 1 : lead < 0xf0 ? 2 : lead < 0xf5 ? 3 : 4;
-    if (more == 4 || (size_t)(end - at) < more) return false;
-    uint32_t point = more ? lead & (0x3f >> more) : lead;
-    for (uint32_t i = 0; i < more; i++, at++) {
-      if ((*at & 0xc0) != 0x80) return false;
-      point = point << 6 | (*at & 0x3f);
-    }
-    static const uint32_t least[] = {0, 0x80, 0x800, 0x10000};
-    if (point < least[more] || point > 0x10ffff || (point >= 0xd800 && point < 0xe000)) return false;
-  }
-  return true;
-}
-
 /* A name is text without what would end a line or a word of a shell's. */
 static bool is_name(const char *name) {
   size_t len = strnlen(name, PDT_MAX_NAME + 1);
   if (!len || len > PDT_MAX_NAME) return false;
   for (size_t i = 0; i < len; i++)
     if ((uint8_t)name[i] < 32 || name[i] == 127) return false;
-  return is_utf8((const uint8_t *)name, len);
+  return pdti_is_utf8((const uint8_t *)name, len);
 }
 
 static pdti_table *find(pdt_database *database, const char *name) {
@@ -94,7 +78,10 @@ int pdti_write_first(pdt_database *database, pdti_table *entry) {
 /* Writes the manifest without a table that couldn't be made, and that the one before may name. */
 static void without_table(pdt_database *database, uint64_t number, const pdti_table *entry) {
   int why = errno;
-  if (!pdti_write_manifest(database, number, NULL)) pdti_remove_image(database, entry->number, entry->image.folder);
+  if (!pdti_write_manifest(database, number, NULL)) {
+    pdti_remove_image(database, entry->number, entry->image.folder);
+    pdti_remove_types(database, entry->number);
+  }
   errno = why;
 }
 
@@ -106,8 +93,12 @@ static int add_table(pdt_database *database, pdti_table *entry) {
   int code = safe_number(database, &number);
   if (code) return code;
   entry->number = database->next_table++;
-  code = pdti_write_first(database, entry);
-  if (code) return code;
+  code = pdti_write_types(database, entry);
+  if (!code) code = pdti_write_first(database, entry);
+  if (code) {
+    pdti_remove_types(database, entry->number);
+    return code;
+  }
   entry->image.number = number;
   lock_tables(database);
   code = pdti_reserve_entry(database);
@@ -124,8 +115,7 @@ static int add_table(pdt_database *database, pdti_table *entry) {
   return PDT_OK;
 }
 
-/* Makes a table of a store that was opened for it, and hands it out. */
-static int create(pdt_database *database, const char *name, const pdt_options *options, pdt_store *store, pdt_store **out) {
+int pdti_create_table(pdt_database *database, const char *name, const pdt_options *options, pdt_store *store, pdt_store **out) {
   pdti_table *entry = calloc(1, sizeof *entry);
   int code = entry ? pdti_make_room_for_numbers(store) : PDT_NOMEM;
   if (!code) {
@@ -150,8 +140,7 @@ static int create(pdt_database *database, const char *name, const pdt_options *o
   return code;
 }
 
-/* Whether a table may be made; *store is null then. */
-static int may_create(pdt_database *database, const char *name, pdt_store **store) {
+int pdti_may_create(pdt_database *database, const char *name, pdt_store **store) {
   if (!store) return PDT_MISUSE;
   *store = NULL;
   if (!name || !pdti_is_ours(database) || pdti_has_prepared(database)) return PDT_MISUSE;
@@ -161,17 +150,17 @@ static int may_create(pdt_database *database, const char *name, pdt_store **stor
 pdt_code pdt_table_create(pdt_database *database, const char *name, const pdt_column *columns, size_t count, size_t key,
                           const pdt_options *options, pdt_place *place, pdt_store **out) {
   pdt_store *store = NULL;
-  int code = may_create(database, name, out);
+  int code = pdti_may_create(database, name, out);
   if (!code) code = pdt_open_columns(columns, count, key, options, place, &store);
-  return code ? code : create(database, name, options, store, out);
+  return code ? code : pdti_create_table(database, name, options, store, out);
 }
 
 pdt_code pdt_table_create_csv(pdt_database *database, const char *name, const void *csv, size_t bytes, const pdt_options *options,
                               pdt_fault *fault, pdt_store **out) {
   pdt_store *store = NULL;
-  int code = may_create(database, name, out);
+  int code = pdti_may_create(database, name, out);
   if (!code) code = pdt_open_csv(csv, bytes, options, fault, &store);
-  return code ? code : create(database, name, options, store, out);
+  return code ? code : pdti_create_table(database, name, options, store, out);
 }
 
 /* Takes an entry out of the list, where nothing has begun over it: no work begins meanwhile. */
@@ -212,6 +201,7 @@ static int drop(pdt_database *database, const char *name) {
     return code;
   }
   pdti_remove_image(database, entry->number, entry->image.folder);
+  pdti_remove_types(database, entry->number);
   pdti_free_entry(entry);
   return PDT_OK;
 }

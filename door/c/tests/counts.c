@@ -34,6 +34,7 @@ static void counted(const char *what, uint64_t longest) {
       {"pins", due.pins, found.pins},                {"the oldest pin", due.oldest_pin, found.oldest_pin},
       {"kept", due.kept, found.kept},                {"kept entries", due.kept_entries, found.kept_entries},
       {"waits", due.waits, found.waits},             {"size", sizeof found, found.size},
+      {"packs", due.packs, found.packs},
   };
   for (size_t i = 0; i < sizeof all / sizeof *all; i++)
     if (all[i].due != all[i].found) fprintf(stderr, "%s: ", what), is(all[i].name, (long long)all[i].due, (long long)all[i].found);

@@ -79,6 +79,7 @@ WITH_LOCK(uint64_t, pdtr_commits, (void *s), (s))
 WITH_LOCK(size_t, pdtr_write_entries, (void *s), (s))
 WITH_LOCK(size_t, pdtr_read_entries, (void *s), (s))
 WITH_LOCK(uint32_t, pdtr_fold, (void *s), (s))
+WITH_LOCK(uint32_t, pdtr_repack, (void *s, void *v), (s, v))
 WITH_LOCK(void, pdtr_cut, (void *s), (s))
 WITH_LOCK(void, pdtr_cut_into, (void *s, void *t), (s, t))
 WITH_LOCK(uint32_t, pdtr_share, (void *s, void *v), (s, v))
@@ -92,6 +93,7 @@ WITH_LOCK(uint32_t, pdtr_write_layer, (void *s, void *l), (s, l))
 WITH_LOCK(uint32_t, pdtr_changes, (void *s, uint64_t n, void *l), (s, n, l))
 WITH_LOCK(size_t, pdtr_kept, (void *s), (s))
 WITH_LOCK(size_t, pdtr_change_entries, (void *s, uint64_t n), (s, n))
+WITHOUT_LOCK(uint32_t, pdtr_pack, (void *v), (v))
 WITHOUT_LOCK(uint32_t, pdtr_room, (size_t n, void *t), (n, t))
 WITHOUT_LOCK(void, pdtr_trees_close, (void *t), (t))
 WITHOUT_LOCK(uint32_t, pdtr_snapshot_table, (void *v, void *t), (v, t))
@@ -473,6 +475,33 @@ static void cuts(void) {
   is("close", PDT_OK, pdt_close(store));
 }
 
+/* A fold packs the Read-PDT without the lock, and takes it once more to install what it packed. Where malloc refuses a version to
+   pack, nothing is packed, and begins share the folded version all the same. */
+static uint64_t packs_of(pdt_store *store) {
+  pdt_counts counts = {.size = sizeof counts};
+  is("count", PDT_OK, pdt_count(store, &counts));
+  return counts.packs;
+}
+static void packs(void) {
+  pdt_store *store = opened(0);
+  pdt_txn *txn = begun(store);
+  for (int64_t i = 0; i < 300; i++) is("insert", PDT_OK, pdt_insert(txn, (int64_t[]){100 + i, 3}, "Eve", 3));
+  is("commit", PDT_OK, pdt_commit(txn, NULL));
+  refused = 1;
+  TAKES(1, 0, pdt_fold(store));
+  is("it was refused", 0, refused);
+  is("nothing is packed", 0, (long long)packs_of(store));
+  TAKES(0, 0, pdt_begin(store, &txn));
+  name_is("after a fold that doesn't pack", "Bob", txn);
+  TAKES(2, 0, pdt_fold(store));
+  is("it packs", 1, (long long)packs_of(store));
+  TAKES(0, 0, pdt_begin(store, &txn));
+  name_is("after a fold that packs", "Bob", txn);
+  TAKES(1, 0, pdt_fold(store));
+  is("what is packed stays so", 1, (long long)packs_of(store));
+  is("close", PDT_OK, pdt_close(store));
+}
+
 int main(int argc, char **argv) {
   if (argc != 2) return fprintf(stderr, "locks FOLDER: one that is empty\n"), 2;
   store_calls(argv[1]);
@@ -484,6 +513,7 @@ int main(int argc, char **argv) {
   counted();
   unshared();
   cuts();
+  packs();
   is("locks that are held", 0, holds + shorts);
   return failures ? 1 : 0;
 }

@@ -181,6 +181,9 @@ static void side_by_side(void) {
   pthread_mutex_unlock(&s.lock);
   for (int i = 0; i < READERS + WRITERS; i++) pthread_join(threads[i], NULL);
   is("each commit counts once", s.commits, (long long)commits_of(s.store));
+  pdt_counts counts = {.size = sizeof counts};
+  is("count", PDT_OK, pdt_count(s.store, &counts));
+  is("folds packed under them", 1, counts.packs > 0);
   is("scans", 1, s.scans >= 10 * READERS);
   pdt_txn *txn = begun(s.store);
   is("the newest sum", sum_at((uint64_t)s.commits), sum_of(txn, false));

@@ -1,0 +1,124 @@
+/* What the numbers of int columns are declared as; of a table of a database in a file beside its image, types-TABLE:
+
+     COLUMN FORMAT              of each column that is declared, by its place
+     end CHECK                  of all bytes before this line
+
+   Who knows nothing of it opens the database without it: the table is the same. */
+#include "arrow.h"
+#include "database.h"
+
+#include <fcntl.h>
+#include <inttypes.h>
+#include <stdio.h>
+
+enum { NAME = 64, LINE = PDTI_FORMAT_BYTES + 16, END = 13, ALL_ONES = -1 };
+
+const char *pdt_declared(const pdt_store *store, size_t column) {
+  bool is_there = store && column < store->width && *store->declared[column];
+  return is_there ? store->declared[column] : NULL;
+}
+
+bool pdti_may_declare(const pdt_store *store, size_t column, const char *format) {
+  pdti_format as;
+  if (column >= store->width || store->types[column] != PDT_INT || strlen(format) >= PDTI_FORMAT_BYTES) return false;
+  return pdti_read_format(format + (*format == '?'), &as) && pdti_goes_out(PDT_INT, &as) && (*format != '?' || column >= store->key);
+}
+
+/* ---- files */
+
+static void name_types(char *name, uint32_t table) { snprintf(name, NAME, "types-%" PRIu32, table); }
+
+static uint32_t check_of(const char *bytes, size_t len) { return pdtr_check((uint32_t)ALL_ONES, (const uint8_t *)bytes, len); }
+
+/* The file's text, for which there is room for a line of each column and one more. */
+static size_t put_types(const pdt_store *store, char *text) {
+  size_t len = 0;
+  for (size_t column = 0; column < store->width; column++)
+    if (*store->declared[column]) len += (size_t)snprintf(text + len, LINE, "%zu %s\n", column, store->declared[column]);
+  return len + (size_t)snprintf(text + len, LINE, "end %08" PRIx32 "\n", check_of(text, len));
+}
+
+int pdti_write_types(pdt_database *database, const pdti_table *entry) {
+  char name[NAME], text[(PDT_MAX_COLUMNS + 1) * LINE];
+  name_types(name, entry->number);
+  size_t len = put_types(entry->store, text);
+  if (len == END) return PDT_OK; /* of a new table, of which no other stands there */
+  int file = pdti_open_in(database->dir, name, O_WRONLY | O_CREAT | O_TRUNC);
+  return file < 0 ? PDT_IO : pdti_close_synced(file, pdti_write_to(file, text, len));
+}
+
+/* Writes it anew for a table that is there: one or the other file stands there after a crash. */
+static int rewrite_types(pdt_database *database, const pdti_table *entry) {
+  char name[NAME], text[(PDT_MAX_COLUMNS + 1) * LINE];
+  name_types(name, entry->number);
+  size_t len = put_types(entry->store, text);
+  int file = pdti_open_in(database->dir, "types-new", O_WRONLY | O_CREAT | O_TRUNC);
+  int code = file < 0 ? PDT_IO : pdti_close_synced(file, pdti_write_to(file, text, len));
+  if (!code && renameat(database->dir, "types-new", database->dir, name)) code = PDT_IO;
+  return code ? code : pdti_sync_in(database->dir);
+}
+
+/* Takes a line of the text, and answers where the next one begins; null where it isn't as it is written. */
+static const char *take_line(pdt_store *store, const char *at) {
+  size_t column = 0;
+  int digits = 0;
+  for (; *at >= '0' && *at <= '9' && digits < 3; at++, digits++) column = 10 * column + (size_t)(*at - '0');
+  const char *end = strchr(at, '\n');
+  if (!digits || *at++ != ' ' || !end || end - at >= PDTI_FORMAT_BYTES || end <= at) return NULL;
+  char format[PDTI_FORMAT_BYTES];
+  memcpy(format, at, (size_t)(end - at));
+  format[end - at] = 0;
+  if (!pdti_may_declare(store, column, format)) return NULL;
+  strcpy(store->declared[column], format);
+  return end + 1;
+}
+
+static int take_types(pdt_store *store, buffer *bytes) {
+  if (bytes->len < END || pdti_reserve(bytes, 1)) return bytes->len < END ? PDT_ROT : PDT_NOMEM;
+  char *text = (char *)bytes->at, last[END + 1];
+  size_t len = bytes->len - END;
+  snprintf(last, sizeof last, "end %08" PRIx32 "\n", check_of(text, len));
+  if (memcmp(text + len, last, END) || memchr(text, 0, len)) return PDT_ROT;
+  text[len] = 0;
+  const char *at = text;
+  while (at && *at) at = take_line(store, at);
+  return at ? PDT_OK : PDT_ROT;
+}
+
+int pdti_read_types(pdt_database *database, pdti_table *entry, char *file) {
+  buffer bytes = {NULL, 0, 0};
+  name_types(file, entry->number);
+  int code = pdti_read_in(database->dir, file, &bytes);
+  code = code == PDT_MISSING ? PDT_OK : code ? code : take_types(entry->store, &bytes);
+  free(bytes.at);
+  return code;
+}
+
+void pdti_remove_types(pdt_database *database, uint32_t table) {
+  char name[NAME];
+  int why = errno;
+  name_types(name, table);
+  unlinkat(database->dir, name, 0);
+  errno = why;
+}
+
+/* ---- the call */
+
+static int declare_in(pdt_database *database, pdt_store *store) {
+  if (!pdti_is_ours(database) || pdti_has_prepared(database)) return PDT_MISUSE;
+  pthread_mutex_lock(&database->files_lock);
+  int code = rewrite_types(database, store->table);
+  pthread_mutex_unlock(&database->files_lock);
+  return code;
+}
+
+pdt_code pdt_declare(pdt_store *store, size_t column, const char *format) {
+  if (!store) return PDT_MISUSE;
+  if (format ? !pdti_may_declare(store, column, format) : column >= store->width) return PDT_SHAPE;
+  char before[PDTI_FORMAT_BYTES];
+  strcpy(before, store->declared[column]);
+  strcpy(store->declared[column], format ? format : "");
+  int code = store->database ? declare_in(store->database, store) : PDT_OK;
+  if (code) strcpy(store->declared[column], before);
+  return code;
+}

@@ -1,0 +1,216 @@
+/* A Read-PDT that a fold packs for scans: when it does, and that pdt_ints reads what it read before, beside rows that lie in an
+   array: over each stack of layers, at each length, in transactions of before the fold and after it. */
+#include <pdt.h>
+#include <stdio.h>
+#include <stdlib.h>
+#include <string.h>
+
+static int failures;
+static void is(const char *what, long long wanted, long long found) {
+  if (wanted == found) return;
+  failures++;
+  fprintf(stderr, "%s: wanted %lld, found %lld\n", what, wanted, found);
+}
+
+static uint64_t seed = 20261129;
+static uint64_t drawn(uint64_t below) {
+  seed = seed * 6364136223846793005u + 1442695040888963407u;
+  return (seed >> 33) % below;
+}
+
+/* ---- the rows of a table, in an array: a number as key, two more numbers, a text that nobody reads here and a truth */
+
+enum { MOST = 20000, KEY = 0, FIRST = 1, NAME = 2, SECOND = 3, TRUTH = 4 };
+typedef struct {
+  int64_t key, first, second;
+} row;
+typedef struct {
+  row rows[MOST];
+  size_t count;
+} table;
+
+/* How many rows have a smaller key. */
+static size_t rank_of(const table *of, int64_t key) {
+  size_t from = 0, to = of->count;
+  while (from < to) {
+    size_t middle = (from + to) / 2;
+    if (of->rows[middle].key < key) from = middle + 1;
+    else to = middle;
+  }
+  return from;
+}
+static int64_t number_of(const row *of, size_t column) {
+  return column == KEY ? of->key : column == FIRST ? of->first : of->second;
+}
+
+/* What a transaction reads of a column, from a position on into a room, beside the array. */
+static void reads(const char *what, pdt_txn *txn, const table *due, size_t column, uint64_t from, size_t room) {
+  static int64_t numbers[MOST + 1];
+  size_t count = room, wanted = from >= due->count ? 0 : due->count - from < room ? due->count - from : room;
+  numbers[room] = 77;
+  is(what, PDT_OK, pdt_ints(txn, column, from, numbers, &count));
+  is("how many", (long long)wanted, (long long)count);
+  is("nothing past the room", 77, numbers[room]);
+  for (size_t i = 0; i < wanted && i < count; i++)
+    if (numbers[i] != number_of(&due->rows[from + i], column)) {
+      fprintf(stderr, "%s, column %zu, position %llu: ", what, column, (unsigned long long)(from + i));
+      is("number", number_of(&due->rows[from + i], column), numbers[i]);
+      return;
+    }
+}
+static void reads_all(const char *what, pdt_txn *txn, const table *due) {
+  static const size_t columns[] = {KEY, FIRST, SECOND};
+  for (size_t i = 0; i < 3; i++) {
+    reads(what, txn, due, columns[i], 0, MOST);
+    for (int k = 0; k < 4; k++) reads(what, txn, due, columns[i], drawn(due->count + 2), drawn(300));
+  }
+}
+
+static pdt_txn *begun(pdt_store *store) {
+  pdt_txn *txn = NULL;
+  is("begin", PDT_OK, pdt_begin(store, &txn));
+  return txn;
+}
+
+/* Draws a write, and does it on both. */
+static void draw_write(pdt_txn *txn, table *on) {
+  uint64_t kind = drawn(10);
+  size_t at = on->count ? drawn(on->count) : 0;
+  if (!on->count || kind < 3) {
+    int64_t key = (int64_t)drawn(1000000), first = (int64_t)drawn(1u << 30) - (1 << 29), second = INT64_MIN + (int64_t)drawn(100);
+    at = rank_of(on, key);
+    if (on->count == MOST || (at < on->count && on->rows[at].key == key)) return;
+    is("insert", PDT_OK, pdt_insert(txn, (int64_t[]){key, first, 3, second, 1}, "Bob", 3));
+    memmove(&on->rows[at + 1], &on->rows[at], (on->count - at) * sizeof(row));
+    on->rows[at] = (row){key, first, second};
+    on->count++;
+  } else if (kind < 5) {
+    is("delete", PDT_OK, pdt_delete(txn, &on->rows[at].key, NULL, 0));
+    on->count--;
+    memmove(&on->rows[at], &on->rows[at + 1], (on->count - at) * sizeof(row));
+  } else if (kind < 7) {
+    on->rows[at].first = (int64_t)drawn(1000);
+    is("set", PDT_OK, pdt_set(txn, &on->rows[at].key, NULL, 0, FIRST, on->rows[at].first, NULL));
+  } else if (kind < 8) {
+    on->rows[at].second = INT64_MAX - (int64_t)drawn(1000);
+    is("set", PDT_OK, pdt_set(txn, &on->rows[at].key, NULL, 0, SECOND, on->rows[at].second, NULL));
+  } else if (kind < 9) {
+    is("set", PDT_OK, pdt_set(txn, &on->rows[at].key, NULL, 0, NAME, 5, "Robin"));
+  } else {
+    is("set", PDT_OK, pdt_set(txn, &on->rows[at].key, NULL, 0, TRUTH, (int64_t)drawn(2), NULL));
+  }
+}
+
+static pdt_store *opened(table *as, size_t rows) {
+  static int64_t keys[MOST], firsts[MOST], seconds[MOST];
+  static uint64_t ends[MOST + 1];
+  static uint8_t truths[MOST], none[1];
+  for (size_t i = 0; i < rows; i++) {
+    as->rows[i] = (row){(int64_t)i * 90 + 5, (int64_t)i, -(int64_t)i};
+    keys[i] = as->rows[i].key, firsts[i] = as->rows[i].first, seconds[i] = as->rows[i].second;
+  }
+  as->count = rows;
+  pdt_column columns[] = {{"key", PDT_INT, rows, keys, NULL, NULL, 0},
+                          {"first", PDT_INT, rows, firsts, NULL, NULL, 0},
+                          {"name", PDT_TEXT, rows, NULL, ends, none, 0},
+                          {"second", PDT_INT, rows, seconds, NULL, NULL, 0},
+                          {"truth", PDT_BOOL, rows, NULL, NULL, truths, 0}};
+  pdt_store *store = NULL;
+  is("open", PDT_OK, pdt_open_columns(columns, 5, 1, NULL, NULL, &store));
+  return store;
+}
+
+static uint64_t packs_of(pdt_store *store) {
+  pdt_counts counts = {.size = sizeof counts};
+  is("count", PDT_OK, pdt_count(store, &counts));
+  return counts.packs;
+}
+
+/* ---- drawn writes */
+
+static int takes_all(void *context, size_t column, const uint8_t *bytes, size_t len) {
+  return (void)context, (void)column, (void)bytes, (void)len, 0;
+}
+
+static table now, old, open_now;
+
+static void beside_the_array(size_t rows, int rounds, size_t most) {
+  pdt_store *store = opened(&now, rows);
+  pdt_txn *before = begun(store);
+  old = now;
+  for (int i = 0; i < rounds; i++) {
+    pdt_txn *txn = begun(store);
+    for (size_t k = drawn(most) + 1; k; k--) draw_write(txn, &now);
+    reads_all("its own writes", txn, &now);
+    is("commit", PDT_OK, pdt_commit(txn, NULL));
+    if (drawn(3)) is("fold", PDT_OK, pdt_fold(store));
+    if (!drawn(12)) is("checkpoint", PDT_OK, pdt_checkpoint_to(store, takes_all, NULL, NULL));
+    txn = begun(store);
+    reads_all("the newest table", txn, &now);
+    open_now = now;
+    for (size_t k = drawn(5); k; k--) draw_write(txn, &open_now);
+    reads_all("a few writes over it", txn, &open_now);
+    pdt_abort(txn);
+    reads_all("an older table", before, &old);
+    if (!drawn(4)) {
+      pdt_abort(before);
+      before = begun(store);
+      old = now;
+    }
+  }
+  pdt_abort(before);
+  is("some folds packed", 1, packs_of(store) > 0);
+  is("close", PDT_OK, pdt_close(store));
+}
+
+/* ---- when a fold packs */
+
+static void set_rows(pdt_store *store, int64_t from, int64_t to) {
+  pdt_txn *txn = begun(store);
+  for (int64_t i = from; i < to; i++) {
+    int64_t key = i * 90 + 5;
+    is("set", PDT_OK, pdt_set(txn, &key, NULL, 0, FIRST, -7, NULL));
+    now.rows[i].first = -7;
+  }
+  is("commit", PDT_OK, pdt_commit(txn, NULL));
+}
+static void folds(const char *what, pdt_store *store, uint64_t packs) {
+  is("fold", PDT_OK, pdt_fold(store));
+  is(what, (long long)packs, (long long)packs_of(store));
+  pdt_txn *txn = begun(store);
+  reads_all(what, txn, &now);
+  pdt_abort(txn);
+}
+
+static void when(void) {
+  pdt_store *store = opened(&now, 3000);
+  folds("nothing to fold", store, 0);
+  set_rows(store, 0, 255);
+  folds("255 entries are few", store, 0);
+  set_rows(store, 255, 256);
+  folds("256 entries", store, 1);
+  set_rows(store, 256, 271);
+  folds("15 of 271 are few", store, 1);
+  set_rows(store, 271, 273);
+  folds("17 of 273, though not at once", store, 2);
+  folds("nothing came", store, 2);
+  set_rows(store, 273, 289);
+  folds("16 of 289 are few", store, 2);
+  set_rows(store, 289, 600);
+  folds("327 of 600", store, 3);
+  is("checkpoint", PDT_OK, pdt_checkpoint_to(store, takes_all, NULL, NULL));
+  is("none is needed there", 3, (long long)packs_of(store));
+  set_rows(store, 0, 16);
+  folds("16 entries, after the others went", store, 3);
+  is("close", PDT_OK, pdt_close(store));
+}
+
+int main(void) {
+  when();
+  beside_the_array(3000, 60, 400);
+  beside_the_array(0, 40, 600);
+  beside_the_array(16500, 12, 3000); /* of three blocks */
+  if (failures) return fprintf(stderr, "packing: %d failed\n", failures), 1;
+  printf("packing: passed\n");
+  return 0;
+}
