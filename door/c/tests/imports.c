@@ -474,6 +474,23 @@ static void scarce(int every) {
 
 /* ---- runs of the program itself */
 
+/* The program prints the rows of the folder, which is a database now. */
+static void is_recovered(const char *program, const int64_t *wanted) {
+  char words[2200], line[64], row[64];
+  snprintf(words, sizeof words, "'%s' recover '%s' >'%s/rows.csv'", program, folder, room);
+  is("recover", 0, WEXITSTATUS(system(words)));
+  snprintf(words, sizeof words, "%s/rows.csv", room);
+  FILE *rows = fopen(words, "r");
+  if (!rows) exit(1);
+  for (int i = -1; i < 50; i++) {
+    if (i < 0) snprintf(row, sizeof row, "id:int:key,qty:int\n");
+    else snprintf(row, sizeof row, "%d,%lld\n", i, (long long)wanted[i]);
+    is("a line of what is recovered", 0, fgets(line, sizeof line, rows) ? strcmp(line, row) : 1);
+  }
+  is("no line after them", 1, !fgets(line, sizeof line, rows));
+  fclose(rows);
+}
+
 static void by_program(const char *program) {
   char made[700], words[2200];
   snprintf(made, sizeof made, "%s/made", room);
@@ -511,8 +528,7 @@ static void by_program(const char *program) {
     for (int i = 0; i < 50; i++) is("qty", wanted[i], found[i]);
     pdt_abort(txn);
     is("close", PDT_OK, pdt_database_close(database));
-    snprintf(words, sizeof words, "'%s' recover '%s' 2>'%s/told'", program, folder, room);
-    is("no store of the program's any more", 1, WEXITSTATUS(system(words)));
+    is_recovered(program, wanted);
   }
 }
 
