@@ -234,6 +234,14 @@ fn offsets_of(lengths: &[i64]) -> Result<Vec<usize>, Error> {
     Ok(offsets)
 }
 
+/// The numbers of an int column from a position on, as many as there is room for. Answers how many came.
+pub(crate) fn numbers(txn: &Open<'_>, column: usize, from: u64, room: &mut [i64]) -> Result<usize, Error> {
+    let mut count = room.len();
+    // SAFETY: the transaction is open, and there is room for as many numbers as `count` says.
+    done(unsafe { ffi::pdt_ints(txn.raw(), column, from, room.as_mut_ptr(), &mut count) })?;
+    Ok(count)
+}
+
 /// The truths of a bool column from a position on, as many as there is room for. Answers how many came.
 pub(crate) fn truths(txn: &Open<'_>, column: usize, from: u64, room: &mut [u8]) -> Result<usize, Error> {
     let mut count = room.len();

@@ -34,6 +34,8 @@ pub struct Counts {
     pub waits: u64,
     /// The longest time that the lock was held.
     pub longest_hold: Duration,
+    /// How often a fold packed the Read-PDT for scans.
+    pub packs: u64,
 }
 
 impl Counts {
@@ -54,6 +56,7 @@ impl Counts {
             kept_entries: counts.kept_entries,
             waits: counts.waits,
             longest_hold: Duration::from_nanos(counts.longest_hold),
+            packs: counts.packs,
         }
     }
 }

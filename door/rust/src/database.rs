@@ -1,4 +1,5 @@
 //! A folder of tables that last.
+use crate::arrow;
 use crate::cells::owned;
 use crate::columns::Passed;
 use crate::error::done;
@@ -7,8 +8,8 @@ use crate::opening::unfilled;
 use crate::store::path_of;
 use crate::table::{Handle, Handles};
 use crate::{
-    ColumnValues, ColumnsError, DatabaseCounts, DatabaseError, DatabaseOptions, Error, OpenError, Options, Report,
-    Store, Table, TableFault, Work, ffi,
+    ArrowArrayStream, ArrowRefusal, ColumnValues, ColumnsError, DatabaseCounts, DatabaseError, DatabaseOptions, Error,
+    OpenError, Options, Report, Store, Table, TableFault, Work, ffi,
 };
 use std::ffi::{CStr, c_char, c_int};
 use std::fmt;
@@ -128,6 +129,28 @@ impl Database {
             // SAFETY: the database is open while `self` is there; the name ends with a zero, each column has as many
             // values as it says, where it says, and all is there during the call.
             unsafe { ffi::pdt_table_create(self.as_raw(), passed.as_ptr(), at, count, key, &options, place, raw) }
+        })?;
+        Ok(self.table(name)?)
+    }
+
+    /// Makes a table of a name over a stream of Arrow's, as [`Store::open_arrow`] does; else as
+    /// [`create`](Database::create).
+    pub fn create_from_arrow(
+        &self,
+        name: &str,
+        mut stream: ArrowArrayStream,
+        key: &[&str],
+        options: &Options,
+    ) -> Result<Table<'_>, ArrowRefusal> {
+        let (passed, options) = (name_of(name)?, options.passed()?);
+        arrow::open(key, |names, fault, raw| {
+            let (at, count) = (names.as_ptr(), names.len());
+            // SAFETY: the database is open while `self` is there; the name ends with a zero, there are as many names as
+            // is said, and all is there during the call, which releases the stream.
+            unsafe {
+                let (database, name) = (self.as_raw(), passed.as_ptr());
+                ffi::pdt_table_create_arrow(database, name, &mut stream, at, count, &options, fault, raw)
+            }
         })?;
         Ok(self.table(name)?)
     }

@@ -1,6 +1,8 @@
 //! The declarations of `door/c/pdt.h`, in its order.
+mod arrow;
 mod databases;
 
+pub use arrow::*;
 pub use databases::*;
 use std::ffi::{c_char, c_int, c_void};
 use std::marker::{PhantomData, PhantomPinned};
@@ -75,6 +77,7 @@ pub struct Counts {
     pub kept_entries: u64,
     pub waits: u64,
     pub longest_hold: u64,
+    pub packs: u64,
 }
 
 #[repr(C)]
@@ -283,6 +286,7 @@ unsafe extern "C" {
         room: usize,
         bytes: *mut usize,
     ) -> c_int;
+    pub fn pdt_ints(txn: *mut Txn, column: usize, from: u64, numbers: *mut i64, count: *mut usize) -> c_int;
     pub fn pdt_bools(txn: *mut Txn, column: usize, from: u64, truths: *mut u8, count: *mut usize) -> c_int;
     pub fn pdt_texts(
         txn: *mut Txn,

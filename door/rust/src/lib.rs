@@ -276,6 +276,7 @@
 //! ```
 #![deny(missing_docs, unsafe_op_in_unsafe_fn, clippy::undocumented_unsafe_blocks)]
 
+mod arrow;
 mod batch;
 mod cells;
 mod changes;
@@ -298,6 +299,7 @@ mod texts;
 mod transaction;
 mod work;
 
+pub use arrow::{Apply, ArrowArray, ArrowArrayStream, ArrowColumn, ArrowError, ArrowRefusal, ArrowSchema};
 pub use batch::{Batch, Batches, Ints, Piece, Texts, Values};
 pub use cells::{Cell, CellRef, Row};
 pub use changes::{Change, Changes, Entries, Entry, Layer};

@@ -25,7 +25,7 @@ use std::ptr::{self, NonNull};
 /// # Ok::<(), Error>(())
 /// ```
 pub struct Pin<'s> {
-    raw: NonNull<ffi::Pinned>,
+    pub(crate) raw: NonNull<ffi::Pinned>,
     number: u64,
     store: Keeper<'s>,
 }

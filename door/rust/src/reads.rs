@@ -95,6 +95,26 @@ impl<E: Ending> Transaction<'_, E> {
         texts::lent(&self.open, column, from, to)
     }
 
+    /// The numbers of an int column from a position on, as many as there is room for and rows to the end of the table. Answers how
+    /// many were written; those after them stay. They are copied, which takes less time than the pieces of a batch once rows are
+    /// changed, and most of all after a fold. [`Error::Shape`] of a column that isn't there or isn't one of ints.
+    ///
+    /// ```
+    /// use narthexmace::{Error, Options, Store};
+    /// let store = Store::open("id:int:key,qty:int\n10,7\n20,2\n30,4\n", &Options::default())?;
+    /// let txn = store.begin()?;
+    /// let mut numbers = [9; 4];
+    /// assert_eq!(2, txn.ints(1, 1, &mut numbers)?);
+    /// assert_eq!([2, 4, 9, 9], numbers);
+    /// # Ok::<(), Error>(())
+    /// ```
+    pub fn ints(&self, column: usize, from: u64, numbers: &mut [i64]) -> Result<usize, Error> {
+        if self.store().columns().get(column).ok_or(Error::Shape)?.column_type != ColumnType::Int {
+            return Err(Error::Shape);
+        }
+        batch::numbers(&self.open, column, from, numbers)
+    }
+
     /// The truths of a bool column from a position on, a byte of 0 or 1 for each, as many as there is room for and rows
     /// to the end of the table. Answers how many bytes were written; those after them stay. [`Error::Shape`] of a
     /// column that isn't there or isn't one of truths.

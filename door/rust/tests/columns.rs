@@ -91,7 +91,7 @@ fn a_write_that_fails_says_so() {
     });
     let failed = failed.unwrap_err();
     assert!(matches!(failed, CheckpointError::Write(ImagePart::Column(1), "no room")));
-    assert_eq!("the caller's write didn't take the bytes: column 1: no room", failed.to_string());
+    assert_eq!("the caller's write or stream failed: column 1: no room", failed.to_string());
     assert_eq!(3, calls);
     assert_eq!(4, store.begin().unwrap().rows());
 }

@@ -120,6 +120,27 @@ fn truths_are_copied_as_a_transaction_changed_them() {
 }
 
 #[test]
+fn numbers_are_copied_as_a_transaction_changed_them() {
+    let store = opened();
+    let mut txn = store.begin().unwrap();
+    change(&mut txn);
+    let wanted: Vec<i64> = wanted().into_iter().map(|line| line.1).collect();
+    let rows = wanted.len();
+    let mut numbers = vec![9; rows + 5];
+    assert_eq!(Ok(rows), txn.ints(1, 0, &mut numbers));
+    assert_eq!((&wanted[..], &[9; 5][..]), numbers.split_at(rows));
+    let mut some = [9; 1500];
+    assert_eq!(Ok(1500), txn.ints(1, 1001, &mut some));
+    assert_eq!(wanted[1001..2501], some);
+    assert_eq!(
+        [Ok(3), Ok(0), Ok(0)],
+        [rows as u64 - 3, rows as u64, u64::MAX].map(|from| txn.ints(1, from, &mut some))
+    );
+    assert_eq!(Ok(0), txn.ints(1, 0, &mut []));
+    assert_eq!([Err(Error::Shape); 3], [2, 3, 4].map(|column| txn.ints(column, 0, &mut some)));
+}
+
+#[test]
 fn texts_of_rows_that_have_not_changed_lie_side_by_side() {
     let store = opened();
     let txn = store.begin().unwrap();

@@ -1,0 +1,125 @@
+//! Arrow's C streams: what goes out comes in again, and each struct is released.
+#[path = "fixtures/databases.rs"]
+mod fixtures;
+
+use fixtures::{Folder, opened as database};
+use narthexmace::{Apply, ArrowArrayStream, ArrowColumn, Error, Options, Store};
+
+fn opened() -> Store {
+    let rows: String = (0..1000).map(|row| format!("{row},name{row},{}\n", row % 2 == 0)).collect();
+    Store::open(format!("id:int:key,name:text,even:bool\n{rows}"), &Options::default()).unwrap()
+}
+
+#[test]
+fn what_goes_out_comes_in() {
+    let store = opened();
+    let mut txn = store.begin().unwrap();
+    txn.delete([7]).unwrap();
+    let stream = txn.arrow(&[], .., 64).unwrap();
+    txn.delete([8]).unwrap();
+    let again = Store::open_arrow(stream, &["id"], &Options::default()).unwrap();
+    let same = again.begin().unwrap();
+    assert_eq!(999, same.rows());
+    assert_eq!(None, same.get([7]).unwrap());
+    assert_eq!(Some("name8"), same.get([8]).unwrap().unwrap()[1].as_text());
+    txn.abort();
+    let pin = store.pin().unwrap();
+    let mut batch = {
+        let mut stream = pin.arrow(&[ArrowColumn::of(0), ArrowColumn::shown(1, c"u")], 10..20, 0).unwrap();
+        assert_eq!(2, stream.schema().unwrap().columns());
+        let batch = stream.next_batch().unwrap().unwrap();
+        assert!(stream.next_batch().unwrap().is_none());
+        batch
+    };
+    drop(pin);
+    drop(store);
+    assert_eq!((10, 2), (batch.rows(), batch.columns()));
+    assert!(!batch.as_mut_ptr().is_null());
+}
+
+#[test]
+fn rows_are_applied_or_none() {
+    let store = opened();
+    let mut txn = store.begin().unwrap();
+    let stream = || store.pin().unwrap().arrow(&[], 100..200, 30).unwrap();
+    let refusal = txn.apply_arrow(stream(), Apply::Insert).unwrap_err();
+    assert_eq!((Error::Duplicate, 0), (refusal.error, refusal.row));
+    assert_eq!("row 0, column 0: there is a row of the key", refusal.to_string());
+    assert_eq!(100, txn.apply_arrow(stream(), Apply::Delete).unwrap());
+    assert_eq!(900, txn.rows());
+    let refusal = txn.apply_arrow(stream(), Apply::Delete).unwrap_err();
+    assert_eq!(Error::Missing, refusal.error);
+    assert_eq!(100, txn.apply_arrow(stream(), Apply::Insert).unwrap());
+    assert_eq!(100, txn.apply_arrow(stream(), Apply::Upsert).unwrap());
+    assert_eq!(1000, txn.rows());
+    let narrow = store.pin().unwrap().arrow(&[ArrowColumn::of(0)], .., 0).unwrap();
+    let refusal = txn.apply_arrow(narrow, Apply::Insert).unwrap_err();
+    assert_eq!((Error::Shape, "column name of the table isn't there"), (refusal.error, &*refusal.cause));
+}
+
+#[test]
+fn streams_that_are_none_are_refused() {
+    let store = opened();
+    let mut moved = store.pin().unwrap().arrow(&[], .., 0).unwrap();
+    // SAFETY: it is a stream of this crate's.
+    let stream = unsafe { ArrowArrayStream::take(moved.as_mut_ptr()) };
+    assert_eq!(22, moved.schema().unwrap_err().errno);
+    assert!(moved.next_batch().is_err());
+    let mut txn = store.begin().unwrap();
+    assert_eq!(Error::Misuse, txn.apply_arrow(moved, Apply::Delete).unwrap_err().error);
+    assert_eq!(1000, txn.apply_arrow(stream, Apply::Delete).unwrap());
+    let pin = store.pin().unwrap();
+    assert_eq!(Some(Error::Shape), pin.arrow(&[ArrowColumn::of(3)], .., 0).err());
+    assert_eq!(Some(Error::Shape), pin.arrow(&[ArrowColumn::shown(1, c"l")], .., 0).err());
+    let refusal = Store::open_arrow(pin.arrow(&[], .., 0).unwrap(), &["nope"], &Options::default()).unwrap_err();
+    assert_eq!((Error::BadTable, "there is no column nope, which the key names"), (refusal.error, &*refusal.cause));
+}
+
+#[test]
+fn threads_have_streams_of_one_pin() {
+    let store = opened();
+    let pin = store.pin().unwrap();
+    std::thread::scope(|threads| {
+        for _ in 0..4 {
+            threads.spawn(|| {
+                let mut stream = pin.arrow(&[], .., 10).unwrap();
+                let mut rows = 0;
+                while let Some(batch) = stream.next_batch().unwrap() {
+                    rows += batch.rows();
+                }
+                assert_eq!(1000, rows);
+            });
+        }
+    });
+}
+
+#[test]
+fn a_table_of_a_database_is_made_of_a_stream() {
+    let folder = Folder::in_memory("arrow");
+    let store = opened();
+    let stream = || store.pin().unwrap().arrow(&[], ..100, 7).unwrap();
+    let (database, _) = database(&folder);
+    let names = database.create_from_arrow("names", stream(), &["name", "id"], &Options::default()).unwrap();
+    assert_eq!(100, names.begin().unwrap().rows());
+    assert_eq!("name", names.columns()[0].name);
+    let refusal = database.create_from_arrow("names", stream(), &["id"], &Options::default()).unwrap_err();
+    assert_eq!(Error::Exists, refusal.error);
+    let refusal = database.create_from_arrow("other", stream(), &["even"], &Options::default()).unwrap_err();
+    assert_eq!((Error::Duplicate, 3), (refusal.error, refusal.row)); // the second one of the least key
+    let refusal = database.create_from_arrow("", stream(), &["id"], &Options::default()).unwrap_err();
+    assert_eq!(Error::Shape, refusal.error);
+}
+
+#[test]
+fn what_a_column_is_declared_as_goes_out_and_comes_in() {
+    let mut store = Store::open("id:int:key,day:int\n1,20000\n", &Options::default()).unwrap();
+    assert_eq!(None, store.declared(1).unwrap());
+    store.declare(1, Some(c"tdD")).unwrap();
+    let again =
+        Store::open_arrow(store.pin().unwrap().arrow(&[], .., 0).unwrap(), &["id"], &Options::default()).unwrap();
+    assert_eq!(Some("tdD"), again.declared(1).unwrap().as_deref());
+    assert_eq!(Err(Error::Shape), store.declare(0, Some(c"?l")));
+    assert_eq!(Err(Error::Shape), store.declare(2, None));
+    store.declare(1, None).unwrap();
+    assert_eq!(None, store.declared(1).unwrap());
+}
