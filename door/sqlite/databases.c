@@ -4,6 +4,7 @@
 #include "stores.h"
 
 #include <errno.h>
+#include <pdt_arrow.h>
 #include <sqlite3ext.h>
 #include <stdlib.h>
 #include <string.h>
@@ -143,6 +144,14 @@ static const char *doubled_name(pdt_store *store) {
   return NULL;
 }
 
+/* Declares the columns of a table that was made. One of the library's codes. */
+static int declare_columns(pdt_store *store, const declaration *declared) {
+  int code = PDT_OK;
+  for (size_t i = 0; i < declared->width && !code; i++)
+    if (declared->formats[i]) code = pdt_declare(store, i, declared->formats[i]);
+  return code;
+}
+
 pdt_store *databases_make(database *in, const declaration *declared, failure *why) {
   const char *from = declared->path ? declared->path : declared->place;
   char *bytes = NULL;
@@ -162,17 +171,27 @@ pdt_store *databases_make(database *in, const declaration *declared, failure *wh
   else if (code) failure_of(why, code == PDT_IO || code == PDT_FAILED ? SQLITE_IOERR : SQLITE_ERROR, declared->place, code);
   if (code) return NULL;
   const char *doubled = doubled_name(store);
-  if (!doubled) return store;
-  *why = (failure){SQLITE_ERROR, sqlite3_mprintf("%s: duplicate column name: %s", from, doubled)};
+  code = doubled ? PDT_OK : declare_columns(store, declared);
+  if (!doubled && !code) return store;
+  if (code) failure_of(why, code == PDT_IO ? SQLITE_IOERR : SQLITE_ERROR, declared->place, code);
+  else *why = (failure){SQLITE_ERROR, sqlite3_mprintf("%s: duplicate column name: %s", from, doubled)};
   pdt_table_drop(in->raw, declared->table);
   return NULL;
+}
+
+/* Whether a column's numbers stand for what is said of them, if anything is: INTEGER alone is a column of numbers as the
+   table has it. */
+static bool means(const pdt_store *store, size_t column, const char *format) {
+  meaning wanted = meaning_of(format), found = meaning_of(pdt_declared(store, column));
+  return !format || (found.kind == wanted.kind && found.has_null == wanted.has_null);
 }
 
 bool has_columns(pdt_store *store, const declaration *declared) {
   if (!declared->width) return true;
   if (pdt_columns(store) != declared->width || pdt_key_columns(store) != declared->keys) return false;
   for (size_t i = 0; i < declared->width; i++)
-    if (pdt_column_type(store, i) != declared->types[i] || sqlite3_stricmp(pdt_column_name(store, i), declared->names[i]))
+    if (pdt_column_type(store, i) != declared->types[i] || !means(store, i, declared->formats[i]) ||
+        sqlite3_stricmp(pdt_column_name(store, i), declared->names[i]))
       return false;
   return true;
 }

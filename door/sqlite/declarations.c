@@ -136,15 +136,23 @@ static const char *past_words(const char *at, const char *first, const char *sec
   return at && is_word(&p, second) ? at : NULL;
 }
 
-/* The type of a word; 0 where it is none. */
-static int type_named(const piece *p) {
-  static const struct {
-    const char *name;
-    int type;
-  } types[] = {{"INTEGER", PDT_INT}, {"INT", PDT_INT}, {"TEXT", PDT_TEXT}, {"BOOLEAN", PDT_BOOL}, {"BOOL", PDT_BOOL}};
+/* A type: what its column is declared as where it takes NULL, and else where the numbers stand for something. */
+typedef struct column_type {
+  const char *name;
+  int type;
+  const char *nullable, *format;
+} column_type;
+
+/* The type of a word; null where it is none. */
+static const column_type *type_named(const piece *p) {
+  static const column_type types[] = {
+      {"INTEGER", PDT_INT, "?l", NULL}, {"INT", PDT_INT, "?l", NULL},    {"REAL", PDT_INT, "?g", "g"},
+      {"DATE", PDT_INT, "?tdD", "tdD"}, {"TEXT", PDT_TEXT, NULL, NULL},  {"TIMESTAMP", PDT_INT, "?tsu:", "tsu:"},
+      {"BOOL", PDT_BOOL, NULL, NULL},   {"BOOLEAN", PDT_BOOL, NULL, NULL},
+  };
   for (size_t i = 0; i < sizeof types / sizeof *types; i++)
-    if (is_word(p, types[i].name)) return types[i].type;
-  return 0;
+    if (is_word(p, types[i].name)) return &types[i];
+  return NULL;
 }
 
 static char *add_key(const piece *name, declaration *out) {
@@ -171,10 +179,22 @@ static char *read_key(const char *word, const char *at, declaration *out) {
   return sqlite3_mprintf("a key is declared as PRIMARY KEY (a, b), not as %s", word);
 }
 
-/* What stands behind the type of a column: NOT NULL, which each is, and PRIMARY KEY. */
-static char *read_rules(const char *at, const piece *name, declaration *out) {
+/* What stands behind the word NULL, of a column that may take it; null where it isn't there. */
+static const char *past_null_of(const char *at, const column_type *type) {
+  piece p;
+  at = type->nullable ? take_piece(at, &p) : NULL;
+  return at && is_word(&p, "NULL") ? at : NULL;
+}
+
+/* What stands behind the type of a column: NOT NULL, which each is that doesn't say NULL, and PRIMARY KEY. */
+static char *read_rules(const char *at, const piece *name, const column_type *type, declaration *out) {
+  const char *past_own = past_null_of(at, type);
+  if (past_own) {
+    out->formats[out->width - 1] = type->nullable;
+    at = past_own;
+  }
   while (*past_blanks(at)) {
-    const char *past_null = past_words(at, "NOT", "NULL"), *past_key = past_words(at, "PRIMARY", "KEY");
+    const char *past_null = past_own ? NULL : past_words(at, "NOT", "NULL"), *past_key = past_words(at, "PRIMARY", "KEY");
     if (!past_null && !past_key)
       return sqlite3_mprintf("column %s is NOT NULL and may be PRIMARY KEY, and not %s", name->text, past_blanks(at));
     if (past_key && out->keys) return two_keys();
@@ -191,11 +211,13 @@ static char *read_column(const char *at, const piece *name, declaration *out) {
   if (out->width == PDT_MAX_COLUMNS) return sqlite3_mprintf("a table has at most %d columns", PDT_MAX_COLUMNS);
   if (!name->text[0] || name->is_long || strchr(name->text, ':'))
     return sqlite3_mprintf("a column's name has 1 to %d bytes and no colon", PDT_MAX_NAME);
-  int found = type_named(&type);
-  if (!found) return sqlite3_mprintf("column %s is INTEGER, TEXT or BOOLEAN, not %s", name->text, type.text);
-  out->types[out->width] = found;
+  const column_type *found = type_named(&type);
+  if (!found)
+    return sqlite3_mprintf("column %s is INTEGER, REAL, DATE, TIMESTAMP, TEXT or BOOLEAN, not %s", name->text, type.text);
+  out->types[out->width] = found->type;
+  out->formats[out->width] = found->format;
   strcpy(out->names[out->width++], name->text);
-  return read_rules(at, name, out);
+  return read_rules(at, name, found, out);
 }
 
 static char *read_word(const char *word, declaration *out) {
@@ -219,6 +241,9 @@ static char *check_columns(const declaration *out) {
   for (size_t i = 0; i < out->keys; i++)
     if (i >= out->width || sqlite3_stricmp(out->names[i], out->key[i]))
       return sqlite3_mprintf("the columns of the key come first, in its order");
+  for (size_t i = 0; i < out->keys; i++)
+    if (out->formats[i] && *out->formats[i] == '?')
+      return sqlite3_mprintf("column %s is of the key, and so NOT NULL", out->names[i]);
   if (!out->width || out->keys) return NULL;
   return sqlite3_mprintf("declare the key, as id INTEGER PRIMARY KEY, or behind the columns as PRIMARY KEY (a, b)");
 }

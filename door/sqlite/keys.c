@@ -94,12 +94,21 @@ static bool key_of_blob(const session *s, sqlite3_value *value, key *k) {
   return true;
 }
 
+/* The number of a key column's value that was read there. SQLite may hand a double back as a whole number. */
+static bool number_of_key(const meaning *m, sqlite3_value *value, int64_t *number) {
+  if (m->kind != REALS) return number_of_value(m, value, number);
+  *number = number_of_real(sqlite3_value_double(value));
+  return sqlite3_value_type(value) == SQLITE_FLOAT || sqlite3_value_type(value) == SQLITE_INTEGER;
+}
+
 bool key_of_value(const session *s, sqlite3_value *value, key *k) {
   if (s->keys > 1) return key_of_blob(s, value, k);
   key_start(k);
   if (type_of(s, 0) != PDT_TEXT) {
-    key_put_number(k, sqlite3_value_int64(value));
-    return sqlite3_value_type(value) == SQLITE_INTEGER;
+    int64_t number = 0;
+    bool is = number_of_key(&s->means[0], value, &number);
+    key_put_number(k, number);
+    return is;
   }
   const void *text = sqlite3_value_text(value);
   int len = sqlite3_value_bytes(value);

@@ -26,6 +26,7 @@ typedef struct layers_cursor {
   char *texts, *name;
   size_t room;
   int types[PDT_MAX_COLUMNS];
+  meaning means[PDT_MAX_COLUMNS];
   char names[PDT_MAX_COLUMNS][PDT_MAX_NAME + 1];
 } layers_cursor;
 
@@ -112,6 +113,7 @@ static int show_entry(layers_cursor *c) {
 static void keep_columns(layers_cursor *c, const session *s) {
   for (size_t column = 0; column < s->width; column++) {
     c->types[column] = type_of(s, column);
+    c->means[column] = s->means[column];
     strcpy(c->names[column], pdt_column_name(s->store, column));
   }
 }
@@ -170,9 +172,19 @@ static bool wants_quotes(const char *text, size_t len) {
   return false;
 }
 
+/* Puts what a number stands for; itself where it is no date. */
+static void put_number(sqlite3_str *to, const meaning *m, int64_t number) {
+  char text[STAMP_ROOM];
+  size_t len = 0;
+  if (m->has_null && number == INT64_MIN) sqlite3_str_appendall(to, "NULL");
+  else if (m->kind == REALS) sqlite3_str_appendf(to, "%!.15g", real_of_number(number));
+  else if (is_shown_as_text(m) && stamp_of_number(m, number, text, &len)) sqlite3_str_append(to, text, (int)len);
+  else sqlite3_str_appendf(to, "%lld", (long long)number);
+}
+
 /* Puts a cell's number, or its text, which begins at texts, and answers how many bytes that has. */
-static size_t put_cell(sqlite3_str *to, int type, int64_t number, const char *texts, bool in_record) {
-  if (type == PDT_INT) sqlite3_str_appendf(to, "%lld", (long long)number);
+static size_t put_cell(sqlite3_str *to, int type, const meaning *m, int64_t number, const char *texts, bool in_record) {
+  if (type == PDT_INT) put_number(to, m, number);
   if (type == PDT_BOOL) sqlite3_str_appendall(to, number ? "true" : "false");
   if (type != PDT_TEXT) return 0;
   size_t len = (size_t)number;
@@ -188,8 +200,8 @@ static void put_cells(sqlite3_context *to, const layers_cursor *c) {
   if (is_modify) sqlite3_str_appendf(cells, "%s=", c->names[c->entry.column]);
   for (size_t i = 0; i < c->entry.cells; i++) {
     if (i) sqlite3_str_appendchar(cells, 1, ',');
-    int type = c->types[is_modify ? c->entry.column : i];
-    size_t bytes = put_cell(cells, type, c->numbers[i], texts, !is_modify);
+    size_t column = is_modify ? c->entry.column : i;
+    size_t bytes = put_cell(cells, c->types[column], &c->means[column], c->numbers[i], texts, !is_modify);
     if (bytes) texts += bytes;
   }
   int len = sqlite3_str_length(cells);

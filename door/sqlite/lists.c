@@ -1,5 +1,5 @@
-/* Lists of texts: an IN over a text key is handed out whole, since SQLite would compare a row with each value of it
-   as by an =, which goes by another affinity. Each text bounds a range of its own; a list with a number bounds
+/* Lists of texts: an IN over a key of texts or dates is handed out whole, since SQLite would compare a row with each value of
+   it as by an =, which goes by another affinity. Each text bounds a range of its own; a list with a number bounds
    nothing. SQLite compares each row with the whole list. */
 #include "vtab.h"
 
@@ -9,8 +9,9 @@
 SQLITE_EXTENSION_INIT3
 
 typedef struct word {
-  const char *text;
+  const char *text; /* null of a date */
   size_t len;
+  int64_t number; /* of a date */
 } word;
 
 struct list {
@@ -21,6 +22,7 @@ struct list {
 
 static int order_of(const void *left, const void *right) {
   const word *a = left, *b = right;
+  if (!a->text) return (a->number > b->number) - (a->number < b->number);
   int order = memcmp(a->text, b->text, a->len < b->len ? a->len : b->len);
   return order ? order : (a->len > b->len) - (a->len < b->len);
 }
@@ -39,9 +41,22 @@ static int measure(sqlite3_value *values, size_t *count, size_t *bytes, bool *is
   return code == SQLITE_DONE ? SQLITE_OK : code;
 }
 
+/* Adds a text, whose bytes are copied to a place, or the date that it is. One that is no cell's is passed over. */
+static void add(list *l, const meaning *m, const char *text, size_t len, char **to) {
+  int64_t least, most;
+  if (is_shown_as_text(m)) {
+    bounds_of(m, &least, &most);
+    if (narrow_by_stamp(m, SQLITE_INDEX_CONSTRAINT_EQ, text, len, &least, &most)) l->words[l->count++] = (word){NULL, 0, least};
+  } else if (is_cell_text(text, len)) {
+    memcpy(*to, text, len);
+    l->words[l->count++] = (word){*to, len, 0};
+    *to += len;
+  }
+}
+
 /* Copies the texts, which are those that were measured, and puts them into their order: SQLite promises none. One of its
    codes. */
-static int fill(list *l, sqlite3_value *values) {
+static int fill(list *l, const meaning *m, sqlite3_value *values) {
   sqlite3_value *value = NULL;
   char *to = (char *)(l->words + l->count);
   size_t most = l->count;
@@ -49,18 +64,15 @@ static int fill(list *l, sqlite3_value *values) {
   for (l->count = 0; !code && value; code = sqlite3_vtab_in_next(values, &value)) {
     if (sqlite3_value_type(value) != SQLITE_TEXT || l->count == most) continue;
     size_t len = (size_t)sqlite3_value_bytes(value);
-    const void *text = sqlite3_value_text(value);
+    const char *text = (const char *)sqlite3_value_text(value);
     if (!text) return SQLITE_NOMEM;
-    if (!is_cell_text(text, len)) continue;
-    memcpy(to, text, len);
-    l->words[l->count++] = (word){to, len};
-    to += len;
+    add(l, m, text, len, &to);
   }
   qsort(l->words, l->count, sizeof *l->words, order_of);
   return code == SQLITE_DONE ? SQLITE_OK : code;
 }
 
-int list_make(const key *stem, sqlite3_value *values, list **out) {
+int list_make(const session *s, const key *stem, sqlite3_value *values, list **out) {
   size_t count = 0, bytes = 0;
   bool is_bound = false;
   *out = NULL;
@@ -71,7 +83,7 @@ int list_make(const key *stem, sqlite3_value *values, list **out) {
   key_copy(&l->stem, stem);
   l->count = count;
   l->next = 0;
-  code = fill(l, values);
+  code = fill(l, &s->means[stem->columns], values);
   if (code) list_free(l);
   else *out = l;
   return code;
@@ -84,7 +96,8 @@ bool list_next(const session *s, list *l, bool down, range *r) {
   const word *next = &l->words[down ? l->count - 1 - l->next : l->next];
   l->next++;
   key_copy(&r->low, &l->stem);
-  key_put_text(&r->low, next->text, next->len);
+  if (next->text) key_put_text(&r->low, next->text, next->len);
+  else key_put_number(&r->low, next->number);
   key_copy(&r->high, &r->low);
   key_fill(s, &r->low, false);
   key_fill(s, &r->high, true);

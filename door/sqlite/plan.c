@@ -18,7 +18,7 @@ typedef struct planning {
 /* A comparison of a column that may be used, with one of two operators; -1 where there is none. One of texts goes by
    their bytes; an IN of texts is told as an = but is one only where lists are looked for. */
 static int find_constraint(const planning *p, size_t column, int op, int other, bool is_list) {
-  bool is_text = type_of(p->session, column) == PDT_TEXT;
+  bool is_text = has_texts(p->session, column);
   for (int i = 0; i < p->info->nConstraint; i++) {
     const struct sqlite3_index_constraint *c = &p->info->aConstraint[i];
     if (!c->usable || c->iColumn != (int)column || (c->op != op && c->op != other)) continue;
@@ -58,16 +58,20 @@ static int take_range(planning *p, size_t column) {
   return bits;
 }
 
+/* Whether a column has doubles: to SQLite -0.0 and 0.0 are equal, and in a key they are two. So what comes after one orders
+   these, and no row is the only one that has it. */
+static bool is_real(const session *s, size_t column) { return s->means[column].kind == REALS; }
+
 /* Whether the order that is asked for is that of the keys, up or down. The first `fixed` columns have one value; a
    whole key is one row's, so what comes after it orders nothing. */
 static bool is_key_order(const planning *p, size_t fixed, bool *down) {
   size_t next = fixed;
   bool known = false;
-  for (int i = 0; i < p->info->nOrderBy && next < p->session->keys; i++) {
+  for (int i = 0; i < p->info->nOrderBy && (next < p->session->keys || is_real(p->session, next - 1)); i++) {
     int column = p->info->aOrderBy[i].iColumn;
     bool desc = p->info->aOrderBy[i].desc;
     if (column >= 0 && (size_t)column < fixed) continue;
-    if (column != (int)next || (known && desc != *down)) return false;
+    if (column != (int)next || (known && desc != *down) || (next && is_real(p->session, next - 1))) return false;
     *down = desc;
     known = true;
     next++;
@@ -152,7 +156,7 @@ int x_best_index(sqlite3_vtab *base, sqlite3_index_info *info) {
   size_t equal = 0, fixed = 0; /* fixed: those of the equal columns that are exact */
   for (; equal < p.session->keys; equal++) {
     int i = find_constraint(&p, equal, SQLITE_INDEX_CONSTRAINT_EQ, SQLITE_INDEX_CONSTRAINT_EQ, false);
-    p.exact = p.exact && type_of(p.session, equal) != PDT_TEXT;
+    p.exact = p.exact && !has_texts(p.session, equal) && !is_real(p.session, equal);
     if (i < 0) break;
     take_constraint(&p, i, equal, "=");
     fixed += p.exact;
@@ -212,6 +216,23 @@ static bool narrow(int op, sqlite3_value *value, int64_t *least, int64_t *most) 
   }
 }
 
+/* Narrows the numbers of a column by a value, which isn't NULL. A date is compared with texts alone: what else is there
+   bounds nothing, and SQLite compares again. */
+static bool narrow_column(const session *s, size_t column, int op, sqlite3_value *value, int64_t *least, int64_t *most) {
+  const meaning *m = &s->means[column];
+  if (m->kind == REALS) return narrow_by_number(op, value, least, most);
+  if (!is_shown_as_text(m)) return narrow(op, value, least, most);
+  if (sqlite3_value_type(value) != SQLITE_TEXT) return true;
+  const char *text = (const char *)sqlite3_value_text(value);
+  return !text || narrow_by_stamp(m, op, text, (size_t)sqlite3_value_bytes(value), least, most);
+}
+
+/* The numbers that a column of numbers may have. */
+static void all_numbers(const session *s, size_t column, int64_t *least, int64_t *most) {
+  bounds_of(&s->means[column], least, most);
+  if (type_of(s, column) == PDT_BOOL) *least = 0, *most = 1;
+}
+
 /* A text that bounds a column of texts; null where the value is none, and then it bounds nothing: SQLite compares
    again. */
 static const void *text_of(sqlite3_value *value, size_t *len) {
@@ -231,8 +252,10 @@ static bool put_equal(const session *s, range *r, sqlite3_value *value) {
     key_put_text(&r->high, text, len);
     return true;
   }
-  int64_t least = type_of(s, column) == PDT_BOOL ? 0 : INT64_MIN, most = type_of(s, column) == PDT_BOOL ? 1 : INT64_MAX;
-  if (!narrow(SQLITE_INDEX_CONSTRAINT_EQ, value, &least, &most)) r->empty = true;
+  int64_t least, most;
+  if (is_shown_as_text(&s->means[column]) && sqlite3_value_type(value) != SQLITE_TEXT) return false;
+  all_numbers(s, column, &least, &most);
+  if (!narrow_column(s, column, SQLITE_INDEX_CONSTRAINT_EQ, value, &least, &most)) r->empty = true;
   key_put_number(&r->low, least);
   key_put_number(&r->high, most);
   return true;
@@ -240,12 +263,13 @@ static bool put_equal(const session *s, range *r, sqlite3_value *value) {
 
 /* Puts the numbers between two bounds, of which each may be missing. */
 static void put_numbers(const session *s, range *r, int plan, sqlite3_value *low, sqlite3_value *high) {
-  int type = type_of(s, r->low.columns);
-  int64_t least = type == PDT_BOOL ? 0 : INT64_MIN, most = type == PDT_BOOL ? 1 : INT64_MAX;
+  size_t column = r->low.columns;
+  int64_t least, most;
+  all_numbers(s, column, &least, &most);
   int from = plan & LOW_PAST ? SQLITE_INDEX_CONSTRAINT_GT : SQLITE_INDEX_CONSTRAINT_GE;
   int to = plan & HIGH_PAST ? SQLITE_INDEX_CONSTRAINT_LE : SQLITE_INDEX_CONSTRAINT_LT;
-  if (low && !narrow(from, low, &least, &most)) r->empty = true;
-  if (high && !narrow(to, high, &least, &most)) r->empty = true;
+  if (low && !narrow_column(s, column, from, low, &least, &most)) r->empty = true;
+  if (high && !narrow_column(s, column, to, high, &least, &most)) r->empty = true;
   key_put_number(&r->low, least);
   key_put_number(&r->high, most);
 }
@@ -265,7 +289,7 @@ bool stem_of(const session *s, key *stem, int plan, sqlite3_value **values) {
   key_start(&r.high);
   r.empty = false;
   while (at < equal && sqlite3_value_type(values[at]) != SQLITE_NULL && put_equal(s, &r, values[at])) at++;
-  if (at < equal || r.empty) return false;
+  if (at < equal || r.empty || memcmp(r.low.numbers, r.high.numbers, r.low.columns * sizeof *r.low.numbers)) return false;
   key_copy(stem, &r.low);
   return true;
 }

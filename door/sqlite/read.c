@@ -184,7 +184,7 @@ static int ranges_make(const session *s, cursor *c, int plan, sqlite3_value **va
   list_free(c->ranges);
   c->ranges = NULL;
   if (!(plan & LIST) || !stem_of(s, &stem, plan, values)) return SQLITE_OK;
-  return list_make(&stem, values[plan & EQUAL], &c->ranges);
+  return list_make(s, &stem, values[plan & EQUAL], &c->ranges);
 }
 
 int x_filter(sqlite3_vtab_cursor *base, int plan, const char *words, int argc, sqlite3_value **argv) {
@@ -289,6 +289,22 @@ static int put_key(cursor *c, sqlite3_context *to) {
   return PDT_OK;
 }
 
+/* A number's value. SQLite makes a NaN a NULL, which no key has. */
+static int put_number(cursor *c, sqlite3_context *to, size_t column, int64_t number) {
+  const session *s = session_of(c->base.pVtab);
+  const meaning *m = &s->means[column];
+  int64_t least = INT64_MIN, most = INT64_MAX;
+  if (m->kind == NUMBERS && !m->has_null) {
+    sqlite3_result_int64(to, number);
+    return SQLITE_OK;
+  }
+  if (column < s->keys && m->kind == REALS) bounds_of(m, &least, &most);
+  if (number >= least && number <= most && result_number(to, m, number)) return SQLITE_OK;
+  return say(c->base.pVtab, SQLITE_MISMATCH, "pdt: column %s has the number %lld, which is %s",
+             pdt_column_name(s->store, column), (long long)number,
+             m->kind == REALS ? "a NaN in the key" : "no date of the years 0000 to 9999");
+}
+
 /* A cell of the current row. Nothing where an UPDATE leaves it as it is, and NULL where the row was deleted
    meanwhile. */
 int x_column(sqlite3_vtab_cursor *base, sqlite3_context *to, int column) {
@@ -305,7 +321,7 @@ int x_column(sqlite3_vtab_cursor *base, sqlite3_context *to, int column) {
     if (code) return fail(base->pVtab, code);
   }
   size_t i = (size_t)(current - b->from);
-  if (b->texts) sqlite3_result_text(to, batch_text(b, i), (int)b->numbers[i], SQLITE_TRANSIENT);
-  else sqlite3_result_int64(to, b->numbers[i]);
+  if (!b->texts) return put_number(c, to, (size_t)column, b->numbers[i]);
+  sqlite3_result_text(to, batch_text(b, i), (int)b->numbers[i], SQLITE_TRANSIENT);
   return SQLITE_OK;
 }

@@ -21,6 +21,7 @@ typedef struct declaration {
   size_t width, keys;   /* how many columns are declared, and how many make the key */
   char names[PDT_MAX_COLUMNS][PDT_MAX_NAME + 1], key[KEY_COLUMNS][PDT_MAX_NAME + 1];
   int types[PDT_MAX_COLUMNS];
+  const char *formats[PDT_MAX_COLUMNS]; /* what a column's numbers are declared as; null where nothing is said of them */
 } declaration;
 
 /* Reads the words of a declaration. Null, or a sentence that says what is wrong, which is sqlite3_malloc's. */
@@ -58,6 +59,20 @@ bool stores_drop(const char *folder, const char *table, failure *why);
 void *failure_of(failure *why, int code, const char *place, int library_code);
 /* Reads a file whole into memory, which is the caller's to free. One of the library's codes. */
 int read_file(const char *path, char **bytes, size_t *len);
+
+/* ---- numbers.c */
+
+/* What the numbers of an int column stand for: themselves, doubles, dates or timestamps. */
+enum { NUMBERS, REALS, DATES, TIMES };
+
+typedef struct meaning {
+  int kind;
+  bool has_null; /* whether the least number is NULL */
+  int64_t unit;  /* of a timestamp, in microseconds */
+} meaning;
+
+/* That of a format, as pdt_declared tells it: numbers where it is null, or one of which SQLite has no values. */
+meaning meaning_of(const char *format);
 
 /* ---- databases.c: all but the last one are called with the lock of all stores held */
 

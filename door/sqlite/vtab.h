@@ -47,6 +47,7 @@ struct session {
   database *in;                /* null of a store alone too */
   pdt_store *store;
   size_t width, keys, text_room; /* text_room: bytes enough for the texts of any row */
+  meaning means[PDT_MAX_COLUMNS];
   unsigned tables; /* SQLite's objects for it */
   unsigned views;  /* its own, and those that only cursors have still */
   bool kept;       /* whether the connection has it; if not, it goes with the last of these */
@@ -82,6 +83,33 @@ typedef struct table {
 static inline session *session_of(sqlite3_vtab *base) { return ((table *)base)->session; }
 static inline connection *owner_of(sqlite3_vtab *base) { return ((table *)base)->owner; }
 static inline int type_of(const session *s, size_t column) { return pdt_column_type(s->store, column); }
+
+/* ---- numbers.c: SQLite's values of what an int column's numbers stand for */
+
+enum { STAMP_ROOM = 32 }; /* bytes enough for the text of a date or a timestamp */
+
+bool is_shown_as_text(const meaning *m);
+/* The least and the greatest number that has a value, other than NULL. */
+void bounds_of(const meaning *m, int64_t *least, int64_t *most);
+int64_t number_of_real(double real);
+double real_of_number(int64_t number);
+/* The text of a date or a timestamp; false where it is none of the years 0000 to 9999. */
+bool stamp_of_number(const meaning *m, int64_t number, char *text, size_t *len);
+/* The number of such a text, behind which a zero stands; false where it is no date, or no whole number of the unit. */
+bool number_of_stamp(const meaning *m, const char *text, size_t len, int64_t *number);
+/* A value as the number that is kept; false where the column doesn't take it. */
+bool number_of_value(const meaning *m, sqlite3_value *value, int64_t *number);
+/* Answers a number's value; false where there is none, as of a date after the year 9999. */
+bool result_number(sqlite3_context *to, const meaning *m, int64_t number);
+/* Narrows the numbers of dates or timestamps that a column may have by a comparison with a text, and those of doubles by
+   one with a value, as SQLite compares them. A zero stands behind the text. False where none is left. */
+bool narrow_by_stamp(const meaning *m, int op, const char *text, size_t len, int64_t *least, int64_t *most);
+bool narrow_by_number(int op, sqlite3_value *value, int64_t *least, int64_t *most);
+
+/* Whether SQLite has texts for a column's cells, and compares them as texts. */
+static inline bool has_texts(const session *s, size_t column) {
+  return type_of(s, column) == PDT_TEXT || is_shown_as_text(&s->means[column]);
+}
 
 /* A key, or the first columns of one. */
 typedef struct key {
@@ -221,9 +249,9 @@ bool stem_of(const session *s, key *stem, int plan, sqlite3_value **values);
 
 typedef struct list list;
 
-/* The texts of a list, each a range behind the columns of the stem; null where a number is among them. One of SQLite's
-   codes. */
-int list_make(const key *stem, sqlite3_value *values, list **out);
+/* The texts of a list, or the dates that they are, each a range behind the columns of the stem; null where a number is among
+   them. One of SQLite's codes. */
+int list_make(const session *s, const key *stem, sqlite3_value *values, list **out);
 void list_free(list *l);
 /* The next range, up or down; false where there is none. */
 bool list_next(const session *s, list *l, bool down, range *r);

@@ -14,21 +14,14 @@ static int refuse(sqlite3_vtab *base, int code) {
 
 static int mismatch(sqlite3_vtab *base, size_t column, sqlite3_value *value) {
   static const char *const wanted[] = {"", "a whole number", "a text in UTF-8 of at most 4096 bytes", "0 or 1"};
+  static const char *const kinds[] = {"a whole number", "a number", "a date as 2024-12-31", "a timestamp as 2024-12-31 23:59:59"};
   static const char *const found[] = {"", "an integer", "a real", "a text", "a blob", "NULL"};
   const session *s = session_of(base);
-  return say(base, SQLITE_CONSTRAINT, "pdt: column %s takes %s, not %s", pdt_column_name(s->store, column),
-             wanted[type_of(s, column)], found[sqlite3_value_type(value)]);
-}
-
-/* A value as a whole number, by the affinity of such columns: 5.0 and '5' are 5. The least one is none as a real. */
-static bool number_of(sqlite3_value *value, int64_t *number) {
-  int type = sqlite3_value_numeric_type(value);
-  if (type == SQLITE_INTEGER) *number = sqlite3_value_int64(value);
-  if (type != SQLITE_FLOAT) return type == SQLITE_INTEGER;
-  double real = sqlite3_value_double(value);
-  if (!(real > -9223372036854775808.0 && real < 9223372036854775808.0)) return false;
-  *number = (int64_t)real;
-  return (double)*number == real;
+  const meaning *m = &s->means[column];
+  int type = sqlite3_value_type(value);
+  const char *what = is_shown_as_text(m) && type == SQLITE_TEXT ? "another text" : found[type];
+  return say(base, SQLITE_CONSTRAINT, "pdt: column %s takes %s%s, not %s", pdt_column_name(s->store, column),
+             type_of(s, column) == PDT_INT ? kinds[m->kind] : wanted[type_of(s, column)], m->has_null ? " or NULL" : "", what);
 }
 
 /* Puts the cell of a value into a row, its text after the others. A number in a text column is its text, by its
@@ -37,7 +30,9 @@ static int put_cell(sqlite3_vtab *base, size_t column, sqlite3_value *value, int
                     size_t *bytes) {
   int type = type_of(session_of(base), column), found = sqlite3_value_type(value);
   if (type != PDT_TEXT) {
-    bool fits = number_of(value, &numbers[column]) && (type == PDT_INT || numbers[column] == 0 || numbers[column] == 1);
+    if (found == SQLITE_TEXT && !sqlite3_value_text(value)) return SQLITE_NOMEM;
+    bool fits = number_of_value(&session_of(base)->means[column], value, &numbers[column]) &&
+                (type == PDT_INT || numbers[column] == 0 || numbers[column] == 1);
     return fits ? SQLITE_OK : mismatch(base, column, value);
   }
   if (found == SQLITE_NULL || found == SQLITE_BLOB) return mismatch(base, column, value);
@@ -231,6 +226,22 @@ static int update(sqlite3_vtab *base, const key *from, sqlite3_value **values) {
   return key_compare(s, from, &to) ? refuse(base, move_row(base, from, &to, bytes)) : set_row(base, from, values);
 }
 
+/* SQLite forgets the sign of a zero: the key is that of 0.0, or of -0.0, which others may write. One of its codes. */
+static int settle_zero(sqlite3_vtab *base, key *k) {
+  const session *s = session_of(base);
+  int64_t negative = number_of_real(-0.0);
+  uint64_t position = 0;
+  bool there[2];
+  if (s->keys > 1 || s->means[0].kind != REALS || k->numbers[0]) return SQLITE_OK;
+  int code = pdt_rank(s->view->txn, k->numbers, k->texts, k->bytes, &position, &there[0]);
+  if (!code) code = pdt_rank(s->view->txn, &negative, k->texts, k->bytes, &position, &there[1]);
+  if (code) return fail(base, code);
+  if (there[0] && there[1])
+    return say(base, SQLITE_ERROR, "pdt: %s has a row of -0.0 and one of 0.0, and SQLite has them equal", s->name);
+  if (there[1]) k->numbers[0] = negative;
+  return SQLITE_OK;
+}
+
 /* Refuses to write beside a table that the commit wouldn't be one with. */
 static int refuse_second(sqlite3_vtab *base, const session *writer) {
   bool is_alone = !session_of(base)->in && !writer->in;
@@ -251,6 +262,8 @@ int x_update(sqlite3_vtab *base, int argc, sqlite3_value **argv, sqlite3_int64 *
   if (code) return code;
   if (argc > 1 && sqlite3_value_type(argv[0]) == SQLITE_NULL) return insert(base, argv + 2);
   if (!key_of_value(s, argv[0], &k)) return fail(base, PDT_SHAPE);
+  code = settle_zero(base, &k);
+  if (code) return code;
   if (argc > 1) return update(base, &k, argv + 2);
   code = delete_row(s, &k);
   return code == PDT_MISSING ? SQLITE_OK : fail(base, code);

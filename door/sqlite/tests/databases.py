@@ -144,14 +144,14 @@ def declarations_are_refused(room):
     wide.write_text("id:int:key,ID:int\n1,2\n")
     in_new, columns = f"database='{folder}/new', table='x'", "id INTEGER PRIMARY KEY"
     many = ", ".join(f"c{i} INTEGER" for i in range(32))
-    types = "is INTEGER, TEXT or BOOLEAN, not"
+    types = "is INTEGER, REAL, DATE, TIMESTAMP, TEXT or BOOLEAN, not"
     for words, text in [
         (f"database='{folder}/new'", "name a table of the database, as pdt(database='DIR', table='NAME')"),
         (f"database='{folder}/new', database='x'", "a table has one database, and one name there"),
         (f"{in_new}, store='{folder}'", "a table is a store's or a database's"),
         (f"{in_new}, '{folder}/t.csv', {columns}", "a table is made of columns or of a file"),
         (f"{in_new}, sync=fast", "sync is full, normal or off, not fast"),
-        (f"{in_new}, name REAL, {columns}", f"column name {types} REAL"),
+        (f"{in_new}, name BLOB, {columns}", f"column name {types} BLOB"),
         (f"{in_new}, id PRIMARY KEY", f"column id {types} PRIMARY"),
         (f"{in_new}, {columns} DESC", "column id is NOT NULL and may be PRIMARY KEY, and not DESC"),
         (f"{in_new}, {columns}, name TEXT DEFAULT ''", "column name is NOT NULL and may be PRIMARY KEY, and not DEFAULT ''"),

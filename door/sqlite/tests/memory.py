@@ -25,8 +25,8 @@ BLOCKS = [  # each as one: all of its statements, or none
     ["BEGIN", "UPDATE t SET qty = 6 WHERE id = 30", "SAVEPOINT a", "DROP TABLE t", "ROLLBACK TO a",
      "DELETE FROM t WHERE id = 33", "COMMIT"],
 ]
-PAIR = "CREATE TABLE {} (id INTEGER PRIMARY KEY, qty INTEGER) WITHOUT ROWID"
-MAKE = "CREATE VIRTUAL TABLE {table} USING pdt(database='{folder}', table='{table}', sync=off, id INTEGER PRIMARY KEY, qty INTEGER)"
+PAIR = "CREATE TABLE {} (id INTEGER PRIMARY KEY, qty REAL) WITHOUT ROWID"
+MAKE = "CREATE VIRTUAL TABLE {table} USING pdt(database='{folder}', table='{table}', sync=off, id INTEGER PRIMARY KEY, qty REAL NULL)"
 PAIRS = [  # the same over both tables of a database
     ["INSERT INTO t VALUES (1, 1), (2, 2), (3, 3)"],
     ["BEGIN", "INSERT INTO u SELECT id + 10, qty FROM t", "UPDATE t SET qty = qty + 1", "COMMIT"],
