@@ -41,6 +41,7 @@ reading, until the next write on the transaction or its end.
 
 Errors: each is an ``Error``, with its ``code`` and a sentence, and one of Python's own where there is a class for it.
 """
+from ._arrow import ArrowScan
 from ._batches import Batch, Pieces, Texts
 from ._cells import Column
 from ._database import Database, DatabaseCounts, Report, connect
@@ -85,6 +86,7 @@ from ._version import __version__ as __version__
 from ._work import Moment, Work
 
 __all__ = [
+    "ArrowScan",
     "BadLimit",
     "BadStore",
     "BadTable",

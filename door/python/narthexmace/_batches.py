@@ -5,6 +5,7 @@ from itertools import islice
 from typing import Any, Dict, Iterator, List, Optional, Sequence, Tuple, Union, overload
 
 from ._cells import Row
+from ._declared import Declared
 
 
 class Texts(Sequence[str]):
@@ -74,15 +75,16 @@ class Batch:
     ``numpy.asarray`` and ``numpy.frombuffer`` make an array over it without a copy.
     """
 
-    __slots__ = ("start", "columns", "_cells", "_rows")
+    __slots__ = ("start", "columns", "_cells", "_rows", "_declared")
 
-    def __init__(self, start: int, rows: int, cells: Dict[str, Any]) -> None:
+    def __init__(self, start: int, rows: int, cells: Dict[str, Any], declared: Dict[str, Optional[Declared]]) -> None:
         #: The position of the first row.
         self.start = start
         #: The names of the columns.
         self.columns: Tuple[str, ...] = tuple(cells)
         self._cells = cells
         self._rows = rows
+        self._declared = declared
 
     def __len__(self) -> int:
         return self._rows
@@ -91,10 +93,16 @@ class Batch:
         return self._cells[column]
 
     def rows(self) -> List[Row]:
-        """The rows, each with the cells of the batch's columns."""
+        """The rows, each with the cells of the batch's columns; of declared ones what their ints stand for."""
         if not self._cells:
             return [()] * self._rows
-        return list(zip(*(cells.tolist() for cells in self._cells.values())))
+        return list(zip(*(self._values_of(name) for name in self._cells)))
+
+    def _values_of(self, name: str) -> List[Any]:
+        """The values of a column, as rows have them."""
+        cells: List[Any] = self._cells[name].tolist()
+        declared = self._declared[name]
+        return cells if declared is None else [declared.value(cell) for cell in cells]
 
     def __repr__(self) -> str:
         return f"<Batch of the rows {self.start} to {self.start + self._rows} of {', '.join(self.columns)}>"

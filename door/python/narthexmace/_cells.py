@@ -3,12 +3,14 @@ from __future__ import annotations
 
 import ctypes
 import operator
-from typing import Any, Iterable, List, Mapping, NamedTuple, Sequence, Tuple, Union
+from typing import Any, Iterable, List, Mapping, NamedTuple, Optional, Sequence, Tuple, Union
 
+from ._declared import Declared, declared_as
 from ._errors import Shape
 from ._library import MAX_TEXT, library
 
-Cell = Union[int, str, bool]
+#: Of a column that is declared, also a float, a date, a datetime, a Decimal or None.
+Cell = Union[int, str, bool, Any]
 Row = Tuple[Cell, ...]
 Key = Union[Cell, Sequence[Cell]]
 #: The numbers of cells, the bytes of their texts, and how many these are.
@@ -25,6 +27,15 @@ class Column(NamedTuple):
     name: str
     type: str
     key: bool
+
+
+def shaping_at(store: Any) -> "Shaping":
+    """The columns of a store at an address, and how their cells go there and come back."""
+    shaping = Shaping(columns_at(store))
+    for place in range(len(shaping.columns)):
+        format_ = library.pdt_declared(store, place)
+        shaping.declare(place, format_ and format_.decode())
+    return shaping
 
 
 def columns_at(store: Any) -> Tuple[Column, ...]:
@@ -92,7 +103,9 @@ class Shaping:
         self.columns = tuple(columns)
         self.names = tuple(column.name for column in columns)
         self.types = tuple(column.type for column in columns)
-        self.key_types = tuple(column.type for column in columns if column.key)
+        self.keys = sum(column.key for column in columns)
+        #: What the ints of each column stand for, where it is declared.
+        self.declared: List[Optional[Declared]] = [None] * len(columns)
         self.place = {name: place for place, name in enumerate(self.names)}
         self.numbers = ctypes.c_int64 * len(columns)
 
@@ -109,27 +122,33 @@ class Shaping:
             if set(row) != set(self.names):
                 raise Shape(f"the row has not the columns {', '.join(self.names)}")
             row = [row[name] for name in self.names]
-        return self._passed(row, self.types, "row")
+        return self._passed(row, len(self.types), "row")
 
     def key(self, key: Key) -> Passed:
         """A key for C. Where it has one column it may be that cell itself."""
         if isinstance(key, (tuple, list)):
-            return self._passed(key, self.key_types, "key")
-        return self._passed((key,), self.key_types, "key")  # type: ignore[arg-type]
+            return self._passed(key, self.keys, "key")
+        return self._passed((key,), self.keys, "key")
 
-    def _passed(self, cells: Sequence[Cell], types: Sequence[str], what: str) -> Passed:
-        if isinstance(cells, (str, bytes)) or len(cells) != len(types):
-            raise Shape(f"the {what} {cells!r} has not {len(types)} cell{'s' if len(types) > 1 else ''}")
-        numbers, texts = (ctypes.c_int64 * len(types))(), []
-        for place, (cell, type_) in enumerate(zip(cells, types)):
-            numbers[place], text = self.cell(cell, type_)
+    def _passed(self, cells: Sequence[Cell], count: int, what: str) -> Passed:
+        if isinstance(cells, (str, bytes)) or len(cells) != count:
+            raise Shape(f"the {what} {cells!r} has not {count} cell{'s' if count > 1 else ''}")
+        numbers, texts = (ctypes.c_int64 * count)(), []
+        for place, cell in enumerate(cells):
+            numbers[place], text = self.cell(cell, place)
             texts.append(text)
         joined = b"".join(texts)
         return numbers, joined, len(joined)
 
-    @staticmethod
-    def cell(cell: Cell, type_: str) -> Tuple[int, bytes]:
-        """A cell of a type for C: its number and its bytes."""
+    def declare(self, place: int, format_: Optional[str]) -> None:
+        """Notes what a column is declared as."""
+        self.declared[place] = None if format_ is None else declared_as(format_)
+
+    def cell(self, cell: Cell, place: int) -> Tuple[int, bytes]:
+        """A cell of a column for C: its number and its bytes."""
+        type_, declared = self.types[place], self.declared[place]
+        if declared is not None:
+            return declared.number(cell), b""
         if type_ == INT:
             return number_of(cell), b""
         if type_ == BOOL:
@@ -139,15 +158,17 @@ class Shaping:
 
     def row_of(self, numbers: Iterable[int], texts: memoryview) -> Row:
         """The row whose cells C has put there."""
-        return self.cells_of(numbers, texts, self.types)
+        return self.cells_of(numbers, texts, range(len(self.types)))
 
-    @staticmethod
-    def cells_of(numbers: Iterable[int], texts: memoryview, types: Sequence[str]) -> Row:
-        """The cells of these types that C has put there."""
+    def cells_of(self, numbers: Iterable[int], texts: memoryview, places: Iterable[int]) -> Row:
+        """The cells of these columns that C has put there."""
         cells: List[Cell] = []
         at = 0
-        for type_, number in zip(types, numbers):
-            if type_ == INT:
+        for place, number in zip(places, numbers):
+            type_, declared = self.types[place], self.declared[place]
+            if declared is not None:
+                cells.append(declared.value(number))
+            elif type_ == INT:
                 cells.append(number)
             elif type_ == BOOL:
                 cells.append(number == 1)

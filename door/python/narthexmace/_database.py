@@ -143,10 +143,11 @@ class Database(Single):
         row_limit: int = MAX_ROWS,
         conflicts: str = "column",
     ) -> Store:
-        """Makes a table of a name over what ``open`` takes: a CSV text, the path of one, or columns.
+        """Makes a table of a name over what ``open`` takes: a CSV text, its path, columns, or a stream of Arrow's.
 
         A header alone makes an empty one: ``db.create("items", "id:int:key,name:text\\n")``. The table is on the device
-        when this returns, with its options, which it keeps: those of ``open``.
+        when this returns, with its options, which it keeps: those of ``open``. Columns that ``types`` declares are
+        declared next: a crash in between leaves them ints.
 
         Exists, where there is a table of the name; Shape, where the name hasn't 1 to 64 bytes of UTF-8 without control
         characters; FileFailed, Failed, NoMemory, Misuse, and those of ``open``. There is no such table then.
@@ -158,7 +159,7 @@ class Database(Single):
         room = ctypes.c_void_p()
         with self._handle as at:
             open_table(self._calls_in(at, name, encoded), table, key, types, options, room)
-        return self[name]
+        return self[name]._with_declared(types)
 
     def _calls_in(self, at: int, name: str, encoded: bytes) -> Calls:
         """C's calls that make a table of a name."""
@@ -169,7 +170,10 @@ class Database(Single):
         def columns(*given: Any) -> int:
             return check_made(library.pdt_table_create(at, encoded, *given), name, self._handle.folder)
 
-        return Calls(text, columns)
+        def arrow(stream: int, *given: Any) -> int:
+            return check_made(library.pdt_table_create_arrow(at, encoded, stream, *given), name, self._handle.folder)
+
+        return Calls(text, columns, arrow)
 
     def __getitem__(self, name: str) -> Store:
         """The table of a name, the same object each time. Missing, which is a KeyError, where there is none."""

@@ -9,7 +9,7 @@ import weakref
 from ctypes import byref, c_uint64, c_void_p
 from typing import Callable, Dict, List, Optional
 
-from ._cells import Shaping, columns_at
+from ._cells import Shaping, shaping_at
 from ._errors import Misuse, Missing, Path, check, check_files
 from ._handles import Address, Shared, Single, StoreHandle, TransactionHandle
 from ._library import MAX_NAME, NO_NUMBER, CountsOf, DatabaseCountsOf, library
@@ -109,12 +109,13 @@ class DatabaseHandle(Shared):
         if code == Missing.code:
             raise self._missing(name)
         if code == Misuse.code:
-            raise Misuse(f"a transaction or a snapshot is open over the table {name!r}, or a pin is kept")
+            raise Misuse(f"a transaction, a snapshot or a stream is open over the table {name!r}, or a pin is kept")
         check_files(code, self.folder)
 
     # ---- the end
 
-    def _freed(self, at: c_void_p) -> int:
+    @staticmethod
+    def _freed(at: c_void_p) -> int:
         return int(library.pdt_database_close(at))
 
     def _why_open(self) -> str:
@@ -124,12 +125,13 @@ class DatabaseHandle(Shared):
             pins = table.pins()
             if pins:
                 return f"the table {table.name!r} has {pins} pin{'s' if pins > 1 else ''}: close them first"
-        return "a transaction or a snapshot of the database is open"
+        return "a transaction, a snapshot or a stream of the database is open"
 
     def __del__(self) -> None:
         if self.is_open:
             warnings.warn(f"an unclosed database: {os.fsdecode(self.folder)!r}", ResourceWarning, source=self)
         self.end()
+        self.leave()
 
 
 class TableHandle(StoreHandle):
@@ -142,7 +144,7 @@ class TableHandle(StoreHandle):
         self.database = database
         self.name: str = name
         self.room = room
-        self._shaping = Shaping(columns_at(self.room.value))
+        self._shaping = shaping_at(self.room.value)
 
     def __enter__(self) -> int:
         self.database.__enter__()

@@ -18,6 +18,9 @@ class Error(Exception):
     """
 
     code = -1
+    #: Where the rows of columns were refused: the row, which counts from 0, and the column; None of other calls.
+    row: Optional[int] = None
+    column: Optional[int] = None
 
     def __init__(self, sentence: Optional[str] = None) -> None:
         super().__init__(sentence or library.pdt_text(self.code).decode())
@@ -96,7 +99,6 @@ class BadTable(Error, ValueError):
     code = 8
     cause: Optional[str] = None
     record: Optional[int] = None
-    column: Optional[int] = None
 
 
 class BadLimit(Error, ValueError):
@@ -181,7 +183,7 @@ class NotAscending(Error, ValueError):
 
 
 class DeviceFailed(Error):
-    """What takes the bytes of a checkpoint failed. No call of this package hands them out."""
+    """A stream of Arrow's failed, whose own words the sentence has."""
 
     code = 19
 

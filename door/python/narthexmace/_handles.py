@@ -7,9 +7,9 @@ import warnings
 import weakref
 from contextlib import contextmanager
 from ctypes import byref, c_uint64, c_void_p
-from typing import Any, Iterator, List, NoReturn, Optional, Sequence, Tuple
+from typing import Any, Callable, Iterator, List, NoReturn, Optional, Sequence, Tuple
 
-from ._cells import Shaping, columns_at
+from ._cells import Shaping, shaping_at
 from ._errors import Lent, Misuse, check, error_of
 from ._library import CountsOf, library
 
@@ -21,6 +21,22 @@ class Single:
 
     def __reduce_ex__(self, protocol: object) -> NoReturn:
         raise TypeError(f"a {type(self).__name__} can't be copied or pickled: it stands for memory of this process")
+
+
+#: Addresses that nobody has any more, and that C doesn't free while a stream of Arrow's is open over them, of which
+#: Python isn't told; and C's calls that free them.
+_left: List[Tuple[Callable[[c_void_p], int], c_void_p]] = []
+
+
+def free_left() -> None:
+    """Frees what was left, where its streams have ended since."""
+    for _ in range(len(_left)):
+        try:
+            frees, at = _left.pop(0)
+        except IndexError:  # another thread has it
+            return
+        if frees(at) == Misuse.code:
+            _left.append((frees, at))
 
 
 class Shared(Single):
@@ -35,6 +51,7 @@ class Shared(Single):
     kind = ""
 
     def __init__(self) -> None:
+        free_left()
         #: What an opening fills: whoever interrupts the opening then, it is let go with this.
         self.room = c_void_p()
         self._lock = threading.RLock()
@@ -76,6 +93,7 @@ class Shared(Single):
             code = Misuse.code if self._calls else self._free()
         if code not in (0, Misuse.code):
             warnings.warn(f"the {self.kind} was closed, and {error_of(code)}", RuntimeWarning, stacklevel=2)
+        free_left()
 
     def _free(self) -> int:
         """Frees it, and answers C's code: PDT_MISUSE where something is open over it. It stays then."""
@@ -85,7 +103,8 @@ class Shared(Single):
             self.room = at
         return code
 
-    def _freed(self, at: c_void_p) -> int:
+    @staticmethod
+    def _freed(at: c_void_p) -> int:
         """C's call that frees it; a null pointer is no error."""
         raise NotImplementedError
 
@@ -95,6 +114,15 @@ class Shared(Single):
 
     def __del__(self) -> None:
         self.end()
+        self.leave()
+
+    def leave(self) -> None:
+        """Leaves what C didn't free to later calls. It has no address then: what the garbage collector drops after it,
+        as a transaction over it that is in one cycle with it, must not free it again.
+        """
+        if self._ending and self.room.value is not None:
+            at, self.room = self.room, c_void_p()
+            _left.append((self._freed, at))
 
 
 class StoreHandle(Shared):
@@ -104,7 +132,8 @@ class StoreHandle(Shared):
     #: The name of a table of a database; a store alone has none.
     name: Optional[str] = None
 
-    def _freed(self, at: c_void_p) -> int:
+    @staticmethod
+    def _freed(at: c_void_p) -> int:
         return int(library.pdt_close(at))
 
     def _why_open(self) -> str:
@@ -112,12 +141,12 @@ class StoreHandle(Shared):
         check(library.pdt_count(self.room, byref(counts)))
         if counts.pins:
             return f"the store has {counts.pins} pin{'s' if counts.pins > 1 else ''}: close them first"
-        return "a transaction or a snapshot of the store is open"
+        return "a transaction, a snapshot or a stream of the store is open"
 
     def shaping(self) -> Shaping:
         """Its columns, and how cells go there and come back."""
         with self as at:
-            return Shaping(columns_at(at))
+            return shaping_at(at)
 
     def has_numbered(self, number: int) -> bool:
         """Whether a number above that of the newest table is that of a commit, which changed another table."""
@@ -170,6 +199,15 @@ class PinHandle(Single):
             raise Misuse("the pin is closed")
         with self.store:
             check(library.pdt_begin_at(pinned.room, byref(room)))
+
+    def arrow(self, *given: Any) -> int:
+        """C's call that makes a stream over the pin's table."""
+        free_left()
+        pinned = self._pinned
+        if pinned is None:
+            raise Misuse("the pin is closed")
+        with self.store:
+            return int(library.pdt_arrow(pinned.room, *given))
 
     def close(self) -> None:
         """Lets the pin go: at once, or once no other thread begins at it."""
@@ -240,6 +278,11 @@ class TransactionHandle(Single):
     def _take_lock(self) -> None:
         if not self._lock.acquire(blocking=False):
             raise Misuse("another thread is in a call of the transaction")
+
+    def arrow(self, *given: Any) -> int:
+        """C's call that makes a stream of what the transaction sees."""
+        with self as at:
+            return int(library.pdt_txn_arrow(at, *given))
 
     def may_end_alone(self) -> None:
         """Misuse of a part of a work, which ends with that."""

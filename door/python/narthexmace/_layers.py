@@ -51,12 +51,11 @@ class Layer(Single):
                 texts = ctypes.create_string_buffer(entry.bytes)
                 code = library.pdt_entry_at(self.room, index, byref(entry), numbers, texts, len(texts))
             check(code)
-            values = self._shaping.cells_of(numbers, memoryview(texts), self._types_of(entry))
+            values = self._shaping.cells_of(numbers, memoryview(texts), self._places_of(entry))
             column = self._shaping.names[entry.column] if _KINDS[entry.kind] == MODIFY else None
             yield Entry(self._name, entry.sid, entry.rid, _KINDS[entry.kind], column, values)
 
-    def _types_of(self, entry: EntryOf) -> Sequence[str]:
-        """The types of an entry's cells."""
-        if _KINDS[entry.kind] == MODIFY:
-            return self._shaping.types[entry.column : entry.column + 1]
-        return self._shaping.types[: entry.cells]
+    @staticmethod
+    def _places_of(entry: EntryOf) -> Sequence[int]:
+        """The columns of an entry's cells."""
+        return [entry.column] if _KINDS[entry.kind] == MODIFY else range(entry.cells)

@@ -1,4 +1,6 @@
-"""The C library: where it is found, and what its calls take and return. ``door/c/pdt.h`` says what each call does."""
+"""The C library: where it is found, and what its calls take and return. ``door/c/pdt.h`` and
+``door/c/pdt_arrow.h`` say what each call does.
+"""
 from __future__ import annotations
 
 import ctypes
@@ -58,6 +60,7 @@ class CountsOf(ctypes.Structure):
         ("kept_entries", c_uint64),
         ("waits", c_uint64),
         ("longest_hold", c_uint64),
+        ("packs", c_uint64),
     ]
 
 
@@ -177,6 +180,8 @@ _CALLS = {
     "unpin": (None, [c_void_p]),
     "abort": (None, [c_void_p]),
     "commit": (c_int, [c_void_p, c_void_p]),
+    "prepare": (c_int, [c_void_p, c_void_p]),
+    "give_up": (c_int, [c_void_p]),
     "insert": (c_int, [c_void_p, *_CELLS]),
     "delete": (c_int, [c_void_p, *_CELLS]),
     "set": (c_int, [c_void_p, *_CELLS, c_size_t, c_int64, c_char_p]),
@@ -212,6 +217,17 @@ _CALLS = {
     "work_on": (c_int, [c_void_p, c_void_p, c_void_p]),
     "work_commit": (c_int, [c_void_p, c_void_p]),
     "work_abort": (None, [c_void_p]),
+    "arrow": (c_int, [c_void_p, c_void_p, c_size_t, c_uint64, c_uint64, c_size_t, c_void_p]),
+    "txn_arrow": (c_int, [c_void_p, c_void_p, c_size_t, c_uint64, c_uint64, c_size_t, c_void_p]),
+    "open_arrow": (c_int, [c_void_p, c_void_p, c_size_t, c_void_p, c_void_p, c_void_p]),
+    "table_create_arrow": (c_int, [c_void_p, c_char_p, c_void_p, c_void_p, c_size_t, c_void_p, c_void_p, c_void_p]),
+    "apply_arrow": (c_int, [c_void_p, c_void_p, c_int, c_void_p, c_void_p]),
+    "apply_columns": (c_int, [c_void_p, c_void_p, c_size_t, c_int, c_void_p, c_void_p]),
+    "declare": (c_int, [c_void_p, c_size_t, c_char_p]),
+    "declared": (c_char_p, [c_void_p, c_size_t]),
+    "capsules": (None, [c_void_p, c_void_p]),
+    "end_stream_capsule": (None, [c_void_p]),
+    "end_schema_capsule": (None, [c_void_p]),
 }
 
 

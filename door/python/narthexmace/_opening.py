@@ -7,23 +7,25 @@ import os
 from ctypes import byref, c_void_p
 from typing import Any, Callable, Mapping, NamedTuple, Optional, Sequence
 
+from ._arrow import StreamIn, check_columns, names_of, new_fault, stream_of
 from ._columns import PassedColumns
-from ._errors import BadLimit, BadTable, Misuse, NotAscending, Path, check, check_text
+from ._errors import BadLimit, BadTable, Misuse, NotAscending, Path, Shape, check, check_text
 from ._library import MAX_RECENT, MAX_ROWS, FaultOf, Options, PlaceOf, library
-from ._tables import KeyNames, Named, Table, columns_of, fault_of_columns, named_columns
+from ._tables import KeyNames, Named, Table, columns_of, encoded, fault_of_columns, named_columns
 from ._tables import text_of_columns, text_of_table
 
 
 class Calls(NamedTuple):
-    """C's calls that open a table over a text and over columns: a store alone, or in a database, which it has then."""
+    """C's calls that open a table over a text, columns and a stream: a store alone, or in a database, which has it."""
 
     text: Callable[..., int]
     columns: Callable[..., int]
+    arrow: Callable[..., int]
 
 
 def calls_alone() -> Calls:
     """Those that open a store alone."""
-    return Calls(library.pdt_open_csv, library.pdt_open_columns)
+    return Calls(library.pdt_open_csv, library.pdt_open_columns, library.pdt_open_arrow)
 
 
 def open_table(
@@ -35,6 +37,13 @@ def open_table(
     room: c_void_p,
 ) -> None:
     """Opens a table, whose address goes into room. BadTable, Shape, and those of C's calls."""
+    is_frame = hasattr(table, "keys")  # whose columns have the types that are named, and else those of its stream
+    stream = stream_of(table) if types is None or not is_frame else None
+    if stream is not None:
+        if types is not None:
+            raise TypeError("a stream of Arrow's has types of its own")
+        _over_stream(calls, stream, key, options, room)
+        return
     columns = columns_of(table)
     if columns is not None:
         _over_columns(calls, columns, key, types, options, room)
@@ -47,6 +56,17 @@ def open_table(
 def _over_text(calls: Calls, text: bytes, options: Options, room: c_void_p) -> None:
     fault = FaultOf()
     check_text(calls.text(text, len(text), byref(options), byref(fault), byref(room)), fault)
+
+
+def _over_stream(
+    calls: Calls, stream: StreamIn, key: Optional[KeyNames], options: Options, room: c_void_p
+) -> None:
+    names, fault = [key] if isinstance(key, str) else list(key or ()), new_fault()
+    for name in names:
+        if "\0" in name:
+            raise Shape("the name of a column has no null character: C would cut it there")
+    keys = names_of([encoded(name).decode() for name in names])
+    check_columns(calls.arrow(stream.at, keys, len(names), byref(options), byref(fault), byref(room)), fault)
 
 
 def _over_columns(

@@ -2,9 +2,10 @@
 from __future__ import annotations
 
 from types import TracebackType
-from typing import Optional, Type
+from typing import Any, List, Mapping, Optional, Sequence, Tuple, Type
 
-from ._cells import Shaping
+from ._arrow import BATCH, ArrowScan, Asked
+from ._cells import Key, Shaping
 from ._handles import PinHandle, Single, TransactionHandle
 from ._snapshot import Snapshot
 from ._transaction import Transaction
@@ -46,6 +47,37 @@ class Pin(Single):
         It may write, and commits as one that began when that table was the newest: Conflict, TooOld.
         """
         return Transaction(TransactionHandle(self._handle.store, self._handle), self._shaping)
+
+    def arrow(
+        self,
+        columns: Optional[Sequence[str]] = None,
+        start: int = 0,
+        stop: Optional[int] = None,
+        *,
+        keys: Optional[Tuple[Optional[Key], Optional[Key]]] = None,
+        as_types: Optional[Mapping[str, str]] = None,
+        batch: int = BATCH,
+    ) -> ArrowScan:
+        """Its rows for whatever reads Arrow, from one position up to another, with these columns, or all.
+
+        ``keys`` are two keys in place of positions: from the first one on, and below the second; None is no bound.
+        ``as_types`` are the formats of some columns, as ``ArrowScan`` has them. The scan goes on when the pin is closed
+        while a stream of it is open, and no new stream begins then. Shape, Misuse, NoMemory.
+        """
+        asked = Asked(start, stop, keys)
+        return ArrowScan(self._handle, self._shaping, self._ranks, columns, asked, as_types, batch)
+
+    def _ranks(self, keys: Sequence[Key]) -> List[int]:
+        with self.read() as table:
+            return [table.rank(key).below for key in keys]
+
+    def __arrow_c_stream__(self, requested_schema: Any = None) -> Any:
+        """All rows, as a capsule of Arrow's. Any threads have streams of one pin at once. Misuse, NoMemory."""
+        return self.arrow().__arrow_c_stream__(requested_schema)
+
+    def __arrow_c_schema__(self) -> Any:
+        """The columns, as a capsule of Arrow's. Misuse, NoMemory."""
+        return self.arrow().__arrow_c_schema__()
 
     def close(self) -> None:
         """Lets the table go. What began over it goes on. Closing again is no error."""

@@ -8,6 +8,7 @@ from types import TracebackType
 from typing import TYPE_CHECKING, Any, Callable, Iterator, List, Mapping, NamedTuple, Optional, Sequence, Tuple, Type
 from typing import NoReturn, TypeVar, Union, overload
 
+from ._arrow import ArrowScan, Asked
 from ._batches import Batch, Pieces
 from ._cells import BOOL, INT, TEXT, Key, Row, Shaping
 from ._errors import Misuse, Missing, ReadOnly, Shape, TooSmall, check
@@ -23,7 +24,7 @@ Names = Union[List[str], Tuple[str, ...]]
 
 BATCH = 65_536
 #: What a transaction does, and a snapshot doesn't.
-_WRITES = ("insert", "delete", "set", "savepoint", "layer", "commit")
+_WRITES = ("insert", "delete", "set", "insert_many", "upsert_many", "delete_many", "savepoint", "layer", "commit")
 
 
 class Rank(NamedTuple):
@@ -106,7 +107,7 @@ class Snapshot(Single):
 
     def __contains__(self, key: object) -> bool:
         """Whether there is a row of a key, as ``rank`` has it: ``10 in txn``, ``("a", 1) in txn``. Shape, NoMemory."""
-        return self.rank(key).there  # type: ignore[arg-type]
+        return self.rank(key).there
 
     def __len__(self) -> int:
         """How many rows there are."""
@@ -197,7 +198,7 @@ class Snapshot(Single):
                     raise Misuse("the transaction has written since the scan began")
                 types = self._shaping.types
                 cells = {it: column_of(at, types[place], place, first, count) for it, place in columns.items()}
-            yield Batch(first, count, cells)
+            yield Batch(first, count, cells, {it: self._shaping.declared[place] for it, place in columns.items()})
 
     @overload
     def pieces(self, column: str, start: int = 0, stop: Optional[int] = None) -> Pieces: ...
@@ -239,7 +240,8 @@ class Snapshot(Single):
     def to_pandas(self, columns: Optional[Sequence[str]] = None) -> "DataFrame":
         """The table as a DataFrame, with these columns, or all. ImportError where pandas isn't there.
 
-        Ints are int64, bools bool, and texts Python's own, of the type object.
+        Ints are int64, bools bool, and texts Python's own, of the type object. A column that is declared has the values
+        that its rows have, of the type that pandas gives them.
         """
         import numpy
         import pandas
@@ -248,9 +250,43 @@ class Snapshot(Single):
         whole = next(self.scan(names, batch=max(len(self), 1)), None)
         series = {}
         for name in names:
-            type_ = _IN_FRAMES[self._shaping.types[self._shaping.column(name)]]
+            place = self._shaping.column(name)
+            if self._shaping.declared[place] is not None:
+                values = [] if whole is None else whole._values_of(name)
+                series[name] = pandas.Series(values, dtype=None if values else "object")
+                continue
+            type_ = _IN_FRAMES[self._shaping.types[place]]
             series[name] = pandas.Series([] if whole is None else numpy.asarray(whole[name]), dtype=type_)
         return pandas.DataFrame(series)
+
+    def arrow(
+        self,
+        columns: Optional[Sequence[str]] = None,
+        start: int = 0,
+        stop: Optional[int] = None,
+        *,
+        keys: Optional[Tuple[Optional[Key], Optional[Key]]] = None,
+        as_types: Optional[Mapping[str, str]] = None,
+        batch: int = BATCH,
+    ) -> ArrowScan:
+        """Its rows for whatever reads Arrow, as ``Pin.arrow``, with its own writes.
+
+        A stream copies all these rows when it is asked for, and stays as it is whatever is done next. Who has a large
+        table takes a pin, whose streams read batch by batch. Shape, Misuse, NoMemory.
+        """
+        asked = Asked(start, stop, keys)
+        return ArrowScan(self._handle, self._shaping, self._ranks, columns, asked, as_types, batch)
+
+    def _ranks(self, keys: Sequence[Key]) -> List[int]:
+        return [self.rank(key).below for key in keys]
+
+    def __arrow_c_stream__(self, requested_schema: Any = None) -> Any:
+        """All rows, copied now, as a capsule of Arrow's. Misuse, NoMemory."""
+        return self.arrow().__arrow_c_stream__(requested_schema)
+
+    def __arrow_c_schema__(self) -> Any:
+        """The columns, as a capsule of Arrow's. Misuse, NoMemory."""
+        return self.arrow().__arrow_c_schema__()
 
     def __repr__(self) -> str:
         names = ", ".join(self._shaping.names)

@@ -8,17 +8,18 @@ import time
 from ctypes import byref, c_uint64
 from itertools import chain
 from types import TracebackType
-from typing import Iterator, List, Mapping, NamedTuple, Optional, Tuple, Type
+from typing import Any, Dict, Iterator, List, Mapping, NamedTuple, Optional, Sequence, Tuple, Type
 
-from ._cells import Column
-from ._errors import Misuse, Missing, NotKept, Path, check, check_files
+from ._arrow import BATCH, ArrowScan, Asked
+from ._cells import Column, Key
+from ._errors import Misuse, Missing, NotKept, Path, Shape, check, check_files
 from ._handles import PinHandle, Single, StoreHandle, TransactionHandle
 from ._layers import Entry, Layer
 from ._library import MAX_RECENT, MAX_ROWS, CountsOf, SizesOf, library
 from ._opening import calls_alone, folder_of, open_table, options_of
 from ._pin import Pin
 from ._snapshot import Snapshot
-from ._tables import KeyNames, Table
+from ._tables import KeyNames, Table, formats_of
 from ._transaction import Transaction
 
 
@@ -42,7 +43,7 @@ class Counts(NamedTuple):
     changes of the last ``kept`` commits are kept, with ``kept_entries`` entries.
 
     ``waits`` is how often a thread found the lock of the store taken, and ``longest_hold`` the longest time that it was
-    held, in seconds.
+    held, in seconds. ``packs`` is how often a fold packed the Read-PDT for scans.
     """
 
     begins: int
@@ -59,6 +60,7 @@ class Counts(NamedTuple):
     kept_entries: int
     waits: int
     longest_hold: float
+    packs: int
 
 
 #: For how many seconds C waits at a time: Python looks for an interrupt in between.
@@ -80,12 +82,15 @@ def open(
     row_limit: int = MAX_ROWS,
     conflicts: str = "column",
 ) -> "Store":
-    """Opens a store over a table, which is a CSV text, the path of one, or columns.
+    """Opens a store over a table, which is a CSV text, the path of one, columns, or what has ``__arrow_c_stream__``.
 
     A text is ``bytes``, or a ``str`` that has an end of a line; any other ``str`` is a path, as is a ``Path``. Its
     first record names the columns, as ``id:int:key,name:text``. Columns are a mapping from names to lists or arrays, or
     a DataFrame of pandas; ``key`` names those of the key, which come first then, and ``types`` may give the type of
-    some: "int", "text" or "bool".
+    some: "int", "text" or "bool", or a format as ``Store.declare`` has them, as "g" of floats.
+
+    What has ``__arrow_c_stream__``, as tables of pyarrow and DataFrames of polars, is read batch by batch, in C:
+    docs/ARROW says which types it may have. Its rows may stand in any order, and ``key`` names the columns of the key.
 
     ``recent`` is how many commits may come between a transaction's begin and its commit, and of how many of the last
     ones the changes are kept; ``row_limit`` is how many rows a table may have, and ``conflicts`` says whether changes
@@ -94,11 +99,13 @@ def open(
     The table is read whole, and stays in memory: nothing is written to the file, and commits last only once a
     checkpoint has written them (``Store.checkpoint``).
 
-    BadTable, Shape (the columns), TooManyRows, BadLimit, NoMemory; OSError where the file can't be read.
+    BadTable, Shape (the columns), TooManyRows, BadLimit, NoMemory; OSError where the file can't be read. Of a stream of
+    Arrow's also Duplicate, where a key is there twice, and DeviceFailed, where the stream fails; ``row`` and ``column``
+    of the exception say where.
     """
     options, handle = options_of(recent, row_limit, conflicts), StoreHandle()
     open_table(calls_alone(), table, key, types, options, handle.room)
-    return Store(handle)
+    return Store(handle)._with_declared(types)
 
 
 def recover(
@@ -138,6 +145,12 @@ class Store(Single):
         self._handle = handle
         self._shaping = handle.shaping()
 
+    def _with_declared(self, types: Optional[Mapping[str, str]]) -> "Store":
+        """The store, whose columns are declared as their types say."""
+        for column, format_ in formats_of(types).items():
+            self.declare(column, format_)
+        return self
+
     def _stands_for(self, handle: StoreHandle) -> bool:
         return self._handle is handle
 
@@ -164,6 +177,56 @@ class Store(Single):
         ``with store.pin() as pin:``, and then ``with pin.read() as table:`` in each thread.
         """
         return Pin(PinHandle(self._handle), self._shaping)
+
+    def arrow(
+        self,
+        columns: Optional[Sequence[str]] = None,
+        start: int = 0,
+        stop: Optional[int] = None,
+        *,
+        keys: Optional[Tuple[Optional[Key], Optional[Key]]] = None,
+        as_types: Optional[Mapping[str, str]] = None,
+        batch: int = BATCH,
+    ) -> ArrowScan:
+        """The newest table's rows for whatever reads Arrow, as ``Pin.arrow``: the scan has a pin of its own.
+
+        Each stream of the scan reads this version. The store isn't closed while the scan is kept.
+        """
+        pin = self.pin()
+        asked = Asked(start, stop, keys)
+        return ArrowScan(pin._handle, self._shaping, pin._ranks, columns, asked, as_types, batch, pin)
+
+    def __arrow_c_stream__(self, requested_schema: Any = None) -> Any:
+        """All rows of the newest table, as a capsule of Arrow's. Each time it is the newest: ``arrow`` keeps one."""
+        return self.arrow().__arrow_c_stream__(requested_schema)
+
+    def __arrow_c_schema__(self) -> Any:
+        """The columns, as a capsule of Arrow's."""
+        return self.arrow().__arrow_c_schema__()
+
+    def declare(self, column: str, format: Optional[str]) -> None:
+        """Declares what the numbers of an int column stand for, as Arrow spells it: "tdD" are dates, "g" doubles.
+
+        Streams of Arrow's have the column so, and others are refused. In rows and keys its cells are floats ("g"),
+        dates ("tdD"), datetimes ("tsu:", or "tsu:UTC" with a time zone; also "tss:" and "tsm:") or Decimals ("d:15,2"),
+        and with "?" before it None, for which the least int64 stands. Of other formats they stay ints, as they do in
+        batches and pieces. No column of the key has nulls. None takes it back. In a database it lasts. It is called
+        while no other thread uses the store. Shape, FileFailed, Misuse.
+        """
+        place = self._shaping.column(column)
+        with self._handle as at:
+            code = library.pdt_declare(at, place, format and format.encode())
+        if code == Shape.code:
+            raise Shape(f"column {column!r} is of no such format: {format!r}")
+        check_files(code, column)
+        self._shaping.declare(place, format)
+
+    @property
+    def declared(self) -> Dict[str, str]:
+        """What the numbers of columns stand for, where they are declared, as what came in as dates by Arrow."""
+        with self._handle as at:
+            formats = {name: library.pdt_declared(at, place) for place, name in enumerate(self._shaping.names)}
+        return {name: format.decode() for name, format in formats.items() if format is not None}
 
     def fold(self) -> None:
         """Folds the Write-PDT into the Read-PDT, for later commits a smaller tree. No table changes. NoMemory."""

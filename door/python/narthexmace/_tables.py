@@ -3,17 +3,29 @@ from __future__ import annotations
 
 import os
 from pathlib import Path
-from typing import TYPE_CHECKING, Any, Callable, Dict, Iterable, List, Mapping, NamedTuple, Optional, Sequence, Union
+from typing import TYPE_CHECKING, Any, Callable, Dict, Iterable, List, Mapping, NamedTuple, Optional, Protocol
+from typing import Sequence, Union
 
-from ._cells import BOOL, INT, TEXT, bytes_of, is_time, is_truth, number_of, truth_of
+from ._cells import BOOL, INT, TEXT, Column, Shaping, bytes_of, is_time, is_truth, number_of, truth_of
+from ._declared import Declared, declared_as
 from ._errors import BadTable, Shape
 
 if TYPE_CHECKING:
     from pandas import DataFrame
 
 Columns = Union[Mapping[str, Iterable[Any]], "DataFrame"]
-Table = Union[str, bytes, "os.PathLike[str]", Columns]
+Table = Union[str, bytes, "os.PathLike[str]", Columns, "HasStream"]
 KeyNames = Union[str, Sequence[str]]
+
+
+class HasStream(Protocol):
+    """What hands out a stream of Arrow's."""
+
+    def __arrow_c_stream__(self, requested_schema: Any = None) -> Any: ...
+
+
+#: Rows that are applied at once.
+Many = Union[Columns, HasStream]
 
 
 def text_of_table(table: object) -> bytes:
@@ -67,6 +79,11 @@ def named_columns(
         raise Shape("the name of a column has no null character: C would cut it there")
     listed = []
     for name in (*names, *(name for name in columns if name not in names)):
+        declared = declared_by(types.get(name))
+        if declared is not None:
+            column = Named(name, INT, (), name in names)
+            listed.append(column._replace(cells=_numbers(column, declared, columns[name])))
+            continue
         if is_time(columns[name]):
             raise Shape(f"column {name!r} has dates or times, and no column has: astype('int64') makes ints of them")
         cells = array_of(columns[name]) or _listed(columns[name])
@@ -76,10 +93,62 @@ def named_columns(
         if isinstance(cells, memoryview) and type_of_array(cells) != type_:
             cells = cells.tolist()
         listed.append(Named(name, type_, cells, name in names))
-    lengths = sorted({len(column.cells) for column in listed})  # type: ignore[arg-type]
+    _of_one_length(listed)
+    return listed
+
+
+def columns_for(rows: object, shaping: Shaping, keys_alone: bool) -> List[Named]:
+    """Columns that are applied to a table of these columns, or those of its key alone."""
+    columns = columns_of(rows)
+    if columns is None:
+        raise TypeError(f"rows are columns by names, or have __arrow_c_stream__: no {type(rows).__name__} is that")
+    taken = [column for column in shaping.columns if column.key or not keys_alone]
+    for column in taken:
+        if column.name not in columns:
+            raise Shape(f"column {column.name!r} of the table isn't there")
+    if not keys_alone and len(columns) > len(taken):
+        raise Shape(f"the table has no column {next(iter(set(columns) - {it.name for it in taken}))!r}")
+    listed = []
+    for column in taken:
+        given, declared = columns[column.name], shaping.declared[shaping.column(column.name)]
+        cells: Iterable[Any]
+        if declared is not None:
+            cells = _numbers(column, declared, given)
+        elif is_time(given):
+            raise Shape(f"column {column.name!r} has dates or times, and isn't declared so")
+        else:
+            cells = array_of(given) or _listed(given)
+        if isinstance(cells, memoryview) and type_of_array(cells) != column.type:
+            cells = cells.tolist()
+        listed.append(Named(column.name, column.type, cells, column.key))
+    _of_one_length(listed)
+    return listed
+
+
+def _of_one_length(columns: Sequence[Named]) -> None:
+    lengths = sorted({len(column.cells) for column in columns})  # type: ignore[arg-type]
     if len(lengths) > 1:
         raise Shape(f"the columns have {' and '.join(map(str, lengths))} cells")
-    return listed
+
+
+def _numbers(column: Union[Named, Column], declared: Declared, given: Any) -> List[int]:
+    """The ints of a declared column's values. Dates and times of numpy are whole numbers of the column's unit."""
+    if is_time(given):
+        rounded = given.astype(f"datetime64[{declared.unit}]") if declared.unit and given.dtype.kind == "M" else None
+        if rounded is None or ((rounded != given) & (rounded == rounded)).any():
+            raise Shape(f"column {column.name!r} has dates or times that are no values of it")
+        given = rounded
+    return [written(column, declared.number, cell) for cell in _listed(given)]
+
+
+def declared_by(type_: Optional[str]) -> Optional[Declared]:
+    """What a column is declared as whose type is a format of Arrow's, as "tdD"."""
+    return declared_as(type_) if type_ is not None and type_ not in _WRITERS else None
+
+
+def formats_of(types: Optional[Mapping[str, str]]) -> Dict[str, str]:
+    """The formats among the types of columns."""
+    return {name: type_ for name, type_ in (types or {}).items() if declared_by(type_) is not None}
 
 
 def fault_of_columns(columns: Sequence[Named]) -> str:
@@ -149,7 +218,7 @@ def _kind_of(cell: object) -> Optional[str]:
     return INT if hasattr(cell, "__index__") else None
 
 
-def written(column: Named, write: Callable[[Any], Any], cell: object) -> Any:
+def written(column: Union[Named, Column], write: Callable[[Any], Any], cell: object) -> Any:
     """What a cell is written as; a fault names the column."""
     try:
         return write(cell)

@@ -6,11 +6,18 @@ from ctypes import byref, c_size_t, c_uint64
 from types import TracebackType
 from typing import Iterator, Mapping, Optional, Sequence, Type, Union
 
+from ._arrow import check_columns, new_fault, stream_of
 from ._cells import Cell, Key
-from ._errors import Shape, check, error_of
+from ._columns import PassedColumns
+from ._errors import Conflict, Full, Shape, TooOld, check, error_of
 from ._layers import Entry, Layer
 from ._library import NO_NUMBER, library
 from ._snapshot import Snapshot
+from ._tables import Many, columns_for
+
+
+#: What is done with each row: enum pdt_apply.
+_INSERT, _UPSERT, _DELETE = 1, 2, 3
 
 
 def check_commit(code: int, number: int) -> None:
@@ -71,6 +78,22 @@ class Transaction(Snapshot):
             if self.is_open:
                 self.abort()
 
+    def _decide(self) -> None:
+        """Decides as ``commit`` would, and raises what that would raise. Nothing is committed: it stays open as it was.
+
+        Conflict, TooOld and Full end it. What it says holds until the table's next commit. Made where no interrupt
+        comes, as in a thread that isn't the main one: the store's lock is held from one call of C to the next.
+        """
+        with self._handle as at:
+            self._handle.may_end_alone()
+            self._handle.take_back()
+            code = library.pdt_prepare(at, byref(c_uint64()))
+            if not code:
+                code = library.pdt_give_up(at)
+            elif code in (Conflict.code, TooOld.code, Full.code):
+                self._handle.committed()
+        check(code)
+
     # ---- writes
 
     def insert(self, row: Union[Sequence[Cell], Mapping[str, Cell]]) -> None:
@@ -98,11 +121,49 @@ class Transaction(Snapshot):
         place = self._shaping.column(column)
         if self._shaping.columns[place].key:
             raise Shape(f"column {column!r} belongs to the key, and is not set")
-        number, text = self._shaping.cell(value, self._shaping.types[place])
+        number, text = self._shaping.cell(value, place)
         with self._handle as at:
             self._handle.take_back()
             check(library.pdt_set(at, numbers, texts, count, place, number, text))
             self._writes += 1
+
+    def insert_many(self, rows: Many) -> int:
+        """Inserts the rows of columns, all of them or none, and answers how many they are.
+
+        Columns are a mapping from names to lists or arrays, a DataFrame, or what has ``__arrow_c_stream__``; they have
+        the names and the types of the table's, in any order. ``row`` of an exception counts from 0.
+
+        Duplicate, Full, Shape, DeviceFailed (a stream that fails), Lent, NoMemory: nothing was written.
+        """
+        return self._apply(rows, _INSERT)
+
+    def upsert_many(self, rows: Many) -> int:
+        """Inserts the rows of columns; where there is a row of the key its other cells are set. As ``insert_many``."""
+        return self._apply(rows, _UPSERT)
+
+    def delete_many(self, keys: Many) -> int:
+        """Deletes the rows of keys, in columns: all of them or none, and answers how many they are.
+
+        Other columns than those of the key are passed over. Missing, and else as ``insert_many``.
+        """
+        return self._apply(keys, _DELETE)
+
+    def _apply(self, rows: Many, what: int) -> int:
+        stream, fault, done = stream_of(rows), new_fault(), c_uint64()
+        passed = None
+        if stream is None:
+            passed = PassedColumns(columns_for(rows, self._shaping, what == _DELETE))
+        with self._handle as at:
+            self._handle.take_back()
+            self._writes += 1
+            if stream is not None:
+                code = library.pdt_apply_arrow(at, stream.at, what, byref(fault), byref(done))
+            else:
+                assert passed is not None
+                columns = passed.columns
+                code = library.pdt_apply_columns(at, columns, len(columns), what, byref(fault), byref(done))
+        check_columns(code, fault)
+        return done.value
 
     @contextmanager
     def savepoint(self) -> Iterator[None]:

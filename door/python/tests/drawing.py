@@ -7,7 +7,7 @@ from typing import Any, Callable, Dict, List, Sequence, Tuple
 
 import narthexmace
 
-from . import model
+from . import arrow, model
 
 try:
     import numpy
@@ -25,10 +25,10 @@ Pair = Tuple[Any, Any]
 #: The calls that a snapshot has too, and how often each is drawn.
 READS = {
     "get": 4, "contains": 3, "rank": 3, "at": 2, "length": 1, "slice": 2, "loop": 1, "scan": 2, "batch": 2, "texts": 2,
-    "pieces": 2, "beside": 2, "numpy": 1, "pandas": 1, "looks": 1, "refused": 2,
+    "pieces": 2, "beside": 2, "numpy": 1, "pandas": 1, "arrow": 2, "looks": 1, "refused": 2,
 }  # fmt: skip
 WRITES = {
-    "insert": 6, "delete": 5, "set": 8, "savepoint": 4, "layer": 2, "broken_scan": 1, "lent": 1, "refused_write": 1,
+    "insert": 6, "delete": 5, "set": 8, "many": 3, "savepoint": 4, "layer": 2, "broken_scan": 1, "lent": 1, "refused_write": 1,
 }  # fmt: skip
 
 
@@ -125,6 +125,53 @@ class Calls:
         cell = self.cell(place)
         got = self.reply(lambda: client.txn.set(self.given(key), self.names[place], cell))
         return got, client.model.set(key, place, cell)
+
+    def do_many(self, client: Client) -> Pair:
+        """Rows that are applied at once, all of them or none: as columns, or by a stream of Arrow's."""
+        what = self.draw.choice(["insert_many", "upsert_many", "delete_many"])
+        rows = [self.row() for _ in range(self.draw.randrange(6))]
+        if what != "insert_many":
+            rows = [(*self.key(client), *row[self.key_columns :]) for row in rows]
+        saved, due = client.model.saved(), ("Done", len(rows))
+        for place, row in enumerate(rows):
+            reply = self.applied(client.model, what, row)
+            if reply != "Done":
+                client.model.go_back(saved)
+                due = reply, place
+                break
+        places = self.draw.sample(range(len(self.types)), len(self.types))
+        if what == "delete_many" and self.chance(0.5):
+            places = [place for place in places if place < self.key_columns]
+        given: Any = {self.names[place]: [row[place] for row in rows] for place in places}
+        if self.chance(0.5):
+            given = self.stream_of(rows, places)
+            if self.chance(0.1) and due[0] == "Done":
+                client.model.go_back(saved)
+                given.fails_at, due = len(given.batches), ("DeviceFailed", len(rows))
+        try:
+            got = "Done", getattr(client.txn, what)(given)
+        except (narthexmace.Duplicate, narthexmace.Missing, narthexmace.Full, narthexmace.DeviceFailed) as fault:
+            self.raised(fault)
+            got = type(fault).__name__, fault.row
+        return (got, getattr(given, "live", 0)), (due, 0)
+
+    def applied(self, client: model.Client, what: str, row: Row) -> str:
+        """What the model answers to one of such rows."""
+        key = row[: self.key_columns]
+        if what == "delete_many":
+            return client.delete(key)
+        if what == "insert_many" or key not in client.rows:
+            return client.insert(row)
+        for place in range(self.key_columns, len(row)):
+            client.set(key, place, row[place])
+        return "Done"
+
+    def stream_of(self, rows: Sequence[Row], places: Sequence[int]) -> arrow.Producer:
+        """These columns of rows as a stream of Arrow's, in batches."""
+        formats = {"int": ["l"], "text": ["u", "U", "vu"], "bool": ["b"]}
+        columns = [arrow.Column(self.names[place], self.draw.choice(formats[self.types[place]])) for place in places]
+        cells, size = [[row[place] for place in places] for row in rows], self.draw.choice([1, 2, 100])
+        return arrow.Producer(columns, [cells[at : at + size] for at in range(0, len(cells), size)])
 
     def reply(self, call: Callable[[], None]) -> str:
         try:
@@ -311,6 +358,28 @@ class Calls:
         ways += [[data[begin:end].decode() for begin, end in zip(ends, ends[1:])], repr(texts), at(texts, len(due))]
         by_hand = [due[index], due[index:], due, due, len(due), "".join(due).encode(), due, f"Texts({due!r})", "none"]
         return ways, by_hand
+
+    def do_arrow(self, client: Client) -> Pair:
+        return self.streamed(client.txn, client.model.image())
+
+    def streamed(self, thing: Any, image: List[Row]) -> Pair:
+        """A stream of Arrow's, of what has these rows: of all, or of some columns between two positions or two keys."""
+        if self.chance(0.2):
+            return arrow.rows_of(thing), image
+        places = self.draw.sample(range(len(self.types)), self.draw.randrange(1, len(self.types) + 1))
+        names = [self.names[place] for place in places]
+        types = {name: "u" for name, place in zip(names, places) if self.types[place] == "text"}
+        if self.chance(0.5):
+            start, stop = sorted(self.draw.randrange(len(image) + 2) for _ in range(2))
+            scan = thing.arrow(names, start, stop, batch=3 if stop - start < 50 else 1000)
+            rows = image[start:stop]
+        else:
+            some = [row[: self.key_columns] for row in (self.row(), self.row(), *image[:3])]
+            low, high = sorted(self.draw.sample(some, 2), key=model.order)
+            scan = thing.arrow(columns=names, keys=(self.given(low), self.given(high)), as_types=types)
+            rows = [row for row in image if model.order(low) <= model.order(row[: self.key_columns]) < model.order(high)]
+        got = (arrow.rows_of(scan), repr(scan))
+        return got, ([tuple(row[place] for place in places) for row in rows], f"<ArrowScan of {', '.join(names)}>")
 
     def do_beside(self, client: Client) -> Pair:
         """Pieces of several columns at once: in each the same rows of all."""

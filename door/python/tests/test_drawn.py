@@ -15,7 +15,7 @@ from typing import Any, Callable, Dict, List, Tuple
 
 import narthexmace
 
-from . import drawing, model
+from . import arrow, drawing, model
 from .drawing import READS, WRITES, Calls, Client, Pair, Row, Undone, numpy, pandas
 from .watching import Watch, wanted
 
@@ -24,10 +24,10 @@ SEED = int(os.environ.get("NARTHEXMACE_SEED", "1"))
 CLIENTS = 4
 STORE = {
     "fold": 3, "cut": 2, "checkpoint": 1, "sizes": 1, "layers": 2, "columns": 1, "read": 4, "block": 4, "threads": 1,
-    "opened": 1, "openings": 1, "folders": 1, "closed": 1, "pin": 6, "changes": 6, "counts": 2, "wait": 1,
+    "opened": 1, "openings": 1, "folders": 1, "closed": 1, "pin": 6, "changes": 6, "counts": 2, "wait": 1, "arrow": 4,
 }  # fmt: skip
 #: What no drawn call raises: memory is refused in test_errors alone, and the rest is for calls that the package lacks.
-NEVER = {"NoMemory", "TooSmall", "NotAscending", "Superseded", "DeviceFailed", "Error"}
+NEVER = {"NoMemory", "TooSmall", "NotAscending", "Superseded", "Error"}
 #: What stands behind no name of its own.
 CLAUSES = {
     "commit Committed", "commit Conflict", "commit TooOld", "commit Full", "block committed", "block aborted",
@@ -191,6 +191,28 @@ class Run(Calls):
         with pin.read() as table:
             return table[:], self.model.image(pin.number)
 
+    def on_arrow(self) -> Pair:
+        """Streams of Arrow's, of the newest table or of a pin's; a store that is opened over one; and declared columns."""
+        if self.chance(0.2):
+            place, format_ = self.column("int"), self.draw.choice(["tsu:UTC", "tDn", "g", "d:38,2"])
+            self.store.declare(self.names[place], format=format_)
+            fields = arrow.consumed(self.store).fields
+            declared = self.store.declared
+            self.store.declare(self.names[place], None)
+            refused = self.refuses(narthexmace.Shape, lambda: self.store.declare(self.names[0], "?x"))
+            return (fields[place], declared, self.store.declared, refused), (
+                (self.names[place], format_, 0), {self.names[place]: format_}, {}, True
+            )  # fmt: skip
+        if self.chance(0.3):
+            rows = self.model.image()
+            producer = self.stream_of(self.draw.sample(rows, len(rows)), range(len(self.types)))
+            with narthexmace.open(producer, key=self.names[: self.key_columns], **self.options) as store:
+                return (arrow.rows_of(store), producer.live), (rows, 0)
+        if self.pins and self.chance(0.6):
+            pin = self.draw.choice(self.pins)
+            return self.streamed(pin, self.model.image(pin.number))
+        return self.streamed(self.store, self.model.image())
+
     def on_changes(self) -> Pair:
         """What the commits after a number changed, each merged by its positions over the table before."""
         newest, kept = len(self.model.commits), self.model.kept()
@@ -223,9 +245,9 @@ class Run(Calls):
         told = self.told
         due = (2, newest, *(told[it] for it in ("Conflict", "TooOld", "Full", "folds", "checkpoints")))
         oldest = min((pin.number for pin in self.pins), default=None)
-        lock = it.waits >= 0, 0 < it.longest_hold < 60, narthexmace.version() > "0"
+        lock = it.waits >= 0, 0 < it.longest_hold < 60, it.packs <= it.folds, narthexmace.version() > "0"
         rest = (it.superseded, it.pins, it.oldest_pin, it.kept, it.kept_entries)
-        return (got, rest, lock), (due, (0, len(self.pins), oldest, kept, entries), (True, True, True))
+        return (got, rest, lock), (due, (0, len(self.pins), oldest, kept, entries), (True, True, True, True))
 
     def on_wait(self) -> Pair:
         newest = len(self.model.commits)

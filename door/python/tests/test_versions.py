@@ -109,7 +109,7 @@ class Pins(Case):
         self.assertRaisesRegex(Misuse, "^the store has 1 pin: close them first$", self.store.close)
         table = pins[0].read()
         del pins[:]  # one that is dropped is closed
-        self.assertRaisesRegex(Misuse, "^a transaction or a snapshot of the store is open$", self.store.close)
+        self.assertRaisesRegex(Misuse, "^a transaction, a snapshot or a stream of the store is open$", self.store.close)
         table.abort()
         self.store.close()
         self.assertRaises(Misuse, self.store.pin)
@@ -439,7 +439,7 @@ class Counts(Case):
     def test_what_is_counted(self) -> None:
         with narthexmace.open(TABLE, recent=2, row_limit=3) as store:
             none = store.counts()
-            self.assertEqual(none, narthexmace.Counts(0, 0, 0, 0, 0, 0, 0, 0, 0, None, 0, 0, 0, none.longest_hold))
+            self.assertEqual(none, narthexmace.Counts(0, 0, 0, 0, 0, 0, 0, 0, 0, None, 0, 0, 0, none.longest_hold, 0))
             late, one, two = store.begin(), store.begin(), store.begin()
             one.insert((30, "Cid", 0, True))
             two.insert((40, "Dee", 0, True))

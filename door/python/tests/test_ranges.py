@@ -1,0 +1,853 @@
+"""Tables in key ranges on the workers of a Dask cluster: money that moves while workers are killed, deaths at a step.
+
+Workers are killed three times while money moves, or as often as NARTHEXMACE_KILLS says, from the seed
+NARTHEXMACE_SEED. With NARTHEXMACE_TELLS it prints how much was moved.
+"""
+import itertools
+import os
+import random
+import resource
+import shutil
+import signal
+import subprocess
+import sys
+import tempfile
+import threading
+import time
+import unittest
+import warnings
+from contextlib import suppress
+from pathlib import Path
+from typing import Any, Callable, Dict, List, Optional, Set, Tuple, Type
+
+import narthexmace
+from narthexmace import Conflict, Duplicate, Exists, Gap, Locked, Missing, Rot, Shape
+from narthexmace import _ranges_errors, _ranges_log, _ranges_owner, _ranges_steps
+from narthexmace._ranges_owner import First, Owner, Status
+
+from . import test_docs
+from .folders import HERE, Case
+
+try:
+    import distributed
+    import narthexmace.dask as ranges
+    from narthexmace import _ranges_frame
+except ImportError:
+    distributed = None  # type: ignore[assignment]
+
+KILLS = int(os.environ.get("NARTHEXMACE_KILLS", "3"))
+SEED = int(os.environ.get("NARTHEXMACE_SEED", "1"))
+#: How long a call waits for its ranges, and where one of them is stopped.
+SECONDS, STOPPED = 8.0, 1.5
+#: The ranges of the bank, how far apart they begin, and what is in each account.
+PLACES, APART, ACCOUNTS, START = 4, 1_000_000, 50, 100
+
+#: A coordinator in a process of its own, which ends itself at a step of a transfer from the first range to the third.
+COORDINATOR = """\
+import os, sys, distributed
+from narthexmace import _ranges_steps
+import narthexmace.dask
+address, folder, step = sys.argv[1:]
+def hook(reached, place):
+    if reached == step:
+        os._exit(9)
+client = distributed.Client(address, direct_to_workers=True)
+table = narthexmace.dask.connect(folder, client=client)
+_ranges_steps.hook = hook
+txn = table.begin()
+print(txn.name, flush=True)
+txn.set(0, "sum", 90)
+txn.set(20, "sum", 10)
+txn.commit()
+"""
+
+needs_dask = unittest.skipIf(distributed is None, "dask isn't there (apt-get install python3-dask python3-distributed)")
+
+
+class Logs(unittest.TestCase):
+    """The decision log alone, which needs no Dask."""
+
+    def setUp(self) -> None:
+        place = tempfile.TemporaryDirectory()
+        self.addCleanup(place.cleanup)
+        self.folder = place.name
+        self.path = Path(place.name, "decisions.log")
+        _ranges_log.Log.make(self.folder)
+
+    def open(self) -> "_ranges_log.Log":
+        log = _ranges_log.Log(self.folder)
+        self.addCleanup(log.close)
+        return log
+
+    def decision(self, number: int) -> "_ranges_log.Decision":
+        parts: Dict[int, Any] = {0: [["set", [number], "sum", -1]], 2: [["insert", [7, "ink\nünd", True]]]}
+        return _ranges_log.Decision(number, f"t{number}", parts)
+
+    def test_a_log_has_what_was_appended_and_counts_epochs(self) -> None:
+        for epoch in (1, 2, 3):
+            log = self.open()
+            self.assertEqual((log.epoch, log.next), (epoch, 2 * epoch - 1))
+            self.assertEqual(log.decisions, [self.decision(number) for number in range(1, 2 * epoch - 1)])
+            for number in (log.next, log.next + 1):
+                log.append(self.decision(number))
+            log.close()
+        log = self.open()
+        log.rewrite([])
+        log.close()
+        self.assertEqual((self.open().next, self.path.read_bytes().count(b"\n")), (7, 1))
+
+    def test_a_last_record_that_is_torn_at_any_byte_is_no_decision(self) -> None:
+        log = self.open()
+        log.append(self.decision(1))
+        before = self.path.stat().st_size
+        log.append(self.decision(2))
+        log.close()
+        content = self.path.read_bytes()
+        for size in range(before, len(content) + 1):
+            for tail in (b"", bytes(len(content) - size), b"\xff" * (len(content) - size)):
+                self.path.write_bytes(content[:size] + tail)
+                log = self.open()
+                log.close()
+                due = 2 if content[:size] + tail == content else 1
+                self.assertEqual([it.number for it in log.decisions], [1, 2][:due], (size, tail))
+
+    def test_a_record_that_is_damaged_before_the_last_one_is_told(self) -> None:
+        log = self.open()
+        for number in (1, 2, 3):
+            log.append(self.decision(number))
+        log.close()
+        content = self.path.read_bytes()
+        last = content[:-1].rindex(b"\n") + 1
+        for place in range(last):
+            damaged = bytearray(content)
+            damaged[place] ^= 1 << place % 8
+            self.path.write_bytes(damaged)
+            with self.subTest(place=place), self.assertRaises(Rot):
+                _ranges_log.Log(self.folder)
+        self.path.write_bytes(b"")
+        self.assertRaises(Gap, _ranges_log.Log, self.folder)
+        self.path.unlink()
+        self.assertRaises(Gap, _ranges_log.Log, self.folder)
+
+    def test_one_process_has_it(self) -> None:
+        log = self.open()
+        self.assertRaises(Locked, _ranges_log.Log, self.folder)
+        log.close()
+        self.open()
+
+    def test_what_does_not_fit_is_no_decision_and_what_cannot_be_synced_is_in_doubt(self) -> None:
+        log = self.open()
+        log.append(self.decision(1))
+        size = self.path.stat().st_size
+        before, soft = signal.signal(signal.SIGXFSZ, signal.SIG_IGN), resource.getrlimit(resource.RLIMIT_FSIZE)
+        resource.setrlimit(resource.RLIMIT_FSIZE, (size + 10, soft[1]))
+        try:
+            with self.assertRaises(_ranges_errors.LogFailed) as caught:
+                log.append(self.decision(2))
+        finally:
+            resource.setrlimit(resource.RLIMIT_FSIZE, soft)
+            signal.signal(signal.SIGXFSZ, before)
+        self.assertEqual((caught.exception.outcome, self.path.stat().st_size), ("not committed", size))
+        log.append(self.decision(3))
+        sync = os.fsync
+        os.fsync = self.fails  # type: ignore[assignment]
+        try:
+            with self.assertRaises(_ranges_errors.LogFailed) as caught:
+                log.append(self.decision(4))
+        finally:
+            os.fsync = sync
+        self.assertEqual(caught.exception.outcome, "in doubt")
+        self.assertRaises(_ranges_errors.LogFailed, log.append, self.decision(5))
+        log.close()
+        self.assertEqual([it.number for it in self.open().decisions], [1, 3, 4])
+
+    def fails(self, file: int) -> None:
+        raise OSError(5, "failed")
+
+    def test_a_long_log_says_so(self) -> None:
+        log = self.open()
+        while not log.is_long:
+            log.append(_ranges_log.Decision(log.next, "t", {0: [["insert", ["x" * 400_000]]]}))
+        self.assertGreater(self.path.stat().st_size, _ranges_log.MOST_BYTES)
+        log.rewrite([])
+        self.assertLess(self.path.stat().st_size, 100)
+        log.append(self.decision(log.next))
+        log.close()
+        self.assertEqual(len(self.open().decisions), 1)
+
+
+#: Opens the database of a range, and has it until it is told to end.
+HOLDER = """\
+import sys, narthexmace
+db = narthexmace.connect(sys.argv[1])
+print("open", flush=True)
+sys.stdin.read()
+db.close()
+"""
+
+
+class Owners(Case):
+    """A range alone, which needs no Dask."""
+
+    def owner(self, first: Optional[First] = None, seconds: float = 1.0) -> Owner:
+        owner = Owner(str(self.folder), 0, (1, 1), seconds, first)
+        self.addCleanup(owner.close)
+        return owner
+
+    def made(self) -> Owner:
+        return self.owner(First({"id": [1, 2], "sum": [5, 7]}, ["id"], {"id": "int", "sum": "int"}, {}))
+
+    def rows(self, owner: Owner, version: int) -> List[Any]:
+        return list(owner.read(version, list))
+
+    def test_what_is_installed_again_is_done_once(self) -> None:
+        owner, effects = self.made(), [["modify", [1], "sum", 6], ["insert", [3, 0]]]
+        before = owner.status((1, 1)).version
+        version = owner.install((1, 1), 3, "3-a", effects)
+        for _ in range(2):
+            self.assertEqual(owner.install((1, 1), 3, "3-a", effects), version)
+            self.assertEqual(owner.install((1, 1), 2, "2-b", [["delete", [2]]]), version)
+            self.assertEqual(owner.status((1, 1)), Status(3, "3-a", version))
+            self.assertEqual(self.rows(owner, version), [(1, 6), (2, 7), (3, 0)])
+            self.assertEqual((owner.has("3-a"), owner.has("2-b")), (True, False))
+            owner.close()
+            owner = self.owner()
+        self.refused(_ranges_errors.Gone, owner.read, before, list)
+        self.assertEqual(owner.install((1, 1), 4, "4-c", [["delete", [1]], ["insert", [1, 9]]]), version + 1)
+        self.assertEqual(self.rows(owner, version), [(1, 6), (2, 7), (3, 0)])
+        self.assertEqual(self.rows(owner, version + 1), [(1, 9), (2, 7), (3, 0)])
+
+    def test_a_vote_is_what_a_transaction_writes_and_changes_nothing(self) -> None:
+        owner = self.made()
+        version = owner.status((1, 1)).version
+        for name, key in (("1-a", 1), ("1-b", 1), ("1-c", 2)):
+            owner.do(name, version, "set", [key, "sum", 9])
+        owner.do("1-a", None, "delete", [2])
+        owner.do("1-a", None, "insert", [(2, 8)])
+        owner.do("1-a", None, "insert", [(3, 8)])
+        owner.do("1-a", None, "delete", [3])
+        votes = owner.prepare((1, 1), "1-a")
+        self.assertEqual(votes, [["delete", (2,)], ["insert", (2, 8)], ["modify", (1,), "sum", 9]])
+        self.assertEqual(owner.status((1, 1)).version, version)
+        self.refused(_ranges_errors.Gone, owner.prepare, (1, 1), "1-a")
+        owner.install((1, 1), 1, "1-a", votes)
+        for name in ("1-b", "1-c"):
+            self.refused(Conflict, owner.prepare, (1, 1), name)
+        owner.do("2-d", version + 1, "set", [1, "sum", 10])
+        self.assertEqual(owner.commit((1, 1), 2, "2-d"), version + 2)
+        self.assertEqual(self.rows(owner, version + 2), [(1, 10), (2, 8)])
+
+    def test_words_of_an_older_term_are_refused(self) -> None:
+        owner = self.made()
+        version = owner.status((2, 5)).version
+        owner.do("1-a", version, "set", [1, "sum", 9])
+        for term in ((2, 4), (1, 9)):
+            self.refused(_ranges_errors.Gone, owner.status, term)
+            self.refused(_ranges_errors.Gone, owner.prepare, term, "1-a")
+            self.refused(_ranges_errors.Gone, owner.commit, term, 1, "1-a")
+            self.refused(_ranges_errors.Gone, owner.install, term, 1, "1-a", [["delete", [1]]])
+        self.assertEqual(owner.commit((2, 5), 1, "1-a"), version + 1)
+        owner.close()
+        self.refused(_ranges_errors.Closed, owner.status, (3, 1))
+
+    def test_it_waits_for_the_lock_of_who_is_ending(self) -> None:
+        self.made().close()
+        child = self.started(HOLDER)
+        assert child.stdout and child.stdin
+        self.assertEqual(child.stdout.readline(), "open\n")
+        self.refused(Locked, Owner, str(self.folder), 0, (1, 1), 0.1)
+        threading.Timer(0.5, child.kill).start()
+        start = time.monotonic()
+        owner = self.owner(seconds=20.0)
+        self.assertEqual(len(self.rows(owner, owner.status((1, 1)).version)), 2)
+        self.assertGreater(time.monotonic() - start, 0.3)
+
+
+class Imports(unittest.TestCase):
+    def test_without_dask_the_import_says_what_to_install(self) -> None:
+        program = "import sys; sys.modules['dask'] = None\nimport narthexmace.dask"
+        environment = {**os.environ, "PYTHONPATH": str(HERE)}
+        told = subprocess.run([sys.executable, "-c", program], env=environment, stderr=subprocess.PIPE, text=True)
+        self.assertIn("apt-get install python3-dask python3-distributed python3-pandas", told.stderr)
+
+
+@needs_dask
+class Document(unittest.TestCase):
+    def test_the_example_of_the_document(self) -> None:
+        blocks = test_docs.BLOCK.findall((test_docs.TOP / "docs/RANGES.md").read_text())
+        self.assertEqual(len(blocks), 1)
+        cluster_and_client()  # its workers' environment
+        with warnings.catch_warnings():
+            warnings.simplefilter("ignore", DeprecationWarning)  # Dask's own
+            self.assertGreater(test_docs.Documents.run_examples(self, "docs/RANGES.md", blocks[0]), 5)  # type: ignore
+
+
+class Decides(unittest.TestCase):
+    """``Transaction._decide``, by which a range votes."""
+
+    def test_it_tells_what_a_commit_would_and_commits_nothing(self) -> None:
+        with narthexmace.open({"id": [1, 2], "sum": [5, 7]}, key="id", row_limit=3) as store:
+            first, second, full, other = (store.begin() for _ in range(4))
+            first.set(1, "sum", 6)
+            second.set(1, "sum", 8)
+            full.insert((3, 0))
+            other.insert((4, 0))
+            for txn in (first, second, full, other, first):
+                txn._decide()
+            self.assertEqual((store.sizes().commits, first.get(1), first.is_open), (0, (1, 6), True))
+            first.commit()
+            self.assertRaises(Conflict, second._decide)
+            self.assertRaises(narthexmace.Misuse, second.get, 1)
+            full.commit()
+            self.assertRaises(narthexmace.Full, other._decide)
+            self.assertEqual((other.is_open, store.sizes().commits), (False, 2))
+            with store.begin() as txn:  # no lock is left
+                txn.delete(3)
+
+
+# ---- what is called in a worker
+
+
+def dies_at(step: str, place: int) -> None:
+    """Has the worker end itself, as by a kill, at a step of a range."""
+
+    def hook(reached: str, at: Optional[int]) -> None:
+        if (reached, at) == (step, place):
+            os._exit(9)
+
+    _ranges_steps.hook = hook
+
+
+def process_of(table: narthexmace.Snapshot) -> int:
+    return os.getpid()
+
+
+def keeps_names(count: int) -> None:
+    """Has ranges keep the names of so many transactions."""
+    _ranges_owner.NAMES = count
+
+
+def fetches(*given: Any) -> Any:
+    """A part of a frame, read by a worker that doesn't own it."""
+    return _ranges_frame._part(*given).compute(scheduler="synchronous")
+
+
+def rows_of(table: narthexmace.Snapshot) -> List[Tuple[Any, ...]]:
+    return table[:]
+
+
+def sums_of(table: narthexmace.Snapshot) -> int:
+    return sum(sum(batch["sum"]) for batch in table.scan(["sum"]))
+
+
+#: The cluster of all tests, and a client of it that is not Dask's default one.
+_shared: List[Any] = []
+
+
+def cluster_and_client() -> Tuple[Any, Any]:
+    """A cluster of more workers than ranges, each a process: one that is killed is started again by Dask.
+
+    Where Dask has not done so for some time, as where a worker ends while it starts, there is another cluster.
+    """
+    if _shared:
+        try:
+            _shared[1].wait_for_workers(PLACES + 1, timeout=15)
+        except (TimeoutError, distributed.TimeoutError):
+            tearDownModule()
+    if not _shared:
+        os.environ["PYTHONPATH"] = str(HERE)  # of the workers
+        cluster = distributed.LocalCluster(
+            n_workers=PLACES + 2, threads_per_worker=2, processes=True, dashboard_address=":0", silence_logs=60
+        )
+        _shared.extend([cluster, distributed.Client(cluster, direct_to_workers=True, set_as_default=False)])
+    return _shared[0], _shared[1]
+
+
+def tearDownModule() -> None:
+    while _shared:
+        _shared.pop().close()
+
+
+@needs_dask
+class Clusters(unittest.TestCase):
+    """A table in ranges, in a folder of its own, over the cluster."""
+
+    def setUp(self) -> None:
+        place = tempfile.TemporaryDirectory()
+        self.addCleanup(place.cleanup)
+        self.folder = str(Path(place.name, "table"))
+        self.cluster, self.client = cluster_and_client()
+
+    def create(self, table: Any, **words: Any) -> "ranges.Ranges":
+        made = ranges.create(self.folder, table, **{"client": self.client, "seconds": SECONDS, **words})
+        self.addCleanup(made.close)
+        return made
+
+    def connect(self, folder: str = "") -> "ranges.Ranges":
+        table = ranges.connect(folder or self.folder, client=self.client, seconds=SECONDS)
+        self.addCleanup(table.close)
+        return table
+
+    def refused(self, kind: Type[BaseException], call: Callable[..., Any], *given: Any) -> Any:
+        with self.assertRaises(kind) as caught:
+            call(*given)
+        self.assertIs(type(caught.exception), kind)
+        return caught.exception
+
+    def rows(self, table: "ranges.Ranges", at: Any = None) -> List[Tuple[Any, ...]]:
+        return [row for part in table.map(rows_of, at=at) for row in part]
+
+    def process(self, table: "ranges.Ranges", place: int) -> int:
+        """The process of a range's worker."""
+        return int(table.map(process_of)[place])
+
+
+class Reads(Clusters):
+    def test_keys_at_the_edges_of_ranges(self) -> None:
+        least, most = -(2**63), 2**63 - 1
+        keys = [least, -1, 0, 9, 10, 11, 19, 20, most]
+        table = self.create({"id": keys, "sum": range(9)}, key="id", bounds=[0, 10, 20, most])
+        self.assertEqual([len(part) for part in table.map(rows_of)], [2, 2, 3, 1, 1])
+        for place, key in enumerate(keys):
+            self.assertEqual(table.get(key), (key, place))
+        self.assertIsNone(table.get(12))
+        with table.begin() as txn:
+            for key in (least, 10, most):
+                txn.set(key, "sum", 100)
+            txn.insert({"sum": 5, "id": 12})
+            txn.delete(20)
+            self.refused(Duplicate, txn.insert, (12, 0))
+            self.refused(Missing, txn.delete, 20)
+            self.refused(Shape, txn.set, "10", "sum", 1)
+            self.refused(Shape, txn.insert, (1,))
+            self.assertEqual((txn.get(12), txn.get(20)), ((12, 5), None))
+        due = [(least, 100), (-1, 1), (0, 2), (9, 3), (10, 100), (11, 5), (12, 5), (19, 6), (most, 100)]
+        self.assertEqual(self.rows(table), due)
+        frame = table.frame().compute(scheduler=self.client)
+        self.assertEqual(list(zip(frame.index.tolist(), frame["sum"].tolist())), due)
+        self.assertEqual(table.frame().divisions, (least, 0, 10, 20, most, most))
+        table.close()
+        self.assertEqual(self.rows(self.connect()), due)
+
+    def test_keys_of_texts_and_of_several_columns(self) -> None:
+        words = ["", "a", "b", "ba", "z", "é", "日本", "\U0010ffff"]
+        table = self.create({"word": words, "n": range(8)}, key="word", bounds=["b", "é"])
+        self.assertEqual([len(part) for part in table.map(rows_of)], [2, 3, 3])
+        frame = table.frame(["n"])
+        self.assertEqual(frame.loc["b"].compute(scheduler=self.client)["n"].tolist(), [2])
+        self.assertEqual(frame.loc["z":].compute(scheduler=self.client)["n"].tolist(), [4, 5, 6, 7])
+        table.close()
+        shutil.rmtree(self.folder)
+        pairs = {"town": ["x", "x", "y", "y"], "there": [False, True, False, True], "n": [1, 2, 3, 4]}
+        table = self.create(pairs, key=["town", "there"], bounds=[("x", True), ("y", True)])
+        self.assertEqual([len(part) for part in table.map(rows_of)], [1, 2, 1])
+        with table.begin() as txn:
+            txn.set(("x", True), "n", 20)
+            txn.insert(("y", False, 0)) if txn.get(("y", False)) is None else txn.delete(("y", False))
+        self.assertEqual(self.rows(table), [("x", False, 1), ("x", True, 20), ("y", True, 4)])
+        frame = table.frame()
+        whole = frame.compute(scheduler=self.client)
+        self.assertEqual((frame.known_divisions, whole.values.tolist()), (False, [list(it) for it in self.rows(table)]))
+        self.assertRaises(narthexmace.Misuse, frame.compute, scheduler="synchronous")
+        self.refused(Shape, table.get, "x")
+
+    def test_what_is_no_table_in_ranges_is_refused(self) -> None:
+        columns = {"id": [1], "sum": [5]}
+        for bounds in ([2, 2], [3, 2]):
+            with self.assertRaises(Shape):
+                self.create(columns, key="id", bounds=bounds)
+        with self.assertRaises(Shape):
+            self.create(columns, key="id", types={"sum": "g"}, bounds=[1])
+        self.refused(Gap, self.connect)
+        table = self.create(columns, key="id", bounds=[1])
+        self.refused(Locked, self.connect)
+        table.close()
+        with self.assertRaises(Exists):
+            self.create(columns, key="id", bounds=[1])
+        self.refused(narthexmace.Misuse, table.begin)
+        Path(self.folder, "ranges.json").write_text("[]")
+        self.refused(narthexmace.BadTable, self.connect)
+
+    def test_frames_of_old_and_of_new_vectors(self) -> None:
+        table = self.create({"id": range(4000), "sum": [1] * 4000}, key="id", bounds=[1000, 2000, 3000])
+        old = table.pin()
+        frame = table.frame(at=old)
+        vectors = [table.vector]
+        for step in range(5):
+            with table.begin() as txn:
+                txn.set(step, "sum", 11)
+                txn.set(3000 + step, "sum", 101)
+            vectors.append(table.vector)
+        for step, vector in enumerate(vectors):
+            self.assertEqual(int(table.frame(at=vector)["sum"].sum().compute(scheduler=self.client)), 4000 + 110 * step)
+        self.assertEqual(table.get(0, at=old), (0, 1))
+        for _ in range(_ranges_owner.VERSIONS):  # of the first range alone
+            with table.begin() as txn:
+                txn.set(0, "sum", txn.get(0)[1] + 1)
+        self.refused(ranges.Gone, self.rows, table, vectors[1])
+        self.assertEqual(int(frame["sum"].sum().compute(scheduler=self.client)), 4000)
+        self.assertEqual(sum(row[1] for row in self.rows(table, old)), 4000)
+        self.assertEqual(int(table.frame()["sum"].sum().compute(scheduler=self.client)), 4550 + _ranges_owner.VERSIONS)
+        groups = table.frame(at=old).groupby("sum").size().compute(scheduler=self.client)
+        self.assertEqual(groups.to_dict(), {1: 4000})
+        parts = self.client.persist(table.frame())
+        for part in distributed.futures_of(parts):
+            part.result(timeout=60)
+        held = self.client.who_has(parts).values()
+        self.assertEqual(sorted(it for those in held for it in those), sorted(table.workers))
+        first, elsewhere = table._coordinator.ranges[0], [table.workers[1]]
+        given = (first.key, first.address, first.task.key, table.vector[0], ["sum"], "id")
+        fetched = self.client.submit(fetches, *given, workers=elsewhere, pure=False).result(timeout=60)
+        self.assertEqual((len(fetched), list(fetched.index[:2])), (1000, [0, 1]))
+        old.close()
+        self.refused(ranges.Gone, self.rows, table, old)
+        self.assertRaises(ranges.Gone, frame["sum"].sum().compute, scheduler=self.client)
+
+
+class Commits(Clusters):
+    def bank(self) -> "ranges.Ranges":
+        columns = {"id": [0, 10, 20, 30], "sum": [100, 0, 0, 0]}
+        return self.create(columns, key="id", bounds=[10, 20, 30])
+
+    def test_the_first_committer_wins_and_a_refused_part_aborts_the_whole(self) -> None:
+        table = self.bank()
+        first, second, third = table.begin(), table.begin(), table.begin()
+        for txn, key in ((first, 10), (second, 10), (third, 30)):
+            txn.set(0 if txn is not third else 20, "sum", 1)
+            txn.set(key, "sum", 2)
+        vector = first.commit()
+        self.assertEqual(vector, table.vector)
+        self.refused(Conflict, second.commit)
+        self.refused(narthexmace.Misuse, second.get, 0)
+        third.commit()
+        self.assertEqual(self.rows(table), [(0, 1), (10, 2), (20, 1), (30, 2)])
+        self.assertEqual([table.outcome(txn.name) for txn in (first, second, third)],
+                         ["committed", "not committed", "committed"])  # fmt: skip
+        part, whole = table.begin(), table.begin()  # a conflict in one range of two
+        part.set(0, "sum", 5)
+        whole.set(0, "sum", 6)
+        whole.set(30, "sum", 6)
+        part.commit()
+        self.refused(Conflict, whole.commit)
+        with table.begin() as txn:  # nothing is kept of the part that was prepared
+            txn.set(30, "sum", 7)
+        txn = table.begin()
+        txn.set(10, "sum", 9)
+        txn.abort()
+        with table.begin() as txn:
+            self.assertEqual(txn.get(10), (10, 2))
+        self.assertEqual(self.rows(table), [(0, 5), (10, 2), (20, 1), (30, 7)])
+
+    def test_writes_that_undo_one_another_and_replaced_rows(self) -> None:
+        table = self.bank()
+        vector = table.vector
+        with table.begin() as txn:
+            txn.insert((1, 1))
+            txn.delete(1)
+            txn.insert((21, 1))
+            txn.delete(21)
+        self.assertEqual(table.vector, vector)
+        with table.begin() as other, table.begin() as txn:
+            txn.delete(0)
+            txn.insert((0, 7))
+            txn.set(20, "sum", 1)
+            txn.set(20, "sum", 2)
+            txn.insert((25, 25))
+            other.insert((1, 1))
+        self.assertEqual(self.rows(table), [(0, 7), (1, 1), (10, 0), (20, 2), (25, 25), (30, 0)])
+
+    def test_a_worker_that_dies_at_any_step_of_a_commit(self) -> None:
+        cases = [("voted", 2, True, False), ("installs", 2, True, True), ("installed", 2, True, True),
+                 ("commits", 2, False, False), ("committed", 2, False, True)]  # fmt: skip
+        table = self.bank()
+        for number, (step, place, several, there) in enumerate(cases, 1):
+            with self.subTest(step=step):
+                before = self.rows(table)
+                self.client.run(dies_at, step, place, workers=[table.workers[place]])
+                txn = table.begin()
+                if several:
+                    txn.set(0, "sum", 100 - number)
+                txn.set(20, "sum", number)
+                if there:
+                    self.assertEqual(txn.commit(), table.vector)
+                else:
+                    self.assertEqual(self.refused(ranges.Gone, txn.commit).outcome, "not committed")
+                after = self.rows(table)
+                due = [(0, 100 - number if several else before[0][1]), before[1], (20, number), before[3]]
+                self.assertEqual(after, due if there else before)
+                self.assertEqual(table.outcome(txn.name), "committed" if there else "not committed")
+        table.close()
+        self.assertEqual(self.rows(self.connect()), after)
+
+    def test_a_worker_that_dies_after_its_vote_or_after_the_decision(self) -> None:
+        table = self.bank()
+        self.addCleanup(setattr, _ranges_steps, "hook", None)
+        for number, step in enumerate(("prepared", "decided"), 1):
+            process = self.process(table, 2)
+
+            def kill(reached: str, place: Optional[int], step: str = step, process: int = process) -> None:
+                if reached == step:
+                    os.kill(process, signal.SIGKILL)
+
+            _ranges_steps.hook = kill
+            with self.subTest(step=step), table.begin() as txn:
+                txn.set(0, "sum", 100 - number)
+                txn.set(20, "sum", number)
+            self.assertEqual((table.get(0)[1], table.get(20)[1]), (100 - number, number))
+        _ranges_steps.hook = None
+        table.close()
+        self.assertEqual([row[1] for row in self.rows(self.connect())], [98, 0, 2, 0])
+
+    def test_a_long_log_is_written_anew_and_old_names_are_forgotten(self) -> None:
+        table, most, names = self.bank(), _ranges_log.MOST_BYTES, _ranges_owner.NAMES
+        self.addCleanup(setattr, _ranges_log, "MOST_BYTES", most)
+        self.addCleanup(self.client.run, keeps_names, names)
+        _ranges_log.MOST_BYTES = 1000
+        self.client.run(keeps_names, 3)
+        told = []
+        for number in range(12):
+            with table.begin() as txn:
+                txn.set(0, "sum", number)
+                txn.set(20 + 10 * (number % 2), "sum", number)
+            told.append(txn.name)
+            self.assertLess(Path(self.folder, "decisions.log").stat().st_size, 1300)
+        with table.begin() as undone:
+            undone.abort()
+        for _ in range(2):
+            outcomes = [table.outcome(name) for name in (told[0], *told[-3:], undone.name)]
+            self.assertEqual(outcomes, ["in doubt", *["committed"] * 3, "not committed"])
+            self.refused(narthexmace.Misuse, table.outcome, "a name")
+            self.assertEqual(self.rows(table), [(0, 11), (10, 0), (20, 10), (30, 11)])
+            table.close()
+            table = self.connect()
+
+    def test_a_coordinator_that_dies_at_any_step_of_a_commit(self) -> None:
+        before = [(0, 100), (10, 0), (20, 0), (30, 0)]
+        after = [(0, 90), (10, 0), (20, 10), (30, 0)]
+        self.bank().close()
+        made = f"{self.folder}-made"
+        shutil.copytree(self.folder, made)
+        for step, due in (("prepared", before), ("written", after), ("decided", after), ("taken", after)):
+            with self.subTest(step=step):
+                shutil.rmtree(self.folder)
+                shutil.copytree(made, self.folder)
+                child = subprocess.run(
+                    [sys.executable, "-c", COORDINATOR, self.cluster.scheduler_address, self.folder, step],
+                    stdout=subprocess.PIPE, text=True, timeout=60,
+                )  # fmt: skip
+                self.assertEqual(child.returncode, 9)
+                name = child.stdout.strip()
+                with self.connect() as table:
+                    outcome = "committed" if due is after else "not committed"
+                    self.assertEqual((self.rows(table), table.outcome(name)), (due, outcome))
+                    with table.begin() as txn:
+                        txn.set(0, "sum", txn.get(0)[1] + 1)
+                        txn.set(30, "sum", 1)
+                with self.connect() as table:  # and nothing is done twice
+                    self.assertEqual(self.rows(table), [(0, due[0][1] + 1), *due[1:3], (30, 1)])
+
+    def test_a_decision_that_is_torn_is_none_and_one_that_is_whole_is_done(self) -> None:
+        table = self.bank()
+        coordinator = table._coordinator
+        install = coordinator._install
+        coordinator._install = self.stops  # type: ignore[assignment]
+        with table.begin() as txn, suppress(KeyboardInterrupt):
+            txn.set(0, "sum", 90)
+            txn.set(20, "sum", 10)
+            txn.commit()
+        self.assertEqual(self.rows(table), [(0, 100), (10, 0), (20, 0), (30, 0)])
+        coordinator._install = install  # type: ignore[assignment]
+        table.close()
+        log = Path(self.folder, "decisions.log")
+        content = log.read_bytes()
+        self.assertEqual(content.count(b"\n"), 2)
+        for cut, due in ((1, (100, 0)), (content.index(b"\n"), (100, 0)), (0, (90, 10))):
+            log.write_bytes(content[: len(content) - cut])
+            with self.subTest(cut=cut), self.connect() as table:
+                self.assertEqual((table.get(0)[1], table.get(20)[1]), due)
+
+    def stops(self, deadline: Any) -> None:
+        raise KeyboardInterrupt
+
+    def test_a_worker_that_is_stopped_is_told_in_time(self) -> None:
+        table = self.bank()
+        process, table._coordinator.seconds = self.process(table, 2), STOPPED
+        over, alone = table.begin(), table.begin()
+        over.set(0, "sum", 99)
+        over.set(20, "sum", 1)
+        alone.set(20, "sum", 5)
+        os.kill(process, signal.SIGSTOP)
+        try:
+            start = time.monotonic()
+            self.refused(ranges.TimedOut, table.get, 20)
+            self.assertLess(time.monotonic() - start, STOPPED + 1)
+            for txn in (alone, over):  # the range is suspect, and it isn't asked
+                self.assertEqual(self.refused(ranges.TimedOut, txn.commit).outcome, "not committed")
+            self.assertEqual(table.get(0), (0, 100))
+            with table.begin() as txn:  # other ranges go on
+                txn.set(0, "sum", 50)
+                txn.set(10, "sum", 50)
+        finally:
+            os.kill(process, signal.SIGCONT)
+        self.assertEqual(self.until_answered(lambda: table.get(20)), (20, 0))
+        with table.begin() as txn:
+            txn.set(20, "sum", 3)
+        self.assertEqual(self.rows(table), [(0, 50), (10, 50), (20, 3), (30, 0)])
+
+    def test_a_commit_whose_answer_does_not_come_is_in_doubt_until_its_range_is_reached(self) -> None:
+        table = self.bank()
+        for place, key in ((1, 10), (3, 30)):
+            table._coordinator.seconds = SECONDS
+            process, txn = self.process(table, place), table.begin()
+            txn.set(key, "sum", 5)
+            table._coordinator.seconds = STOPPED
+            os.kill(process, signal.SIGSTOP)
+            try:
+                self.assertEqual(self.refused(ranges.TimedOut, txn.commit).outcome, "in doubt")
+                self.assertEqual(table.outcome(txn.name), "in doubt")
+                with self.assertRaises(ranges.TimedOut) as caught, table.begin() as other:
+                    other.set(0, "sum", 1)
+                self.assertEqual(caught.exception.outcome, "not committed")
+            finally:
+                os.kill(process, signal.SIGKILL if place == 3 else signal.SIGCONT)
+            outcome = self.until_answered(lambda: self.known(table, txn.name))
+            self.assertEqual(table.get(key), (key, 5 if outcome == "committed" else 0))
+
+    def known(self, table: "ranges.Ranges", name: str) -> str:
+        outcome = table.outcome(name)
+        if outcome == "in doubt":
+            raise ranges.TimedOut()
+        return outcome
+
+    def until_answered(self, call: Callable[[], Any]) -> Any:
+        """What a call answers once its range is reached."""
+        end = time.monotonic() + 20
+        while True:
+            try:
+                return call()
+            except (ranges.TimedOut, ranges.Gone):
+                if time.monotonic() > end:
+                    raise
+
+
+class Bank(Clusters):
+    """Money that moves between four ranges, with a receipt in each of both, while their workers are killed."""
+
+    def test_money_moves_while_workers_are_killed(self) -> None:
+        ids = [place * APART + account for place in range(PLACES) for account in range(ACCOUNTS)]
+        columns = {"id": ids, "sum": [START] * len(ids), "memo": [""] * len(ids)}
+        self.table = self.create(columns, key="id", bounds=[place * APART for place in range(1, PLACES)])
+        self.whole, self.stop = START * len(ids), threading.Event()
+        self.told: Dict[str, str] = {}  # the outcome of each transfer, by its name
+        self.counts = {"moved": 0, "refused": 0, "lost": 0, "sums": 0, "newest": 0}
+        self.wrong: Dict[str, List[int]] = {"vector": [], "newest": []}
+        self.numbers = itertools.count(ACCOUNTS)
+        self.failed: List[BaseException] = []
+        works = [*[(self.moves, seed) for seed in range(3)], (self.sums, 0), (self.newest, 0)]
+        threads = [threading.Thread(target=self.goes_on, args=work) for work in works]
+        for thread in threads:
+            thread.start()
+        draw, times = random.Random(SEED), []
+        for _ in range(KILLS):
+            time.sleep(2.0)
+            place = draw.randrange(PLACES)
+            with suppress(ranges.RangesError):
+                os.kill(self.process(self.table, place), signal.SIGKILL)
+            start = time.monotonic()
+            while not self.stop.is_set():
+                with suppress(ranges.RangesError):
+                    self.table.get(place * APART)
+                    break
+            times.append(time.monotonic() - start)
+        end = time.monotonic() + 60  # on a machine that has much else to do
+        while not self.has_enough() and time.monotonic() < end and not self.stop.is_set():
+            time.sleep(0.5)
+        self.stop.set()
+        for thread in threads:
+            thread.join(60)
+        if self.failed:
+            raise self.failed[0]
+        back, wrong = ", ".join(f"{it:.2f}" for it in times), len(self.wrong["newest"])
+        told = f"{self.counts}, back in {back} s, wrong sums of the newest versions: {wrong}"
+        if os.environ.get("NARTHEXMACE_TELLS"):
+            print(told)
+        self.assertEqual(self.wrong["vector"], [], told)
+        self.assertTrue(self.has_enough(), told)
+        self.assertTrue(self.wrong["newest"], f"the test can't fail: {told}")
+        self.check(self.rows(self.table))
+        self.table.close()
+        with self.connect() as table:
+            self.check(self.rows(table))
+            self.assertEqual(table.outcome(next(iter(self.told))), self.told[next(iter(self.told))])
+
+    def has_enough(self) -> bool:
+        """Whether so much was moved and read that it says something."""
+        return min(self.counts["moved"], self.counts["sums"]) > 30 and bool(self.wrong["newest"])
+
+    def goes_on(self, call: Callable[[random.Random], None], seed: int) -> None:
+        draw = random.Random(f"{SEED} {call.__name__} {seed}")
+        while not self.stop.is_set():
+            try:
+                call(draw)
+            except ranges.RangesError:
+                self.counts["lost"] += 1
+                time.sleep(0.02)
+            except BaseException as why:
+                self.failed.append(why)
+                self.stop.set()
+
+    def moves(self, draw: random.Random) -> None:
+        """One transfer: its receipts, in the ranges of both accounts, have its name."""
+        source, target = draw.sample(range(PLACES), 2)
+        amount, number = draw.randrange(1, 20), next(self.numbers)
+        txn = self.table.begin()
+        try:
+            for place, piece in ((source, -amount), (target, amount)):
+                account = place * APART + draw.randrange(ACCOUNTS)
+                txn.set(account, "sum", txn.get(account)[1] + piece)
+                txn.insert((place * APART + number, 0, txn.name))
+            txn.commit()
+        except Conflict:
+            self.told[txn.name] = "not committed"
+            self.counts["refused"] += 1
+        except ranges.RangesError as why:
+            self.told[txn.name] = why.outcome
+            raise
+        else:
+            self.told[txn.name] = "committed"
+            self.counts["moved"] += 1
+        finally:
+            txn.abort()
+
+    def sums(self, draw: random.Random) -> None:
+        """The money of all ranges at one vector."""
+        whole = sum(self.table.map(sums_of))
+        self.counts["sums"] += 1
+        if whole != self.whole:
+            self.wrong["vector"].append(whole)
+
+    def newest(self, draw: random.Random) -> None:
+        """The money at the newest version of each range, whatever is published: as no reader should read."""
+        whole = 0
+        for it in self.table._coordinator.ranges:
+            version = it.ask("status", it.term).answer(self.table._deadline())[2]
+            whole += it.ask("map", version, sums_of, ()).answer(self.table._deadline())
+        self.counts["newest"] += 1
+        if whole != self.whole:
+            self.wrong["newest"].append(whole)
+
+    def check(self, rows: List[Tuple[Any, ...]]) -> None:
+        """The money is all there; each transfer that was answered has its receipts, and none has one of two."""
+        self.assertEqual(sum(row[1] for row in rows), self.whole)
+        receipts = [row[2] for row in rows if row[2]]
+        there: Set[str] = set(receipts)
+        self.assertEqual(sorted(receipts), sorted([*there, *there]))
+        for name, outcome in self.told.items():
+            if outcome == "in doubt":
+                outcome = self.table.outcome(name) if not self.table._coordinator._log.is_closed else outcome
+            if outcome != "in doubt":
+                self.assertEqual(name in there, outcome == "committed", (name, outcome))
+
+
+if __name__ == "__main__":
+    unittest.main()
