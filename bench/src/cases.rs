@@ -18,6 +18,7 @@ mod sql;
 mod sql_transactions;
 mod syncs;
 mod transactions;
+mod untouched;
 mod writes;
 
 use crate::table::Table;
@@ -101,8 +102,9 @@ pub struct Case {
     pub run: fn(&Size) -> Table,
 }
 
-pub const CASES: [Case; 20] = [
+pub const CASES: [Case; 21] = [
     Case { name: scans::NAME, run: scans::run },
+    Case { name: untouched::NAME, run: untouched::run },
     Case { name: keys::NAME, run: keys::run },
     Case { name: lookups::NAME, run: lookups::run },
     Case { name: writes::NAME, run: writes::run },

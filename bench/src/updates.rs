@@ -137,6 +137,23 @@ pub fn sum(txn: &Transaction<'_>, column: usize) -> i64 {
     sum
 }
 
+/// How many numbers a room has that they are copied into: so many lie near the processor.
+const ROOM: usize = 8_192;
+
+/// The sum of a column of numbers, which are copied into a room first.
+pub fn sum_copied(txn: &Transaction<'_>, column: usize) -> i64 {
+    let mut room = [0; ROOM];
+    let (mut sum, mut from) = (0i64, 0);
+    loop {
+        let count = txn.ints(column, from, &mut room).expect("it is a column of numbers");
+        if count == 0 {
+            return sum;
+        }
+        sum = room[..count].iter().fold(sum, |sum, number| sum.wrapping_add(*number));
+        from += count as u64;
+    }
+}
+
 /// The sum of a column, and how many rows there are, in one number.
 pub fn state(txn: &Transaction<'_>, column: usize) -> i64 {
     sum(txn, column) + txn.rows() as i64

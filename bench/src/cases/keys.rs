@@ -4,7 +4,7 @@ use crate::baseline::by_key::{AnyByKey, Search};
 use crate::data::{KeyKind, csv, numbers, opened};
 use crate::table::{Line, Table, Unit, grouped};
 use crate::timing::{least, whole};
-use crate::updates::{Mix, Place, image, sum, updated, updates};
+use crate::updates::{Mix, Place, image, sum_copied, updated, updates};
 use std::hint::black_box;
 
 pub const NAME: &str = "keys";
@@ -26,7 +26,7 @@ pub fn run(size: &Size) -> Table {
         ),
         unit: Unit::Time,
         heads: &["key", "updated rows"],
-        ways: &["ours", "by key", "by key, halving"],
+        ways: &["ours, copied", "by key", "by key, halving"],
         lines,
     }
 }
@@ -40,7 +40,7 @@ fn line(size: &Size, kind: KeyKind, csv: &str, share: f64) -> Line {
     let due = image.values().sum();
     assert_eq!(image.len() as u64, txn.rows(), "{NAME}: as many rows as in the image");
     let ways = vec![
-        whole(1, due, || sum(&txn, kind.qty_column())),
+        whole(1, due, || sum_copied(&txn, kind.qty_column())),
         whole(1, due, || black_box(&by_key).sum(Search::EachRow)),
         whole(1, due, || black_box(&by_key).sum(Search::Halving)),
     ];

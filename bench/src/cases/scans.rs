@@ -5,7 +5,7 @@ use crate::data::{KeyKind, by_columns, store};
 use crate::sqlite::{self, Database};
 use crate::table::{Line, Table, Unit, grouped};
 use crate::timing::{Way, least, whole};
-use crate::updates::{Mix, Place, Update, image, sum, updated, updates};
+use crate::updates::{Mix, Place, Update, image, sum, sum_copied, updated, updates};
 use narthexmace::Store;
 use std::hint::black_box;
 
@@ -30,7 +30,16 @@ pub fn run(size: &Size) -> Table {
         ),
         unit: Unit::Time,
         heads: &["updated rows", "by"],
-        ways: &["ours, Read-PDT", "ours, Write-PDT", "ours, its own", "vector", "vector in blocks", "by key", "SQLite"],
+        ways: &[
+            "ours, Read-PDT, copied",
+            "ours, Read-PDT",
+            "ours, Write-PDT",
+            "ours, its own",
+            "vector",
+            "vector in blocks",
+            "by key",
+            "SQLite",
+        ],
         lines,
     }
 }
@@ -60,7 +69,7 @@ impl Scan<'_> {
         let blocks: Vec<Vec<i64>> = vector.chunks(BLOCK).map(<[i64]>::to_vec).collect();
         let due = vector.iter().sum();
         let mut query = self.database.statement(sqlite::SUM);
-        let mut ways: Vec<Way<'_>> = Vec::new();
+        let mut ways: Vec<Way<'_>> = vec![whole(1, due, || sum_copied(&txns[0], KIND.qty_column()))];
         for txn in &txns {
             assert_eq!(vector.len() as u64, txn.rows(), "{NAME}: as many rows as in the image");
             ways.push(whole(1, due, || sum(txn, KIND.qty_column())));
