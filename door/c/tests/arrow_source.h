@@ -88,7 +88,8 @@ static struct ArrowArray *source_batch(source *in, int64_t rows) {
 }
 
 /* Fills the next column of the last batch: the bits of what is there, the cells or the offsets, and the bytes. */
-static struct ArrowArray *source_cells(source *in, int64_t length, int64_t buffers, const void *bits, const void *cells, const void *bytes) {
+static struct ArrowArray *source_cells(source *in, int64_t length, int64_t buffers, const void *bits, const void *cells,
+                                       const void *bytes) {
   size_t at = in->count - 1, column = (size_t)in->batches[at].n_children++;
   struct ArrowArray *array = &in->cells[at][column];
   const void **room = in->buffers[at][column];

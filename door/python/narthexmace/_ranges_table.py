@@ -51,7 +51,8 @@ def create(
     ``bounds`` are keys in ascending order: the first range has the rows below the first bound, and each further one
     begins at a bound. The rows go through this process: a large table is made empty, and filled by ``Ranges.begin``.
 
-    Exists, where the folder has something in it; Shape, of the bounds, and where a column is declared; those of ``narthexmace.open`` and ``connect``.
+    Exists, where the folder has something in it; Shape, of the bounds, and where a column is declared; those of
+    ``narthexmace.open`` and ``connect``.
     """
     path, user = os.path.abspath(os.fsdecode(folder)), client or default_client()
     options = {"recent": recent, "row_limit": row_limit, "conflicts": conflicts}
