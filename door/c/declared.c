@@ -102,7 +102,7 @@ void pdti_remove_types(pdt_database *database, uint32_t table) {
   errno = why;
 }
 
-/* ---- the call */
+/* ---- the calls */
 
 static int declare_in(pdt_database *database, pdt_store *store) {
   if (!pdti_is_ours(database) || pdti_has_prepared(database)) return PDT_MISUSE;
@@ -121,4 +121,36 @@ pdt_code pdt_declare(pdt_store *store, size_t column, const char *format) {
   int code = store->database ? declare_in(store->database, store) : PDT_OK;
   if (code) strcpy(store->declared[column], before);
   return code;
+}
+
+/* Declares the columns of a store that is no table yet, and makes it one; else the store is freed. */
+static int create_declared(pdt_database *database, const char *name, const char *const *formats, size_t count,
+                           const pdt_options *options, pdt_store *store, pdt_store **out) {
+  for (size_t column = 0; column < count; column++) {
+    if (!formats[column]) continue;
+    if (!pdti_may_declare(store, column, formats[column])) {
+      pdti_free_store(store);
+      return PDT_SHAPE;
+    }
+    strcpy(store->declared[column], formats[column]);
+  }
+  return pdti_create_table(database, name, options, store, out);
+}
+
+pdt_code pdt_table_create_declared(pdt_database *database, const char *name, const pdt_column *columns, size_t count, size_t key,
+                                   const char *const *formats, const pdt_options *options, pdt_place *place, pdt_store **out) {
+  pdt_store *store = NULL;
+  int code = pdti_may_create(database, name, out);
+  if (!code && !formats && count) code = PDT_MISUSE;
+  if (!code) code = pdt_open_columns(columns, count, key, options, place, &store);
+  return code ? code : create_declared(database, name, formats, count, options, store, out);
+}
+
+pdt_code pdt_table_create_csv_declared(pdt_database *database, const char *name, const void *csv, size_t bytes, const char *const *formats,
+                                       size_t count, const pdt_options *options, pdt_fault *fault, pdt_store **out) {
+  pdt_store *store = NULL;
+  int code = pdti_may_create(database, name, out);
+  if (!code && !formats && count) code = PDT_MISUSE;
+  if (!code) code = pdt_open_csv(csv, bytes, options, fault, &store);
+  return code ? code : create_declared(database, name, formats, count, options, store, out);
 }

@@ -84,6 +84,14 @@ pdt_code pdt_declare(pdt_store *store, size_t column, const char *format);
 /* The format of a column that is declared, and else null. It stays until the column is declared again. */
 const char *pdt_declared(const pdt_store *store, size_t column);
 
+/* Make a table of a database as pdt_table_create and pdt_table_create_csv do, whose columns are declared: formats[i] is what pdt_declare
+   would be given for column i, or null, and there are count of them. A crash leaves the table so, or none. Those of these calls;
+   PDT_SHAPE also where a format is none of its column's: *store is null then, and there is no such table. */
+pdt_code pdt_table_create_declared(pdt_database *database, const char *name, const pdt_column *columns, size_t count, size_t key,
+                                   const char *const *formats, const pdt_options *options, pdt_place *place, pdt_store **store);
+pdt_code pdt_table_create_csv_declared(pdt_database *database, const char *name, const void *csv, size_t bytes, const char *const *formats,
+                                       size_t count, const pdt_options *options, pdt_fault *fault, pdt_store **store);
+
 /* ---- out */
 
 /* A column of a stream, and the format in which its cells go out. Null stands for the one that it is declared as, or else for l of an int

@@ -144,14 +144,6 @@ static const char *doubled_name(pdt_store *store) {
   return NULL;
 }
 
-/* Declares the columns of a table that was made. One of the library's codes. */
-static int declare_columns(pdt_store *store, const declaration *declared) {
-  int code = PDT_OK;
-  for (size_t i = 0; i < declared->width && !code; i++)
-    if (declared->formats[i]) code = pdt_declare(store, i, declared->formats[i]);
-  return code;
-}
-
 pdt_store *databases_make(database *in, const declaration *declared, failure *why) {
   const char *from = declared->path ? declared->path : declared->place;
   char *bytes = NULL;
@@ -160,7 +152,8 @@ pdt_store *databases_make(database *in, const declaration *declared, failure *wh
   if (code) return failure_of(why, SQLITE_ERROR, from, code);
   pdt_fault fault = {{0, 0}, ""};
   pdt_store *store = NULL;
-  code = pdt_table_create_csv(in->raw, declared->table, bytes, len, &declared->options, &fault, &store);
+  code = pdt_table_create_csv_declared(in->raw, declared->table, bytes, len, declared->formats, declared->width, &declared->options,
+                                       &fault, &store);
   free(bytes);
   if (code == PDT_BAD_TABLE)
     *why = (failure){SQLITE_ERROR, sqlite3_mprintf("%s: record %llu, column %llu: %s", from, (unsigned long long)fault.place.row,
@@ -171,10 +164,8 @@ pdt_store *databases_make(database *in, const declaration *declared, failure *wh
   else if (code) failure_of(why, code == PDT_IO || code == PDT_FAILED ? SQLITE_IOERR : SQLITE_ERROR, declared->place, code);
   if (code) return NULL;
   const char *doubled = doubled_name(store);
-  code = doubled ? PDT_OK : declare_columns(store, declared);
-  if (!doubled && !code) return store;
-  if (code) failure_of(why, code == PDT_IO ? SQLITE_IOERR : SQLITE_ERROR, declared->place, code);
-  else *why = (failure){SQLITE_ERROR, sqlite3_mprintf("%s: duplicate column name: %s", from, doubled)};
+  if (!doubled) return store;
+  *why = (failure){SQLITE_ERROR, sqlite3_mprintf("%s: duplicate column name: %s", from, doubled)};
   pdt_table_drop(in->raw, declared->table);
   return NULL;
 }

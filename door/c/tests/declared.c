@@ -1,6 +1,6 @@
 /* What a database keeps of declared columns, where one call of the system fails, or that one and all after it, as at a crash: the table
-   is there with what it was made with, or not at all; and what is declared later is the old or the new, whole. Linked with --wrap of the
-   calls.
+   is there with what it was made with, or not at all, whichever call makes it; and what is declared later is the old or the new, whole.
+   Linked with --wrap of the calls.
    declared FOLDER: one that is empty. */
 #define _POSIX_C_SOURCE 200809L
 #include "arrow_source.h"
@@ -92,18 +92,31 @@ static bool is_declared(pdt_store *table, const char *format) {
   return format && found ? !strcmp(format, found) : !format && !found;
 }
 
-/* Makes a table, and declares its column anew, while a call fails: what was answered is what the next opening finds. */
-static int run(const char *folder, long at) {
+/* The ways to make a table whose second column has days. */
+enum way { BY_ARROW, BY_CSV, BY_COLUMNS, WAYS };
+static const char csv[] = "id:int:key,day:int\n1,20000\n2,20001\n3,20002\n";
+static const int64_t numbers[] = {20000, 20001, 20002};
+static const pdt_column columns[] = {{"id", PDT_INT, 3, ids, NULL, NULL, 0}, {"day", PDT_INT, 3, numbers, NULL, NULL, 0}};
+static const char *const formats[] = {NULL, "tdD"};
+
+static int make(pdt_database *database, enum way way, pdt_store **table) {
   static source in;
+  if (way == BY_CSV) return pdt_table_create_csv_declared(database, "t", csv, sizeof csv - 1, formats, 2, NULL, NULL, table);
+  if (way == BY_COLUMNS) return pdt_table_create_declared(database, "t", columns, 2, 1, formats, NULL, NULL, table);
+  fill(&in);
+  struct ArrowArrayStream stream = source_stream(&in);
+  return pdt_table_create_arrow(database, "t", &stream, (const char *[]){"id"}, 1, NULL, NULL, table);
+}
+
+/* Makes a table, and declares its column anew, while a call fails: what was answered is what the next opening finds. */
+static int run(const char *folder, enum way way, long at) {
   pdt_database *database = NULL;
   pdt_store *table = NULL;
   is("open", at, PDT_OK, pdt_database_open(folder, &options, &database, NULL));
   if (!database) return -1;
-  fill(&in);
-  struct ArrowArrayStream stream = source_stream(&in);
   calls = 0;
   fails_at = at;
-  int made = pdt_table_create_arrow(database, "t", &stream, (const char *[]){"id"}, 1, NULL, NULL, &table), declared = PDT_MISSING;
+  int made = make(database, way, &table), declared = PDT_MISSING;
   if (!made) declared = pdt_declare(table, 1, "?tdD");
   if (!made) is("declared", at, true, is_declared(table, declared ? "tdD" : "?tdD"));
   long made_calls = calls;
@@ -127,20 +140,78 @@ static int run(const char *folder, long at) {
   return at >= 0 && made_calls <= at; /* there was none to fail any more */
 }
 
+/* A format that is none of its column's makes no table. */
+static void refuses(const char *folder) {
+  static const struct {
+    const char *formats[3];
+    size_t count;
+  } bad[] = {{{NULL, "no"}, 2}, {{NULL, "b"}, 2}, {{"?l", NULL}, 2}, {{NULL, NULL, "tdD"}, 3}};
+  pdt_database *database = NULL;
+  pdt_store *table = NULL;
+  is("open", -1, PDT_OK, pdt_database_open(folder, &options, &database, NULL));
+  for (size_t i = 0; i < sizeof bad / sizeof *bad; i++) {
+    int code = pdt_table_create_csv_declared(database, "t", csv, sizeof csv - 1, bad[i].formats, bad[i].count, NULL, NULL, &table);
+    is("a format of a text", (long)i, PDT_SHAPE, code);
+    is("no store", (long)i, true, !table);
+    if (bad[i].count > 2) continue;
+    is("a format of columns", (long)i, PDT_SHAPE, pdt_table_create_declared(database, "t", columns, 2, 1, bad[i].formats, NULL, NULL, &table));
+  }
+  is("no formats", -1, PDT_MISUSE, pdt_table_create_csv_declared(database, "t", csv, sizeof csv - 1, NULL, 1, NULL, NULL, &table));
+  is("nor of columns", -1, PDT_MISUSE, pdt_table_create_declared(database, "t", columns, 2, 1, NULL, NULL, NULL, &table));
+  is("none is there", -1, PDT_MISSING, pdt_table_open(database, "t", &table));
+  is("none of no columns", -1, PDT_OK, pdt_table_create_csv_declared(database, "t", csv, sizeof csv - 1, NULL, 0, NULL, NULL, &table));
+  is("isn't declared", -1, true, is_declared(table, NULL));
+  is("a table of the name", -1, PDT_EXISTS, make(database, BY_CSV, &table));
+  is("close", -1, PDT_OK, pdt_database_close(database));
+}
+
+/* A file that isn't as it was written is told, and never believed. */
+static void is_told(const char *folder) {
+  char path[4300];
+  uint8_t bytes[256];
+  pdt_database *database = NULL;
+  pdt_store *table = NULL;
+  pdt_report report = {.size = sizeof report};
+  remove_all(folder);
+  is("open", -1, PDT_OK, pdt_database_open(folder, &options, &database, NULL));
+  is("make", -1, PDT_OK, make(database, BY_CSV, &table));
+  is("close", -1, PDT_OK, pdt_database_close(database));
+  snprintf(path, sizeof path, "%s/types-1", folder);
+  FILE *file = fopen(path, "r+b");
+  size_t len = file ? fread(bytes, 1, sizeof bytes, file) : 0;
+  is("a file", -1, true, len > 0);
+  for (size_t at = 0; at < len; at++) {
+    uint8_t changed = bytes[at] ^ (uint8_t)(1 << at % 8);
+    fseek(file, (long)at, SEEK_SET);
+    fwrite(&changed, 1, 1, file);
+    fflush(file);
+    is("a bit of it", (long)at, PDT_ROT, pdt_database_open(folder, &options, &database, &report));
+    is("its name", (long)at, 0, strcmp(report.file, "types-1"));
+    fseek(file, (long)at, SEEK_SET);
+    fwrite(&bytes[at], 1, 1, file);
+    fflush(file);
+  }
+  if (file) fclose(file);
+  is("whole again", -1, PDT_OK, pdt_database_open(folder, &options, &database, &report));
+  is("close", -1, PDT_OK, pdt_database_close(database));
+}
+
 int main(int argc, char **argv) {
   if (argc != 2) return fprintf(stderr, "declared FOLDER: one that is empty\n"), 2;
   char folder[4200];
   snprintf(folder, sizeof folder, "%s/database", argv[1]);
+  refuses(folder);
+  is_told(folder);
   long tried = 0;
-  for (int round = 0; round < 2; round++) {
-    stays = round;
+  for (int round = 0; round < 2 * WAYS - 1; round++) {
+    stays = round % 2;
     for (long at = -1; !failures; at++) {
       remove_all(folder);
-      if (run(folder, at)) break;
+      if (run(folder, (enum way)(round / 2), at)) break;
       tried++;
     }
   }
   remove_all(folder);
   if (!failures) printf("declared: %ld runs passed\n", tried);
-  return failures || tried < 40;
+  return failures || tried < 100;
 }

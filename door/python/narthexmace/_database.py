@@ -13,7 +13,7 @@ from ._errors import BadLimit, Misuse, Path, Shape, Unsure, check_files, check_m
 from ._handles import Single
 from ._library import CHECKPOINT_ENTRIES, FOLD_ENTRIES, JOURNAL_BYTES, MAX_NAME, MAX_RECENT, MAX_ROWS
 from ._library import DatabaseOptions, ReportOf, library
-from ._opening import Calls, folder_of, open_table, options_of
+from ._opening import Calls, Formats, folder_of, open_table, options_of
 from ._store import Store
 from ._tables import KeyNames, Table
 from ._work import Moment, Work
@@ -106,6 +106,11 @@ def _options_of(
     return DatabaseOptions(ctypes.sizeof(DatabaseOptions), _SYNCS[sync], bool(early_reads), not upkeep, *given)
 
 
+def _formats_of(formats: Formats) -> Any:
+    """Formats for C."""
+    return (ctypes.c_char_p * max(len(formats), 1))(*(format_ and format_.encode() for format_ in formats))
+
+
 class Database(Single):
     """A folder of tables that last. What a commit answered is there when the folder is opened again.
 
@@ -146,8 +151,8 @@ class Database(Single):
         """Makes a table of a name over what ``open`` takes: a CSV text, its path, columns, or a stream of Arrow's.
 
         A header alone makes an empty one: ``db.create("items", "id:int:key,name:text\\n")``. The table is on the device
-        when this returns, with its options, which it keeps: those of ``open``. Columns that ``types`` declares are
-        declared next: a crash in between leaves them ints.
+        when this returns, with its options, which it keeps, those of ``open``, and with the columns that ``types``
+        declares: a crash leaves all of that, or no table.
 
         Exists, where there is a table of the name; Shape, where the name hasn't 1 to 64 bytes of UTF-8 without control
         characters; FileFailed, Failed, NoMemory, Misuse, and those of ``open``. There is no such table then.
@@ -159,16 +164,20 @@ class Database(Single):
         room = ctypes.c_void_p()
         with self._handle as at:
             open_table(self._calls_in(at, name, encoded), table, key, types, options, room)
-        return self[name]._with_declared(types)
+        return self[name]
 
     def _calls_in(self, at: int, name: str, encoded: bytes) -> Calls:
         """C's calls that make a table of a name."""
 
-        def text(*given: Any) -> int:
-            return check_made(library.pdt_table_create_csv(at, encoded, *given), name, self._handle.folder)
+        def text(formats: Formats, csv: bytes, size: int, *given: Any) -> int:
+            passed = _formats_of(formats)
+            made = library.pdt_table_create_csv_declared(at, encoded, csv, size, passed, len(formats), *given)
+            return check_made(made, name, self._handle.folder)
 
-        def columns(*given: Any) -> int:
-            return check_made(library.pdt_table_create(at, encoded, *given), name, self._handle.folder)
+        def columns(formats: Formats, columns: Any, count: int, keys: int, *given: Any) -> int:
+            passed = _formats_of(formats)
+            made = library.pdt_table_create_declared(at, encoded, columns, count, keys, passed, *given)
+            return check_made(made, name, self._handle.folder)
 
         def arrow(stream: int, *given: Any) -> int:
             return check_made(library.pdt_table_create_arrow(at, encoded, stream, *given), name, self._handle.folder)

@@ -208,8 +208,6 @@ _CALLS = {
     "database_close": (c_int, [c_void_p]),
     "database_count": (c_int, [c_void_p, c_void_p]),
     "upkeep": (c_int, [c_void_p]),
-    "table_create": (c_int, [c_void_p, c_char_p, c_void_p, c_size_t, c_size_t, c_void_p, c_void_p, c_void_p]),
-    "table_create_csv": (c_int, [c_void_p, c_char_p, c_char_p, c_size_t, c_void_p, c_void_p, c_void_p]),
     "table_open": (c_int, [c_void_p, c_char_p, c_void_p]),
     "table_name": (c_int, [c_void_p, c_size_t, c_void_p, c_size_t]),
     "table_drop": (c_int, [c_void_p, c_char_p]),
@@ -225,6 +223,14 @@ _CALLS = {
     "apply_columns": (c_int, [c_void_p, c_void_p, c_size_t, c_int, c_void_p, c_void_p]),
     "declare": (c_int, [c_void_p, c_size_t, c_char_p]),
     "declared": (c_char_p, [c_void_p, c_size_t]),
+    "table_create_declared": (
+        c_int,
+        [c_void_p, c_char_p, c_void_p, c_size_t, c_size_t, c_void_p, c_void_p, c_void_p, c_void_p],
+    ),
+    "table_create_csv_declared": (
+        c_int,
+        [c_void_p, c_char_p, c_char_p, c_size_t, c_void_p, c_size_t, c_void_p, c_void_p, c_void_p],
+    ),
     "capsules": (None, [c_void_p, c_void_p]),
     "end_stream_capsule": (None, [c_void_p]),
     "end_schema_capsule": (None, [c_void_p]),

@@ -11,21 +11,35 @@ from ._arrow import StreamIn, check_columns, names_of, new_fault, stream_of
 from ._columns import PassedColumns
 from ._errors import BadLimit, BadTable, Misuse, NotAscending, Path, Shape, check, check_text
 from ._library import MAX_RECENT, MAX_ROWS, FaultOf, Options, PlaceOf, library
-from ._tables import KeyNames, Named, Table, columns_of, encoded, fault_of_columns, named_columns
+from ._tables import KeyNames, Named, Table, columns_of, encoded, fault_of_columns, formats_of, named_columns
 from ._tables import text_of_columns, text_of_table
 
 
 class Calls(NamedTuple):
-    """C's calls that open a table over a text, columns and a stream: a store alone, or in a database, which has it."""
+    """C's calls that open a table over a text, columns and a stream: a store alone, or in a database, which has it.
+
+    The first two take what the columns are declared as before the rest. Of a store alone they leave it to ``declare``.
+    """
 
     text: Callable[..., int]
     columns: Callable[..., int]
     arrow: Callable[..., int]
 
 
+#: What each column is declared as, if it is. Empty where none is.
+Formats = Sequence[Optional[str]]
+
+
 def calls_alone() -> Calls:
     """Those that open a store alone."""
-    return Calls(library.pdt_open_csv, library.pdt_open_columns, library.pdt_open_arrow)
+
+    def text(formats: Formats, *given: Any) -> int:
+        return int(library.pdt_open_csv(*given))
+
+    def columns(formats: Formats, *given: Any) -> int:
+        return int(library.pdt_open_columns(*given))
+
+    return Calls(text, columns, library.pdt_open_arrow)
 
 
 def open_table(
@@ -50,12 +64,12 @@ def open_table(
         return
     if key is not None or types is not None:
         raise TypeError("key and types go with columns; a CSV text names its own in its header")
-    _over_text(calls, text_of_table(table), options, room)
+    _over_text(calls, text_of_table(table), (), options, room)
 
 
-def _over_text(calls: Calls, text: bytes, options: Options, room: c_void_p) -> None:
+def _over_text(calls: Calls, text: bytes, formats: Formats, options: Options, room: c_void_p) -> None:
     fault = FaultOf()
-    check_text(calls.text(text, len(text), byref(options), byref(fault), byref(room)), fault)
+    check_text(calls.text(formats, text, len(text), byref(options), byref(fault), byref(room)), fault)
 
 
 def _over_stream(
@@ -79,20 +93,22 @@ def _over_columns(
 ) -> None:
     """Columns in ascending key go into the table from where they lie; others are sorted, by way of a text."""
     named = named_columns(columns, key, types)
-    passed, place = PassedColumns(named), PlaceOf()
-    keys = sum(column.key for column in named)
+    passed, place, keys = PassedColumns(named), PlaceOf(), sum(column.key for column in named)
+    declared = formats_of(types)
+    formats = [declared.get(column.name) for column in named]
     try:
-        check(calls.columns(byref(passed.columns), len(named), keys, byref(options), byref(place), byref(room)))
+        given = (byref(passed.columns), len(named), keys, byref(options), byref(place), byref(room))
+        check(calls.columns(formats, *given))
     except BadTable:
         raise BadTable(fault_of_columns(named)) from None
     except NotAscending:
-        _sorted(calls, named, options, room)
+        _sorted(calls, named, formats, options, room)
 
 
-def _sorted(calls: Calls, columns: Sequence[Named], options: Options, room: c_void_p) -> None:
+def _sorted(calls: Calls, columns: Sequence[Named], formats: Formats, options: Options, room: c_void_p) -> None:
     """Opens a table over columns whose rows stand in any order."""
     try:
-        _over_text(calls, text_of_columns(columns), options, room)
+        _over_text(calls, text_of_columns(columns), formats, options, room)
     except BadTable as fault:  # of the records only their keys can be refused: all cells were read before
         if fault.record is None:
             raise

@@ -81,6 +81,8 @@ def named_columns(
     for name in (*names, *(name for name in columns if name not in names)):
         declared = declared_by(types.get(name))
         if declared is not None:
+            if name in names and types[name].startswith("?"):
+                raise Shape(f"column {name!r} is of the key, which has no None")
             column = Named(name, INT, (), name in names)
             listed.append(column._replace(cells=_numbers(column, declared, columns[name])))
             continue

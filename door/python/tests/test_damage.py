@@ -235,8 +235,8 @@ class Devices(Case):
             db.create("items", ITEMS)
             for name, call in [
                 ("pdt_upkeep", db.upkeep), ("pdt_table_drop", lambda: db.drop("items")),
-                ("pdt_table_create", lambda: db.create("new", {"id": [1]}, key="id")),
-                ("pdt_table_create_csv", lambda: db.create("new", ITEMS)),
+                ("pdt_table_create_declared", lambda: db.create("new", {"id": [1]}, key="id")),
+                ("pdt_table_create_csv_declared", lambda: db.create("new", ITEMS)),
             ]:  # fmt: skip
                 with mock.patch.object(_library.library, name, failing):
                     fault = self.refused(narthexmace.FileFailed, call)

@@ -1,4 +1,5 @@
 """Columns that are declared: what their ints stand for goes in and comes out, in rows, keys, columns and layers, in its order."""
+import os
 import random
 import struct
 import tempfile
@@ -149,6 +150,20 @@ class Declared(unittest.TestCase):
                 narthexmace.open(columns, key="x", types={**types, **wrong})
         with self.assertRaises(narthexmace.Shape):
             narthexmace.open({"k": [1, 2]}, key="k", types={"k": "?l"})
+
+    def test_a_table_is_made_as_declared(self) -> None:
+        """In one step: what declares columns of a table that is there writes a file of the name types-new."""
+        types, place = {"k": "tdD", "v": "?g"}, f"tsu:{'x' * 60}"
+        with tempfile.TemporaryDirectory() as folder, narthexmace.connect(folder) as db:
+            os.mkdir(os.path.join(folder, "types-new"))
+            for name, keys in (("ascending", [1, 2]), ("sorted", [2, 1])):
+                days = [date(1970, 1, 1 + key) for key in keys]
+                db.create(name, {"v": [None, 0.5], "k": days}, key="k", types=types)
+                self.assertEqual(db[name].declared, types)
+            for wrong in ({"k": "?l"}, {"v": place}):
+                with self.assertRaises(narthexmace.Shape):
+                    db.create("t", {"v": [], "k": []}, key="k", types=wrong)
+                self.assertNotIn("t", db)
 
     def test_declared_and_taken_back(self) -> None:
         store = narthexmace.open("k:int:key,v:int\n1,20000\n")

@@ -134,6 +134,16 @@ def what_was_made_lasts(room):
     shows(c, "SELECT * FROM t WHERE v IS NOT NULL", ("2025-01-01", "2024-01-01 10:00:00", 0.2))
 
 
+def a_table_is_made_as_declared(room):
+    """In one step: what declares columns of a table that is there writes a file of the name types-new, which isn't wanted."""
+    folder = room.folder / "shop"
+    (folder / "types-new").mkdir(parents=True)
+    done(room.connect(tables=False), MAKE.format("t", folder, ", id REAL PRIMARY KEY, day DATE NULL"))
+    closed(room)
+    with narthexmace.connect(folder) as db:
+        assert db["t"].declared == {"id": "g", "day": "?tdD"}, db["t"].declared
+
+
 def plans(room):
     """A bound that the key's type has, and one that it hasn't, is taken."""
     c = room.connect(tables=False)
@@ -279,7 +289,8 @@ def what_has_no_value_is_told(room):
     refused(c, "UPDATE millis SET v = '2024-01-01 00:00:00.0005'", CONSTRAINT, f"pdt: column v {takes}")
 
 
-SESSIONS = [values_are_shown, wrong_values_are_refused, a_zero_has_no_sign, declarations, what_was_made_lasts, plans]
+SESSIONS = [values_are_shown, wrong_values_are_refused, a_zero_has_no_sign, declarations, what_was_made_lasts]
+SESSIONS += [a_table_is_made_as_declared, plans]
 SESSIONS += [bounds_between_doubles, lists_in_order]
 SESSIONS += [python_writes_and_sql_reads, zeros_of_both_signs, what_has_no_value_is_told]
 
