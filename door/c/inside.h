@@ -189,6 +189,7 @@ struct pdt_store {
   uint64_t coming_commits;
   handle leaving;       /* one between the two, whose commits are being written */
   uint64_t leaving_commits;
+  uint64_t leaving_newest; /* the number of the newest one among those: malloc may have refused to share that */
   pthread_cond_t moved; /* the number has grown */
   size_t waiting;       /* how many threads wait for that */
   pdt_pinned *oldest, *youngest; /* the pins, in the order of their numbers */

@@ -70,8 +70,8 @@ uint64_t pdti_seen(const pdt_database *database) { return hides(database) ? data
 
 /* ---- of who has the turn */
 
-/* Takes what is pending, with the number of its last commit, and the versions that its commits made. PDT_MISUSE where this thread has a commit prepared, since what it
-   has staged is neither pending nor written. */
+/* Takes what is pending, with the number of its last commit, and the versions that its commits made. PDT_MISUSE where this thread has a
+   commit prepared, since what it has staged is neither pending nor written. */
 static int take_batch(pdt_database *database, uint64_t *upto) {
   if (pthread_mutex_lock(&database->locks.lock)) return PDT_MISUSE;
   buffer frames = database->pending;
@@ -82,6 +82,7 @@ static int take_batch(pdt_database *database, uint64_t *upto) {
   pthread_mutex_lock(&database->locks.fresh_lock);
   for (size_t i = 0; i < database->count; i++) {
     pdt_store *store = database->tables[i]->store;
+    store->leaving_newest = store->newest;
     if (!store->coming.at) continue;
     store->leaving = store->coming; /* nothing is there: a turn that failed was the last one */
     store->leaving_commits = store->coming_commits;

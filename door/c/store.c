@@ -95,17 +95,14 @@ static void move(pdt_store *store, uint64_t commits) {
 replaced pdti_share(pdt_store *store, handle version) {
   bool is_hidden = pdti_is_hidden(store);
   replaced before = {{store->coming}};
-  store->coming.at = NULL;
-  if (version.at && is_hidden) {
-    store->coming = version;
-    store->coming_commits = store->newest;
-    return before;
-  }
+  store->coming = is_hidden ? version : (handle){NULL};
+  store->coming_commits = store->newest;
+  if (is_hidden) return before; /* what begins take is the newest that is safe, also where malloc has refused this one */
   before.at[1] = store->leaving;
   store->leaving.at = NULL;
   before.at[2] = store->fresh;
   store->fresh = version;
-  if (!is_hidden) move(store, store->newest);
+  move(store, store->newest);
   return before;
 }
 
@@ -122,6 +119,11 @@ replaced pdti_publish(pdt_store *store, uint64_t safe) {
     store->fresh = store->coming;
     store->coming.at = NULL;
     move(store, store->coming_commits);
+  }
+  if (store->commits < store->leaving_newest) { /* malloc refused it: whoever begins next shares the newest */
+    before.at[2] = store->fresh;
+    store->fresh.at = NULL;
+    move(store, store->leaving_newest);
   }
   return before;
 }

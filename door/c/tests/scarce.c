@@ -1,7 +1,9 @@
 /* Each of the allocations of a run over a database is refused once, in turn: the call that wanted it says so, the same call then does
-   its work, what is found in the end is right each time, and no memory stays. Linked with --wrap of malloc, calloc, realloc and free. */
+   its work, what is found in the end is right each time, and no memory stays. And each of those of a commit over which the device fails:
+   what was safe before is read as ever. Linked with --wrap of malloc, calloc, realloc, free and fdatasync. */
 #include "refusing.h"
 
+#include <errno.h>
 #include <pdt.h>
 #include <stdio.h>
 #include <stdlib.h>
@@ -50,6 +52,10 @@ static int commit(pdt_database *database, pdt_store *a, pdt_store *b, int64_t n)
   CALL(pdt_begin(a, &txn)); /* what was answered is seen */
   if (sum_is(txn, 2 * n)) return 1;
   pdt_abort(txn);
+  pdt_pinned *pin;
+  CALL(pdt_pin(b, &number, &pin));
+  pdt_unpin(pin);
+  if (number != (uint64_t)(2 * n - 1)) return fprintf(stderr, "a pin has number %llu\n", (unsigned long long)number), 1;
   return 0;
 }
 
@@ -85,6 +91,55 @@ static int run(const char *folder) {
   return 0;
 }
 
+/* ---- where the device fails too */
+
+static bool fails_syncs;
+int __real_fdatasync(int);
+int __wrap_fdatasync(int file) {
+  if (!fails_syncs) return __real_fdatasync(file);
+  errno = EIO;
+  return -1;
+}
+
+/* A commit that isn't synced, of which one allocation is refused. It is open then, or unsure; what was safe is read either way. */
+static int fail_both(const char *folder, long at) {
+  pdt_database *database;
+  pdt_store *a;
+  pdt_txn *txn;
+  pdt_pinned *pin;
+  pdt_work *work;
+  int64_t one = 1;
+  uint64_t number = 0;
+  CALL(pdt_database_open(folder, &options, &database, NULL));
+  CALL(pdt_table_create_csv(database, "a", csv, sizeof csv - 1, NULL, NULL, &a));
+  for (int64_t qty = 1; qty <= 2; qty++) {
+    CALL(pdt_begin(a, &txn));
+    CALL(pdt_set(txn, &one, NULL, 0, 1, qty, NULL));
+    if (qty == 1) CALL(pdt_commit(txn, NULL));
+  }
+  fails_syncs = true;
+  left = at;
+  int code = pdt_commit(txn, NULL);
+  left = -1;
+  if (code == PDT_NOMEM) pdt_abort(txn);
+  else if (code != PDT_UNSURE) return fprintf(stderr, "a commit: %s\n", pdt_text(code)), 1;
+  CALL(pdt_pin(a, &number, &pin));
+  CALL(pdt_begin_at(pin, &txn));
+  if (number != 1 || sum_is(txn, 1)) return fprintf(stderr, "a pin has number %llu\n", (unsigned long long)number), 1;
+  pdt_abort(txn);
+  pdt_unpin(pin);
+  CALL(pdt_work_begin(database, &work));
+  CALL(pdt_work_on(work, a, &txn));
+  if (sum_is(txn, 1)) return 1;
+  pdt_work_abort(work);
+  CALL(pdt_begin(a, &txn));
+  if (sum_is(txn, 1)) return 1;
+  pdt_abort(txn);
+  (void)pdt_database_close(database);
+  fails_syncs = false;
+  return 0;
+}
+
 int main(int argc, char **argv) {
   if (argc < 3) return 2;
   char folder[400], words[500];
@@ -100,6 +155,11 @@ int main(int argc, char **argv) {
     left = -1;
     if (blocks != before) return fprintf(stderr, "allocation %ld: %ld blocks stay\n", at, blocks - before), 1;
     if (refused == refusals) break; /* there was no such allocation */
+  }
+  for (long at = 0, refusals = -1; refused != refusals; at++, runs++) {
+    if (system(words)) return 1;
+    refusals = refused;
+    if (fail_both(folder, at)) return fprintf(stderr, "allocation %ld of a commit that isn't synced\n", at), 1;
   }
   printf("%ld runs, %ld refused, %ld answered\n", runs, refused, answered);
   return answered ? 0 : 1;
