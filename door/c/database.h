@@ -54,6 +54,7 @@ struct pdt_database {
   uint64_t name, salt;
   pdt_database_options options; /* as they stand, with no zeros */
   pid_t process;                /* which opened it */
+  const volatile bool *is_ours; /* whether this is that one: on a page that the kernel wipes in a child, or null where it can't */
 
   /* changed under round_lock and both of `locks` and with the turn, and read with any of the four */
   pdti_table **tables;
@@ -237,7 +238,9 @@ void pdti_attach(pdt_database *database, pdti_table *entry, uint64_t number);
 /* Whether this thread has a commit prepared: then it has the lock, and waits for nobody who may wait for that. */
 bool pdti_has_prepared(pdt_database *database);
 
-/* Whether the database is this process's: a child of fork has none. */
-static inline bool pdti_is_ours(const pdt_database *database) { return database && database->process == getpid(); }
+/* Whether the database is this process's: a child of fork has none. Each call asks, and getpid is a call of the system. */
+static inline bool pdti_is_ours(const pdt_database *database) {
+  return database && (database->is_ours ? *database->is_ours : database->process == getpid());
+}
 
 #endif

@@ -1,8 +1,10 @@
 /* Databases: the object, and how it is opened, closed and counted. */
+#define _DEFAULT_SOURCE
 #include "database.h"
 
 #include <fcntl.h>
 #include <sys/file.h>
+#include <sys/mman.h>
 
 /* ---- options and reports */
 
@@ -54,6 +56,24 @@ void pdti_free_entry(pdti_table *entry) {
   free(entry);
 }
 
+/* Makes the page that says whose it is. Where there is none the process is asked for its number instead. */
+static void make_page(pdt_database *database) {
+#ifdef MADV_WIPEONFORK
+  size_t len = (size_t)sysconf(_SC_PAGESIZE);
+  bool *page = mmap(NULL, len, PROT_READ | PROT_WRITE, MAP_PRIVATE | MAP_ANONYMOUS, -1, 0);
+  if (page == MAP_FAILED) return;
+  *page = !madvise(page, len, MADV_WIPEONFORK);
+  if (*page) database->is_ours = page;
+  else munmap(page, len);
+#else
+  (void)database;
+#endif
+}
+
+static void free_page(pdt_database *database) {
+  if (database->is_ours) munmap((void *)(uintptr_t)database->is_ours, (size_t)sysconf(_SC_PAGESIZE));
+}
+
 /* Lets go of a database that nobody uses, and whose locks are made or not. */
 static void free_database(pdt_database *database) {
   for (size_t i = 0; i < database->count; i++) pdti_free_entry(database->tables[i]);
@@ -68,6 +88,7 @@ static void free_database(pdt_database *database) {
     close(database->lock_file);
   }
   if (database->dir >= 0) close(database->dir);
+  free_page(database);
   free(database);
 }
 
@@ -135,6 +156,7 @@ pdt_code pdt_database_open(const char *folder, const pdt_database_options *optio
     free(database);
     return code;
   }
+  make_page(database);
   code = pdti_make_folder(folder);
   if (!code && (database->dir = pdti_open_in(AT_FDCWD, folder, O_RDONLY | O_DIRECTORY)) < 0) code = PDT_IO;
   if (!code) code = pdti_lock_folder(database);
