@@ -1,6 +1,7 @@
 /* Databases: what is made, kept, found again and refused. */
 #define _DEFAULT_SOURCE
 #include <dirent.h>
+#include <errno.h>
 #include <fcntl.h>
 #include <pdt.h>
 #include <pthread.h>
@@ -202,6 +203,11 @@ static void refuses(void) {
   closed(database);
   is("null", PDT_MISUSE, pdt_database_open(NULL, NULL, &database, NULL));
   is("empty", PDT_MISUSE, pdt_database_open("", NULL, &database, NULL));
+  database = opened("none");
+  work = working(database);
+  is("a work over no table", PDT_MISUSE, pdt_database_close(database));
+  pdt_work_abort(work);
+  closed(database);
   is("a folder above that isn't there", PDT_IO, try_open("no/such", &database));
   options.sync = 3;
   is("no such sync", PDT_MISUSE, try_open("refuses", &database));
@@ -349,17 +355,100 @@ static void keeps(void) {
   options = (pdt_database_options){.size = sizeof options, .no_upkeep = true};
 }
 
-/* What was answered before the device had it is there soon after: the thread sees to it. */
+/* What was answered before the device had it is there soon after: the thread sees to it, also after a close that was refused. */
 static void syncs_late(int sync) {
   options.sync = sync;
   options.no_upkeep = false;
   pdt_database *database = opened(sync == PDT_SYNC_OFF ? "off" : "normal");
-  committed(created(database, "items"), 10, 1);
+  pdt_store *items = created(database, "items");
+  pdt_txn *txn = begun(items);
+  is("a close under a transaction", PDT_MISUSE, pdt_database_close(database));
+  pdt_abort(txn);
+  committed(items, 10, 1);
   int tries = 0;
   while (counted(database).safe < 1 && tries++ < 100) usleep(100000);
   is("safe", 1, (long long)counted(database).safe);
   closed(database);
   options = (pdt_database_options){.size = sizeof options, .no_upkeep = true};
+}
+
+/* Where there is no thread, what was answered from memory is on the device after an upkeep, and before a checkpoint of it is written. */
+static void syncs_when_asked(void) {
+  options.sync = PDT_SYNC_OFF;
+  pdt_database *database = opened("asked");
+  pdt_store *items = created(database, "items");
+  committed(items, 10, 1);
+  is("in memory", 0, (long long)counted(database).safe);
+  is("upkeep", PDT_OK, pdt_upkeep(database));
+  is("safe", 1, (long long)counted(database).safe);
+  committed(items, 10, 2);
+  is("mkdir", 0, mkdir(folder_of("asked/image"), 0777));
+  is("checkpoint", PDT_OK, pdt_checkpoint(items, folder_of("asked/image")));
+  is("safe", 2, (long long)counted(database).safe);
+  closed(database);
+  options = (pdt_database_options){.size = sizeof options, .no_upkeep = true};
+}
+
+/* Nor does what was answered from memory grow there without end: it is written once it is long. */
+static void writes_what_is_long(void) {
+  static const char header[] = "id:int:key,name:text\n";
+  static char name[4000];
+  options.sync = PDT_SYNC_OFF;
+  pdt_database *database = opened("long");
+  pdt_store *store = NULL;
+  is("create", PDT_OK, pdt_table_create_csv(database, "t", header, sizeof header - 1, NULL, NULL, &store));
+  memset(name, 'x', sizeof name);
+  for (int64_t i = 0; i < 600; i++) {
+    pdt_txn *txn = begun(store);
+    is("insert", PDT_OK, pdt_insert(txn, (int64_t[]){i, sizeof name}, name, sizeof name));
+    is("commit", PDT_OK, pdt_commit(txn, NULL));
+  }
+  is("two batches of a megabyte", 2, (long long)counted(database).batches);
+  closed(database);
+  options = (pdt_database_options){.size = sizeof options, .no_upkeep = true};
+}
+
+/* The upkeep's threads take no signal: those are the caller's threads'. */
+static void takes_no_signal(void) {
+  options.no_upkeep = false;
+  options.sync = PDT_SYNC_NORMAL;
+  pdt_database *database = opened("signals");
+  sigset_t one, before, waiting;
+  sigemptyset(&one);
+  sigaddset(&one, SIGUSR1);
+  pthread_sigmask(SIG_BLOCK, &one, &before); /* else a thread that takes it ends the process */
+  kill(getpid(), SIGUSR1);
+  usleep(20000);
+  sigpending(&waiting);
+  is("it waits", 1, sigismember(&waiting, SIGUSR1));
+  int number = 0;
+  is("for this thread", 0, sigwait(&one, &number));
+  pthread_sigmask(SIG_SETMASK, &before, NULL);
+  closed(database);
+  options = (pdt_database_options){.size = sizeof options, .no_upkeep = true};
+}
+
+/* What an upkeep has made stable is read so, also where no commit came since the opening. */
+static size_t pieces_of(pdt_store *store) {
+  pdt_txn *txn = begun(store);
+  pdt_piece pieces[8];
+  size_t count = 8;
+  is("pieces", PDT_OK, pdt_pieces(txn, 1, 0, 3, pieces, &count, NULL));
+  pdt_abort(txn);
+  return count;
+}
+static void shows_its_image(void) {
+  pdt_database *database = opened("image");
+  committed(created(database, "items"), 20, 5);
+  closed(database);
+  options.checkpoint_entries = 1;
+  database = opened("image");
+  pdt_store *items = table(database, "items");
+  is("beside the stable rows", 3, (long long)pieces_of(items));
+  is("upkeep", PDT_OK, pdt_upkeep(database));
+  is("one of them", 1, (long long)pieces_of(items));
+  closed(database);
+  options.checkpoint_entries = 0;
 }
 
 /* A table that no commit changes keeps no file of the journal, however short that is. */
@@ -487,6 +576,61 @@ static void locks(void) {
   is("what the parent did", 5, qty(table(database, "items"), 10));
   closed(database);
   is("all files are closed", found, open_files(&stay));
+}
+
+/* With the standard streams closed no file takes their numbers, and none stays at an exec. */
+static void leaves_the_streams(void) {
+  pid_t child = fork();
+  if (!child) {
+    for (int file = 0; file < 3; file++) close(file);
+    pdt_database *database = NULL;
+    pdt_store *store = NULL;
+    int stay, before;
+    (void)open_files(&before);
+    bool right = !try_open("streams", &database) && !pdt_table_create_csv(database, "t", csv, sizeof csv - 1, NULL, NULL, &store);
+    for (int file = 0; file < 3; file++) right = right && fcntl(file, F_GETFD) < 0;
+    (void)open_files(&stay);
+    _exit(!(right && stay == before && !pdt_database_close(database)));
+  }
+  int status = -1;
+  waitpid(child, &status, 0);
+  is("the streams", 0, status);
+}
+
+/* ---- folders that this user may not write, or that stand in one that it may not read */
+
+enum { NOBODY = 65534 };
+static void in_child_of_nobody(const char *what, int (*work)(void)) {
+  pid_t child = fork();
+  if (!child) _exit(chdir(room) || (!geteuid() && (setgid(NOBODY) || setuid(NOBODY))) ? 1 : work());
+  int status = -1;
+  waitpid(child, &status, 0);
+  is(what, 0, status);
+}
+static int opens_none(void) {
+  pdt_database *database = NULL;
+  bool is_refused = pdt_database_open("read-only", &options, &database, NULL) == PDT_IO && errno == EACCES && !database;
+  return !(is_refused && pdt_database_open("read-only/new", &options, &database, NULL) == PDT_IO && errno == EACCES && !database);
+}
+static int opens_one(void) {
+  pdt_database *database = NULL;
+  return chdir("unread") || pdt_database_open("mine", &options, &database, NULL) || pdt_database_close(database);
+}
+static void of_others(void) {
+  pdt_database *database = opened("read-only");
+  committed(created(database, "items"), 10, 5);
+  closed(database);
+  is("chmod", 0, chmod(folder_of("read-only"), 0555) || chmod(folder_of("read-only/lock"), 0444));
+  in_child_of_nobody("a folder that is read alone", opens_none);
+  is("chmod", 0, chmod(folder_of("read-only"), 0755) || chmod(folder_of("read-only/lock"), 0644));
+  database = opened("read-only");
+  is("is as it was", 5, qty(table(database, "items"), 10));
+  closed(database);
+  is("mkdir", 0, mkdir(folder_of("unread"), 0755) || mkdir(folder_of("unread/mine"), 0755));
+  if (!geteuid()) is("chown", 0, chown(folder_of("unread/mine"), NOBODY, NOBODY) || chown(folder_of("unread"), NOBODY, NOBODY));
+  is("chmod", 0, chmod(folder_of("unread"), 0311)); /* whose names it may not sync */
+  in_child_of_nobody("a folder in one that isn't read", opens_one);
+  is("chmod", 0, chmod(folder_of("unread"), 0755));
 }
 
 /* ---- damage is told */
@@ -715,10 +859,16 @@ int main(int argc, char **argv) {
   keeps();
   syncs_late(PDT_SYNC_NORMAL);
   syncs_late(PDT_SYNC_OFF);
+  syncs_when_asked();
+  shows_its_image();
+  writes_what_is_long();
+  takes_no_signal();
   keeps_no_idle();
   tidies();
   keeps_options();
   locks();
+  leaves_the_streams();
+  of_others();
   is_told();
   threads(PDT_SYNC_FULL, true);
   threads(PDT_SYNC_FULL, false);

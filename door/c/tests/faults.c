@@ -21,21 +21,31 @@ static void is(const char *what, long long wanted, long long found) {
 /* ---- the calls, the n-th of which fails */
 
 static long calls, fails_at = -1; /* and those after it, where it stays so */
+static bool syncs_no_folder;      /* as some file systems */
 static long fallen;               /* how many have failed */
 static bool stays;
 static int with;
 static const char *failed; /* the name of the first that did */
 
-/* Whether a signal may cut a call off. */
+/* Those that a signal may cut off. */
+static const char *const cut_off[] = {"openat", "write", "read", "fdatasync", "fsync"};
 static bool may_be_cut(const char *name) {
-  static const char *const all[] = {"openat", "write", "read", "fdatasync", "fsync"};
-  for (size_t i = 0; i < sizeof all / sizeof *all; i++)
-    if (!strcmp(name, all[i])) return true;
+  for (size_t i = 0; i < sizeof cut_off / sizeof *cut_off; i++)
+    if (!strcmp(name, cut_off[i])) return true;
   return false;
+}
+
+/* At which call each of these is made first. */
+enum { MAY_BE_CUT = 5 };
+static long first[MAY_BE_CUT];
+static void note(const char *name, long at) {
+  for (int i = 0; i < MAY_BE_CUT; i++)
+    if (!strcmp(name, cut_off[i]) && !first[i]) first[i] = at;
 }
 
 static bool falls(const char *name) {
   long at = calls++;
+  if (fails_at < 0) note(name, at);
   bool now = fails_at >= 0 && (at == fails_at || (stays && at > fails_at));
   if (now && with == EINTR && !may_be_cut(name)) return false;
   if (now && !failed) failed = name;
@@ -71,6 +81,7 @@ int __wrap_fdatasync(int file) {
 }
 int __wrap_fsync(int file) {
   (void)file;
+  if (syncs_no_folder) return errno = EINVAL, -1;
   return falls("fsync") ? -1 : 0;
 }
 int __wrap_renameat(int a, const char *from, int b, const char *to) { return falls("renameat") ? -1 : __real_renameat(a, from, b, to); }
@@ -181,6 +192,17 @@ static void remove_all(const char *path) {
   if (system(words)) exit(1);
 }
 
+/* A run of which a call is cut off by a signal, and is made again. */
+static void run_whole(const char *folder, long at) {
+  remove_all(folder);
+  told said = {0, 0, false};
+  calls = 0, failed = NULL, fails_at = at;
+  run(folder, &said);
+  fails_at = -1;
+  is("all is answered", COMMITS, (long long)said.answered);
+  look(folder, &said);
+}
+
 int main(int argc, char **argv) {
   if (argc < 3) return 2;
   char folder[400];
@@ -207,15 +229,11 @@ int main(int argc, char **argv) {
       if (failures != before) fprintf(stderr, "call %ld of %ld, %s, %s, %s\n", at, all, failed, stays ? "and all after it" : "once", strerror(with));
     }
   options.early_reads = false;
-  for (long at = 0; at < all && failures < 10; at += every, runs++) { /* a call that a signal cuts off is made again */
-    remove_all(folder);
-    told said = {0, 0, false};
-    calls = 0, failed = NULL, fails_at = at, stays = false, with = EINTR;
-    run(folder, &said);
-    fails_at = -1;
-    is("all is answered", COMMITS, (long long)said.answered);
-    look(folder, &said);
-  }
+  stays = false, with = EINTR;
+  for (int i = 0; i < MAY_BE_CUT; i++, runs++) run_whole(folder, first[i]);
+  for (long at = 0; at < all && failures < 10; at += every, runs++) run_whole(folder, at);
+  syncs_no_folder = true;
+  run_whole(folder, -1);
   printf("%ld calls, %d runs, %d failures\n", all, runs, failures);
   return failures ? 1 : 0;
 }

@@ -31,7 +31,7 @@ static bool comes(atomic_int *at, int wanted) {
 
 static atomic_int holds_syncs, syncs_begun, syncs_let; /* the n-th sync of data goes on once so many are let go */
 static atomic_int holds_writes, writes_begun, writes_let;
-static atomic_int slow_headers, fails_fsyncs, renames_wait, renames_begun, renames_let;
+static atomic_int slow_headers, fails_fsyncs, fails_renames, renames_wait, renames_begun, renames_let;
 
 static void hold(atomic_int *begun, atomic_int *let) {
   int number = ++*begun;
@@ -85,6 +85,7 @@ int __wrap_fsync(int file) {
 }
 int __wrap_renameat(int dir, const char *from, int to_dir, const char *to) {
   if (renames_wait) hold(&renames_begun, &renames_let);
+  if (fails_renames) return errno = EIO, -1;
   return __real_renameat(dir, from, to_dir, to);
 }
 
@@ -487,6 +488,51 @@ static void unsure(void) {
   is("it is there", PDT_OK, pdt_table_open(database, "a", &a));
   sees(database, a, 2, false);
   is("and due again", PDT_OK, pdt_upkeep(database));
+
+  /* the next one takes a folder that neither manifest names */
+  one = (task){.store = a, .key = 2};
+  start(&one, commits);
+  is("a commit", PDT_OK, joined(&one));
+  hold_renames();
+  start(&maker, keeps_up);
+  is("a manifest", 1, comes(&renames_begun, 1));
+  fails_fsyncs = 1;
+  renames_wait = 0;
+  renames_let = 1;
+  is("an upkeep that fails", PDT_IO, joined(&maker));
+  is("is counted", 1, (long long)counted(database).faults);
+  is("and due at once", PDT_OK, pdt_upkeep(database));
+  closed(database);
+
+  /* a drop of which the device isn't sure, and the manifest with the table again neither: nothing is written any more */
+  database = opened("unsure", &options, NULL);
+  is("a", PDT_OK, pdt_table_open(database, "a", &a));
+  fails_fsyncs = 2;
+  is("a drop that fails", PDT_IO, pdt_table_drop(database, "a"));
+  pdt_txn *txn = begun(a);
+  set(txn, 0, 1);
+  is("a commit", PDT_FAILED, pdt_commit(txn, NULL));
+  pdt_abort(txn);
+  is("a creation", PDT_FAILED, pdt_table_create_csv(database, "b", csv, sizeof csv - 1, NULL, NULL, &store));
+  is("an upkeep", PDT_FAILED, pdt_upkeep(database));
+  is("it reads on", PDT_OK, pdt_begin(a, &txn));
+  pdt_abort(txn);
+  closed(database);
+}
+
+/* What fails is tried again, and not at once: a full disk isn't asked fifty times a second. */
+static void pauses(void) {
+  pdt_database_options options = {.size = sizeof options, .checkpoint_entries = 1};
+  pdt_database *database = opened("pauses", &options, NULL);
+  pdt_store *store = created(database, "a");
+  fails_renames = 1;
+  task one = {.store = store};
+  start(&one, commits);
+  is("commit", PDT_OK, joined(&one));
+  for (int i = 0; i < 500 && !counted(database).faults; i++) pass(1);
+  pass(200);
+  is("one try", 1, (long long)counted(database).faults);
+  fails_renames = 0;
   closed(database);
 }
 
@@ -580,6 +626,7 @@ int main(int argc, char **argv) {
   tables();
   dropped();
   unsure();
+  pauses();
   goes_on();
   late(PDT_SYNC_NORMAL, "late");
   late(PDT_SYNC_OFF, "later");

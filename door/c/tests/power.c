@@ -1,7 +1,8 @@
 /* What a loss of power leaves of a database. A run is written down, call by call: which files it makes, writes, syncs, renames and
    takes away, and what it answers. Then folders are made as the power may leave them after each call: with all that was done, with
-   only what was synced, and with some of what wasn't, file by file and folder by folder. Each is opened, and has to hold what was
-   answered by then, and what was not answered whole or not at all. Under another sync it has to hold the first commits, however
+   only what was synced, and with some of what wasn't, file by file and folder by folder; after each rename with that alone of the changes
+   of names that weren't synced. Each is opened, and has to hold what was answered by then, also what a column is declared as, and what was not
+   answered whole or not at all. Under another sync it has to hold the first commits, however
    many. And runs are killed before a call, in the midst of a write too, and opened again by another process, which goes on with what the
    kernel has: a loss of power right after that leaves no less. Where RUN is said, a folder that the program has made becomes a database in
    place of a new one. Linked with --wrap of the calls.
@@ -9,7 +10,7 @@
 #define _POSIX_C_SOURCE 200809L
 #include <errno.h>
 #include <fcntl.h>
-#include <pdt.h>
+#include <pdt_arrow.h>
 #include <setjmp.h>
 #include <stdarg.h>
 #include <stdio.h>
@@ -36,7 +37,7 @@ typedef struct {
   uint8_t *bytes;
   size_t len;
   uint64_t number; /* that was answered */
-  int tables;
+  int tables, declared;
   bool lasts; /* whatever the sync: the database was closed */
   bool is_lost; /* of bytes: their sync failed, and the system takes them for written */
 } event;
@@ -234,12 +235,33 @@ static pdt_database_options options = {.size = sizeof options, .no_upkeep = true
                                        .journal_bytes = 1500};
 static const char csv[] = "id:int:key,qty:int\n0,0\n1,0\n2,0\n3,0\n4,0\n5,0\n6,0\n";
 static const char *const names[] = {"left", "right"};
+static uint64_t number; /* of the last commit that was answered */
+
+/* What a column of the first table is declared as: times in a zone that has a number for its name. The last that was answered. */
+static int declared;
+static const char *format_of(int as) {
+  static char format[16];
+  snprintf(format, sizeof format, "tsu:%d", as);
+  return format;
+}
+static int declared_of(const pdt_store *store) {
+  const char *format = pdt_declared(store, 1);
+  return format && !strncmp(format, "tsu:", 4) ? atoi(format + 4) : -1;
+}
 
 static void answer(uint64_t number, int tables, bool lasts) {
   event *one = add(ANSWER, -1);
   one->number = number;
   one->tables = tables;
+  one->declared = declared;
   one->lasts = lasts;
+}
+
+/* Makes a table, the first one with a column that is declared. */
+static void create(pdt_database *database, int table, pdt_store **store) {
+  const char *const formats[] = {NULL, table ? NULL : format_of(declared)};
+  is("create", PDT_OK, pdt_table_create_csv_declared(database, names[table], csv, sizeof csv - 1, formats, 2, NULL, NULL, store));
+  answer(number, table + 1, true);
 }
 
 /* Each commit sets one key of both tables to its number. */
@@ -260,7 +282,6 @@ static uint64_t step(pdt_database *database, pdt_store *const *stores, uint64_t 
 
 static pdt_database *running;
 static pdt_store *const *running_stores;
-static uint64_t number;
 static void commit_one(void) {
   number = step(running, running_stores, number + 1);
   answer(number, 2, false);
@@ -295,15 +316,20 @@ static void open_once(const char *folder) {
   pdt_store *stores[2];
   int there = 0;
   while (there < 2 && !pdt_table_open(database, names[there], &stores[there])) there++;
+  int found = there ? declared_of(stores[0]) : declared;
+  is("what is declared", 1, found == declared || found == declared + 1);
+  declared = found;
   answer(number, there, true);
-  for (; there < 2; there++) {
-    is("create", PDT_OK, pdt_table_create_csv(database, names[there], csv, sizeof csv - 1, NULL, NULL, &stores[there]));
-    answer(number, there + 1, true);
-  }
+  for (; there < 2; there++) create(database, there, &stores[there]);
   running = database;
   running_stores = stores;
   for (int i = 0; i < COMMITS / 3; i++) {
     commit_one();
+    if (i == COMMITS / 6) {
+      is("declare", PDT_OK, pdt_declare(stores[0], 1, format_of(declared + 1)));
+      declared++;
+      answer(number, 2, false);
+    }
     if (i % 4 == 3) is("upkeep", PDT_OK, pdt_upkeep(database));
   }
   running = NULL;
@@ -317,6 +343,17 @@ static void open_once(const char *folder) {
 enum { MADE = 4 };
 static const char *program_run;
 static int begins; /* the events before are of the folder as it was made */
+
+static const char *const run_files[] = {"header.csv", "column-0.pdt", "column-1.pdt", "column-2.pdt", "images.pdt", "journal.pdt"};
+
+/* Once it is a database none of the run's files is there. */
+static void has_no_run(const char *folder) {
+  char path[600];
+  for (int i = 0; i < 6; i++) {
+    snprintf(path, sizeof path, "%s/%s", folder, run_files[i]);
+    if (!access(path, F_OK)) is(run_files[i], 0, 1);
+  }
+}
 
 static void lay_file(const char *name) {
   static uint8_t bytes[1 << 16];
@@ -372,12 +409,11 @@ static void look_imported(pdt_database *database, uint64_t commits) {
 
 static void put_folder(const char *path, int folder, int end, int way);
 static void lay_run(const char *folder) {
-  static const char *const files[] = {"header.csv", "column-0.pdt", "column-1.pdt", "column-2.pdt", "images.pdt", "journal.pdt"};
   event *one = add(MAKE_FOLDER, PARENT);
   one->object = TOP;
   snprintf(one->name, sizeof one->name, "top");
   add(SYNC, PARENT);
-  for (int i = 0; i < 6; i++) lay_file(files[i]);
+  for (int i = 0; i < 6; i++) lay_file(run_files[i]);
   add(SYNC, TOP);
   put_folder(folder, TOP, count, 0);
   number = MADE;
@@ -416,7 +452,7 @@ static void run(const char *folder, bool is_made) {
     died = count;
     killed_at = -1;
     running = NULL;
-    soon = false;
+    soon = fails = false;
   }
   while (left) {
     if (program_run) open_imported(folder);
@@ -431,6 +467,7 @@ static void forget(void) {
   objects = 2;
   calls = 0;
   number = 0;
+  declared = 0;
   memset(is_folder + 2, 0, sizeof is_folder - 2 * sizeof *is_folder);
 }
 
@@ -439,7 +476,8 @@ static void forget(void) {
 static unsigned seed = 1;
 static int drawn(int below) { return below > 0 ? rand_r(&seed) % below : 0; }
 
-enum left { ALL, SYNCED, SOME };
+/* All, what was synced, some of what wasn't; or of a folder what was synced and the last change of its names alone. */
+enum left { ALL, SYNCED, SOME, LAST };
 
 /* Up to which event a file or a folder is left, of those before `end`. */
 static int left_of(int object, int end, enum left way) {
@@ -450,14 +488,14 @@ static int left_of(int object, int end, enum left way) {
     if (events[i].kind == SYNC) last = i, later = 0;
     else if (events[i].kind != ANSWER) later++;
   }
-  if (way == SYNCED || !later) return last;
+  if (way == SYNCED || way == LAST || !later) return last;
   int more = drawn(later + 1), at = last;
   while (more && ++at < end) more -= events[at].of == object && events[at].kind != ANSWER && events[at].kind != SYNC;
   return at + 1 < end ? at + 1 : end;
 }
 
 static void put_file(const char *path, int object, int end, enum left way) {
-  int until = left_of(object, end, way);
+  int until = left_of(object, end, way), synced = left_of(object, end, SYNCED);
   static uint8_t bytes[1 << 20];
   size_t len = 0;
   for (int i = 0; i < until; i++) {
@@ -467,6 +505,7 @@ static void put_file(const char *path, int object, int end, enum left way) {
     if (one->kind == WRITE) {
       memcpy(bytes + len, one->bytes, one->len);
       if (one->is_lost && way != ALL) memset(bytes + len, 0, one->len);
+      if (way == SOME && i > synced && !drawn(3)) memset(bytes + len, 0, one->len); /* it came later than one after it */
       len += one->len;
     }
   }
@@ -504,7 +543,8 @@ static void take_out(names_held *held, const char *name) {
 
 /* What a folder holds: of the changes of its names that weren't synced any may be left, since no rule says in which order they last. */
 static void put_folder(const char *path, int folder, int end, int way) {
-  int until = left_of(folder, end, way == SOME ? SYNCED : way);
+  int until = left_of(folder, end, way == SOME ? SYNCED : way), only = end - 1;
+  while (way == LAST && only >= until && (events[only].of != folder || events[only].kind == SYNC)) only--;
   static names_held all[4];
   static int depth;
   names_held *held = &all[depth++];
@@ -512,7 +552,7 @@ static void put_folder(const char *path, int folder, int end, int way) {
   __real_mkdir(path, 0777);
   for (int i = 0; i < end; i++) {
     const event *one = &events[i];
-    if (one->of != folder || (i >= until && (way != SOME || drawn(2)))) continue;
+    if (one->of != folder || (i >= until && !(way == LAST && i == only) && (way != SOME || drawn(2)))) continue;
     if (one->kind == RENAME || one->kind == REMOVE) take_out(held, one->name);
     if (one->kind == RENAME) take_out(held, one->to);
     if (one->kind == MAKE || one->kind == MAKE_FOLDER || one->kind == RENAME) {
@@ -540,11 +580,12 @@ static long long value_at(uint64_t commits, int key) {
 
 static void look(const char *folder, int end, const char *way) {
   uint64_t answered = 0, lasting = 0;
-  int tables = 0, before = failures;
+  int tables = 0, said = 0, before = failures;
   for (int i = 0; i < end; i++)
     if (events[i].kind == ANSWER) {
       answered = events[i].number;
       tables = events[i].tables;
+      said = events[i].declared;
       if (events[i].lasts) lasting = answered;
     }
   pdt_database *database = NULL;
@@ -556,11 +597,12 @@ static void look(const char *folder, int end, const char *way) {
     if (lasts) is("what was answered is there", 1, report.commits >= answered);
     is("and one more at most", 1, report.commits <= answered + 1);
     pdt_store *stores[2];
-    if (program_run) look_imported(database, report.commits);
+    if (program_run) look_imported(database, report.commits), has_no_run(folder);
     for (int i = 0; i < 2 && !program_run; i++) {
       int code = pdt_table_open(database, names[i], &stores[i]);
       if (i < tables) is("a table", PDT_OK, code);
       if (code) continue;
+      if (!i && declared_of(stores[0]) != said) is("what is declared", said + 1, declared_of(stores[0]));
       pdt_txn *txn = NULL;
       is("begin", PDT_OK, pdt_begin(stores[i], &txn));
       for (int key = 0; key < KEYS; key++) {
@@ -596,6 +638,21 @@ static int look_at(const char *left, int end) {
   return SOME + 1;
 }
 
+/* Looks at what is left where of the changes of names that weren't synced the last one alone has lasted: after each rename, and after
+   each file of the program's that is taken away. */
+static int look_at_names(const char *left) {
+  int looked = 0;
+  for (int end = begins + 1; end <= count && failures < 20; end++) {
+    enum kind kind = events[end - 1].kind;
+    if (kind != RENAME && !(program_run && kind == REMOVE)) continue;
+    remove_all(left);
+    put_folder(left, TOP, end, LAST);
+    look(left, end, "last");
+    looked++;
+  }
+  return looked;
+}
+
 int main(int argc, char **argv) {
   if (argc < 3) return 2;
   char folder[400], left[400];
@@ -608,6 +665,7 @@ int main(int argc, char **argv) {
   run(folder, false);
   int looked = 0;
   for (int end = begins + drawn(every); end <= count && failures < 20; end += 1 + drawn(2 * every - 1)) looked += look_at(left, end);
+  looked += look_at_names(left);
   long all = calls;
   for (long at = drawn(2 * every); at < all && failures < 20; at += 1 + drawn(12 * every)) {
     remove_all(folder);
