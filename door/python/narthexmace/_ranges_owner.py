@@ -16,6 +16,7 @@ from ._errors import Failed, Locked, Unsure
 from ._layers import DELETE, INSERT, MODIFY
 from ._pin import Pin
 from ._ranges_errors import Closed, Gone
+from ._ranges_layout import kept, shown
 from ._ranges_log import Effects
 from ._snapshot import Snapshot
 from ._transaction import Transaction
@@ -29,11 +30,12 @@ Term = Tuple[int, int]
 
 
 class First(NamedTuple):
-    """What a range is made of: its rows by columns, and the options of its table."""
+    """What a range is made of: its rows by columns, as they are kept, their formats, and the options of its table."""
 
     columns: Dict[str, Any]
     key: Sequence[str]
     types: Dict[str, str]
+    formats: Dict[str, str]
     options: Dict[str, Any]
 
 
@@ -69,7 +71,9 @@ class Owner:
         self._key = uuid.uuid4().hex
         _HERE[self._key] = self
         if first is not None:
-            self._db.create(ROWS, first.columns, key=first.key, types=first.types, **first.options)
+            rows = self._db.create(ROWS, first.columns, key=first.key, types=first.types, **first.options)
+            for column, format_ in first.formats.items():  # there is no table in ranges before all of this is done
+                rows.declare(column, format_)
             self._db.create(INSTALLED, "number:int:key,name:text\n")
         self._rows = self._db[ROWS]
         self._key_columns = sum(column.key for column in self._rows.columns)
@@ -285,31 +289,39 @@ _CALLS: Dict[str, Callable[..., Any]] = {
 
 
 def _effects_of(txn: Transaction, key_columns: int) -> Effects:
-    """What a transaction writes, by keys: deletes first, since a row that is replaced is a delete and an insert."""
+    """What a transaction writes, by keys: deletes first, since a row that is replaced is a delete and an insert.
+
+    Cells are as they are kept: the log has ints, texts and truths.
+    """
     effects: Effects = []
+    kinds = tuple(txn._shaping.declared)
     for entry in txn.layer():
         if entry.kind == DELETE:
-            effects.append([DELETE, entry.values])
+            effects.append([DELETE, kept(entry.values, kinds)])
         elif entry.kind == INSERT:
-            effects.append([INSERT, entry.values])
+            effects.append([INSERT, kept(entry.values, kinds)])
         else:
-            effects.append([MODIFY, txn[entry.rid][:key_columns], entry.column, entry.values[0]])
+            key, kind = kept(txn[entry.rid][:key_columns], kinds), kinds[txn._shaping.column(entry.column)]
+            effects.append([MODIFY, key, entry.column, *kept(entry.values[:1], (kind,))])
     return sorted(effects, key=lambda effect: (DELETE, INSERT, MODIFY).index(effect[0]))
 
 
 def _write(txn: Transaction, effects: Effects) -> None:
     """Does what was decided over the newest table. Nothing of it can be refused: it was decided over this one."""
-    for kind, *given in effects:
-        if kind == DELETE:
-            txn.delete(given[0])
-        elif kind == INSERT:
-            txn.insert(given[0])
+    kinds = tuple(txn._shaping.declared)
+    for what, cells, *given in effects:
+        row = shown(cells, kinds)
+        if what == DELETE:
+            txn.delete(row)
+        elif what == INSERT:
+            txn.insert(row)
         else:
-            txn.set(*given)
+            column, cell = given
+            txn.set(row, column, shown((cell,), (kinds[txn._shaping.column(column)],))[0])
 
 
 def rows_between(table: Snapshot, start: int, stop: int) -> Dict[str, Any]:
-    """The rows between two positions, by columns, as they go to another process."""
+    """The rows between two positions, by columns, as they are kept, and as they go to another process."""
     batch = next(table.scan(start=start, stop=stop, batch=max(stop - start, 1)), None)
     columns = table._shaping.columns
     return {it.name: [] if batch is None else _sent(batch[it.name], it) for it in columns}

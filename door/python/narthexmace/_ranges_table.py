@@ -51,20 +51,18 @@ def create(
     ``bounds`` are keys in ascending order: the first range has the rows below the first bound, and each further one
     begins at a bound. The rows go through this process: a large table is made empty, and filled by ``Ranges.begin``.
 
-    Exists, where the folder has something in it; Shape, of the bounds, and where a column is declared; those of
-    ``narthexmace.open`` and ``connect``.
+    Exists, where the folder has something in it; Shape, of the bounds; those of ``narthexmace.open`` and ``connect``.
     """
     path, user = os.path.abspath(os.fsdecode(folder)), client or default_client()
     options = {"recent": recent, "row_limit": row_limit, "conflicts": conflicts}
     with open_store(table, key=key, types=types) as store, store.read() as rows:
-        if store.declared:
-            raise Shape("a table in ranges has no declared columns: ints, texts and bools alone go into its log")
-        layout = Layout(store.columns, ())
-        keys = tuple(layout.key_of(bound) for bound in bounds)
+        formats = store.declared
+        layout = Layout(store.columns, tuple(formats.get(column.name) for column in store.columns), ())
+        layout = layout._replace(bounds=tuple(layout.key_of(bound) for bound in bounds))
+        keys = [layout.order_of(bound) for bound in layout.bounds]
         if any(low >= high for low, high in zip(keys, keys[1:])):
             raise Shape("the bounds of the ranges ascend")
-        layout = Layout(store.columns, keys)
-        edges = [0, *(rows.rank(bound).below for bound in keys), len(rows)]
+        edges = [0, *(rows.rank(bound).below for bound in layout.bounds), len(rows)]
         names = [column.name for column in layout.key]
         of_columns = {column.name: column.type for column in layout.columns}
         parts = [rows_between(rows, start, stop) for start, stop in zip(edges, edges[1:])]
@@ -73,7 +71,7 @@ def create(
         raise Exists(f"there is something in {path!r}", None, path)
     Log.make(path)
     sync_folder(os.path.dirname(path))
-    firsts = [First(part, names, of_columns, options) for part in parts]
+    firsts = [First(part, names, of_columns, formats, options) for part in parts]
     coordinator = Coordinator(user, path, seconds, opening, len(parts), firsts)
     try:
         layout.write(path)
@@ -172,11 +170,12 @@ class Ranges(Single):
         """The table as a dataframe of Dask's, with a part for each range, read by its owner when it is computed.
 
         All parts are of the newest vector, or of another one. That has to be there when it is computed: a pin keeps it.
-        A key of one int or text is the index, with the bounds as divisions. Gone, when it is computed.
+        A key of one int or text that isn't declared is the index, with the bounds as divisions. Columns that are
+        declared have the types of floats and datetimes, or object. Gone, when it is computed.
         """
         vector = self._vector_at(at)
         self._heal(range(len(vector)))
-        return frame_of(self._coordinator.ranges, self._layout.columns, self._layout.bounds, vector, columns)
+        return frame_of(self._coordinator.ranges, self._layout, vector, columns)
 
     def outcome(self, name: str) -> str:
         """What is known of a transaction of a name: "committed", "not committed", or "in doubt".

@@ -17,6 +17,8 @@ import time
 import unittest
 import warnings
 from contextlib import suppress
+from datetime import date, datetime, timezone
+from decimal import Decimal
 from pathlib import Path
 from typing import Any, Callable, Dict, List, Optional, Set, Tuple, Type
 
@@ -195,7 +197,7 @@ class Owners(Case):
         return owner
 
     def made(self) -> Owner:
-        return self.owner(First({"id": [1, 2], "sum": [5, 7]}, ["id"], {"id": "int", "sum": "int"}, {}))
+        return self.owner(First({"id": [1, 2], "sum": [5, 7]}, ["id"], {"id": "int", "sum": "int"}, {}, {}))
 
     def rows(self, owner: Owner, version: int) -> List[Any]:
         return list(owner.read(version, list))
@@ -451,13 +453,46 @@ class Reads(Clusters):
         self.assertRaises(narthexmace.Misuse, frame.compute, scheduler="synchronous")
         self.refused(Shape, table.get, "x")
 
+    def test_columns_that_are_declared(self) -> None:
+        """Keys and cells are values, and the order of keys and what the log has are the ints that stand for them."""
+        types = {"day": "tdD", "x": "?g", "at": "?tsu:UTC", "n": "?l", "price": "d:9,2"}
+        noon = datetime(2026, 1, 1, 12, tzinfo=timezone.utc)
+        days = [date(1969, 12, 30), date(1970, 1, 1), date(2026, 2, 28)]
+        columns = {"day": days, "x": [-0.0, None, 0.5], "at": [noon, None, noon], "n": [None, 2**60 + 1, 3]}
+        columns["price"] = [Decimal("0.50"), Decimal("-1.25"), Decimal(7)]
+        bounds = [date(1969, 12, 31), date(2000, 1, 1)]
+        table = self.create(columns, key="day", types=types, bounds=bounds)
+        due = [tuple(row) for row in zip(*columns.values())]
+        self.assertEqual((self.rows(table), [len(part) for part in table.map(rows_of)]), (due, [1, 1, 1]))
+        for _ in range(2):
+            self.assertEqual((table.bounds, table.get(days[1])), (tuple((it,) for it in bounds), due[1]))
+            self.refused(Shape, table.get, 1.5)
+            table.close()
+            table = self.connect()
+        later = date(2030, 5, 5)
+        with table.begin() as txn:  # in two ranges, so that it is in the log
+            txn.set(days[0], "x", float("inf"))
+            txn.set(days[0], "at", None)
+            txn.insert((later, 0.25, noon, None, Decimal("3.10")))
+            txn.delete(days[2])
+            self.refused(Shape, txn.set, days[0], "price", 0.5)
+            self.refused(Shape, txn.insert, {"day": "2030", "x": 0.0, "at": None, "n": 1, "price": Decimal(1)})
+            self.assertEqual(txn.get(later), (later, 0.25, noon, None, Decimal("3.10")))
+        due = [(days[0], float("inf"), None, None, Decimal("0.50")), due[1], (later, 0.25, noon, None, Decimal("3.10"))]
+        self.assertEqual(self.rows(table), due)
+        whole = table.frame().compute(scheduler=self.client)
+        told = [str(it) for it in whole.dtypes]
+        self.assertEqual(told, ["object", "float64", "datetime64[ns, UTC]", "object", "object"])
+        self.assertEqual([whole["day"].tolist(), whole["n"].tolist()], [[row[at] for row in due] for at in (0, 3)])
+        self.assertEqual(whole["price"].tolist(), [row[4] for row in due])
+        table.close()
+        self.assertEqual(self.rows(self.connect()), due)
+
     def test_what_is_no_table_in_ranges_is_refused(self) -> None:
         columns = {"id": [1], "sum": [5]}
         for bounds in ([2, 2], [3, 2]):
             with self.assertRaises(Shape):
                 self.create(columns, key="id", bounds=bounds)
-        with self.assertRaises(Shape):
-            self.create(columns, key="id", types={"sum": "g"}, bounds=[1])
         self.refused(Gap, self.connect)
         table = self.create(columns, key="id", bounds=[1])
         self.refused(Locked, self.connect)
