@@ -497,6 +497,32 @@ static void tidies(void) {
   closed(database);
 }
 
+/* Once all tables are dropped the journal begins anew, after the last number. */
+static void starts_over(void) {
+  for (int files = 1; files <= 2; files++) {
+    const char *name = files == 1 ? "over" : "over again";
+    options.checkpoint_entries = 1;
+    pdt_database *database = opened(name);
+    pdt_store *items = created(database, "items");
+    committed(items, 10, 1);
+    if (files == 2) is("upkeep", PDT_OK, pdt_upkeep(database)), committed(items, 10, 2);
+    is("drop", PDT_OK, pdt_table_drop(database, "items"));
+    closed(database);
+    options.checkpoint_entries = 0;
+    for (int opening = 0; opening < 2; opening++) {
+      database = opened(name);
+      is("its numbers", files, (long long)report.commits);
+      closed(database);
+    }
+    database = opened(name);
+    is("the next", files + 1, (long long)committed(created(database, "items"), 10, 7));
+    closed(database);
+    database = opened(name);
+    is("is there", 7, qty(table(database, "items"), 10));
+    closed(database);
+  }
+}
+
 /* A table keeps its options. */
 static void keeps_options(void) {
   static const char three[] = "id:int:key,a:int,b:int\n1,0,0\n2,0,0\n3,0,0\n";
@@ -571,10 +597,17 @@ static void locks(void) {
   waitpid(child, &status, 0);
   is("the child", 0, status);
   committed(items, 10, 5);
+  int ends[2];
+  is("pipe", 0, pipe(ends));
+  child = fork(); /* which has the files too, and lives on */
+  if (!child) _exit(close(ends[1]) || read(ends[0], &stay, 1) != 0);
   closed(database);
   database = opened("locks");
   is("what the parent did", 5, qty(table(database, "items"), 10));
   closed(database);
+  close(ends[0]), close(ends[1]);
+  waitpid(child, &status, 0);
+  is("the child that lived on", 0, status);
   is("all files are closed", found, open_files(&stay));
 }
 
@@ -688,11 +721,31 @@ static void is_told(void) {
   copy_folder("whole", "damaged");
   removed("journal-1");
   damaged("a journal that is missing", PDT_GAP, 0, "journal");
+  /* a file of the journal whose last frame is damaged, which no image has, while there is a later one: with its frame, and with a header
+     alone */
+  options.checkpoint_entries = 1;
+  database = opened("two");
+  items = created(database, "items");
+  committed(items, 10, 1);
+  committed(items, 10, 2);
+  is("mkdir", 0, mkdir(folder_of("two/manifest-new"), 0777)); /* the next file is made, and the image fails */
+  is("upkeep", PDT_IO, pdt_upkeep(database));
+  is("rmdir", 0, rmdir(folder_of("two/manifest-new")));
+  committed(items, 10, 3);
+  is("two files", 2, (long long)counted(database).journal_files);
+  closed(database);
+  options.checkpoint_entries = 0;
+  char words[1200];
+  for (int round = 0; round < 2; round++) {
+    copy_folder("two", "damaged");
+    change("damaged", "journal-1", -1, 1);
+    if (round) is("truncate", 0, truncate(folder_of("damaged/journal-2"), 36));
+    damaged("a frame before another file", PDT_ROT, 2, "");
+  }
   database = opened("other");
   committed(created(database, "items"), 10, 1);
   closed(database);
   copy_folder("whole", "damaged");
-  char words[1200];
   snprintf(words, sizeof words, "cp '%s/other/journal-1' '%s/damaged/journal-1'", room, room);
   is("cp", 0, system(words));
   damaged("the journal of another", PDT_MISFIT, 0, "journal-1");
@@ -865,6 +918,7 @@ int main(int argc, char **argv) {
   takes_no_signal();
   keeps_no_idle();
   tidies();
+  starts_over();
   keeps_options();
   locks();
   leaves_the_streams();

@@ -193,6 +193,16 @@ static void is_told(const char *folder) {
   }
   if (file) fclose(file);
   is("whole again", -1, PDT_OK, pdt_database_open(folder, &options, &database, &report));
+  snprintf(path, sizeof path, "%s/types-new", folder); /* that a crash has left, longer than the next one */
+  file = fopen(path, "wb");
+  for (int i = 0; file && i < 500; i++) fputc('x', file);
+  if (file) fclose(file);
+  is("table", -1, PDT_OK, pdt_table_open(database, "t", &table));
+  is("declare", -1, PDT_OK, pdt_declare(table, 1, "tss:"));
+  is("close", -1, PDT_OK, pdt_database_close(database));
+  is("over what was left", -1, PDT_OK, pdt_database_open(folder, &options, &database, &report));
+  is("table", -1, PDT_OK, pdt_table_open(database, "t", &table));
+  is("declared", -1, true, is_declared(table, "tss:"));
   is("close", -1, PDT_OK, pdt_database_close(database));
 }
 

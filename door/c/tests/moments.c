@@ -31,6 +31,7 @@ static bool comes(atomic_int *at, int wanted) {
 
 static atomic_int holds_syncs, syncs_begun, syncs_let; /* the n-th sync of data goes on once so many are let go */
 static atomic_int holds_writes, writes_begun, writes_let;
+static atomic_int holds_headers, headers_begun, headers_let;
 static atomic_int slow_headers, fails_fsyncs, fails_renames, renames_wait, renames_begun, renames_let;
 
 static void hold(atomic_int *begun, atomic_int *let) {
@@ -57,6 +58,7 @@ int __real_fsync(int);
 int __real_renameat(int, const char *, int, const char *);
 ssize_t __wrap_write(int file, const void *bytes, size_t len) {
   if (slow_headers && len == 36) pass(30);
+  if (holds_headers && len == 36) hold(&headers_begun, &headers_let);
   if (holds_writes) hold(&writes_begun, &writes_let);
   return __real_write(file, bytes, len);
 }
@@ -598,6 +600,45 @@ static void next_file(void) {
   closed(database);
 }
 
+/* Once it has gone on in a file that has no header yet, the upkeep takes no file away before it: a copy of the folder has all. */
+static void copied(const char *from, const char *to) {
+  char words[1200];
+  snprintf(words, sizeof words, "cp -r '%s/%s' '%s/%s'", room, from, room, to);
+  is("copy", 0, system(words));
+}
+static void begun_file(void) {
+  pdt_database_options options = {.size = sizeof options, .checkpoint_entries = 2};
+  pdt_database *database = opened("begun", &options, NULL);
+  pdt_store *a = created(database, "a"), *b = created(database, "b"), *found = NULL;
+  task one = {.store = a}, two = {.store = b};
+  start(&one, commits);
+  is("commit", PDT_OK, joined(&one));
+  pdt_txn *txn = begun(b);
+  set(txn, 0, 1), set(txn, 1, 1);
+  is("commit", PDT_OK, pdt_commit(txn, NULL));
+  for (int i = 0; i < 500 && counted(database).images < 1; i++) pass(10);
+  holds_headers = 1;
+  start(&two, commits);
+  is("a header", 1, comes(&headers_begun, 1));
+  pass(100); /* some rounds of the upkeep */
+  copied("begun", "begun-copy");
+  holds_headers = 0;
+  headers_let = 1;
+  is("commit", PDT_OK, joined(&two));
+  closed(database);
+  options.no_upkeep = true;
+  pdt_report report = {.size = sizeof report};
+  database = opened("begun-copy", &options, &report);
+  is("what was answered", 2, (long long)report.commits);
+  is("a", PDT_OK, pdt_table_open(database, "a", &found));
+  int64_t row[2] = {0, -1}, key = 0;
+  txn = begun(found);
+  is("get", PDT_OK, pdt_get(txn, &key, NULL, 0, row, NULL, 0, NULL));
+  is("its cell", 7, (long long)row[1]);
+  pdt_abort(txn);
+  closed(database);
+}
+
 /* Also while the upkeep is over an image for longer than that. */
 static void late_under_image(void) {
   pdt_database_options options = {.size = sizeof options, .sync = PDT_SYNC_NORMAL, .checkpoint_entries = 1};
@@ -632,5 +673,6 @@ int main(int argc, char **argv) {
   late(PDT_SYNC_OFF, "later");
   late_under_image();
   next_file();
+  begun_file();
   return failures ? 1 : 0;
 }
