@@ -70,15 +70,8 @@ uint64_t pdti_seen(const pdt_database *database) { return hides(database) ? data
 
 /* ---- of who has the turn */
 
-/* Takes what is pending, with the number of its last commit, and the versions that its commits made. PDT_MISUSE where this thread has a
-   commit prepared, since what it has staged is neither pending nor written. */
-static int take_batch(pdt_database *database, uint64_t *upto) {
-  if (pthread_mutex_lock(&database->locks.lock)) return PDT_MISUSE;
-  buffer frames = database->pending;
-  database->pending = database->writing;
-  database->pending.len = 0;
-  database->writing = frames;
-  *upto = database->newest;
+/* Takes the versions that the commits of a batch made of each table, which begins take once these are safe. Under the lock. */
+static void take_versions(pdt_database *database) {
   pthread_mutex_lock(&database->locks.fresh_lock);
   for (size_t i = 0; i < database->count; i++) {
     pdt_store *store = database->tables[i]->store;
@@ -89,6 +82,18 @@ static int take_batch(pdt_database *database, uint64_t *upto) {
     store->coming.at = NULL;
   }
   pthread_mutex_unlock(&database->locks.fresh_lock);
+}
+
+/* Takes what is pending, with the number of its last commit, and the versions that its commits made. PDT_MISUSE where this thread has a
+   commit prepared, since what it has staged is neither pending nor written. */
+static int take_batch(pdt_database *database, uint64_t *upto) {
+  if (pthread_mutex_lock(&database->locks.lock)) return PDT_MISUSE;
+  buffer frames = database->pending;
+  database->pending = database->writing;
+  database->pending.len = 0;
+  database->writing = frames;
+  *upto = database->newest;
+  if (hides(database)) take_versions(database);
   pthread_mutex_unlock(&database->locks.lock);
   return PDT_OK;
 }
@@ -133,12 +138,9 @@ static int write_frames(pdt_database *database) {
   unwritten first;
   memcpy(&first, frames->at, sizeof first);
   pthread_mutex_lock(&database->turn_lock);
-  bool has_next = database->next_file >= 0;
+  bool has_next = database->next_file >= 0, is_new = has_next || !last_file(database)->bytes;
   pthread_mutex_unlock(&database->turn_lock);
   if (has_next && go_on(database)) return PDT_IO;
-  pthread_mutex_lock(&database->turn_lock);
-  bool is_new = !last_file(database)->bytes;
-  pthread_mutex_unlock(&database->turn_lock);
   if (is_new && write_header(database, first.number - 1)) return PDT_IO;
   make_heads(database);
   if (pdti_write_to(database->file, frames->at, frames->len)) return PDT_IO;
