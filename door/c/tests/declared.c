@@ -154,7 +154,8 @@ static void refuses(const char *folder) {
     is("a format of a text", (long)i, PDT_SHAPE, code);
     is("no store", (long)i, true, !table);
     if (bad[i].count > 2) continue;
-    is("a format of columns", (long)i, PDT_SHAPE, pdt_table_create_declared(database, "t", columns, 2, 1, bad[i].formats, NULL, NULL, &table));
+    code = pdt_table_create_declared(database, "t", columns, 2, 1, bad[i].formats, NULL, NULL, &table);
+    is("a format of columns", (long)i, PDT_SHAPE, code);
   }
   is("no formats", -1, PDT_MISUSE, pdt_table_create_csv_declared(database, "t", csv, sizeof csv - 1, NULL, 1, NULL, NULL, &table));
   is("nor of columns", -1, PDT_MISUSE, pdt_table_create_declared(database, "t", columns, 2, 1, NULL, NULL, NULL, &table));

@@ -227,7 +227,8 @@ int main(int argc, char **argv) {
       if (at % 2) run(folder, &said); /* opened while it fails, or afterwards */
       fails_at = -1;
       look(folder, &said);
-      if (failures != before) fprintf(stderr, "call %ld of %ld, %s, %s, %s\n", at, all, failed, stays ? "and all after it" : "once", strerror(with));
+      const char *how = stays ? "and all after it" : "once";
+      if (failures != before) fprintf(stderr, "call %ld of %ld, %s, %s, %s\n", at, all, failed, how, strerror(with));
     }
   options.early_reads = false;
   stays = false, with = EINTR;

@@ -1,7 +1,7 @@
 /* A database that runs on stays as it is: soak_databases FOLDER N has two threads write a table, N commits each, while another one scans
    it, and the upkeep folds, makes images and takes files of the journal away. It prints the resident memory, the bytes of the folder and
-   the quickest scan each tenth, and fails where the memory has grown by more than 4 MB since the third tenth, the folder has more than
-   its bound, or the last tenth's scan takes more than three times the slowest of the second to the fifth. Reads /proc, as Linux has it. */
+   the quickest scan each tenth, and fails where the memory has grown by more than 4 MB since the third tenth, or the folder has more than
+   its bound. How long the scans take is for people to read. Reads /proc, as Linux has it. */
 #define _XOPEN_SOURCE 700
 #include <ftw.h>
 #include <pdt.h>
@@ -93,7 +93,6 @@ static void *scan_on(void *context) {
 /* Looks at each tenth of the commits, and says whether all stays in its bounds. */
 static bool watch(const char *folder) {
   long third = 0;
-  long long slowest = 0;
   for (long tenth = 1; tenth <= TENTHS; tenth++) {
     quickest = 1LL << 60;
     while (commits < WRITERS * due / TENTHS * tenth && !failed) nanosleep(&(struct timespec){0, 2000000}, NULL);
@@ -101,12 +100,10 @@ static bool watch(const char *folder) {
     long long found = bytes_of(folder), scan = quickest;
     printf("%ld commits: %ld KB, %lld bytes, a scan %lld us\n", (long)commits, kilobytes, found, scan / 1000);
     fflush(stdout);
-    if (tenth > 1 && tenth < 6 && scan > slowest) slowest = scan;
     if (tenth == 3) third = kilobytes;
     if (failed || kilobytes < 0) return false;
     if (third && kilobytes - third > MOST_KB) return fprintf(stderr, "%ld KB more\n", kilobytes - third), false;
     if (found > MOST_BYTES) return fprintf(stderr, "the folder has %lld bytes\n", found), false;
-    if (tenth == TENTHS && scan > 3 * slowest) return fprintf(stderr, "a scan takes %lld us, and took %lld\n", scan / 1000, slowest / 1000), false;
   }
   return true;
 }
