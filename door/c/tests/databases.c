@@ -492,9 +492,15 @@ static void tidies(void) {
   if (!file || fclose(file)) is("a file", 0, -1);
   created(database, "more");
   closed(database);
-  database = opened("tidies");
-  is("another table", 1, qty(table(database, "more"), 10));
-  closed(database);
+  file = fopen(folder_of("tidies/journal-new"), "wb"); /* and than the frames that an opening writes anew */
+  for (int i = 0; file && i < 5000; i++) fputc('x', file);
+  if (!file || fclose(file)) is("a file", 0, -1);
+  for (int opening = 0; opening < 2; opening++) {
+    database = opened("tidies");
+    is("nothing is torn", 0, (long long)report.torn_bytes);
+    is("another table", 1, qty(table(database, "more"), 10));
+    closed(database);
+  }
 }
 
 /* Once all tables are dropped the journal begins anew, after the last number. */
