@@ -471,6 +471,26 @@ static void keeps_no_idle(void) {
   options = (pdt_database_options){.size = sizeof options, .no_upkeep = true};
 }
 
+/* A file of the journal whose last commit alone a table wants stays. */
+static void keeps_the_last(void) {
+  options.checkpoint_entries = 2;
+  pdt_database *database = opened("last");
+  pdt_store *hot = created(database, "hot");
+  pdt_txn *txn = begun(hot);
+  set(txn, 10, 1), set(txn, 20, 1);
+  is("commit", PDT_OK, pdt_commit(txn, NULL));
+  pdt_store *cold = created(database, "cold");
+  is("the last of its file", 2, (long long)committed(cold, 10, 5));
+  is("upkeep", PDT_OK, pdt_upkeep(database));
+  is("the first of the next", 3, (long long)committed(hot, 10, 3));
+  is("upkeep", PDT_OK, pdt_upkeep(database));
+  closed(database);
+  options.checkpoint_entries = 0;
+  database = opened("last");
+  is("the cold one", 5, qty(table(database, "cold"), 10));
+  closed(database);
+}
+
 /* What a crash has left, whichever of its files, is taken away. */
 static void tidies(void) {
   pdt_database *database = opened("tidies");
@@ -923,6 +943,7 @@ int main(int argc, char **argv) {
   writes_what_is_long();
   takes_no_signal();
   keeps_no_idle();
+  keeps_the_last();
   tidies();
   starts_over();
   keeps_options();
