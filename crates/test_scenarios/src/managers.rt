@@ -9,6 +9,7 @@ mod late_commits;
 mod openings;
 mod pins;
 mod refusals;
+mod repacks;
 mod restacks;
 
 use model::{CommitReply, ConflictRule, Write, WriteReply};
