@@ -42,9 +42,4 @@ impl Manager {
         self.newest = self.newest.with_read_of(self.alloc, &packed.version)?;
         Ok(())
     }
-
-    /// Whether the Read-PDT of the newest version is packed: a matter of speed alone.
-    pub fn is_packed(&self) -> bool {
-        self.newest.read().packed().is_some()
-    }
 }

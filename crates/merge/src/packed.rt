@@ -2,7 +2,8 @@
 //! of a column of numbers reads them in order, where in the tree it waits for each node and each row.
 ghost use Rattle.std.specs.Prelude.{◌≡◌, ◌<◌, ◌^◌, true, false, [], length, map, min, get_or, IfOk};
 ghost use Rattle.values.specs.Lent.{value_of};
-ghost use Rattle.merge.specs.Packed.{IsPacked, IsPackedColumn, number_at, number_of, packed_at, packed_from, rows_after, rows_in, is_gone, is_patch, row_in, sid_of};
+ghost use Rattle.merge.specs.Packed.{IsPacked, IsPackedColumn, number_at, number_of, packed_at, packed_from};
+ghost use Rattle.merge.specs.Packed.{rows_after, rows_in, is_gone, is_patch, row_in, sid_of};
 
 use delta::{ChangeRef, DeltaTree, SharedEntry};
 use std::alloc::Global;

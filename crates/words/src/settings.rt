@@ -3,7 +3,8 @@ ghost use Rattle.std.specs.Prelude.{◌≡◌, ◌≤◌, ℕ, Bool, [], Some, I
 ghost use Rattle.clap.specs.Words.{app_of, fault_of, first_value, found_of, kind_of, subcommand_rows_of};
 ghost use Rattle.clap.specs.declared.error.kind.ErrorKind.TheVariants.{OutOfMemory};
 ghost use Rattle.model.specs.declared.clash.ConflictRule.{ConflictRule as Rule};
-ghost use Rattle.words.specs.Words.{flag_word, usage, command_for, word_for, word_in, AreAsked, AreOf, HasPlace, IsNumberOf, IsRuleOf, IsWithinLimits, NamesFolder};
+ghost use Rattle.words.specs.Words.{flag_word, usage, command_for, word_for, word_in};
+ghost use Rattle.words.specs.Words.{AreAsked, AreOf, HasPlace, IsNumberOf, IsRuleOf, IsWithinLimits, NamesFolder};
 ghost use Rattle.words.specs.declared.settings.Settings.{Settings as Asked};
 
 use crate::usage::program;
@@ -53,8 +54,8 @@ pub enum Settings<'a> {
 ///
 /// `clap`'s error, with its text, where the words are not of the usage
 /// `pdt run TABLE SCRIPT [--threads] [--store DIR] [--journal] [--recent N] [--limit N] [--conflicts column|row]` or
-/// `pdt recover DIR [--table NAME]`, where a DIR is empty, where an N is out of its range, where a journal is asked for without a store or with
-/// threads, where help is asked for, and where a growth is refused.
+/// `pdt recover DIR [--table NAME]`, where a DIR is empty, where an N is out of its range, where a journal is asked for without a
+/// store or with threads, where help is asked for, and where a growth is refused.
 pub fn read_words<'a>(alloc: Global, words: &'a [&'a str]) -> Result<Settings<'a>, Error>
     ensures said { IfOk result (AreOf (command_for (map (λ word. word.now) words.now)) (word_for (map (λ word. word.now) words.now))) }
     ensures within { IfOk result (λ settings. IsWithinLimits settings) }

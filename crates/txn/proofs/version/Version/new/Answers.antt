@@ -19,8 +19,10 @@ stacked-requires c =
     c.key_cols-key_cols.ensures.count
     ∙ ap (λ (t : Columns). t.key_cols) c.schema.ensures.columns
     ∙ ap (λ (t : Stable). t.schema.key_cols) c.deref.ensures in
-    let read : c.in_ok-read.read.value ≡ empty_tree s.schema.key_cols = c.in_ok-read.ensures.ok ∙ c.new.ensures ∙ c.new-under.ensures ∙ ap empty_tree count in
-    let write : c.in_ok-write.write.value ≡ empty_tree s.schema.key_cols = c.in_ok-write.ensures.ok ∙ c.new-over.ensures ∙ ap empty_tree count in
+    let read : c.in_ok-read.read.value ≡ empty_tree s.schema.key_cols =
+    c.in_ok-read.ensures.ok ∙ c.new.ensures ∙ c.new-under.ensures ∙ ap empty_tree count in
+    let write : c.in_ok-write.write.value ≡ empty_tree s.schema.key_cols =
+    c.in_ok-write.ensures.ok ∙ c.new-over.ensures ∙ ap empty_tree count in
     subst AreLower (sym (unwritten s c.in_ok-read.read.value c.in_ok-write.write.value read write)) (are_alone s lawful)
 
 pub returns-clause-version : goal.returns-clause-version
@@ -30,8 +32,10 @@ returns-clause-version c =
     c.key_cols-key_cols.ensures.count
     ∙ ap (λ (t : Columns). t.key_cols) c.schema.ensures.columns
     ∙ ap (λ (t : Stable). t.schema.key_cols) c.deref.ensures in
-    let read : c.in_ok-read.read.value ≡ empty_tree s.schema.key_cols = c.in_ok-read.ensures.ok ∙ c.new.ensures ∙ c.new-under.ensures ∙ ap empty_tree count in
-    let write : c.in_ok-write.write.value ≡ empty_tree s.schema.key_cols = c.in_ok-write.ensures.ok ∙ c.new-over.ensures ∙ ap empty_tree count in
+    let read : c.in_ok-read.read.value ≡ empty_tree s.schema.key_cols =
+    c.in_ok-read.ensures.ok ∙ c.new.ensures ∙ c.new-under.ensures ∙ ap empty_tree count in
+    let write : c.in_ok-write.write.value ≡ empty_tree s.schema.key_cols =
+    c.in_ok-write.ensures.ok ∙ c.new-over.ensures ∙ ap empty_tree count in
     let number = c.args.number in
     subst (λ (l : Lower). IfOk c.stacked.result (λ version. version ≡ numbered l number))
     (unwritten s c.in_ok-read.read.value c.in_ok-write.write.value read write)
