@@ -1,11 +1,13 @@
-/* What a loss of power leaves of a database. A run is written down, call by call: which files it makes, writes, syncs, renames and
-   takes away, and what it answers. Then folders are made as the power may leave them after each call: with all that was done, with
-   only what was synced, and with some of what wasn't, file by file and folder by folder; after each rename with that alone of the changes
-   of names that weren't synced. Each is opened, and has to hold what was answered by then, also what a column is declared as, and what was
-   not answered whole or not at all. Under another sync it has to hold the first commits, however many. And runs are killed before a call, in the midst of a write too, and opened again by another process, which goes on with what the
-   kernel has: a loss of power right after that leaves no less. Where RUN is said, a folder that the program has made becomes a database in
-   place of a new one. Linked with --wrap of the calls.
-   power FOLDER EVERY SYNC SEED RUN */
+/* What a loss of power leaves of a database. A run is written down, call by call: which files it makes, writes, syncs, renames and takes
+   away, and what it answers. Then folders are made as the power may leave them after each call: with all that was done, with only what
+   was synced, and with some of what wasn't, file by file and folder by folder; after each rename with that alone of the changes of names
+   that weren't synced. Each is opened, and has to hold what was answered by then, also what a column is declared as, and what was not
+   answered whole or not at all. Under another sync it has to hold the first commits, however many. And runs are killed before a call, in
+   the midst of a write too, and opened again by another process, which goes on with what the kernel has: a loss of power right after
+   that leaves no less. Where RUN is said, a folder that the program has made becomes a database in place of a new one. Linked with
+   --wrap of the calls.
+
+     power FOLDER EVERY SYNC SEED RUN */
 #define _POSIX_C_SOURCE 200809L
 #include <errno.h>
 #include <fcntl.h>
