@@ -9,7 +9,7 @@ use std::alloc::Global;
 use values::NoMemory;
 
 impl Pin {
-    /// The same version, kept with its Read-PDT packed. It takes a walk over that tree for each column.
+    /// The same version, kept with its Read-PDT packed. It takes a walk over that tree, and two for each column of numbers.
     ///
     /// # Errors
     ///

@@ -18,6 +18,7 @@ mod KeyRowLemmas
 mod PackedLemmas
 mod FillingLemmas
 mod PackedStepLemmas
+mod PackedWalkLemmas
 mod PackedFillLemmas
 mod PackedPlaceLemmas
 pub mod CallerLemmas

@@ -1,6 +1,6 @@
 -- The numbers of a column under packed modifies, and of packed inserts.
-use Rattle.std.proofs.Common.{◌≡◌, ◌∙◌, ℕ, zero, suc, ◌+◌, ◌-◌, ◌<◌, ◌≤◌, Bool, true, false, cond, T, Some, List, [], ◌∷◌, ◌++◌, length, map, take, drop, slice_get, get_or, refl, sym, ap, subst, arith}
-use Rattle.std.specs.Prelude.{ℤ, ◌==◌, ◌&&◌, nat_lt, nat_le, min, slice_set}
+use Rattle.std.proofs.Common.{◌≡◌, ◌∙◌, ℕ, zero, suc, ◌+◌, ◌-◌, ◌<◌, ◌≤◌, true, false, cond, T, Some, None, List, [], ◌∷◌, ◌++◌, length, map, take, drop, slice_get, get_or, refl, sym, ap, subst, arith}
+use Rattle.std.specs.Prelude.{ℤ, ◌==◌, slice_set}
 use Rattle.std.specs.List.{All, list_all}
 use Rattle.std.proofs.lemmas.Bool.Decides.{nat_tests}
 use Rattle.std.proofs.lemmas.List.{length-append, length-map, map-append, take-append-drop}
@@ -13,34 +13,14 @@ use Rattle.model.specs.declared.entry.Entry.{Entry}
 use Rattle.model.specs.declared.entry.Change.{Change}
 use Rattle.model.specs.declared.entry.Change.TheVariants.{Ins, Del, Mod}
 use Rattle.model.specs.Entries.{entry_at, is_modify}
-use Rattle.model.proofs.CallerLemmas.{both, first, second}
+use Rattle.model.proofs.CallerLemmas.{first, second}
 use Rattle.merge.specs.Cursor.{TreeCursor, IsCursor, entries_left, rows_left}
-use Rattle.merge.specs.Filling.{FillsRows, IsWide, KeepsModified, is_near, modified_by, modified_rows, modifies_between, past_modifies}
-use Rattle.merge.specs.Filling.{patched, patched_by}
-use Rattle.merge.specs.Packed.{number_at, number_of, packed_at, packed_from, rows_after, rows_in}
-use Rattle.merge.proofs.CursorLemmas.{drop-at, of_lt}
-use Rattle.merge.proofs.LevelLemmas.{of_le}
+use Rattle.merge.specs.Filling.{FillsRows, IsWide, KeepsModified, modified_by, modified_rows, modifies_between, past_modifies, patched}
+use Rattle.merge.specs.Packed.{number_at, number_of, patch_at, patches_in, rows_in, with_first}
+use Rattle.merge.specs.declared.packed.Patch.{Patch}
+use Rattle.merge.proofs.CursorLemmas.{drop-at}
+use Rattle.merge.proofs.PackedLemmas.{rows_in-append}
 use Rattle.merge.proofs.PackedStepLemmas.{between_of}
-
--- patches of packed modifies are near
-pub near_packed : (k a b : ℕ) (es : List Entry) → T (list_all (modifies_between a b) es) → T (list_all (is_near a b) (packed_from k es))
-near_packed k a b [] h = tt
-near_packed k a b (e ∷ es) h =
-    both (is_near a b (packed_at k e.sid e.change)) _ (one e.change refl)
-    (near_packed (rows_after k e.change) a b es (second (modifies_between a b e) _ h))
-  where
-    here : (a ≤ e.sid) × (e.sid < b) × T (is_modify e.change)
-    here = between_of a b e (first (modifies_between a b e) _ h)
-
-    and : (x y : Bool) → T x → T y → T (x && y)
-    and true true s t = tt
-    and true false s t = t
-    and false y s t = s
-
-    one : (c : Change) → e.change ≡ c → T (is_near a b (packed_at k e.sid c))
-    one (Ins row) is = subst (λ c. T (is_modify c)) is here.2
-    one (Del key) is = subst (λ c. T (is_modify c)) is here.2
-    one (Mod col value) is = and (nat_le a e.sid) (nat_lt e.sid b) (of_le a e.sid here.0) (of_lt e.sid b here.1)
 
 map-set : {X Y : Type 0} (f : X → Y) (xs : List X) (i : ℕ) (x : X) → map f (slice_set xs i x) ≡ slice_set (map f xs) i (f x)
 map-set f [] zero x = refl
@@ -71,7 +51,7 @@ get-set (x ∷ row) (suc i) (suc j) v d lt =
     same : (i j : ℕ) → (i == j) ≡ (suc i == suc j)
     same i j = grind (arith, nat_tests)
 
-module _ (col first_sid : ℕ) (narrow : col < 65535) where
+module _ (col first_sid : ℕ) where
   length-set_row : (row : Row) (i : ℕ) (v : Value) → length (slice_set row i v) ≡ length row
   length-set_row [] zero v = refl
   length-set_row [] (suc i) v = refl
@@ -96,49 +76,41 @@ module _ (col first_sid : ℕ) (narrow : col < 65535) where
       All-cons (IsWide col) x (slice_set xs i (slice_set (get_or xs i []) other v)) (All-head (IsWide col) x xs h)
       (wide_set xs i other v (All-tail (IsWide col) x xs h))
 
-  min_same : (other : ℕ) → (other == col) ≡ true → (min other 65535 == col) ≡ true
-  min_same other e = grind (arith, nat_tests)
-
-  min_other : (other : ℕ) → (other == col) ≡ false → (min other 65535 == col) ≡ false
-  min_other other e = grind (arith, nat_tests)
-
-  one_patch : (k sid other : ℕ) (v : Value) (xs : List Row) → All (IsWide col) xs → sid - first_sid < length xs
-      → map (number_at col) (modified_by first_sid sid (Mod other v) xs)
-      ≡ patched_by col first_sid (packed_at k sid (Mod other v)) (map (number_at col) xs)
-  one_patch k sid other v xs wide lt =
+  one_patch : (sid other : ℕ) (v : Value) (patches : List Patch) (xs : List Row) → All (IsWide col) xs → sid - first_sid < length xs
+      → patched first_sid patches (map (number_at col) (modified_by first_sid sid (Mod other v) xs))
+      ≡ patched first_sid (with_first (patch_at col sid (Mod other v)) patches) (map (number_at col) xs)
+  one_patch sid other v patches xs wide lt =
       let i : ℕ = sid - first_sid in
       let row : Row = get_or xs i [] in
       let is_wide : col < length row = All-get_or (IsWide col) xs i [] lt wide in
       let set = get-set row other col v (Truth false) is_wide in
-      map-set (number_at col) xs i (slice_set row other v)
+      ap (patched first_sid patches) (map-set (number_at col) xs i (slice_set row other v))
       ∙ (elim (other == col) as (λ b. (other == col) ≡ b
-      → slice_set (map (number_at col) xs) i (number_at col (slice_set row other v))
-      ≡ cond (min other 65535 == col) (slice_set (map (number_at col) xs) i (number_of v)) (map (number_at col) xs)) [
+      → patched first_sid patches (slice_set (map (number_at col) xs) i (number_at col (slice_set row other v)))
+      ≡ patched first_sid (with_first (cond b (Some (record { sid = sid; number = number_of v })) None) patches) (map (number_at col) xs)) [
         | true ↦ λ e.
-            ap (slice_set (map (number_at col) xs) i)
+            ap (λ n. patched first_sid patches (slice_set (map (number_at col) xs) i n))
             (ap number_of (set ∙ ap (λ b. cond b v (get_or row col (Truth false))) e))
-            ∙ sym (ap (λ b. cond b (slice_set (map (number_at col) xs) i (number_of v)) (map (number_at col) xs)) (min_same other e))
         | false ↦ λ e.
-            set-same (number_at col) xs i (slice_set row other v) []
-            (ap number_of (set ∙ ap (λ b. cond b v (get_or row col (Truth false))) e))
-            ∙ sym (ap (λ b. cond b (slice_set (map (number_at col) xs) i (number_of v)) (map (number_at col) xs)) (min_other other e))
+            ap (patched first_sid patches)
+            (set-same (number_at col) xs i (slice_set row other v) []
+            (ap number_of (set ∙ ap (λ b. cond b v (get_or row col (Truth false))) e)))
       ] refl)
 
-  pub patched_rows : (k : ℕ) (es : List Entry) (xs : List Row) → All (IsWide col) xs
+  pub patched_rows : (es : List Entry) (xs : List Row) → All (IsWide col) xs
       → T (list_all (modifies_between first_sid (first_sid + length xs)) es)
-      → map (number_at col) (modified_rows first_sid es xs) ≡ patched col first_sid (packed_from k es) (map (number_at col) xs)
-  patched_rows k [] xs wide h = refl
-  patched_rows k (e ∷ es) xs wide h = by e.change refl (patched_rows k es)
+      → map (number_at col) (modified_rows first_sid es xs) ≡ patched first_sid (patches_in col es) (map (number_at col) xs)
+  patched_rows [] xs wide h = refl
+  patched_rows (e ∷ es) xs wide h = by e.change refl (patched_rows es)
     where
       here : (first_sid ≤ e.sid) × (e.sid < first_sid + length xs) × T (is_modify e.change)
       here = between_of first_sid (first_sid + length xs) e (first (modifies_between first_sid (first_sid + length xs) e) _ h)
 
       by : (c : Change) → e.change ≡ c
           → ((ys : List Row) → All (IsWide col) ys → T (list_all (modifies_between first_sid (first_sid + length ys)) es)
-          → map (number_at col) (modified_rows first_sid es ys) ≡ patched col first_sid (packed_from k es) (map (number_at col) ys))
+          → map (number_at col) (modified_rows first_sid es ys) ≡ patched first_sid (patches_in col es) (map (number_at col) ys))
           → map (number_at col) (modified_rows first_sid es (modified_by first_sid e.sid e.change xs))
-          ≡ patched col first_sid (packed_from (rows_after k e.change) es)
-          (patched_by col first_sid (packed_at k e.sid e.change) (map (number_at col) xs))
+          ≡ patched first_sid (with_first (patch_at col e.sid e.change) (patches_in col es)) (map (number_at col) xs)
       by (Ins row) is more = absurd (subst (λ c. T (is_modify c)) is here.2)
       by (Del key) is more = absurd (subst (λ c. T (is_modify c)) is here.2)
       by (Mod other v) is more =
@@ -149,16 +121,15 @@ module _ (col first_sid : ℕ) (narrow : col < 65535) where
           ∙ more ys (wide_set xs i other v wide)
           (subst (λ n. T (list_all (modifies_between first_sid (first_sid + n)) es)) (sym same)
           (second (modifies_between first_sid (first_sid + length xs) e) _ h))
-          ∙ ap (patched col first_sid (packed_from k es)) (one_patch k e.sid other v xs wide (omega (arith, here.0, here.1)))
-          ∙ ap (λ c. patched col first_sid (packed_from (rows_after k c) es)
-          (patched_by col first_sid (packed_at k e.sid c) (map (number_at col) xs))) (sym is)
+          ∙ one_patch e.sid other v (patches_in col es) xs wide (omega (arith, here.0, here.1))
+          ∙ ap (λ c. patched first_sid (with_first (patch_at col e.sid c) (patches_in col es)) (map (number_at col) xs)) (sym is)
 
 -- base rows with what a packed tree modifies of them
-pub fills_patched : (col : ℕ) (c : TreeCursor) (most n m k : ℕ) → KeepsModified most n m c → (base left : List Row) (numbers out : List ℤ)
-    → IsCursor (length base) c → FillsRows col base numbers left → length numbers ≡ m → All (IsWide col) base → col < 65535
-    → out ≡ patched col c.sid (packed_from k (take n (entries_left c))) numbers
+pub fills_patched : (col : ℕ) (c : TreeCursor) (most n m : ℕ) → KeepsModified most n m c → (base left : List Row) (numbers out : List ℤ)
+    → IsCursor (length base) c → FillsRows col base numbers left → length numbers ≡ m → All (IsWide col) base
+    → out ≡ patched c.sid (patches_in col (take n (entries_left c))) numbers
     → FillsRows col (rows_left c base) out (rows_left (past_modifies n m c) left) × IsCursor (length left) (past_modifies n m c)
-fills_patched col c most n m k kept base left numbers out cursor p many wide narrow is =
+fills_patched col c most n m kept base left numbers out cursor p many wide is =
     let count : length p.passed ≡ m = sym (length-map p.passed (number_at col)) ∙ ap (λ ns. length ns) (sym p.numbers_are) ∙ many in
     let sum : length base ≡ length p.passed + length left = ap (λ rs. length rs) p.rows ∙ length-append p.passed left in
     let over = subst (λ j. IsCursor j c) sum cursor in
@@ -169,8 +140,8 @@ fills_patched col c most n m k kept base left numbers out cursor p many wide nar
         rows = ap (rows_left c) p.rows ∙ kept.rows p.passed left count over;
         numbers_are =
             is
-            ∙ ap (patched col c.sid (packed_from k (take n (entries_left c)))) p.numbers_are
-            ∙ sym (patched_rows col c.sid narrow k (take n (entries_left c)) p.passed first_wide all);
+            ∙ ap (patched c.sid (patches_in col (take n (entries_left c)))) p.numbers_are
+            ∙ sym (patched_rows col c.sid (take n (entries_left c)) p.passed first_wide all);
       },
       kept.cursor (length left) (subst (λ j. IsCursor (j + length left) c) count over),
     )
@@ -184,16 +155,6 @@ fills_patched col c most n m k kept base left numbers out cursor p many wide nar
         front (z ∷ zs) = ap (λ ws. z ∷ ws) (front zs)
 
 -- ---- inserts
-
-rows_in-append : (es fs : List Entry) → rows_in (es ++ fs) ≡ rows_in es ++ rows_in fs
-rows_in-append [] fs = refl
-rows_in-append (e ∷ es) fs = by e.change (rows_in-append es fs)
-  where
-    by : (c : Change) → rows_in (es ++ fs) ≡ rows_in es ++ rows_in fs
-        → rows_in (entry_at e.sid c ∷ es ++ fs) ≡ rows_in (entry_at e.sid c ∷ es) ++ rows_in fs
-    by (Ins row) rest = ap (λ rs. row ∷ rs) rest
-    by (Del key) rest = rest
-    by (Mod col value) rest = rest
 
 -- a packed insert's number is that of its row
 pub inserted_number : (col sid i : ℕ) (es : List Entry) (row : Row) (d : ℤ) → slice_get es i ≡ Some (entry_at sid (Ins row))

@@ -1,10 +1,9 @@
--- Packed entries beside those that they are packed of, and the walk over them.
+-- The walk over a packed tree.
 use Rattle.std.proofs.Common.{◌≡◌, ◌∙◌, ◌⊎◌, inl, inr, ℕ, zero, suc, ◌+◌, ◌-◌, ◌<◌, ◌≤◌, Bool, true, false, cond, T, Option, Some, None, List, [], ◌∷◌, ◌++◌, length, take, drop, slice_get, get_or, is_lt, refl, sym, ap, subst, arith}
-use Rattle.std.specs.Prelude.{MatchOption, ◌==◌, ◌&&◌, nat_lt, nat_le, slice_set}
+use Rattle.std.specs.Prelude.{◌==◌, ◌&&◌, nat_lt, nat_le, slice_set}
 use Rattle.std.specs.List.{list_all}
 use Rattle.std.proofs.lemmas.Bool.Decides.{nat_tests}
 use Rattle.std.proofs.lemmas.List.{drop-drop, length-append, take-append-drop}
-use Rattle.std.proofs.lemmas.Option.{slice_get_within}
 use Rattle.std.proofs.Math.Seq.{take-add}
 use Rattle.values.specs.declared.row.Row.{Row}
 use Rattle.values.specs.declared.value.Value.{Value}
@@ -14,155 +13,20 @@ use Rattle.model.specs.declared.entry.Change.TheVariants.{Ins, Del, Mod}
 use Rattle.model.specs.Entries.{entry_at, is_insert, is_delete, is_modify, change_cmp, entry_cmp, are_ordered}
 use Rattle.model.specs.Merging.{inserted_rows, left_of, merged_rows_from}
 use Rattle.model.proofs.CallerLemmas.{both, first, second, changes_at_other, first_place}
-use Rattle.merge.specs.Cursor.{TreeCursor, DeletesNext, DeletesNone, IsCursor, entries_left, is_past, rows_left, starts_with_delete}
-use Rattle.merge.specs.Filling.{InsertsNone, KeepsModified, modified_by, modified_rows, modifies_between, past_modifies, starts_with_insert}
+use Rattle.merge.specs.Cursor.{TreeCursor, DeletesNext, IsCursor, entries_left, is_past, rows_left, starts_with_delete}
+use Rattle.merge.specs.Filling.{KeepsModified, modified_by, modified_rows, modifies_between, past_modifies}
+use Rattle.merge.specs.Filling.{patches_before, patches_from, starts_with_insert}
 use Rattle.merge.specs.Level.{IsOver, stands_within}
-use Rattle.merge.specs.PackedLeft.{IsPackedRows}
+use Rattle.merge.specs.PackedLeft.{changes_left, count_before, count_passed}
 use Rattle.merge.specs.Parts.{PassesRow}
-use Rattle.merge.specs.Packed.{is_gone, is_patch, row_in, sid_of, packed_at, packed_from, rows_after, rows_in}
-use Rattle.merge.specs.declared.packed.PackedEntry.{PackedEntry}
-use Rattle.merge.specs.declared.packed_rows.PackedRows.{PackedRows}
+use Rattle.merge.specs.Packed.{patch_at, patches_in, place_of, row_changes_from, rows_after, rows_in, with_first}
+use Rattle.merge.specs.declared.packed.Patch.{Patch}
+use Rattle.merge.specs.declared.packed.RowChange.{RowChange}
 use Rattle.merge.proofs.CursorLemmas.{all-append, below_past, deletes_next, drop-at, drop-none, lt_of, of_lt, over_from, over_tail}
 use Rattle.merge.proofs.CursorLemmas.{past-weaken, same_of, starts-none, starts-some, take-at}
 use Rattle.merge.proofs.LevelLemmas.{all_from, all_from-ordered, le_of, merged_rows_from-cell, merged_rows_from-gap, of_le}
-
--- ---- entries and packed ones
-
-rows_after-count : (k : ℕ) (e : Entry) (es : List Entry) → rows_after k e.change + length (rows_in es) ≡ k + length (rows_in (e ∷ es))
-rows_after-count k e es = by e.change refl
-  where
-    by : (c : Change) → e.change ≡ c
-        → rows_after k c + length (rows_in es) ≡ k + length (rows_in (entry_at e.sid c ∷ es))
-    by (Ins row) is = omega arith
-    by (Del key) is = refl
-    by (Mod col value) is = refl
-
-pub length-packed : (k : ℕ) (es : List Entry) → length (packed_from k es) ≡ length es
-length-packed k [] = refl
-length-packed k (e ∷ es) = ap suc (length-packed (rows_after k e.change) es)
-
-pub drop-packed : (k i : ℕ) (es : List Entry) → drop i (packed_from k es) ≡ packed_from (k + length (rows_in (take i es))) (drop i es)
-drop-packed k zero es = let e : k ≡ k + 0 = omega arith in ap (λ n. packed_from n es) e
-drop-packed k (suc i) [] = refl
-drop-packed k (suc i) (e ∷ es) =
-    drop-packed (rows_after k e.change) i es
-    ∙ ap (λ n. packed_from n (drop i es)) (rows_after-count k e (take i es))
-
-pub take-packed : (k n : ℕ) (es : List Entry) → take n (packed_from k es) ≡ packed_from k (take n es)
-take-packed k zero es = refl
-take-packed k (suc n) [] = refl
-take-packed k (suc n) (e ∷ es) = ap (λ ps. packed_at k e.sid e.change ∷ ps) (take-packed (rows_after k e.change) n es)
-
--- the next so many packed entries
-pub packed_part : (packed : List PackedEntry) (es : List Entry) (i n : ℕ) → packed ≡ packed_from 0 es
-    → take n (drop i packed) ≡ packed_from (length (rows_in (take i es))) (take n (drop i es))
-packed_part packed es i n is =
-    let k = length (rows_in (take i es)) in
-    let zero_and : 0 + k ≡ k = omega arith in
-    ap (λ ps. take n (drop i ps)) is
-    ∙ ap (take n) (drop-packed 0 i es ∙ ap (λ m. packed_from m (drop i es)) zero_and)
-    ∙ take-packed k n (drop i es)
-
-pub sid-packed : (k sid : ℕ) (c : Change) → sid_of (packed_at k sid c) ≡ sid
-sid-packed k sid (Ins row) = refl
-sid-packed k sid (Del key) = refl
-sid-packed k sid (Mod col value) = refl
-
-patch-packed : (k sid : ℕ) (c : Change) → is_patch (packed_at k sid c) ≡ is_modify c
-patch-packed k sid (Ins row) = refl
-patch-packed k sid (Del key) = refl
-patch-packed k sid (Mod col value) = refl
-
-gone-packed : (k sid : ℕ) (c : Change) → is_gone (packed_at k sid c) ≡ is_delete c
-gone-packed k sid (Ins row) = refl
-gone-packed k sid (Del key) = refl
-gone-packed k sid (Mod col value) = refl
-
--- a packed entry is that of the entry at its place
-pub record IsPackedAt (es : List Entry) (i : ℕ) (p : PackedEntry) : Type 0 where
-  pub entry : Entry
-  pub there : slice_get es i ≡ Some entry
-  pub packed : p ≡ packed_at (length (rows_in (take i es))) entry.sid entry.change
-  pub sid_is : sid_of p ≡ entry.sid
-  pub patch_is : is_patch p ≡ is_modify entry.change
-  pub gone_is : is_gone p ≡ is_delete entry.change
-
-packed_there : (es : List Entry) (i : ℕ) (p : PackedEntry) → slice_get (packed_from 0 es) i ≡ Some p → IsPackedAt es i p
-packed_there es i p is =
-    let found = at 0 es i p is in
-    let e = found.0 in
-    let k = length (rows_in (take i es)) in
-    let packed : p ≡ packed_at k e.sid e.change = found.2 ∙ ap (λ n. packed_at n e.sid e.change) (zero_and k) in
-    record {
-      entry = e;
-      there = found.1;
-      packed = packed;
-      sid_is = ap sid_of packed ∙ sid-packed k e.sid e.change;
-      patch_is = ap is_patch packed ∙ patch-packed k e.sid e.change;
-      gone_is = ap is_gone packed ∙ gone-packed k e.sid e.change;
-    }
-  where
-    zero_and : (n : ℕ) → 0 + n ≡ n
-    zero_and n = omega arith
-
-    at : (k : ℕ) (es : List Entry) (i : ℕ) (p : PackedEntry) → slice_get (packed_from k es) i ≡ Some p
-        → (e : Entry) × (slice_get es i ≡ Some e) × (p ≡ packed_at (k + length (rows_in (take i es))) e.sid e.change)
-    at k [] zero p is = cc
-    at k [] (suc i) p is = cc
-    at k (e ∷ es) zero p is =
-        let same : k ≡ k + 0 = omega arith in
-        (e, refl, sym (some_same is) ∙ ap (λ n. packed_at n e.sid e.change) same)
-      where
-        some_same : {X : Type 0} {x y : X} → Some x ≡ Some y → x ≡ y
-        some_same e = cc
-    at k (e ∷ es) (suc i) p is =
-        let found = at (rows_after k e.change) es i p is in
-        (found.0, found.1, found.2 ∙ ap (λ n. packed_at n found.0.sid found.0.change) (rows_after-count k e (take i es)))
-
-packed_none : (es : List Entry) (i : ℕ) → slice_get (packed_from 0 es) i ≡ None → slice_get es i ≡ None
-packed_none es i is = by 0 es i is
-  where
-    by : (k : ℕ) (es : List Entry) (i : ℕ) → slice_get (packed_from k es) i ≡ None → slice_get es i ≡ None
-    by k [] zero is = refl
-    by k [] (suc i) is = refl
-    by k (e ∷ es) zero is = cc
-    by k (e ∷ es) (suc i) is = by (rows_after k e.change) es i is
-
--- the entry at an index, as a walk has it packed
-pub packed_next : (p : PackedRows) → IsPackedRows p → (i : ℕ) (e : PackedEntry) → slice_get p.packed.now.entries i ≡ Some e
-    → IsPackedAt p.tree.now.entries i e
-packed_next p lawful i e is =
-    packed_there p.tree.now.entries i e (ap (λ ps. slice_get ps i) (sym lawful.packed.entries_are) ∙ is)
-
-pub packed_end : (p : PackedRows) → IsPackedRows p → (i : ℕ) → slice_get p.packed.now.entries i ≡ None
-    → slice_get p.tree.now.entries i ≡ None
-packed_end p lawful i is = packed_none p.tree.now.entries i (ap (λ ps. slice_get ps i) (sym lawful.packed.entries_are) ∙ is)
-
--- ---- what is next
-
--- the test of an insert
-pub inserts-none : (sid : ℕ) (es : List Entry) (i : ℕ) → slice_get es i ≡ None → starts_with_insert sid (drop i es) ≡ false
-inserts-none sid es i is = ap (starts_with_insert sid) (drop-none es i is)
-
-pub inserts-some : (sid : ℕ) (es : List Entry) (i : ℕ) (e : Entry) → slice_get es i ≡ Some e
-    → starts_with_insert sid (drop i es) ≡ (e.sid == sid) && is_insert e.change
-inserts-some sid es i e is = ap (starts_with_insert sid) (drop-at es i e is)
-
-pub inserts-other : (sid : ℕ) (es : List Entry) (i : ℕ) (e : Entry) → slice_get es i ≡ Some e → (e.sid ≡ sid → ⊥)
-    → starts_with_insert sid (drop i es) ≡ false
-inserts-other sid es i e is other = inserts-some sid es i e is ∙ by (e.sid == sid) refl
-  where
-    by : (b : Bool) → (e.sid == sid) ≡ b → b && is_insert e.change ≡ false
-    by true h = absurd (other (same_of e.sid sid h))
-    by false h = refl
-
-pub next_no_insert : (sid : ℕ) (es : List Entry) (i : ℕ) (e : Entry) → slice_get es i ≡ Some e → is_insert e.change ≡ false
-    → starts_with_insert sid (drop i es) ≡ false
-next_no_insert sid es i e is none = inserts-some sid es i e is ∙ by (e.sid == sid)
-  where
-    by : (b : Bool) → b && is_insert e.change ≡ false
-    by true = none
-    by false = refl
+use Rattle.merge.proofs.PackedLemmas.{IsRowChange, all_modify, all_modify-some, all_modify-take, changes-modifies, modifies_none}
+use Rattle.merge.proofs.PackedLemmas.{next_change, no_below, no_change, patches_all_from, row_change, rows_after-count, rows_in-append}
 
 never : (a b : Bool) → b ≡ false → a && b ≡ true → ⊥
 never true b n t = cc
@@ -190,13 +54,6 @@ deleted_next c cursor test = by (slice_get c.tree.entries c.index) refl
             let same = same_of e.sid c.sid (left_true (e.sid == c.sid) (is_delete e.change) t) in
             deletes_next c key (record { tree = c.tree; index = c.index + 1; sid = c.sid + 1 })
             (is ∙ (λ i. Some (entry_at (same i) (k i)))) refl
-
--- a packed entry has the number of a row where it is an insert
-pub row-packed : (k sid : ℕ) (c : Change) → MatchOption (row_in (packed_at k sid c)) (is_insert c ≡ false)
-    (λ row. (inserted : Row) × (c ≡ Ins inserted) × (row ≡ k))
-row-packed k sid (Ins row) = (row, refl, refl)
-row-packed k sid (Del key) = refl
-row-packed k sid (Mod col value) = refl
 
 -- ---- rows under modifies
 
@@ -404,14 +261,8 @@ module _ (c : TreeCursor) (most n m : ℕ) (few : m ≤ most) (some : 0 < most �
 
 -- ---- how far base rows go
 
-get-drop : (es : List Entry) (i n : ℕ) → slice_get (drop i es) n ≡ slice_get es (i + n)
-get-drop es zero n = let e : n ≡ 0 + n = omega arith in ap (slice_get es) e
-get-drop [] (suc i) zero = refl
-get-drop [] (suc i) (suc n) = let e : suc i + suc n ≡ suc (i + suc n) = omega arith in ap (slice_get []) (sym e)
-get-drop (x ∷ es) (suc i) n = let e : suc i + n ≡ suc (i + n) = omega arith in get-drop es i n ∙ ap (slice_get (x ∷ es)) (sym e)
-
 -- an entry that is left stands within
-module _ (kc a end : ℕ) where
+module _ (a end : ℕ) where
   stands_at : (es : List Entry) (n : ℕ) (e : Entry) → T (list_all (stands_within a end) es) → slice_get es n ≡ Some e
       → (a ≤ e.sid) × (e.sid ≤ end)
   stands_at [] zero e h is = cc
@@ -432,127 +283,460 @@ module _ (kc a end : ℕ) where
       upper (Del key) t = let lt = lt_of x.sid end t in omega (arith, lt)
       upper (Mod col value) t = let lt = lt_of x.sid end t in omega (arith, lt)
 
+-- ---- how many entries lie before a SID
+
+pub count-le : (s : ℕ) (es : List Entry) → count_before s es ≤ length es
+count-le s [] = omega arith
+count-le s (e ∷ es) = by (nat_lt e.sid s) (count-le s es)
+  where
+    by : (b : Bool) → count_before s es ≤ length es → cond b (suc (count_before s es)) 0 ≤ suc (length es)
+    by true rest = omega (arith, rest)
+    by false rest = omega arith
+
+-- none, where all stand at the SID or past it
+pub count-none : (s : ℕ) (es : List Entry) → T (all_from s es) → count_before s es ≡ 0
+count-none s [] h = refl
+count-none s (e ∷ es) h = by (nat_lt e.sid s) refl
+  where
+    by : (b : Bool) → nat_lt e.sid s ≡ b → cond b (suc (count_before s es)) 0 ≡ 0
+    by true is =
+        let lt = lt_of e.sid s (subst T (sym is) tt) in
+        let le = le_of s e.sid (first (nat_le s e.sid) _ h) in
+        absurd (omega (arith, lt, le))
+    by false is = refl
+
+-- first those before one SID, then those before a later one
+pub count-add : (s m : ℕ) (es : List Entry)
+    → count_before (s + m) es ≡ count_before s es + count_before (s + m) (drop (count_before s es) es)
+count-add s m [] = refl
+count-add s m (e ∷ es) = by (nat_lt e.sid s) refl (count-add s m es)
+  where
+    yes : (b : Bool) → T b → b ≡ true
+    yes true t = refl
+    yes false t = absurd t
+
+    by : (b : Bool) → nat_lt e.sid s ≡ b
+        → count_before (s + m) es ≡ count_before s es + count_before (s + m) (drop (count_before s es) es)
+        → count_before (s + m) (e ∷ es)
+        ≡ cond b (suc (count_before s es)) 0 + count_before (s + m) (drop (cond b (suc (count_before s es)) 0) (e ∷ es))
+    by true is rest =
+        let lt = lt_of e.sid s (subst T (sym is) tt) in
+        let here = yes (nat_lt e.sid (s + m)) (of_lt e.sid (s + m) (omega (arith, lt))) in
+        ap (λ b. cond b (suc (count_before (s + m) es)) 0) here ∙ omega (arith, rest)
+    by false is rest = let none : count_before (s + m) (e ∷ es) ≡ 0 + count_before (s + m) (e ∷ es) = omega arith in none
+
+-- those that are counted lie before the SID
+count-all : (s : ℕ) (es : List Entry) → T (list_all (λ (e : Entry). nat_lt e.sid s) (take (count_before s es) es))
+count-all s [] = tt
+count-all s (e ∷ es) = by (nat_lt e.sid s) refl (count-all s es)
+  where
+    by : (b : Bool) → nat_lt e.sid s ≡ b → T (list_all (λ (e : Entry). nat_lt e.sid s) (take (count_before s es) es))
+        → T (list_all (λ (e : Entry). nat_lt e.sid s) (take (cond b (suc (count_before s es)) 0) (e ∷ es)))
+    by true is rest = both (nat_lt e.sid s) _ (subst T (sym is) tt) rest
+    by false is rest = tt
+
+-- and no more than stand before one that doesn't
+count-most : (s at : ℕ) (es : List Entry) (e : Entry) → slice_get es at ≡ Some e → s ≤ e.sid → count_before s es ≤ at
+count-most s zero [] e is le = cc
+count-most s (suc at) [] e is le = cc
+count-most s zero (x ∷ es) e is le = by (nat_lt x.sid s) refl
+  where
+    some_same : {X : Type 0} {x y : X} → Some x ≡ Some y → x ≡ y
+    some_same e = cc
+
+    same : x.sid ≡ e.sid
+    same = ap (λ (y : Entry). y.sid) (some_same is)
+
+    by : (b : Bool) → nat_lt x.sid s ≡ b → cond b (suc (count_before s es)) 0 ≤ 0
+    by true k = let lt = lt_of x.sid s (subst T (sym k) tt) in absurd (omega (arith, lt, le, same))
+    by false k = omega arith
+count-most s (suc at) (x ∷ es) e is le = by (nat_lt x.sid s) (count-most s at es e is le)
+  where
+    by : (b : Bool) → count_before s es ≤ at → cond b (suc (count_before s es)) 0 ≤ suc at
+    by true rest = omega (arith, rest)
+    by false rest = omega arith
+
+module _ (key_cols s : ℕ) where
+  not_below : (n : ℕ) → nat_lt n s ≡ false → s ≤ n
+  not_below n k = grind (arith, nat_tests)
+
+  -- the others stand at it or past it
+  count-from : (es : List Entry) → T (are_ordered key_cols es) → T (all_from s (drop (count_before s es) es))
+  count-from [] o = tt
+  count-from (e ∷ es) o = by (nat_lt e.sid s) refl (count-from es (second (list_all (λ y. is_lt (entry_cmp key_cols e y)) es) _ o))
+    where
+      by : (b : Bool) → nat_lt e.sid s ≡ b → T (all_from s (drop (count_before s es) es))
+          → T (all_from s (drop (cond b (suc (count_before s es)) 0) (e ∷ es)))
+      by true is rest = rest
+      by false is rest = all_from-ordered key_cols s e es o (not_below e.sid is)
+
+  none_before : (ps : List Patch) → T (list_all (λ (p : Patch). nat_le s p.sid) ps) → patches_before s ps ≡ []
+  none_before [] h = refl
+  none_before (p ∷ ps) h = ap (λ b. cond b (p ∷ patches_before s ps) []) (none p.sid (le_of s p.sid (first (nat_le s p.sid) _ h)))
+    where
+      none : (n : ℕ) → s ≤ n → nat_lt n s ≡ false
+      none n le = grind (arith, nat_tests)
+
+  -- the modifies of a column that lie before it, and the others
+  pub patches_past : (col : ℕ) (es : List Entry) → T (are_ordered key_cols es)
+      → (patches_before s (patches_in col es) ≡ patches_in col (take (count_before s es) es))
+      × (patches_from s (patches_in col es) ≡ patches_in col (drop (count_before s es) es))
+  patches_past col [] o = (refl, refl)
+  patches_past col (e ∷ es) o =
+      by (nat_lt e.sid s) refl (patches_past col es (second (list_all (λ y. is_lt (entry_cmp key_cols e y)) es) _ o))
+    where
+      at : (b : Bool) (p : Patch) (rest before left : List Patch) → nat_lt p.sid s ≡ true
+          → (patches_before s rest ≡ before) × (patches_from s rest ≡ left)
+          → (patches_before s (with_first (cond b (Some p) None) rest) ≡ with_first (cond b (Some p) None) before)
+          × (patches_from s (with_first (cond b (Some p) None) rest) ≡ left)
+      at true p rest before left lt k = (
+        ap (λ b. cond b (p ∷ patches_before s rest) []) lt ∙ ap (λ ps. p ∷ ps) k.0,
+        ap (λ b. cond b (patches_from s rest) (p ∷ rest)) lt ∙ k.1,
+      )
+      at false p rest before left lt k = k
+
+      more : (c : Change) (n : ℕ) → nat_lt e.sid s ≡ true
+          → (patches_before s (patches_in col es) ≡ patches_in col (take n es))
+          × (patches_from s (patches_in col es) ≡ patches_in col (drop n es))
+          → (patches_before s (with_first (patch_at col e.sid c) (patches_in col es))
+          ≡ with_first (patch_at col e.sid c) (patches_in col (take n es)))
+          × (patches_from s (with_first (patch_at col e.sid c) (patches_in col es)) ≡ patches_in col (drop n es))
+      more (Ins row) n lt k = k
+      more (Del key) n lt k = k
+      more (Mod other value) n lt k =
+          at (other == col) _ (patches_in col es) (patches_in col (take n es)) (patches_in col (drop n es)) lt k
+
+      by : (b : Bool) → nat_lt e.sid s ≡ b
+          → (patches_before s (patches_in col es) ≡ patches_in col (take (count_before s es) es))
+          × (patches_from s (patches_in col es) ≡ patches_in col (drop (count_before s es) es))
+          → (patches_before s (patches_in col (e ∷ es)) ≡ patches_in col (take (cond b (suc (count_before s es)) 0) (e ∷ es)))
+          × (patches_from s (patches_in col (e ∷ es)) ≡ patches_in col (drop (cond b (suc (count_before s es)) 0) (e ∷ es)))
+      by true is k = more e.change (count_before s es) is k
+      by false is k =
+          let far = all_from-ordered key_cols s e es o (not_below e.sid is) in
+          let all = patches_all_from col s (e ∷ es) far in
+          (none_before (patches_in col (e ∷ es)) all, no_below (λ (p : Patch). p.sid) s (patches_in col (e ∷ es)) all)
+
+-- ---- entries that are left
+
+module _ (a end : ℕ) where
+  -- entries that stand within stand at the first place or past it
+  pub within_all : (es : List Entry) → T (list_all (stands_within a end) es) → T (all_from a es)
+  within_all [] h = tt
+  within_all (x ∷ es) h =
+      both (nat_le a x.sid) _ (first (nat_le a x.sid) _ (first (stands_within a end x) _ h))
+      (within_all es (second (stands_within a end x) _ h))
+
   -- modifies that stand within are of rows before the end
-  all_inside : (b : ℕ) (es : List Entry) → T (list_all (stands_within a end) es) → T (list_all (modifies_between a b) es)
-      → T (list_all (modifies_between a end) es)
-  all_inside b [] h k = tt
-  all_inside b (x ∷ es) h k =
-      let here = between_of a b x (first (modifies_between a b x) _ k) in
+  modifies_inside : (n : ℕ) (es : List Entry) → T (list_all (stands_within a end) es) → T (all_modify (take n es))
+      → T (list_all (modifies_between a end) (take n es))
+  modifies_inside zero es h k = tt
+  modifies_inside (suc n) [] h k = tt
+  modifies_inside (suc n) (x ∷ es) h k =
       both (modifies_between a end x) _
-      (between a end x here.0 (inside x.change refl here.2 (second (nat_le a x.sid) _ (first (stands_within a end x) _ h))) here.2)
-      (all_inside b es (second (stands_within a end x) _ h) (second (modifies_between a b x) _ k))
+      (between a end x (le_of a x.sid (first (nat_le a x.sid) _ w)) (below x.change m (second (nat_le a x.sid) _ w)) m)
+      (modifies_inside n es (second (stands_within a end x) _ h) (second (is_modify x.change) _ k))
     where
-      inside : (c : Change) → x.change ≡ c → T (is_modify c) → T (cond (is_insert c) (nat_le x.sid end) (nat_lt x.sid end)) → x.sid < end
-      inside (Ins row) e m t = absurd m
-      inside (Del key) e m t = absurd m
-      inside (Mod col value) e m t = lt_of x.sid end t
+      w : T (stands_within a end x)
+      w = first (stands_within a end x) _ h
 
-all-take : (p : Entry → Bool) (n : ℕ) (es : List Entry) → T (list_all p es) → T (list_all p (take n es))
-all-take p zero es h = tt
-all-take p (suc n) [] h = tt
-all-take p (suc n) (x ∷ es) h = both (p x) _ (first (p x) _ h) (all-take p n es (second (p x) _ h))
+      m : T (is_modify x.change)
+      m = first (is_modify x.change) _ k
 
-module _ (c : TreeCursor) (most n : ℕ) (there : n ≤ length (entries_left c))
-    (so_far : T (list_all (modifies_between c.sid (c.sid + most)) (take n (entries_left c)))) where
-  -- as many as are wanted come before the next entry
-  module _ (h : ((base : List Row) → IsCursor (length base) c → most ≤ length (rows_left c base) → most ≤ length base))
-      (far : T (all_from (c.sid + most) (drop n (entries_left c)))) where
-    pub keeps_most : KeepsModified most n most c
-    keeps_most = keeps_modified c most n most (omega arith) (λ s. s) there h so_far far
+      below : (c : Change) → T (is_modify c) → T (cond (is_insert c) (nat_le x.sid end) (nat_lt x.sid end)) → x.sid < end
+      below (Ins row) m t = absurd m
+      below (Del key) m t = absurd m
+      below (Mod col value) m t = lt_of x.sid end t
 
-  -- where no entry is left, the rows that are left are the base's
-  only_base : (base : List Row) → IsCursor (length base) c → drop n (entries_left c) ≡ [] → length (rows_left c base) ≡ length base
-  only_base base h none =
-      let es = entries_left c in
-      let inside = all_inside c.tree.key_cols c.sid (c.sid + length base) (c.sid + most) (take n es)
-      (all-take (stands_within c.sid (c.sid + length base)) n es h.over.within) so_far in
-      let own = sym (append-none (take n es)) ∙ ap (λ xs. take n es ++ xs) (sym none) ∙ take-append-drop n es in
-      ap (λ xs. length (merged_rows_from c.sid xs es)) (sym (append-none base))
-      ∙ ap (λ xs. length (merged_rows_from c.sid (base ++ []) xs)) (sym own ∙ sym (append-none (take n es)))
-      ∙ ap length (rows_modified c.sid [] [] (take n es) base inside tt)
-      ∙ ap length (append-none (modified_rows c.sid (take n es) base))
-      ∙ length-modified_rows c.sid (take n es) base
+  -- those before a SID modify rows before it
+  modifies_counted : (b n : ℕ) (es : List Entry) → T (list_all (stands_within a end) es) → T (all_modify (take n es))
+      → T (list_all (λ (e : Entry). nat_lt e.sid b) (take n es)) → T (list_all (modifies_between a b) (take n es))
+  modifies_counted b zero es h k l = tt
+  modifies_counted b (suc n) [] h k l = tt
+  modifies_counted b (suc n) (x ∷ es) h k l =
+      both (modifies_between a b x) _
+      (between a b x (le_of a x.sid (first (nat_le a x.sid) _ (first (stands_within a end x) _ h)))
+      (lt_of x.sid b (first (nat_lt x.sid b) _ l)) (first (is_modify x.change) _ k))
+      (modifies_counted b n es (second (stands_within a end x) _ h) (second (is_modify x.change) _ k) (second (nat_lt x.sid b) _ l))
+
+between_modify : (a b : ℕ) (es : List Entry) → T (list_all (modifies_between a b) es) → T (all_modify es)
+between_modify a b [] h = tt
+between_modify a b (e ∷ es) h =
+    both (is_modify e.change) _ (between_of a b e (first (modifies_between a b e) _ h)).2
+    (between_modify a b es (second (modifies_between a b e) _ h))
+
+get-drop : (es : List Entry) (i n : ℕ) → slice_get (drop i es) n ≡ slice_get es (i + n)
+get-drop es zero n = let e : n ≡ 0 + n = omega arith in ap (slice_get es) e
+get-drop [] (suc i) zero = refl
+get-drop [] (suc i) (suc n) = let e : suc i + suc n ≡ suc (i + suc n) = omega arith in ap (slice_get []) (sym e)
+get-drop (x ∷ es) (suc i) n = let e : suc i + n ≡ suc (i + n) = omega arith in get-drop es i n ∙ ap (slice_get (x ∷ es)) (sym e)
+
+-- ---- what is next
+
+-- the first of entries is no delete and no insert at the SID
+abbrev pub StartsNone : ℕ → List Entry → Type 0
+StartsNone sid es = (starts_with_delete sid es ≡ false) × (starts_with_insert sid es ≡ false)
+
+modify_none : (sid : ℕ) (e : Entry) (es : List Entry) → T (is_modify e.change) → StartsNone sid (e ∷ es)
+modify_none sid e es m = by (e.sid == sid) e.change m
+  where
+    by : (b : Bool) (c : Change) → T (is_modify c) → (b && is_delete c ≡ false) × (b && is_insert c ≡ false)
+    by true (Ins row) m = absurd m
+    by true (Del key) m = absurd m
+    by true (Mod col value) m = (refl, refl)
+    by false c m = (refl, refl)
+
+pub modifies_start_none : (sid : ℕ) (es : List Entry) → T (all_modify es) → StartsNone sid es
+modifies_start_none sid [] h = (refl, refl)
+modifies_start_none sid (e ∷ es) h = modify_none sid e es (first (is_modify e.change) _ h)
+
+-- where the next insert or delete stands at another place
+others_start_none : (sid at : ℕ) (es : List Entry) (e : Entry) → slice_get es at ≡ Some e → T (all_modify (take at es))
+    → (e.sid ≡ sid → ⊥) → StartsNone sid es
+others_start_none sid zero [] e is h other = cc
+others_start_none sid (suc at) [] e is h other = cc
+others_start_none sid (suc at) (x ∷ es) e is h other = modify_none sid x es (first (is_modify x.change) _ h)
+others_start_none sid zero (x ∷ es) e is h other =
+    let not = apart (ap (λ (y : Entry). y.sid) (some_same is)) in
+    (ap (λ b. b && is_delete x.change) not, ap (λ b. b && is_insert x.change) not)
+  where
+    some_same : {X : Type 0} {x y : X} → Some x ≡ Some y → x ≡ y
+    some_same e = cc
+
+    apart : x.sid ≡ e.sid → (x.sid == sid) ≡ false
+    apart same = elim (x.sid == sid) as (λ b. (x.sid == sid) ≡ b → b ≡ false) [
+      | true ↦ λ k. absurd (other (sym same ∙ same_of x.sid sid k))
+      | false ↦ λ k. refl
+    ] refl
+
+-- where the next entry is no insert
+pub inserts_other : (sid : ℕ) (es : List Entry) (i : ℕ) (e : Entry) → slice_get es i ≡ Some e → is_insert e.change ≡ false
+    → starts_with_insert sid (drop i es) ≡ false
+inserts_other sid es i e is none = ap (starts_with_insert sid) (drop-at es i e is) ∙ by (e.sid == sid)
+  where
+    by : (b : Bool) → b && is_insert e.change ≡ false
+    by true = none
+    by false = refl
+
+-- the next insert or delete at a cursor, and those that come after it
+pub record IsChangeAt (c : TreeCursor) (change : RowChange) (rest : List RowChange) : Type 0 where
+  pub at : ℕ
+  pub entry : Entry
+  pub there : slice_get (entries_left c) at ≡ Some entry
+  pub before : T (all_modify (take at (entries_left c)))
+  pub is : IsRowChange (length (rows_in (take c.index c.tree.entries))) (c.index + at) entry.sid entry.change change
+  pub rest_is : rest ≡ row_changes_from (rows_after (length (rows_in (take c.index c.tree.entries))) entry.change) (c.index + at + 1)
+      (drop (at + 1) (entries_left c))
+
+pub change_next : (c : TreeCursor) (changes : List RowChange) (change : RowChange) → changes ≡ changes_left c
+    → slice_get changes 0 ≡ Some change → IsChangeAt c change (drop 1 changes)
+change_next c changes change are is =
+    let k = length (rows_in (take c.index c.tree.entries)) in
+    let next = next_change k c.index (entries_left c) change (drop 1 changes) (sym are ∙ drop-at changes 0 change is) in
+    record {
+      at = next.at;
+      entry = next.entry;
+      there = next.there;
+      before = next.before;
+      is = row_change k (c.index + next.at) next.entry.sid next.entry.change change next.is;
+      rest_is = next.rest_is;
+    }
+
+pub change_none : (c : TreeCursor) (changes : List RowChange) → changes ≡ changes_left c → slice_get changes 0 ≡ None
+    → T (all_modify (entries_left c))
+change_none c changes are is =
+    no_change (length (rows_in (take c.index c.tree.entries))) c.index (entries_left c) (sym are ∙ drop-none changes 0 is)
+
+module _ (c : TreeCursor) {count : ℕ} (cursor : IsCursor count c) (change : RowChange) (rest : List RowChange)
+    (next : IsChangeAt c change rest) where
+  -- it stands at the next base row's place or past it
+  pub change_low : c.sid ≤ next.entry.sid
+  change_low = (stands_at c.sid (c.sid + count) (entries_left c) next.at next.entry cursor.over.within next.there).0
+
+  -- at another place no insert or delete is next
+  pub change_other : (next.entry.sid ≡ c.sid → ⊥) → StartsNone c.sid (entries_left c)
+  change_other other = others_start_none c.sid next.at (entries_left c) next.entry next.there next.before other
+
+  -- at the next base row's place it is the next entry
+  pub change_first : next.entry.sid ≡ c.sid → next.at ≡ 0
+  change_first same =
+      by next.at
+      (all_before c.tree.key_cols c.sid (c.sid + count) next.at (entries_left c) next.entry cursor.over.ordered next.there next.is.other
+      (modifies_inside c.sid (c.sid + count) next.at (entries_left c) cursor.over.within next.before))
+      next.there
     where
-      append-none : {X : Type 0} (xs : List X) → xs ++ [] ≡ xs
-      append-none [] = refl
-      append-none (x ∷ xs) = ap (λ ys. x ∷ ys) (append-none xs)
+      none : (n : ℕ) (es : List Entry) → T (list_all (modifies_between c.sid next.entry.sid) (take (suc n) es))
+          → slice_get es (suc n) ≡ Some next.entry → ⊥
+      none n [] h is = cc
+      none n (x ∷ es) h is =
+          let f = between_of c.sid next.entry.sid x (first (modifies_between c.sid next.entry.sid x) _ h) in
+          omega (arith, f.0, f.1, same)
 
-  pub keeps_last : slice_get c.tree.entries (c.index + n) ≡ None → KeepsModified most n most c
-  keeps_last is =
-      let none : drop n (entries_left c) ≡ [] = drop-drop n c.index c.tree.entries ∙ drop-none c.tree.entries (c.index + n) is in
-      keeps_most (λ base h le. omega (arith, le, only_base base h none)) (subst (λ xs. T (all_from (c.sid + most) xs)) (sym none) tt)
+      by : (n : ℕ) → T (list_all (modifies_between c.sid next.entry.sid) (take n (entries_left c)))
+          → slice_get (entries_left c) n ≡ Some next.entry → n ≡ 0
+      by zero h is = refl
+      by (suc n) h is = absurd (none n (entries_left c) h is)
 
-  module _ (e : Entry) (is : slice_get c.tree.entries (c.index + n) ≡ Some e) {count : ℕ} (cursor : IsCursor count c) where
-    here : slice_get (entries_left c) n ≡ Some e
-    here = get-drop c.tree.entries c.index n ∙ is
+  pub change_here : next.entry.sid ≡ c.sid → slice_get c.tree.entries c.index ≡ Some next.entry
+  change_here same =
+      let none : c.index + 0 ≡ c.index = omega arith in
+      ap (slice_get c.tree.entries) (sym none)
+      ∙ sym (get-drop c.tree.entries c.index 0)
+      ∙ ap (slice_get (entries_left c)) (sym (change_first same))
+      ∙ next.there
 
-    pub low : c.sid ≤ e.sid
-    low = (stands_at c.tree.key_cols c.sid (c.sid + count) (entries_left c) n e cursor.over.within here).0
+  -- past it, over base rows from a SID on
+  module _ (same : next.entry.sid ≡ c.sid) (sid more : ℕ)
+      (over : IsCursor more (record { tree = c.tree; index = c.index + 1; sid = sid })) where
+    abbrev past : TreeCursor
+    past = record { tree = c.tree; index = c.index + 1; sid = sid }
 
-    pub keeps_before : c.sid + most ≤ e.sid → KeepsModified most n most c
-    keeps_before high =
-        keeps_most
-        (λ base h le.
-        let at = stands_at c.tree.key_cols c.sid (c.sid + length base) (entries_left c) n e h.over.within here in
-        omega (arith, high, at.1))
-        (far_from c.tree.key_cols c.sid (c.sid + count) (c.sid + most) n (entries_left c) e cursor.over here high)
+    pub past_change : (n : ℕ) → n ≡ place_of change + 1 → n + count_before sid (drop n c.tree.entries) ≡ c.index + 1
+    past_change n is =
+        let place : n ≡ c.index + 1 = omega (arith, is, next.is.place_is, change_first same) in
+        let none = count-none sid (entries_left past) (within_all sid (sid + more) (entries_left past) over.over.within) in
+        ap (λ k. k + count_before sid (drop k c.tree.entries)) place ∙ omega (arith, none)
 
-    -- up to the next row that is inserted or deleted
-    pub keeps_up_to : e.sid < c.sid + most → is_modify e.change ≡ false → DeletesNone c → InsertsNone c
-        → KeepsModified most n (e.sid - c.sid) c
-    keeps_up_to high other deletes inserts =
-        let whole : c.sid + (e.sid - c.sid) ≡ e.sid = omega (arith, low) in
-        let before = all_before c.tree.key_cols c.sid (c.sid + most) n (entries_left c) e cursor.over.ordered here other so_far in
-        let some : c.sid < e.sid = strictly n (entries_left c) here before deletes inserts in
-        keeps_modified c most n (e.sid - c.sid) (omega (arith, high, low)) (λ s. omega (arith, some)) there
-        (λ base h le.
-        let at = stands_at c.tree.key_cols c.sid (c.sid + length base) (entries_left c) n e h.over.within here in
-        omega (arith, at.1, low))
-        (subst (λ k. T (list_all (modifies_between c.sid k) (take n (entries_left c)))) (sym whole) before)
-        (subst (λ k. T (all_from k (drop n (entries_left c)))) (sym whole)
-        (far_from c.tree.key_cols c.sid (c.sid + count) e.sid n (entries_left c) e cursor.over here (omega arith)))
+    pub past_changes : rest ≡ changes_left past
+    past_changes =
+        let k = length (rows_in (take c.index c.tree.entries)) in
+        let e = next.entry in
+        let zero_is = change_first same in
+        let plus : c.index + 0 + 1 ≡ c.index + 1 = omega arith in
+        let one : 0 + 1 ≡ 1 = omega arith in
+        let rows : rows_after k e.change ≡ length (rows_in (take (c.index + 1) c.tree.entries)) =
+        sym (ap (λ es. length (rows_in es)) (take-at c.tree.entries c.index e (change_here same))
+        ∙ ap (λ rs. length rs) (rows_in-append (take c.index c.tree.entries) (e ∷ []))
+        ∙ length-append (rows_in (take c.index c.tree.entries)) (rows_in (e ∷ []))
+        ∙ omega (arith, rows_after-count k e [])) in
+        next.rest_is
+        ∙ ap (λ n. row_changes_from (rows_after k e.change) (c.index + n + 1) (drop (n + 1) (entries_left c))) zero_is
+        ∙ (λ i. row_changes_from (rows i) (plus i) (drop (one i) (entries_left c)))
+        ∙ ap (row_changes_from (length (rows_in (take (c.index + 1) c.tree.entries))) (c.index + 1)) (drop-drop 1 c.index c.tree.entries)
+
+    pub past_patches : (col : ℕ) → patches_in col (entries_left c) ≡ patches_in col (entries_left past)
+    past_patches col =
+        ap (patches_in col) (drop-at c.tree.entries c.index next.entry (change_here same))
+        ∙ ap (λ o. with_first o (patches_in col (entries_left past))) (none next.entry.change next.is.other)
       where
-        one_of : (x : Change) → is_modify x ≡ false → is_delete x ≡ false → is_insert x ≡ false → ⊥
-        one_of (Ins row) m d i = cc
-        one_of (Del key) m d i = cc
-        one_of (Mod col value) m d i = cc
+        none : (x : Change) → is_modify x ≡ false → patch_at col next.entry.sid x ≡ None
+        none (Ins row) m = refl
+        none (Del key) m = refl
+        none (Mod other value) m = cc
 
-        same_end : (b : Bool) → (x : Bool) → b ≡ true → b && x ≡ false → x ≡ false
-        same_end true x t h = h
-        same_end false x t h = cc
+-- ---- how far base rows go
 
-        strictly : (k : ℕ) (es : List Entry) → slice_get es k ≡ Some e → T (list_all (modifies_between c.sid e.sid) (take k es))
-            → starts_with_delete c.sid es ≡ false → starts_with_insert c.sid es ≡ false → c.sid < e.sid
-        strictly zero [] at b d i = cc
-        strictly (suc k) [] at b d i = cc
-        strictly (suc k) (x ∷ es) at b d i =
-            let f = between_of c.sid e.sid x (first (modifies_between c.sid e.sid x) _ b) in omega (arith, f.0, f.1)
-        strictly zero (x ∷ es) at b d i =
-            elim (x.sid == c.sid) as (λ t. (x.sid == c.sid) ≡ t → c.sid < e.sid) [
-              | true ↦ λ t. absurd (one_of x.change (ap (λ (y : Entry). is_modify y.change) (some_same at) ∙ other)
-                  (same_end (x.sid == c.sid) (is_delete x.change) t d) (same_end (x.sid == c.sid) (is_insert x.change) t i))
-              | false ↦ λ t. apart (ap (λ (y : Entry). y.sid) (some_same at)) t
-            ] refl
-          where
-            some_same : {X : Type 0} {x y : X} → Some x ≡ Some y → x ≡ y
-            some_same e = cc
+module _ (c : TreeCursor) (m : ℕ) {count : ℕ} (cursor : IsCursor count c)
+    (inside : T (all_modify (take (count_passed m c) (entries_left c)))) where
+  passed_between : T (list_all (modifies_between c.sid (c.sid + m)) (take (count_passed m c) (entries_left c)))
+  passed_between =
+      modifies_counted c.sid (c.sid + count) (c.sid + m) (count_passed m c) (entries_left c) cursor.over.within inside
+      (count-all (c.sid + m) (entries_left c))
 
-            apart : x.sid ≡ e.sid → (x.sid == c.sid) ≡ false → c.sid < e.sid
-            apart same t = let le = low in grind (arith, nat_tests)
+  keeps_counted : (most : ℕ) → m ≤ most → (0 < most → 0 < m)
+      → ((base : List Row) → IsCursor (length base) c → most ≤ length (rows_left c base) → m ≤ length base)
+      → KeepsModified most (count_passed m c) m c
+  keeps_counted most few some within =
+      keeps_modified c most (count_passed m c) m few some (count-le (c.sid + m) (entries_left c)) within passed_between
+      (count-from c.tree.key_cols (c.sid + m) (entries_left c) cursor.over.ordered)
 
--- one modify more
-pub one_more : (c : TreeCursor) (most n : ℕ) (e : Entry) {count : ℕ} → IsCursor count c → slice_get c.tree.entries (c.index + n) ≡ Some e
-    → e.sid < c.sid + most → is_modify e.change ≡ true → T (list_all (modifies_between c.sid (c.sid + most)) (take n (entries_left c)))
-    → T (list_all (modifies_between c.sid (c.sid + most)) (take (n + 1) (entries_left c)))
-one_more c most n e {count} cursor is high modifies h =
-    let here = get-drop c.tree.entries c.index n ∙ is in
-    let at = stands_at c.tree.key_cols c.sid (c.sid + count) (entries_left c) n e cursor.over.within here in
-    subst (λ xs. T (list_all (modifies_between c.sid (c.sid + most)) xs)) (sym (take-at (entries_left c) n e here))
-    (all-append (modifies_between c.sid (c.sid + most)) (take n (entries_left c)) (e ∷ []) h
-    (both (modifies_between c.sid (c.sid + most) e) _ (between c.sid (c.sid + most) e at.0 high (subst T (sym modifies) tt)) tt))
+-- where modifies alone are left, the rows that are left are the base's
+module _ (c : TreeCursor) (all : T (all_modify (entries_left c))) where
+  take_whole : (es : List Entry) → take (length es) es ≡ es
+  take_whole [] = refl
+  take_whole (x ∷ es) = ap (λ ys. x ∷ ys) (take_whole es)
 
-pub more_left : (c : TreeCursor) (n : ℕ) (e : Entry) → slice_get c.tree.entries (c.index + n) ≡ Some e → n < length (entries_left c)
-more_left c n e is = slice_get_within (entries_left c) n e (get-drop c.tree.entries c.index n ∙ is)
+  append-none : {X : Type 0} (xs : List X) → xs ++ [] ≡ xs
+  append-none [] = refl
+  append-none (x ∷ xs) = ap (λ ys. x ∷ ys) (append-none xs)
+
+  only_base : (base : List Row) → IsCursor (length base) c → length (rows_left c base) ≡ length base
+  only_base base h =
+      let es = entries_left c in
+      let inside =
+      subst (λ xs. T (list_all (modifies_between c.sid (c.sid + length base)) xs)) (take_whole es)
+      (modifies_inside c.sid (c.sid + length base) (length es) es h.over.within
+      (subst (λ xs. T (all_modify xs)) (sym (take_whole es)) all)) in
+      ap (λ xs. length (merged_rows_from c.sid xs es)) (sym (append-none base))
+      ∙ ap (λ xs. length (merged_rows_from c.sid (base ++ []) xs)) (sym (append-none es))
+      ∙ ap length (rows_modified c.sid [] [] es base inside tt)
+      ∙ ap length (append-none (modified_rows c.sid es base))
+      ∙ length-modified_rows c.sid es base
+
+  -- as many as are wanted come
+  pub keeps_all : (most : ℕ) {count : ℕ} → IsCursor count c → KeepsModified most (count_passed most c) most c
+  keeps_all most cursor =
+      keeps_counted c most cursor (all_modify-some (count_passed most c) (entries_left c) all) most (omega arith) (λ s. s)
+      (λ base h le. omega (arith, le, only_base base h))
+
+-- where no delete or insert is next, the next one stands past the next base row
+pub change_past : (c : TreeCursor) {count : ℕ} → IsCursor count c → (change : RowChange) (rest : List RowChange)
+    (next : IsChangeAt c change rest) → StartsNone c.sid (entries_left c) → c.sid < next.entry.sid
+change_past c {count} cursor change rest next none =
+    let low = change_low c cursor change rest next in
+    elim (next.entry.sid == c.sid) as (λ t. (next.entry.sid == c.sid) ≡ t → c.sid < next.entry.sid) [
+      | true ↦ λ t. let same = same_of next.entry.sid c.sid t in absurd (at_head next.entry (drop (c.index + 1) c.tree.entries)
+          (drop-at c.tree.entries c.index next.entry (change_here c cursor change rest next same)) refl same)
+      | false ↦ λ t. grind (arith, nat_tests)
+    ] refl
+  where
+    one_of : (x : Change) → is_modify x ≡ false → is_delete x ≡ false → is_insert x ≡ false → ⊥
+    one_of (Ins row) m d i = cc
+    one_of (Del key) m d i = cc
+    one_of (Mod col value) m d i = cc
+
+    same_end : (b : Bool) → (x : Bool) → b ≡ true → b && x ≡ false → x ≡ false
+    same_end true x t h = h
+    same_end false x t h = cc
+
+    at_head : (x : Entry) (es : List Entry) → entries_left c ≡ x ∷ es → x ≡ next.entry → x.sid ≡ c.sid → ⊥
+    at_head x es left is same =
+        one_of x.change (ap (λ (y : Entry). is_modify y.change) is ∙ next.is.other)
+        (same_end (x.sid == c.sid) (is_delete x.change) (yes x.sid same) (sym (ap (starts_with_delete c.sid) left) ∙ none.0))
+        (same_end (x.sid == c.sid) (is_insert x.change) (yes x.sid same) (sym (ap (starts_with_insert c.sid) left) ∙ none.1))
+      where
+        yes : (n : ℕ) → n ≡ c.sid → (n == c.sid) ≡ true
+        yes n e = grind (arith, nat_tests)
+
+-- up to the next row that is inserted or deleted
+pub keeps_up_to : (c : TreeCursor) (most m : ℕ) {count : ℕ} → IsCursor count c → (change : RowChange) (rest : List RowChange)
+    (next : IsChangeAt c change rest) → m ≤ most → c.sid + m ≤ next.entry.sid → (0 < most → 0 < m)
+    → KeepsModified most (count_passed m c) m c
+keeps_up_to c most m {count} cursor change rest next few high some =
+    let least = count-most (c.sid + m) next.at (entries_left c) next.entry next.there high in
+    keeps_counted c m cursor (all_modify-take (count_passed m c) next.at (entries_left c) least next.before) most few some
+    (λ base h le.
+    let at = stands_at c.sid (c.sid + length base) (entries_left c) next.at next.entry h.over.within next.there in
+    omega (arith, at.1, high))
+
+-- the next base row comes next
+pub keeps_one : (c : TreeCursor) {count : ℕ} → IsCursor count c → (changes : List RowChange) → changes ≡ changes_left c
+    → StartsNone c.sid (entries_left c) → KeepsModified 1 (count_passed 1 c) 1 c
+keeps_one c cursor changes are none = by (slice_get changes 0) refl
+  where
+    by : (o : Option RowChange) → slice_get changes 0 ≡ o → KeepsModified 1 (count_passed 1 c) 1 c
+    by None is = keeps_all c (change_none c changes are is) 1 cursor
+    by (Some change) is =
+        let next = change_next c changes change are is in
+        let low = change_past c cursor change (drop 1 changes) next none in
+        keeps_up_to c 1 1 cursor change (drop 1 changes) next (omega arith) (omega (arith, low)) (λ s. s)
+
+-- ---- past modifies
+
+module _ (c : TreeCursor) (n m : ℕ) (h : T (list_all (modifies_between c.sid (c.sid + m)) (take n (entries_left c)))) where
+  -- the inserts and deletes that are left stay the same
+  pub modifies_past : changes_left (past_modifies n m c) ≡ changes_left c
+  modifies_past =
+      let es = c.tree.entries in
+      let k = length (rows_in (take c.index es)) in
+      let all = between_modify c.sid (c.sid + m) (take n (entries_left c)) h in
+      let rows : length (rows_in (take (c.index + n) es)) ≡ k =
+      ap (λ xs. length (rows_in xs)) (take-add c.index n es)
+      ∙ ap (λ rs. length rs) (rows_in-append (take c.index es) (take n (entries_left c)))
+      ∙ length-append (rows_in (take c.index es)) (rows_in (take n (entries_left c)))
+      ∙ omega (arith, ap (λ rs. length rs) (modifies_none (take n (entries_left c)) all)) in
+      (λ i. row_changes_from (rows i) (c.index + n) (sym (drop-drop n c.index es) i))
+      ∙ sym (changes-modifies k c.index n (entries_left c) all)
 
 -- the next base row with what a packed tree modifies of it
 pub skips_modified : (c : TreeCursor) (n m : ℕ) → KeepsModified 1 n m c → (base left : List Row) → PassesRow base left

@@ -9,9 +9,8 @@ use Rattle.model.specs.declared.entry.Change.TheVariants.{Ins, Del, Mod}
 use Rattle.model.specs.Entries.{is_insert, is_modify}
 use Rattle.merge.specs.Cursor.{TreeCursor, IsCursor, entries_left, rows_left}
 use Rattle.merge.specs.Fitting.{StandsAt}
-use Rattle.merge.specs.Packed.{number_at}
-use Rattle.merge.specs.declared.packed.PackedEntry.{PackedEntry}
-use Rattle.merge.specs.declared.packed.PackedEntry.TheVariants.{Insert, Delete, Modify}
+use Rattle.merge.specs.Packed.{left_from, number_at}
+use Rattle.merge.specs.declared.packed.Patch.{Patch}
 
 -- the first rows are passed, and these are their numbers in the column
 pub record FillsRows (col : ℕ) (old : List Row) (numbers : List ℤ) (new : List Row) : Type 0 where
@@ -29,21 +28,22 @@ HaveNumbers col rows = All (StandsAt column.Int col) rows
 
 -- ---- patches
 
--- what packed entries from a SID on make of the numbers of the base rows from there on: the modifies of the column are put in
-abbrev pub patched_by : ℕ → ℕ → PackedEntry → List ℤ → List ℤ
-patched_by col first (Insert sid row) numbers = numbers
-patched_by col first (Delete sid) numbers = numbers
-patched_by col first (Modify sid other number) numbers = cond (other == col) (slice_set numbers (sid - first) number) numbers
+-- what packed modifies of a column make of the numbers of the base rows from a SID on
+abbrev pub patched : ℕ → List Patch → List ℤ → List ℤ
+patched first [] numbers = numbers
+patched first (p ∷ patches) numbers = patched first patches (slice_set numbers (p.sid - first) p.number)
 
-abbrev pub patched : ℕ → ℕ → List PackedEntry → List ℤ → List ℤ
-patched col first [] numbers = numbers
-patched col first (p ∷ packed) numbers = patched col first packed (patched_by col first p numbers)
+-- those at the head that lie before a SID, and those that are left
+abbrev pub patches_before : ℕ → List Patch → List Patch
+patches_before sid [] = []
+patches_before sid (p ∷ patches) = cond (nat_lt p.sid sid) (p ∷ patches_before sid patches) []
 
--- whether a packed entry is none that changes a row, or one of so many rows from a SID on
-abbrev pub is_near : ℕ → ℕ → PackedEntry → Bool
-is_near first end (Insert sid row) = false
-is_near first end (Delete sid) = false
-is_near first end (Modify sid col number) = nat_le first sid && nat_lt sid end
+abbrev pub patches_from : ℕ → List Patch → List Patch
+patches_from sid patches = left_from (λ p. p.sid) sid patches
+
+-- whether one doesn't lie before a SID
+abbrev pub is_from : ℕ → Patch → Bool
+is_from sid p = nat_le sid p.sid
 
 -- ---- rows under modifies
 

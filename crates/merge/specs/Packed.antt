@@ -1,7 +1,8 @@
--- The entries of a tree side by side, and the numbers of the rows that it inserts, column by column.
-use Rattle.std.specs.Prelude.{◌≡◌, ℕ, ℤ, suc, pos, ◌<◌, Bool, true, false, Option, Some, None, List, [], ◌∷◌, length, map, get_or, min}
+-- What a tree makes of numbers, packed: its inserts and deletes side by side, and what it makes of each column.
+use Rattle.std.specs.Prelude.{◌≡◌, ℕ, ℤ, suc, pos, ◌<◌, ◌==◌, nat_lt, Bool, true, false, cond, Option, Some, None, List, [], ◌∷◌, length, map, get_or}
 use Rattle.values.specs.Shape.{Columns}
 use Rattle.values.specs.declared.row.Row.{Row}
+use Rattle.values.specs.declared.value.ColumnType.{ColumnType}
 use Rattle.values.specs.declared.value.ColumnType.TheVariants as column
 use Rattle.values.specs.declared.value.Value.{Value}
 use Rattle.values.specs.declared.value.Value.TheVariants.{Int, Text, Bool as Truth}
@@ -9,8 +10,9 @@ use Rattle.model.specs.declared.entry.Entry.{Entry}
 use Rattle.model.specs.declared.entry.Change.{Change}
 use Rattle.model.specs.declared.entry.Change.TheVariants.{Ins, Del, Mod}
 use Rattle.model.specs.Merging.{inserted_rows}
-use Rattle.merge.specs.declared.packed.PackedEntry.{PackedEntry}
-use Rattle.merge.specs.declared.packed.PackedEntry.TheVariants.{Insert, Delete, Modify}
+use Rattle.merge.specs.declared.packed.Patch.{Patch}
+use Rattle.merge.specs.declared.packed.RowChange.{RowChange}
+use Rattle.merge.specs.declared.packed.RowChange.TheVariants.{Insert, Delete}
 
 -- a value's number: its own, and 0 for what is none
 abbrev pub number_of : Value → ℤ
@@ -22,17 +24,33 @@ number_of (Truth b) = pos 0
 abbrev pub number_at : ℕ → Row → ℤ
 number_at col row = number_of (get_or row col (Truth false))
 
--- ---- entries
+-- whether a column is one of numbers
+abbrev pub is_number : ColumnType → Bool
+is_number column.Int = true
+is_number column.Text = false
+is_number column.Bool = false
+
+-- the first of a list, where there is one more
+abbrev pub with_first : {X : Type 0} → Option X → List X → List X
+with_first None xs = xs
+with_first (Some x) xs = x ∷ xs
+
+-- what is left of a list from the first on whose number isn't below this one
+abbrev pub left_from : {X : Type 0} → (X → ℕ) → ℕ → List X → List X
+left_from number least [] = []
+left_from number least (x ∷ xs) = cond (nat_lt (number x) least) (left_from number least xs) (x ∷ xs)
+
+-- ---- inserts and deletes
 
 -- the rows that entries insert, in order
 abbrev pub rows_in : List Entry → List Row
 rows_in entries = inserted_rows (map (λ e. e.change) entries)
 
--- how a change at a SID is packed, after so many rows that are inserted before it
-abbrev pub packed_at : ℕ → ℕ → Change → PackedEntry
-packed_at rows sid (Ins row) = Insert sid rows
-packed_at rows sid (Del key) = Delete sid
-packed_at rows sid (Mod col value) = Modify sid (min col 65535) (number_of value)
+-- how a change at a SID is packed, after so many rows that are inserted and so many entries before it: a modify not at all
+abbrev pub row_change_at : ℕ → ℕ → ℕ → Change → Option RowChange
+row_change_at rows place sid (Ins row) = Some (Insert sid place rows)
+row_change_at rows place sid (Del key) = Some (Delete sid place)
+row_change_at rows place sid (Mod col value) = None
 
 -- how many rows are inserted up to a change and with it
 abbrev pub rows_after : ℕ → Change → ℕ
@@ -40,52 +58,70 @@ rows_after rows (Ins row) = suc rows
 rows_after rows (Del key) = rows
 rows_after rows (Mod col value) = rows
 
--- entries packed, after so many inserted rows
-abbrev pub packed_from : ℕ → List Entry → List PackedEntry
-packed_from rows [] = []
-packed_from rows (e ∷ entries) = packed_at rows e.sid e.change ∷ packed_from (rows_after rows e.change) entries
+-- the inserts and deletes among entries, packed, after so many inserted rows and so many entries
+abbrev pub row_changes_from : ℕ → ℕ → List Entry → List RowChange
+row_changes_from rows place [] = []
+row_changes_from rows place (e ∷ entries) =
+    with_first (row_change_at rows place e.sid e.change) (row_changes_from (rows_after rows e.change) (suc place) entries)
+
+-- ---- modifies of a column
+
+-- how a change at a SID is packed for a column: anything but a modify of the column not at all
+abbrev pub patch_at : ℕ → ℕ → Change → Option Patch
+patch_at col sid (Ins row) = None
+patch_at col sid (Del key) = None
+patch_at col sid (Mod other value) = cond (other == col) (Some (record { sid = sid; number = number_of value })) None
+
+-- the modifies of a column among entries, packed
+abbrev pub patches_in : ℕ → List Entry → List Patch
+patches_in col [] = []
+patches_in col (e ∷ entries) = with_first (patch_at col e.sid e.change) (patches_in col entries)
 
 -- ---- a packed tree
 
+-- what becomes of a column: the numbers of the rows that are inserted, and its modifies
+pub record ColumnView : Type 0 where
+  pub inserted : List ℤ
+  pub modified : List Patch
+
+-- inserts and deletes, and what becomes of each column that is packed
 pub record PackedView : Type 0 where
-  pub entries : List PackedEntry
-  pub columns : List (List ℤ)
+  pub changes : List RowChange
+  pub columns : List (Option ColumnView)
+
+-- that is what these entries make of the column of this number
+pub record IsPackedColumn (col : ℕ) (entries : List Entry) (c : ColumnView) : Type 0 where
+  pub inserted_are : c.inserted ≡ map (number_at col) (rows_in entries)
+  pub modified_are : c.modified ≡ patches_in col entries
 
 -- these entries are packed so
 pub record IsPacked (entries : List Entry) (p : PackedView) : Type 0 where
-  pub entries_are : p.entries ≡ packed_from 0 entries
-  pub columns_are : (col : ℕ) → col < length p.columns → get_or p.columns col [] ≡ map (number_at col) (rows_in entries)
+  pub changes_are : p.changes ≡ row_changes_from 0 0 entries
+  pub columns_are : (col : ℕ) (c : ColumnView) → get_or p.columns col None ≡ Some c → IsPackedColumn col entries c
 
 -- there is a column of this number, and it is one of numbers
 pub record IsNumberColumn (schema : Columns) (col : ℕ) : Type 0 where
   pub there : col < length schema.types
   pub ints : get_or schema.types col column.Int ≡ column.Int
 
--- the column of this number is packed
-pub record IsPackedColumn (col : ℕ) (p : PackedView) : Type 0 where
-  pub narrow : col < 65535
-  pub packed : col < length p.columns
+-- ---- a packed insert or delete
 
--- the SID of a packed entry
-abbrev pub sid_of : PackedEntry → ℕ
-sid_of (Insert sid row) = sid
-sid_of (Delete sid) = sid
-sid_of (Modify sid col number) = sid
+-- its SID
+abbrev pub sid_of : RowChange → ℕ
+sid_of (Insert sid place row) = sid
+sid_of (Delete sid place) = sid
 
--- whether a packed entry modifies a base row
-abbrev pub is_patch : PackedEntry → Bool
-is_patch (Insert sid row) = false
-is_patch (Delete sid) = false
-is_patch (Modify sid col number) = true
+-- its place among the entries
+abbrev pub place_of : RowChange → ℕ
+place_of (Insert sid place row) = place
+place_of (Delete sid place) = place
 
--- whether one deletes a base row
-abbrev pub is_gone : PackedEntry → Bool
-is_gone (Insert sid row) = false
-is_gone (Delete sid) = true
-is_gone (Modify sid col number) = false
+-- whether it deletes a base row
+abbrev pub is_gone : RowChange → Bool
+is_gone (Insert sid place row) = false
+is_gone (Delete sid place) = true
 
--- the number of the row that one inserts
-abbrev pub row_in : PackedEntry → Option ℕ
-row_in (Insert sid row) = Some row
-row_in (Delete sid) = None
-row_in (Modify sid col number) = None
+-- the number of the row that it inserts
+abbrev pub row_in : RowChange → Option ℕ
+row_in (Insert sid place row) = Some row
+row_in (Delete sid place) = None

@@ -1,42 +1,42 @@
 //! The stable rows under a packed tree, of which the numbers of a column are handed out: those of base rows that stand together are
 //! copied, what the tree modifies of them is put in, and rows that it inserts come from their column.
-ghost use Rattle.std.specs.Prelude.{◌≡◌, ℕ, ◌+◌, ◌<◌, ◌≤◌, ◌^◌, T, MatchOption, length, slice_get};
+ghost use Rattle.std.specs.Prelude.{◌≡◌, ℕ, ◌+◌, ◌<◌, ◌≤◌, ◌^◌, T, MatchOption, Some, length, drop, slice_get};
 ghost use Rattle.std.specs.List.{list_all};
 ghost use Rattle.merge.specs.Cursor.{DeletesNone, entries_left, starts_with_delete};
-ghost use Rattle.merge.specs.Filling.{FillsRows, InsertsNone, KeepsModified, is_near, patched, patched_by};
-ghost use Rattle.merge.specs.PackedLeft.{HasPackedColumn, IsInsertNext, IsPackedRows, base_left, cursor_of, packed_left};
+ghost use Rattle.merge.specs.Filling.{FillsRows, InsertsNone, KeepsModified, is_from, patched, patches_before, patches_from};
+ghost use Rattle.merge.specs.PackedLeft.{HasPackedColumn, IsInsertNext, IsPackedRows, base_left, count_passed, cursor_of, packed_left};
+ghost use Rattle.merge.specs.Packed.{place_of};
+ghost use Rattle.merge.specs.declared.packed.RowChange.{RowChange};
 
 use crate::level::StableRows;
 use crate::numbers::{Numbers, fill};
-use crate::packed::{Packed, PackedEntry};
+use crate::packed::{Patch, RowChange};
 use delta::DeltaTree;
 
-/// The rows that are left under a tree, which is packed too.
+/// The rows that are left under a tree, of which a column is packed too.
 #[derive(Drop)]
 pub(crate) struct PackedRows<'a> {
     pub(crate) below: StableRows<'a>,
     pub(crate) tree: &'a DeltaTree,
-    pub(crate) packed: &'a Packed,
-    /// How many entries are passed.
-    pub(crate) index: usize,
+    /// The entries that are passed at least. Modifies behind them are passed too where they lie before the next base row.
+    pub(crate) place: usize,
     /// The base row that is next.
     pub(crate) sid: u64,
-}
-
-/// So many base rows that come next, of which so many entries that come next modify some.
-#[derive(Clone, Copy)]
-struct Kept {
-    entries: usize,
-    rows: usize,
+    /// The inserts and the deletes that are left.
+    pub(crate) changes: &'a [RowChange],
+    /// The modifies of the column that are left.
+    pub(crate) patches: &'a [Patch],
+    /// The numbers of all rows that the tree inserts.
+    pub(crate) inserted: &'a [i64],
 }
 
 impl<'a> PackedRows<'a> {
-    /// The entry at an index.
+    /// The next insert or delete.
     #[inline(always)]
-    fn entry_at(&self, index: usize) -> Option<PackedEntry>
-        ensures { result ≡ slice_get self.now.packed.now.entries index }
+    fn next_change(&self) -> Option<RowChange>
+        ensures { result ≡ slice_get self.now.changes.now 0 }
     {
-        self.packed.entries().get(index).copied()
+        self.changes.get(0).copied()
     }
 
     /// Goes past the deletes that come next.
@@ -46,13 +46,25 @@ impl<'a> PackedRows<'a> {
         ensures rows { packed_left self.new ≡ packed_left self.old }
         ensures column { (col : ℕ) → HasPackedColumn col self.old → HasPackedColumn col self.new }
         ensures none { DeletesNone (cursor_of self.new) }
-        ensures same { self.new.packed ≡ self.old.packed }
     {
         while self.deletes_next() {
+            self.pass_change();
             self.below.skip_row();
-            self.index += 1;
             self.sid += 1;
         }
+    }
+
+    /// Goes past the next insert or delete.
+    #[inline(always)]
+    fn pass_change(&mut self)
+        requires lawful { IsPackedRows self.old }
+        requires some { 0 < length self.old.changes.now }
+        ensures place { (change : RowChange) → slice_get self.old.changes.now 0 ≡ Some change → self.new.place ≡ place_of change + 1 }
+        ensures changes { self.new.changes.now ≡ drop 1 self.old.changes.now }
+        ensures same { self.new ≡ record self.old { place = self.new.place; changes = self.new.changes } }
+    {
+        self.place = self.changes[0].place() + 1;
+        self.changes = &self.changes[1..];
     }
 
     /// Whether a delete of the next base row is next.
@@ -61,10 +73,10 @@ impl<'a> PackedRows<'a> {
         requires { IsPackedRows self.now }
         ensures { result ≡ starts_with_delete self.now.sid (entries_left (cursor_of self.now)) }
     {
-        let Some(entry) = self.entry_at(self.index) else {
+        let Some(change) = self.next_change() else {
             return false;
         };
-        entry.sid() == self.sid && entry.is_delete()
+        change.sid() == self.sid && change.is_delete()
     }
 
     /// The number of the row that is inserted next, before the next base row, if one is.
@@ -73,46 +85,36 @@ impl<'a> PackedRows<'a> {
         requires { IsPackedRows self.now }
         ensures { MatchOption result (InsertsNone (cursor_of self.now)) (λ row. IsInsertNext row self.now) }
     {
-        let entry = self.entry_at(self.index)?;
-        if entry.sid() == self.sid {
-            entry.inserted()
+        let change = self.next_change()?;
+        if change.sid() == self.sid {
+            change.inserted()
         } else {
             None
         }
     }
 
-    /// How many base rows come before the next row that is inserted or deleted, at most so many, and how many entries modify them.
-    fn kept(&self, most: usize) -> Kept
+    /// How many base rows come before the next row that is inserted or deleted, at most so many.
+    #[inline(always)]
+    fn kept(&self, most: usize) -> usize
         requires lawful { IsPackedRows self.now }
         requires few { most < 2 ^ 63 }
         requires deleted { DeletesNone (cursor_of self.now) }
         requires inserted { InsertsNone (cursor_of self.now) }
-        ensures kept { KeepsModified most result.entries result.rows (cursor_of self.now) }
+        ensures kept { KeepsModified most (count_passed result (cursor_of self.now)) result (cursor_of self.now) }
     {
-        let end = self.sid + most as u64;
-        let mut entries = 0;
-        while let Some(entry) = self.entry_at(self.index + entries) {
-            if entry.sid() >= end {
-                break;
-            }
-            if !entry.is_modify() {
-                let rows = (entry.sid() - self.sid) as usize;
-                return Kept { entries, rows };
-            }
-            entries += 1;
-        }
-        Kept {
-            entries,
-            rows: most,
+        match self.next_change() {
+            Some(change) => (change.sid() - self.sid).min(most as u64) as usize,
+            None => most,
         }
     }
 
-    /// Fills the room with the numbers of as many base rows, which stand together but for what so many entries modify of them.
+    /// Fills the room with the numbers of as many base rows, which stand together but for what is modified of them.
     #[inline(always)]
-    fn fill_modified(&mut self, entries: usize, col: usize, out: &mut [i64])
+    fn fill_modified(&mut self, col: usize, out: &mut [i64])
         requires lawful { IsPackedRows self.old }
         requires column { HasPackedColumn col self.old }
-        requires kept { (most : ℕ) × KeepsModified most entries (length out.old) (cursor_of self.old) }
+        requires kept { (most : ℕ) × KeepsModified most (count_passed (length out.old) (cursor_of self.old)) (length out.old)
+            (cursor_of self.old) }
         requires room { length out.old ≤ length (base_left self.old) }
         ensures lawful { IsPackedRows self.new }
         ensures column { HasPackedColumn col self.new }
@@ -120,12 +122,7 @@ impl<'a> PackedRows<'a> {
         ensures numbers { FillsRows col (packed_left self.old) out.new (packed_left self.new) }
     {
         fill(&mut self.below, col, out);
-        let packed = self.packed.entries();
-        let count = packed.len();
-        let end = self.index + entries;
-        prove!(end <= count);
-        patch(&packed[self.index..end], self.sid, col, out);
-        self.index = end;
+        self.patches = patch(self.patches, self.sid, out);
         self.sid += out.len() as u64;
     }
 }
@@ -140,50 +137,59 @@ impl<'a> Numbers for PackedRows<'a> {
     fn fill_next(&mut self, col: usize, out: &mut [i64]) -> usize {
         self.pass_deleted();
         if let Some(row) = self.inserted_next() {
-            out[0] = self.packed.column(col)[row];
-            self.index += 1;
+            out[0] = self.inserted[row];
+            self.pass_change();
             return 1;
         }
-        let Kept { entries, rows } = self.kept(out.len());
-        self.fill_modified(entries, col, &mut out[..rows]);
+        let rows = self.kept(out.len());
+        self.fill_modified(col, &mut out[..rows]);
         rows
     }
 
     fn skip_row(&mut self) {
         self.pass_deleted();
         if let Some(_) = self.inserted_next() {
-            self.index += 1;
+            self.pass_change();
             return;
         }
-        let Kept { entries, .. } = self.kept(1);
         self.below.skip_row();
-        self.index += entries;
         self.sid += 1;
+        self.patches = past(self.patches, self.sid);
     }
 }
 
-/// Puts what packed modifies give a column in the place of the numbers of base rows from a SID on.
+/// Puts what packed modifies of a column give in the place of the numbers of base rows from a SID on, and answers which are left.
 #[inline(always)]
-fn patch(modifies: &[PackedEntry], first: u64, col: usize, out: &mut [i64])
-    requires { T (list_all (is_near first (first + length out.old)) modifies.now) }
+fn patch<'a>(patches: &'a [Patch], first: u64, out: &mut [i64]) -> &'a [Patch]
+    requires near { T (list_all (is_from first) patches.now) }
+    requires few { first + length out.old < 2 ^ 64 }
     ensures length { length out.new ≡ length out.old }
-    ensures patched { out.new ≡ patched col first modifies.now out.old }
+    ensures patched { out.new ≡ patched first (patches_before (first + length out.old) patches.now) out.old }
+    ensures left { result.now ≡ patches_from (first + length out.old) patches.now }
 {
-    for entry in modifies {
-        patch_one(*entry, first, col, out);
-    }
-}
-
-/// Puts what one packed modify gives the column in its place.
-#[inline(always)]
-fn patch_one(entry: PackedEntry, first: u64, col: usize, out: &mut [i64])
-    requires { T (is_near first (first + length out.old) entry) }
-    ensures length { length out.new ≡ length out.old }
-    ensures patched { out.new ≡ patched_by col first entry out.old }
-{
-    if let PackedEntry::Modify(sid, other, number) = entry {
-        if usize::from(other) == col {
-            out[(u64::from(sid) - first) as usize] = number;
+    let end = first + out.len() as u64;
+    let mut done = 0;
+    while let Some(patch) = patches.get(done) {
+        let sid = u64::from(patch.sid);
+        if sid >= end {
+            break;
         }
+        out[(sid - first) as usize] = patch.number;
+        done += 1;
     }
+    &patches[done..]
+}
+
+/// The packed modifies from the first one on that doesn't lie before a SID.
+fn past<'a>(patches: &'a [Patch], sid: u64) -> &'a [Patch]
+    ensures { result.now ≡ patches_from sid patches.now }
+{
+    let mut done = 0;
+    while let Some(patch) = patches.get(done) {
+        if u64::from(patch.sid) >= sid {
+            break;
+        }
+        done += 1;
+    }
+    &patches[done..]
 }

@@ -11,7 +11,7 @@ ghost use Rattle.merge.specs.ReadRows.{AreReadRows, HasReadColumn, rows_of_read}
 use crate::cursor::Cursor;
 use crate::level::{Level, StableRows};
 use crate::numbers::Numbers;
-use crate::packed::Packed;
+use crate::packed::{Packed, changes_at, patches_at};
 use crate::packed_rows::PackedRows;
 use crate::view::Layer;
 
@@ -42,20 +42,24 @@ impl<'a> ReadRows<'a> {
         ensures lawful { AreReadRows result }
         ensures column { HasReadColumn col result }
     {
-        match packed {
-            Some(packed) if packed.has_column(col) => ReadRows::Packed(PackedRows {
-                sid: stable.sid,
-                below: stable,
-                tree: read.tree(),
-                packed,
-                index: read.index(),
-            }),
-            _ => ReadRows::Tree(Level {
-                below: stable,
-                cursor: read,
-                layer: Layer::Read,
-            }),
+        if let Some(packed) = packed {
+            if let Some(column) = packed.column(col) {
+                return ReadRows::Packed(PackedRows {
+                    place: read.index(),
+                    sid: stable.sid,
+                    below: stable,
+                    tree: read.tree(),
+                    changes: changes_at(packed.changes(), read.index()),
+                    patches: patches_at(column.modified(), read.sid()),
+                    inserted: column.inserted(),
+                });
+            }
         }
+        ReadRows::Tree(Level {
+            below: stable,
+            cursor: read,
+            layer: Layer::Read,
+        })
     }
 }
 

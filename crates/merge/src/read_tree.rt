@@ -7,7 +7,7 @@ use crate::packed::Packed;
 use delta::DeltaTree;
 use std::alloc::Global;
 use std::marker::Model;
-use values::NoMemory;
+use values::{NoMemory, Schema};
 
 /// A Read-PDT. Whether it is packed decides how fast a scan is, and is nothing that a contract sees.
 #[derive(Drop)]
@@ -37,15 +37,15 @@ impl ReadTree {
         ReadTree { tree, packed: None }
     }
 
-    /// The same tree, packed, for rows of so many columns. The nodes of the tree are shared.
+    /// The same tree, packed, for rows with these columns. The nodes of the tree are shared.
     ///
     /// # Errors
     ///
     /// `NoMemory` where a growth, or one owner more, is refused.
-    pub fn to_packed(&self, alloc: Global, width: usize) -> Result<ReadTree, NoMemory>
+    pub fn to_packed(&self, alloc: Global, schema: &Schema) -> Result<ReadTree, NoMemory>
         ensures { IfOk result (λ packed. packed ≡ self.now) }
     {
-        let packed = Packed::of(alloc, &self.tree, width)?;
+        let packed = Packed::of(alloc, &self.tree, schema)?;
         Ok(ReadTree {
             tree: self.tree.copy()?,
             packed: Some(packed),

@@ -184,7 +184,8 @@ impl Version {
         })
     }
 
-    /// The same version, with its Read-PDT packed. It takes a walk over that tree for each column; everything else is shared.
+    /// The same version, with its Read-PDT packed. It takes a walk over that tree, and two for each column of numbers; everything else
+    /// is shared.
     ///
     /// # Errors
     ///
@@ -192,7 +193,7 @@ impl Version {
     pub fn packed(&self, alloc: Global) -> Result<Version, NoMemory>
         ensures { IfOk result (λ packed. packed ≡ self.now) }
     {
-        let read = self.read().to_packed(alloc, self.schema().width())?;
+        let read = self.read().to_packed(alloc, self.schema())?;
         self.with_read(alloc, Arc::new(alloc, read)?)
     }
 

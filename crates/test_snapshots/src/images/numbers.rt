@@ -5,12 +5,13 @@ ghost use Rattle.std.specs.Prelude.{◌≡◌, IfSome, true};
 ghost use Rattle.std.specs.Option.{option_copied};
 ghost use Rattle.merge.specs.Packed.{IsNumberColumn, IsPacked};
 
-use super::Stack;
 use super::drawn::drawn_stack;
+use super::{Stack, written_stack};
 use merge::{Layers, Packed};
 use std::alloc::Global;
 use std::process::Abort;
 use std::test::Fail;
+use test_fixtures::{ItemWrite, item};
 use values::{ColumnType, Row, Schema, ValueRef};
 
 /// Positions to fill from, with the length of the room.
@@ -24,6 +25,20 @@ static ROOMS: [(u64, usize); 9] = [
     (700, 1_025),
     (999, 300),
     (5_000, 7),
+];
+
+/// Positions around the end of a block and the end of the rows, with the length of the room.
+static EDGES: [(u64, usize); 10] = [
+    (0, 1_100),
+    (1_017, 3),
+    (1_018, 8),
+    (1_021, 1),
+    (1_022, 2),
+    (1_023, 1),
+    (1_024, 1),
+    (1_025, 60),
+    (1_090, 40),
+    (1_099, 1),
 ];
 
 /// Whether a row has the number in a column.
@@ -72,6 +87,7 @@ fn assert_filled(
     layers: &Layers<'_>,
     packed: Option<&Packed>,
     rows: &[Row],
+    rooms: &[(u64, usize)],
     room: &mut [i64],
 )
     requires { IfSome (option_copied packed) (IsPacked layers.now.read) }
@@ -80,7 +96,7 @@ fn assert_filled(
     for col in 0..layers.schema().width() {
         if is_of_numbers(layers.schema(), col) {
             columns = columns.wrapping_add(1);
-            for (from, len) in &ROOMS {
+            for (from, len) in rooms {
                 let len = (*len).min(room.len());
                 assert!(rt; is_filled(layers, packed, rows, col, *from, &mut room[..len]));
             }
@@ -90,19 +106,31 @@ fn assert_filled(
 }
 
 /// That the numbers of the image are filled so, and those of the image with no transaction on top.
-fn assert_numbers(rt: &impl Abort, alloc: Global, stack: &Stack) -> Result<(), Fail>
+fn assert_numbers(
+    rt: &impl Abort,
+    alloc: Global,
+    stack: &Stack,
+    rooms: &[(u64, usize)],
+) -> Result<(), Fail>
     requires { AreStacked stack.now.stable stack.now.read.tree stack.now.write.tree stack.now.trans.tree }
 {
     let (read, write, trans) = (&stack.read.tree, &stack.write.tree, &stack.trans.tree);
-    let packed = Packed::of(alloc, read, stack.stable.schema().width())?;
+    let packed = Packed::of(alloc, read, stack.stable.schema())?;
     let mut room = Vec::from_elem(alloc, 0_i64, 2_000)?;
     let own = Layers::new(&stack.stable, read, write, trans);
     let committed = Layers::committed(&stack.stable, read, write);
     let (over, under) = (stack.trans.rows.as_slice(), stack.write.rows.as_slice());
-    assert_filled(rt, &own, Some(&packed), over, room.as_mut_slice());
-    assert_filled(rt, &own, None, over, room.as_mut_slice());
-    assert_filled(rt, &committed, Some(&packed), under, room.as_mut_slice());
-    assert_filled(rt, &committed, None, under, room.as_mut_slice());
+    assert_filled(rt, &own, Some(&packed), over, rooms, room.as_mut_slice());
+    assert_filled(rt, &own, None, over, rooms, room.as_mut_slice());
+    assert_filled(
+        rt,
+        &committed,
+        Some(&packed),
+        under,
+        rooms,
+        room.as_mut_slice(),
+    );
+    assert_filled(rt, &committed, None, under, rooms, room.as_mut_slice());
     Ok(())
 }
 
@@ -110,7 +138,39 @@ fn assert_numbers(rt: &impl Abort, alloc: Global, stack: &Stack) -> Result<(), F
 fn numbers_are_filled_as_the_plain_program_merges_them(rt: HostRuntime) -> Result<(), Fail> {
     for count in [0, 40] {
         let stack = drawn_stack(rt.alloc(), count)?;
-        assert_numbers(&rt, rt.alloc(), &stack)?;
+        assert_numbers(&rt, rt.alloc(), &stack, &ROOMS)?;
     }
     Ok(())
+}
+
+/// Rows of more than a block, of which sets, deletes and inserts meet at the ends of the block and of the rows.
+fn edge_stack(alloc: Global) -> Result<Stack, Fail>
+    ensures { IfOk result (λ made. AreStacked made.stable made.read.tree made.write.tree made.trans.tree) }
+{
+    let mut rows = Vec::new(alloc);
+    for place in 0..1_100_u16 {
+        rows.push(item(alloc, i64::from(place) * 2, "old", i64::from(place))?)?;
+    }
+    let mut read = Vec::new(alloc);
+    for place in 1_016..1_028_i64 {
+        if place != 1_020 {
+            read.push(ItemWrite::Set(place.wrapping_mul(2), place.wrapping_neg()))?;
+        }
+    }
+    read.push(ItemWrite::Name(2_044, "other"))?;
+    read.push(ItemWrite::Delete(2_040))?;
+    read.push(ItemWrite::Insert(2_045, "new", 5))?;
+    read.push(ItemWrite::Insert(2_047, "new", 6))?;
+    read.push(ItemWrite::Delete(2_048))?;
+    read.push(ItemWrite::Set(0, 3))?;
+    read.push(ItemWrite::Set(2_198, 4))?;
+    read.push(ItemWrite::Insert(2_199, "new", 8))?;
+    let write = [ItemWrite::Delete(2_034), ItemWrite::Set(2_050, 9)];
+    written_stack(alloc, rows.as_slice(), [read.as_slice(), &write, &[]])
+}
+
+#[test]
+fn numbers_are_filled_at_the_ends_of_blocks(rt: HostRuntime) -> Result<(), Fail> {
+    let stack = edge_stack(rt.alloc())?;
+    assert_numbers(&rt, rt.alloc(), &stack, &EDGES)
 }

@@ -1,10 +1,9 @@
-use Rattle.std.proofs.Common.{◌≡◌, ◌<◌, ℕ, [], length, map, get_or}
-use Rattle.merge.specs.Packed.{number_at, rows_in}
+use Rattle.std.proofs.Common.{◌≡◌, ◌++◌, ℕ, Some, None, drop, map, get_or, is_some}
+use Rattle.merge.specs.Packed.{ColumnView, IsPackedColumn, is_number}
 use Rattle.merge.proofs.packed.Packed.of.Given as goal
 
--- each column so far has the numbers of the inserted rows
-abbrev pub invariant-loop-col : goal.invariant-loop-col
-invariant-loop-col l =
-    (length l.columns.items ≡ l.col)
-    × ((k : ℕ) → k < length (map (λ c. c.items) l.columns.items)
-    → get_or (map (λ c. c.items) l.columns.items) k [] ≡ map (number_at k) (rows_in l.tree.entries))
+-- each column so far is packed where it is one of numbers
+abbrev pub invariant-loop-ty : goal.invariant-loop-ty
+invariant-loop-ty l =
+    (map is_some l.columns.items ++ map is_number (drop l.ty-index l.schema.types) ≡ map is_number l.schema.types)
+    × ((col : ℕ) (c : ColumnView) → get_or l.columns.items col None ≡ Some c → IsPackedColumn col l.tree.entries c)

@@ -1,62 +1,93 @@
-use Rattle.std.proofs.Common.{◌≡◌, ◌∙◌, ◌+◌, ◌-◌, T, List, length, take, drop, sym, ap, subst, arith, length-drop}
+use Rattle.std.proofs.Common.{◌≡◌, ◌∙◌, ◌+◌, T, List, length, take, drop, sym, ap, subst, arith}
 use Rattle.std.specs.List.{list_all}
 use Rattle.values.specs.declared.row.Row.{Row as Cells}
-use Rattle.merge.specs.Cursor.{rows_left}
-use Rattle.merge.specs.Filling.{FillsRows, is_near, past_modifies, patched}
-use Rattle.merge.specs.Packed.{packed_from, rows_in}
-use Rattle.merge.specs.PackedLeft.{base_left, cursor_of, packed_left}
-use Rattle.merge.specs.declared.packed.PackedEntry.{PackedEntry}
+use Rattle.merge.specs.Cursor.{TreeCursor, IsCursor, entries_left, rows_left}
+use Rattle.merge.specs.Filling.{FillsRows, KeepsModified, is_from, patched, patches_before, patches_from}
+use Rattle.merge.specs.Packed.{patches_in}
+use Rattle.merge.specs.PackedLeft.{base_left, changes_left, count_passed, cursor_of, packed_left}
+use Rattle.merge.specs.declared.packed.Patch.{Patch}
 use Rattle.merge.proofs.FillingLemmas.{are_wide}
-use Rattle.merge.proofs.PackedFillLemmas.{fills_patched, near_packed}
-use Rattle.merge.proofs.PackedStepLemmas.{length-packed, packed_part}
+use Rattle.merge.proofs.PackedFillLemmas.{fills_patched}
+use Rattle.merge.proofs.PackedLemmas.{patches_all_from}
+use Rattle.merge.proofs.PackedStepLemmas.{modifies_past, patches_past, within_all}
+use Rattle.merge.proofs.PackedWalkLemmas.{cursor_kept, patches_kept}
 use Rattle.merge.proofs.packed_rows.PackedRows.fill_modified.Goals as goal
 
-pub prove-unreachable-requires : goal.prove-unreachable-requires
-prove-unreachable-requires c =
+pub patch-self-requires-clause-near : goal.patch-self-requires-clause-near
+patch-self-requires-clause-near c =
     let p = c.args.self.now in
-    let kept = c.requires.kept.1 in
-    let lawful = c.requires.lawful in
-    omega (
-      arith,
-      kept.entries,
-      lawful.inside,
-      length-drop p.index p.tree.now.entries,
-      length-packed 0 p.tree.now.entries,
-      ap (λ (ps : List PackedEntry). length ps) (c.entries-packed.ensures ∙ lawful.packed.entries_are),
-      c.if-prove.true,
-    )
+    let left = entries_left (cursor_of p) in
+    subst (λ (ps : List Patch). T (list_all (is_from p.sid) ps)) (sym c.requires.column.patches_are)
+    (patches_all_from c.args.col p.sid left (within_all p.sid (p.sid + length (base_left p)) left c.requires.lawful.cursor.over.within))
 
-pub patch-requires : goal.patch-requires
-patch-requires c =
+pub patch-self-requires-clause-few : goal.patch-self-requires-clause-few
+patch-self-requires-clause-few c =
+    omega (arith, c.requires.lawful.cursor.few, c.requires.room, c.fill.ensures.length)
+
+pub overflow_add-self : goal.overflow_add-self
+overflow_add-self c =
+    omega (arith, c.requires.lawful.cursor.few, c.requires.room, c.fill.ensures.length, c.patch-self.ensures.length)
+
+pub returns-clause-lawful : goal.returns-clause-lawful
+returns-clause-lawful c =
     let p = c.args.self.now in
-    let kept = c.requires.kept.1 in
-    let n = c.args.entries in
-    let es = p.tree.now.entries in
-    let part = packed_part c.entries-packed.result.now es p.index n (c.entries-packed.ensures ∙ c.requires.lawful.packed.entries_are) in
-    let size : n ≡ p.index + n - p.index = omega arith in
-    let near = near_packed (length (rows_in (take p.index es))) p.sid (p.sid + length c.args.out.now) (take n (drop p.index es))
-    kept.modifies in
-    subst (λ m. T (list_all (is_near p.sid (p.sid + m)) (take (p.index + n - p.index) (drop p.index c.entries-packed.result.now))))
-    (sym c.fill.ensures.length)
-    (subst (λ m. T (list_all (is_near p.sid (p.sid + length c.args.out.now)) (take m (drop p.index c.entries-packed.result.now)))) size
-    (subst (λ ps. T (list_all (is_near p.sid (p.sid + length c.args.out.now)) ps)) (sym part) near))
+    let col = c.args.col in
+    let m = length c.patch-self.new.out in
+    let many : length c.args.out.now ≡ m = sym (c.patch-self.ensures.length ∙ c.fill.ensures.length) in
+    let kept = subst (λ k. KeepsModified c.requires.kept.0 (count_passed k (cursor_of p)) k (cursor_of p)) many c.requires.kept.1 in
+    let n = count_passed m (cursor_of p) in
+    let left : List Cells = drop c.fill.new.rows.sid c.fill.new.rows.table.now.rows in
+    let patched_is : c.patch-self.new.out ≡ patched p.sid (patches_in col (take n (entries_left (cursor_of p)))) c.fill.new.out =
+    c.patch-self.ensures.patched
+    ∙ ap (λ k. patched p.sid (patches_before (p.sid + k) p.patches.now) c.fill.new.out) (sym c.patch-self.ensures.length)
+    ∙ ap (λ (ps : List Patch). patched p.sid (patches_before (p.sid + m) ps) c.fill.new.out) c.requires.column.patches_are
+    ∙ ap (λ (ps : List Patch). patched p.sid ps c.fill.new.out)
+    (patches_past p.tree.now.key_cols (p.sid + m) col (entries_left (cursor_of p)) c.requires.lawful.cursor.over.ordered).0 in
+    let filled = fills_patched col (cursor_of p) c.requires.kept.0 n m kept (base_left p) left c.fill.new.out c.patch-self.new.out
+    c.requires.lawful.cursor c.fill.ensures.numbers (c.fill.ensures.length ∙ many) (are_wide col (base_left p) c.requires.column.numbers)
+    patched_is in
+    let cursor = cursor_kept p m c.requires.lawful in
+    record {
+      few = c.fill.ensures.lawful;
+      cursor = subst (λ (x : TreeCursor). IsCursor (length left) x) (sym cursor) filled.1;
+      changes_are =
+          c.requires.lawful.changes_are
+          ∙ sym (modifies_past (cursor_of p) n m kept.modifies)
+          ∙ ap changes_left (sym cursor);
+    }
+
+pub returns-clause-column : goal.returns-clause-column
+returns-clause-column c =
+    let p = c.args.self.now in
+    let col = c.args.col in
+    let m = length c.patch-self.new.out in
+    record {
+      inserted_are = c.requires.column.inserted_are;
+      patches_are =
+          c.patch-self.ensures.left
+          ∙ ap (λ k. patches_from (p.sid + k) p.patches.now) (sym c.patch-self.ensures.length)
+          ∙ patches_kept p m c.requires.lawful col c.requires.column.patches_are
+          ∙ ap (λ (x : TreeCursor). patches_in col (entries_left x)) (sym (cursor_kept p m c.requires.lawful));
+      numbers = c.fill.ensures.column;
+    }
 
 pub returns-clause-numbers : goal.returns-clause-numbers
 returns-clause-numbers c =
     let p = c.args.self.now in
-    let kept = c.requires.kept.1 in
-    let n = c.args.entries in
-    let es = p.tree.now.entries in
-    let k = length (rows_in (take p.index es)) in
-    let size : p.index + n - p.index ≡ n = omega arith in
-    let patched_is : c.patch.new.out ≡ patched c.args.col p.sid (packed_from k (take n (drop p.index es))) c.fill.new.out =
-    c.patch.ensures.patched
-    ∙ ap (λ m. patched c.args.col p.sid (take m (drop p.index c.entries-packed.result.now)) c.fill.new.out) size
-    ∙ ap (λ ps. patched c.args.col p.sid ps c.fill.new.out)
-    (packed_part c.entries-packed.result.now es p.index n (c.entries-packed.ensures ∙ c.requires.lawful.packed.entries_are)) in
-    let wide = are_wide c.args.col (base_left p) c.requires.column.numbers in
+    let col = c.args.col in
+    let m = length c.patch-self.new.out in
+    let many : length c.args.out.now ≡ m = sym (c.patch-self.ensures.length ∙ c.fill.ensures.length) in
+    let kept = subst (λ k. KeepsModified c.requires.kept.0 (count_passed k (cursor_of p)) k (cursor_of p)) many c.requires.kept.1 in
+    let n = count_passed m (cursor_of p) in
     let left : List Cells = drop c.fill.new.rows.sid c.fill.new.rows.table.now.rows in
-    let filled = fills_patched c.args.col (cursor_of p) c.requires.kept.0 n (length c.args.out.now) k kept (base_left p) left c.fill.new.out
-    c.patch.new.out c.requires.lawful.cursor c.fill.ensures.numbers c.fill.ensures.length wide c.requires.column.narrow patched_is in
-    let many : length c.args.out.now ≡ length c.patch.new.out = sym (c.patch.ensures.length ∙ c.fill.ensures.length) in
-    subst (λ m. FillsRows c.args.col (packed_left p) c.patch.new.out (rows_left (past_modifies n m (cursor_of p)) left)) many filled.0
+    let patched_is : c.patch-self.new.out ≡ patched p.sid (patches_in col (take n (entries_left (cursor_of p)))) c.fill.new.out =
+    c.patch-self.ensures.patched
+    ∙ ap (λ k. patched p.sid (patches_before (p.sid + k) p.patches.now) c.fill.new.out) (sym c.patch-self.ensures.length)
+    ∙ ap (λ (ps : List Patch). patched p.sid (patches_before (p.sid + m) ps) c.fill.new.out) c.requires.column.patches_are
+    ∙ ap (λ (ps : List Patch). patched p.sid ps c.fill.new.out)
+    (patches_past p.tree.now.key_cols (p.sid + m) col (entries_left (cursor_of p)) c.requires.lawful.cursor.over.ordered).0 in
+    let filled = fills_patched col (cursor_of p) c.requires.kept.0 n m kept (base_left p) left c.fill.new.out c.patch-self.new.out
+    c.requires.lawful.cursor c.fill.ensures.numbers (c.fill.ensures.length ∙ many) (are_wide col (base_left p) c.requires.column.numbers)
+    patched_is in
+    subst (λ (x : TreeCursor). FillsRows col (packed_left p) c.patch-self.new.out (rows_left x left))
+    (sym (cursor_kept p m c.requires.lawful)) filled.0

@@ -1,4 +1,4 @@
-use Rattle.std.proofs.Common.{◌≡◌, ◌-◌, ℕ, length}
+use Rattle.std.proofs.Common.{◌≡◌, ℕ, length}
 use Rattle.merge.specs.PackedLeft.{HasPackedColumn, IsPackedRows, packed_left}
 use Rattle.merge.proofs.packed_rows.PackedRows.pass_deleted.Given as goal
 
@@ -8,7 +8,6 @@ invariant-loop-self l =
     IsPackedRows l.self
     × (packed_left l.self ≡ packed_left l.fn.self)
     × ((col : ℕ) → HasPackedColumn col l.fn.self → HasPackedColumn col l.self)
-    × (l.self.packed ≡ l.fn.self.packed)
 
 abbrev pub decreases-loop-self : goal.decreases-loop-self
-decreases-loop-self l = length l.self.tree.now.entries - l.self.index
+decreases-loop-self l = length l.self.changes.now

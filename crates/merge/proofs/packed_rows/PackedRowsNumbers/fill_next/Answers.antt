@@ -1,76 +1,133 @@
-use Rattle.std.proofs.Common.{rules, ◌≡◌, ◌∙◌, ◌+◌, [], ◌∷◌, List, length, map, get_or, refl, sym, ap, arith}
+use Rattle.std.proofs.Common.{rules, ◌≡◌, ◌∙◌, ◌+◌, ◌≤◌, [], ◌∷◌, List, length, map, take, get_or, refl, sym, ap, subst, arith, length-take}
 use Rattle.std.specs.Prelude.{ℤ, pos}
-use Rattle.std.proofs.lemmas.Option.{slice_get_within}
-use Rattle.merge.specs.Cursor.{TreeCursor, rows_left}
+use Rattle.values.specs.declared.row.Row.{Row as Cells}
+use Rattle.values.specs.declared.limits.TheConstants.{MAX_ROWS}
+use Rattle.merge.specs.Cursor.{TreeCursor, IsCursor, rows_left}
+use Rattle.merge.specs.Filling.{FillsRows, HaveNumbers, KeepsModified}
 use Rattle.merge.specs.Packed.{number_at, rows_in}
-use Rattle.merge.specs.PackedLeft.{base_left, cursor_of}
+use Rattle.merge.specs.PackedLeft.{base_left, count_passed, cursor_of}
+use Rattle.merge.specs.declared.packed_rows.PackedRows.{PackedRows}
 use Rattle.merge.proofs.CursorLemmas.{inserts_next}
 use Rattle.merge.proofs.FillingLemmas.{fills_also, fills_inserted, room_one}
 use Rattle.merge.proofs.PackedFillLemmas.{inserted_number}
+use Rattle.merge.proofs.PackedLemmas.{rows_in-le}
+use Rattle.merge.proofs.PackedWalkLemmas.{change_is_here, changes_past, cursor_lawful, cursor_past, inserts_some, patches_here}
 use Rattle.merge.proofs.packed_rows.PackedRowsNumbers.fill_next.Goals as goal
 
-pub offset_bounds-column-row : goal.offset_bounds-column-row
-offset_bounds-column-row c =
+pub offset_bounds-self-row : goal.offset_bounds-self-row
+offset_bounds-self-row c =
+    let p = c.pass_deleted.new.self in
+    let next = c.in-Some.ensures in
+    let before = take (cursor_of p).index p.tree.now.entries in
+    omega (
+      arith,
+      next.numbered,
+      rows_in-le before,
+      length-take (cursor_of p).index p.tree.now.entries,
+      c.pass_deleted.ensures.lawful.cursor.lawful.counted,
+    )
+
+pub bounds-self-row : goal.bounds-self-row
+bounds-self-row c =
     let p = c.pass_deleted.new.self in
     let next = c.in-Some.ensures in
     let column = c.pass_deleted.ensures.column c.args.col c.requires.column in
-    let numbers = inserted_number c.args.col p.sid p.index p.tree.now.entries next.inserted (pos 0) next.there in
-    let is = c.column.ensures ∙ c.pass_deleted.ensures.lawful.packed.columns_are c.args.col column.packed in
-    omega (arith, numbers.0, next.numbered, ap (λ (ns : List ℤ). length ns) is, c.column.type_inv.1)
-
-pub bounds-column-row : goal.bounds-column-row
-bounds-column-row c =
-    let p = c.pass_deleted.new.self in
-    let next = c.in-Some.ensures in
-    let column = c.pass_deleted.ensures.column c.args.col c.requires.column in
-    let numbers = inserted_number c.args.col p.sid p.index p.tree.now.entries next.inserted (pos 0) next.there in
-    let is = c.column.ensures ∙ c.pass_deleted.ensures.lawful.packed.columns_are c.args.col column.packed in
-    omega (arith, numbers.0, next.numbered, ap (λ (ns : List ℤ). length ns) is)
-
-pub overflow_add-self : goal.overflow_add-self
-overflow_add-self c =
-    let p = c.pass_deleted.new.self in
-    let within = slice_get_within p.tree.now.entries p.index _ c.in-Some.ensures.there in
-    omega (arith, within, c.pass_deleted.ensures.lawful.cursor.lawful.counted)
+    let numbers = inserted_number c.args.col p.sid (cursor_of p).index p.tree.now.entries next.inserted (pos 0) next.there in
+    omega (arith, numbers.0, next.numbered, ap (λ (ns : List ℤ). length ns) column.inserted_are)
 
 pub returns-in-Some-clause-lawful : goal.returns-in-Some-clause-lawful
 returns-in-Some-clause-lawful c =
     let p = c.pass_deleted.new.self in
+    let q = c.pass_change.new.self in
     let lawful = c.pass_deleted.ensures.lawful in
+    let same = c.pass_change.ensures.same in
     let next = c.in-Some.ensures in
-    let within = slice_get_within p.tree.now.entries p.index _ next.there in
-    let step = inserts_next (cursor_of p) next.inserted
-    (record { tree = p.tree.now; index = p.index + 1; sid = p.sid }) next.there refl in
+    let here = change_is_here (cursor_of p) lawful.cursor p.changes.now lawful.changes_are
+    (inserts_some p.sid (cursor_of p).index p.tree.now.entries next.inserted next.there) in
+    let past : TreeCursor = record { tree = p.tree.now; index = (cursor_of p).index + 1; sid = p.sid } in
+    let step = inserts_next (cursor_of p) next.inserted past next.there refl in
+    let tree = ap (λ (x : PackedRows). x.tree.now) same in
+    let sid = ap (λ (x : PackedRows). x.sid) same in
+    let ahead = step.cursor (length (base_left p)) lawful.cursor in
+    let cursor = cursor_lawful p q lawful here c.pass_change.ensures.place c.pass_change.ensures.changes
+    tree p.sid (length (base_left p)) sid ahead in
     record {
-      few = lawful.few;
-      inside = omega (arith, within);
-      cursor = step.cursor (length (base_left p)) lawful.cursor;
-      packed = lawful.packed;
+      few = subst (λ (x : PackedRows). length x.below.table.now.rows ≤ MAX_ROWS) (sym same) lawful.few;
+      cursor = subst (λ n. IsCursor n (cursor_of q)) (ap (λ (x : PackedRows). length (base_left x)) (sym same)) cursor;
+      changes_are =
+          changes_past p q lawful here c.pass_change.ensures.place c.pass_change.ensures.changes
+          tree p.sid (length (base_left p)) sid ahead;
     }
 
 pub returns-in-Some-clause-column : goal.returns-in-Some-clause-column
 returns-in-Some-clause-column c =
-    let column = c.pass_deleted.ensures.column c.args.col c.requires.column in
-    record { narrow = column.narrow; packed = column.packed; numbers = column.numbers }
+    let p = c.pass_deleted.new.self in
+    let q = c.pass_change.new.self in
+    let col = c.args.col in
+    let lawful = c.pass_deleted.ensures.lawful in
+    let column = c.pass_deleted.ensures.column col c.requires.column in
+    let same = c.pass_change.ensures.same in
+    let next = c.in-Some.ensures in
+    let here = change_is_here (cursor_of p) lawful.cursor p.changes.now lawful.changes_are
+    (inserts_some p.sid (cursor_of p).index p.tree.now.entries next.inserted next.there) in
+    let past : TreeCursor = record { tree = p.tree.now; index = (cursor_of p).index + 1; sid = p.sid } in
+    let step = inserts_next (cursor_of p) next.inserted past next.there refl in
+    let tree = ap (λ (x : PackedRows). x.tree.now) same in
+    let sid = ap (λ (x : PackedRows). x.sid) same in
+    let ahead = step.cursor (length (base_left p)) lawful.cursor in
+    record {
+      inserted_are =
+          ap (λ (x : PackedRows). x.inserted.now) same
+          ∙ column.inserted_are
+          ∙ ap (λ (x : PackedRows). map (number_at col) (rows_in x.tree.now.entries)) (sym same);
+      patches_are =
+          patches_here p q lawful here c.pass_change.ensures.place c.pass_change.ensures.changes
+          tree p.sid (length (base_left p)) sid ahead col
+          (ap (λ (x : PackedRows). x.patches.now) same) column.patches_are;
+      numbers = subst (λ (x : PackedRows). HaveNumbers col (base_left x)) (sym same) column.numbers;
+    }
 
 pub returns-in-Some-clause-numbers : goal.returns-in-Some-clause-numbers
 returns-in-Some-clause-numbers c =
     let p = c.pass_deleted.new.self in
-    let next = c.in-Some.ensures in
+    let q = c.pass_change.new.self in
     let col = c.args.col in
+    let lawful = c.pass_deleted.ensures.lawful in
     let column = c.pass_deleted.ensures.column col c.requires.column in
-    let new : TreeCursor = record { tree = p.tree.now; index = p.index + 1; sid = p.sid } in
-    let step = inserts_next (cursor_of p) next.inserted new next.there refl in
-    let numbers = inserted_number col p.sid p.index p.tree.now.entries next.inserted (pos 0) next.there in
-    let is = c.column.ensures ∙ c.pass_deleted.ensures.lawful.packed.columns_are col column.packed in
-    let value = get_or c.column.result.now c.in-Some.row (pos 0) in
+    let same = c.pass_change.ensures.same in
+    let next = c.in-Some.ensures in
+    let here = change_is_here (cursor_of p) lawful.cursor p.changes.now lawful.changes_are
+    (inserts_some p.sid (cursor_of p).index p.tree.now.entries next.inserted next.there) in
+    let past : TreeCursor = record { tree = p.tree.now; index = (cursor_of p).index + 1; sid = p.sid } in
+    let step = inserts_next (cursor_of p) next.inserted past next.there refl in
+    let tree = ap (λ (x : PackedRows). x.tree.now) same in
+    let sid = ap (λ (x : PackedRows). x.sid) same in
+    let ahead = step.cursor (length (base_left p)) lawful.cursor in
+    let cursor = cursor_past p q lawful here c.pass_change.ensures.place c.pass_change.ensures.changes
+    tree p.sid (length (base_left p)) sid ahead in
+    let numbers = inserted_number col p.sid (cursor_of p).index p.tree.now.entries next.inserted (pos 0) next.there in
+    let value = get_or p.inserted.now c.in-Some.row (pos 0) in
     let one : number_at col next.inserted ≡ value =
     sym numbers.1
     ∙ ap (λ n. get_or (map (number_at col) (rows_in p.tree.now.entries)) n (pos 0)) (sym next.numbered)
-    ∙ ap (λ ns. get_or ns c.in-Some.row (pos 0)) (sym is) in
-    fills_also col (rows_left (cursor_of p) (base_left p)) _ (rows_left new (base_left p)) _ _ c.pass_deleted.ensures.rows
-    (ap (λ (n : ℤ). n ∷ []) one ∙ sym (room_one c.args.out.now value (search rules) c.requires.some))
-    (fills_inserted col next.inserted (cursor_of p) new (base_left p) step)
+    ∙ ap (λ (ns : List ℤ). get_or ns c.in-Some.row (pos 0)) (sym column.inserted_are) in
+    let left_is : rows_left past (base_left p) ≡ rows_left (cursor_of q) (base_left q) =
+    ap (λ x. rows_left x (base_left p)) (sym cursor)
+    ∙ ap (λ (x : PackedRows). rows_left (cursor_of q) (base_left x)) (sym same) in
+    let filled
+    : FillsRows col (rows_left (cursor_of p) (base_left p)) (number_at col next.inserted ∷ []) (rows_left (cursor_of q) (base_left q)) =
+    subst (λ (rows : List Cells). FillsRows col (rows_left (cursor_of p) (base_left p)) (number_at col next.inserted ∷ []) rows) left_is
+    (fills_inserted col next.inserted (cursor_of p) past (base_left p) step) in
+    fills_also col (rows_left (cursor_of p) (base_left p)) _ (rows_left (cursor_of q) (base_left q)) _ _ c.pass_deleted.ensures.rows
+    (ap (λ (n : ℤ). n ∷ []) one ∙ sym (room_one c.args.out.now value (search rules) c.requires.some)) filled
 
 pub fill_modified-requires-clause-column : goal.fill_modified-requires-clause-column
 fill_modified-requires-clause-column c = c.pass_deleted.ensures.column c.args.col c.requires.column
+
+pub fill_modified-requires-clause-kept : goal.fill_modified-requires-clause-kept
+fill_modified-requires-clause-kept c =
+    let p = c.pass_deleted.new.self in
+    let kept = c.kept-rows.ensures.kept in
+    let many : c.kept-rows.result ≡ length (take c.kept-rows.result c.args.out.now) =
+    omega (arith, kept.few, length-take c.kept-rows.result c.args.out.now) in
+    (length c.args.out.now, subst (λ m. KeepsModified (length c.args.out.now) (count_passed m (cursor_of p)) m (cursor_of p)) many kept)
