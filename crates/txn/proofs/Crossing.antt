@@ -4,6 +4,7 @@ use denote.Param.SendFields.{as_row_send, declared_send}
 use Rattle.std.proofs.Crossing.{crosses}
 use Rattle.model.proofs.write.Write.TheSendSync as write
 use Rattle.stable.proofs.table.StableTable.TheSendSync as stable
+use Rattle.merge.proofs.packed.Packed.TheSendSync as packed
 use Rattle.counted.proofs.Crossing.{tree_send, tree_sync}
 use Rattle.delta.specs.contracts.tree.DeltaTree as DeltaTree
 use Rattle.txn.specs.contracts.mark.Mark as Mark
@@ -22,12 +23,14 @@ entries_sync = search (tree_sync, sendable, crosses) depth 60
 pub version_send : IsSend Version.the_row
 version_send =
     let a = entries_send in
-    let b = entries_sync in let c = stable.the_send in let d = stable.the_sync in search (crosses, sendable) depth 40
+    let b = entries_sync in let c = stable.the_send in let d = stable.the_sync in
+    let e = packed.the_send in let f = packed.the_sync in search (crosses, sendable) depth 40 fits 20000
 
 pub version_sync : IsSync Version.the_row
 version_sync =
     let a = entries_send in
-    let b = entries_sync in let c = stable.the_send in let d = stable.the_sync in search (crosses, sendable) depth 40
+    let b = entries_sync in let c = stable.the_send in let d = stable.the_sync in
+    let e = packed.the_send in let f = packed.the_sync in search (crosses, sendable) depth 40 fits 20000
 
 pub txn_send : IsSend Txn.the_row
 txn_send =
