@@ -21,6 +21,7 @@ use Rattle.merge.specs.Packed.{number_at, number_of}
 use Rattle.merge.specs.Parts.{PassesRow}
 use Rattle.merge.specs.View.{last_cell}
 use Rattle.merge.proofs.PartLemmas.{over_next, value-cell, value_or_false}
+use Rattle.merge.proofs.StretchLemmas.{take_append}
 use Rattle.merge.proofs.ViewLemmas.{or_else, slice_get-set_cells}
 
 -- ---- numbers as values
@@ -257,3 +258,12 @@ filled_part col count old new numbers rest p many =
     ∙ p.numbers_are
     ∙ ap (map (number_at col))
     (sym (take-append_seam p.passed new) ∙ ap (λ n. take n (p.passed ++ new)) passed ∙ ap (take count) (sym p.rows))
+
+-- the numbers of the first rows, and those that are left
+pub filled_taken : (col left : ℕ) (old new : List Row) (xs : List ℤ) → FillsRows col old xs new → length xs ≤ left
+    → take left (map (number_at col) old) ≡ xs ++ take (left - length xs) (map (number_at col) new)
+filled_taken col left old new xs p few =
+    ap (λ rs. take left (map (number_at col) rs)) p.rows
+    ∙ ap (take left) (map-append (number_at col) p.passed new)
+    ∙ ap (λ ns. take left (ns ++ map (number_at col) new)) (sym p.numbers_are)
+    ∙ take_append left xs (map (number_at col) new) few

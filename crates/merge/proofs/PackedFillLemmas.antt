@@ -1,6 +1,6 @@
 -- The numbers of a column under packed modifies, and of packed inserts.
 use Rattle.std.proofs.Common.{◌≡◌, ◌∙◌, ℕ, zero, suc, ◌+◌, ◌-◌, ◌<◌, ◌≤◌, true, false, cond, T, Some, None, List, [], ◌∷◌, ◌++◌, length, map, take, drop, slice_get, get_or, refl, sym, ap, subst, arith}
-use Rattle.std.specs.Prelude.{ℤ, ◌==◌, slice_set}
+use Rattle.std.specs.Prelude.{ℤ, ◌==◌, nat_lt, slice_set}
 use Rattle.std.specs.List.{All, list_all}
 use Rattle.std.proofs.lemmas.Bool.Decides.{nat_tests}
 use Rattle.std.proofs.lemmas.List.{length-append, length-map, map-append, take-append-drop}
@@ -15,7 +15,7 @@ use Rattle.model.specs.declared.entry.Change.TheVariants.{Ins, Del, Mod}
 use Rattle.model.specs.Entries.{entry_at, is_modify}
 use Rattle.model.proofs.CallerLemmas.{first, second}
 use Rattle.merge.specs.Cursor.{TreeCursor, IsCursor, entries_left, rows_left}
-use Rattle.merge.specs.Filling.{FillsRows, IsWide, KeepsModified, modified_by, modified_rows, modifies_between, past_modifies, patched}
+use Rattle.merge.specs.Filling.{FillsRows, IsWide, KeepsModified, modified_by, modified_rows, modifies_between, past_modifies, patched, patches_before, patches_from}
 use Rattle.merge.specs.Packed.{number_at, number_of, patch_at, patches_in, rows_in, with_first}
 use Rattle.merge.specs.declared.packed.Patch.{Patch}
 use Rattle.merge.proofs.CursorLemmas.{drop-at}
@@ -179,3 +179,41 @@ inserted_number col sid i es row d is =
           ∙ ap (λ n. get_or (map (number_at col) before ++ number_at col row ∷ map (number_at col) rest) n d) (sym many)
           ∙ get_or-append_seam (map (number_at col) before) (number_at col row) (map (number_at col) rest) d,
     )
+
+-- ---- no packed modify on the way
+
+-- where none lies before a SID, all are left
+pub none_passed : (s : ℕ) (ps : List Patch) → patches_before s ps ≡ [] → patches_from s ps ≡ ps
+none_passed s [] e = refl
+none_passed s (p ∷ ps) e =
+    elim (nat_lt p.sid s) as (λ b. cond b (p ∷ patches_before s ps) [] ≡ [] → cond b (patches_from s ps) (p ∷ ps) ≡ p ∷ ps) [
+      | true ↦ λ t. cc
+      | false ↦ λ t. refl
+    ] e
+
+-- and none lies before a lower one
+pub none_nearer : (a b : ℕ) (ps : List Patch) → a ≤ b → patches_before b ps ≡ [] → patches_before a ps ≡ []
+none_nearer a b [] le e = refl
+none_nearer a b (p ∷ ps) le e =
+    elim (nat_lt p.sid b) as (λ x. nat_lt p.sid b ≡ x → cond x (p ∷ patches_before b ps) [] ≡ [] → patches_before a (p ∷ ps) ≡ []) [
+      | true ↦ λ k t. cc
+      | false ↦ λ k t. ap (λ x. cond x (p ∷ patches_before a ps) []) (lower p.sid k)
+    ] refl e
+  where
+    lower : (n : ℕ) → nat_lt n b ≡ false → nat_lt n a ≡ false
+    lower n k = grind (arith, le, nat_tests)
+
+-- none lies before the first one
+pub none_before : (s : ℕ) (ps : List Patch) (p : Patch) → slice_get ps 0 ≡ Some p → s ≤ p.sid → patches_before s ps ≡ []
+none_before s [] p is le = cc
+none_before s (q ∷ ps) p is le = ap (λ x. cond x (q ∷ patches_before s ps) []) (past q.sid (ap (λ (r : Patch). r.sid) (some_same is)))
+  where
+    some_same : {X : Type 0} {x y : X} → Some x ≡ Some y → x ≡ y
+    some_same e = cc
+
+    past : (n : ℕ) → n ≡ p.sid → nat_lt n s ≡ false
+    past n same = grind (arith, le, nat_tests)
+
+pub none_there : (s : ℕ) (ps : List Patch) → slice_get ps 0 ≡ None → patches_before s ps ≡ []
+none_there s [] is = refl
+none_there s (p ∷ ps) is = cc

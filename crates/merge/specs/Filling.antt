@@ -11,6 +11,8 @@ use Rattle.merge.specs.Cursor.{TreeCursor, IsCursor, entries_left, rows_left}
 use Rattle.merge.specs.Fitting.{StandsAt}
 use Rattle.merge.specs.Packed.{left_from, number_at}
 use Rattle.merge.specs.declared.packed.Patch.{Patch}
+use Rattle.merge.specs.declared.number_runs.NumberRun.{NumberRun}
+use Rattle.merge.specs.declared.number_runs.NumberRun.TheVariants.{Lent, One}
 
 -- the first rows are passed, and these are their numbers in the column
 pub record FillsRows (col : ℕ) (old : List Row) (numbers : List ℤ) (new : List Row) : Type 0 where
@@ -25,6 +27,11 @@ IsWide col row = col < length row
 -- the rows have a number in the column
 abbrev pub HaveNumbers : ℕ → List Row → Type 0
 HaveNumbers col rows = All (StandsAt column.Int col) rows
+
+-- the numbers of a run
+abbrev pub numbers_in : NumberRun → List ℤ
+numbers_in (Lent numbers) = numbers.now
+numbers_in (One number) = number ∷ []
 
 -- ---- patches
 

@@ -6,6 +6,7 @@ ghost use Rattle.model.specs.Table.{IsTable, rank, row_at};
 ghost use Rattle.merge.specs.Image.{image_rows, image_table};
 ghost use Rattle.merge.specs.Cursor.{IsCursor, rows_left};
 ghost use Rattle.merge.specs.Filling.{IsWide};
+ghost use Rattle.merge.specs.Numbered.{AreNumbered, HasNumberedColumn, numbered_left};
 ghost use Rattle.merge.specs.Packed.{IsNumberColumn, IsPacked};
 ghost use Rattle.merge.specs.ReadRows.{AreReadRows, HasReadColumn, rows_of_read};
 ghost use Rattle.merge.specs.View.{row_of};
@@ -16,6 +17,8 @@ use crate::cursor::Cursor;
 use crate::image::{CommittedRows, Image};
 use crate::key_row::{find_in, find_over};
 use crate::level::{Level, StableRows, grown, locate_over};
+use crate::number_runs::NumberRuns;
+use crate::numbered_rows::NumberedRows;
 use crate::numbers::fill;
 use crate::packed::Packed;
 use crate::read_rows::ReadRows;
@@ -194,19 +197,27 @@ impl<'a> Layers<'a> {
         let start = from.min(self.len);
         let count = (out.len() as u64).min(self.len - start) as usize;
         let room = &mut out[..count];
-        match self.trans {
-            None => fill(&mut self.numbers_from(packed, col, start), col, room),
-            Some(trans) => {
-                let cursor = Cursor::at(trans, start);
-                let mut rows = Level {
-                    below: self.numbers_from(packed, col, cursor.sid()),
-                    cursor,
-                    layer: Layer::Trans,
-                };
-                fill(&mut rows, col, room);
-            }
-        }
+        fill(&mut self.numbered_from(packed, col, start), col, room);
         count
+    }
+
+    /// The numbers of a column in the rows from one position up to another, and without that, run by run; both are cut to the length of
+    /// the image. Where the Read-PDT is packed too it is read so, and a change of other columns ends no run. No memory is taken.
+    pub fn number_runs(
+        &self,
+        packed: Option<&'a Packed>,
+        col: usize,
+        from: u64,
+        to: u64,
+    ) -> NumberRuns<'a>
+        requires packed { IfSome (option_copied packed) (IsPacked self.now.read) }
+        requires column { IsNumberColumn self.now.schema col }
+        ensures { map Int result ≡ column_values col (drop from (take to (image_rows self.now))) }
+    {
+        let start = from.min(self.len);
+        let stop = to.min(self.len);
+        let left = stop.saturating_sub(start) as usize;
+        NumberRuns::new(self.numbered_from(packed, col, start), col, left)
     }
 
     /// How many rows have a key below this one, and whether a row has the key: by halving in the stable table and one descent
@@ -272,6 +283,28 @@ impl<'a> Layers<'a> {
             below: under_read,
             cursor: write,
             layer: Layer::Write,
+        }
+    }
+
+    /// What is left of the image from a position on, under the Read-PDT as it is packed where it is.
+    fn numbered_from(&self, packed: Option<&'a Packed>, col: usize, rid: u64) -> NumberedRows<'a>
+        requires rid { rid ≤ length (image_rows self.now) }
+        requires packed { IfSome (option_copied packed) (IsPacked self.now.read) }
+        requires column { IsNumberColumn self.now.schema col }
+        ensures rows { numbered_left result ≡ drop rid (image_rows self.now) }
+        ensures lawful { AreNumbered result }
+        ensures column { HasNumberedColumn col result }
+    {
+        match self.trans {
+            None => NumberedRows::Committed(self.numbers_from(packed, col, rid)),
+            Some(trans) => {
+                let cursor = Cursor::at(trans, rid);
+                NumberedRows::Own(Level {
+                    below: self.numbers_from(packed, col, cursor.sid()),
+                    cursor,
+                    layer: Layer::Trans,
+                })
+            }
         }
     }
 

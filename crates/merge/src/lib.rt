@@ -13,6 +13,8 @@ mod image;
 mod key_row;
 mod layers;
 mod level;
+mod number_runs;
+mod numbered_rows;
 mod numbers;
 mod packed;
 mod packed_rows;
@@ -28,6 +30,7 @@ mod view;
 
 pub use layers::Layers;
 pub use level::grown;
+pub use number_runs::{NumberRun, NumberRuns};
 pub use packed::Packed;
 pub use read_tree::ReadTree;
 pub use run::{Run, TextRun, TruthRun};

@@ -1,24 +1,25 @@
 //! The numbers of one column, batch by batch: each level fills the caller's room with those of the rows below it, and puts its own
 //! where it changes them (Boncz, Zukowski and Nes 2005, "MonetDB/X100", has vectors for the same reason).
-ghost use Rattle.std.specs.Prelude.{◌≡◌, ℕ, List, ◌<◌, ◌≤◌, length, take, drop, map};
+ghost use Rattle.std.specs.Prelude.{◌≡◌, ℕ, List, ◌<◌, ◌≤◌, ◌+◌, ◌-◌, ◌%◌, length, take, drop, map, min};
 ghost use Rattle.std.specs.List.{All};
 ghost use Rattle.values.specs.declared.row.Row.{Row as Cells};
-ghost use Rattle.values.specs.declared.limits.TheConstants.{MAX_ROWS};
+ghost use Rattle.values.specs.declared.limits.TheConstants.{MAX_ROWS, MAX_BLOCK_VALUES};
 ghost use Rattle.values.specs.declared.value.ColumnType.TheVariants as column;
 ghost use Rattle.merge.specs.Cursor.{DeletesNone, IsCursor, rows_left};
-ghost use Rattle.merge.specs.Filling.{FillsRows, HaveNumbers, IsWide};
+ghost use Rattle.merge.specs.Filling.{FillsRows, HaveNumbers, IsWide, numbers_in};
 ghost use Rattle.merge.specs.Packed.{number_of};
 ghost use Rattle.merge.specs.Parts.{PassesRow};
 ghost use Rattle.merge.specs.Runs.{IsRun, run_values};
 
 use crate::cursor::Step;
 use crate::level::{Level, StableRows};
+use crate::number_runs::NumberRun;
 use crate::packed::{number_in, number_of};
 use crate::run::{ColumnPart, Run};
 use crate::stretch::StableStretch;
 
 /// Rows that are left, of which the numbers of a column are handed out.
-pub(crate) trait Numbers {
+pub(crate) trait Numbers<'a> {
     /// The rows that are left.
     ghost left: { Self → List Cells };
 
@@ -41,6 +42,18 @@ pub(crate) trait Numbers {
         ensures few { result ≤ length out.old }
         ensures numbers { FillsRows col (left self.old) (take result out.new) (left self.new) };
 
+    /// The numbers of the next rows that come from one place: at least one, and at most so many.
+    fn next_run(&mut self, col: usize, most: usize) -> NumberRun<'a>
+        requires lawful { is_lawful self.old }
+        requires column { has_column col self.old }
+        requires some { 0 < most }
+        requires room { most ≤ length (left self.old) }
+        ensures lawful { is_lawful self.new }
+        ensures column { has_column col self.new }
+        ensures some { 0 < length (numbers_in result) }
+        ensures few { length (numbers_in result) ≤ most }
+        ensures numbers { FillsRows col (left self.old) (numbers_in result) (left self.new) };
+
     /// Goes past the next row.
     fn skip_row(&mut self)
         requires lawful { is_lawful self.old }
@@ -52,7 +65,7 @@ pub(crate) trait Numbers {
 
 /// Fills the room with the numbers of the next rows in a column.
 #[inline(always)]
-pub(crate) fn fill<N: Numbers>(rows: &mut N, col: usize, out: &mut [i64])
+pub(crate) fn fill<'a, N: Numbers<'a>>(rows: &mut N, col: usize, out: &mut [i64])
     requires lawful { N.is_lawful rows.old }
     requires column { N.has_column col rows.old }
     requires room { length out.old ≤ length (N.left rows.old) }
@@ -67,7 +80,7 @@ pub(crate) fn fill<N: Numbers>(rows: &mut N, col: usize, out: &mut [i64])
     }
 }
 
-impl<'a> Numbers for StableRows<'a> {
+impl<'a> Numbers<'a> for StableRows<'a> {
     ghost left = { λ r. drop r.sid r.table.now.rows };
 
     ghost is_lawful = { λ r. length r.table.now.rows ≤ MAX_ROWS };
@@ -88,8 +101,52 @@ impl<'a> Numbers for StableRows<'a> {
     }
 
     #[inline(always)]
+    fn next_run(&mut self, col: usize, most: usize) -> NumberRun<'a> {
+        self.next_in_block(col, most)
+    }
+
+    #[inline(always)]
     fn skip_row(&mut self) {
         self.sid += 1;
+    }
+}
+
+impl<'a> StableRows<'a> {
+    /// The numbers of the next rows, at most so many, as far as one block has them.
+    #[inline(always)]
+    pub(crate) fn next_in_block(&mut self, col: usize, most: usize) -> NumberRun<'a>
+        requires few { length self.old.table.now.rows ≤ MAX_ROWS }
+        requires column { HaveNumbers col (drop self.old.sid self.old.table.now.rows) }
+        requires some { 0 < most }
+        requires room { most ≤ length (drop self.old.sid self.old.table.now.rows) }
+        ensures count { length (numbers_in result) ≡ min (MAX_BLOCK_VALUES - self.old.sid % MAX_BLOCK_VALUES) most }
+        ensures sid { self.new.sid ≡ self.old.sid + length (numbers_in result) }
+        ensures table { self.new.table ≡ self.old.table }
+        ensures numbers { FillsRows col (drop self.old.sid self.old.table.now.rows) (numbers_in result)
+            (drop self.new.sid self.new.table.now.rows) }
+    {
+        let stretch = StableStretch {
+            table: self.table,
+            sid: self.sid,
+            len: most as u64,
+        };
+        let run = ColumnPart::of_stretch(stretch, col).next_run();
+        let numbers = run_of_numbers(run);
+        self.sid += numbers.len() as u64;
+        numbers
+    }
+}
+
+/// A run of a column of numbers.
+#[inline(always)]
+fn run_of_numbers(run: Run<'_>) -> NumberRun<'_>
+    requires { IsRun column.Int run }
+    ensures { numbers_in result ≡ map number_of (run_values run.entry) }
+{
+    match run {
+        Run::Ints(ints) => NumberRun::Lent(ints),
+        Run::Value(value) => NumberRun::One(number_of(value)),
+        Run::Texts(_) | Run::Truths(_) => unreachable!(),
     }
 }
 
@@ -115,7 +172,7 @@ fn put_run(run: Run<'_>, out: &mut [i64]) -> usize
     }
 }
 
-impl<'a, B: Numbers + Drop> Level<'a, B> {
+impl<'a, B: Numbers<'a> + Drop> Level<'a, B> {
     /// Goes past the deletes that come next.
     #[inline(always)]
     fn pass_deleted(&mut self)
@@ -134,7 +191,7 @@ impl<'a, B: Numbers + Drop> Level<'a, B> {
     }
 }
 
-impl<'a, B: Numbers + Drop> Numbers for Level<'a, B> {
+impl<'a, B: Numbers<'a> + Drop> Numbers<'a> for Level<'a, B> {
     ghost left = { λ l. rows_left l.cursor (B.left l.below) };
 
     ghost is_lawful = { λ l. B.is_lawful l.below × IsCursor (length (B.left l.below)) l.cursor };
@@ -163,6 +220,26 @@ impl<'a, B: Numbers + Drop> Numbers for Level<'a, B> {
                 fill(&mut self.below, col, &mut out[..count as usize]);
                 self.cursor.pass(count);
                 count as usize
+            }
+        }
+    }
+
+    #[inline(always)]
+    fn next_run(&mut self, col: usize, most: usize) -> NumberRun<'a> {
+        self.pass_deleted();
+        match self.cursor.step(most as u64) {
+            Step::Inserted(row) => NumberRun::One(number_in(row, col)),
+            Step::Modified(modifies) => match modifies.value(col) {
+                Some(value) => {
+                    self.below.skip_row();
+                    NumberRun::One(number_of(value))
+                }
+                None => self.below.next_run(col, 1),
+            },
+            Step::Kept(count) => {
+                let run = self.below.next_run(col, count as usize);
+                self.cursor.pass(run.len() as u64);
+                run
             }
         }
     }

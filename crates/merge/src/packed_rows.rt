@@ -1,17 +1,20 @@
 //! The stable rows under a packed tree, of which the numbers of a column are handed out: those of base rows that stand together are
 //! copied, what the tree modifies of them is put in, and rows that it inserts come from their column.
-ghost use Rattle.std.specs.Prelude.{◌≡◌, ℕ, ◌+◌, ◌<◌, ◌≤◌, ◌^◌, T, MatchOption, Some, length, drop, slice_get};
+ghost use Rattle.std.specs.Prelude.{◌≡◌, ℕ, ◌+◌, ◌-◌, ◌%◌, ◌<◌, ◌≤◌, ◌^◌, ◌∷◌, [], T, MatchOption, Some, length, drop, slice_get};
 ghost use Rattle.std.specs.List.{list_all};
+ghost use Rattle.values.specs.declared.limits.TheConstants.{MAX_BLOCK_VALUES};
 ghost use Rattle.merge.specs.Cursor.{DeletesNone, entries_left, starts_with_delete};
-ghost use Rattle.merge.specs.Filling.{FillsRows, InsertsNone, KeepsModified, is_from, patched, patches_before, patches_from};
+ghost use Rattle.merge.specs.Filling.{FillsRows, InsertsNone, KeepsModified, is_from, numbers_in, patched, patches_before, patches_from};
 ghost use Rattle.merge.specs.PackedLeft.{HasPackedColumn, IsInsertNext, IsPackedRows, base_left, count_passed, cursor_of, packed_left};
 ghost use Rattle.merge.specs.Packed.{place_of};
 ghost use Rattle.merge.specs.declared.packed.RowChange.{RowChange};
 
 use crate::level::StableRows;
+use crate::number_runs::NumberRun;
 use crate::numbers::{Numbers, fill};
 use crate::packed::{Patch, RowChange};
 use delta::DeltaTree;
+use values::limits::MAX_BLOCK_VALUES;
 
 /// The rows that are left under a tree, of which a column is packed too.
 #[derive(Drop)]
@@ -93,6 +96,22 @@ impl<'a> PackedRows<'a> {
         }
     }
 
+    /// The number of the row that is inserted next, which has this number among the inserted ones.
+    #[inline(always)]
+    fn next_inserted(&mut self, row: usize) -> i64
+        requires lawful { IsPackedRows self.old }
+        requires next { IsInsertNext row self.old }
+        requires column { (col : ℕ) × HasPackedColumn col self.old }
+        ensures lawful { IsPackedRows self.new }
+        ensures column { (col : ℕ) → HasPackedColumn col self.old → HasPackedColumn col self.new }
+        ensures number { (col : ℕ) → HasPackedColumn col self.old
+            → FillsRows col (packed_left self.old) (result ∷ []) (packed_left self.new) }
+    {
+        let number = self.inserted[row];
+        self.pass_change();
+        number
+    }
+
     /// How many base rows come before the next row that is inserted or deleted, at most so many.
     #[inline(always)]
     fn kept(&self, most: usize) -> usize
@@ -127,7 +146,62 @@ impl<'a> PackedRows<'a> {
     }
 }
 
-impl<'a> Numbers for PackedRows<'a> {
+impl<'a> PackedRows<'a> {
+    /// How many of the next base rows, at most so many, have no modify of the column before them or on them, and are in one block.
+    #[inline(always)]
+    fn plain(&self, most: usize) -> usize
+        requires near { T (list_all (is_from self.now.sid) self.now.patches.now) }
+        ensures few { result ≤ most }
+        ensures block { result ≤ MAX_BLOCK_VALUES - self.now.below.sid % MAX_BLOCK_VALUES }
+        ensures none { patches_before (self.now.sid + result) self.now.patches.now ≡ [] }
+    {
+        let in_block = MAX_BLOCK_VALUES - self.below.sid as usize % MAX_BLOCK_VALUES;
+        let few = most.min(in_block);
+        match self.patches.get(0) {
+            Some(patch) => (u64::from(patch.sid) - self.sid).min(few as u64) as usize,
+            None => few,
+        }
+    }
+
+    /// The number of the next base row, with what is modified of it.
+    #[inline(always)]
+    fn next_modified(&mut self, col: usize) -> NumberRun<'a>
+        requires lawful { IsPackedRows self.old }
+        requires column { HasPackedColumn col self.old }
+        requires kept { KeepsModified 1 (count_passed 1 (cursor_of self.old)) 1 (cursor_of self.old) }
+        requires room { 0 < length (base_left self.old) }
+        ensures lawful { IsPackedRows self.new }
+        ensures column { HasPackedColumn col self.new }
+        ensures count { length (numbers_in result) ≡ 1 }
+        ensures numbers { FillsRows col (packed_left self.old) (numbers_in result) (packed_left self.new) }
+    {
+        let mut one = [0; 1];
+        self.fill_modified(col, &mut one);
+        NumberRun::One(one[0])
+    }
+
+    /// The numbers of as many base rows, which are in one block and stand together, with no modify of the column.
+    #[inline(always)]
+    fn next_plain(&mut self, col: usize, rows: usize) -> NumberRun<'a>
+        requires lawful { IsPackedRows self.old }
+        requires column { HasPackedColumn col self.old }
+        requires kept { (most : ℕ) × KeepsModified most (count_passed rows (cursor_of self.old)) rows (cursor_of self.old) }
+        requires some { 0 < rows }
+        requires room { rows ≤ length (base_left self.old) }
+        requires block { rows ≤ MAX_BLOCK_VALUES - self.old.below.sid % MAX_BLOCK_VALUES }
+        requires none { patches_before (self.old.sid + rows) self.old.patches.now ≡ [] }
+        ensures lawful { IsPackedRows self.new }
+        ensures column { HasPackedColumn col self.new }
+        ensures count { length (numbers_in result) ≡ rows }
+        ensures numbers { FillsRows col (packed_left self.old) (numbers_in result) (packed_left self.new) }
+    {
+        let run = self.below.next_in_block(col, rows);
+        self.sid += run.len() as u64;
+        run
+    }
+}
+
+impl<'a> Numbers<'a> for PackedRows<'a> {
     ghost left = { λ p. packed_left p };
 
     ghost is_lawful = { λ p. IsPackedRows p };
@@ -137,13 +211,25 @@ impl<'a> Numbers for PackedRows<'a> {
     fn fill_next(&mut self, col: usize, out: &mut [i64]) -> usize {
         self.pass_deleted();
         if let Some(row) = self.inserted_next() {
-            out[0] = self.inserted[row];
-            self.pass_change();
+            out[0] = self.next_inserted(row);
             return 1;
         }
         let rows = self.kept(out.len());
         self.fill_modified(col, &mut out[..rows]);
         rows
+    }
+
+    fn next_run(&mut self, col: usize, most: usize) -> NumberRun<'a> {
+        self.pass_deleted();
+        if let Some(row) = self.inserted_next() {
+            return NumberRun::One(self.next_inserted(row));
+        }
+        let plain = self.plain(most);
+        if plain == 0 {
+            return self.next_modified(col);
+        }
+        let rows = self.kept(plain);
+        self.next_plain(col, rows)
     }
 
     fn skip_row(&mut self) {

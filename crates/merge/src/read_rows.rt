@@ -10,6 +10,7 @@ ghost use Rattle.merge.specs.ReadRows.{AreReadRows, HasReadColumn, rows_of_read}
 
 use crate::cursor::Cursor;
 use crate::level::{Level, StableRows};
+use crate::number_runs::NumberRun;
 use crate::numbers::Numbers;
 use crate::packed::{Packed, changes_at, patches_at};
 use crate::packed_rows::PackedRows;
@@ -63,7 +64,7 @@ impl<'a> ReadRows<'a> {
     }
 }
 
-impl<'a> Numbers for ReadRows<'a> {
+impl<'a> Numbers<'a> for ReadRows<'a> {
     ghost left = { λ r. rows_of_read r };
 
     ghost is_lawful = { λ r. AreReadRows r };
@@ -75,6 +76,14 @@ impl<'a> Numbers for ReadRows<'a> {
         match self {
             ReadRows::Packed(rows) => rows.fill_next(col, out),
             ReadRows::Tree(rows) => rows.fill_next(col, out),
+        }
+    }
+
+    #[inline(always)]
+    fn next_run(&mut self, col: usize, most: usize) -> NumberRun<'a> {
+        match self {
+            ReadRows::Packed(rows) => rows.next_run(col, most),
+            ReadRows::Tree(rows) => rows.next_run(col, most),
         }
     }
 

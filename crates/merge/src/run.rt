@@ -1,7 +1,8 @@
 //! Values of one column that stand together.
-ghost use Rattle.std.specs.Prelude.{◌≡◌, ◌<◌, ◌≤◌, ◌+◌, ◌++◌, length, take, drop};
+ghost use Rattle.std.specs.Prelude.{◌≡◌, ◌<◌, ◌≤◌, ◌+◌, ◌-◌, ◌%◌, ◌++◌, length, take, drop, min};
 ghost use Rattle.std.specs.List.{All};
 ghost use Rattle.values.specs.declared.value.ColumnType.{ColumnType};
+ghost use Rattle.values.specs.declared.limits.TheConstants.{MAX_BLOCK_VALUES};
 ghost use Rattle.stable.specs.Rows.{column_values};
 ghost use Rattle.merge.specs.Fitting.{StandsAt};
 ghost use Rattle.merge.specs.Runs.{IsRun, part_values, run_values};
@@ -58,6 +59,7 @@ impl<'a> ColumnPart<'a> {
         requires stand { (ty : ColumnType) × All (StandsAt ty col) (stretch_rows (Stable stretch)) }
         ensures values { part_values result ≡ column_values col (stretch_rows (Stable stretch.entry)) }
         ensures typed { (ty : ColumnType) → All (StandsAt ty col) (stretch_rows (Stable stretch.entry)) → result.column.now.ty ≡ ty }
+        ensures place { (result.first ≡ stretch.entry.sid) × (result.count ≡ stretch.entry.len) }
         ensures some { 0 < result.count }
         ensures within { result.first + result.count ≤ length result.column.now.values }
     {
@@ -76,6 +78,7 @@ impl<'a> ColumnPart<'a> {
         requires within { self.old.first + self.old.count ≤ length self.old.column.now.values }
         ensures values { part_values self.old ≡ run_values result ++ part_values self.new }
         ensures some { 0 < length (run_values result) }
+        ensures count { length (run_values result) ≡ min (MAX_BLOCK_VALUES - self.old.first % MAX_BLOCK_VALUES) self.old.count }
         ensures run { IsRun self.old.column.now.ty result }
         ensures column { self.new.column ≡ self.old.column }
         ensures within { self.new.first + self.new.count ≤ length self.old.column.now.values }

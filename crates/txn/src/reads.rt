@@ -9,7 +9,7 @@ ghost use Rattle.merge.specs.Packed.{IsNumberColumn};
 ghost use Rattle.merge.specs.View.{row_of};
 
 use crate::transaction::Txn;
-use merge::{ColumnRuns, MergeScan, RowView, Stretches};
+use merge::{ColumnRuns, MergeScan, NumberRuns, RowView, Stretches};
 use stable::StableTable;
 use std::alloc::Global;
 use values::{Key, NoMemory};
@@ -72,6 +72,16 @@ impl Txn {
     {
         let layers = self.version.layers(&self.tree);
         layers.fill_numbers(self.version.read().packed(), col, from, out)
+    }
+
+    /// The numbers of a column from one position up to another, and without that, run by run: those of stable rows where they lie. Where
+    /// the Read-PDT is packed, a change of another column ends no run.
+    pub fn number_runs(&self, col: usize, from: u64, to: u64) -> NumberRuns<'_>
+        requires { IsNumberColumn self.now.schema col }
+        ensures { map Int result ≡ column_values col (drop from (take to (rows_of (image_of self.now)))) }
+    {
+        let image = self.version.layers(&self.tree);
+        image.number_runs(self.version.read().packed(), col, from, to)
     }
 
     /// All rows as a stable table, column by column.

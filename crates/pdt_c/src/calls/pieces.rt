@@ -1,19 +1,16 @@
 //! The numbers of one column between two positions, as pieces that stay where they lie.
 ghost use Rattle.std.specs.Prelude.{◌≡◌, ◌<◌, ℤ, IsSome, IfSome, length};
 ghost use Rattle.core.specs.Ptr.{as_ptr};
-ghost use Rattle.values.specs.declared.value.ColumnType.TheVariants as column;
-ghost use Rattle.merge.specs.Runs.{IsRun, run_values};
-ghost use Rattle.pdt_c.specs.Cells.{numbers_of};
+ghost use Rattle.merge.specs.Filling.{numbers_in};
 ghost use Rattle.pdt_c.specs.Numbers.{HandsPieces, IsShown, numbers_between};
 
 use crate::calls::ints::is_of_numbers;
 use crate::handles::transaction::{Transaction, put, take};
-use merge::Run;
+use merge::NumberRun;
 use std::alloc::Global;
 use std::ptr;
 use std::ptr::NonNull;
 use txn::Txn;
-use values::ValueRef;
 
 /// Numbers of a column that stand together: so many from `at` on, or one that is given by value where `at` is null. They
 /// lie in the stable table, which nobody writes, until the next write on the transaction, or its end.
@@ -63,7 +60,7 @@ fn read_pieces(txn: &Txn, col: usize, from: u64, to: u64, out: &mut [Piece]) -> 
         return filled;
     }
     let end = to.min(txn.len());
-    for run in txn.column_runs(col, from, end) {
+    for run in txn.number_runs(col, from, end) {
         if filled.pieces >= out.len() {
             return filled;
         }
@@ -76,23 +73,21 @@ fn read_pieces(txn: &Txn, col: usize, from: u64, to: u64, out: &mut [Piece]) -> 
 }
 
 /// The piece that shows the numbers of a run.
-fn piece_of(run: Run<'_>) -> Piece
-    requires typed { IsRun column.Int run }
-    requires some { 0 < length (run_values run) }
-    ensures { IsShown result (numbers_of (run_values run.entry)) }
+fn piece_of(run: NumberRun<'_>) -> Piece
+    requires some { 0 < length (numbers_in run) }
+    ensures { IsShown result (numbers_in run.entry) }
 {
     match run {
-        Run::Ints(ints) => Piece {
-            at: address_of(&ints[0]),
-            count: ints.len() as u64,
+        NumberRun::Lent(numbers) => Piece {
+            at: address_of(&numbers[0]),
+            count: numbers.len() as u64,
             number: 0,
         },
-        Run::Value(ValueRef::Int(number)) => Piece {
+        NumberRun::One(number) => Piece {
             at: ptr::null(),
             count: 1,
             number,
         },
-        _ => unreachable!(),
     }
 }
 

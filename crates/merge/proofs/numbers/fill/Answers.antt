@@ -1,4 +1,4 @@
-use Rattle.std.proofs.Common.{◌≡◌, ◌∙◌, ◌+◌, ◌-◌, ◌++◌, length, take, drop, refl, sym, arith}
+use Rattle.std.proofs.Common.{◌≡◌, ◌∙◌, ◌+◌, ◌-◌, ◌<◌, ◌≤◌, ◌++◌, length, take, drop, refl, sym, arith}
 use Rattle.std.proofs.lemmas.List.{length-append, length-drop, length-take, take_all}
 use Rattle.merge.proofs.FillingLemmas.{fills_more, fills_nothing, fills_same, length-filled, take_more}
 use Rattle.merge.proofs.numbers.fill.Goals as goal
@@ -7,18 +7,13 @@ pub loop-done-init : goal.loop-done-init
 loop-done-init g c =
     (refl, omega arith, c.requires.lawful, c.requires.column, fills_nothing c.args.col (g.N.Numbers.left c.args.rows.now))
 
-pub fill_next-done-requires-clause-lawful : goal.fill_next-done-requires-clause-lawful
-fill_next-done-requires-clause-lawful g c = c.loop-done.invariant.2
-
-pub fill_next-done-requires-clause-column : goal.fill_next-done-requires-clause-column
-fill_next-done-requires-clause-column g c = c.loop-done.invariant.3
-
-pub fill_next-done-requires-clause-room : goal.fill_next-done-requires-clause-room
-fill_next-done-requires-clause-room g c =
+pub fill_next-done-requires : goal.fill_next-done-requires
+fill_next-done-requires g c =
     let inv = c.loop-done.invariant in
     let done = c.loop-done.done in
     let out = c.loop-done.out in
-    omega (
+    let more = length (take (length out - done) (drop done out)) in
+    let room : more ≤ length (g.N.Numbers.left c.loop-done.rows) = omega (
       arith,
       inv.0,
       inv.1,
@@ -27,7 +22,16 @@ fill_next-done-requires-clause-room g c =
       length-take done out,
       length-take (length out - done) (drop done out),
       length-drop done out,
-    )
+    ) in
+    let some : 0 < more = omega (
+      arith,
+      inv.0,
+      inv.1,
+      c.loop-done-test.true,
+      length-take (length out - done) (drop done out),
+      length-drop done out,
+    ) in
+    λ lifetimes. ((refl, tt), (inv.2, (inv.3, (some, room))))
 
 pub loop-done-preserved : goal.loop-done-preserved
 loop-done-preserved g c =

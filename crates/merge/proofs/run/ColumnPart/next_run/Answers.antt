@@ -52,3 +52,22 @@ returns-clause-some c =
       length-take 1024 (drop begin values),
       length-drop begin values,
     )
+
+pub returns-clause-count : goal.returns-clause-count
+returns-clause-count c =
+    let part = c.args.self.now in
+    let values = part.column.now.values in
+    let begin = 1024 * (part.first / 1024) in
+    let block = c.block-block.result.now.values in
+    let n = c.min-count.result in
+    omega (
+      arith,
+      c.requires.within,
+      c.min-count.ensures,
+      ap (λ (vs : List Value). length vs) c.run_of.ensures.values,
+      length-take n (drop (part.first % 1024) block),
+      length-drop (part.first % 1024) block,
+      ap (λ (b : Column). length b.values) c.block-block.ensures,
+      length-take 1024 (drop begin values),
+      length-drop begin values,
+    )

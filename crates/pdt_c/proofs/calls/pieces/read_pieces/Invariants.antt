@@ -1,6 +1,5 @@
 use Rattle.std.proofs.Common.{◌≡◌, ◌≤◌, ◌++◌, List, length, take}
 use Rattle.std.specs.Prelude.{ℤ}
-use Rattle.values.specs.declared.value.ColumnType.TheVariants as column
 use Rattle.pdt_c.specs.Cells.{numbers_of}
 use Rattle.pdt_c.specs.Numbers.{column_between, AreShown}
 use Rattle.pdt_c.proofs.calls.pieces.read_pieces.Given as goal
@@ -11,6 +10,5 @@ invariant-loop-run l =
     let all = column_between l.txn l.col l.from l.end in
     (length l.out ≡ length l.fn.out)
     × (l.filled.pieces ≤ length l.fn.out)
-    × (l.run-iterator.ty ≡ column.Int)
     × (seen : List ℤ) × (l.filled.rows ≡ length seen) × AreShown (take l.filled.pieces l.out) seen
-    × (seen ++ numbers_of l.run-iterator.values ≡ numbers_of all)
+    × (seen ++ l.run-iterator ≡ numbers_of all)

@@ -1,0 +1,33 @@
+use Rattle.std.proofs.Common.{◌∙◌, ◌-◌, List, length, map, take, drop, sym, ap}
+use Rattle.std.specs.Prelude.{min}
+use Rattle.std.specs.Option.{option_copied}
+use Rattle.std.proofs.lemmas.List.{take-map}
+use Rattle.values.specs.declared.row.Row.{Row}
+use Rattle.values.specs.declared.value.Value.TheVariants.{Int}
+use Rattle.stable.specs.Rows.{column_values}
+use Rattle.merge.specs.Image.{Stack, image_rows}
+use Rattle.merge.specs.Packed.{number_at}
+use Rattle.merge.proofs.FillingLemmas.{values_are}
+use Rattle.merge.proofs.PackedPlaceLemmas.{image_numbers}
+use Rattle.merge.proofs.RangeLemmas.{cut_range}
+use Rattle.merge.proofs.layers.Layers.number_runs.Goals as goal
+
+pub returns : goal.returns
+returns c =
+    let l = c.self.inside in
+    let col = c.args.col in
+    let rows = image_rows c.args.self.now in
+    let count = c.self.invariant.counted ∙ ap (λ (s : Stack). length (image_rows s)) c.self.view_is in
+    let start = c.min-start.ensures ∙ ap (min c.args.from) count in
+    let end = c.min-stop.ensures ∙ ap (min c.args.to) count in
+    let many = c.saturating_sub-left.ensures ∙ (λ i. end i - start i) in
+    let left = c.saturating_sub-left.result in
+    let part = take left (drop c.min-start.result rows) in
+    let have = image_numbers l.stable.now l.read.now l.write.now (option_copied l.trans) l.len c.args.self.now c.self.view_is
+    c.self.invariant col c.requires.column c.min-start.result left in
+    ap (map Int)
+    (c.new.ensures
+    ∙ ap (λ (rs : List Row). take left (map (number_at col) rs)) c.numbered_from.ensures.rows
+    ∙ take-map (number_at col) left (drop c.min-start.result rows))
+    ∙ values_are col part have
+    ∙ ap (column_values col) ((λ i. take (many i) (drop (start i) rows)) ∙ cut_range c.args.from c.args.to rows)
