@@ -7,5 +7,6 @@ mod LawsLemmas
 mod ReadLemmas
 mod RunLemmas
 mod TextsLemmas
+mod ZerosLemmas
 mod PushLemmas
 pub mod CallerLemmas

@@ -10,7 +10,7 @@ use Rattle.blocks.specs.Column.{Column}
 
 -- the column that is kept
 abbrev pub column_of : Cells → Column
-column_of (kept.Ints xs) = record { ty = column.Int; values = map Int xs.items }
+column_of (kept.Ints xs) = record { ty = column.Int; values = map Int xs }
 column_of (kept.Texts ts) = record { ty = column.Text; values = map Text ts }
 column_of (kept.Truths bs) = record { ty = column.Bool; values = map Truth bs }
 

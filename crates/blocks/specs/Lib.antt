@@ -2,6 +2,7 @@ pub mod Cells
 pub mod Column
 pub mod Cuts
 pub mod Encoding
+pub mod Ints
 pub mod Laws
 pub mod Payload
 pub mod Places

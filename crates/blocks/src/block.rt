@@ -12,6 +12,7 @@ ghost use Rattle.blocks.specs.Places.{IsPlaceOf, value_at};
 
 use crate::bits::Bits;
 use crate::gathering::cells_at;
+use crate::ints::Ints;
 use crate::texts::Texts;
 use std::alloc::Global;
 use std::marker::Model;
@@ -20,7 +21,7 @@ use values::{ColumnType, NoMemory, Value, ValueRef};
 /// The values of a block, each type in the form that suits it.
 #[derive(Drop)]
 pub(crate) enum Cells {
-    Ints(Vec<i64>),
+    Ints(Ints),
     Texts(Texts),
     Truths(Bits),
 }
@@ -56,7 +57,7 @@ impl Block {
         ensures { result ≡ record { ty = ty; values = [] } }
     {
         let cells = match ty {
-            ColumnType::Int => Cells::Ints(Vec::new(alloc)),
+            ColumnType::Int => Cells::Ints(Ints::new(alloc)),
             ColumnType::Text => Cells::Texts(Texts::new(alloc)),
             ColumnType::Bool => Cells::Truths(Bits::new(alloc)),
         };
@@ -78,7 +79,7 @@ impl Block {
         ensures err { OnErr result (self.new ≡ self.old) }
     {
         match (&mut self.cells, value) {
-            (Cells::Ints(ints), ValueRef::Int(number)) => Ok(ints.push(number)?),
+            (Cells::Ints(ints), ValueRef::Int(number)) => ints.push(number),
             (Cells::Texts(texts), ValueRef::Text(text)) => texts.push(text),
             (Cells::Truths(truths), ValueRef::Bool(truth)) => truths.push(truth),
             _ => unreachable!(),
@@ -99,9 +100,7 @@ impl Block {
         ensures err { OnErr result (self.new ≡ self.old) }
     {
         match (&mut self.cells, &other.cells) {
-            (Cells::Ints(ints), Cells::Ints(others)) => {
-                Ok(ints.extend_from_slice(&others.as_slice()[start..start + count])?)
-            }
+            (Cells::Ints(ints), Cells::Ints(others)) => ints.push_run(others, start, count),
             (Cells::Texts(texts), Cells::Texts(others)) => texts.push_run(others, start, count),
             (Cells::Truths(truths), Cells::Truths(others)) => truths.push_run(others, start, count),
             _ => unreachable!(),
@@ -174,7 +173,7 @@ impl Block {
         ensures { slice_get self.now.values i ≡ Some (value_of result) }
     {
         match &self.cells {
-            Cells::Ints(ints) => ValueRef::Int(ints[i]),
+            Cells::Ints(ints) => ValueRef::Int(ints.as_slice()[i]),
             Cells::Texts(texts) => ValueRef::Text(texts.get(i)),
             Cells::Truths(truths) => ValueRef::Bool(truths.get(i)),
         }
@@ -200,7 +199,7 @@ impl Block {
         ensures { IfOk result (λ copied. copied ≡ self.now) }
     {
         let cells = match &self.cells {
-            Cells::Ints(ints) => Cells::Ints(ints.clone()?),
+            Cells::Ints(ints) => Cells::Ints(ints.copy()?),
             Cells::Texts(texts) => Cells::Texts(texts.copy()?),
             Cells::Truths(truths) => Cells::Truths(truths.copy()?),
         };
@@ -217,7 +216,7 @@ fn cells_of(alloc: Global, ty: ColumnType, values: &[Value]) -> Result<Cells, No
     ensures fit { OnOk result (AllFit ty values.now) }
 {
     match ty {
-        ColumnType::Int => Ok(Cells::Ints(ints_of(alloc, values)?)),
+        ColumnType::Int => Ok(Cells::Ints(Ints::of(alloc, ints_of(alloc, values)?))),
         ColumnType::Text => Ok(Cells::Texts(texts_of(alloc, values)?)),
         ColumnType::Bool => Ok(Cells::Truths(Bits::from_values(alloc, values)?)),
     }

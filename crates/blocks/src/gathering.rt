@@ -12,6 +12,7 @@ ghost use Rattle.blocks.specs.Places.{IsPlaceOf, value_at};
 
 use crate::bits::Bits;
 use crate::block::{Block, Cells};
+use crate::ints::Ints;
 use crate::texts::Texts;
 use std::alloc::Global;
 use values::limits::MAX_BLOCK_VALUES;
@@ -30,7 +31,7 @@ pub(crate) fn cells_at(
     ensures fit { OnOk result (AllFit ty (map (value_at blocks.now) places.now)) }
 {
     match ty {
-        ColumnType::Int => Ok(Cells::Ints(ints_at(alloc, blocks, places)?)),
+        ColumnType::Int => Ok(Cells::Ints(Ints::of(alloc, ints_at(alloc, blocks, places)?))),
         ColumnType::Text => Ok(Cells::Texts(texts_at(alloc, blocks, places)?)),
         ColumnType::Bool => Ok(Cells::Truths(truths_at(alloc, blocks, places)?)),
     }

@@ -13,6 +13,7 @@ mod block;
 mod encoding;
 mod fault;
 mod gathering;
+mod ints;
 mod laws;
 mod payload;
 mod reading;

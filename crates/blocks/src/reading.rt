@@ -10,6 +10,7 @@ ghost use Rattle.blocks.specs.Reading.{Gives, number_of, reading_of, ints_at, te
 use crate::bits::{Bits, byte_count, has_set_padding};
 use crate::block::{Block, Cells};
 use crate::fault::BlockFault;
+use crate::ints::Ints;
 use crate::texts::Texts;
 use std::alloc::Global;
 use std::cmp::min;
@@ -53,7 +54,7 @@ fn read_cells(
     ensures first { Gives (λ cells. (column_of cells).values) result (reading_of ty count bytes.now) }
 {
     match ty {
-        ColumnType::Int => Ok(Cells::Ints(read_ints(alloc, count, bytes)?)),
+        ColumnType::Int => Ok(Cells::Ints(Ints::of(alloc, read_ints(alloc, count, bytes)?))),
         ColumnType::Text => Ok(Cells::Texts(read_texts(alloc, count, bytes)?)),
         ColumnType::Bool => Ok(Cells::Truths(read_truths(alloc, count, bytes)?)),
     }
@@ -63,7 +64,8 @@ fn read_cells(
 #[tactic(auto, unfolding(crate::specs::Reading::ints_at))]
 fn read_ints(alloc: Global, count: usize, bytes: &[u8]) -> Result<Vec<i64>, BlockFault>
     requires { count ≤ MAX_BLOCK_VALUES }
-    ensures { Gives (λ ints. map Int ints.items) result (ints_at 0 count bytes.now) }
+    ensures few { IfOk result (λ ints. length ints.items ≤ count) }
+    ensures first { Gives (λ ints. map Int ints.items) result (ints_at 0 count bytes.now) }
 {
     let (words, _) = bytes.as_chunks::<8>();
     if words.len() < count {
