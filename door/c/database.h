@@ -209,6 +209,11 @@ int pdti_write_first(pdt_database *database, pdti_table *entry);
 /* Whether a table may be made under a name, and where it is handed out; *store is null then. */
 int pdti_may_create(pdt_database *database, const char *name, pdt_store **store);
 
+/* Opens a store over columns for a table. None of them stays outside: a database makes images by itself, whose rows the caller's own
+   values wouldn't follow. */
+int pdti_open_inside(const pdt_column *columns, size_t count, size_t key, const pdt_options *options, pdt_place *place,
+                     pdt_store **store);
+
 /* Makes a table of a store that was opened for it, and hands it out; else the store is freed. */
 int pdti_create_table(pdt_database *database, const char *name, const pdt_options *options, pdt_store *store, pdt_store **out);
 

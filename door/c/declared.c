@@ -142,7 +142,7 @@ pdt_code pdt_table_create_declared(pdt_database *database, const char *name, con
   pdt_store *store = NULL;
   int code = pdti_may_create(database, name, out);
   if (!code && !formats && count) code = PDT_MISUSE;
-  if (!code) code = pdt_open_columns(columns, count, key, options, place, &store);
+  if (!code) code = pdti_open_inside(columns, count, key, options, place, &store);
   return code ? code : create_declared(database, name, formats, count, options, store, out);
 }
 

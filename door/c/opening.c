@@ -1,7 +1,9 @@
 /* Opening stores: over a text, over columns, and over the bytes of an image. */
+#define _DEFAULT_SOURCE
 #include "inside.h"
 
 #include <stdio.h>
+#include <sys/mman.h>
 
 /* ---- headers */
 
@@ -128,7 +130,6 @@ int pdti_width_of(const uint8_t *header, size_t len, size_t *width) {
   return PDT_OK;
 }
 
-
 /* ---- columns that the caller hands over */
 
 /* What is passed of each column: nothing but what its type has. */
@@ -138,13 +139,42 @@ typedef struct {
   slice bytes[PDT_MAX_COLUMNS];
 } passed;
 
-static int pass_column(passed *all, size_t at, const pdt_column *column) {
+/* What stands for the values that stay with the caller: pages that nobody writes to, which are the system's one page of zeros. */
+typedef struct {
+  void *at;
+  size_t len;
+} zeros;
+
+static int map_zeros(zeros *map, size_t values) {
+  size_t len = values * sizeof(uint64_t);
+  if (map->len >= len) return PDT_OK;
+  void *at = mmap(NULL, len, PROT_READ, MAP_PRIVATE | MAP_ANONYMOUS | MAP_NORESERVE, -1, 0);
+  if (at == MAP_FAILED) return PDT_NOMEM;
+  if (map->len) munmap(map->at, map->len);
+  *map = (zeros){at, len};
+  return PDT_OK;
+}
+
+/* A column whose values stay with the caller: 0, no text and false stand for them. */
+static int pass_outside(passed *all, size_t at, const pdt_column *column, zeros *map) {
+  size_t rows = (size_t)column->rows;
+  if (column->numbers || column->offsets || column->bytes || column->len) return PDT_MISUSE;
+  if (map_zeros(map, rows + 1)) return PDT_NOMEM;
+  switch (column->type & ~PDT_OUTSIDE) {
+    case PDT_INT: all->numbers[at] = (numbers){map->at, rows}; return PDT_OK;
+    case PDT_BOOL: all->bytes[at] = (slice){map->at, rows}; return PDT_OK;
+    default: all->offsets[at] = (offsets){map->at, rows + 1}; return PDT_OK;
+  }
+}
+
+static int pass_column(passed *all, size_t at, const pdt_column *column, zeros *map) {
   static const uint64_t no_offsets[1];
   size_t rows = (size_t)column->rows;
   all->numbers[at] = (numbers){pdti_no_numbers, 0};
   all->offsets[at] = (offsets){no_offsets, 0};
   all->bytes[at] = (slice){pdti_no_bytes, 0};
   if (column->rows > 2147483647) return PDT_TOO_MANY_ROWS;
+  if (column->type & PDT_OUTSIDE) return pass_outside(all, at, column, map);
   if (!rows) return PDT_OK;
   switch (column->type) {
     case PDT_INT: all->numbers[at] = (numbers){column->numbers, rows}; return column->numbers ? PDT_OK : PDT_MISUSE;
@@ -163,8 +193,9 @@ static int head_columns(const pdt_column *columns, size_t count, size_t key, cha
     const pdt_column *one = &columns[column];
     if (!one->name) return PDT_MISUSE;
     size_t bytes = strnlen(one->name, PDT_MAX_NAME + 1);
-    if (bytes > PDT_MAX_NAME || one->type < PDT_INT || one->type > PDT_BOOL) return PDT_BAD_TABLE;
-    *len = pdti_add_heading(text, *len, one->name, bytes, one->type, column < key);
+    int type = column < key ? one->type : one->type & ~PDT_OUTSIDE; /* the key's values never stay outside */
+    if (bytes > PDT_MAX_NAME || type < PDT_INT || type > PDT_BOOL) return PDT_BAD_TABLE;
+    *len = pdti_add_heading(text, *len, one->name, bytes, type, column < key);
   }
   text[(*len)++] = '\n';
   return PDT_OK;
@@ -183,12 +214,14 @@ pdt_code pdt_open_columns(const pdt_column *columns, size_t count, size_t key, c
   if (code) return code;
   passed *all = malloc(sizeof *all);
   pdt_store *store = calloc(1, sizeof *store);
+  zeros map = {NULL, 0};
   if (!all || !store) code = PDT_NOMEM;
-  for (size_t column = 0; column < count && !code; column++) code = pass_column(all, column, &columns[column]);
+  for (size_t column = 0; column < count && !code; column++) code = pass_column(all, column, &columns[column], &map);
   if (!code)
     code = (int)pdtr_open_columns((const uint8_t *)header, len, (size_t)columns[0].rows, all->numbers, count, all->offsets, count,
                                   all->bytes, count, asked.recent, asked.row_limit, asked.by_row, &at, &store->raw);
   free(all);
+  if (map.len) munmap(map.at, map.len);
   if (place) *place = at;
   if (code) {
     free(store);

@@ -84,6 +84,9 @@ const char *pdt_text(int code);
 /* The type of a column. */
 enum pdt_type { PDT_INT = 1, PDT_TEXT = 2, PDT_BOOL = 3 };
 
+/* Added to the type of a column that pdt_open_columns opens over: the values of its rows stay with the caller. */
+enum { PDT_OUTSIDE = 16 };
+
 enum { PDT_MAX_COLUMNS = 32, PDT_MAX_NAME = 64, PDT_MAX_TEXT = 4096 };
 
 typedef struct pdt_store pdt_store;
@@ -126,7 +129,7 @@ pdt_code pdt_open_csv(const void *csv, size_t bytes, const pdt_options *options,
 /* A column that is handed over: its name, its type, and where the values of so many rows lie. */
 typedef struct pdt_column {
   const char *name; /* 1 to 64 bytes of UTF-8 with no colon, and a zero byte */
-  int type;
+  int type;                /* with PDT_OUTSIDE or without; its pointers are null and len is 0 with it */
   uint64_t rows;           /* how many values there are */
   const int64_t *numbers;  /* of an int column: one for each row */
   const uint64_t *offsets; /* of a text column: where the text of each row begins in bytes, and where the last one ends */
@@ -140,7 +143,10 @@ typedef struct pdt_column {
    PDT_NOT_ASCENDING: at place->row.
    The columns are looked at one after the other, and the keys last. PDT_BAD_TABLE (a name, a type, a key), and
    PDT_TOO_MANY_ROWS, PDT_BAD_LIMIT, PDT_NOMEM, PDT_MISUSE: *store is null then. place may be null.
-   The values are copied into the table, and may go after the call; no row is made. */
+   The values are copied into the table, and may go after the call; no row is made.
+   A column with PDT_OUTSIDE, which is none of the key, is handed over without values: 0, a text of no bytes or false stands for each,
+   until a transaction sets it. A number of those takes no memory as long as no other of its block of 1,024 rows is set, a truth a bit
+   and a text four bytes. PDT_MISUSE where one has values. */
 pdt_code pdt_open_columns(const pdt_column *columns, size_t count, size_t key, const pdt_options *options, pdt_place *place,
                           pdt_store **store);
 
@@ -531,7 +537,8 @@ pdt_code pdt_database_close(pdt_database *database);
    store until the database is closed.
    A name has 1 to 64 bytes of UTF-8, none of them below 32 or 127: else PDT_SHAPE. PDT_EXISTS where there is a table of the name,
    PDT_IO, PDT_FAILED, PDT_NOMEM, PDT_MISUSE, and those of the openings: *store is null then, and there is no such table. (Where the
-   device fails twice over its making, a later opening may find it, as it was made.) */
+   device fails twice over its making, a later opening may find it, as it was made.) PDT_MISUSE for a column with PDT_OUTSIDE: the
+   database makes images by itself, whose rows the caller's own values wouldn't follow. */
 pdt_code pdt_table_create(pdt_database *database, const char *name, const pdt_column *columns, size_t count, size_t key,
                           const pdt_options *options, pdt_place *place, pdt_store **store);
 pdt_code pdt_table_create_csv(pdt_database *database, const char *name, const void *csv, size_t bytes, const pdt_options *options,

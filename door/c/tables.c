@@ -147,11 +147,18 @@ int pdti_may_create(pdt_database *database, const char *name, pdt_store **store)
   return is_name(name) ? PDT_OK : PDT_SHAPE;
 }
 
+int pdti_open_inside(const pdt_column *columns, size_t count, size_t key, const pdt_options *options, pdt_place *place,
+                     pdt_store **store) {
+  for (size_t column = 0; columns && column < count; column++)
+    if (columns[column].type & PDT_OUTSIDE) return PDT_MISUSE;
+  return pdt_open_columns(columns, count, key, options, place, store);
+}
+
 pdt_code pdt_table_create(pdt_database *database, const char *name, const pdt_column *columns, size_t count, size_t key,
                           const pdt_options *options, pdt_place *place, pdt_store **out) {
   pdt_store *store = NULL;
   int code = pdti_may_create(database, name, out);
-  if (!code) code = pdt_open_columns(columns, count, key, options, place, &store);
+  if (!code) code = pdti_open_inside(columns, count, key, options, place, &store);
   return code ? code : pdti_create_table(database, name, options, store, out);
 }
 

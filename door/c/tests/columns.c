@@ -1,7 +1,8 @@
-/* Stores over columns that the caller has, each fault with its place, and images that the caller writes and reads itself;
+/* Stores over columns that the caller has or keeps, each fault with its place, and images that the caller writes and reads itself;
    and a checkpoint on a disk that is full. */
 #define _POSIX_C_SOURCE 200809L
 #include <errno.h>
+#include <malloc.h>
 #include <pdt.h>
 #include <signal.h>
 #include <stdio.h>
@@ -17,7 +18,7 @@ static void is(const char *what, long long wanted, long long found) {
   fprintf(stderr, "%s: wanted %lld, found %lld\n", what, wanted, found);
 }
 
-enum { ROWS = 5000, ID = 0, NAME = 1, OK = 2, WIDTH = 3 };
+enum { ROWS = 5000, MANY = 1000000, ID = 0, NAME = 1, OK = 2, WIDTH = 3 };
 static int64_t ids[ROWS];
 static uint64_t offsets[ROWS + 1];
 static uint8_t texts[8 * ROWS], truths[ROWS];
@@ -136,6 +137,124 @@ static void faults(void) {
   is("too many columns", PDT_BAD_TABLE, pdt_open_columns(columns, 33, 1, NULL, NULL, &store));
   is("no columns", PDT_BAD_TABLE, pdt_open_columns(NULL, 0, 1, NULL, NULL, &store));
   is("nowhere to", PDT_MISUSE, pdt_open_columns(columns, WIDTH, 1, NULL, NULL, NULL));
+}
+
+/* ---- columns whose values stay with the caller */
+
+static int64_t keys[MANY];
+
+/* A table of a key and a column of each type that stays outside. */
+static void leave_outside(pdt_column *table, uint64_t rows) {
+  for (uint64_t row = 0; row < rows; row++) keys[row] = (int64_t)row;
+  table[0] = (pdt_column){"id", PDT_INT, rows, keys, NULL, NULL, 0};
+  table[1] = (pdt_column){"number", PDT_INT | PDT_OUTSIDE, rows, NULL, NULL, NULL, 0};
+  table[2] = (pdt_column){"text", PDT_TEXT | PDT_OUTSIDE, rows, NULL, NULL, NULL, 0};
+  table[3] = (pdt_column){"truth", PDT_BOOL | PDT_OUTSIDE, rows, NULL, NULL, NULL, 0};
+}
+
+static void refused_outside(const char *what, int wanted, const pdt_column *table, size_t key) {
+  pdt_store *store = NULL;
+  is(what, wanted, pdt_open_columns(table, 4, key, NULL, NULL, &store));
+  is(what, 0, store != NULL);
+}
+
+static void outside_faults(void) {
+  pdt_column table[4];
+  leave_outside(table, ROWS);
+  refused_outside("a key outside", PDT_BAD_TABLE, table, 2);
+  table[1].numbers = ids;
+  refused_outside("numbers of one outside", PDT_MISUSE, table, 1);
+  table[1].numbers = NULL;
+  table[2].offsets = offsets;
+  refused_outside("offsets of one outside", PDT_MISUSE, table, 1);
+  table[2].offsets = NULL;
+  table[3].bytes = truths;
+  refused_outside("bytes of one outside", PDT_MISUSE, table, 1);
+  table[3].bytes = NULL;
+  table[2].len = 1;
+  refused_outside("a length of one outside", PDT_MISUSE, table, 1);
+  table[2].len = 0;
+  table[1].type = PDT_OUTSIDE;
+  refused_outside("no type outside", PDT_BAD_TABLE, table, 1);
+  table[1].type = 4 | PDT_OUTSIDE;
+  refused_outside("a type that isn't there, outside", PDT_BAD_TABLE, table, 1);
+  table[1].type = PDT_INT | PDT_OUTSIDE;
+  table[1].rows = ROWS + 1;
+  refused_outside("a row too many outside", PDT_SHAPE, table, 1);
+  table[1].rows = ROWS - 1;
+  refused_outside("a row too few outside", PDT_SHAPE, table, 1);
+}
+
+/* A row's cells outside the key. */
+static void cells_are(pdt_store *store, uint64_t row, int64_t number, const char *text, int64_t truth) {
+  pdt_txn *txn = NULL;
+  int64_t cells[4];
+  char found[16];
+  size_t len = 0;
+  is("begin", PDT_OK, pdt_begin(store, &txn));
+  is("row", PDT_OK, pdt_row_at(txn, row, cells, found, sizeof found, &len));
+  is("its number", number, cells[1]);
+  is("its text", 0, len != strlen(text) || memcmp(found, text, len));
+  is("its truth", truth, cells[3]);
+  pdt_abort(txn);
+}
+
+/* What isn't set is 0, no text and false; what is set is what it was set to, under either layer and in the stable table. */
+static void outside_values(void) {
+  pdt_column table[4];
+  pdt_store *store = NULL;
+  pdt_txn *txn = NULL;
+  int64_t key = 2047;
+  leave_outside(table, ROWS);
+  is("open", PDT_OK, pdt_open_columns(table, 4, 1, NULL, NULL, &store));
+  is("its type", PDT_INT, pdt_column_type(store, 1));
+  cells_are(store, 0, 0, "", 0);
+  cells_are(store, ROWS - 1, 0, "", 0);
+  is("begin", PDT_OK, pdt_begin(store, &txn));
+  is("set", PDT_OK, pdt_set(txn, &key, NULL, 0, 1, -7, NULL));
+  is("set", PDT_OK, pdt_set(txn, &key, NULL, 0, 2, 5, "seven"));
+  is("set", PDT_OK, pdt_set(txn, &key, NULL, 0, 3, 1, NULL));
+  is("commit", PDT_OK, pdt_commit(txn, NULL));
+  cells_are(store, 2047, -7, "seven", 1);
+  is("fold", PDT_OK, pdt_fold(store));
+  cells_are(store, 2047, -7, "seven", 1);
+  pdt_snapshot *snapshot = NULL;
+  uint64_t number;
+  is("checkpoint", PDT_OK, pdt_checkpoint_begin(store, &number, &snapshot));
+  is("install", PDT_OK, pdt_checkpoint_install(snapshot));
+  pdt_checkpoint_end(snapshot);
+  for (uint64_t row = 2046; row <= 2048; row++)
+    cells_are(store, row, row == 2047 ? -7 : 0, row == 2047 ? "seven" : "", row == 2047);
+  is("close", PDT_OK, pdt_close(store));
+  leave_outside(table, 0);
+  is("no rows outside", PDT_OK, pdt_open_columns(table, 4, 1, NULL, NULL, &store));
+  is("close", PDT_OK, pdt_close(store));
+}
+
+/* The memory of a store of so many rows with so many numbers outside. */
+static size_t taken_by(size_t outside) {
+  pdt_column table[PDT_MAX_COLUMNS];
+  char names[PDT_MAX_COLUMNS][8];
+  pdt_store *store = NULL;
+  leave_outside(table, MANY);
+  for (size_t i = 1; i <= outside; i++) {
+    sprintf(names[i], "c%zu", i);
+    table[i] = (pdt_column){names[i], PDT_INT | PDT_OUTSIDE, MANY, NULL, NULL, NULL, 0};
+  }
+  struct mallinfo2 before = mallinfo2();
+  is("open", PDT_OK, pdt_open_columns(table, 1 + outside, 1, NULL, NULL, &store));
+  struct mallinfo2 after = mallinfo2();
+  is("close", PDT_OK, pdt_close(store));
+  return after.uordblks + after.hblkhd - before.uordblks - before.hblkhd;
+}
+
+/* Thirty columns of a million numbers outside take less than a quarter of what one column of numbers does. */
+static void outside_memory(void) {
+#ifndef __SANITIZE_ADDRESS__ /* which has a malloc of its own, that counts nothing */
+  size_t none = taken_by(0), thirty = taken_by(30);
+  is("the keys' memory", 1, none > 8 * (size_t)MANY);
+  is("the memory of thirty columns outside", 1, thirty - none < 8 * (size_t)MANY / 4);
+#endif
 }
 
 static void openings(void) {
@@ -272,6 +391,9 @@ int main(int argc, char **argv) {
   fill();
   openings();
   faults();
+  outside_faults();
+  outside_values();
+  outside_memory();
   images();
   meanwhile();
   no_files(argv[1]);

@@ -164,6 +164,9 @@ static void refuses(void) {
   ids[1] = 1;
   is("not ascending", PDT_NOT_ASCENDING, pdt_table_create(database, "other", columns, 1, 1, NULL, &where, &store));
   is("at", 1, (long long)where.row);
+  pdt_column outside[] = {{"id", PDT_INT, 1, ids, NULL, NULL, 0}, {"n", PDT_INT | PDT_OUTSIDE, 1, NULL, NULL, NULL, 0}};
+  is("outside", PDT_MISUSE, pdt_table_create(database, "outside", outside, 2, 1, NULL, NULL, &store));
+  is("none of it", PDT_MISSING, pdt_table_open(database, "outside", &store));
   is("a table isn't closed", PDT_MISUSE, pdt_close(items));
 
   pdt_txn *txn = begun(items);
