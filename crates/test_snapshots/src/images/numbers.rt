@@ -7,12 +7,12 @@ ghost use Rattle.merge.specs.Packed.{IsNumberColumn, IsPacked};
 
 use super::drawn::drawn_stack;
 use super::{Stack, written_stack};
-use merge::{Layers, Packed};
+use merge::{Layers, NumberRun, Packed};
 use std::alloc::Global;
 use std::process::Abort;
 use std::test::Fail;
 use test_fixtures::{ItemWrite, item};
-use values::{ColumnType, Row, Schema, ValueRef};
+use values::{ColumnType, NoMemory, Row, Schema, ValueRef};
 
 /// Positions to fill from, with the length of the room.
 static ROOMS: [(u64, usize); 9] = [
@@ -74,6 +74,53 @@ fn is_filled(
     count as u64 == due
 }
 
+/// How many numbers a run has.
+fn run_len(run: &NumberRun<'_>) -> usize {
+    match run {
+        NumberRun::Lent(numbers) => numbers.len(),
+        NumberRun::One(_) => 1,
+    }
+}
+
+/// The number of a run at an index, where it has one there.
+fn number_at<'a>(run: &'a NumberRun<'_>, i: usize) -> Option<&'a i64> {
+    match run {
+        NumberRun::Lent(numbers) => numbers.get(i),
+        NumberRun::One(number) => {
+            if i == 0 {
+                Some(number)
+            } else {
+                None
+            }
+        }
+    }
+}
+
+/// Whether the runs of a column from one position up to another have the numbers of the rows there.
+fn has_runs(
+    layers: &Layers<'_>,
+    packed: Option<&Packed>,
+    rows: &[Row],
+    col: usize,
+    from: u64,
+    to: u64,
+) -> bool
+    requires packed { IfSome (option_copied packed) (IsPacked layers.now.read) }
+    requires column { IsNumberColumn layers.now.schema col }
+{
+    let mut place = from as usize;
+    for run in layers.number_runs(packed, col, from, to) {
+        for i in 0..run_len(&run) {
+            let row = rows.get(place.wrapping_add(i));
+            if !has_number(row, col, number_at(&run, i)) {
+                return false;
+            }
+        }
+        place = place.wrapping_add(run_len(&run));
+    }
+    place as u64 == to.min(rows.len() as u64).max(from)
+}
+
 /// Whether a column is one of numbers.
 fn is_of_numbers(schema: &Schema, col: usize) -> bool
     ensures { result ≡ true → IsNumberColumn schema.now col }
@@ -81,7 +128,7 @@ fn is_of_numbers(schema: &Schema, col: usize) -> bool
     matches!(schema.types().get(col), Some(ColumnType::Int))
 }
 
-/// That each room is filled with the numbers of each column that has numbers, and that two columns have some.
+/// That each room is filled with the numbers of each column that has numbers, that its runs have them too, and that two columns have some.
 fn assert_filled(
     rt: &impl Abort,
     layers: &Layers<'_>,
@@ -99,6 +146,8 @@ fn assert_filled(
             for (from, len) in rooms {
                 let len = (*len).min(room.len());
                 assert!(rt; is_filled(layers, packed, rows, col, *from, &mut room[..len]));
+                let to = from.saturating_add(len as u64);
+                assert!(rt; has_runs(layers, packed, rows, col, *from, to));
             }
         }
     }
@@ -173,4 +222,53 @@ fn edge_stack(alloc: Global) -> Result<Stack, Fail>
 fn numbers_are_filled_at_the_ends_of_blocks(rt: HostRuntime) -> Result<(), Fail> {
     let stack = edge_stack(rt.alloc())?;
     assert_numbers(&rt, rt.alloc(), &stack, &EDGES)
+}
+
+/// How many numbers each run of a column has.
+fn run_lens(
+    alloc: Global,
+    layers: &Layers<'_>,
+    packed: &Packed,
+    col: usize,
+) -> Result<Vec<usize>, NoMemory>
+    requires packed { IsPacked layers.now.read packed.now }
+    requires column { IsNumberColumn layers.now.schema col }
+{
+    let mut lens = Vec::new(alloc);
+    for run in layers.number_runs(Some(packed), col, 0, u64::MAX) {
+        lens.push(run_len(&run))?;
+    }
+    Ok(lens)
+}
+
+#[test]
+fn what_is_changed_in_other_columns_ends_no_packed_run(rt: HostRuntime) -> Result<(), Fail> {
+    let alloc = rt.alloc();
+    let mut rows = Vec::new(alloc);
+    for place in 0..2_500_u16 {
+        rows.push(item(alloc, i64::from(place) * 2, "old", i64::from(place))?)?;
+    }
+    let read = [
+        ItemWrite::Set(200, -1),
+        ItemWrite::Delete(400),
+        ItemWrite::Insert(601, "new", 5),
+        ItemWrite::Name(700, "other"),
+        ItemWrite::Name(2_046, "other"),
+        ItemWrite::Name(2_048, "other"),
+    ];
+    let stack = written_stack(alloc, rows.as_slice(), [&read, &[], &[]])?;
+    let tree = &stack.read.tree;
+    let packed = Packed::of(alloc, tree, stack.stable.schema())?;
+    let layers = Layers::committed(&stack.stable, tree, &stack.write.tree);
+    let mut found = Vec::new(alloc);
+    for col in 0..layers.schema().width() {
+        if is_of_numbers(layers.schema(), col) {
+            found.push(run_lens(alloc, &layers, &packed, col)?)?;
+        }
+    }
+    let keys = found.get(0).map(|lens| lens.as_slice());
+    assert!(&rt; keys == Some(&[200, 100, 1, 723, 1_024, 452][..]));
+    let quantities = found.get(1).map(|lens| lens.as_slice());
+    assert!(&rt; quantities == Some(&[100, 1, 99, 100, 1, 723, 1_024, 452][..]));
+    Ok(())
 }
