@@ -149,6 +149,7 @@ enum { PDTI_FORMAT_BYTES = 64 };
 /* The locks of a store, which all tables of a database share. */
 typedef struct {
   pthread_mutex_t lock;        /* held in each call on a raw but the opening and the closing */
+  atomic_uintptr_t holder;     /* the thread that has it, or 0 */
   struct timespec since;       /* when it was taken */
   uint64_t longest;            /* the longest time that it was held, in nanoseconds */
   atomic_uint_fast64_t waits;  /* how often a thread found it taken */
@@ -156,6 +157,7 @@ typedef struct {
 } pdti_locks;
 
 typedef struct pdti_table pdti_table;
+typedef struct pdti_commit pdti_commit;
 
 struct pdt_store {
   handle raw;
@@ -170,6 +172,8 @@ struct pdt_store {
   size_t name_bytes[PDT_MAX_COLUMNS]; /* a name may have a zero byte */
   char names[PDT_MAX_COLUMNS][PDT_MAX_NAME + 1];
   char declared[PDT_MAX_COLUMNS][PDTI_FORMAT_BYTES]; /* what the numbers of an int column stand for, or nothing: a format of Arrow's */
+
+  _Atomic(pdti_commit *) waiting_commits; /* the last one that waits to be made */
 
   /* under the lock */
   size_t snapshots; /* how many checkpoints have begun and not ended */
@@ -221,8 +225,23 @@ struct pdt_pinned {
 
 /* Takes it. PDT_MISUSE where this thread has it, since a commit of its own is prepared. */
 int pdti_enter(pdt_store *store);
+/* Takes it where no thread has it, and doesn't wait. */
+int pdti_try_enter(pdt_store *store);
 /* Gives it back. */
 void pdti_leave(pdt_store *store);
+/* Whether a thread has it, and whether this one has. The first is soon of the past. */
+bool pdti_is_entered(const pdt_store *store);
+bool pdti_is_entered_here(const pdt_store *store);
+
+/* How often a thread that waits for the lock looks again before it sleeps: some ten microseconds, in which several commits are made. To
+   sleep and to be woken takes longer than one. */
+enum { LOOKS = 1000 };
+
+static inline void look_again(void) {
+#if defined __x86_64__ || defined __i386__
+  __builtin_ia32_pause();
+#endif
+}
 
 /* Versions that begins took and take no more: they are let go of without a lock. */
 typedef struct {
@@ -250,6 +269,9 @@ int pdti_begin_fresh(pdt_store *store, pdt_txn *txn);
 
 /* Begins over the newest version, once it may be read, and shares it again. Where it fails nothing has begun. */
 int pdti_begin_newest(pdt_store *store, pdt_txn *txn);
+
+/* Commits a transaction that changes something of a store that is no table of a database. PDT_NOMEM and PDT_MISUSE: it is open still. */
+int pdti_commit_alone(pdt_store *store, pdt_txn *txn, uint64_t *number);
 
 /* Counts a commit that was decided. Under the lock. */
 void pdti_count(pdt_store *store, int code);

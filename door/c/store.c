@@ -62,15 +62,29 @@ void pdti_destroy_locks(pdti_locks *locks) {
   pthread_mutex_destroy(&locks->lock);
 }
 
+static uintptr_t this_thread(void) { return (uintptr_t)pthread_self(); }
+
+/* It has been taken. */
+static void begin_hold(pdti_locks *locks) {
+  atomic_store_explicit(&locks->holder, this_thread(), memory_order_relaxed);
+  clock_gettime(CLOCK_MONOTONIC, &locks->since);
+}
+
+int pdti_try_enter(pdt_store *store) {
+  if (pthread_mutex_trylock(&store->locks->lock)) return PDT_MISUSE;
+  begin_hold(store->locks);
+  return PDT_OK;
+}
+
 int pdti_enter(pdt_store *store) {
   pdti_locks *locks = store->locks;
-  int bad = pthread_mutex_trylock(&locks->lock);
-  if (bad == EBUSY) {
-    bad = pthread_mutex_lock(&locks->lock); /* EDEADLK where this thread has it */
-    if (!bad) locks->waits++;
-  }
-  if (bad) return PDT_MISUSE;
-  clock_gettime(CLOCK_MONOTONIC, &locks->since);
+  if (!pdti_try_enter(store)) return PDT_OK;
+  if (pdti_is_entered_here(store)) return PDT_MISUSE;
+  locks->waits++;
+  for (int looks = 0; looks < LOOKS; looks++, look_again())
+    if (!pdti_is_entered(store) && !pdti_try_enter(store)) return PDT_OK;
+  if (pthread_mutex_lock(&locks->lock)) return PDT_MISUSE; /* EDEADLK where this thread has it */
+  begin_hold(locks);
   return PDT_OK;
 }
 
@@ -80,7 +94,16 @@ void pdti_leave(pdt_store *store) {
   clock_gettime(CLOCK_MONOTONIC, &now);
   int64_t held = (int64_t)(now.tv_sec - locks->since.tv_sec) * 1000000000 + (now.tv_nsec - locks->since.tv_nsec);
   if (held > (int64_t)locks->longest) locks->longest = (uint64_t)held;
+  atomic_store_explicit(&locks->holder, 0, memory_order_relaxed);
   pthread_mutex_unlock(&locks->lock);
+}
+
+bool pdti_is_entered(const pdt_store *store) {
+  return atomic_load_explicit(&store->locks->holder, memory_order_relaxed);
+}
+
+bool pdti_is_entered_here(const pdt_store *store) {
+  return atomic_load_explicit(&store->locks->holder, memory_order_relaxed) == this_thread();
 }
 
 /* ---- the version that begins take */

@@ -187,14 +187,8 @@ pdt_code pdt_commit(pdt_txn *txn, uint64_t *commits) {
     return PDT_OK;
   }
   uint64_t number = 0;
-  if (pdti_enter(store)) return PDT_MISUSE;
-  int code = (int)pdtr_commit(&store->raw, &txn->raw, &number);
-  replaced before = {{{NULL}}};
-  pdti_count(store, code);
-  if (code == PDT_OK) before = pdti_refresh(store);
-  pdti_leave(store);
-  pdti_drop(before);
-  if (code == PDT_NOMEM) return code;
+  int code = pdti_commit_alone(store, txn, &number);
+  if (code == PDT_NOMEM || code == PDT_MISUSE) return code;
   if (commits) *commits = number;
   pdti_forget(txn);
   return code;

@@ -1,0 +1,80 @@
+/* Commits of a store that is no table of a database. Whoever has the lock makes those of the threads that wait for it too: what a commit
+   edits is near its processor then, and the lock doesn't go from one processor to another for each of them. */
+#include "inside.h"
+
+/* A commit of a thread that waits. */
+struct pdti_commit {
+  pdt_txn *txn;
+  pdti_commit *next; /* that came before it */
+  int code;
+  uint64_t number;
+  atomic_bool is_made; /* then its thread goes on, and it is gone */
+};
+
+static void wait_in(pdt_store *store, pdti_commit *commit) {
+  commit->next = atomic_load_explicit(&store->waiting_commits, memory_order_relaxed);
+  while (!atomic_compare_exchange_weak_explicit(&store->waiting_commits, &commit->next, commit, memory_order_release,
+                                                memory_order_relaxed)) {
+  }
+}
+
+/* Takes those that wait, the first one first. */
+static pdti_commit *take_waiting(pdt_store *store) {
+  if (!atomic_load_explicit(&store->waiting_commits, memory_order_relaxed)) return NULL;
+  pdti_commit *last = atomic_exchange_explicit(&store->waiting_commits, NULL, memory_order_acquire), *first = NULL;
+  while (last) {
+    pdti_commit *before = last->next;
+    last->next = first;
+    first = last;
+    last = before;
+  }
+  return first;
+}
+
+/* Under the lock. Whether the table has changed. */
+static bool make(pdt_store *store, pdti_commit *commit) {
+  commit->code = (int)pdtr_commit(&store->raw, &commit->txn->raw, &commit->number);
+  pdti_count(store, commit->code);
+  return commit->code == PDT_OK;
+}
+
+/* Makes a commit, or none, and those that wait, and gives the lock back. Their threads go on once begins take what they made. */
+static void lead(pdt_store *store, pdti_commit *own) {
+  bool has_changed = own && make(store, own);
+  pdti_commit *waiting = take_waiting(store);
+  for (pdti_commit *commit = waiting; commit; commit = commit->next) has_changed |= make(store, commit);
+  replaced before = {{{NULL}}};
+  if (has_changed) before = pdti_refresh(store);
+  while (waiting) {
+    pdti_commit *commit = waiting;
+    waiting = commit->next;
+    atomic_store_explicit(&commit->is_made, true, memory_order_release);
+  }
+  pdti_leave(store);
+  pdti_drop(before);
+}
+
+/* Waits until the commit is made, and makes those that wait where nobody else does. */
+static void wait_until_made(pdt_store *store, pdti_commit *commit) {
+  for (int looks = 0; !atomic_load_explicit(&commit->is_made, memory_order_acquire); looks++) {
+    if (looks < LOOKS ? !pdti_is_entered(store) && !pdti_try_enter(store) : !pdti_enter(store)) {
+      lead(store, NULL);
+      return;
+    }
+    look_again();
+  }
+}
+
+int pdti_commit_alone(pdt_store *store, pdt_txn *txn, uint64_t *number) {
+  if (pdti_is_entered_here(store)) return PDT_MISUSE; /* a commit of this thread is prepared */
+  pdti_commit commit = {.txn = txn};
+  if (!pdti_try_enter(store)) {
+    lead(store, &commit);
+  } else {
+    store->locks->waits++;
+    wait_in(store, &commit);
+    wait_until_made(store, &commit);
+  }
+  *number = commit.number;
+  return commit.code;
+}
