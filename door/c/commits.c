@@ -57,7 +57,7 @@ static void lead(pdt_store *store, pdti_commit *own) {
 /* Waits until the commit is made, and makes those that wait where nobody else does. */
 static void wait_until_made(pdt_store *store, pdti_commit *commit) {
   for (int looks = 0; !atomic_load_explicit(&commit->is_made, memory_order_acquire); looks++) {
-    if (looks < LOOKS ? !pdti_is_entered(store) && !pdti_try_enter(store) : !pdti_enter(store)) {
+    if (looks < LOOKS ? !pdti_is_entered(store) && !pdti_try_enter(store) : !pdti_sleep_in(store)) {
       lead(store, NULL);
       return;
     }

@@ -70,7 +70,7 @@ struct pdt_database {
 
   /* of who has the turn */
   buffer writing;
-  int file;                          /* the last one of the journal */
+  int file;                          /* the last one of the journal: changed under turn_lock too, by who has the sync */
   journal_file files[JOURNAL_FILES]; /* changed under turn_lock too */
   size_t file_count;
 
@@ -78,6 +78,7 @@ struct pdt_database {
   pthread_mutex_t turn_lock;
   pthread_cond_t turn_ends;
   bool is_led;                    /* somebody has the turn */
+  bool is_syncing;                /* somebody syncs the file, or goes on in the next one */
   bool has_failed;                /* the device has */
   uint64_t written, safe;         /* the newest commit that the kernel has, and that the device has */
   uint64_t batches, syncs;

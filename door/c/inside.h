@@ -225,8 +225,9 @@ struct pdt_pinned {
 
 /* Takes it. PDT_MISUSE where this thread has it, since a commit of its own is prepared. */
 int pdti_enter(pdt_store *store);
-/* Takes it where no thread has it, and doesn't wait. */
+/* Takes it where no thread has it, and doesn't wait; or sleeps until it is given back. Neither counts a wait. */
 int pdti_try_enter(pdt_store *store);
+int pdti_sleep_in(pdt_store *store);
 /* Gives it back. */
 void pdti_leave(pdt_store *store);
 /* Whether a thread has it, and whether this one has. The first is soon of the past. */

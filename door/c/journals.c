@@ -98,28 +98,46 @@ static int take_batch(pdt_database *database, uint64_t *upto) {
   return PDT_OK;
 }
 
-/* Makes the heads of the frames that are written. */
-static void make_heads(pdt_database *database) {
+/* Makes the heads of the frames that are written. Each says which commits are safe. */
+static void make_heads(pdt_database *database, uint64_t safe) {
   buffer *frames = &database->writing;
   for (size_t at = 0; at < frames->len;) {
     unwritten head;
     memcpy(&head, frames->at + at, sizeof head);
     const uint8_t *payload = frames->at + at + HEAD;
-    pdtr_frame_head(database->salt, head.number, database->safe, bytes_at(payload, head.len), head.len, frames->at + at, HEAD);
+    pdtr_frame_head(database->salt, head.number, safe, bytes_at(payload, head.len), head.len, frames->at + at, HEAD);
     at += HEAD + head.len;
   }
 }
 
+/* Takes the sync, with turn_lock held: it is one thread's at a time, and the file stays what it is meanwhile. */
+static void take_sync(pdt_database *database) {
+  while (database->is_syncing) pthread_cond_wait(&database->turn_ends, &database->turn_lock);
+  database->is_syncing = true;
+}
+
+static void end_sync(pdt_database *database) {
+  database->is_syncing = false;
+  pthread_cond_broadcast(&database->turn_ends);
+}
+
 /* Goes on in the next file, once the device has all of this one: no file is behind one that may be torn. */
 static int go_on(pdt_database *database) {
-  if (database->safe < database->written && pdti_sync(database->file)) return PDT_IO;
-  close(database->file);
-  pthread_mutex_lock(&database->turn_lock); /* at once: before, the next one is there, so that none is made, and it has this number */
-  database->file = database->next_file;
-  database->next_file = -1;
-  database->files[database->file_count++] = (journal_file){.seq = database->next_seq - 1};
+  pthread_mutex_lock(&database->turn_lock);
+  take_sync(database);
+  bool is_safe = database->safe >= database->written;
   pthread_mutex_unlock(&database->turn_lock);
-  return PDT_OK;
+  int code = is_safe ? PDT_OK : pdti_sync(database->file);
+  if (!code) close(database->file);
+  pthread_mutex_lock(&database->turn_lock); /* at once: before, the next one is there, so that none is made, and it has this number */
+  if (!code) {
+    database->file = database->next_file;
+    database->next_file = -1;
+    database->files[database->file_count++] = (journal_file){.seq = database->next_seq - 1};
+  }
+  end_sync(database);
+  pthread_mutex_unlock(&database->turn_lock);
+  return code ? PDT_IO : PDT_OK;
 }
 
 /* Writes the header of a file that has no byte yet. */
@@ -139,10 +157,11 @@ static int write_frames(pdt_database *database) {
   memcpy(&first, frames->at, sizeof first);
   pthread_mutex_lock(&database->turn_lock);
   bool has_next = database->next_file >= 0, is_new = has_next || !last_file(database)->bytes;
+  uint64_t safe = database->safe;
   pthread_mutex_unlock(&database->turn_lock);
   if (has_next && go_on(database)) return PDT_IO;
   if (is_new && write_header(database, first.number - 1)) return PDT_IO;
-  make_heads(database);
+  make_heads(database, safe);
   if (pdti_write_to(database->file, frames->at, frames->len)) return PDT_IO;
   pthread_mutex_lock(&database->turn_lock);
   journal_file *last = last_file(database);
@@ -247,8 +266,35 @@ static int wait_turns(pdt_database *database, const uint64_t *reached, uint64_t 
   return code;
 }
 
+/* Waits until the device has a commit that is written, and syncs where nobody else does. Others write meanwhile. */
+static int wait_for_sync(pdt_database *database, uint64_t number) {
+  pthread_mutex_lock(&database->turn_lock);
+  while (database->safe < number && !database->has_failed) {
+    take_sync(database);
+    uint64_t upto = database->written;
+    bool is_due = database->safe < number && !database->has_failed;
+    int file = database->file, bad = 0;
+    pthread_mutex_unlock(&database->turn_lock);
+    if (is_due) bad = pdti_sync(file);
+    if (bad) pdti_fail(database);
+    pthread_mutex_lock(&database->turn_lock);
+    if (is_due && !bad) {
+      database->safe = upto;
+      database->syncs++;
+    }
+    end_sync(database);
+  }
+  int code = database->safe >= number ? PDT_OK : PDT_UNSURE;
+  pthread_mutex_unlock(&database->turn_lock);
+  return code;
+}
+
+/* Waits until the device has a commit. Where commits wait for that themselves, one sync is of all that waits for the turn; where they
+   don't, a sync keeps nobody from writing. */
 int pdti_wait_until_safe(pdt_database *database, uint64_t number) {
-  return wait_turns(database, &database->safe, number, true);
+  if (database->options.sync == PDT_SYNC_FULL) return wait_turns(database, &database->safe, number, true);
+  int code = wait_turns(database, &database->written, number, false);
+  return code ? code : wait_for_sync(database, number);
 }
 
 int pdti_wait_for(pdt_database *database, uint64_t number) {
@@ -285,7 +331,7 @@ int pdti_flush(pdt_database *database, bool syncs) {
   if (pthread_mutex_lock(&database->locks.lock)) return PDT_MISUSE; /* this thread has a commit prepared */
   uint64_t number = database->newest;
   pthread_mutex_unlock(&database->locks.lock);
-  return wait_turns(database, syncs ? &database->safe : &database->written, number, syncs);
+  return syncs ? pdti_wait_until_safe(database, number) : wait_turns(database, &database->written, number, false);
 }
 
 /* ---- files */

@@ -76,16 +76,19 @@ int pdti_try_enter(pdt_store *store) {
   return PDT_OK;
 }
 
+int pdti_sleep_in(pdt_store *store) {
+  if (pthread_mutex_lock(&store->locks->lock)) return PDT_MISUSE; /* EDEADLK where this thread has it */
+  begin_hold(store->locks);
+  return PDT_OK;
+}
+
 int pdti_enter(pdt_store *store) {
-  pdti_locks *locks = store->locks;
   if (!pdti_try_enter(store)) return PDT_OK;
   if (pdti_is_entered_here(store)) return PDT_MISUSE;
-  locks->waits++;
+  store->locks->waits++;
   for (int looks = 0; looks < LOOKS; looks++, look_again())
     if (!pdti_is_entered(store) && !pdti_try_enter(store)) return PDT_OK;
-  if (pthread_mutex_lock(&locks->lock)) return PDT_MISUSE; /* EDEADLK where this thread has it */
-  begin_hold(locks);
-  return PDT_OK;
+  return pdti_sleep_in(store);
 }
 
 void pdti_leave(pdt_store *store) {

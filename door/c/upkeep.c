@@ -3,7 +3,8 @@
 
 #include <signal.h>
 
-enum { EVERY_MS = 20, SYNC_ROUNDS = 50 };
+/* Where a round has folded the next one comes soon, so that what is folded at once stays little. */
+enum { EVERY_MS = 20, SOON_MS = 4, SYNC_ROUNDS = 50 };
 
 /* ---- what is due */
 
@@ -174,11 +175,11 @@ pdt_code pdt_upkeep(pdt_database *database) {
 
 /* ---- the thread */
 
-/* Waits until the next round, or until it is told to stop. */
-static bool goes_on(pdt_database *database) {
+/* Waits so long for the next round, or until it is told to stop. */
+static bool goes_on(pdt_database *database, int milliseconds) {
   struct timespec at;
   clock_gettime(CLOCK_MONOTONIC, &at);
-  at.tv_nsec += EVERY_MS * 1000000L;
+  at.tv_nsec += milliseconds * 1000000L;
   if (at.tv_nsec >= 1000000000L) at.tv_sec++, at.tv_nsec -= 1000000000L;
   pthread_mutex_lock(&database->upkeep_lock);
   int late = 0;
@@ -201,12 +202,15 @@ static void flush_late(pdt_database *database, unsigned turn) {
 
 static void *keep_up(void *context) {
   pdt_database *database = context;
-  for (unsigned pause = 0; goes_on(database);) {
+  int wait = EVERY_MS;
+  for (unsigned pause = 0; goes_on(database, wait);) {
+    uint64_t folds = database->folds;
     if (pause) {
       pause--;
     } else if (work_round(database)) {
       pause = SYNC_ROUNDS; /* what fails is due again: a full disk is tried once in a second */
     }
+    wait = database->folds > folds ? SOON_MS : EVERY_MS;
   }
   return NULL;
 }
@@ -214,7 +218,7 @@ static void *keep_up(void *context) {
 /* A thread of its own, since an image may take longer than a second to write. */
 static void *keep_safe(void *context) {
   pdt_database *database = context;
-  for (unsigned turn = 0; goes_on(database); turn++) flush_late(database, turn);
+  for (unsigned turn = 0; goes_on(database, EVERY_MS); turn++) flush_late(database, turn);
   return NULL;
 }
 
