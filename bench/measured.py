@@ -4,7 +4,7 @@ import re
 from dataclasses import dataclass
 from pathlib import Path
 
-HEAD = re.compile(r"^(.*) \((ns|per second|MB/s)\)$")
+HEAD = re.compile(r"^(.*) \((ns|per second|MB/s|bytes)\)$")
 
 
 @dataclass

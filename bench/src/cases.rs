@@ -4,10 +4,13 @@ mod commits;
 mod durable;
 mod files;
 mod folds;
+mod key_kinds;
 mod keys;
+mod large_writes;
 mod loads;
 mod lookups;
 mod marks;
+mod memory;
 mod openings;
 mod pin_scans;
 mod pins;
@@ -17,8 +20,12 @@ mod scans;
 mod sql;
 mod sql_transactions;
 mod syncs;
+mod tails;
+mod texts;
 mod transactions;
 mod untouched;
+mod upkeep;
+mod wide;
 mod writes;
 
 use crate::table::Table;
@@ -102,26 +109,33 @@ pub struct Case {
     pub run: fn(&Size) -> Table,
 }
 
-pub const CASES: [Case; 21] = [
+pub const CASES: [Case; 28] = [
     Case { name: scans::NAME, run: scans::run },
     Case { name: untouched::NAME, run: untouched::run },
     Case { name: keys::NAME, run: keys::run },
+    Case { name: texts::NAME, run: texts::run },
     Case { name: lookups::NAME, run: lookups::run },
     Case { name: writes::NAME, run: writes::run },
+    Case { name: key_kinds::NAME, run: key_kinds::run },
+    Case { name: wide::NAME, run: wide::run },
     Case { name: commits::NAME, run: commits::run },
+    Case { name: large_writes::NAME, run: large_writes::run },
     Case { name: marks::NAME, run: marks::run },
     Case { name: begins::NAME, run: begins::run },
     Case { name: prepared::NAME, run: prepared::run },
     Case { name: pins::NAME, run: pins::run },
     Case { name: pin_scans::NAME, run: pin_scans::run },
     Case { name: transactions::NAME, run: transactions::run },
+    Case { name: tails::NAME, run: tails::run },
     Case { name: folds::NAME, run: folds::run },
     Case { name: rebases::NAME, run: rebases::run },
     Case { name: files::NAME, run: files::run },
     Case { name: durable::NAME, run: durable::run },
     Case { name: syncs::NAME, run: syncs::run },
     Case { name: openings::NAME, run: openings::run },
+    Case { name: upkeep::NAME, run: upkeep::run },
     Case { name: loads::NAME, run: loads::run },
+    Case { name: memory::NAME, run: memory::run },
     Case { name: sql::NAME, run: sql::run },
     Case { name: sql_transactions::NAME, run: sql_transactions::run },
 ];

@@ -10,16 +10,23 @@ pub enum KeyKind {
     Int,
     FourInts,
     Text,
+    /// A text that begins as all others do.
+    LongText,
 }
 
+/// With how many equal bytes the keys of a kind begin that is a long text.
+pub const PREFIX: usize = 1_000;
+
 impl KeyKind {
-    pub const ALL: [KeyKind; 3] = [KeyKind::Int, KeyKind::FourInts, KeyKind::Text];
+    pub const SHORT: [KeyKind; 3] = [KeyKind::Int, KeyKind::FourInts, KeyKind::Text];
+    pub const ALL: [KeyKind; 4] = [KeyKind::Int, KeyKind::FourInts, KeyKind::Text, KeyKind::LongText];
 
     pub fn word(self) -> &'static str {
         match self {
             KeyKind::Int => "one int",
             KeyKind::FourInts => "four ints",
             KeyKind::Text => "a text of 21 bytes",
+            KeyKind::LongText => "1,000 equal bytes and 21",
         }
     }
 
@@ -27,7 +34,7 @@ impl KeyKind {
         match self {
             KeyKind::Int => "id:int:key",
             KeyKind::FourInts => "region:int:key,customer:int:key,order:int:key,line:int:key",
-            KeyKind::Text => "id:text:key",
+            KeyKind::Text | KeyKind::LongText => "id:text:key",
         }
     }
 
@@ -47,9 +54,9 @@ pub fn parts_of(number: i64) -> [i64; 4] {
     [number >> 18, number >> 12 & 63, number >> 6 & 63, number & 63]
 }
 
-/// The text of the key of a row.
-pub fn text_of(number: i64) -> String {
-    format!("customer-{number:012}")
+/// The text of the key of a row, after so many bytes that are the same in each.
+pub fn text_of(prefix: usize, number: i64) -> String {
+    format!("{}customer-{number:012}", "-".repeat(prefix))
 }
 
 /// The name of a row, of 8 bytes.
@@ -76,7 +83,11 @@ pub struct Key {
 
 impl Key {
     pub fn of(kind: KeyKind, number: i64) -> Key {
-        let text = if kind == KeyKind::Text { text_of(number) } else { String::new() };
+        let text = match kind {
+            KeyKind::Text => text_of(0, number),
+            KeyKind::LongText => text_of(PREFIX, number),
+            KeyKind::Int | KeyKind::FourInts => String::new(),
+        };
         let parts = if kind == KeyKind::Int { [number, 0, 0, 0] } else { parts_of(number) };
         Key { kind, parts, text }
     }
@@ -85,7 +96,7 @@ impl Key {
         match self.kind {
             KeyKind::Int => vec![CellRef::Int(self.parts[0])],
             KeyKind::FourInts => self.parts.iter().map(|part| CellRef::Int(*part)).collect(),
-            KeyKind::Text => vec![CellRef::Text(&self.text)],
+            KeyKind::Text | KeyKind::LongText => vec![CellRef::Text(&self.text)],
         }
     }
 }

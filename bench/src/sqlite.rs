@@ -218,6 +218,12 @@ pub fn logged(file: &Path, synchronous: &str) -> Database {
 /// A database with a table of so many rows.
 pub fn table(rows: usize) -> Database {
     let database = empty();
+    fill(&database, rows);
+    database
+}
+
+/// Inserts so many rows into an empty table.
+pub fn fill(database: &Database, rows: usize) {
     database.run("BEGIN");
     let mut insert = database.statement(INSERT);
     for number in numbers(rows) {
@@ -225,7 +231,6 @@ pub fn table(rows: usize) -> Database {
     }
     drop(insert);
     database.run("COMMIT");
-    database
 }
 
 /// A database whose table of so many rows is a virtual one, of the extension `door/sqlite`.

@@ -13,6 +13,8 @@ pub enum Unit {
     PerSecond,
     /// Megabytes (10^6 bytes) in a second.
     Megabytes,
+    /// Bytes of memory.
+    Bytes,
 }
 
 impl Unit {
@@ -21,16 +23,18 @@ impl Unit {
             Unit::Time => "ns",
             Unit::PerSecond => "per second",
             Unit::Megabytes => "MB/s",
+            Unit::Bytes => "bytes",
         }
     }
 
     fn shown(self, figure: f64) -> String {
         match self {
+            _ if figure.is_nan() => "-".to_string(),
             Unit::Time if figure < 1e3 => format!("{figure:.0} ns"),
             Unit::Time if figure < 1e6 => format!("{:.2} us", figure / 1e3),
             Unit::Time if figure < 1e9 => format!("{:.2} ms", figure / 1e6),
             Unit::Time => format!("{:.2} s", figure / 1e9),
-            Unit::PerSecond | Unit::Megabytes => format!("{figure:.0}"),
+            Unit::PerSecond | Unit::Megabytes | Unit::Bytes => format!("{figure:.0}"),
         }
     }
 }
@@ -48,6 +52,9 @@ pub struct Table {
     pub ways: &'static [&'static str],
     pub lines: Vec<Line>,
 }
+
+/// The figure of a way that there isn't: shown as a dash.
+pub const NONE: f64 = f64::NAN;
 
 /// One line of a table.
 pub struct Line {
@@ -76,7 +83,7 @@ impl Table {
         fs::write(folder.join(self.name).with_extension("csv"), text)
     }
 
-    /// The cells as they are shown: beside each baseline our first figure as a multiple of it.
+    /// The cells as they are shown: beside each baseline our figure as a multiple of it.
     fn shown(&self) -> Vec<Vec<String>> {
         let mut shown = vec![self.heads.iter().map(|head| head.to_string()).collect::<Vec<_>>()];
         for way in self.ways {
@@ -87,16 +94,27 @@ impl Table {
             let mut cells = line.words.clone();
             for (way, figure) in self.ways.iter().zip(&line.figures) {
                 cells.push(self.unit.shown(*figure));
-                cells.extend((!is_ours(way)).then(|| format!("{:.2}", line.figures[0] / figure)));
+                cells.extend((!is_ours(way)).then(|| ratio(line.figures[self.ours_for(way)], *figure)));
             }
             shown.push(cells);
         }
         shown
     }
+
+    /// Which of our figures a baseline's is compared with: the one of the same word after a comma, or else the first.
+    fn ours_for(&self, baseline: &str) -> usize {
+        let what = baseline.split_once(", ").map(|(_, what)| what);
+        let is_of_it = |way: &&str| what.is_some() && way.strip_prefix("ours, ") == what;
+        self.ways.iter().position(is_of_it).unwrap_or(0)
+    }
 }
 
 fn is_ours(way: &str) -> bool {
     way.starts_with("ours")
+}
+
+fn ratio(ours: f64, theirs: f64) -> String {
+    if theirs.is_nan() { "-".to_string() } else { format!("{:.2}", ours / theirs) }
 }
 
 impl fmt::Display for Table {

@@ -1,6 +1,6 @@
 //! A merge by key: the updates of a table are kept in a tree in the order of their keys, and a scan finds where each
 //! belongs by comparing keys, for which it reads the key columns.
-use crate::data::{KeyKind, numbers, parts_of, qty_of, text_of};
+use crate::data::{KeyKind, PREFIX, numbers, parts_of, qty_of, text_of};
 use crate::drawn::Drawn;
 use crate::updates::{Change, Update};
 use std::cmp::Ordering;
@@ -9,7 +9,7 @@ use std::collections::BTreeMap;
 /// The key columns of a table.
 pub trait KeyColumns {
     /// A key of its own.
-    type Key: Ord;
+    type Key: Ord + Clone;
 
     fn of(numbers: impl Iterator<Item = i64>) -> Self;
     fn key_of(number: i64) -> Self::Key;
@@ -69,26 +69,27 @@ impl KeyColumns for [Vec<i64>; 4] {
     }
 }
 
-/// A column of texts: their bytes one after the other, and where each begins and ends.
-pub struct TextColumn {
+/// A column of texts, so many bytes of which are the same in each: their bytes one after the other, and where each begins
+/// and ends.
+pub struct TextColumn<const SAME: usize> {
     ends: Vec<usize>,
     bytes: Vec<u8>,
 }
 
-impl KeyColumns for TextColumn {
+impl<const SAME: usize> KeyColumns for TextColumn<SAME> {
     type Key = String;
 
-    fn of(numbers: impl Iterator<Item = i64>) -> TextColumn {
+    fn of(numbers: impl Iterator<Item = i64>) -> TextColumn<SAME> {
         let mut column = TextColumn { ends: vec![0], bytes: Vec::new() };
         for number in numbers {
-            column.bytes.extend_from_slice(text_of(number).as_bytes());
+            column.bytes.extend_from_slice(text_of(SAME, number).as_bytes());
             column.ends.push(column.bytes.len());
         }
         column
     }
 
     fn key_of(number: i64) -> String {
-        text_of(number)
+        text_of(SAME, number)
     }
 
     fn rows(&self) -> usize {
@@ -185,7 +186,8 @@ impl<K: KeyColumns> ByKey<K> {
 pub enum AnyByKey {
     Int(ByKey<Vec<i64>>),
     FourInts(ByKey<[Vec<i64>; 4]>),
-    Text(ByKey<TextColumn>),
+    Text(ByKey<TextColumn<0>>),
+    LongText(ByKey<TextColumn<PREFIX>>),
 }
 
 impl AnyByKey {
@@ -194,6 +196,7 @@ impl AnyByKey {
             KeyKind::Int => AnyByKey::Int(ByKey::of(rows, updates)),
             KeyKind::FourInts => AnyByKey::FourInts(ByKey::of(rows, updates)),
             KeyKind::Text => AnyByKey::Text(ByKey::of(rows, updates)),
+            KeyKind::LongText => AnyByKey::LongText(ByKey::of(rows, updates)),
         }
     }
 
@@ -202,6 +205,7 @@ impl AnyByKey {
             AnyByKey::Int(table) => table.sum(search),
             AnyByKey::FourInts(table) => table.sum(search),
             AnyByKey::Text(table) => table.sum(search),
+            AnyByKey::LongText(table) => table.sum(search),
         }
     }
 }

@@ -35,7 +35,7 @@ pub fn run(size: &Size) -> Table {
 
 /// The same table three times, some rows of which are set. What is set again is one of these rows, so that the Write-PDT
 /// keeps its size.
-struct Base {
+pub(super) struct Base {
     updates: Vec<Update>,
     image: BTreeMap<i64, i64>,
     store: Store,
@@ -44,13 +44,13 @@ struct Base {
 }
 
 /// What transactions set: the row and its quantity, so many for each.
-struct Sets {
+pub(super) struct Sets {
     each: usize,
     cells: Vec<(i64, i64)>,
 }
 
 impl Base {
-    fn of(rows: usize, entries: usize) -> Base {
+    pub(super) fn of(rows: usize, entries: usize) -> Base {
         let updates = updates(rows, entries, Mix::Sets);
         let (image, store, database) = (image(rows, &updates), store(KeyKind::Int, rows), sqlite::table(rows));
         drop(updated(&store, KeyKind::Int, &updates, Place::WritePdt));
@@ -60,13 +60,13 @@ impl Base {
         Base { map: Mutex::new(map_of(&image)), updates, image, store, database }
     }
 
-    fn sets(&self, each: usize, transactions: usize) -> Sets {
+    pub(super) fn sets(&self, each: usize, transactions: usize) -> Sets {
         let drawn = Drawn::new(5).sample(&self.updates, each * transactions);
         Sets { each, cells: drawn.iter().zip(1_000_000..).map(|(update, qty)| (update.number, qty)).collect() }
     }
 
     /// The nanoseconds of a transaction. Each way leaves its table as the other ones do.
-    fn times(&self, rounds: usize, sets: &Sets) -> Vec<f64> {
+    pub(super) fn times(&self, rounds: usize, sets: &Sets) -> Vec<f64> {
         let mut after = self.image.clone();
         after.extend(self.map.lock().expect("no thread has panicked").iter().map(|(row, it)| (*row, it.qty)));
         after.extend(sets.cells.iter().copied());

@@ -11,7 +11,7 @@ pub const NAME: &str = "keys";
 
 pub fn run(size: &Size) -> Table {
     let mut lines = Vec::new();
-    for kind in KeyKind::ALL {
+    for kind in KeyKind::SHORT {
         let csv = csv(kind, numbers(size.rows));
         for share in SHARES {
             lines.push(line(size, kind, &csv, share));

@@ -12,6 +12,8 @@ use std::collections::BTreeMap;
 
 pub const NAME: &str = "lookups";
 
+const KIND: KeyKind = KeyKind::Int;
+
 /// The share of the rows that are updated in the second of two tables.
 const SHARE: f64 = 10.0;
 
@@ -35,13 +37,10 @@ pub fn run(size: &Size) -> Table {
 /// The look-ups of tables of so many rows.
 fn three_lines(size: &Size, rows: usize) -> [Line; 3] {
     let updates = updates(rows, percent(SHARE, rows), Mix::Mixed);
-    let stores = [(); 2].map(|()| store(KeyKind::Int, rows));
+    let stores = [(); 2].map(|()| store(KIND, rows));
     let (plain, changed) = (image(rows, &[]), image(rows, &updates));
     let asked = [plain, changed].map(|image| Asked::of(&image, size.calls));
-    let txns = [
-        updated(&stores[0], KeyKind::Int, &[], Place::Own),
-        updated(&stores[1], KeyKind::Int, &updates, Place::ReadPdt),
-    ];
+    let txns = [updated(&stores[0], KIND, &[], Place::Own), updated(&stores[1], KIND, &updates, Place::ReadPdt)];
     let database = sqlite::table(rows);
     type Ours = for<'a> fn(&'a Asked, &'a Transaction<'_>) -> Way<'a>;
     type Baselines = for<'a> fn(&'a Asked, &'a Database) -> [Way<'a>; 2];
@@ -83,7 +82,7 @@ impl Asked {
     fn by_key<'a>(&'a self, txn: &'a Transaction<'_>) -> Way<'a> {
         let get = |number: &i64| txn.get([*number]).expect("there is memory").expect("there is a row of the key");
         let calls = self.numbers.len();
-        whole(calls, self.due(calls), move || self.numbers.iter().map(|number| weight_of(&get(number))).sum())
+        whole(calls, self.due(calls), move || self.numbers.iter().map(|number| weight_of(&get(number), KIND)).sum())
     }
 
     fn by_key_elsewhere<'a>(&'a self, database: &'a Database) -> [Way<'a>; 2] {
@@ -91,14 +90,16 @@ impl Asked {
         let (calls, due) = (self.numbers.len(), self.due(self.numbers.len()));
         [
             whole(calls, due, move || self.numbers.iter().map(|number| weight(&self.sorted.get(*number))).sum()),
-            whole(calls, due, move || self.numbers.iter().map(|number| selected(&mut query, *number)).sum()),
+            whole(calls, due, move || {
+                self.numbers.iter().map(|number| selected(&mut query, &[Bound::Int(*number)])).sum()
+            }),
         ]
     }
 
     fn by_position<'a>(&'a self, txn: &'a Transaction<'_>) -> Way<'a> {
         let row_at = |at: &usize| txn.row_at(*at as u64).expect("there is memory").expect("there is such a row");
         let calls = self.positions.len();
-        whole(calls, self.due(calls), move || self.positions.iter().map(|at| weight_of(&row_at(at))).sum())
+        whole(calls, self.due(calls), move || self.positions.iter().map(|at| weight_of(&row_at(at), KIND)).sum())
     }
 
     fn by_position_elsewhere<'a>(&'a self, database: &'a Database) -> [Way<'a>; 2] {
@@ -108,7 +109,9 @@ impl Asked {
             whole(calls, self.due(calls), move || {
                 self.positions.iter().map(|at| weight(&self.sorted.row_at(*at))).sum()
             }),
-            whole(self.few, self.due(self.few), move || few.iter().map(|at| selected(&mut query, *at as i64)).sum()),
+            whole(self.few, self.due(self.few), move || {
+                few.iter().map(|at| selected(&mut query, &[Bound::Int(*at as i64)])).sum()
+            }),
         ]
     }
 
@@ -135,18 +138,20 @@ impl Asked {
     }
 }
 
-/// What the row weighs that SQLite hands out for a number.
-fn selected(query: &mut Statement<'_>, number: i64) -> i64 {
+/// What the row weighs that SQLite hands out for values.
+pub(super) fn selected(query: &mut Statement<'_>, values: &[Bound<'_>]) -> i64 {
     let mut found = None;
-    query.each(&[Bound::Int(number)], |row| found = Some(Record { name: row.text(0), qty: row.int(1) }));
+    query.each(values, |row| found = Some(Record { name: row.text(0), qty: row.int(1) }));
     weight(&found.expect("there is such a row"))
 }
 
 /// What a row adds to an answer: its quantity, and the last byte of its name, so that each way has its text in hand.
-fn weight(record: &Record) -> i64 {
+pub(super) fn weight(record: &Record) -> i64 {
     record.qty + last_byte(&record.name)
 }
 
-fn weight_of(row: &Row) -> i64 {
-    row[2].as_int().expect("a number") + last_byte(row[1].as_text().expect("a text"))
+/// The same of a row of ours, under a key of a kind.
+pub(super) fn weight_of(row: &Row, kind: KeyKind) -> i64 {
+    let (qty, name) = (row[kind.qty_column()].as_int(), row[kind.name_column()].as_text());
+    qty.expect("a number") + last_byte(name.expect("a text"))
 }
