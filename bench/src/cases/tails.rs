@@ -146,7 +146,10 @@ impl Asked {
             Beside::Checkpoints => {
                 pause();
                 let mut bytes = 0;
-                let take = |_, part: &[u8]| Ok::<(), Error>(bytes += part.len());
+                let take = |_, part: &[u8]| {
+                    bytes += part.len();
+                    Ok::<(), Error>(())
+                };
                 store.checkpoint_to(take).expect("there is memory");
                 assert!(bytes > self.rows, "{NAME}: a checkpoint has some bytes for each row");
             }
