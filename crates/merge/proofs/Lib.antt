@@ -2,12 +2,17 @@ mod LevelLemmas
 mod ReachLemmas
 mod StackLemmas
 mod ViewLemmas
+mod ModifiedLemmas
 mod CursorLemmas
 mod StepLemmas
 mod PlaceLemmas
 mod LeftLemmas
 mod RangeLemmas
 mod StretchLemmas
+mod OverLemmas
+mod AlikeLemmas
+mod PlacedLemmas
+mod LawsLemmas
 mod KeyLemmas
 mod TableLemmas
 mod RunLemmas

@@ -1,7 +1,8 @@
 -- Stretches, and what is left past them.
-use Rattle.std.proofs.Common.{◌≡◌, ◌∙◌, ℕ, zero, suc, ◌+◌, ◌-◌, ◌<◌, ◌≤◌, List, [], ◌∷◌, ◌++◌, length, take, drop, get_or, ap}
+use Rattle.std.proofs.Common.{◌≡◌, ◌∙◌, ℕ, zero, suc, ◌+◌, ◌-◌, ◌<◌, ◌≤◌, List, [], ◌∷◌, ◌++◌, length, take, drop, get_or, sym, ap}
 use Rattle.std.proofs.Common.{arith, length-take, length-drop}
 use Rattle.std.proofs.lemmas.Option.{slice_get-get_or}
+use Rattle.values.specs.declared.row.Row.{Row}
 use Rattle.merge.specs.Stretches.{stretch_rows, IsStretch, IsStableStretch}
 use Rattle.merge.specs.declared.stretch.Stretch.{Stretch}
 use Rattle.merge.specs.declared.stretch.Stretch.TheVariants.{Stable, Row as One}
@@ -48,3 +49,10 @@ stretch_next stretch h =
     let there : stretch.sid < length rows = omega (arith, h.some, h.within) in
     ap (take stretch.len) (drop-at rows stretch.sid (get_or rows stretch.sid []) (slice_get-get_or rows stretch.sid [] there))
     ∙ take_next stretch.len (get_or rows stretch.sid []) (drop (stretch.sid + 1) rows) h.some
+
+-- the same, with what is left past it
+pub stretch_first : (stretch : StableStretch) → IsStableStretch stretch
+    → stretch_rows (Stable stretch) ≡ get_or stretch.table.now.rows stretch.sid [] ∷ drop 1 (stretch_rows (Stable stretch))
+stretch_first stretch h =
+    let first = get_or stretch.table.now.rows stretch.sid [] in
+    stretch_next stretch h ∙ ap (λ (xs : List Row). first ∷ drop 1 xs) (sym (stretch_next stretch h))

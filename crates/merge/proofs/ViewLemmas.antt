@@ -50,11 +50,11 @@ or_else-cond : (b : Bool) (value : Value) (other : Option Value) → or_else (co
 or_else-cond true value other = refl
 or_else-cond false value other = refl
 
-or_else-twice : (a b c : Option Value) → or_else (or_else a b) c ≡ or_else a (or_else b c)
+pub or_else-twice : (a b c : Option Value) → or_else (or_else a b) c ≡ or_else a (or_else b c)
 or_else-twice None b c = refl
 or_else-twice (Some value) b c = refl
 
-last_cell-so_far : (col : ℕ) (so_far : Option Value) (cells : Cells)
+pub last_cell-so_far : (col : ℕ) (so_far : Option Value) (cells : Cells)
     → last_cell col so_far cells ≡ or_else (last_cell col None cells) so_far
 last_cell-so_far col so_far [] = refl
 last_cell-so_far col so_far (c ∷ cells) =
@@ -63,7 +63,7 @@ last_cell-so_far col so_far (c ∷ cells) =
     ∙ sym (or_else-twice (last_cell col None cells) (cond (c.0 == col) (Some c.1) None) so_far)
     ∙ ap (λ o. or_else o so_far) (sym (last_cell-so_far col (cond (c.0 == col) (Some c.1) None) cells))
 
-same_next : (i j : ℕ) → (i == j) ≡ (suc i == suc j)
+pub same_next : (i j : ℕ) → (i == j) ≡ (suc i == suc j)
 same_next i j = grind (arith, nat_tests)
 
 first_other : (j : ℕ) → (0 == suc j) ≡ false

@@ -46,6 +46,10 @@ write_rows s = merged_rows (read_rows s) s.write
 abbrev pub image_rows : Stack → List Row
 image_rows s = merged_rows (write_rows s) s.trans
 
+-- the layers, were these the stable rows
+abbrev pub stack_over : List Row → Stack → Stack
+stack_over base s = record s { rows = base }
+
 -- those rows, each under its key
 abbrev pub image_table : Stack → Table
 image_table s = table_of s.schema.key_cols (image_rows s)

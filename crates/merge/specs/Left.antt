@@ -23,6 +23,30 @@ abbrev pub image_left : Image → List Row
 image_left (Committed l) = write_left l
 image_left (Own l) = rows_left l.cursor (write_left l.below)
 
+-- ---- the same, were these the stable rows
+
+abbrev pub read_over : List Row → Level StableRows → List Row
+read_over base l = rows_left l.cursor (drop l.below.sid base)
+
+abbrev pub write_over : List Row → Level (Level StableRows) → List Row
+write_over base l = rows_left l.cursor (read_over base l.below)
+
+abbrev pub image_over : List Row → Image → List Row
+image_over base (Committed l) = write_over base l
+image_over base (Own l) = rows_left l.cursor (write_over base l.below)
+
+-- as many stable rows, so that as many are left at each level
+abbrev pub AreAlikeLower : List Row → Level (Level StableRows) → Type 0
+AreAlikeLower base l =
+    ((length base ≡ length l.below.below.table.now.rows) × (length (drop l.below.below.sid base) ≡ length (stable_left l.below.below)))
+    × (length (read_over base l.below) ≡ length (read_left l.below))
+
+abbrev pub AreAlike : List Row → Image → Type 0
+AreAlike base (Committed l) = AreAlikeLower base l
+AreAlike base (Own l) = AreAlikeLower base l.below × (length (write_over base l.below) ≡ length (write_left l.below))
+
+-- ---- cursors
+
 -- the cursors of the two lower layers stand over what is left below them
 pub record AreLowerCursors (l : Level (Level StableRows)) : Type 0 where
   pub few : length l.below.below.table.now.rows ≤ MAX_ROWS

@@ -5,6 +5,8 @@ pub mod View
 pub mod Cursor
 pub mod Stretches
 pub mod Left
+pub mod Placed
+pub mod Laws
 pub mod Fitting
 pub mod KeyRow
 pub mod Columns

@@ -2,7 +2,7 @@
 use Rattle.std.specs.Prelude.{◌≡◌, ℕ, ◌+◌, ◌<◌, ◌≤◌, Option, MatchOption, List, [], ◌∷◌, ◌++◌, length, take, drop}
 use Rattle.values.specs.declared.row.Row.{Row}
 use Rattle.values.specs.declared.limits.TheConstants.{MAX_ROWS}
-use Rattle.merge.specs.View.{row_of, IsBare}
+use Rattle.merge.specs.View.{row_of, row_over, IsBare}
 use Rattle.merge.specs.declared.stretch.Stretch.{Stretch}
 use Rattle.merge.specs.declared.stretch.Stretch.TheVariants.{Stable, Row as One}
 use Rattle.merge.specs.declared.stretch.StableStretch.{StableStretch}
@@ -11,6 +11,16 @@ use Rattle.merge.specs.declared.stretch.StableStretch.{StableStretch}
 abbrev pub stretch_rows : Stretch → List Row
 stretch_rows (Stable stretch) = take stretch.len (drop stretch.sid stretch.table.now.rows)
 stretch_rows (One view) = row_of view ∷ []
+
+-- the rows of a stretch, were these the stable rows
+abbrev pub stretch_over : List Row → Stretch → List Row
+stretch_over base (Stable stretch) = take stretch.len (drop stretch.sid base)
+stretch_over base (One view) = row_over base view ∷ []
+
+-- the next rows over these stable rows are those of the stretch, read over them
+pub record PassesOver (base old : List Row) (stretch : Stretch) (new : List Row) : Type 0 where
+  pub rows : old ≡ stretch_over base stretch ++ new
+  pub count : length (stretch_over base stretch) ≡ length (stretch_rows stretch)
 
 -- some rows of a stable table
 pub record IsStableStretch (stretch : StableStretch) : Type 0 where

@@ -1,5 +1,5 @@
 -- The row that a view shows.
-use Rattle.std.specs.Prelude.{◌≡◌, ℕ, ◌<◌, ◌==◌, Bool, true, false, cond, Option, Some, None, List, [], ◌∷◌, get_or, length, map, replicate, slice_set}
+use Rattle.std.specs.Prelude.{◌≡◌, ℕ, ◌<◌, ◌==◌, Bool, true, false, cond, Option, Some, None, List, [], ◌∷◌, ◌++◌, get_or, length, map, replicate, slice_set}
 use Rattle.std.specs.Option.{option_map}
 use Rattle.values.specs.Lent.{value_of}
 use Rattle.values.specs.declared.value.ValueRef.{ValueRef}
@@ -71,6 +71,24 @@ write_row v = set_cells (layer_cells v.write) (read_row v)
 
 abbrev pub row_of : RowView → Row
 row_of v = set_cells (layer_cells v.trans) (write_row v)
+
+-- the row before its modifies, and the row of a view, were these the stable rows
+abbrev pub source_over : List Row → Source → Row
+source_over base (Stable table sid) = get_or base sid []
+source_over base (Inserted row) = row.now
+
+abbrev pub row_over : List Row → RowView → Row
+row_over base v =
+    set_cells (layer_cells v.trans) (set_cells (layer_cells v.write) (set_cells (layer_cells v.read) (source_over base v.source)))
+
+-- the SID of the stable row under a view, or none where a layer inserts the row
+abbrev pub base_of : Source → Option ℕ
+base_of (Stable table sid) = Some sid
+base_of (Inserted row) = None
+
+-- the cells that the layers change of a row, the lowest layer's first
+abbrev pub own_cells : RowView → Cells
+own_cells v = layer_cells v.read ++ (layer_cells v.write ++ layer_cells v.trans)
 
 -- what the layers modify of the row, by column: the value of the highest layer that gives one
 abbrev pub modified_values : RowView → List (Option Value)

@@ -1,7 +1,8 @@
 //! The rows of the image that are left, under the layers that are there.
-ghost use Rattle.std.specs.Prelude.{◌≡◌, ◌<◌, ◌≤◌, ◌++◌, length};
-ghost use Rattle.merge.specs.Left.{AreCursors, image_left};
-ghost use Rattle.merge.specs.Stretches.{IsStretch, stretch_rows};
+ghost use Rattle.std.specs.Prelude.{◌≡◌, ◌<◌, ◌≤◌, List, ◌++◌, length};
+ghost use Rattle.values.specs.declared.row.Row.{Row as Cells};
+ghost use Rattle.merge.specs.Left.{AreAlike, AreCursors, image_left, image_over};
+ghost use Rattle.merge.specs.Stretches.{IsStretch, PassesOver, stretch_rows};
 ghost use Rattle.merge.specs.Parts.{HasFirst, PassesPart, part_count};
 
 use crate::level::{Level, Rows, StableRows};
@@ -26,6 +27,9 @@ impl<'a> Image<'a> {
         requires some { 0 < most }
         requires most { most ≤ length (image_left self.old) }
         ensures rows { image_left self.old ≡ stretch_rows result ++ image_left self.new }
+        ensures over { (base : List Cells) → AreAlike base self.old
+            → PassesOver base (image_over base self.old) result (image_over base self.new) }
+        ensures alike { (base : List Cells) → AreAlike base self.old → AreAlike base self.new }
         ensures stretch { IsStretch 3 result }
         ensures most { length (stretch_rows result) ≤ most }
         ensures cursors { AreCursors self.new }

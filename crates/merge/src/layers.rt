@@ -1,5 +1,5 @@
 //! The layers, and what stands where in their image.
-ghost use Rattle.std.specs.Prelude.{◌≡◌, ℕ, ◌↔◌, ◌≤◌, ◌<◌, IsTrue, IfSome, [], length, map, min, drop, take, slice_get, is_some};
+ghost use Rattle.std.specs.Prelude.{◌≡◌, ℕ, ◌↔◌, ◌-◌, ◌≤◌, ◌<◌, IsTrue, IfSome, List, [], length, map, min, drop, take, slice_get, is_some};
 ghost use Rattle.std.specs.List.{All};
 ghost use Rattle.std.specs.Option.{option_copied, option_map};
 ghost use Rattle.model.specs.Table.{IsTable, rank, row_at};
@@ -11,6 +11,7 @@ ghost use Rattle.merge.specs.Packed.{IsNumberColumn, IsPacked};
 ghost use Rattle.merge.specs.ReadRows.{AreReadRows, HasReadColumn, rows_of_read};
 ghost use Rattle.merge.specs.View.{row_of};
 ghost use Rattle.stable.specs.Rows.{column_at, column_values};
+ghost use Rattle.values.specs.declared.row.Row.{Row as Cells};
 ghost use Rattle.values.specs.declared.value.Value.TheVariants.{Int};
 
 use crate::cursor::Cursor;
@@ -21,6 +22,7 @@ use crate::number_runs::NumberRuns;
 use crate::numbered_rows::NumberedRows;
 use crate::numbers::fill;
 use crate::packed::Packed;
+use crate::placed::PlacedStretches;
 use crate::read_rows::ReadRows;
 use crate::runs::ColumnRuns;
 use crate::scan::{MergeScan, Stretches};
@@ -58,8 +60,9 @@ impl<'a> Model for Layers<'a> {
 }
 
 impl<'a> Layers<'a> {
-    ghost use Rattle.merge.specs.Image.{AreBothStacked, AreStacked, stack_below, stack_of, write_rows};
-    ghost use Rattle.merge.specs.Left.{AreCursors, AreLowerCursors, image_left, write_left};
+    ghost use Rattle.merge.specs.Image.{AreBothStacked, AreStacked, stack_below, stack_of, stack_over, write_rows};
+    ghost use Rattle.merge.specs.Left.{AreAlikeLower, AreCursors, AreLowerCursors, image_left, write_left, write_over};
+    ghost use Rattle.merge.specs.Placed.{IsPlaced};
 
     /// The layers over the table, each tree over the image of those below it. It takes no memory.
     pub fn new(
@@ -106,6 +109,14 @@ impl<'a> Layers<'a> {
         ensures { result.now ≡ self.now.schema }
     {
         self.stable.schema()
+    }
+
+    /// The stable table, at the bottom.
+    pub fn stable(&self) -> &'a StableTable
+        ensures schema { result.now.schema ≡ self.now.schema }
+        ensures rows { result.now.rows ≡ self.now.rows }
+    {
+        self.stable
     }
 
     /// How many rows the image has.
@@ -160,6 +171,30 @@ impl<'a> Layers<'a> {
         let start = from.min(self.len);
         let end = to.min(self.len);
         Stretches::new(self.rows_from(start), end.saturating_sub(start))
+    }
+
+    /// The same stretches, with their places in the stable table.
+    pub fn placed_stretches(&self, from: u64, to: u64) -> PlacedStretches<'a>
+        ensures stack { result.stack ≡ self.now }
+        ensures from { result.rid ≡ min from (length (image_rows self.now)) }
+        ensures left { result.left ≡ min to (length (image_rows self.now)) - result.rid }
+    {
+        let start = from.min(self.len);
+        let count = to.min(self.len).saturating_sub(start);
+        PlacedStretches::new(self.copy(), self.rows_from(start), start, count)
+    }
+
+    /// The same layers, lent once more.
+    fn copy(&self) -> Layers<'a>
+        ensures { result ≡ self.now }
+    {
+        Layers {
+            stable: self.stable,
+            read: self.read,
+            write: self.write,
+            trans: self.trans,
+            len: self.len,
+        }
     }
 
     /// The rows from one position up to another, and without that; both are cut to the length of the image. No memory is
@@ -248,6 +283,7 @@ impl<'a> Layers<'a> {
         requires { rid ≤ length (image_rows self.now) }
         ensures rows { image_left result ≡ drop rid (image_rows self.now) }
         ensures cursors { AreCursors result }
+        ensures placed { IsPlaced self.now rid result }
     {
         match self.trans {
             None => Image::Committed(self.committed_from(rid)),
@@ -267,6 +303,9 @@ impl<'a> Layers<'a> {
         requires { rid ≤ length (write_rows self.now) }
         ensures rows { write_left result ≡ drop rid (write_rows self.now) }
         ensures cursors { AreLowerCursors result }
+        ensures alike { (base : List Cells) → length base ≡ length self.now.rows → AreAlikeLower base result }
+        ensures over { (base : List Cells) → length base ≡ length self.now.rows
+            → write_over base result ≡ drop rid (write_rows (stack_over base self.now)) }
     {
         let write = Cursor::at(self.write, rid);
         let read = Cursor::at(self.read, write.sid());

@@ -11,7 +11,7 @@ ghost use Rattle.model.specs.Places.{insert_count, delete_count};
 ghost use Rattle.merge.specs.Image.{IsLayer};
 ghost use Rattle.merge.specs.Cursor.{IsCursor, DeletesNone, rows_left};
 ghost use Rattle.merge.specs.View.{layer_number};
-ghost use Rattle.merge.specs.Stretches.{IsStableStretch, IsStretch, stretch_rows};
+ghost use Rattle.merge.specs.Stretches.{IsStableStretch, IsStretch, PassesOver, stretch_rows};
 ghost use Rattle.merge.specs.Left.{stable_left};
 ghost use Rattle.merge.specs.Parts.{HasFirst, PassesPart, PassesRow, part_count};
 ghost use Rattle.merge.specs.declared.stretch.Stretch.TheVariants.{Stable};
@@ -29,6 +29,12 @@ pub(crate) trait Rows<'a> {
     /// The rows that are left.
     ghost rows: { Self → List Cells };
 
+    /// The rows that would be left, were these the stable rows.
+    ghost over: { List Cells → Self → List Cells };
+
+    /// That these are as many as the stable rows.
+    ghost are_alike: { List Cells → Self → Type 0 };
+
     /// How many layers stand over the stable rows.
     ghost depth: { Self → ℕ };
 
@@ -41,6 +47,8 @@ pub(crate) trait Rows<'a> {
         requires some { 0 < most }
         requires most { most ≤ length (rows self.old) }
         ensures rows { rows self.old ≡ stretch_rows result ++ rows self.new }
+        ensures over { (base : List Cells) → are_alike base self.old → PassesOver base (over base self.old) result (over base self.new) }
+        ensures alike { (base : List Cells) → are_alike base self.old → are_alike base self.new }
         ensures stretch { IsStretch (depth self.old) result }
         ensures most { length (stretch_rows result) ≤ most }
         ensures depth { depth self.new ≡ depth self.old }
@@ -62,6 +70,8 @@ pub(crate) trait Rows<'a> {
         requires sound { is_sound self.old }
         requires some { 0 < length (rows self.old) }
         ensures rows { PassesRow (rows self.old) (rows self.new) }
+        ensures over { (base : List Cells) → are_alike base self.old → PassesRow (over base self.old) (over base self.new) }
+        ensures alike { (base : List Cells) → are_alike base self.old → are_alike base self.new }
         ensures depth { depth self.new ≡ depth self.old }
         ensures sound { is_sound self.new };
 }
@@ -83,6 +93,8 @@ impl<'a> StableRows<'a> {
         ensures rows { stable_left self.old ≡ stretch_rows (Stable result) ++ stable_left self.new }
         ensures is { IsStableStretch result }
         ensures len { result.len ≡ most }
+        ensures over { (base : List Cells) → length base ≡ length self.old.table.now.rows
+            → PassesOver base (drop self.old.sid base) (Stable result) (drop self.new.sid base) }
         ensures table { self.new.table ≡ self.old.table }
     {
         let stretch = StableStretch {
@@ -97,6 +109,10 @@ impl<'a> StableRows<'a> {
 
 impl<'a> Rows<'a> for StableRows<'a> {
     ghost rows = { λ r. drop r.sid r.table.now.rows };
+
+    ghost over = { λ base r. drop r.sid base };
+
+    ghost are_alike = { λ base r. length base ≡ length r.table.now.rows };
 
     ghost depth = { λ r. 0 };
 
@@ -133,6 +149,12 @@ impl<'a, B: Rows<'a> + Drop> Level<'a, B> {
         requires below { B.is_sound self.old.below }
         requires cursor { IsCursor (length (B.rows self.old.below)) self.old.cursor }
         ensures rows { rows_left self.new.cursor (B.rows self.new.below) ≡ rows_left self.old.cursor (B.rows self.old.below) }
+        ensures over { (base : List Cells) → B.are_alike base self.old.below
+            → length (B.over base self.old.below) ≡ length (B.rows self.old.below)
+            → rows_left self.new.cursor (B.over base self.new.below) ≡ rows_left self.old.cursor (B.over base self.old.below) }
+        ensures alike { (base : List Cells) → B.are_alike base self.old.below
+            → length (B.over base self.old.below) ≡ length (B.rows self.old.below)
+            → B.are_alike base self.new.below × (length (B.over base self.new.below) ≡ length (B.rows self.new.below)) }
         ensures layer { self.new.layer ≡ self.old.layer }
         ensures depth { B.depth self.new.below ≡ B.depth self.old.below }
         ensures below { B.is_sound self.new.below }
@@ -147,6 +169,10 @@ impl<'a, B: Rows<'a> + Drop> Level<'a, B> {
 
 impl<'a, B: Rows<'a> + Drop> Rows<'a> for Level<'a, B> {
     ghost rows = { λ l. rows_left l.cursor (B.rows l.below) };
+
+    ghost over = { λ base l. rows_left l.cursor (B.over base l.below) };
+
+    ghost are_alike = { λ base l. B.are_alike base l.below × (length (B.over base l.below) ≡ length (B.rows l.below)) };
 
     ghost depth = { λ l. suc (layer_number l.layer) };
 

@@ -1,7 +1,8 @@
 //! A stretch of rows that stand together.
-ghost use Rattle.std.specs.Prelude.{◌≡◌, ℕ, ◌+◌, ◌-◌, ◌∷◌, length, drop};
-ghost use Rattle.merge.specs.View.{IsBare, row_of};
-ghost use Rattle.merge.specs.Stretches.{IsStretch, IsStableStretch, stretch_rows};
+ghost use Rattle.std.specs.Prelude.{◌≡◌, ℕ, ◌+◌, ◌-◌, ◌<◌, List, ◌∷◌, length, drop};
+ghost use Rattle.values.specs.declared.row.Row.{Row as Cells};
+ghost use Rattle.merge.specs.View.{IsBare, row_of, row_over};
+ghost use Rattle.merge.specs.Stretches.{IsStretch, IsStableStretch, stretch_over, stretch_rows};
 ghost use Rattle.merge.specs.declared.stretch.Stretch.TheVariants.{Stable};
 
 use crate::view::RowView;
@@ -57,6 +58,8 @@ impl<'a> Stretch<'a> {
     pub(crate) fn first(&self) -> RowView<'a>
         requires { (depth : ℕ) × IsStretch depth self.now }
         ensures row { stretch_rows self.now ≡ row_of result ∷ drop 1 (stretch_rows self.now) }
+        ensures over { (base : List Cells) → 0 < length (stretch_over base self.now)
+            → stretch_over base self.now ≡ row_over base result ∷ drop 1 (stretch_over base self.now) }
         ensures bare { (depth : ℕ) → IsStretch depth self.now → IsBare depth result }
     {
         match self {

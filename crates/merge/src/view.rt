@@ -1,9 +1,11 @@
 //! A row of the image, lent.
-ghost use Rattle.std.specs.Prelude.{◌≡◌, ◌<◌, ◌^◌, suc, IfOk, Some, None, length, get_or, slice_get, [], ◌∷◌};
+ghost use Rattle.std.specs.Prelude.{◌≡◌, ◌<◌, ◌^◌, suc, false, IfOk, IfSome, Some, None, is_some, List, length, get_or, slice_get, [], ◌∷◌};
+ghost use Rattle.values.specs.declared.row.Row.{Row as Cells};
 ghost use Rattle.std.specs.Option.{option_map};
 ghost use Rattle.values.specs.Lent.{value_of};
 ghost use Rattle.model.specs.Effects.{set_cells};
-ghost use Rattle.merge.specs.View.{IsBare, cells_at, is_in_tree, layer_cells, last_cell, layer_number, modified_cells, modified_values, row_of, source_row, values_of, with_cells};
+ghost use Rattle.merge.specs.View.{IsBare, base_of, cells_at, is_in_tree, layer_cells, last_cell, layer_number, modified_cells};
+ghost use Rattle.merge.specs.View.{modified_values, own_cells, row_of, row_over, source_over, source_row, values_of, with_cells};
 
 use delta::{ChangeRef, DeltaTree, SharedEntry, Sought};
 use smallvec::SmallVec;
@@ -145,16 +147,49 @@ impl<'a> RowView<'a> {
         requires { col < length (row_of self.now) }
         ensures { slice_get (row_of self.now) col ≡ Some (value_of result) }
     {
+        match self.modified_value(col) {
+            Some(value) => value,
+            None => self.source_value(col),
+        }
+    }
+
+    /// The value that the layers give a column, if one does: that of the highest.
+    #[inline(always)]
+    fn modified_value(&self, col: usize) -> Option<ValueRef<'a>>
+        ensures { option_map value_of result ≡ last_cell col None (own_cells self.now) }
+    {
         if let Some(value) = self.trans.value(col) {
-            return value;
+            return Some(value);
         }
         if let Some(value) = self.write.value(col) {
-            return value;
+            return Some(value);
         }
-        if let Some(value) = self.read.value(col) {
-            return value;
+        self.read.value(col)
+    }
+
+    /// The SID of the stable row under it, or none where a layer inserts the row.
+    pub fn base_sid(&self) -> Option<u64>
+        ensures base { result ≡ base_of self.now.source }
+
+        // An inserted row is the same whatever the stable rows are, and else it is over the row at that SID.
+        ensures inserted { result ≡ None → (base : List Cells) → row_over base self.now ≡ row_of self.now }
+        ensures over { IfSome result (λ sid. (base : List Cells) → source_over base self.now.source ≡ get_or base sid []) }
+    {
+        match self.source {
+            Source::Stable(_, sid) => Some(u64::from(sid)),
+            Source::Inserted(_) => None,
         }
-        self.source_value(col)
+    }
+
+    /// Whether a layer modifies the column: of a row that a layer inserts, one above that.
+    pub fn is_modified(&self, col: usize) -> bool
+        ensures is { result ≡ is_some (last_cell col None (own_cells self.now)) }
+
+        // Else the value is that of the row before its modifies: of the stable row, where it is over one, whatever stands there.
+        ensures kept { result ≡ false → (base : List Cells)
+            → slice_get (row_over base self.now) col ≡ slice_get (source_over base self.now.source) col }
+    {
+        self.modified_value(col).is_some()
     }
 
     /// The value of a column before the modifies.
@@ -256,6 +291,7 @@ impl<'a> RowView<'a> {
     pub(crate) fn stable(table: &'a StableTable, sid: u64) -> RowView<'a>
         requires { sid < 2 ^ 32 }
         ensures row { row_of result ≡ get_or table.now.rows sid [] }
+        ensures over { (base : List Cells) → row_over base result ≡ get_or base sid [] }
         ensures bare { IsBare 0 result }
     {
         RowView::unmodified(Source::Stable(table, sid as u32))
@@ -265,6 +301,7 @@ impl<'a> RowView<'a> {
     #[inline(always)]
     pub(crate) fn inserted(row: &'a SharedRow) -> RowView<'a>
         ensures row { row_of result ≡ row.now }
+        ensures over { (base : List Cells) → row_over base result ≡ row.now }
         ensures bare { IsBare 0 result }
     {
         RowView::unmodified(Source::Inserted(row))
@@ -274,6 +311,7 @@ impl<'a> RowView<'a> {
     #[inline(always)]
     fn unmodified(source: Source<'a>) -> RowView<'a>
         ensures row { row_of result ≡ source_row source.entry }
+        ensures over { (base : List Cells) → row_over base result ≡ source_over base source.entry }
         ensures bare { IsBare 0 result }
     {
         RowView {
@@ -289,6 +327,7 @@ impl<'a> RowView<'a> {
     pub(crate) fn modified_in(self, layer: Layer, modifies: Modifies<'a>) -> RowView<'a>
         requires { IsBare (layer_number layer) self }
         ensures row { row_of result ≡ set_cells (layer_cells modifies.entry) (row_of self.entry) }
+        ensures over { (base : List Cells) → row_over base result ≡ set_cells (layer_cells modifies.entry) (row_over base self.entry) }
         ensures bare { IsBare (suc (layer_number layer)) result }
     {
         match layer {

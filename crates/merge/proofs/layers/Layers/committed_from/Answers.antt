@@ -1,7 +1,9 @@
-use Rattle.std.proofs.Common.{◌∙◌, ◌≤◌, length, drop, ap, sym, refl, subst, arith}
+use Rattle.std.proofs.Common.{◌≡◌, ◌∙◌, ◌≤◌, List, length, drop, ap, sym, refl, subst, arith, length-drop}
 use Rattle.std.specs.Option.{option_copied}
-use Rattle.merge.specs.Image.{Stack, stack_of, tree_over, read_rows, write_rows}
+use Rattle.values.specs.declared.row.Row.{Row}
+use Rattle.merge.specs.Image.{Stack, stack_of, stack_over, tree_over, read_rows, write_rows}
 use Rattle.merge.specs.Cursor.{rows_left, IsCursor, IsCursorAt}
+use Rattle.merge.proofs.AlikeLemmas.{lower_alike, lower_is}
 use Rattle.merge.proofs.LeftLemmas.{write_at, read_at, write_is, write_stands}
 use Rattle.merge.proofs.layers.Layers.committed_from.Goals as goal
 
@@ -63,3 +65,38 @@ returns-clause-cursors c =
       read_layer = refl;
       write_layer = refl;
     }
+
+-- ---- over other stable rows
+
+pub returns-clause-alike : goal.returns-clause-alike
+returns-clause-alike c =
+    let l = c.self.inside in
+    let rows = l.stable.now.rows in
+    let r = c.at-read.result in
+    let top = tree_over l.stable.now.schema.key_cols (option_copied l.trans) in
+    let low : c.args.rid ≤ length (write_rows (stack_of l.stable.now l.read.now l.write.now top)) =
+    subst (λ (s : Stack). c.args.rid ≤ length (write_rows s)) (sym c.self.view_is) c.requires in
+    subst (λ (s : Stack). (base : List Row) → length base ≡ length s.rows
+    → ((length base ≡ length rows) × (length (drop c.sid-2.result base) ≡ length (drop c.sid-2.result rows)))
+    × (length (rows_left r (drop c.sid-2.result base)) ≡ length (rows_left r (drop c.sid-2.result rows)))) c.self.view_is
+    (λ base same.
+    let left = lower_alike l.stable.now l.read.now l.write.now top l.len c.self.invariant base same c.args.rid r c.at-write.result low
+    c.at-write.ensures.at c.sid.result c.sid.ensures c.at-read.ensures.at c.at-read.ensures.tree c.at-write.ensures.tree in
+    subst (λ n. ((length base ≡ length rows) × (length (drop n base) ≡ length (drop n rows)))
+    × (length (rows_left r (drop n base)) ≡ length (rows_left r (drop n rows)))) (sym c.sid-2.ensures)
+    ((same, omega (arith, same, length-drop r.sid base, length-drop r.sid rows)), left))
+
+pub returns-clause-over : goal.returns-clause-over
+returns-clause-over c =
+    let l = c.self.inside in
+    let r = c.at-read.result in
+    let w = c.at-write.result in
+    let top = tree_over l.stable.now.schema.key_cols (option_copied l.trans) in
+    let low : c.args.rid ≤ length (write_rows (stack_of l.stable.now l.read.now l.write.now top)) =
+    subst (λ (s : Stack). c.args.rid ≤ length (write_rows s)) (sym c.self.view_is) c.requires in
+    subst (λ (s : Stack). (base : List Row) → length base ≡ length s.rows
+    → rows_left w (rows_left r (drop c.sid-2.result base)) ≡ drop c.args.rid (write_rows (stack_over base s))) c.self.view_is
+    (λ base same.
+    ap (λ n. rows_left w (rows_left r (drop n base))) c.sid-2.ensures
+    ∙ lower_is l.stable.now l.read.now l.write.now top l.len c.self.invariant base same c.args.rid r w low c.at-write.ensures.at c.sid.result
+    c.sid.ensures c.at-read.ensures.at c.at-read.ensures.tree c.at-write.ensures.tree)

@@ -1,36 +1,23 @@
-use Rattle.std.proofs.Common.{◌∙◌, refl, arith}
-use Rattle.merge.specs.View.{layer_cells}
-use Rattle.merge.proofs.ViewLemmas.{found_in, length-row_of, slice_get-row_of}
+use Rattle.std.proofs.Common.{◌∙◌, ap, arith}
+use Rattle.std.specs.Prelude.{slice_get}
+use Rattle.merge.specs.View.{own_cells, source_row}
+use Rattle.merge.proofs.ModifiedLemmas.{slice_get-row}
+use Rattle.merge.proofs.ViewLemmas.{found_in, length-row_of, or_else}
 use Rattle.merge.proofs.view.RowView.value.Goals as goal
 
 pub returns-in-Some : goal.returns-in-Some
 returns-in-Some c =
     let v = c.args.self.now in
-    let in_trans = found_in c.args.col (layer_cells v.trans) _ _ c.value.ensures c.in-Some.is in
-    slice_get-row_of v c.args.col _ _ _ c.requires in_trans refl refl
-
-pub returns-in-Some-value : goal.returns-in-Some-value
-returns-in-Some-value c =
-    let v = c.args.self.now in
-    let in_trans = found_in c.args.col (layer_cells v.trans) _ _ c.value.ensures c.in_default.is in
-    let in_write = found_in c.args.col (layer_cells v.write) _ _ c.value-2.ensures c.in-Some-value.is in
-    slice_get-row_of v c.args.col _ _ _ c.requires in_trans in_write refl
-
-pub returns-in-Some-value-2 : goal.returns-in-Some-value-2
-returns-in-Some-value-2 c =
-    let v = c.args.self.now in
-    let in_trans = found_in c.args.col (layer_cells v.trans) _ _ c.value.ensures c.in_default.is in
-    let in_write = found_in c.args.col (layer_cells v.write) _ _ c.value-2.ensures c.in_default-value.is in
-    let in_read = found_in c.args.col (layer_cells v.read) _ _ c.value-3.ensures c.in-Some-value-2.is in
-    slice_get-row_of v c.args.col _ _ _ c.requires in_trans in_write in_read
+    let found = found_in c.args.col (own_cells v) _ _ c.modified_value.ensures c.in-Some.is in
+    slice_get-row v c.args.col c.requires ∙ ap (λ o. or_else o (slice_get (source_row v.source) c.args.col)) found
 
 pub source_value-requires : goal.source_value-requires
 source_value-requires c = omega (arith, length-row_of c.args.self.now, c.requires)
 
-pub returns : goal.returns
-returns c =
+pub returns-in-None : goal.returns-in-None
+returns-in-None c =
     let v = c.args.self.now in
-    let in_trans = found_in c.args.col (layer_cells v.trans) _ _ c.value.ensures c.in_default.is in
-    let in_write = found_in c.args.col (layer_cells v.write) _ _ c.value-2.ensures c.in_default-value.is in
-    let in_read = found_in c.args.col (layer_cells v.read) _ _ c.value-3.ensures c.in_default-value-2.is in
-    slice_get-row_of v c.args.col _ _ _ c.requires in_trans in_write in_read ∙ c.source_value.ensures
+    let found = found_in c.args.col (own_cells v) _ _ c.modified_value.ensures c.in-None.is in
+    slice_get-row v c.args.col c.requires
+    ∙ ap (λ o. or_else o (slice_get (source_row v.source) c.args.col)) found
+    ∙ c.source_value.ensures

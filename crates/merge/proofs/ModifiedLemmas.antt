@@ -1,0 +1,79 @@
+-- What the layers modify of a row, over any stable rows.
+use Rattle.std.proofs.Common.{◌≡◌, ◌∙◌, ℕ, zero, suc, ◌<◌, true, false, cond, Option, Some, None, List, [], ◌∷◌, ◌++◌, length, refl, sym, ap, arith}
+use Rattle.std.specs.Prelude.{Bool, ◌==◌, slice_get, slice_set}
+use Rattle.values.specs.declared.row.Row.{Row}
+use Rattle.values.specs.declared.value.Value.{Value}
+use Rattle.model.specs.Effects.{Cells, set_cells}
+use Rattle.merge.specs.View.{layer_cells, last_cell, own_cells, row_of, row_over, source_over, source_row}
+use Rattle.merge.specs.declared.view.RowView.{RowView}
+use Rattle.merge.proofs.ViewLemmas.{last_cell-so_far, or_else, or_else-twice, same_next, slice_get-row_of}
+
+last_cell-append : (col : ℕ) (so_far : Option Value) (xs ys : Cells)
+    → last_cell col so_far (xs ++ ys) ≡ last_cell col (last_cell col so_far xs) ys
+last_cell-append col so_far [] ys = refl
+last_cell-append col so_far (c ∷ xs) ys = last_cell-append col (cond (c.0 == col) (Some c.1) so_far) xs ys
+
+or_else-none : (a b : Option Value) → or_else a b ≡ None → (a ≡ None) × (b ≡ None)
+or_else-none None b e = (refl, e)
+or_else-none (Some value) b e = (cc, cc)
+
+given-none : (b : Bool) (value : Value) → cond b (Some value) None ≡ None → b ≡ false
+given-none true value e = cc
+given-none false value e = refl
+
+slice_get-slice_set_other : {X : Type 0} (xs : List X) (i j : ℕ) (x : X) → (i == j) ≡ false
+    → slice_get (slice_set xs i x) j ≡ slice_get xs j
+slice_get-slice_set_other [] i j x other = refl
+slice_get-slice_set_other (y ∷ xs) zero zero x other = cc
+slice_get-slice_set_other (y ∷ xs) zero (suc j) x other = refl
+slice_get-slice_set_other (y ∷ xs) (suc i) zero x other = refl
+slice_get-slice_set_other (y ∷ xs) (suc i) (suc j) x other = slice_get-slice_set_other xs i j x (same_next i j ∙ other)
+
+-- cells of other columns change nothing in this one
+slice_get-set_cells_none : (cells : Cells) (row : Row) (col : ℕ) → last_cell col None cells ≡ None
+    → slice_get (set_cells cells row) col ≡ slice_get row col
+slice_get-set_cells_none [] row col none = refl
+slice_get-set_cells_none (c ∷ cells) row col none =
+    let both = or_else-none (last_cell col None cells) (cond (c.0 == col) (Some c.1) None)
+    (sym (last_cell-so_far col (cond (c.0 == col) (Some c.1) None) cells) ∙ none) in
+    slice_get-set_cells_none cells (slice_set row c.0 c.1) col both.0
+    ∙ slice_get-slice_set_other row c.0 col c.1 (given-none (c.0 == col) c.1 both.1)
+
+module _ (v : RowView) (col : ℕ) where
+  abbrev pub in_trans : Option Value
+  in_trans = last_cell col None (layer_cells v.trans)
+
+  abbrev pub in_write : Option Value
+  in_write = last_cell col None (layer_cells v.write)
+
+  abbrev pub in_read : Option Value
+  in_read = last_cell col None (layer_cells v.read)
+
+  -- the value that the highest layer gives
+  pub own_cell : last_cell col None (own_cells v) ≡ or_else in_trans (or_else in_write in_read)
+  own_cell =
+      last_cell-append col None (layer_cells v.read) (layer_cells v.write ++ layer_cells v.trans)
+      ∙ last_cell-append col in_read (layer_cells v.write) (layer_cells v.trans)
+      ∙ last_cell-so_far col (last_cell col in_read (layer_cells v.write)) (layer_cells v.trans)
+      ∙ ap (or_else in_trans) (last_cell-so_far col in_read (layer_cells v.write))
+
+  pub slice_get-row : col < length (row_of v)
+      → slice_get (row_of v) col ≡ or_else (last_cell col None (own_cells v)) (slice_get (source_row v.source) col)
+  slice_get-row lt =
+      let source = slice_get (source_row v.source) col in
+      slice_get-row_of v col in_trans in_write in_read lt refl refl refl
+      ∙ ap (or_else in_trans) (sym (or_else-twice in_write in_read source))
+      ∙ sym (or_else-twice in_trans (or_else in_write in_read) source)
+      ∙ ap (λ o. or_else o source) (sym own_cell)
+
+  -- where no layer gives one, the value is that of the stable row
+  pub kept_over : last_cell col None (own_cells v) ≡ None → (base : List Row)
+      → slice_get (row_over base v) col ≡ slice_get (source_over base v.source) col
+  kept_over none base =
+      let upper = or_else-none in_trans (or_else in_write in_read) (sym own_cell ∙ none) in
+      let lower = or_else-none in_write in_read upper.1 in
+      let source = source_over base v.source in
+      let read = set_cells (layer_cells v.read) source in
+      slice_get-set_cells_none (layer_cells v.trans) (set_cells (layer_cells v.write) read) col upper.0
+      ∙ slice_get-set_cells_none (layer_cells v.write) read col lower.0
+      ∙ slice_get-set_cells_none (layer_cells v.read) source col lower.1
