@@ -24,7 +24,7 @@ pub use delta::DeltaTree;
 pub use fault::WriteFault;
 pub use laws::marks_stand;
 pub use mark::Mark;
-pub use merge::{MergeScan, ReadTree, RowView, StableStretch, Stretch, Stretches};
+pub use merge::{MergeScan, PlacedStretches, ReadTree, RowView, StableStretch, Stretch, Stretches};
 pub use model::{Write, WriteReply};
 pub use parts::Parts;
 pub use transaction::Txn;

@@ -1,15 +1,16 @@
 //! What a transaction reads: its version's table with its own writes. No read but those that give a table takes memory
 //! or copies a row.
-ghost use Rattle.std.specs.Prelude.{◌≡◌, ◌<◌, IfOk, drop, is_some, length, map, min, slice_get, take};
+ghost use Rattle.std.specs.Prelude.{◌≡◌, ◌-◌, ◌<◌, IfOk, drop, is_some, length, map, min, slice_get, take};
 ghost use Rattle.std.specs.Option.{option_map};
 ghost use Rattle.model.specs.Table.{rank, row_at, rows_of};
 ghost use Rattle.stable.specs.Rows.{column_at, column_values};
 ghost use Rattle.values.specs.declared.value.Value.TheVariants.{Int};
+ghost use Rattle.merge.specs.Image.{image_rows};
 ghost use Rattle.merge.specs.Packed.{IsNumberColumn};
 ghost use Rattle.merge.specs.View.{row_of};
 
 use crate::transaction::Txn;
-use merge::{ColumnRuns, MergeScan, NumberRuns, RowView, Stretches};
+use merge::{ColumnRuns, MergeScan, NumberRuns, PlacedStretches, RowView, Stretches};
 use stable::StableTable;
 use std::alloc::Global;
 use values::{Key, NoMemory};
@@ -52,6 +53,16 @@ impl Txn {
         ensures { result ≡ drop from (take to (rows_of (image_of self.now))) }
     {
         self.layers().stretches(from, to)
+    }
+
+    /// The same stretches, with their places in the stable table that the transaction's version stands on, which they lend.
+    pub fn placed_stretches(&self, from: u64, to: u64) -> PlacedStretches<'_>
+        ensures schema { result.stack.schema ≡ self.now.schema }
+        ensures rows { image_rows result.stack ≡ rows_of (image_of self.now) }
+        ensures from { result.rid ≡ min from (length (image_of self.now)) }
+        ensures left { result.left ≡ min to (length (image_of self.now)) - result.rid }
+    {
+        self.layers().placed_stretches(from, to)
     }
 
     /// The values of a column in those rows, run by run: where stable rows stand together, each block's part of them as it
