@@ -43,7 +43,7 @@ fn value_at<'a>(run: &Run<'a>, i: usize) -> Option<ValueRef<'a>> {
 }
 
 /// Whether the row has the value in the column.
-fn has_value(row: Option<&Row>, col: usize, value: Option<ValueRef<'_>>) -> bool {
+pub(super) fn has_value(row: Option<&Row>, col: usize, value: Option<ValueRef<'_>>) -> bool {
     match (row.and_then(|row| row.cells().get(col)), value) {
         (Some(cell), Some(value)) => cell.as_ref() == value,
         _ => false,
