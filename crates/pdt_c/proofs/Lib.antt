@@ -4,6 +4,7 @@ mod MarkLemmas
 mod NumberLemmas
 mod TextLemmas
 mod TruthLemmas
+mod SpanLemmas
 mod EntryLemmas
 mod FillingLemmas
 mod Crossing

@@ -9,6 +9,7 @@ pub mod Writes
 pub mod Marks
 pub mod Reads
 pub mod Numbers
+pub mod Spans
 pub mod Texts
 pub mod Truths
 pub mod Stored

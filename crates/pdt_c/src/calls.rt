@@ -17,6 +17,7 @@ mod prepares;
 mod reads;
 mod reopening;
 mod scans;
+mod stretches;
 mod tables;
 mod texts;
 mod upkeep;
