@@ -62,6 +62,13 @@ pdt_code pdt_checkpoint_write(pdt_snapshot *snapshot, const char *folder) {
   return code;
 }
 
+pdt_code pdt_checkpoint_read(pdt_snapshot *snapshot, pdt_txn **out) {
+  if (!out) return PDT_MISUSE;
+  *out = NULL;
+  if (!snapshot) return PDT_MISUSE;
+  return pdti_begin_over(snapshot->store, &(kept_version){&snapshot->version, NULL, snapshot->commits}, out);
+}
+
 int pdti_snapshot_image(pdt_snapshot *snapshot, handle *image) {
   pdt_store *store = snapshot->store;
   int code = store->database ? pdti_wait_for_image(store->database, snapshot->commits) : PDT_OK;

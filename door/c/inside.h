@@ -105,6 +105,8 @@ extern size_t pdtr_ints(handle *, size_t, uint64_t, int64_t *, size_t);
 extern size_t pdtr_bools(handle *, size_t, uint64_t, uint8_t *, size_t);
 extern size_t pdtr_texts(handle *, size_t, uint64_t, const char **, size_t, int64_t *, size_t);
 extern size_t pdtr_pieces(handle *, size_t, uint64_t, uint64_t, pdt_piece *, size_t, uint64_t *);
+extern size_t pdtr_stretches(handle *, uint64_t, uint64_t, pdt_stretch *, size_t);
+extern uint64_t pdtr_own(handle *, uint64_t, uint8_t *, size_t);
 
 extern uint32_t pdtr_read_layer(handle *, handle *);
 extern uint32_t pdtr_write_layer(handle *, handle *);
@@ -264,6 +266,16 @@ replaced pdti_publish(pdt_store *store, uint64_t safe);
 
 /* Keeps the number of a database that the table's newest commit has there. Under the lock. */
 void pdti_number(pdt_store *store, uint64_t local, uint64_t number);
+
+/* A version that is kept: the number of its table, and the lock that one call at a time takes, where there is one. */
+typedef struct {
+  handle *version;
+  pthread_mutex_t *lock;
+  uint64_t commits;
+} kept_version;
+
+/* Makes a transaction that begins over a version that is kept, or over the newest one where it is null. */
+int pdti_begin_over(pdt_store *store, const kept_version *kept, pdt_txn **out);
 
 /* Begins over the version that begins take, with fresh_lock held; nothing is there where malloc refused it. */
 int pdti_begin_fresh(pdt_store *store, pdt_txn *txn);

@@ -271,6 +271,10 @@ pdt_code pdt_checkpoint_begin(pdt_store *store, uint64_t *commits, pdt_snapshot 
    for again. PDT_MISUSE, also once it is done. It takes the memory of the table, and twice that of its bytes. */
 pdt_code pdt_checkpoint_write(pdt_snapshot *snapshot, const char *folder);
 
+/* Begins a transaction over that table, whatever was committed since, as pdt_begin_at does over a pin's. PDT_NOMEM, PDT_MISUSE: *txn is
+   null then. So an engine reads the stretches from which it writes columns of its own, before the install. */
+pdt_code pdt_checkpoint_read(pdt_snapshot *snapshot, pdt_txn **txn);
+
 /* Makes what was written the stable table in memory: the commits since the begin stay in the Write-PDT, and no table changes.
    PDT_SUPERSEDED where a fold, or the begin or the install of another checkpoint came since: nothing changes. What was
    written stays good: it is the table of the begin. PDT_NOMEM: ask again. PDT_MISUSE before a write is done, and once it is.
@@ -425,6 +429,30 @@ typedef struct pdt_piece {
    them until the next write on the transaction, or its end. PDT_MISUSE. */
 pdt_code pdt_pieces(pdt_txn *txn, size_t column, uint64_t from, uint64_t to, pdt_piece *pieces, size_t *count,
                     uint64_t *rows);
+
+/* ---- stretches: what the rows are made of, for an engine whose columns stay with it and are merged by position */
+
+/* Where rows come from: stable rows as they are, a stable row of which layers change columns, or a row that a layer inserts. */
+enum pdt_source { PDT_STABLE = 1, PDT_CHANGED = 2, PDT_INSERTED = 3 };
+
+/* Rows that stand together and come from one place: so many, the first of them at a position of the transaction's table. */
+typedef struct pdt_stretch {
+  uint64_t position;
+  uint64_t rows; /* 1 but of stable rows */
+  uint64_t sid;  /* the place in the stable table of the first stable row; 0 of an inserted row */
+  uint32_t source;
+} pdt_stretch;
+
+/* What the rows between two positions are made of, in order: up to *count stretches. *count says how many came. Read over the rows
+   of the stable table they are those rows, and so they are over any other rows that are as many: an engine reads columns of its own
+   by the SIDs, and the cells that a changed row has of its own from the library. PDT_MISUSE.
+   The stable table is that of the last checkpoint, made or installed, before the transaction began, or else that of the opening.
+   No key is read. */
+pdt_code pdt_stretches(pdt_txn *txn, uint64_t from, uint64_t to, pdt_stretch *stretches, size_t *count);
+
+/* Which columns of the row at a position are its own: a byte for each of the first so many, 0 where the cell is that of the stable
+   row. Those of an inserted row are all 1. PDT_MISSING past the end, PDT_MISUSE. */
+pdt_code pdt_changed(pdt_txn *txn, uint64_t position, uint8_t *changed, size_t columns);
 
 /* ---- layers: the entries that change the rows below them, by position. The Read-PDT stands over the stable table, the
    Write-PDT over the Read-PDT, and a transaction's own entries over the table that it began on */

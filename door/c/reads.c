@@ -3,6 +3,7 @@
 
 static const char *no_texts[1];
 static pdt_piece no_pieces[1];
+static pdt_stretch no_stretches[1];
 
 pdt_code pdt_rows(pdt_txn *txn, uint64_t *rows) {
   if (!txn || !rows) return PDT_MISUSE;
@@ -70,5 +71,18 @@ pdt_code pdt_pieces(pdt_txn *txn, size_t column, uint64_t from, uint64_t to, pdt
   uint64_t in_them = 0;
   *count = pdtr_pieces(&txn->raw, column, from, to, *count ? pieces : no_pieces, *count, &in_them);
   if (rows) *rows = in_them;
+  return PDT_OK;
+}
+
+pdt_code pdt_stretches(pdt_txn *txn, uint64_t from, uint64_t to, pdt_stretch *stretches, size_t *count) {
+  if (!txn || !count || (!stretches && *count)) return PDT_MISUSE;
+  *count = pdtr_stretches(&txn->raw, from, to, *count ? stretches : no_stretches, *count);
+  return PDT_OK;
+}
+
+pdt_code pdt_changed(pdt_txn *txn, uint64_t position, uint8_t *changed, size_t columns) {
+  if (!txn || (!changed && columns)) return PDT_MISUSE;
+  if (position >= pdtr_rows(&txn->raw)) return PDT_MISSING;
+  pdtr_own(&txn->raw, position, room_at(changed, columns), columns);
   return PDT_OK;
 }

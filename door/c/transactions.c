@@ -37,18 +37,17 @@ int pdti_begin_newest(pdt_store *store, pdt_txn *txn) {
   return is_shared ? code : begin_locked(store, txn);
 }
 
-/* Makes a transaction that begins over the newest version, or over that of a pin. */
-static int begin(pdt_store *store, pdt_pinned *pin, pdt_txn **out) {
+int pdti_begin_over(pdt_store *store, const kept_version *kept, pdt_txn **out) {
   pdt_txn *txn = malloc(sizeof *txn); /* not calloc, which takes a lock of the allocator's where there are threads */
   if (!txn) return PDT_NOMEM;
   *txn = (pdt_txn){.store = store};
   store->open++; /* before it begins: the store may not be closed under it */
   int code;
-  if (pin) {
-    txn->begun = pin->commits;
-    pthread_mutex_lock(&pin->lock);
-    code = (int)pdtr_begin_at(&pin->version, 0, &txn->raw);
-    pthread_mutex_unlock(&pin->lock);
+  if (kept) {
+    txn->begun = kept->commits;
+    if (kept->lock) pthread_mutex_lock(kept->lock);
+    code = (int)pdtr_begin_at(kept->version, 0, &txn->raw);
+    if (kept->lock) pthread_mutex_unlock(kept->lock);
   } else {
     code = pdti_begin_newest(store, txn);
   }
@@ -65,7 +64,7 @@ static int begin(pdt_store *store, pdt_pinned *pin, pdt_txn **out) {
 pdt_code pdt_begin(pdt_store *store, pdt_txn **out) {
   if (!out) return PDT_MISUSE;
   *out = NULL;
-  return store ? begin(store, NULL, out) : PDT_MISUSE;
+  return store ? pdti_begin_over(store, NULL, out) : PDT_MISUSE;
 }
 
 pdt_code pdt_begun(pdt_txn *txn, uint64_t *commits) {
@@ -133,7 +132,8 @@ uint64_t pdt_pinned_commits(const pdt_pinned *pin) { return pin ? pin->commits :
 pdt_code pdt_begin_at(pdt_pinned *pin, pdt_txn **out) {
   if (!out) return PDT_MISUSE;
   *out = NULL;
-  return pin ? begin(pin->store, pin, out) : PDT_MISUSE;
+  if (!pin) return PDT_MISUSE;
+  return pdti_begin_over(pin->store, &(kept_version){&pin->version, &pin->lock, pin->commits}, out);
 }
 
 void pdt_unpin(pdt_pinned *pin) {

@@ -246,6 +246,31 @@ static void read_numbers(client *c) {
   is("all of them", (long long)in_them, (long long)at);
 }
 
+/* What the rows between two positions are made of. The model has no stable table: it knows which rows a client has changed. */
+static void read_stretches(client *c) {
+  int from = below(KEYS + 2), to = from + below(KEYS), rows = rows_of(&c->now), at = from;
+  int end = to < rows ? to : rows;
+  pdt_stretch parts[KEYS];
+  size_t count = KEYS;
+  answers("stretches", PDT_OK, D(pdt_stretches, c->txn, (uint64_t)from, (uint64_t)to, parts, &count));
+  for (size_t i = 0; i < count; i++) {
+    int key = key_at(&c->now, at);
+    uint8_t changed[WIDTH];
+    is("one after the other", at, (long long)parts[i].position);
+    answers("changed", PDT_OK, D(pdt_changed, c->txn, (uint64_t)at, changed, WIDTH));
+    is("an inserted row is its own", parts[i].source == PDT_INSERTED, changed[0]);
+    for (int column = 1; column < WIDTH; column++) {
+      if (parts[i].source == PDT_INSERTED) is("in each column", 1, changed[column]);
+      if (parts[i].source == PDT_STABLE) is("a stable row has none", 0, changed[column]);
+      if (c->now.effects[key] == CHANGE && c->now.columns[key] >> column & 1) is("a change of its own", 1, changed[column]);
+    }
+    is("one row that isn't stable", 1, parts[i].source == PDT_STABLE ? 1 : (long long)parts[i].rows);
+    at += (int)parts[i].rows;
+  }
+  is("all rows", end > from ? end : from, at);
+  answers("past the end", PDT_MISSING, D(pdt_changed, c->txn, (uint64_t)rows, NULL, 0));
+}
+
 /* A store is the table of the model, whichever way it came. */
 static void store_is(const char *what, pdt_store *other, const view *table) {
   pdt_txn *txn = NULL;
@@ -566,7 +591,17 @@ static void checkpoint_parts(void) {
     is_superseded = is_written = is_installed = false;
     return;
   }
-  switch (below(4)) {
+  switch (below(5)) {
+    case 4: {
+      pdt_txn *txn = NULL;
+      uint64_t rows = 0;
+      answers("read a checkpoint", PDT_OK, D(pdt_checkpoint_read, snapshot, &txn));
+      counted.begins++;
+      answers("rows of the begin", PDT_OK, D(pdt_rows, txn, &rows));
+      is("rows of the begin", rows_of(&begun_rows), (long long)rows);
+      D(pdt_abort, txn);
+      return;
+    }
     case 0:
     case 1:
       answers("write", is_written ? PDT_MISUSE : PDT_OK, D(pdt_checkpoint_write, snapshot, room));
@@ -684,7 +719,7 @@ static void pin_or_unpin(void) {
   at->number = commit_count;
 }
 static void step(void) {
-  static void (*const reads[])(client *) = {read_row, read_rank, read_column, read_numbers};
+  static void (*const reads[])(client *) = {read_row, read_rank, read_column, read_numbers, read_stretches};
   static void (*const writes[])(client *) = {insert, insert, delete, set, set, mark};
   client *c = &clients[below(CLIENTS)];
   int what = below(100);
@@ -694,7 +729,7 @@ static void step(void) {
   else if (what < 10) pin_or_unpin();
   else if (!c->txn) begin(c);
   else if (what < 50) writes[below(6)](c);
-  else if (what < 86) reads[below(4)](c);
+  else if (what < 86) reads[below(5)](c);
   else if (what < 92) commit(c);
   else if (what < 96) prepare(c);
   else if (what < 98) D(pdt_abort, c->txn), c->txn = NULL;
