@@ -132,6 +132,8 @@ int pdti_width_of(const uint8_t *header, size_t len, size_t *width) {
 
 /* ---- columns that the caller hands over */
 
+enum { MOST_ROWS = 2147483647 };
+
 /* What is passed of each column: nothing but what its type has. */
 typedef struct {
   numbers numbers[PDT_MAX_COLUMNS];
@@ -145,21 +147,23 @@ typedef struct {
   size_t len;
 } zeros;
 
-static int map_zeros(zeros *map, size_t values) {
-  size_t len = values * sizeof(uint64_t);
-  if (map->len >= len) return PDT_OK;
+/* Maps as many as the longest of the columns that stay outside wants: a text begins at each row, and ends at one more. */
+static int map_zeros(zeros *map, const pdt_column *columns, size_t count) {
+  size_t most = 0;
+  for (size_t i = 0; i < count; i++)
+    if (columns[i].type & PDT_OUTSIDE && columns[i].rows <= MOST_ROWS && columns[i].rows >= most) most = (size_t)columns[i].rows + 1;
+  if (!most) return PDT_OK;
+  size_t len = most * sizeof(uint64_t);
   void *at = mmap(NULL, len, PROT_READ, MAP_PRIVATE | MAP_ANONYMOUS | MAP_NORESERVE, -1, 0);
   if (at == MAP_FAILED) return PDT_NOMEM;
-  if (map->len) munmap(map->at, map->len);
   *map = (zeros){at, len};
   return PDT_OK;
 }
 
 /* A column whose values stay with the caller: 0, no text and false stand for them. */
-static int pass_outside(passed *all, size_t at, const pdt_column *column, zeros *map) {
+static int pass_outside(passed *all, size_t at, const pdt_column *column, const zeros *map) {
   size_t rows = (size_t)column->rows;
   if (column->numbers || column->offsets || column->bytes || column->len) return PDT_MISUSE;
-  if (map_zeros(map, rows + 1)) return PDT_NOMEM;
   switch (column->type & ~PDT_OUTSIDE) {
     case PDT_INT: all->numbers[at] = (numbers){map->at, rows}; return PDT_OK;
     case PDT_BOOL: all->bytes[at] = (slice){map->at, rows}; return PDT_OK;
@@ -167,13 +171,13 @@ static int pass_outside(passed *all, size_t at, const pdt_column *column, zeros 
   }
 }
 
-static int pass_column(passed *all, size_t at, const pdt_column *column, zeros *map) {
+static int pass_column(passed *all, size_t at, const pdt_column *column, const zeros *map) {
   static const uint64_t no_offsets[1];
   size_t rows = (size_t)column->rows;
   all->numbers[at] = (numbers){pdti_no_numbers, 0};
   all->offsets[at] = (offsets){no_offsets, 0};
   all->bytes[at] = (slice){pdti_no_bytes, 0};
-  if (column->rows > 2147483647) return PDT_TOO_MANY_ROWS;
+  if (column->rows > MOST_ROWS) return PDT_TOO_MANY_ROWS;
   if (column->type & PDT_OUTSIDE) return pass_outside(all, at, column, map);
   if (!rows) return PDT_OK;
   switch (column->type) {
@@ -215,7 +219,7 @@ pdt_code pdt_open_columns(const pdt_column *columns, size_t count, size_t key, c
   passed *all = malloc(sizeof *all);
   pdt_store *store = calloc(1, sizeof *store);
   zeros map = {NULL, 0};
-  if (!all || !store) code = PDT_NOMEM;
+  if (!all || !store || map_zeros(&map, columns, count)) code = PDT_NOMEM;
   for (size_t column = 0; column < count && !code; column++) code = pass_column(all, column, &columns[column], &map);
   if (!code)
     code = (int)pdtr_open_columns((const uint8_t *)header, len, (size_t)columns[0].rows, all->numbers, count, all->offsets, count,
