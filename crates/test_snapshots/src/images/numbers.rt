@@ -86,13 +86,7 @@ fn run_len(run: &NumberRun<'_>) -> usize {
 fn number_at<'a>(run: &'a NumberRun<'_>, i: usize) -> Option<&'a i64> {
     match run {
         NumberRun::Lent(numbers) => numbers.get(i),
-        NumberRun::One(number) => {
-            if i == 0 {
-                Some(number)
-            } else {
-                None
-            }
-        }
+        NumberRun::One(number) => { if i == 0 { Some(number) } else { None } }
     }
 }
 
@@ -192,36 +186,47 @@ fn numbers_are_filled_as_the_plain_program_merges_them(rt: HostRuntime) -> Resul
     Ok(())
 }
 
-/// Rows of more than a block, of which sets, deletes and inserts meet at the ends of the block and of the rows.
-fn edge_stack(alloc: Global) -> Result<Stack, Fail>
-    ensures { IfOk result (λ made. AreStacked made.stable made.read.tree made.write.tree made.trans.tree) }
-{
+/// Sets, deletes and inserts that meet at the ends of a block and of 1,100 rows, for the Read-PDT.
+static EDGE_READ: [ItemWrite; 19] = [
+    ItemWrite::Set(2_032, -1_016),
+    ItemWrite::Set(2_034, -1_017),
+    ItemWrite::Set(2_036, -1_018),
+    ItemWrite::Set(2_038, -1_019),
+    ItemWrite::Set(2_042, -1_021),
+    ItemWrite::Set(2_044, -1_022),
+    ItemWrite::Set(2_046, -1_023),
+    ItemWrite::Set(2_048, -1_024),
+    ItemWrite::Set(2_050, -1_025),
+    ItemWrite::Set(2_052, -1_026),
+    ItemWrite::Set(2_054, -1_027),
+    ItemWrite::Name(2_044, "other"),
+    ItemWrite::Delete(2_040),
+    ItemWrite::Insert(2_045, "new", 5),
+    ItemWrite::Insert(2_047, "new", 6),
+    ItemWrite::Delete(2_048),
+    ItemWrite::Set(0, 3),
+    ItemWrite::Set(2_198, 4),
+    ItemWrite::Insert(2_199, "new", 8),
+];
+
+/// And some over them, for the Write-PDT.
+static EDGE_WRITE: [ItemWrite; 2] = [ItemWrite::Delete(2_034), ItemWrite::Set(2_050, 9)];
+
+/// So many rows of even keys from 0 on, whose quantity is their place.
+fn even_rows(alloc: Global, count: u16) -> Result<Vec<Row>, NoMemory> {
     let mut rows = Vec::new(alloc);
-    for place in 0..1_100_u16 {
+    for place in 0..count {
         rows.push(item(alloc, i64::from(place) * 2, "old", i64::from(place))?)?;
     }
-    let mut read = Vec::new(alloc);
-    for place in 1_016..1_028_i64 {
-        if place != 1_020 {
-            read.push(ItemWrite::Set(place.wrapping_mul(2), place.wrapping_neg()))?;
-        }
-    }
-    read.push(ItemWrite::Name(2_044, "other"))?;
-    read.push(ItemWrite::Delete(2_040))?;
-    read.push(ItemWrite::Insert(2_045, "new", 5))?;
-    read.push(ItemWrite::Insert(2_047, "new", 6))?;
-    read.push(ItemWrite::Delete(2_048))?;
-    read.push(ItemWrite::Set(0, 3))?;
-    read.push(ItemWrite::Set(2_198, 4))?;
-    read.push(ItemWrite::Insert(2_199, "new", 8))?;
-    let write = [ItemWrite::Delete(2_034), ItemWrite::Set(2_050, 9)];
-    written_stack(alloc, rows.as_slice(), [read.as_slice(), &write, &[]])
+    Ok(rows)
 }
 
 #[test]
 fn numbers_are_filled_at_the_ends_of_blocks(rt: HostRuntime) -> Result<(), Fail> {
-    let stack = edge_stack(rt.alloc())?;
-    assert_numbers(&rt, rt.alloc(), &stack, &EDGES)
+    let alloc = rt.alloc();
+    let rows = even_rows(alloc, 1_100)?;
+    let stack = written_stack(alloc, rows.as_slice(), [&EDGE_READ, &EDGE_WRITE, &[]])?;
+    assert_numbers(&rt, alloc, &stack, &EDGES)
 }
 
 /// How many numbers each run of a column has.
@@ -244,10 +249,7 @@ fn run_lens(
 #[test]
 fn what_is_changed_in_other_columns_ends_no_packed_run(rt: HostRuntime) -> Result<(), Fail> {
     let alloc = rt.alloc();
-    let mut rows = Vec::new(alloc);
-    for place in 0..2_500_u16 {
-        rows.push(item(alloc, i64::from(place) * 2, "old", i64::from(place))?)?;
-    }
+    let rows = even_rows(alloc, 2_500)?;
     let read = [
         ItemWrite::Set(200, -1),
         ItemWrite::Delete(400),
