@@ -42,6 +42,7 @@ install: door
 uninstall:
 	$(MAKE) -C door/c uninstall && $(MAKE) -C door/sqlite uninstall
 
-# measures the library through its doors, beside plain Rust, SQLite and numpy, into bench/out: make bench BENCH="--only scans"
+# measures the library through its doors, beside plain Rust, SQLite and numpy, into bench/out: make bench BENCH="--only scans".
+# It needs cargo and libsqlite3-dev, numpy and matplotlib of /usr/bin/python3; it names what isn't there, and leaves it out
 bench: door
-	cd bench && ./extensions && PDT_LIB_DIR=$(CURDIR)/door/c/out cargo run --release --locked --offline -- --csv out $(BENCH) && ./batches --csv out && ./plots
+	bench/measure $(BENCH)
