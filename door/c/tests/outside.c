@@ -17,10 +17,10 @@ static void is(const char *what, long long wanted, long long found) {
   if (failures++ < 20) fprintf(stderr, "%s: wanted %lld, found %lld\n", what, wanted, found);
 }
 
-/* of the table: its key, the column as the library keeps it, another one, and the column that is the engine's. There the library has a
-   placeholder in each row of the opening, and what was written since */
+/* of the table: its key, the column as the library keeps it, another one, and the column that is the engine's. There the library has
+   what was written since the opening, and no values of the rows of that */
 enum { KEY, INSIDE, OTHER, OUTSIDE, WIDTH };
-enum { ROWS = 3000, MANY = 4000, PLACEHOLDER = -1, ROOM = 7 };
+enum { ROWS = 3000, MANY = 4000, ROOM = 7 };
 
 /* ---- the engine's column: a file of 64-bit numbers in the order of the stable table */
 
@@ -133,17 +133,16 @@ static void write_all(pdt_store *store, int64_t seed) {
 /* ---- the life of the column */
 
 static pdt_store *opened(int64_t *numbers) {
-  static int64_t keys[ROWS], placeholders[ROWS];
+  static int64_t keys[ROWS];
   for (int i = 0; i < ROWS; i++) {
     keys[i] = 10 * i;
     numbers[i] = number_of(keys[i]);
-    placeholders[i] = PLACEHOLDER;
   }
   pdt_column columns[WIDTH] = {
       {.name = "id", .type = PDT_INT, .rows = ROWS, .numbers = keys},
       {.name = "inside", .type = PDT_INT, .rows = ROWS, .numbers = numbers},
       {.name = "other", .type = PDT_INT, .rows = ROWS, .numbers = keys},
-      {.name = "outside", .type = PDT_INT, .rows = ROWS, .numbers = placeholders},
+      {.name = "outside", .type = PDT_INT | PDT_OUTSIDE, .rows = ROWS},
   };
   pdt_store *store = NULL;
   is("open", PDT_OK, pdt_open_columns(columns, WIDTH, 1, NULL, NULL, &store));
