@@ -231,6 +231,9 @@ static void outside_values(void) {
   is("close", PDT_OK, pdt_close(store));
 }
 
+#ifdef __SANITIZE_ADDRESS__ /* which has a malloc of its own, that counts nothing */
+static void outside_memory(void) {}
+#else
 /* The memory of a store of so many rows with so many numbers outside. */
 static size_t taken_by(size_t outside) {
   pdt_column table[PDT_MAX_COLUMNS];
@@ -250,12 +253,11 @@ static size_t taken_by(size_t outside) {
 
 /* Thirty columns of a million numbers outside take less than a quarter of what one column of numbers does. */
 static void outside_memory(void) {
-#ifndef __SANITIZE_ADDRESS__ /* which has a malloc of its own, that counts nothing */
   size_t none = taken_by(0), thirty = taken_by(30);
   is("the keys' memory", 1, none > 8 * (size_t)MANY);
   is("the memory of thirty columns outside", 1, thirty - none < 8 * (size_t)MANY / 4);
-#endif
 }
+#endif
 
 static void openings(void) {
   pdt_store *store = opened();
