@@ -1,5 +1,5 @@
 -- Payloads of format 2: where their faults are, and their round trip.
-use Rattle.std.proofs.Common.{◌≡◌, ◌⊎◌, inl, inr, ℕ, zero, suc, ◌+◌, ◌<◌, ◌≤◌, ◌&&◌, Bool, true, false, not, cond, ltb, eqb, List, [], ◌∷◌, length, take, drop, map, get_or, replicate, slice_get, Option, Some, Result, Ok, Err, IsTrue, IsFalse, refl, sym, ap, subst, ◌∙◌, arith}
+use Rattle.std.proofs.Common.{◌≡◌, ◌⊎◌, inl, inr, ℕ, zero, suc, ◌+◌, ◌≤◌, ◌&&◌, Bool, true, false, not, cond, ltb, eqb, List, [], ◌∷◌, length, take, drop, map, get_or, replicate, slice_get, Option, Some, Result, Ok, Err, IsTrue, IsFalse, refl, sym, ap, subst, ◌∙◌, arith}
 use Rattle.std.specs.Prelude.{IfOk}
 use Rattle.std.specs.List.{list_all}
 use Rattle.std.specs.Ordering.{eq_by_cmp}
@@ -20,7 +20,7 @@ use Rattle.blocks.specs.declared.fault.BlockFault.{BlockFault}
 use Rattle.blocks.specs.declared.fault.BlockFault.TheVariants.{Short, Long, BadText, TextTooLong, BadPadding, BadEncoding, NoMemory}
 use Rattle.blocks.specs.declared.encoding.TheConstants.{PLAIN, CONSTANT}
 use Rattle.blocks.specs.Column.{Column, Fits, AllFit}
-use Rattle.blocks.specs.Encoding.{is_constant, encoded_of, offset_of, one_later, behind, copies_of, unless_constant, plain_of, constant_of, decoding_of, IsEncoded, AnEncodingReadsBack, WhatDecodesIsAnEncoding, AnEncodingIsOfOneList}
+use Rattle.blocks.specs.Encoding.{is_constant, encoded_of, offset_of, behind, copies_of, unless_constant, plain_of, constant_of, decoding_of, IsEncoded, AnEncodingReadsBack, WhatDecodesIsAnEncoding, AnEncodingIsOfOneList}
 use Rattle.blocks.specs.Laws.{IsPayload}
 use Rattle.blocks.specs.Payload.{AreBytes, byte_count, all_bits, has_set_padding, payload_of}
 use Rattle.blocks.specs.Reading.{◌>>=◌, and_then, end_at, int_of, ints_at, length_of, text_at, texts_at, truths_of, reading_of, Fails, Gives}
@@ -148,28 +148,6 @@ fault_within ty count bytes BadEncoding fails = omega arith
 fault_within ty count bytes (Short at) fails = read_within ty count bytes (Short at) fails
 fault_within ty count bytes (Long at) fails = read_within ty count bytes (Long at) fails
 
--- the fault behind one more byte
-pub fails_behind : (fault : BlockFault) (reading : Result (List Value) BlockFault) → Fails fault reading
-    → Fails (one_later fault) (behind reading)
-fails_behind NoMemory reading fails = tt
-fails_behind (Short at) reading fails = ap behind fails
-fails_behind (Long at) reading fails = ap behind fails
-fails_behind (BadText i) reading fails = ap behind fails
-fails_behind (TextTooLong i) reading fails = ap behind fails
-fails_behind BadPadding reading fails = ap behind fails
-fails_behind BadEncoding reading fails = ap behind fails
-
--- a step's fault is the fault of the whole
-pub fails_first : {B : Type 0} (fault : BlockFault) (reading : Result (List Value) BlockFault) (next : List Value → Result B BlockFault)
-    → Fails fault reading → Fails fault (reading >>= next)
-fails_first NoMemory reading next fails = tt
-fails_first (Short at) reading next fails = ap (λ r. r >>= next) fails
-fails_first (Long at) reading next fails = ap (λ r. r >>= next) fails
-fails_first (BadText i) reading next fails = ap (λ r. r >>= next) fails
-fails_first (TextTooLong i) reading next fails = ap (λ r. r >>= next) fails
-fails_first BadPadding reading next fails = ap (λ r. r >>= next) fails
-fails_first BadEncoding reading next fails = ap (λ r. r >>= next) fails
-
 -- ---- equal values
 
 abbrev pub same : Value → Value → Bool
@@ -181,12 +159,6 @@ same_itself value = (eq_by_cmp_equiv value_cmp_total).refl value
 pub not_not : (b : Bool) → b ≡ not (not b)
 not_not true = refl
 not_not false = refl
-
--- fewer than two values are not constant
-pub few_differ : (values : List Value) → length values < 2 → is_constant values ≡ false
-few_differ [] few = refl
-few_differ (value ∷ []) few = refl
-few_differ (value ∷ other ∷ values) few = absurd (omega arith)
 
 -- two or more are where each is the first
 pub all_first : (values : List Value) (d : Value) → 2 ≤ length values → list_all (same (get_or values 0 d)) values ≡ is_constant values

@@ -1,5 +1,5 @@
 -- Reading texts one after the other, as a loop does.
-use Rattle.std.proofs.Common.{◌≡◌, ℕ, suc, ◌+◌, ◌-◌, ◌<◌, ◌≤◌, List, [], ◌∷◌, ◌++◌, length, Result, Ok, Err, refl, sym, ap, ◌∙◌, append_assoc, arith}
+use Rattle.std.proofs.Common.{◌≡◌, ℕ, suc, ◌+◌, ◌-◌, ◌<◌, List, [], ◌∷◌, ◌++◌, length, Result, Ok, Err, refl, sym, ap, ◌∙◌, append_assoc, arith}
 use Rattle.values.specs.declared.value.Value.{Value}
 use Rattle.values.specs.declared.value.Value.TheVariants.{Text}
 use Rattle.blocks.specs.declared.fault.BlockFault.{BlockFault}
@@ -51,13 +51,3 @@ fails_on (TextTooLong n) front i at count bytes total lt so_far e = fault_on (Te
 fails_on BadPadding front i at count bytes total lt so_far e = fault_on BadPadding front i at count bytes total lt so_far e
 fails_on BadEncoding front i at count bytes total lt so_far e = fault_on BadEncoding front i at count bytes total lt so_far e
 fails_on NoMemory front i at count bytes total lt so_far e = tt
-
--- but bytes are
-pub reads_left : (front : List Value) (i at count : ℕ) (bytes : List ℕ) (total : Result (List Value) BlockFault) → count ≤ i
-    → 0 < length bytes → after front (texts_at i at (count - i) bytes) ≡ total → total ≡ Err (Long at)
-unfolding texts_at
-reads_left front i at count [] total le some so_far = absurd (omega arith)
-reads_left front i at count (byte ∷ bytes) total le some so_far =
-    let none : count - i ≡ 0 = omega arith in
-    let one : after front (texts_at i at (count - i) (byte ∷ bytes)) ≡ Err (Long at) = rw none refl in
-    sym so_far ∙ one

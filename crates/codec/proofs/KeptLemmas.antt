@@ -1,7 +1,7 @@
 -- Bytes that stay while others are appended.
-use Rattle.std.proofs.Common.{◌≡◌, ◌∷◌, [], ◌++◌, List, ℕ, length, take, sym, ap, ◌∙◌, append_assoc, subst, arith}
+use Rattle.std.proofs.Common.{◌≡◌, ◌∷◌, [], ◌++◌, List, ℕ, length, take, sym, ap, ◌∙◌, append_assoc, arith}
 use Rattle.std.specs.List.{AllByRecursion}
-use Rattle.std.proofs.lemmas.List.{length-append, take-take, flat_map_more, append-nil}
+use Rattle.std.proofs.lemmas.List.{length-append, take-take, flat_map_more}
 use Rattle.std.proofs.Math.Seq.{take-append_seam}
 use Rattle.model.specs.declared.entry.Entry.{Entry}
 use Rattle.codec.specs.Fit.{ArePlainEntries, IsPlainChange}
@@ -42,10 +42,3 @@ written_more old now new entries left rest entry so_far steps spelt plain =
       spelt =
           spelt ∙ ap (λ xs. xs ++ entry_bytes entry) so_far.spelt ∙ flat_map_more entry_bytes old so_far.front entry;
     }
-
--- all of them
-pub written_all : (old now : List ℕ) (entries left : List Entry) → IsWritten old now entries left → left ≡ []
-    → (now ≡ old ++ entries_bytes entries) × ArePlainEntries entries
-written_all old now entries left so_far none =
-    let all : so_far.front ≡ entries = sym (append-nil so_far.front) ∙ ap (λ es. so_far.front ++ es) (sym none) ∙ sym so_far.parts in
-    (so_far.spelt ∙ ap (λ es. old ++ entries_bytes es) all, subst ArePlainEntries all so_far.plain)

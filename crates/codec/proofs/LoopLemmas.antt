@@ -2,12 +2,11 @@
 use Rattle.std.proofs.Common.{◌≡◌, ℕ, zero, suc, ◌+◌, ◌<◌, ◌≤◌, eqb, cond, Option, Some, List, [], ◌∷◌, ◌++◌, length, Result, Ok, Err, refl, sym, ap, ◌∙◌, append_assoc, arith}
 use Rattle.std.proofs.lemmas.List.{append-nil}
 use Rattle.values.specs.Shape.{Columns}
-use Rattle.values.specs.declared.value.ColumnType.{ColumnType}
 use Rattle.values.specs.declared.value.Value.{Value}
 use Rattle.model.specs.declared.entry.Entry.{Entry}
 use Rattle.codec.specs.declared.fault.PayloadFault.{PayloadFault}
 use Rattle.codec.specs.declared.fault.PayloadFault.TheVariants.{Short, BadTable, BadKind, BadColumn, BadCell, NoMemory}
-use Rattle.codec.specs.Reading.{◌>>=◌, FoundValue, FoundEntry, FoundSpan, Span, cell_at, cells_at, before, entry_at, entries_up, and_then, span_at, spans_up, span_then, found_among, Fails}
+use Rattle.codec.specs.Reading.{◌>>=◌, FoundEntry, FoundSpan, Span, entry_at, entries_up, and_then, span_at, spans_up, span_then, found_among, Fails}
 
 -- a fault of a step is that of what wants the step
 pub failed : {A B : Type 0} (fault : PayloadFault) (step : Result A PayloadFault) (total : Result B PayloadFault)
@@ -27,27 +26,6 @@ FoundValues = List Value × List ℕ
 -- cells that were read before, and those that are read now
 abbrev pub cells_after : List Value → Result FoundValues PayloadFault → Result FoundValues PayloadFault
 cells_after front reading = reading >>= λ found. Ok (front ++ found.0, found.1)
-
-cells_after-before : (front : List Value) (value : Value) (reading : Result FoundValues PayloadFault)
-    → cells_after front (reading >>= λ cells. Ok (before value cells)) ≡ cells_after (front ++ value ∷ []) reading
-cells_after-before front value (Ok found) = ap (λ vs. Ok (vs, found.1)) (sym (append_assoc front (value ∷ []) found.0))
-cells_after-before front value (Err fault) = refl
-
-pub cells_none : (reading : Result FoundValues PayloadFault) → cells_after [] reading ≡ reading
-cells_none (Ok found) = refl
-cells_none (Err fault) = refl
-
-module _ (front : List Value) (ty : ColumnType) (types : List ColumnType) (end : ℕ) (bytes : List ℕ) (total : Result FoundValues PayloadFault)
-    (so_far : cells_after front (cells_at (ty ∷ types) end bytes) ≡ total) where
-  abbrev next_cells : Result FoundValue PayloadFault → Result FoundValues PayloadFault
-  next_cells cell = cells_after front (cell >>= λ cell. cells_at types end cell.1 >>= λ cells. Ok (before cell.0 cells))
-
-  pub cells_on : (value : Value) (left : List ℕ) → cell_at ty end bytes ≡ Ok (value, left)
-      → cells_after (front ++ value ∷ []) (cells_at types end left) ≡ total
-  cells_on value left e = sym (cells_after-before front value (cells_at types end left)) ∙ sym (ap next_cells e) ∙ so_far
-
-  pub cells_fault : (fault : PayloadFault) → Fails fault (cell_at ty end bytes) → Fails fault total
-  cells_fault fault h = failed fault (cell_at ty end bytes) total (λ f e. sym so_far ∙ ap next_cells e) h
 
 -- ---- entries
 

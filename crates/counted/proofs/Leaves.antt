@@ -58,9 +58,3 @@ entry_at es at l x d some is e =
     let rest = drop (at + length l) es in
     let here = ap (λ ys. ys ++ rest) (first_of l d some) ∙ ap (λ y. y ∷ (drop 1 l ++ rest)) (sym is) in
     first_at es at x (drop 1 l ++ rest) (e ∙ here)
-
-pub no_entry_at : (es : List Entry) (at : ℕ) → length es ≤ at → None ≡ slice_get es at
-no_entry_at [] zero h = refl
-no_entry_at [] (suc at) h = refl
-no_entry_at (e ∷ es) zero h = absurd (omega arith)
-no_entry_at (e ∷ es) (suc at) h = no_entry_at es at (omega arith)

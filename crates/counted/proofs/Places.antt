@@ -18,7 +18,7 @@ use Rattle.counted.specs.Sums.{total}
 use Rattle.counted.specs.Shapes.{items_of, all_items, depth_of, view_of, IsChild, AreChildren, IsBalanced}
 use Rattle.counted.specs.Trees.{IsDepth, IsRoot}
 use Rattle.counted.specs.Views.{View}
-use Rattle.counted.specs.Grown.{IsSameChild, IsGrown, AreGrown, grown_items, grown_width}
+use Rattle.counted.specs.Grown.{IsSameChild, IsGrown, grown_items}
 use Rattle.counted.specs.declared.node.grown.Grown.{Grown}
 use Rattle.counted.specs.declared.node.grown.Grown.TheVariants.{One, Two}
 use Rattle.std.proofs.lemmas.List.Elements.{All-head, All-tail, All-drop}
@@ -284,14 +284,6 @@ deep_children (c ∷ children) h = (All-head (IsChild (depth_of (c ∷ children)
 pub grown_is : (depth width : ℕ) (items : List Entry) (g : Grown) → IsGrown depth width items g → grown_items g ≡ items
 grown_is depth width items (One node) h = h.2
 grown_is depth width items (Two left right) h = h.4
-
-pub grown_wide : (depth width : ℕ) (items : List Entry) (g : Grown) → 8 ≤ width → IsGrown depth width items g → 8 ≤ grown_width g
-grown_wide depth width items (One node) wide h = omega (arith, h.1)
-grown_wide depth width items (Two left right) wide h = omega (arith, h.2, h.3)
-
-pub grown_depth : (depth width : ℕ) (items : List Entry) (g : Grown) → IsGrown depth width items g → AreGrown depth g
-grown_depth depth width items (One node) h = h.0
-grown_depth depth width items (Two left right) h = (h.0, h.1)
 
 pub grown_same : (depth depth' width width' : ℕ) (items items' : List Entry) (g : Grown) → depth ≡ depth' → width' ≤ width
     → items ≡ items' → IsGrown depth width items g → IsGrown depth' width' items' g

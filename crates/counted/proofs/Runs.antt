@@ -1,17 +1,10 @@
 -- One entry in the place of a run of them.
-use Rattle.std.proofs.Common.{◌≡◌, ℕ, ◌+◌, ◌≤◌, List, [], ◌∷◌, ◌++◌, length, take, drop, refl, ap, ◌∙◌, arith, append_assoc}
-use Rattle.std.proofs.Common.{length-append, length-take, length-drop}
+use Rattle.std.proofs.Common.{◌≡◌, ℕ, ◌+◌, ◌≤◌, List, [], ◌∷◌, ◌++◌, length, take, drop, ap, ◌∙◌, arith, append_assoc}
+use Rattle.std.proofs.Common.{length-take}
 use Rattle.std.proofs.lemmas.List.{drop-drop}
 use Rattle.model.specs.declared.entry.Entry.{Entry}
 use Rattle.counted.specs.Edits.{edited}
 use Rattle.counted.proofs.Places.{take-past, drop-past}
-
-pub run_length : (es : List Entry) (start k : ℕ) (e : Entry) → start + 1 ≤ k → k ≤ length es
-    → length (take start es ++ e ∷ drop k es) + k ≡ start + 1 + length es
-run_length es start k e lt le = omega (arith, length-append (take start es) (e ∷ drop k es), length-take start es, length-drop k es)
-
-pub run_start : (es : List Entry) (start : ℕ) (e : Entry) → edited start 1 (e ∷ []) es ≡ take start es ++ e ∷ drop (start + 1) es
-run_start es start e = refl
 
 pub run_step : (es : List Entry) (start k : ℕ) (e : Entry) → start ≤ length es
     → edited (start + 1) 1 [] (take start es ++ e ∷ drop k es) ≡ take start es ++ e ∷ drop (k + 1) es

@@ -40,10 +40,6 @@ pub total-append : (xs ys : List Entry) → total (xs ++ ys) ≡ total xs +ℤ t
 total-append [] ys = omega (arith, ints)
 total-append (e ∷ xs) ys = let rest = total-append xs ys in omega (arith, ints)
 
-pub shift_before-append : (sid : ℕ) (xs ys : List Entry) → shift_before sid (xs ++ ys) ≡ shift_before sid xs +ℤ shift_before sid ys
-shift_before-append sid [] ys = omega (arith, ints)
-shift_before-append sid (e ∷ xs) ys = let rest = shift_before-append sid xs ys in omega (arith, ints)
-
 -- neither do those before a SID
 pub shift_within : (sid : ℕ) (entries : List Entry) → IsWithin (shift_before sid entries) (length entries)
 shift_within sid [] = record { above = omega (arith, ints); below = omega (arith, ints) }
@@ -74,19 +70,6 @@ total_take_within xs i =
 
 -- ---- the order
 
-all-left : (e : Entry) (xs ys : List Entry) → AllByRecursion (λ x. next_sid e.sid e.change ≤ x.sid) (xs ++ ys)
-    → AllByRecursion (λ x. next_sid e.sid e.change ≤ x.sid) xs
-all-left e [] ys h = tt
-all-left e (x ∷ xs) ys h = (h.0, all-left e xs ys h.1)
-
-pub ordered-left : (xs ys : List Entry) → IsOrdered (xs ++ ys) → IsOrdered xs
-ordered-left [] ys h = tt
-ordered-left (e ∷ xs) ys h = (all-left e xs ys h.0, ordered-left xs ys h.1)
-
-pub ordered-right : (xs ys : List Entry) → IsOrdered (xs ++ ys) → IsOrdered ys
-ordered-right [] ys h = h
-ordered-right (e ∷ xs) ys h = ordered-right xs ys h.1
-
 -- all entries stand at or past the place
 pub past : (sid : ℕ) (entries : List Entry) → AllByRecursion (λ x. sid ≤ x.sid) entries → shift_before sid entries ≡ pos 0
 past sid [] h = refl
@@ -99,10 +82,6 @@ all_weaker : (low high : ℕ) (entries : List Entry) → low ≤ high → AllByR
     → AllByRecursion (λ x. low ≤ x.sid) entries
 all_weaker low high [] le h = tt
 all_weaker low high (e ∷ entries) le h = (omega (arith, h.0), all_weaker low high entries le h.1)
-
-all-right : (low : ℕ) (xs ys : List Entry) → AllByRecursion (λ x. low ≤ x.sid) (xs ++ ys) → AllByRecursion (λ x. low ≤ x.sid) ys
-all-right low [] ys h = h
-all-right low (x ∷ xs) ys h = all-right low xs ys h.1
 
 -- where the first of a run of entries stands
 abbrev pub first_sid : List Entry → ℕ

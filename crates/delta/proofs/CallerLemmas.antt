@@ -1,8 +1,8 @@
 -- What the crates above cite of this one, in one place. Declares nothing.
 pub use Rattle.delta.proofs.AheadLemmas.{next_is}
 pub use Rattle.delta.proofs.BySidLemmas.{base_change-effect, past-kept}
-pub use Rattle.delta.proofs.ChangesLemmas.{HasInsert, filter_all, filter_none, has_insert, nothing, all_take}
-pub use Rattle.delta.proofs.CountedLemmas.{next_passes, some_is, some_within}
+pub use Rattle.delta.proofs.ChangesLemmas.{HasInsert, has_insert, nothing, all_take}
+pub use Rattle.delta.proofs.CountedLemmas.{next_passes}
 pub use Rattle.delta.proofs.CountLemmas.{counts-le, delete_count-append, delete_count-cons, delete_worth}
 pub use Rattle.delta.proofs.CountLemmas.{insert_count-append, insert_count-cons, insert_worth}
 pub use Rattle.delta.proofs.LawsLemmas.{Known, finds_effect, known, may_call, may_delete, may_insert, may_set}

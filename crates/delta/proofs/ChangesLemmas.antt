@@ -603,11 +603,6 @@ module _ (key_cols sid : ℕ) where
 
 -- ---- the same in the words of a tree that is open
 
-pub same_item : (es : List Entry) (n : ℕ) (d e : Entry) → n < length es → get_or es n d ≡ get_or es n e
-same_item [] n d e lt = absurd (omega arith)
-same_item (x ∷ es) zero d e lt = refl
-same_item (x ∷ es) (suc n) d e lt = let short : n < length es = omega arith in same_item es n d e short
-
 pub found_in : (k : ℕ) (es : List Entry) (t : Tree) (sid : ℕ) (cells key : Key) (n : ℕ)
     → ◌≡◌ {A = Tree} (record { key_cols = k; entries = es }) t → cells ≡ key → are_ordered k es ≡ true
     → IsSplit (stands_before (insert_cmp t.key_cols cells) sid) t.entries n

@@ -1,6 +1,5 @@
 -- How many inserts and deletes entries have, part by part.
-use Rattle.std.proofs.Common.{◌≡◌, ℕ, ◌+◌, ◌<◌, ◌≤◌, List, [], ◌∷◌, ◌++◌, map, length, take, get_or, sym, ap, ◌∙◌, arith, zero-add}
-use Rattle.std.proofs.lemmas.List.{take_more}
+use Rattle.std.proofs.Common.{◌≡◌, ℕ, ◌+◌, ◌≤◌, List, [], ◌∷◌, ◌++◌, map, length, sym, ap, ◌∙◌, arith, zero-add}
 use Rattle.model.specs.declared.entry.Entry.{Entry}
 use Rattle.model.specs.declared.entry.Change.{Change}
 use Rattle.model.specs.declared.entry.Change.TheVariants.{Ins, Del, Mod}
@@ -63,9 +62,3 @@ worth_le (Mod col value) = omega arith
 pub counts-le : (es : List Entry) → insert_count es + delete_count es ≤ length es
 counts-le [] = omega arith
 counts-le (e ∷ es) = omega (arith, worth_le e.change, insert_count-cons e es, delete_count-cons e es, counts-le es)
-
-pub delete_count-take : (es : List Entry) (i : ℕ) (e : Entry) → i < length es → e ≡ get_or es i e
-    → delete_count (take (i + 1) es) ≡ delete_count (take i es) + delete_worth e.change
-delete_count-take es i e lt is =
-    let next = ap delete_count (take_more es i e lt) ∙ delete_count-append (take i es) (get_or es i e ∷ []) in
-    omega (arith, next, delete_count-cons (get_or es i e) [], ap (λ (x : Entry). delete_worth x.change) is)

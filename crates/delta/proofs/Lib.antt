@@ -1,7 +1,6 @@
 mod SearchLemmas
 mod CountLemmas
 mod ChangesLemmas
-mod ChangeCountLemmas
 mod OrderLemmas
 mod LawfulLemmas
 mod PutLemmas

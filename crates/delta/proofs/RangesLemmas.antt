@@ -1,5 +1,5 @@
 -- What stands at a SID, or below it, is one part of the list.
-use Rattle.std.proofs.Common.{◌≡◌, ℕ, suc, ◌+◌, ◌-◌, ◌<◌, ◌≤◌, Bool, true, false, not, ◌&&◌, T, List, ◌∷◌, ◌++◌, filter, length, take, drop, get_or, nat_cmp, Less, Greater, is_gt, sym, ap, ◌∙◌, subst, arith, inl, inr, take-append-drop, drop-cons, length-take, append-nil}
+use Rattle.std.proofs.Common.{◌≡◌, ℕ, suc, ◌+◌, ◌-◌, ◌<◌, ◌≤◌, Bool, true, false, not, ◌&&◌, T, List, ◌∷◌, ◌++◌, filter, length, take, drop, get_or, nat_cmp, Less, Greater, is_gt, sym, ap, ◌∙◌, subst, arith, inl, inr, drop-cons, length-take, append-nil}
 use Rattle.std.specs.Prelude.{◌==◌, nat_lt}
 use Rattle.std.specs.Ordering.{ordering_then}
 use Rattle.std.specs.List.{list_all}
@@ -38,21 +38,6 @@ module _ (sid : ℕ) where
   is_here x h g = grind (arith, nat_tests)
 
   -- ---- the entries at the SID and below it
-
-  -- the search for the SID gives the entries below it
-  pub filter-below : (es : List Entry) (n : ℕ) → IsSplit (stands_before first_cmp sid) es n → filter (λ e. nat_lt e.sid sid) es ≡ take n es
-  filter-below es n h =
-      let below = λ (e : Entry). nat_lt e.sid sid in
-      let kept =
-      filter_all below (take n es)
-      (all_from (stands_before first_cmp sid) below (λ x t. subst T (before_is x.sid) t) (take n es) h.before) in
-      let gone =
-      filter_none below (drop n es) (all_from (λ e. not (stands_before first_cmp sid e)) (λ e. not (below e))
-      (λ x t. subst (λ b. T (not b)) (before_is x.sid) t) (drop n es) h.after) in
-      ap (filter below) (sym (take-append-drop n es))
-      ∙ filter-append below (take n es) (drop n es)
-      ∙ (λ i. kept i ++ gone i)
-      ∙ append-nil (take n es)
 
   -- the search for the SID doesn't end past that for what follows it
   pub first-le-past : (es : List Entry) (n m : ℕ) → IsSplit (stands_before first_cmp sid) es n

@@ -1,16 +1,13 @@
 -- The columns of a generation, and the image that they are.
-use Rattle.std.proofs.Common.{◌≡◌, ℕ, suc, ◌<◌, ◌≤◌, true, eqb, List, [], ◌∷◌, ◌++◌, length, drop, map, get_or, refl, sym, ap, subst, ◌∙◌, append_assoc, arith}
+use Rattle.std.proofs.Common.{◌≡◌, ℕ, suc, ◌<◌, ◌≤◌, List, [], ◌∷◌, ◌++◌, length, drop, map, get_or, refl, sym, ap, subst, ◌∙◌, append_assoc, arith}
 use borrow.Author.Count.{below_more}
 use Rattle.std.proofs.Math.Seq.{get_or-append_seam}
-use Rattle.std.proofs.lemmas.Bool.{eqb-true}
-use Rattle.std.proofs.lemmas.List.{append-nil, length-append, length_push, length-map, map-append, get_or-map, get_or_append_left}
-use Rattle.std.proofs.lemmas.List.Sums.{AllPass-from_list_all}
+use Rattle.std.proofs.lemmas.List.{length-append, length_push, length-map, map-append, get_or-map, get_or_append_left}
 use Rattle.values.specs.declared.value.ColumnType.{ColumnType}
 use Rattle.values.specs.declared.value.ColumnType.TheVariants as column
 use Rattle.blocks.specs.Column.{Column}
 use Rattle.frames.specs.declared.frame.Part.{Part}
-use Rattle.stable.specs.Rows.{AreEven, row_count}
-use Rattle.devices.specs.Stored.{values_in, columns_in, are_even}
+use Rattle.devices.specs.Stored.{values_in, columns_in}
 use Rattle.devices.specs.Turns.{AreInTurn, AreAllInTurn, AreEachInTurn}
 
 -- the column of a generation in a column's blocks
@@ -45,11 +42,6 @@ types-columns_in g [] [] even = refl
 types-columns_in g [] (parts ∷ columns) even = refl
 types-columns_in g (ty ∷ types) [] even = absurd (omega (arith, even))
 types-columns_in g (ty ∷ types) (parts ∷ columns) even = ap (λ ts. ty ∷ ts) (types-columns_in g types columns (omega (arith, even)))
-
--- columns of as many values
-pub even_columns : (columns : List Column) → are_even columns ≡ true → AreEven columns
-even_columns columns even col d lt =
-    eqb-true _ _ (AllPass-from_list_all (λ c. eqb (length c.values) (row_count columns)) columns even col d lt)
 
 -- one column more in turn
 pub all_in_turn_push : (types : List ColumnType) (columns : List (List Part)) (parts : List Part) → AreAllInTurn types columns
@@ -102,11 +94,6 @@ module _ {V : Type 0} (items : V → List Part) (g : ℕ) (types : List ColumnTy
   -- the columns so far, one more of them
   pub columns_taken : (front ++ one ∷ []) ++ back ≡ all
   columns_taken = append_assoc front (one ∷ []) back ∙ split
-
--- no column is left
-pub all_columns : {V : Type 0} (front back all : List V) → length back ≡ 0 → front ++ back ≡ all → front ≡ all
-all_columns front [] all none split = sym (append-nil front) ∙ split
-all_columns front (one ∷ back) all none split = absurd (omega (arith, none))
 
 -- ---- the columns after the first
 

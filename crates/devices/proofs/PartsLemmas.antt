@@ -1,6 +1,5 @@
 -- Columns read one after the other, as a loop does.
-use Rattle.std.proofs.Common.{◌≡◌, ℕ, zero, suc, ◌+◌, ◌<◌, ◌≤◌, Some, List, [], ◌∷◌, ◌++◌, length, drop, get_or, Result, Ok, Err, refl, sym, ap, ◌∙◌, append_assoc, add-one, drop-cons, arith}
-use Rattle.std.proofs.lemmas.List.{append-nil}
+use Rattle.std.proofs.Common.{◌≡◌, ℕ, suc, ◌+◌, ◌<◌, Some, List, [], ◌∷◌, ◌++◌, length, drop, get_or, Result, Ok, Err, refl, sym, ap, ◌∙◌, append_assoc, add-one, drop-cons, arith}
 use Rattle.values.specs.declared.value.ColumnType.{ColumnType}
 use Rattle.frames.specs.declared.fault.ReadFault.{ReadFault}
 use Rattle.frames.specs.declared.fault.ReadFault.TheVariants.{WrongCount, BadFrame, TypesDiffer, BadBlock, NoImage, CountsDiffer, TooManyRows, NotAscending, NoMemory}
@@ -66,18 +65,3 @@ module _ (types : List ColumnType) (columns : List (List ℕ)) (col : ℕ) (d : 
       by CountsDiffer h = failed_by CountsDiffer h
       by TooManyRows h = failed_by TooManyRows h
       by (NotAscending row) h = failed_by (NotAscending row) h
-
--- no column is left
-pub columns_end : (types : List ColumnType) (columns : List (List ℕ)) (col : ℕ) (front : List (List Part))
-    (total : Result (List (List Part)) ReadFault)
-    → length types ≤ col → columns_after front (all_parts col (drop col types) (drop col columns)) ≡ total → total ≡ Ok front
-columns_end types columns col front total le so_far = by (drop col types) (drop_none types col le) so_far
-  where
-    drop_none : (xs : List ColumnType) (n : ℕ) → length xs ≤ n → drop n xs ≡ []
-    drop_none [] zero h = refl
-    drop_none [] (suc n) h = refl
-    drop_none (x ∷ xs) zero h = absurd (omega arith)
-    drop_none (x ∷ xs) (suc n) h = drop_none xs n (omega arith)
-
-    by : (left : List ColumnType) → left ≡ [] → columns_after front (all_parts col left (drop col columns)) ≡ total → total ≡ Ok front
-    by left none h = sym h ∙ ap (λ ts. columns_after front (all_parts col ts (drop col columns))) none ∙ ap (λ cs. Ok cs) (append-nil front)

@@ -1,8 +1,7 @@
 -- One column: what it stores once it has taken some bytes of an image.
-use Rattle.std.proofs.Common.{◌≡◌, ℕ, suc, ◌+◌, ◌<◌, ◌≤◌, true, false, Some, List, [], ◌∷◌, ◌++◌, length, take, get_or, Ok, refl, sym, ap, subst, ◌∙◌, inl, inr, arith}
+use Rattle.std.proofs.Common.{◌≡◌, ℕ, ◌+◌, ◌<◌, ◌≤◌, true, false, Some, List, [], ◌∷◌, ◌++◌, length, take, Ok, refl, sym, ap, subst, ◌∙◌, inl, inr, arith}
 use Rattle.std.proofs.lemmas.Bool.{cases_eq, cases_lt}
 use Rattle.std.proofs.lemmas.List.{append-nil}
-use Rattle.values.specs.declared.value.ColumnType.{ColumnType}
 use Rattle.blocks.specs.Column.{Column}
 use Rattle.frames.specs.declared.frame.Frame.{Frame}
 use Rattle.frames.specs.declared.frame.Part.{Part}
@@ -10,7 +9,7 @@ use Rattle.frames.specs.declared.seam.Seam.{Seam}
 use Rattle.frames.specs.Column.{AreFramesAt, IsColumn, column_bytes, is_rest, seam_after_all, start}
 use Rattle.frames.specs.Reading.{frames_of, parts_after, parts_of}
 use Rattle.devices.specs.Image.{AreBlocks, image_frames, part_count}
-use Rattle.devices.specs.Ready.{AreBelow, AreWhole, IsReadyColumn, IsWholeColumn}
+use Rattle.devices.specs.Ready.{AreBelow, IsReadyColumn}
 use Rattle.devices.specs.Stored.{is_whole, values_in}
 use Rattle.devices.proofs.CutLemmas.{cut_frames}
 use Rattle.devices.proofs.FramesLemmas.{AreWanted-append, above_all, column_after, parts_again, parts_of-append, seam_after_all-append}
@@ -132,19 +131,3 @@ module _ (g : ℕ) (c : Column) (held : IsHeld g c) (old : List ℕ) (ready : Is
             ∙ kind_after g c.ty c.values count 0 count seam
             ∙ ready.kind;
       }
-
--- ---- no bytes
-
--- a new device's contents are whole frames of any type
-pub whole_empty : (next : ℕ) (ty : ColumnType) → IsWholeColumn next ty []
-whole_empty next ty = record { frames = []; column = record { lawful = tt; torn = refl; spelt = refl }; typed = tt; below = tt }
-
-pub all_whole_empty : (next : ℕ) (types : List ColumnType) (contents : List (List ℕ)) → length contents ≡ length types
-    → ((i : ℕ) → i < length contents → get_or contents i [] ≡ []) → AreWhole next types contents
-all_whole_empty next [] [] even none = tt
-all_whole_empty next [] (bytes ∷ contents) even none = absurd (omega (arith, even))
-all_whole_empty next (ty ∷ types) [] even none = absurd (omega (arith, even))
-all_whole_empty next (ty ∷ types) (bytes ∷ contents) even none = (
-  subst (IsWholeColumn next ty) (sym (none 0 (omega arith))) (whole_empty next ty),
-  all_whole_empty next types contents (omega (arith, even)) (λ i lt. none (suc i) (omega (arith, lt))),
-)

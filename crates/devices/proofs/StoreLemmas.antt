@@ -1,29 +1,10 @@
 -- Devices that take their pieces one after the other.
-use Rattle.std.proofs.Common.{◌≡◌, ℕ, zero, suc, ◌+◌, ◌<◌, ◌≤◌, Bool, true, false, ◌||◌, ltb, List, [], ◌∷◌, ◌++◌, length, take, drop, get_or, set, map, refl, sym, ap, ◌∙◌, add-one, drop-cons, arith}
-use Rattle.std.proofs.lemmas.Bool.{lt-ltb, le-ltb}
+use Rattle.std.proofs.Common.{◌≡◌, ℕ, zero, suc, ◌+◌, ◌<◌, ◌≤◌, true, false, ◌||◌, ltb, List, [], ◌∷◌, ◌++◌, length, take, get_or, set, map, refl, sym, ap, ◌∙◌, arith}
+use Rattle.std.proofs.lemmas.Bool.{lt-ltb}
 use Rattle.std.proofs.lemmas.List.{get_or-map, map-set, take_more, length-map}
 use Rattle.devices.specs.Store.{StopsAt, appended, have_failed}
 
 -- ---- whether one has failed
-
-module _ {D : Type 0} (f : D → ℕ) (xs : List D) where
-  failed_step : (i : ℕ) (d : D) → i < length xs
-      → have_failed (map f (drop i xs)) ≡ (ltb 0 (f (get_or xs i d)) || have_failed (map f (drop (i + 1) xs)))
-  failed_step i d lt = rw (add-one, drop-cons xs i d) refl
-
-  -- one that has
-  pub failed_now : (i : ℕ) (d : D) (total : Bool) → i < length xs → 0 < f (get_or xs i d) → have_failed (map f (drop i xs)) ≡ total
-      → total ≡ true
-  failed_now i d total lt some so_far =
-      let yes : ltb 0 (f (get_or xs i d)) ≡ true = lt-ltb _ _ some in
-      sym so_far ∙ failed_step i d lt ∙ ap (λ b. b || have_failed (map f (drop (i + 1) xs))) yes
-
-  -- one that hasn't
-  pub failed_on : (i : ℕ) (d : D) (total : Bool) → i < length xs → f (get_or xs i d) ≤ 0 → have_failed (map f (drop i xs)) ≡ total
-      → have_failed (map f (drop (i + 1) xs)) ≡ total
-  failed_on i d total lt none so_far =
-      let no : ltb 0 (f (get_or xs i d)) ≡ false = le-ltb _ _ none in
-      sym (sym so_far ∙ failed_step i d lt ∙ ap (λ b. b || have_failed (map f (drop (i + 1) xs))) no)
 
 -- where none has, each has failed 0 times
 pub none_at : (failures : List ℕ) (i : ℕ) → have_failed failures ≡ false → get_or failures i 0 ≡ 0

@@ -39,12 +39,6 @@ ok_is x y e = cc
 some_is : {A : Type 0} (x y : A) → done (Some x) ≡ done (Some y) → x ≡ y
 some_is x y e = cc
 
--- a test that would have been refused
-pub refused_ok : {A : Type 0} (b : Bool) (fault : ReadFault) (x : Result A ReadFault) (y : A) → cond b (Err fault) x ≡ Ok y
-    → (b ≡ false) × (x ≡ Ok y)
-refused_ok true fault x y e = absurd cc
-refused_ok false fault x y e = (refl, e)
-
 -- a test that passed
 pub passed_ok : {A : Type 0} (b : Bool) (x : Result A ReadFault) (fault : ReadFault) (y : A) → cond b x (Err fault) ≡ Ok y
     → (b ≡ true) × (x ≡ Ok y)

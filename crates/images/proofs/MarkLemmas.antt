@@ -41,10 +41,6 @@ is_short payload e = short_when (eqb (length payload) 12) (found payload) e
 
 -- ---- a frame of the rest
 
-pub or_none : (o : Option ℕ) → o ≡ option_or o None
-or_none None = refl
-or_none (Some n) = refl
-
 or_or : (a b c : Option ℕ) → option_or (option_or a b) c ≡ option_or a (option_or b c)
 or_or None b c = refl
 or_or (Some n) b c = refl

@@ -6,7 +6,7 @@ use Rattle.std.specs.List.Sorted.{IsPermutation, IsSorted}
 use Rattle.std.specs.Ordering.{nat_cmp, ordering_then, ordering_reverse, is_eq}
 use Rattle.std.proofs.lemmas.Bool.{cases_lt, cases_eq, eq-eqb, ne_eqb}
 use Rattle.std.proofs.lemmas.Cmp.{nat_cmp_total, on_total, then_total}
-use Rattle.std.proofs.lemmas.List.{get_or-map, get_or_default, length-map, drop_more}
+use Rattle.std.proofs.lemmas.List.{get_or-map, length-map, drop_more}
 use Rattle.std.proofs.lemmas.List.FromFn.{length-range_with_len, get_or-range_with_len, length-map-range_with_len, get_or-map-range_with_len, fill_by_all}
 use Rattle.std.proofs.lemmas.List.Sorted.{ranks_by, length_permutation, All-permutation, IsPermutation-map}
 use Rattle.std.proofs.lemmas.Simd.{map-map}
@@ -193,7 +193,3 @@ ascent-step k columns i o some is less so j lt = elim (cases_eq (j + 1) i) [
       (λ t. key_cmp (key_of k (row_at columns (sym here t))) (key_of k (row_at columns (e t)))) ∙ sym is ∙ lt-Less o less
   | inr n ↦ so j (omega (arith, n, lt))
 ]
-
--- within a list the default says nothing
-pub place-same : (places : List ℕ) (i place : ℕ) → i < length places → place ≡ get_or places i place → place ≡ get_or places i 0
-place-same places i place lt is = is ∙ get_or_default places i place 0 lt

@@ -1,7 +1,6 @@
 -- Columns that a record's cells are added to, and the rows that they show.
-use Rattle.std.proofs.Common.{◌≡◌, ◌∙◌, ◌+◌, ◌<◌, ◌≤◌, ◌==◌, ℕ, zero, suc, true, false, nat_lt, List, [], ◌∷◌, ◌++◌, length, drop, map, get_or, set, Ok, Err, refl, sym, ap, arith}
+use Rattle.std.proofs.Common.{◌≡◌, ◌∙◌, ◌+◌, ◌<◌, ◌≤◌, ℕ, zero, suc, false, List, [], ◌∷◌, ◌++◌, length, drop, map, get_or, set, Ok, Err, refl, sym, ap, arith}
 use Rattle.std.specs.List.{All, range_with_len}
-use Rattle.std.proofs.lemmas.Bool.{eq-eqb, ne_eqb}
 use Rattle.std.proofs.lemmas.List.{append-nil, drop_all, length_push, get_or_push, get_or_append_left}
 use Rattle.std.proofs.lemmas.List.Elements.{All-nil, All-cons, All-head, All-tail}
 use Rattle.std.proofs.lemmas.List.FromFn.{length-map-range_with_len, get_or-map-range_with_len, map-range_with_len_more, fill_by_all}
@@ -16,9 +15,8 @@ use Rattle.values.specs.declared.limits.TheConstants.{MAX_ROWS}
 use Rattle.inputs.specs.Cells.{prepend}
 use Rattle.inputs.specs.Input.{cells_of, row_of}
 use Rattle.inputs.specs.Reading.{Fields}
-use Rattle.inputs.specs.declared.fault.TableFault.{TableFault}
-use Rattle.inputs.specs.declared.fault.TableFault.TheVariants.{BadCount, TooManyRows}
-use Rattle.inputs.proofs.CellLemmas.{lt_true, lt_false}
+use Rattle.inputs.specs.declared.fault.TableFault.TheVariants.{TooManyRows}
+use Rattle.inputs.proofs.CellLemmas.{lt_true}
 use Rattle.inputs.specs.Filling.{types_in, empty_column, extended, row_in, rows_in}
 use Rattle.inputs.specs.Input.{Numbered}
 
@@ -152,29 +150,6 @@ all-cells number i types fields cells le =
     ap (λ (left : List ColumnType). prepend cells (cells_of number i left (drop i fields))) (drop_all i types le) ∙ ap Ok (append-nil cells)
 
 -- ---- the row of a record
-
-pub row_of-cells : (types : List ColumnType) (number : ℕ) (fields : Fields) (cells : List Value) → number ≤ MAX_ROWS + 1
-    → length fields ≡ length types
-    → cells_of number 0 types fields ≡ Ok cells → row_of types number fields ≡ Ok (record { number = number; row = cells })
-row_of-cells types number fields cells few wide e =
-    let under : nat_lt (MAX_ROWS + 1) number ≡ false = lt_false (MAX_ROWS + 1) number few in
-    let same : (length fields == length types) ≡ true = eq-eqb (length fields) (length types) wide in
-    rw (under, same, e) refl
-
-pub row_of-fault : (types : List ColumnType) (number : ℕ) (fields : Fields) (fault : TableFault) → number ≤ MAX_ROWS + 1
-    → length fields ≡ length types
-    → cells_of number 0 types fields ≡ Err fault → row_of types number fields ≡ Err fault
-row_of-fault types number fields fault few wide e =
-    let under : nat_lt (MAX_ROWS + 1) number ≡ false = lt_false (MAX_ROWS + 1) number few in
-    let same : (length fields == length types) ≡ true = eq-eqb (length fields) (length types) wide in
-    rw (under, same, e) refl
-
-pub row_of-count : (types : List ColumnType) (number : ℕ) (fields : Fields) → number ≤ MAX_ROWS + 1
-    → (length fields ≡ length types → ⊥) → row_of types number fields ≡ Err (BadCount number)
-row_of-count types number fields few other =
-    let under : nat_lt (MAX_ROWS + 1) number ≡ false = lt_false (MAX_ROWS + 1) number few in
-    let same : (length fields == length types) ≡ false = ne_eqb (length fields) (length types) other in
-    rw (under, same) refl
 
 pub row_of-many : (types : List ColumnType) (number : ℕ) (fields : Fields) → MAX_ROWS + 1 < number
     → row_of types number fields ≡ Err TooManyRows

@@ -1,12 +1,11 @@
 -- Places beside the numbers that are their keys.
-use Rattle.std.proofs.Common.{◌≡◌, ◌∙◌, ◌+◌, ◌-◌, ◌<◌, ◌≤◌, ℕ, true, false, List, [], ◌∷◌, length, map, get_or, Ordering, Less, Equal, Greater, is_lt, refl, sym, ap, arith, inl, inr}
+use Rattle.std.proofs.Common.{◌≡◌, ◌∙◌, ◌+◌, ◌-◌, ◌<◌, ℕ, true, false, List, [], ◌∷◌, length, map, get_or, Ordering, Less, Equal, Greater, is_lt, refl, sym, ap, arith}
 use Rattle.std.specs.Cmp.{IsStrictWeakOrder}
 use Rattle.std.specs.List.{All, range_with_len}
 use Rattle.std.specs.List.Sorted.{IsPermutation, IsSorted}
 use Rattle.std.specs.Ordering.{int_cmp, is_eq, nat_cmp, ordering_reverse, ordering_then}
 use Rattle.std.proofs.lemmas.Cmp.{int_cmp_total, nat_cmp_total, on_total, then_total}
-use Rattle.std.proofs.lemmas.Bool.{cases_eq}
-use Rattle.std.proofs.lemmas.List.{get_or-map, get_or_default, length-map, map-id}
+use Rattle.std.proofs.lemmas.List.{get_or-map, length-map, map-id}
 use Rattle.std.proofs.lemmas.List.FromFn.{length-map-range_with_len, get_or-map-range_with_len}
 use Rattle.std.proofs.lemmas.List.Sorted.{ranks_by, All-permutation, IsPermutation-map}
 use Rattle.std.proofs.lemmas.Option.{slice_get-get_or}
@@ -20,7 +19,7 @@ use Rattle.blocks.specs.Column.{Column}
 use Rattle.stable.specs.Column.{all_may_stand}
 use Rattle.stable.specs.Rows.{cell_at, row_at}
 use Rattle.stable.proofs.CallerLemmas.{stands_at}
-use Rattle.inputs.specs.Filling.{keyed_at, keyed_cmp, number_cmp, number_or_zero, place_cmp, row_in, AreApart, AreDistinct, AreKeysApart}
+use Rattle.inputs.specs.Filling.{keyed_at, keyed_cmp, number_cmp, number_or_zero, row_in, AreApart, AreDistinct, AreKeysApart}
 use Rattle.inputs.specs.Input.{same_key}
 use Rattle.inputs.specs.declared.ascent.Keyed.{Keyed}
 use Rattle.inputs.proofs.AscentLemmas.{rows_at-get}
@@ -49,21 +48,6 @@ keys-sorted keyed up apart j d low lt =
     let b = get_or keyed (j + 1) d in
     then-false (int_cmp b.key a.key) (int_cmp a.key b.key) (nat_cmp b.place a.place) (int_cmp_total.antisymm a.key b.key)
     (up j d low lt) (apart j d lt)
-
--- one neighbour more
-pub apart-step : (keyed : List Keyed) (i : ℕ) (e : Keyed) → 1 ≤ i → i < length keyed
-    → is_eq (int_cmp (get_or keyed (i - 1) e).key (get_or keyed i e).key) ≡ false
-    → ((k : ℕ) (d : Keyed) → k + 1 < i → is_eq (int_cmp (get_or keyed k d).key (get_or keyed (k + 1) d).key) ≡ false)
-    → (k : ℕ) (d : Keyed) → k + 1 < i + 1 → is_eq (int_cmp (get_or keyed k d).key (get_or keyed (k + 1) d).key) ≡ false
-apart-step keyed i e some within here so k d lt = elim (cases_eq (k + 1) i) [
-  | inl at ↦
-      let before : i - 1 ≡ k = omega (arith, at) in
-      (λ t. is_eq (int_cmp (get_or_default keyed k d e (omega (arith, at, within)) t).key
-      (get_or_default keyed (k + 1) d e (omega (arith, at, within)) t).key))
-      ∙ (λ t. is_eq (int_cmp (get_or keyed (sym before t) e).key (get_or keyed (at t) e).key))
-      ∙ here
-  | inr n ↦ so k d (omega (arith, n, lt))
-]
 
 -- a value of a column of numbers is its number
 is_number : (v : Value) → has_type column.Int v ≡ true → v ≡ Int (number_or_zero v)
@@ -139,18 +123,6 @@ key-one : (columns : List Column) (p : ℕ) (d : Column) → 0 < length columns
     → key_of 1 (row_at columns p) ≡ cell_at p (get_or columns 0 d) ∷ []
 key-one [] p d lt = absurd (omega (arith, lt))
 key-one (c ∷ columns) p d lt = refl
-
-place_cmp-one : (columns : List Column) (c : Column) (a b : ℕ) → 0 < length columns → c ≡ get_or columns 0 c
-    → place_cmp 1 columns a b ≡ number_cmp c a b
-place_cmp-one columns c a b lt is =
-    (λ i. ordering_then (key_cmp (key-one columns a c lt i) (key-one columns b c lt i)) (nat_cmp a b))
-    ∙ (λ i. ordering_then (key_cmp (cell_at a (sym is i) ∷ []) (cell_at b (sym is i) ∷ [])) (nat_cmp a b))
-    ∙ ap (λ (o : Ordering). ordering_then o (nat_cmp a b)) (then_Equal (value_cmp (cell_at a c) (cell_at b c)))
-
-pub sorted-one : (columns : List Column) (c : Column) (places : List ℕ) → 0 < length columns → c ≡ get_or columns 0 c
-    → IsSorted (number_cmp c) places → IsSorted (place_cmp 1 columns) places
-sorted-one columns c places lt is up j d low within =
-    ap is_lt (place_cmp-one columns c (get_or places (j + 1) d) (get_or places j d) lt is) ∙ up j d low within
 
 same_key-one : (columns : List Column) (c : Column) (a b : ℕ) → 0 < length columns → c ≡ get_or columns 0 c
     → same_key 1 (row_in columns a) (row_in columns b) ≡ is_eq (value_cmp (cell_at a c) (cell_at b c))

@@ -1,13 +1,12 @@
 -- What the bytes of a position say.
-use Rattle.std.proofs.Common.{◌≡◌, ◌≢◌, ◌^◌, ℕ, true, false, ◌&&◌, List, [], ◌∷◌, get_or, Some, None, Result, Ok, Err, refl, sym, ap, ◌∙◌, nat_lt, ◌<◌, ◌+◌, length, drop, arith}
+use Rattle.std.proofs.Common.{◌≡◌, ◌≢◌, ◌^◌, ℕ, true, false, ◌&&◌, List, [], ◌∷◌, get_or, Some, None, Result, Ok, Err, refl, sym, ap, ◌∙◌, nat_lt, ◌+◌, drop, arith}
 use Rattle.std.proofs.lemmas.Str.{IsUtf8-from_ascii}
 use Rattle.std.proofs.lemmas.Str.Parse.{parse_plain}
 use Rattle.std.specs.Result.{result_ok}
 use Rattle.std.specs.Str.{IsUtf8}
 use Rattle.std.specs.Str.Parse.{ParsesUnsigned, digits_value}
-use Rattle.std.proofs.lemmas.List.{drop_more, get_or-drop}
+use Rattle.std.proofs.lemmas.List.{get_or-drop}
 use Rattle.inputs.specs.Cells.{is_numeral, position_of}
-use Rattle.inputs.specs.Calls.{position_at, read_at, scan_between, at_call, scan_call}
 use Rattle.inputs.specs.Reading.{Fields}
 use Rattle.inputs.proofs.CellLemmas.{numerals, is_numeral-true, numeral-digits, and-false, lt_true, lt_from, digits-ascii}
 
@@ -30,28 +29,7 @@ module _ {E : Type 0} where
 pub position_of-no_text : (bs : List ℕ) → ¬ (IsUtf8 bs) → position_of bs ≡ None
 position_of-no_text bs h = none_where bs (λ a b. h (IsUtf8-from_ascii bs (digits-ascii bs (numeral-digits bs a).0)))
 
--- and has no plus
-pub position_of-plus : (bs : List ℕ) → get_or bs 0 0 ≡ 43 → position_of bs ≡ None
-position_of-plus [] e = refl
-position_of-plus (c ∷ bs) e = none_where (c ∷ bs) (λ a b. plain (rw e at a))
-  where
-    plain : false ≡ true → ⊥
-    plain h = cc h
-
 -- ---- calls of positions
-
--- the argument of a read at a position
-pub at_call-read : (number : ℕ) (fields : Fields) → 2 < length fields
-    → at_call number (drop 2 fields) ≡ read_at (position_at number 2 (get_or fields 2 []))
-at_call-read number fields lt = ap (at_call number) (drop_more fields 2 [] lt)
-
--- the arguments of a scan
-pub scan_call-read : (number : ℕ) (fields : Fields) → 3 < length fields
-    → scan_call number (drop 2 fields)
-    ≡ scan_between (position_at number 2 (get_or fields 2 [])) (position_at number 3 (get_or fields 3 []))
-scan_call-read number fields lt =
-    ap (scan_call number)
-    (drop_more fields 2 [] (omega (arith, lt)) ∙ ap (λ (rest : Fields). get_or fields 2 [] ∷ rest) (drop_more fields 3 [] lt))
 
 -- the field that stands first of the rest
 pub field-is : (fields rest : Fields) (at : ℕ) (field : List ℕ) → drop at fields ≡ field ∷ rest → get_or fields at [] ≡ field

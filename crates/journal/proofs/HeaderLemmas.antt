@@ -27,9 +27,6 @@ seed_small salt = crc_small all_ones (to_be_bytes w64 salt) (omega arith)
 abbrev fields_of : ℕ → ℕ → ℕ → HeaderFields
 fields_of a b c = record { salt = a; store = b; base = c }
 
-three_numbers : (a b c x y z : ℕ) → a ≡ x → b ≡ y → c ≡ z → fields_of a b c ≡ fields_of x y z
-three_numbers a b c x y z p q r = rw (p, q, r) refl
-
 pub a_header_reads_back : AHeaderReadsBack
 unfolding header_in
 a_header_reads_back h rest is =

@@ -337,13 +337,6 @@ module _ (schema : Columns) (t : Table) (x : Effects) (hx : AreOver schema t x) 
       first (is_sorted key_cmp rest) (list_all (λ y. is_keyed_effect schema.key_cols y.0 y.1) rest)
       (passes (are_keyed_effects schema.key_cols rest) hr.effects_are.keyed)
 
-  -- the cells of each modify ascend
-  ascend : (g : Effect) → T (is_keyed_effect schema.key_cols e.0 g) → T (cells_ascend g)
-  ascend (effect.Ins row) h = tt
-  ascend effect.Del h = tt
-  ascend (effect.Mod cells) h = first (is_sorted nat_cmp cells) _ (second (has_cells cells) _ h)
-  ascend (effect.Rep row) h = tt
-
   ascend_all : (y : Effects) → T (list_all (λ z. is_keyed_effect schema.key_cols z.0 z.1) y) → T (list_all (λ z. cells_ascend z.1) y)
   ascend_all [] h = tt
   ascend_all (z ∷ y) h =

@@ -154,9 +154,6 @@ module _ (rule : ConflictRule) (key_cols : ℕ) where
 
 -- ---- of two trees over one table
 
-pub aligned_turns : (x y : Tree) → AreAligned x y → AreAligned y x
-aligned_turns x y w = record { schema = w.schema; t = w.t; x = w.y; y = w.x; small = w.small; x_is = w.y_is; y_is = w.x_is }
-
 module _ (rule : ConflictRule) (x y : Tree) (w : AreAligned x y) where
   abbrev kc : ℕ
   kc = w.schema.key_cols

@@ -5,7 +5,7 @@ use Rattle.std.specs.Prelude.{slice_get}
 use Rattle.std.specs.List.{All}
 use Rattle.std.specs.Ordering.{is_gt}
 use Rattle.std.proofs.lemmas.List.{append_assoc}
-use Rattle.std.proofs.lemmas.List.Elements.{All-head, All-tail, All-weaker}
+use Rattle.std.proofs.lemmas.List.Elements.{All-tail, All-weaker}
 use Rattle.values.specs.Orders.{key_cmp}
 use Rattle.values.specs.Shape.{key_of}
 use Rattle.model.specs.declared.entry.Entry.{Entry}
@@ -35,23 +35,9 @@ pub none_ahead : (us : List Entry) → slice_get us 0 ≡ None → us ≡ []
 none_ahead [] is = refl
 none_ahead (z ∷ us) is = cc
 
-pub some_left : (us : List Entry) (u : Entry) → slice_get us 0 ≡ Some u → 0 < length us
-some_left [] u is = cc
-some_left (z ∷ us) u is = omega arith
-
-pub fewer_left : (us : List Entry) (u : Entry) → slice_get us 0 ≡ Some u → length (drop 1 us) < length us
-fewer_left [] u is = cc
-fewer_left (z ∷ us) u is = omega arith
-
 pub placed_left : (us : List Entry) → All (λ e. e.sid < 2 ^ 32) us → All (λ e. e.sid < 2 ^ 32) (drop 1 us)
 placed_left [] h = h
 placed_left (z ∷ us) h = All-tail (λ e. e.sid < 2 ^ 32) z us h
-
-pub placed_first : (us : List Entry) (u : Entry) → All (λ e. e.sid < 2 ^ 32) us → slice_get us 0 ≡ Some u → u.sid < 2 ^ 32
-placed_first [] u h is = cc
-placed_first (z ∷ us) u h is =
-    let same : z ≡ u = cc in
-    subst (λ (e : Entry). e.sid < 2 ^ 32) same (All-head (λ e. e.sid < 2 ^ 32) z us h)
 
 -- an upper entry past all lower ones
 pub puts_upper : (key_cols added gone : ℕ) (out us : List Entry) (u : Entry) → slice_get us 0 ≡ Some u

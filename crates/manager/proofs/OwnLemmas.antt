@@ -106,19 +106,6 @@ module _ (m : Managed) (txn : Transaction) where
   abbrev clash : Bool
   clash = list_any (conflicts m.start.rule (effects_of txn)) (commits_since m txn)
 
-  abbrev is_full : Bool
-  is_full = nat_lt m.start.limit (length (table_with (newest_table m) (effects_of txn)))
-
-  pub too_old_due : is_too_old m txn ≡ true → TooOld (newest_number m) ≡ reply_due m txn
-  too_old_due old =
-      sym (ap (λ b. cond b (TooOld (newest_number m)) (cond clash (Conflict (newest_number m))
-      (cond is_full (Full (newest_number m)) (Committed (suc (newest_number m)))))) old)
-
-  pub conflict_due : is_too_old m txn ≡ false → clash ≡ true → Conflict (newest_number m) ≡ reply_due m txn
-  conflict_due old some =
-      sym (λ i. cond (old i) (TooOld (newest_number m)) (cond (some i) (Conflict (newest_number m))
-      (cond is_full (Full (newest_number m)) (Committed (suc (newest_number m))))))
-
   full_true : (n : ℕ) → m.start.limit < n → nat_lt m.start.limit n ≡ true
   full_true n h = grind (arith, nat_tests)
 

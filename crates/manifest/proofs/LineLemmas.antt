@@ -151,9 +151,6 @@ table_again t rest fits =
     ap table_at regrouped
     ∙ rw (line_reads.again t.line (mark_text t.header ++ (columns ++ rest)) fits.line, mark_reads.again t.header (columns ++ rest) fits.header, all) refl
 
-pub table_reads : IsReader IsTable table_text table_at
-table_reads = record { takes = table_takes; again = table_again }
-
 pub table_longer : (t : Table) (rest : List ℕ) → length rest < length (table_text t ++ rest)
 table_longer t rest =
     let long : 6 ≤ length (line_text t.line) = omega arith in

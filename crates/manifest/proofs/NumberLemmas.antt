@@ -340,10 +340,6 @@ name_reads = record {
 
 -- ---- as loops go
 
-pub uncons : (bytes : List ℕ) → 0 < length bytes → bytes ≡ get_or bytes 0 0 ∷ drop 1 bytes
-uncons [] some = absurd (omega (arith, some))
-uncons (b ∷ bytes) some = refl
-
 pub no_bytes : (most n : ℕ) (bytes : List ℕ) → length bytes ≡ 0 → number_from most n bytes ≡ None
 unfolding number_from
 no_bytes most n [] e = refl

@@ -1,7 +1,7 @@
 -- What the crates above cite of this one, in one place. Declares nothing.
 pub use Rattle.model.proofs.AllLaws.{all_keep, commits_fit, composes, edits, finds, fits_newest, keeps, leaves}
 pub use Rattle.model.proofs.AllLaws.{ordered, rebases}
-pub use Rattle.model.proofs.CompositionLemmas.{cells_ascend, effect_at-composed_effects, fits_at_key}
+pub use Rattle.model.proofs.CompositionLemmas.{cells_ascend, effect_at-composed_effects}
 pub use Rattle.model.proofs.CompositionLemmas.{row_at-table_with, sorted-composed_effects}
 pub use Rattle.model.proofs.EntriesLemmas.{ordered-canonical_entries}
 pub use Rattle.model.proofs.FirstClashLemmas.{first_clash-least}

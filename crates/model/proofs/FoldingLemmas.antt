@@ -605,9 +605,6 @@ module _ (key_cols : ℕ) where
       → T (below_all key_cmp k (e ∷ m))
   less_head k e m p h = both _ _ (subst (λ r. T (is_lt r)) (sym p) tt) (less_all k e.0 m p h)
 
-  apart : (k e : Key) → key_cmp k e ≡ Greater → T (is_lt (key_cmp e k))
-  apart k e p = subst (λ r. T (is_lt r)) (sym (turn_greater key_cmp_total k e p)) tt
-
   above : {X : Type 0} (e : Key) (y : Key × X) (ys : List (Key × X)) → key_cmp y.0 e ≡ Greater → T (is_sorted key_cmp (y ∷ ys))
       → T (below_all key_cmp e (y ∷ ys))
   above e y ys p h = less_head e y ys (turn_greater key_cmp_total y.0 e p) (first _ _ h)

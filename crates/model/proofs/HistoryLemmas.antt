@@ -25,12 +25,6 @@ right_true false b h = cc
 
 -- ---- tables after commits
 
--- later commits are after all the earlier ones
-table_with_all-append : (t : Table) (commits later : List Effects)
-    → table_with_all t (commits ++ later) ≡ table_with_all (table_with_all t commits) later
-table_with_all-append t [] later = refl
-table_with_all-append t (x ∷ commits) later = table_with_all-append (table_with t x) commits later
-
 -- the commits after the first k, after those k
 pub table_with_all-drop : (t : Table) (commits : List Effects) (k : ℕ) → table_with_all (table_with_all t (take k commits)) (drop k commits)
     ≡ table_with_all t commits

@@ -15,12 +15,6 @@ skip (x ∷ xs) ys i = let s : suc (length xs) + i ≡ suc (length xs + i) = ome
 
 -- ---- counts below a place
 
-pub inserted_rows-append : (xs ys : List Change) → inserted_rows (xs ++ ys) ≡ inserted_rows xs ++ inserted_rows ys
-inserted_rows-append [] ys = refl
-inserted_rows-append (Ins row ∷ xs) ys = ap (λ rs. row ∷ rs) (inserted_rows-append xs ys)
-inserted_rows-append (Del key ∷ xs) ys = inserted_rows-append xs ys
-inserted_rows-append (Mod col value ∷ xs) ys = inserted_rows-append xs ys
-
 abbrev pub counted : (Change → ℕ) → (Entry → Bool) → List Entry → ℕ
 counted worth p [] = 0
 counted worth p (e ∷ es) = cond (p e) (worth e.change) 0 + counted worth p es

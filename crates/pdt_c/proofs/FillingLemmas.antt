@@ -12,7 +12,7 @@ use Rattle.values.specs.declared.value.Value.TheVariants.{Text}
 use Rattle.values.specs.declared.value.ColumnType.TheVariants as column
 use Rattle.values.specs.Shape.{Columns, IsSchema}
 use Rattle.blocks.specs.Column.{Column}
-use Rattle.stable.specs.Rows.{AreEven, row_count}
+use Rattle.stable.specs.Rows.{row_count}
 use Rattle.stable.specs.declared.fault.BuildFault.{BuildFault}
 use Rattle.pdt_c.specs.Filling.{given_at, text_of, value_at, AllGiven, AreFirst, Given, IsFilled}
 use Rattle.inputs.proofs.CallerLemmas.{not_utf8}
@@ -59,10 +59,6 @@ module _ (types : List ColumnType) (all : AllGiven) (rows : ℕ) where
   pub count_is : (columns : List Column) → 0 < length columns → EachFilled columns → row_count columns ≡ rows
   count_is [] some each = absurd (omega (arith, some))
   count_is (c ∷ columns) some each = (each 0 c (omega arith)).counted
-
-  pub even : (columns : List Column) → EachFilled columns → AreEven columns
-  even [] each col d within = absurd (omega (arith, within))
-  even (c ∷ columns) each col d within = (each col d within).counted ∙ sym (count_is (c ∷ columns) (omega arith) each)
 
 -- a schema has a column at least
 pub some_column : (schema : Columns) (columns : List Column) → IsSchema schema

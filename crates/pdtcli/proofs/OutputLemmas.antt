@@ -14,9 +14,8 @@ use Rattle.delta.specs.Tree.{Tree}
 use Rattle.merge.specs.Image.{AreStacked, image_rows, stack_of}
 use Rattle.txn.specs.Version.{empty_tree}
 use Rattle.txn.proofs.CallerLemmas.{no_layer}
-use Rattle.pdtcli.specs.Output.{header_cells, kind_text, records_text, lines_text, rows_text}
+use Rattle.pdtcli.specs.Output.{header_cells, kind_text, records_text, lines_text}
 use Rattle.pdtcli.specs.Records.{record_text}
-use Rattle.pdtcli.specs.Shown.{row_fields}
 use Rattle.inputs.specs.Reading.{Fields}
 use Rattle.pdtcli.specs.Replies.{line_fields, line_records, shown_fields, shown_rows}
 use Rattle.pdtcli.specs.declared.reply.Reply.{Reply}
@@ -37,9 +36,6 @@ pub records_text-more : (rs : List Fields) (fields : Fields)
     → records_text rs ++ record_text fields ≡ records_text (rs ++ fields ∷ [])
 records_text-more rs fields =
     ap (λ (z : List ℕ). records_text rs ++ z) (sym (append-nil (record_text fields))) ∙ sym (records_text-append rs (fields ∷ []))
-
-pub rows_text-append : (a b : List Row) → rows_text (a ++ b) ≡ rows_text a ++ rows_text b
-rows_text-append a b = ap records_text (map-append row_fields a b) ∙ records_text-append (map row_fields a) (map row_fields b)
 
 -- one reply line more
 pub lines_text-more : (clients : List (List ℕ)) (lines : List ReplyLine) (line : ReplyLine)

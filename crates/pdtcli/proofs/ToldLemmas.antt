@@ -1,5 +1,5 @@
 -- A write whose counts and types are the schema's is refused only as a reply can tell.
-use Rattle.std.proofs.Common.{◌≡◌, ℕ, suc, Bool, true, false, cond, T, Option, Some, None, Ok, Err, List, [], ◌∷◌, length, refl, ap, sym, subst, arith}
+use Rattle.std.proofs.Common.{◌≡◌, ℕ, suc, Bool, true, false, cond, T, Option, Some, None, Err, List, [], ◌∷◌, length, refl, ap, subst, arith}
 use Rattle.std.proofs.lemmas.Bool.Decides.{nat_tests}
 use Rattle.std.specs.Prelude.{IsTrue, ◌==◌, nat_lt, slice_get}
 use Rattle.std.proofs.lemmas.Float.{T_from_true}
@@ -91,13 +91,6 @@ write_told schema (Set key col value) fault h is =
     (λ f e. list_told IsToldShape told_long (key_types schema) key f (first (are_of_types (key_types schema) key) _ h) e)
     (λ f e. cell_told (slice_get schema.types col) schema.key_cols col value f (second (are_of_types (key_types schema) key) _ h) e)
     is
-
--- where the first test finds no fault, the second's is the first of both
-pub second_fault : (a b : Option ShapeFault) (fault : ShapeFault) (ok : Unit {0}) → Ok ok ≡ answer_of a → Err fault ≡ answer_of b
-    → or_fault a b ≡ Some fault
-second_fault None (Some f) fault ok h k = ap Some (cc (sym k))
-second_fault None None fault ok h k = cc k
-second_fault (Some f) b fault ok h k = cc h
 
 -- a key of its columns' types is refused for a text that is too long
 pub key_long : (schema : Columns) (key : Key) (fault : ShapeFault) → IsTrue (are_of_types (key_types schema) key)

@@ -2,7 +2,7 @@
 use Rattle.std.proofs.Common.{◌≡◌, ℕ, zero, suc, ◌+◌, ◌<◌, ◌≤◌, List, [], ◌∷◌, ◌++◌, length, Some, slice_get, refl, ap, sym, ◌∙◌, arith, append_assoc, length-append}
 use mathlib.Core.List.{IsPrefix}
 use Rattle.publishing.specs.declared.item.Item.{Item}
-use Rattle.publishing.specs.Lists.{items_in, manager_in}
+use Rattle.publishing.specs.Lists.{items_in}
 
 -- each list begins with itself
 pub prefix_self : {A : Type 0} (xs : List A) → IsPrefix xs xs
@@ -48,16 +48,3 @@ pub items_in-prefix : (xs ys : List Item) → 0 < length xs → IsPrefix xs ys �
 items_in-prefix [] ys some p = absurd (omega arith)
 items_in-prefix (x ∷ xs) [] some p = absurd (cc (p.1))
 items_in-prefix (x ∷ xs) (y ∷ ys) some p = (p.0, cc (p.1))
-
--- an item goes behind the last one
-pub items_in-push : (log : List Item) (item : Item) → 0 < length log → items_in (log ++ item ∷ []) ≡ items_in log ++ item ∷ []
-items_in-push [] item some = absurd (omega arith)
-items_in-push (x ∷ log) item some = refl
-
-pub manager_in-push : (log : List Item) (item : Item) → 0 < length log → manager_in (log ++ item ∷ []) ≡ manager_in log
-manager_in-push [] item some = absurd (omega arith)
-manager_in-push (x ∷ log) item some = refl
-
-pub length-items_in : (log : List Item) (n : ℕ) → length log ≡ n + 1 → length (items_in log) ≡ n
-length-items_in [] n is = absurd (omega (arith, is))
-length-items_in (x ∷ log) n is = omega (arith, is)

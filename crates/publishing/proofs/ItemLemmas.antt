@@ -69,13 +69,6 @@ same_base v (Commits txn version) base h = absurd h
 same_base v (Same version) base h = refl
 same_base v (Cuts at version) base h = absurd h
 
--- an item that is this version of the same table has this version
-pub same_version : (v : LayeredVersion) (item : Item) → IsSame v item → version_of_item item ≡ v
-same_version v (Opens manager) h = absurd h
-same_version v (Commits txn version) h = absurd h
-same_version v (Same version) h = h
-same_version v (Cuts base version) h = absurd h
-
 cut_commits : (n : ℕ) (v : LayeredVersion) (item : Item) → IsCutAt n v item → commits_of_item item ≡ []
 cut_commits n v (Opens manager) h = absurd h
 cut_commits n v (Commits txn version) h = absurd h
@@ -87,13 +80,6 @@ cut_base n v (Opens manager) base h = absurd h
 cut_base n v (Commits txn version) base h = absurd h
 cut_base n v (Same version) base h = absurd h
 cut_base n v (Cuts at version) base h = h.0
-
--- an item that is a cut at this version has this version
-pub cut_version : (n : ℕ) (v : LayeredVersion) (item : Item) → IsCutAt n v item → version_of_item item ≡ v
-cut_version n v (Opens manager) h = absurd h
-cut_version n v (Commits txn version) h = absurd h
-cut_version n v (Same version) h = absurd h
-cut_version n v (Cuts base version) h = h.1
 
 last_version-push : (v : LayeredVersion) (list : List Item) (item : Item) → last_version v (list ++ item ∷ []) ≡ version_of_item item
 last_version-push v [] item = refl

@@ -1,14 +1,12 @@
 -- What commits make of a manager, when they are made again.
-use Rattle.std.proofs.Common.{◌≡◌, ℕ, zero, suc, ◌+◌, ◌<◌, Result, Ok, List, [], ◌∷◌, ◌++◌, length, map, take, get_or, refl, sym, ap, ◌∙◌, arith}
+use Rattle.std.proofs.Common.{◌≡◌, ℕ, zero, suc, ◌+◌, ◌<◌, Ok, List, [], ◌∷◌, ◌++◌, length, map, take, get_or, refl, sym, ap, ◌∙◌, arith}
 use Rattle.std.proofs.Math.Seq.{take-suc}
 use Rattle.std.proofs.lemmas.List.{map-append}
 use Rattle.values.specs.Shape.{Columns}
 use Rattle.values.specs.declared.row.Row.{Row}
 use Rattle.model.specs.declared.entry.Entry.{Entry}
 use Rattle.std.specs.Bool.{passes}
-use Rattle.codec.specs.Reading.{Fails, entries_in}
-use Rattle.codec.specs.declared.fault.PayloadFault.{PayloadFault}
-use Rattle.codec.specs.declared.fault.PayloadFault.TheVariants as payload
+use Rattle.codec.specs.Reading.{entries_in}
 use Rattle.model.specs.Effects.{AreOver, Effects, table_with}
 use Rattle.model.specs.Entries.{canonical_entries}
 use Rattle.model.specs.History.{table_with_all}
@@ -18,9 +16,9 @@ use Rattle.model.specs.Merging.{merged_rows}
 use Rattle.model.specs.Table.{Table, is_keyed_table, rows_of, table_of}
 use Rattle.delta.specs.Tree.{Tree}
 use Rattle.merge.specs.Image.{IsLayer}
-use Rattle.manager.specs.Managed.{Managed, newest_number, newest_table, with_layers}
+use Rattle.manager.specs.Managed.{Managed, newest_number, newest_table}
 use Rattle.manager.specs.Redone.{IsRedone}
-use Rattle.replay.specs.Replayed.{AreSaid, IsMisfit, IsReplayed, fault_of_payload, rows_after}
+use Rattle.replay.specs.Replayed.{AreSaid, IsReplayed, rows_after}
 use Rattle.replay.proofs.RecoveryLemmas.{rows_after-append}
 
 next : (n : ℕ) → suc n + 0 ≡ n + 1
@@ -52,20 +50,6 @@ replayed_then first middle last rows more m n k sum a b = record {
   limit = b.limit ∙ a.limit;
   recent = b.recent ∙ a.recent;
   rule = b.rule ∙ a.rule;
-}
-
-none_more : (n : ℕ) → n ≡ n + 0
-none_more n = omega arith
-
--- a manager as it was, under other layers
-pub folded_replayed : (old new : Managed) → new ≡ with_layers old new.layers → IsReplayed old (rows_of (newest_table old)) 0 new
-folded_replayed old new is = record {
-  rows_are = ap (λ (v : Managed). rows_of (newest_table v)) is;
-  number = ap newest_number is ∙ none_more (newest_number old);
-  schema = ap (λ (v : Managed). v.schema) is;
-  limit = ap (λ (v : Managed). v.start.limit) is;
-  recent = ap (λ (v : Managed). v.start.recent) is;
-  rule = ap (λ (v : Managed). v.start.rule) is;
 }
 
 first_more : {V : Type 0} (f : V → List Entry) (vs : List V) (i : ℕ) (d : V) → i < length vs
@@ -102,17 +86,6 @@ replayed_more f first middle after last rows vs i d entries lt same a b c =
       rule = all.rule;
     }
 
--- nothing is replayed
-pub replayed_none : (m : Managed) → IsReplayed m (rows_of (newest_table m)) 0 m
-replayed_none m = record {
-  rows_are = refl;
-  number = none_more (newest_number m);
-  schema = refl;
-  limit = refl;
-  recent = refl;
-  rule = refl;
-}
-
 -- ---- frames that say commits
 
 -- the same entries of two effects leave the same table
@@ -123,16 +96,6 @@ same_table merges schema t x y over other same =
     sym (table_of-rows_of keys (table_with t x) (passes (is_keyed_table keys (table_with t x)) (leaves schema t x over).keyed))
     ∙ ap (table_of keys) (sym (merges schema t x over) ∙ ap (merged_rows (rows_of t)) same ∙ merges schema t y other)
     ∙ table_of-rows_of keys (table_with t y) (passes (is_keyed_table keys (table_with t y)) (leaves schema t y other).keyed)
-
--- what is found isn't a fault
-pub said_no_fault : (n : ℕ) (f : PayloadFault) (reading : Result (List Entry) PayloadFault) (es : List Entry) → Fails f reading
-    → IsMisfit (fault_of_payload n f) → reading ≡ Ok es → ⊥
-said_no_fault n payload.NoMemory reading es fails misfit is = misfit
-said_no_fault n (payload.Short at) reading es fails misfit is = absurd (cc (sym fails ∙ is))
-said_no_fault n (payload.BadTable at) reading es fails misfit is = absurd (cc (sym fails ∙ is))
-said_no_fault n (payload.BadKind at) reading es fails misfit is = absurd (cc (sym fails ∙ is))
-said_no_fault n (payload.BadColumn at) reading es fails misfit is = absurd (cc (sym fails ∙ is))
-said_no_fault n (payload.BadCell at) reading es fails misfit is = absurd (cc (sym fails ∙ is))
 
 -- the commit that a payload says, over the table that those before it leave
 pub said_at : (schema : Columns) (table : ℕ) (t : Table) (commits : List Effects) (payloads : List (List ℕ)) (i : ℕ)

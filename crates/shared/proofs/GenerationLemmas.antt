@@ -1,19 +1,12 @@
 -- What a store answers, by the generation of its next image.
-use Rattle.std.proofs.Common.{◌≡◌, ℕ, Ok, Err, refl, sym, ap, subst}
+use Rattle.std.proofs.Common.{◌≡◌, ℕ, Ok, Err, sym, ap, subst}
 use Rattle.stable.specs.Stable.{Stable}
 use Rattle.devices.specs.Appending.{Appends, Taken}
 use Rattle.devices.specs.declared.fault.StoreFault.{StoreFault}
 use Rattle.manager.specs.Checkpoint.{fault_of_store}
 use Rattle.manager.specs.declared.fault.CheckpointFault.{CheckpointFault}
 use Rattle.manager.specs.declared.fault.CheckpointFault.TheVariants.{StoreFailed, GenerationsSpent, NoMemory, DeviceFailed}
-use Rattle.shared.specs.Generations.{IsAnswered, IsUnready}
-
--- a store that is not ready answers so, and stays
-pub unready_answers : (next : ℕ) (fault : CheckpointFault) → IsUnready next fault → IsAnswered next (Err fault) next
-unready_answers next StoreFailed h = refl
-unready_answers next GenerationsSpent h = (h, refl)
-unready_answers next NoMemory h = absurd h
-unready_answers next (DeviceFailed i) h = absurd h
+use Rattle.shared.specs.Generations.{IsAnswered}
 
 pub taken_answers : (t : Stable) (old new : Taken) (generation : ℕ) → Appends t old (Ok generation) new
     → IsAnswered old.next (Ok generation) new.next

@@ -1,10 +1,8 @@
 -- What a session keeps while the list that it has seen grows, and what it begins.
 use Rattle.std.proofs.Common.{◌≡◌, ℕ, Option, Some, None, List, [], refl, sym, ap, ◌∙◌, subst, arith}
 use mathlib.Core.List.{IsPrefix}
-use Rattle.txn.specs.Txn.{Transaction, transaction_at, IsAnswered}
+use Rattle.txn.specs.Txn.{Transaction, transaction_at}
 use Rattle.txn.specs.Version.{TableVersion}
-use Rattle.model.specs.declared.write.Write.{Write}
-use Rattle.model.specs.declared.write.WriteReply.{WriteReply}
 use Rattle.manager.specs.Managed.{Managed}
 use Rattle.publishing.specs.declared.item.Item.{Item}
 use Rattle.publishing.specs.Lists.{Opened, Known, table_at, version_in, IsBegun}
@@ -41,17 +39,6 @@ pub seat_begun : (o : Managed) (list : List Item) (v : TableVersion) (limit clie
     v ≡ version_in o list → limit ≡ o.start.limit → t ≡ Some (transaction_at v limit client []) → IsOfSeat o client list t
 seat_begun o list v limit client t is same now =
     subst (IsOfSeat o client list) (sym now) (begun_now o list v limit client is same, refl)
-
--- a write leaves where a transaction began
-pub begun_written : (o : Managed) (list : List Item) (old : Transaction) (write : Write) (reply : WriteReply) (new : Transaction) →
-    IsAnswered old write reply new → IsBegun o list old → IsBegun o list new
-begun_written o list old write reply new a b = subst (IsBegun o list) (sym a.kept) (record {
-  schema = b.schema;
-  limit = b.limit;
-  from_base = b.from_base;
-  begun = b.begun;
-  snapshot = b.snapshot;
-})
 
 -- a fault of a reader is another one than a transaction that is open
 pub never_already : (fault : ReadingFault) → AlreadyOpen ≡ fault_of_reading fault → ⊥

@@ -1,5 +1,5 @@
 -- What is published of a commit.
-use Rattle.std.proofs.Common.{◌≡◌, ℕ, suc, Option, Some, None, Result, Ok, Err, List, [], refl, sym, ap, ◌∙◌, inl, inr, subst}
+use Rattle.std.proofs.Common.{◌≡◌, ℕ, suc, Option, Some, None, Result, Ok, Err, List, [], refl, sym, ap, ◌∙◌, inr, subst}
 use Rattle.std.specs.Prelude.{MatchResult, OnOk}
 use Rattle.std.specs.Option.{option_map}
 use Rattle.model.specs.declared.write.CommitReply.{CommitReply}
@@ -15,7 +15,6 @@ use Rattle.manager.specs.Prepared.{Granted, IsInstalled, LeavesTable}
 use Rattle.publishing.specs.declared.item.Item.{Item}
 use Rattle.publishing.specs.Commits.{Commit, granted_by}
 use Rattle.publishing.specs.Lists.{IsShownAgain}
-use Rattle.shared.specs.Generations.{IsUnready}
 use Rattle.shared.specs.Stands.{IsShownAfter, IsShownBefore}
 
 -- a reply with no version leaves the table
@@ -74,14 +73,6 @@ shown_before old new v (Err StoreFailed) h = inr h
 shown_before old new v (Err GenerationsSpent) h = inr h
 shown_before old new v (Err NoMemory) h = inr h
 shown_before old new v (Err (DeviceFailed i)) h = h
-
--- a store that isn't ready leaves what is published
-pub unready_shows : (old new : List Item) (v : LayeredVersion) (next : ℕ) (fault : CheckpointFault) → IsUnready next fault
-    → new ≡ old → IsShownBefore old v (Err fault) new
-unready_shows old new v next StoreFailed h same = inl same
-unready_shows old new v next GenerationsSpent h same = inl same
-unready_shows old new v next NoMemory h same = absurd h
-unready_shows old new v next (DeviceFailed i) h same = absurd h
 
 pub either_way : {A E : Type 0} (X Y P : Type 0) (r : Result A E) → MatchResult r (λ _. X) (λ _. Y) → (X → P) → (Y → P) → P
 either_way X Y P (Ok x) h f k = f h

@@ -183,10 +183,6 @@ module _ (number : ℤ) (xs : List ℤ) (b : Column) (lent : record { ty = colum
         number_at k d (pos 0) (omega (arith, lt, as_many)) ∙ point.1 k (pos 0) low (omega (arith, lt, as_many))),
   )
 
-  -- the first of some
-  pub first_number : (x : ℤ) → 0 < length xs → x ≡ get_or xs 0 x → int_lt x number ≡ begins number b
-  first_number x some is = ap (λ y. int_lt y number) is ∙ sym (number_at 0 (Truth false) x some)
-
 -- ---- a block that begins with no number
 
 no_text : (number : ℤ) (ts : List (List ℕ)) → is_below number (get_or (map Text ts) 0 (Truth false)) ≡ false
@@ -202,9 +198,3 @@ pub no_numbers : (number : ℤ) (lent : BlockValues) (b : Column) → column_of_
 no_numbers number (block.Ints xs) b e other = absurd (other xs refl)
 no_numbers number (block.Texts ts) b e other = ap (begins number) (sym e) ∙ no_text number ts.now
 no_numbers number (block.Truths bs) b e other = ap (begins number) (sym e) ∙ no_truth number bs.now
-
--- and one of no values
-pub no_first : (number : ℤ) (xs : List ℤ) (b : Column) → record { ty = column.Int; values = map Int xs } ≡ b → length xs ≡ 0
-    → begins number b ≡ false
-no_first number [] b e none = ap (begins number) (sym e)
-no_first number (x ∷ xs) b e none = absurd (omega (arith, none))

@@ -13,10 +13,6 @@ use Rattle.model.specs.Table.{table_of, row_at, rank}
 use Rattle.model.proofs.CallerLemmas.{both, first, second, less, find_first, turn_less, turn_greater, find_below, find_past, below_less, rank_below}
 use Rattle.stable.specs.Stable.{holds_key}
 
-is_true : (b : Bool) → T b → b ≡ true
-is_true true h = refl
-is_true false h = absurd h
-
 module _ (key_cols : ℕ) (key : Key) where
   -- whether a row is below the key
   abbrev pub is_below_key : Row → Bool

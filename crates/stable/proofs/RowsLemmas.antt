@@ -1,10 +1,9 @@
 -- Rows as columns, and columns as rows.
-use Rattle.std.proofs.Common.{◌≡◌, ℕ, zero, suc, ◌<◌, Bool, true, false, cond, ◌&&◌, ◌||◌, Option, Some, None, List, [], ◌∷◌, length, map, get_or, slice_get, refl, sym, ap, subst, ◌∙◌, arith}
+use Rattle.std.proofs.Common.{◌≡◌, ℕ, zero, suc, ◌<◌, Bool, true, false, cond, ◌&&◌, Option, Some, None, List, [], ◌∷◌, length, map, get_or, slice_get, refl, sym, ap, subst, ◌∙◌, arith}
 use Rattle.std.specs.Prelude.{◌==◌}
-use Rattle.std.specs.List.{list_all, list_any, range_with_len, All}
+use Rattle.std.specs.List.{range_with_len}
 use Rattle.std.proofs.lemmas.Bool.Decides.{nat_tests}
 use Rattle.std.proofs.lemmas.List.{length-map, get_or-map}
-use Rattle.std.proofs.lemmas.List.Elements.{All-head, All-tail}
 use Rattle.std.proofs.lemmas.List.FromFn.{length-map-range_with_len, get_or-map-range_with_len, fill_by_all}
 use Rattle.std.proofs.lemmas.Option.{slice_get-get_or, get_or_from_slice_get}
 use Rattle.std.proofs.lemmas.Simd.{map-map}
@@ -69,26 +68,6 @@ width_of types row h = same_count (length row) (length types) (counted (length r
 pub both_true : (a b : Bool) → a ≡ true → b ≡ true → (a && b) ≡ true
 both_true true b p q = q
 both_true false b p q = p
-
-both_false : (a b : Bool) → a ≡ false → b ≡ false → (a || b) ≡ false
-both_false false b p q = q
-both_false true b p q = p
-
-module _ (types : List ColumnType) (col : ℕ) (lt : col < length types) where
-  abbrev Fits : Row → Type 0
-  Fits row = list_fault types row ≡ None
-
-  pub column_typed : (rows : List Row) → All Fits rows → list_all (has_type (get_or types col column.Int)) (column_values col rows) ≡ true
-  column_typed [] h = refl
-  column_typed (row ∷ rows) h =
-      both_true (has_type (get_or types col column.Int) (get_or row col (Truth false))) _
-      (fit_at types row col lt (All-head Fits row rows h)).typed (column_typed rows (All-tail Fits row rows h))
-
-  pub column_short : (rows : List Row) → All Fits rows → list_any is_too_long (column_values col rows) ≡ false
-  column_short [] h = refl
-  column_short (row ∷ rows) h =
-      both_false (is_too_long (get_or row col (Truth false))) _ (fit_at types row col lt (All-head Fits row rows h)).short
-      (column_short rows (All-tail Fits row rows h))
 
 -- ---- what a table keeps
 

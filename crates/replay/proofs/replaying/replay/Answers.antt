@@ -23,9 +23,6 @@ module _ (schema : Columns) (table : ℕ) (t : Table) (frames : List Frame) (i :
     (schema_is : middle.schema ≡ schema) (reached : (commits : List Effects) → AreCommits schema t commits
     → AreSaid schema table t commits (map (λ f. f.payload.now) frames) → newest_table middle ≡ table_with_all t (take i commits))
     (commits : List Effects) (h : AreCommits schema t commits) (s : AreSaid schema table t commits (map (λ f. f.payload.now) frames)) where
-  payloads : List (List ℕ)
-  payloads = map (λ f. f.payload.now) frames
-
   next : (x : Effects) × AreOver middle.schema (newest_table middle) x
       × (entries_in middle.schema table (get_or frames i nothing).payload.now ≡ Ok (canonical_entries (newest_table middle) x))
       × (table_with (newest_table middle) x ≡ table_with_all t (take (i + 1) commits))
