@@ -18,15 +18,6 @@ with_rows n rows c = record { ty = c.ty; values = c.values ++ column_values n ro
 abbrev pub grown_to : ℕ → ℕ → List Column → List Row → List Column
 grown_to n k cs rows = take k (grown n cs rows) ++ drop k cs
 
-pub length-grown : (n : ℕ) (cs : List Column) (rows : List Row) → length (grown n cs rows) ≡ length cs
-length-grown n [] rows = refl
-length-grown n (c ∷ cs) rows = ap suc (length-grown (n + 1) cs rows)
-
-pub length-grown_to : (n k : ℕ) (cs : List Column) (rows : List Row) → length (grown_to n k cs rows) ≡ length cs
-length-grown_to n zero cs rows = refl
-length-grown_to n (suc k) [] rows = refl
-length-grown_to n (suc k) (c ∷ cs) rows = ap suc (length-grown_to (n + 1) k cs rows)
-
 -- the column that comes next has not grown
 pub get_or-grown_to : (n k : ℕ) (cs : List Column) (rows : List Row) (d : Column) → get_or (grown_to n k cs rows) k d ≡ get_or cs k d
 get_or-grown_to n zero cs rows d = refl

@@ -30,9 +30,6 @@ lt_of a b h = grind (arith, nat_tests)
 pub of_lt : (a b : ℕ) → a < b → T (nat_lt a b)
 of_lt a b h = grind (arith, nat_tests)
 
-apart : (a b : ℕ) → a < b → (a == b) ≡ false
-apart a b h = grind (arith, nat_tests)
-
 -- ---- a list at a place
 
 -- from a place on, a list is what stands there and what stands after it
@@ -58,17 +55,6 @@ drop-none [] zero is = refl
 drop-none [] (suc n) is = refl
 drop-none (x ∷ xs) zero is = cc
 drop-none (x ∷ xs) (suc n) is = drop-none xs n is
-
-drop-nothing : {X : Type 0} (xs : List X) (n : ℕ) → drop n xs ≡ [] → drop (n + 1) xs ≡ []
-drop-nothing xs zero is = ap (drop 1) is
-drop-nothing [] (suc n) is = let e : suc n + 1 ≡ suc (n + 1) = omega arith in ap (λ m. drop m []) e
-drop-nothing (x ∷ xs) (suc n) is = let e : suc n + 1 ≡ suc (n + 1) = omega arith in ap (λ m. drop m (x ∷ xs)) e ∙ drop-nothing xs n is
-
-get-nothing : {X : Type 0} (xs : List X) (n : ℕ) → drop n xs ≡ [] → slice_get xs n ≡ None
-get-nothing [] zero is = refl
-get-nothing [] (suc n) is = refl
-get-nothing (x ∷ xs) zero is = cc
-get-nothing (x ∷ xs) (suc n) is = get-nothing xs n is
 
 pub all-append : {X : Type 0} (p : X → Bool) (xs ys : List X) → T (list_all p xs) → T (list_all p ys) → T (list_all p (xs ++ ys))
 all-append p [] ys h k = k

@@ -46,11 +46,6 @@ all_from-after n (e ∷ es) h =
     let past : suc n ≤ e.sid = omega arith in
     both (nat_le (suc n) e.sid) _ (of_le (suc n) e.sid past) (all_from-after n es (second (nat_lt n e.sid) _ h))
 
-all_from-append : (n : ℕ) (es fs : List Entry) → T (all_from n es) → T (all_from n fs) → T (all_from n (es ++ fs))
-all_from-append n [] fs p q = q
-all_from-append n (e ∷ es) fs p q =
-    both (nat_le n e.sid) _ (first (nat_le n e.sid) _ p) (all_from-append n es fs (second (nat_le n e.sid) _ p) q)
-
 -- ---- the order
 
 module _ (key_cols : ℕ) where

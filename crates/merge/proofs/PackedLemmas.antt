@@ -20,12 +20,6 @@ use Rattle.merge.specs.declared.packed.RowChange.TheVariants.{Insert, Delete}
 use Rattle.merge.proofs.CursorLemmas.{lt_of, of_lt}
 use Rattle.merge.proofs.LevelLemmas.{all_from, from_head, le_of, of_le}
 
--- an entry inserts a row at most
-pub rows_after-le : (rows : ℕ) (c : Change) → rows_after rows c ≤ suc rows
-rows_after-le rows (Ins row) = omega arith
-rows_after-le rows (Del key) = omega arith
-rows_after-le rows (Mod col value) = omega arith
-
 -- ---- rows that are inserted
 
 pub rows_in-append : (es fs : List Entry) → rows_in (es ++ fs) ≡ rows_in es ++ rows_in fs

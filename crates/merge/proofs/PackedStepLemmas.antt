@@ -168,14 +168,6 @@ module _ (key_cols : ℕ) where
   over_drop a end (suc n) [] o = o
   over_drop a end (suc n) (e ∷ es) o = over_drop a end n es (over_tail key_cols a end e es o)
 
-  -- from an entry on all stand at its place or past it
-  pub far_from : (a end m n : ℕ) (es : List Entry) (e : Entry) → IsOver key_cols a end es → slice_get es n ≡ Some e → m ≤ e.sid
-      → T (all_from m (drop n es))
-  far_from a end m n es e o is le =
-      let left = drop-at es n e is in
-      let o' = subst (λ xs. IsOver key_cols a end xs) left (over_drop a end n es o) in
-      subst (λ xs. T (all_from m xs)) (sym left) (all_from-ordered key_cols m e (drop (n + 1) es) o'.ordered le)
-
   -- a modify stands before what is none and comes after it
   modify_before : (x e : Entry) → T (is_lt (entry_cmp key_cols x e)) → T (is_modify x.change) → is_modify e.change ≡ false → x.sid < e.sid
   modify_before x e lt is other = by (first_place x.sid e.sid (change_cmp key_cols x.change e.change) lt)

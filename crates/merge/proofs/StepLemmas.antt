@@ -147,16 +147,6 @@ all_from-within n end (e ∷ es) h =
     both (nat_le n e.sid) _ (first (nat_le n e.sid) _ (first (stands_within n end e) _ h))
     (all_from-within n end es (second (stands_within n end e) _ h))
 
-length-entries_past : (sid : ℕ) (es : List Entry) → length (entries_past sid es) ≤ length es
-length-entries_past sid [] = omega arith
-length-entries_past sid (e ∷ es) =
-    elim (e.sid == sid) as
-    (λ b. length (cond b (entries_past sid es) (e ∷ es)) ≤ suc (length es)) [
-      | true ↦
-          (let le = length-entries_past sid es in omega arith)
-      | false ↦ omega arith
-    ]
-
 -- the changes at a SID are those of the entries before the ones past it
 changes_at-passed : (sid n : ℕ) (es : List Entry) → entries_past sid es ≡ drop n es → T (all_from (suc sid) (entries_past sid es))
     → changes_at sid es ≡ map (λ e. e.change) (take n es)

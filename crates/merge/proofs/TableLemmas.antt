@@ -1,7 +1,7 @@
 -- Rows of an image put into columns.
-use Rattle.std.proofs.Common.{◌≡◌, ℕ, ◌+◌, ◌-◌, ◌<◌, ◌≤◌, true, false, None, List, [], ◌∷◌, ◌++◌, length, take, drop, get_or, slice_get, append_assoc, Some, refl, sym, ap, subst, ◌∙◌, arith}
+use Rattle.std.proofs.Common.{◌≡◌, ℕ, ◌+◌, ◌-◌, ◌<◌, true, false, None, List, [], ◌∷◌, ◌++◌, length, take, drop, get_or, slice_get, Some, refl, sym, ap, subst, ◌∙◌, arith}
 use Rattle.std.specs.List.{All}
-use Rattle.std.proofs.lemmas.List.{take-map, drop-map, length-map, length-append, map-append, get_or_append_left, get_or-append_right}
+use Rattle.std.proofs.lemmas.List.{take-map, drop-map, length-append, get_or_append_left, get_or-append_right}
 use Rattle.std.proofs.lemmas.List.Elements.{All-head}
 use Rattle.std.proofs.lemmas.Option.{get_or_from_slice_get}
 use Rattle.values.specs.Shape.{Columns, has_type, is_too_long, list_fault}
@@ -118,25 +118,3 @@ module _ (ty : ColumnType) (col : ℕ) (rows rest all : List Row) (is : all ≡ 
       ∙ get_or-append_right rows rest (length rows) (length rows + k) d refl (omega arith)
       ∙ ap (λ n. get_or rest n d) (omega arith))
       (stand (length rows + k) d (omega (arith, lt, ap (λ (rs : List Row). length rs) is, length-append rows rest)))
-
-  -- the values of a stretch go from those that are left to those so far
-  pub values_move : (old : List Value) (done : List Value) → old ++ column_values col all ≡ done
-      → (old ++ column_values col rows) ++ column_values col rest ≡ done
-  values_move old done e =
-      append_assoc old (column_values col rows) (column_values col rest)
-      ∙ ap (λ more. old ++ more) (sym (ap (column_values col) is ∙ map-append (λ (row : Row). get_or row col (Truth false)) rows rest))
-      ∙ e
-
-  pub values_fit : (old : List Value) (done : List Row) → old ++ column_values col all ≡ column_values col done
-      → length old + length rows ≤ length done
-  values_fit old done e =
-      let cell = λ (row : Row). get_or row col (Truth false) in
-      omega (
-        arith,
-        ap (λ (vs : List Value). length vs) e,
-        length-append old (column_values col all),
-        length-map all cell,
-        length-map done cell,
-        ap (λ (rs : List Row). length rs) is,
-        length-append rows rest,
-      )

@@ -1,14 +1,13 @@
 -- A transaction with the first of its writes is one, and a mark stands as long as they are there.
-use Rattle.std.proofs.Common.{◌≡◌, ℕ, zero, suc, ◌≤◌, ◌++◌, List, [], ◌∷◌, length, take, refl, sym, ap, ◌∙◌, subst, arith}
+use Rattle.std.proofs.Common.{◌≡◌, ℕ, zero, suc, ◌≤◌, List, [], ◌∷◌, length, take, refl, sym, ap, ◌∙◌, subst, arith}
 use Rattle.std.specs.List.{list_all}
 use Rattle.std.proofs.lemmas.Float.{T_from_true}
-use Rattle.std.proofs.lemmas.List.{append_assoc, append-nil, length-take, take_all, take-take, take-map, take-append-le, length-append}
+use Rattle.std.proofs.lemmas.List.{append-nil, length-take, take_all, take-take, take-map, take-append-le, length-append}
 use Rattle.model.specs.declared.write.Write.{Write}
 use Rattle.model.specs.declared.write.WriteReply.{WriteReply}
 use Rattle.model.specs.Table.{Table}
 use Rattle.model.specs.Effects.{Effects}
 use Rattle.model.specs.Writes.{write_fits_schema, effects_after, reply_to, replies_to}
-use Rattle.model.proofs.CallerLemmas.{first, second}
 use Rattle.txn.specs.Txn.{Transaction, asked_of, tree_of, IsTransaction, IsAnswered}
 use Rattle.txn.specs.Marks.{Marked, mark_of, with_first, IsMark, GoesOn, MarksStand}
 use Rattle.txn.proofs.TxnLemmas.{is_true}
@@ -94,20 +93,3 @@ back_kept txn self view h mark args same m writes items =
     ap (λ (x : Marked). x.tree) same ∙ m.tree_is ∙ (λ i. tree_of (with_first ((sym same) i).count ((sym view) i))) in
     subst (λ (ws : List (Write × WriteReply)). IsTransaction (with_writes txn ws) × (mark.tree ≡ tree_of (with_writes txn ws))) (sym items)
     (first_IsTransaction txn h mark.count, tree)
-
--- ---- further writes after further writes
-
--- further writes after further writes are further writes
-pub goes_further : (first second third : Transaction) → GoesOn first second → GoesOn second third → GoesOn first third
-goes_further first second third g h = record {
-  later = g.later ++ h.later;
-  new_is =
-      h.new_is
-      ∙ (λ i. with_writes (g.new_is i) ((ap (λ (t : Transaction). t.writes) g.new_is) i ++ h.later))
-      ∙ ap (with_writes first) (append_assoc first.writes g.later h.later);
-}
-
--- a mark that stands where the next one is made isn't younger, and stands where the transaction goes back to that
-pub back_keeps : (mark : Marked) (then now : Transaction) → IsMark mark then → GoesOn then now
-    → IsMark mark (with_first (mark_of then).count now)
-back_keeps mark then now m g = gone_back_IsMark mark now (length then.writes) (written_IsMark mark then now m g) m.within

@@ -1,12 +1,11 @@
 -- What a transaction's type keeps, write by write.
-use Rattle.std.proofs.Common.{◌≡◌, ℕ, ◌^◌, ◌≤◌, Bool, true, false, cond, not, ◌&&◌, ◌||◌, T, Option, Some, None, is_some, List, [], ◌∷◌, ◌++◌, length, refl, sym, ap, ◌∙◌, subst, arith}
+use Rattle.std.proofs.Common.{◌≡◌, ℕ, ◌^◌, ◌≤◌, Bool, true, false, cond, T, Option, Some, None, is_some, List, [], ◌∷◌, ◌++◌, length, refl, sym, ap, ◌∙◌, subst, arith}
 use Rattle.std.specs.Prelude.{IsTrue}
 use Rattle.std.specs.List.{list_all}
 use Rattle.std.proofs.lemmas.Float.{T_from_true}
 use Rattle.std.proofs.lemmas.List.{map-append}
 use Rattle.values.specs.Orders.{key_cmp}
 use Rattle.values.specs.Shape.{Columns}
-use Rattle.values.specs.declared.row.Row.{Row}
 use Rattle.values.specs.declared.row.Key.{Key}
 use Rattle.model.specs.declared.effect.Effect.{Effect}
 use Rattle.model.specs.declared.effect.Effect.TheVariants as effect
@@ -14,16 +13,16 @@ use Rattle.model.specs.declared.entry.Entry.{Entry}
 use Rattle.model.specs.declared.write.Write.{Write}
 use Rattle.model.specs.declared.write.Write.TheVariants.{Insert, Delete, Set}
 use Rattle.model.specs.declared.write.WriteReply.{WriteReply}
-use Rattle.model.specs.Maps.{find, is_sorted}
-use Rattle.model.specs.Table.{Table, rank, is_keyed_table}
-use Rattle.model.specs.Effects.{Effects, fits, row_after, all_fit, are_keyed_effects, table_with, AreOver}
+use Rattle.model.specs.Maps.{find}
+use Rattle.model.specs.Table.{Table, rank}
+use Rattle.model.specs.Effects.{Effects, fits, all_fit, table_with, AreOver}
 use Rattle.model.specs.Writes.{write_fits_schema, key_of_write, reply_where, reply_to, is_done, effects_after, replies_to, effects_after_all}
 use Rattle.model.specs.Entries.{are_ordered, canonical_entries}
 use Rattle.model.specs.Edits.{edited_entries}
-use Rattle.model.proofs.CallerLemmas.{both, first, second, changed_by, holds_at, all_keep, keeps, edits, length-effects_after, ordered-canonical_entries, rank-le-length}
+use Rattle.model.proofs.CallerLemmas.{both, first, second, all_keep, keeps, edits, length-effects_after, ordered-canonical_entries, rank-le-length}
 use Rattle.delta.specs.Search.{insert_cmp, stands_before, IsSplit}
 use Rattle.delta.specs.Tree.{Tree}
-use Rattle.delta.specs.Laws.{row_inserted, deletes_row, FindsEffect, MayEdit}
+use Rattle.delta.specs.Laws.{row_inserted, FindsEffect, MayEdit}
 use Rattle.delta.proofs.CallerLemmas.{finds_effect, may_call, length-entries_over}
 use Rattle.txn.specs.Edit.{edited, MayBeEdited}
 use Rattle.txn.specs.Txn.{Transaction, asked_of, answers_of, effects_of, image_of, entries_of, tree_of, IsTransaction, IsFound, with_write, answer_to}
@@ -95,39 +94,12 @@ limit_kept schema limit t x (w ∷ writes) over fit within =
     (second (write_fits_schema schema w) _ fit)
     (length-effects_after schema limit t x w over within)
 
--- whether a key is there after an effect that fits
-presence : (f : Option Effect) (old : Option Row) → T (holds_at (fits old) f)
-    → is_some (changed_by row_after f old) ≡ (is_some (row_inserted f) || (is_some old && not (deletes_row f)))
-presence None None h = refl
-presence None (Some row) h = refl
-presence (Some (effect.Ins new)) None h = refl
-presence (Some (effect.Ins new)) (Some row) h = absurd h
-presence (Some effect.Del) None h = absurd h
-presence (Some effect.Del) (Some row) h = refl
-presence (Some (effect.Mod cells)) None h = absurd h
-presence (Some (effect.Mod cells)) (Some row) h = refl
-presence (Some (effect.Rep new)) None h = absurd h
-presence (Some (effect.Rep new)) (Some row) h = refl
-
--- a test that matters only where another holds
-where_there : (b d e : Bool) → (b ≡ true → d ≡ e) → (b && not d) ≡ (b && not e)
-where_there true d e h = ap not (h refl)
-where_there false d e h = refl
-
 module _ (txn : Transaction) (h : IsTransaction txn) where
   -- the effects of a transaction fit its table
   pub over : AreOver txn.schema txn.table (effects_of txn)
   over =
       all_keep txn.schema txn.limit txn.table [] (asked_of txn)
       (record { table = h.table; effects_are = record { keyed = refl; fitting = refl }; fit = refl }) h.fitting
-
-  table_sorted : T (is_sorted key_cmp txn.table)
-  table_sorted = first (is_sorted key_cmp txn.table) _ (T_from_true (is_keyed_table txn.schema.key_cols txn.table) h.table.keyed)
-
-  effects_sorted : T (is_sorted key_cmp (effects_of txn))
-  effects_sorted =
-      first (is_sorted key_cmp (effects_of txn)) _
-      (T_from_true (are_keyed_effects txn.schema.key_cols (effects_of txn)) over.effects_are.keyed)
 
   effects_fit : T (all_fit txn.table (effects_of txn))
   effects_fit = T_from_true (all_fit txn.table (effects_of txn)) over.fit
