@@ -136,10 +136,6 @@ entries_up (suc most) schema end (byte ∷ bytes) =
 abbrev pub entries_to : Columns → ℕ → List ℕ → Result (List Entry) PayloadFault
 entries_to schema end bytes = entries_up (length bytes) schema end bytes
 
--- the entries of bytes that begin at this offset
-abbrev pub entries_at : Columns → ℕ → List ℕ → Result (List Entry) PayloadFault
-entries_at schema at bytes = entries_to schema (at + length bytes) bytes
-
 -- ---- parts
 
 -- a table, the bytes of its entries, and the offset at which they end

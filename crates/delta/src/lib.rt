@@ -16,7 +16,7 @@ mod sorted;
 mod tree;
 
 pub use by_sid::{BaseChange, SidPlace, Sought};
-pub use counted::{ChangeRef, CountedTree, Iter, SharedEntry, Steps};
+pub use counted::{ChangeRef, Iter, SharedEntry, Steps};
 pub use folds::Fold;
 pub use laws::{a_write_is_one_call, canonical_look_ups, inserts_ascend_at_a_sid};
 pub use model::{Change, Entry};

@@ -7,8 +7,8 @@
 //!
 //! *What it stands on.* `values` for schemas, rows and limits, `model` for tables, writes and histories, `stable` for the
 //! table, `txn` for transactions, `devices` for stores, `manager` for commits, `publishing` and `shared` for sessions,
-//! `words` and `inputs` for what the program is given, `journal`, `images` and `replay` for the faults of a journal, `csv` for records, `itoa` for numbers, and `thiserror` for what a
-//! fault shows.
+//! `words` and `inputs` for what the program is given, `journal`, `images` and `replay` for the faults of a journal, `csv` for
+//! records, `itoa` for numbers, and `thiserror` for what a fault shows.
 #![tactic(auto)]
 
 mod batch;
@@ -34,12 +34,10 @@ mod shown;
 
 pub use caller::{Caller, reply_of};
 pub use clients::{RunFault, run_clients};
-pub use devices::{ReadFault, Store, StoreFault, StoredImage};
+pub use devices::StoreFault;
 pub use gate::{Gate, OpenGate};
 pub use header::stored_header;
-pub use inputs::{
-    Call, ClientCall, Script, ScriptFault, TableFault, Verb, load_table, read_script, read_table,
-};
+pub use inputs::{ScriptFault, TableFault};
 pub use manager::{Manager, OpenFault};
 pub use outcome::{Left, Outcome};
 pub use output::{
@@ -54,6 +52,6 @@ pub use refusal::Refusal;
 pub use reply::{Reply, ReplyLine};
 pub use serial::{new_callers, run_serial, verb_of_call};
 pub use shown::ShownRows;
-pub use stable::{BuildFault, StableTable};
-pub use txn::{Parts, Txn, Version, WriteFault};
+pub use stable::StableTable;
+pub use txn::{Txn, WriteFault};
 pub use words::{Settings, read_words};
