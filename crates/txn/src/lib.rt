@@ -20,12 +20,11 @@ mod transaction;
 mod version;
 mod writes;
 
-pub use delta::DeltaTree;
 pub use fault::WriteFault;
 pub use laws::marks_stand;
 pub use mark::Mark;
-pub use merge::{MergeScan, PlacedStretches, ReadTree, RowView, StableStretch, Stretch, Stretches};
-pub use model::{Write, WriteReply};
+pub use merge::{ReadTree, RowView, Stretch};
+pub use model::WriteReply;
 pub use parts::Parts;
 pub use transaction::Txn;
 pub use version::Version;
