@@ -12,11 +12,11 @@ try:
 run:
 	cd crates/pdt && rt run -- run data/table.csv data/script.csv
 
-# the gate: every proof from nothing, the must-fail edits, the tests and the program; then the names in the documents, the
-# examples and the cases through that program, runs of it that are killed, and the tests of the door for C.
+# the gate: every proof from nothing, the must-fail edits, the tests and the program; then the names in the documents, what
+# nothing cites, the examples and the cases through that program, runs of it that are killed, and the tests of the door for C.
 # RT_JOBS checks go on at a time, each on one processor, since a check that has several takes more processor time
 test:
-	RT_JOBS=$(RT_JOBS) rt ci && docs/check && examples/check && examples/kills && door/check
+	RT_JOBS=$(RT_JOBS) rt ci && docs/check && docs/dead && examples/check && examples/kills && door/check
 
 # each example and case through the program as `make run` proves and builds it, against its replies
 examples: run
