@@ -23,13 +23,12 @@ use Rattle.logging.specs.Laws.{ADeviceLeavesAFrame}
 use Rattle.logging.specs.Log.{Log}
 use Rattle.txn.specs.Txn.{IsTransaction, Transaction, effects_of}
 use Rattle.manager.specs.Managed.{IsDecided, IsManaged, IsOwn, Managed, commits_in, commits_since, is_too_old, newest_number, newest_table, record_of, reply_due}
-use Rattle.manager.proofs.CallerLemmas.{above_base, commits_from-append, granted_when, recorded_is, table_with_all-one}
+use Rattle.manager.proofs.CallerLemmas.{above_base, commits_from-append, granted_over, granted_when, recorded_is, same_number, table_with_all-one}
 use Rattle.replay.specs.Recovered.{Logs}
 use Rattle.replay.specs.Replayed.{AreSaid}
 use Rattle.durable.specs.Durable.{Durable, IsLogged, IsReadAgain, logged_of}
 use Rattle.durable.specs.Journaled.{IsJournaled, Journal, journal_with}
 use Rattle.durable.specs.Laws.{ACommitIsJournaled, ACrashInACommit, ACrashLeavesTheCommits}
-use Rattle.durable.proofs.PreparedLemmas.{granted_over, same_number}
 
 -- ---- commits, and one more
 

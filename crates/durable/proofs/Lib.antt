@@ -1,2 +1,1 @@
-mod PreparedLemmas
 mod JournaledLemmas

@@ -3,6 +3,7 @@ mod HistoryLemmas
 mod KeptLemmas
 mod ChangesLemmas
 mod GrantLemmas
+mod PreparedLemmas
 mod FoldLemmas
 mod CutLemmas
 mod OwnLemmas

@@ -10,4 +10,3 @@ mod FillingLemmas
 mod Crossing
 mod ReopeningLemmas
 mod ImportingLemmas
-mod PreparedLemmas

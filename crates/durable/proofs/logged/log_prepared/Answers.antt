@@ -15,7 +15,7 @@ use Rattle.txn.specs.Txn.{effects_of}
 use Rattle.manager.specs.Managed.{newest_number, newest_table, reply_due}
 use Rattle.durable.specs.declared.fault.CommitFault.TheVariants as CommitFault
 use Rattle.durable.specs.Durable.{IsReadAgain, IsUnlogged, log_with, logged_for, over, payload_for}
-use Rattle.durable.proofs.PreparedLemmas.{both_ok, grant_is, granted, granted_over, newest_few, same_number}
+use Rattle.manager.proofs.CallerLemmas.{grant_is, granted, granted_over, newest_few, same_number}
 use Rattle.durable.proofs.logged.log_prepared.Given.{Over}
 use Rattle.durable.proofs.logged.log_prepared.Goals.{After-schema-schema}
 use Rattle.durable.proofs.logged.log_prepared.Goals as goal
@@ -24,6 +24,10 @@ with_due : {A F : Type 0} (f : F) (P Q : Type 0) (r : Result A F) → P → IfEr
     → IfErr r (λ fault. fault ≡ f → P × Q)
 with_due f P Q (Ok x) p h = h
 with_due f P Q (Err e) p h = λ same. (p, h same)
+
+both_ok : {E : Type 0} (A B : Type 0) (r : Result (Unit {0}) E) → OnOk r A → OnOk r B → OnOk r (A × B)
+both_ok A B (Ok u) a b = (a, b)
+both_ok A B (Err e) a b = tt
 
 module _ (g : Over) (c : After-schema-schema g) where
   reply_is : c.args.prepared.now.reply ≡ Committed c.in-Committed.number

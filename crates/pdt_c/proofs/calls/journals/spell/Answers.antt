@@ -7,7 +7,7 @@ use Rattle.delta.specs.Tree.{Tree}
 use Rattle.txn.specs.Txn.{IsTransaction, effects_of}
 use Rattle.manager.specs.Managed.{newest_number, newest_table}
 use Rattle.pdt_c.specs.Marks.{Opened}
-use Rattle.pdt_c.proofs.PreparedLemmas.{grant_is, granted, granted_over, newest_few}
+use Rattle.manager.proofs.CallerLemmas.{grant_is, granted, granted_over, newest_few}
 use Rattle.pdt_c.proofs.calls.journals.spell.Goals as goal
 
 -- the tree is that of the effects, which are over the newest table

@@ -4,7 +4,8 @@ use Rattle.std.specs.Prelude.{nat_lt, option_map}
 use Rattle.std.specs.List.{list_any}
 use Rattle.values.specs.Shape.{Columns}
 use Rattle.values.specs.declared.limits.TheConstants.{MAX_ROWS}
-use Rattle.model.specs.declared.write.CommitReply.TheVariants.{Committed}
+use Rattle.model.specs.declared.write.CommitReply.{CommitReply}
+use Rattle.model.specs.declared.write.CommitReply.TheVariants.{Committed, Conflict, TooOld, Full}
 use Rattle.model.specs.Clashes.{conflicts}
 use Rattle.model.specs.Effects.{AreOver, table_with}
 use Rattle.model.specs.History.{table_with_all}
@@ -16,7 +17,7 @@ use Rattle.txn.specs.Txn.{IsTransaction, Transaction, effects_of}
 use Rattle.txn.proofs.CallerLemmas.{over}
 use Rattle.manager.specs.Managed.{IsManaged, IsOwn, Managed, commits_in, commits_since, is_too_old, newest_number, newest_table, reply_due}
 use Rattle.manager.specs.Prepared.{Granted, IsGrant, IsInstalled, IsPrepared, Prepared, tree_in}
-use Rattle.manager.proofs.CallerLemmas.{above_base, granted_when, newest_within}
+use Rattle.manager.proofs.HistoryLemmas.{above_base, granted_when, newest_within}
 
 -- ---- the effects of a granted commit fit the newest table
 
@@ -75,3 +76,15 @@ module _ (m : Managed) (txn : Transaction) (p : Prepared) (is : IsPrepared m txn
 
   pub grant_is : (g : Granted) → p.granted ≡ Some g → (p.reply ≡ Committed (suc (newest_number m))) × IsGrant m (effects_of txn) g
   grant_is g here = subst (IsInstalled m txn p.reply) here is.installed
+
+-- ---- the number of a granted commit
+
+number_in : CommitReply → ℕ
+number_in (Committed n) = n
+number_in (Conflict n) = n
+number_in (TooOld n) = n
+number_in (Full n) = n
+
+pub same_number : (n k : ℕ) → Committed n ≡ Committed k → n ≡ k
+unfolding number_in
+same_number n k e = ap number_in e
