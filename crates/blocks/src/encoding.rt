@@ -68,7 +68,7 @@ fn is_constant(block: &Block) -> bool
 ///
 /// `Short(0)` where there is no byte; `BadEncoding` where the first names no encoding, or the constant form for fewer than
 /// two values; then the first fault of what comes after it, whose offsets count that byte too; `BadEncoding` where two
-/// values or more that are all equal stand plain. `NoMemory` where a growth is refused.
+/// values or more that are all equal are plain. `NoMemory` where a growth is refused.
 pub fn read_block2(
     alloc: Global,
     ty: ColumnType,
@@ -142,7 +142,7 @@ fn decode_constant(
     Ok(repeat(alloc, &one, count)?)
 }
 
-/// The block of so many values whose payload the bytes are, which stand behind one more.
+/// The block of so many values whose payload the bytes are, which are behind one more.
 fn read_behind(
     alloc: Global,
     ty: ColumnType,

@@ -58,7 +58,7 @@ fn cell_fits(schema: &Schema, col: usize, value: ValueRef<'_>) -> bool
     }
 }
 
-/// Whether the value may stand in a column of the type.
+/// Whether the value may be in a column of the type.
 fn value_fits(ty: ColumnType, value: ValueRef<'_>) -> bool
     ensures { (col : ℕ) → result ≡ is_none (value_fault ty col (value_of value.entry)) }
 {

@@ -11,7 +11,7 @@ use std::marker::Model;
 use std::sync::Arc;
 use values::{Key, NoMemory, Row, SharedRow, Value, ValueRef};
 
-/// An entry. A number or a truth that it sets stands in it; a row that it inserts, the key of one that it deletes and a text
+/// An entry. A number or a truth that it sets is in it; a row that it inserts, the key of one that it deletes and a text
 /// that it sets are shared: its copies, and those of it at other SIDs, own them together.
 #[derive(Drop)]
 pub struct SharedEntry {

@@ -1,4 +1,4 @@
-//! Where something comes to stand at a position of the image above, among the changes that stand there.
+//! Where something comes to stand at a position of the image above, among the changes that are there.
 ghost use Rattle.std.specs.Prelude.{◌≡◌, ◌+◌, ◌-◌, ◌*◌, ◌^◌, ◌<◌, ◌≤◌, ◌+ℤ◌, ◌≤ℤ◌, pos, true, false, Bool, ℤ, Option, Some, IsSome};
 ghost use Rattle.std.specs.Prelude.{length, slice_get, slice_index_or, take, drop};
 ghost use Rattle.model.specs.declared.entry.Change.{Change};
@@ -65,7 +65,7 @@ impl Node {
     }
 }
 
-/// The child in which it comes to stand, or after whose entries, where the first child's entries stand `shift` above the rows
+/// The child in which it comes to stand, or after whose entries, where the first child's entries are `shift` above the rows
 /// below.
 fn child_at_gap<G: Gap, L: Ledger>(
     children: &[Child],
@@ -100,7 +100,7 @@ fn child_at_gap<G: Gap, L: Ledger>(
     index
 }
 
-/// Whether the first entry of a child, `up` above the rows below, stands before it.
+/// Whether the first entry of a child, `up` above the rows below, is before it.
 fn head_leads<G: Gap, L: Ledger>(
     child: &Child,
     up: i64,
@@ -130,7 +130,7 @@ fn head_leads<G: Gap, L: Ledger>(
     }
 }
 
-/// How many entries of a leaf, which stand `shift` above the rows below, stand before it.
+/// How many entries of a leaf, which are `shift` above the rows below, are before it.
 fn gap_in<G: Gap>(entries: &[SharedEntry], rid: i64, shift: i64, gap: &G) -> usize
     requires placed { ArePlaced entries.now }
     requires above { (shift +ℤ pos (length entries.now)) ≤ℤ pos (2 ^ 61) }
@@ -146,7 +146,7 @@ fn gap_in<G: Gap>(entries: &[SharedEntry], rid: i64, shift: i64, gap: &G) -> usi
     index
 }
 
-/// Whether an entry, `up` above the rows below, stands before it.
+/// Whether an entry, `up` above the rows below, is before it.
 fn leads<G: Gap>(entry: &SharedEntry, up: i64, rid: i64, gap: &G) -> bool
     requires small { entry.now.sid < 2 ^ 32 }
     requires above { up ≤ℤ pos (2 ^ 61) }
@@ -164,7 +164,7 @@ fn leads<G: Gap>(entry: &SharedEntry, up: i64, rid: i64, gap: &G) -> bool
     }
 }
 
-/// The row of what stands `up` above the rows below.
+/// The row of what is `up` above the rows below.
 fn row_above(sid: u64, up: i64) -> i64
     requires small { sid < 2 ^ 32 }
     requires above { up ≤ℤ pos (2 ^ 61) }

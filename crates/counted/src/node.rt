@@ -1,5 +1,5 @@
 //! The nodes of a tree. What a node holds is seen in this module and those below it alone, which make, change and measure
-//! nodes, and count none. The searches stand outside: they come to a node's contents by `read`, which counts it.
+//! nodes, and count none. The searches are outside: they come to a node's contents by `read`, which counts it.
 ghost use Rattle.std.specs.Prelude.{◌≡◌, ◌+◌, ◌^◌, ◌<◌, ◌≤◌, ◌++◌, Some, length, drop, slice_get, IfOk};
 ghost use Rattle.std.specs.List.{All};
 ghost use Rattle.counted.specs.Edits.{put_items};

@@ -1,4 +1,4 @@
-//! Search by SID, and at one SID by what stands there.
+//! Search by SID, and at one SID by what is there.
 ghost use Rattle.std.specs.Prelude.{◌≡◌, ◌+◌, ◌-◌, ◌*◌, ◌^◌, ◌<◌, ◌≤◌, true, false, ℤ, Option, Some, IsSome, length, slice_get};
 ghost use Rattle.std.specs.Prelude.{slice_index_or};
 ghost use Rattle.model.specs.declared.entry.Change.{Change};
@@ -36,7 +36,7 @@ pub trait Probe {
             → stand self.now change ≡ order };
 }
 
-/// What stands before all at a SID.
+/// What is before all at a SID.
 pub struct First;
 
 impl Probe for First {
@@ -81,7 +81,7 @@ impl Node {
     }
 }
 
-/// The last child found whose first entry stands before what is looked for at the SID, or else the first.
+/// The last child found whose first entry is before what is looked for at the SID, or else the first.
 fn child_before<P: Probe, L: Ledger>(
     children: &[Child],
     sid: u64,
@@ -110,7 +110,7 @@ fn child_before<P: Probe, L: Ledger>(
     low
 }
 
-/// Whether the first entry of a child stands before what is looked for at the SID.
+/// Whether the first entry of a child is before what is looked for at the SID.
 fn begins_before<P: Probe, L: Ledger>(
     child: &Child,
     sid: u64,
@@ -150,7 +150,7 @@ impl SharedEntry {
     }
 }
 
-/// How many entries of a leaf stand before what is looked for at the SID.
+/// How many entries of a leaf are before what is looked for at the SID.
 fn place_in<P: Probe>(entries: &[SharedEntry], sid: u64, probe: &P) -> usize
     ensures { IsBoundary (stands_before (P.stand probe.now) sid) entries.now result }
 {

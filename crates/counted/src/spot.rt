@@ -14,7 +14,7 @@ use crate::node::Child;
 use crate::{SharedEntry, Steps};
 use std::sync::ledger::Ledger;
 
-/// Where a search ended: how many entries stand before it, what those add, the entries that come next in its leaf, and the
+/// Where a search ended: how many entries are before it, what those add, the entries that come next in its leaf, and the
 /// head of the entry there.
 #[derive(Clone, Copy)]
 pub struct Spot<'a> {
@@ -41,7 +41,7 @@ impl<'a> Spot<'a> {
     }
 }
 
-/// How far a descent has come: how many entries stand before a node, what those add, and the head of the one behind it.
+/// How far a descent has come: how many entries are before a node, what those add, and the head of the one behind it.
 #[derive(Clone, Copy)]
 pub(crate) struct Above {
     index: usize,

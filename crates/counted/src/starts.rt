@@ -1,4 +1,4 @@
-//! Where something stands in a tree, with the entries from there on, which the same descent hands over.
+//! Where something is in a tree, with the entries from there on, which the same descent hands over.
 ghost use Rattle.std.specs.Prelude.{◌≡◌, ◌<◌, ◌^◌, List, pos, drop, slice_get, take};
 ghost use Rattle.std.specs.Option.{option_copied};
 ghost use Rattle.model.specs.declared.entry.Entry.{Entry};
@@ -15,7 +15,7 @@ use crate::{Iter, SharedEntry};
 use std::marker::Brand;
 use std::sync::ledger::Blank;
 
-/// Where something stands, or comes to stand: how many entries stand before it, what those add, and the entries from there
+/// Where something is, or comes to stand: how many entries are before it, what those add, and the entries from there
 /// on.
 #[derive(Drop)]
 pub struct Start<'a> {

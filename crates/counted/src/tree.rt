@@ -315,7 +315,7 @@ impl CountedTree {
     }
 }
 
-/// Where what is looked for at the SID stands, by a count that is let go.
+/// Where what is looked for at the SID is, by a count that is let go.
 pub(crate) fn place_uncounted<'a, P: Probe, L: Ledger>(
     tree: &'a CountedTree,
     sid: u64,

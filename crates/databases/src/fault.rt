@@ -3,7 +3,7 @@ use frames::ReadFault;
 use inputs::TableFault;
 use replay::RecoverFault;
 
-/// Why a table isn't restored: the first that stands, in the order of the variants, but for want of memory.
+/// Why a table isn't restored: the first that holds, in the order of the variants, but for want of memory.
 #[derive(Clone, Copy, Debug, PartialEq, Eq)]
 pub enum RestoreFault {
     /// A file of the journal is another database's.

@@ -44,7 +44,7 @@ pub struct Restored {
 ///
 /// # Errors
 ///
-/// The first that stands, in the order of the variants of `RestoreFault`; a file that isn't behind the one before it is `Rot` with the
+/// The first that holds, in the order of the variants of `RestoreFault`; a file that isn't behind the one before it is `Rot` with the
 /// commit after the newest one.
 pub fn restore_table(
     alloc: Global,
@@ -132,7 +132,7 @@ fn remade(
     }
 }
 
-/// Whether the files stand behind one another: none begins after the newest commit, and what isn't whole is in the last one that has
+/// Whether the files are behind one another: none begins after the newest commit, and what isn't whole is in the last one that has
 /// frames.
 fn is_chain(newest: u64, whole: usize, journal: &Joined<'_>) -> bool
     ensures { result ≡ stands (map piece_now journal.now.pieces.items) newest whole (length journal.now.frames.items) }

@@ -1,5 +1,5 @@
-//! The search by SID: where an insert, what becomes of the base row, or a change stands among the entries at a SID, with what
-//! stands there. A caller who then changes what it found searches no more.
+//! The search by SID: where an insert, what becomes of the base row, or a change is among the entries at a SID, with what
+//! is there. A caller who then changes what it found searches no more.
 ghost use Rattle.std.specs.Prelude.{◌≡◌, ◌<◌, ◌^◌, ◌&&◌, ◌||◌, List, [], not, is_some, length, drop, take, slice_get, IsNone};
 ghost use Rattle.std.specs.Option.{option_copied};
 ghost use Rattle.model.specs.declared.entry.Entry.{Entry};
@@ -35,7 +35,7 @@ pub enum BaseChange {
     Deleted,
 }
 
-/// The place of what is looked for at a SID, and what stands there.
+/// The place of what is looked for at a SID, and what is there.
 #[derive(Drop)]
 pub struct SidPlace<'a> {
     /// How many entries stand before it.

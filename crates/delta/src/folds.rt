@@ -27,7 +27,7 @@ pub enum Fold {
     Put(u64, usize, usize),
 }
 
-/// A row to come, which stands after the deletes of smaller keys.
+/// A row to come, which is after the deletes of smaller keys.
 #[derive(Drop)]
 struct RowOf<'a> {
     key: &'a [Value],

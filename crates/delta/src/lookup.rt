@@ -1,4 +1,4 @@
-//! What stands at a SID, found by binary search.
+//! What is at a SID, found by binary search.
 ghost use Rattle.std.specs.Prelude.{◌≡◌, drop};
 ghost use Rattle.std.specs.Option.{option_copied};
 ghost use Rattle.delta.specs.Lookups.{inserted_row};

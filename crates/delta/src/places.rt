@@ -1,4 +1,4 @@
-//! Positions in the image above: how far the entries move what stands at a SID, and what stands at a position.
+//! Positions in the image above: how far the entries move what is at a SID, and what is at a position.
 ghost use Rattle.std.specs.Prelude.{◌≡◌, false, ◌<◌, ◌≤◌, ◌^◌, ◌+ℤ◌, ◌≤ℤ◌, Option, drop, length, pos, take};
 ghost use Rattle.std.specs.Option.{option_copied, option_map};
 ghost use Rattle.values.specs.declared.row.Row.{Row};
@@ -38,7 +38,7 @@ pub struct Start<'a> {
     pub entries: Iter<'a>,
 }
 
-/// The row at a position, which stands after the deletes there, and before its own modifies.
+/// The row at a position, which is after the deletes there, and before its own modifies.
 struct RowThere;
 
 impl Gap for RowThere {
@@ -118,7 +118,7 @@ pub(crate) fn next_row<G: Gap>(
     moved(rid, -shift)
 }
 
-/// The position of what stands at a SID behind so many entries, which add so much.
+/// The position of what is at a SID behind so many entries, which add so much.
 pub(crate) fn row_behind(tree: &DeltaTree, sid: u64, index: usize, shift: i64) -> u64
     requires sid { sid < 2 ^ 63 }
     requires few { delete_count (take index tree.now.entries) ≤ sid }
@@ -129,7 +129,7 @@ pub(crate) fn row_behind(tree: &DeltaTree, sid: u64, index: usize, shift: i64) -
     moved(sid, shift)
 }
 
-/// The row that stands before a base row, by the entry there: that of an insert at its SID, or else the base row.
+/// The row that is before a base row, by the entry there: that of an insert at its SID, or else the base row.
 pub(crate) fn row_at(entry: Option<&SharedEntry>, index: usize, sid: u64) -> Place
     ensures { result ≡ place_at index sid (option_copied entry.entry) }
 {

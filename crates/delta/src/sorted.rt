@@ -32,7 +32,7 @@ struct ModifyOf {
     col: usize,
 }
 
-/// What stands past all at a SID.
+/// What is past all at a SID.
 struct Past;
 
 /// The entries from an index on, with the first of them, if there is one, at hand.

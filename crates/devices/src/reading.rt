@@ -148,7 +148,7 @@ fn read_parts<'a>(
     Ok(parts)
 }
 
-/// The blocks of a column, in order, each where it may stand.
+/// The blocks of a column, in order, each where it may be.
 fn read_in_turn<'a>(
     alloc: Global,
     col: usize,

@@ -22,7 +22,7 @@ pub fn write_header(ty: ColumnType, out: &mut Vec<u8>) -> Result<(), NoMemory>
 ///
 /// # Errors
 ///
-/// `NoMemory` where a growth is refused: some of the bytes may stand there then.
+/// `NoMemory` where a growth is refused: some of the bytes may be there then.
 pub fn write_part(
     generation: u32,
     number: u32,

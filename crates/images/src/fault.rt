@@ -5,7 +5,7 @@ ghost use Rattle.images.specs.declared.fault.ImagesFault.TheVariants as images_f
 use thiserror::Error;
 use values::NoMemory;
 
-/// Why the number of an image isn't known. Frames are named by their numbers. The first that stands is answered, in the order of the
+/// Why the number of an image isn't known. Frames are named by their numbers. The first that holds is answered, in the order of the
 /// variants, but for want of memory.
 #[derive(Clone, Copy, Debug, PartialEq, Eq, Error)]
 pub enum ImagesFault {

@@ -14,7 +14,7 @@ use std::alloc::Global;
 ///
 /// # Errors
 ///
-/// `Rot` with the first frame that is damaged though it was safe; `Gap` with the frame in whose place another one stands; `BadMark`
+/// `Rot` with the first frame that is damaged though it was safe; `Gap` with the frame in whose place another one is; `BadMark`
 /// with the first frame whose payload is no mark; `Unmarked` where no mark is of the generation; and `NoMemory` where a growth is
 /// refused.
 pub fn image_number(

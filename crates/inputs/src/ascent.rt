@@ -99,7 +99,7 @@ fn is_ascending(columns: &[Column], key_cols: usize, count: usize) -> bool
     true
 }
 
-/// How the keys of two rows stand.
+/// How the keys of two rows stand to each other.
 fn compare_keys(columns: &[Column], key_cols: usize, i: usize, j: usize) -> Ordering
     requires { key_cols ≤ length columns.now }
     ensures { result ≡ key_cmp (key_of key_cols (row_at columns.now i)) (key_of key_cols (row_at columns.now j)) }
@@ -171,7 +171,7 @@ fn places_by_cells(
     Ok(places)
 }
 
-/// The same where the key is one number, which stands beside its place as long as they are sorted.
+/// The same where the key is one number, which is beside its place as long as they are sorted.
 fn places_by_number(alloc: Global, column: &Column, count: usize) -> Result<KeyOrder, NoMemory>
     requires int { column.now.ty ≡ ColumnType.Int }
     requires few { count ≤ MAX_ROWS }

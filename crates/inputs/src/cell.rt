@@ -161,7 +161,7 @@ pub(crate) fn read_position(bytes: &[u8]) -> Option<u64>
     text.parse::<u64>().ok()
 }
 
-/// Whether this sign stands first. A number may have a plus there, and a position may not.
+/// Whether this sign is first. A number may have a plus there, and a position may not.
 #[inline(always)]
 fn begins_with(bytes: &[u8], sign: u8) -> bool
     requires { 0 < sign }

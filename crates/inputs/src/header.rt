@@ -77,7 +77,7 @@ fn read_headings(alloc: Global, fields: &ByteRecord) -> Result<Vec<Heading>, Tab
     Ok(headings)
 }
 
-/// The column that cell `at` names, a key column only where `in_key` says that one may stand there.
+/// The column that cell `at` names, a key column only where `in_key` says that one may be there.
 fn place_heading(
     alloc: Global,
     at: usize,
@@ -114,7 +114,7 @@ fn read_heading(alloc: Global, bytes: &[u8]) -> Result<Option<Heading>, NoMemory
     name_heading(alloc, &bytes[..colon], column, is_key)
 }
 
-/// Where the first colon stands.
+/// Where the first colon is.
 fn first_colon(bytes: &[u8]) -> Option<usize>
     ensures first { result ≡ position is_colon bytes.now }
     ensures within { IfSome result (λ colon. colon < length bytes.now) }

@@ -12,13 +12,13 @@ use csv::{ByteRecord, Reader};
 use stable::StableTable;
 use std::alloc::Global;
 
-/// The table of a text: the cells go from the text into the columns, and no row is made. Rows that stand in ascending key
+/// The table of a text: the cells go from the text into the columns, and no row is made. Rows that are in ascending key
 /// stay where they are; others are sorted by their places.
 ///
 /// # Errors
 ///
 /// The first fault: of the header, cell by cell and then as a schema; then record by record, the count before the cells
-/// and the cells from the left; and where all records were read, the least one whose key stands in an earlier one.
+/// and the cells from the left; and where all records were read, the least one whose key is in an earlier one.
 pub fn load_table(alloc: Global, text: &[u8]) -> Result<StableTable, TableFault>
     ensures ok { IfOk result (λ table. IsTableOf text.now table.schema table.rows) }
     ensures err { IfErr result (λ fault. fault ≢ TableFault.NoMemory → IsFaultOf text.now fault) }

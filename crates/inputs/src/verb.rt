@@ -23,7 +23,7 @@ pub enum Verb {
     Cut,
 }
 
-/// Every verb, once: those that a script has most of stand first, since a word is sought from the start.
+/// Every verb, once: those that a script has most of are first, since a word is sought from the start.
 const VERBS: [Verb; 14] = [
     Verb::Set,
     Verb::Begin,

@@ -2,7 +2,7 @@
 
 use thiserror::Error;
 
-/// Why bytes don't begin with a journal's header. The first that stands is answered, in the order of the variants.
+/// Why bytes don't begin with a journal's header. The first that holds is answered, in the order of the variants.
 #[derive(Clone, Copy, Debug, PartialEq, Eq, Error)]
 pub enum HeaderFault {
     /// There are no bytes.

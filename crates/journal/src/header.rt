@@ -141,7 +141,7 @@ fn check_of(header: &Header) -> u32
 ///
 /// # Errors
 ///
-/// The first that stands, in the order of the variants of `HeaderFault`.
+/// The first that holds, in the order of the variants of `HeaderFault`.
 #[tactic(auto, unfolding(crate::specs::Header::header_in, crate::specs::Header::header_with))]
 pub fn read_header(bytes: &[u8]) -> Result<(Header, &[u8]), HeaderFault>
     ensures { header_now result ≡ header_in bytes.now }

@@ -105,7 +105,7 @@ pub(crate) fn move_rest(
     }
 }
 
-/// How many of the entries, which are in order, stand below the SID.
+/// How many of the entries, which are in order, are below the SID.
 pub(crate) fn count_below(entries: &[SharedEntry], shifts: &[Shift], sid: u64) -> usize
     requires { All (λ e. e.sid < 2 ^ 64) (shifted_entries shifts.now entries.now) }
     ensures within { result ≤ length entries.now }

@@ -16,7 +16,7 @@ use model::{Clash, ClashKind, ConflictRule};
 use std::cmp::Ordering;
 use values::SharedRow;
 
-/// Whether an entry of another tree stands before this one, where none ties with this one but those that it can clash with.
+/// Whether an entry of another tree is before this one, where none ties with this one but those that it can clash with.
 pub(crate) fn stands_before(
     rule: ConflictRule,
     key_cols: usize,
@@ -57,7 +57,7 @@ fn compare_base(there: ChangeRef<'_>) -> Ordering
     }
 }
 
-/// How two changes at one SID stand.
+/// How two changes at one SID stand to each other.
 fn compare_changes(key_cols: usize, change: ChangeRef<'_>, there: ChangeRef<'_>) -> Ordering
     ensures { result ≡ change_cmp key_cols (change_of change.entry) (change_of there.entry) }
 {
@@ -151,7 +151,7 @@ fn clash_of_entries(
     clash_of_changes(rule, key_cols, x.sid() == y.sid(), x.change(), y.change())
 }
 
-/// How two changes clash, where they stand at one SID or not.
+/// How two changes clash, where they are at one SID or not.
 fn clash_of_changes(
     rule: ConflictRule,
     key_cols: usize,

@@ -1,4 +1,4 @@
-//! A tree's entries in a list, in which they move past another tree where they stand.
+//! A tree's entries in a list, in which they move past another tree where they are.
 ghost use Rattle.std.specs.Prelude.{◌≡◌, ℕ, ◌*◌, ◌<◌, ◌≤◌, ◌^◌, None, IfOk, length};
 ghost use Rattle.std.specs.List.{All};
 ghost use Rattle.model.specs.Rebasing.{first_clash, rebased_entries};

@@ -13,7 +13,7 @@ use std::marker::Model;
 use values::NoMemory;
 
 /// A tree on its way past others. Its entries are held in a list from the first small tree on that moves some of them: there
-/// they move where they stand, and the tree is made anew at the end alone.
+/// they move where they are, and the tree is made anew at the end alone.
 #[derive(Drop)]
 pub struct Passage {
     form: Form,

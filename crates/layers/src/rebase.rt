@@ -26,7 +26,7 @@ pub enum Serialized {
 /// The tree `x` made consecutive to `y`, which is over the same image, or the clash with the least index in `x`, then in
 /// `y` (Héman et al. 2010, "Serialize"): by one look-up in `y` for each entry of `x`, and for a modify by row one more, or,
 /// where `x` has more than a tenth of the entries of `y`, by one walk over both. Where `y` has no more than a tenth of the
-/// entries of `x`, and all of those stand before its first insert or delete, its own are looked up in `x`. The rule says
+/// entries of `x`, and all of those are before its first insert or delete, its own are looked up in `x`. The rule says
 /// which modifies clash. The tree shares the rows of `x`, and where no entry moves its nodes, so that nothing is built.
 ///
 /// # Errors
@@ -61,7 +61,7 @@ pub fn serialize(
     Ok(Serialized::Tree(DeltaTree::from_shared(alloc, x.key_cols(), entries)?))
 }
 
-/// Whether no entry of `x` moves past `y`: all stand before its first insert or delete.
+/// Whether no entry of `x` moves past `y`: all are before its first insert or delete.
 pub(crate) fn moves_none(x: &DeltaTree, y: &DeltaTree) -> bool
     requires { x.now.key_cols ≡ y.now.key_cols }
     ensures { result ≡ true → x.now.entries ≡ rebased_entries y.now.key_cols y.now.entries x.now.entries }
@@ -96,7 +96,7 @@ fn beside_still(rule: ConflictRule, x: &DeltaTree, y: &DeltaTree) -> Result<Seri
     }
 }
 
-/// Puts the entry, which has the index in its tree, at the SID: nothing as long as it and those before it stand there.
+/// Puts the entry, which has the index in its tree, at the SID: nothing as long as it and those before it are there.
 fn put(
     alloc: Global,
     tree: &DeltaTree,

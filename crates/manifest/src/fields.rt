@@ -8,7 +8,7 @@ const LINE_FEED: u8 = b'\n';
 /// How many bytes a name has at most.
 const MAX_NAME: usize = 64;
 
-/// The bytes after a word that stands in front.
+/// The bytes after a word that is in front.
 pub(crate) fn after_word<'a>(bytes: &'a [u8], word: &[u8]) -> Option<&'a [u8]>
     ensures { option_map (λ rest. rest.now) result ≡ after_word word.now bytes.now }
 {
@@ -26,7 +26,7 @@ pub(crate) fn number_at(bytes: &[u8], most: u64, end: u8) -> Option<(u64, &[u8])
     Some((number, rest))
 }
 
-/// The number that stands in front. A byte that is no digit follows.
+/// The number that is in front. A byte that is no digit follows.
 #[tactic(auto, unfolding(crate::specs::Reading::digits_at))]
 fn digits_at(bytes: &[u8], most: u64) -> Option<(u64, &[u8])>
     ensures read { seen (λ n. n) result ≡ digits_at most bytes.now }
@@ -146,7 +146,7 @@ pub(crate) fn name_at(bytes: &[u8]) -> Option<(&[u8], &[u8])>
     }
 }
 
-/// How many bytes stand before the end of the line, where no zero is among them.
+/// How many bytes are before the end of the line, where no zero is among them.
 fn line_end(bytes: &[u8]) -> Option<usize>
     ensures read { result ≡ line_end bytes.now }
     ensures within { IfSome result (λ end. end < length bytes.now) }

@@ -39,7 +39,7 @@ pub fn write_edits()
     ensures { (schema : Columns) → WriteEdits schema }
 {}
 
-/// Canonical entries stand in order, and none past the last row.
+/// Canonical entries are in order, and none past the last row.
 pub fn entries_are_ordered()
     ensures { (schema : Columns) → EntriesAreOrdered schema }
 {}

@@ -1,5 +1,5 @@
-//! The model of a table under transactions: its definitions stand in specs/, its laws in proofs/,
-//! and the plain types that both and the crates above share stand here.
+//! The model of a table under transactions: its definitions are in specs/, its laws in proofs/,
+//! and the plain types that both and the crates above share are here.
 #![tactic(auto)]
 
 mod clash;

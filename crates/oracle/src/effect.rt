@@ -75,7 +75,7 @@ fn over_cells(alloc: Global, cells: &Cells, later: &Cells) -> Result<Cells, NoMe
     Ok(Cells::new(columns))
 }
 
-/// Whether the effect can be had where this row stands, or none.
+/// Whether the effect can be had where this row is, or none.
 pub(crate) fn fits(old: Option<&Row>, effect: &Effect) -> bool
     ensures { result ≡ fits (option_copied old.entry) effect.now }
 {
@@ -85,7 +85,7 @@ pub(crate) fn fits(old: Option<&Row>, effect: &Effect) -> bool
     }
 }
 
-/// What stands at the key after the effect.
+/// What is at the key after the effect.
 pub(crate) fn row_after(
     alloc: Global,
     effect: &Effect,

@@ -18,7 +18,7 @@ pub(crate) fn put<K: Ord + Drop, V: Drop>(
     Ok(())
 }
 
-/// Puts the value at the key, or takes out what stands there.
+/// Puts the value at the key, or takes out what is there.
 pub(crate) fn store<K: Ord + Drop, V: Drop>(
     map: &mut BTreeMap<K, V>,
     key: K,

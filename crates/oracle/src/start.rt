@@ -5,7 +5,7 @@ use crate::table::OrderedTable;
 use model::ConflictRule;
 use std::marker::Model;
 
-/// The table that stands when a history starts, how many commits came before, how many rows a table may have, how many
+/// The table at which a history starts, how many commits came before, how many rows a table may have, how many
 /// commits may come between a transaction's begin and its commit, and what conflicts.
 #[derive(Drop)]
 pub struct Start {

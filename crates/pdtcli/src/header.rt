@@ -11,7 +11,7 @@ use std::alloc::Global;
 use values::{ColumnType, Schema};
 
 /// The header record of a store's columns, which says these columns when it is read again. A name that begins with a byte order
-/// mark is lost on the way: what stands at the start of a text as one is passed over.
+/// mark is lost on the way: what is at the start of a text as one is passed over.
 ///
 /// # Errors
 ///

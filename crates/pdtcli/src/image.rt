@@ -30,7 +30,7 @@ pub(crate) fn push_header(
     Ok(())
 }
 
-/// A column's name, a colon and what stands after it.
+/// A column's name, a colon and what is after it.
 fn header_cell(alloc: Global, name: &str, kind: &str) -> Result<Vec<u8>, NoMemory>
     ensures { IfOk result (λ cell. cell.items ≡ name.now ++ 58 ∷ kind.now) }
 {

@@ -7,7 +7,7 @@ use manager::Manager;
 use std::marker::Model;
 use values::Text;
 
-/// What a run leaves. The store stands beside the rest, which contracts see as one value.
+/// What a run leaves. The store is beside the rest, which contracts see as one value.
 #[derive(Drop)]
 pub struct Outcome<S: Drop> {
     /// The reply lines, the manager and what was counted.

@@ -90,7 +90,7 @@ pub fn show_reply<W: Write>(
     batch.finish(out)
 }
 
-/// Writes an empty line and an image with its header, as they stand after the reply lines of a run.
+/// Writes an empty line and an image with its header, as they are after the reply lines of a run.
 ///
 /// # Errors
 ///

@@ -9,7 +9,7 @@ use csv::{Writer, WriterBuilder};
 use std::marker::Model;
 use values::NoMemory;
 
-/// Records of any length, after a text. Their writer has 8 KB of the text in its value: it stands in a box, and only the
+/// Records of any length, after a text. Their writer has 8 KB of the text in its value: it is in a box, and only the
 /// functions that make it, end it and let it go have it on their stack.
 pub(crate) struct Records {
     writer: Box<Writer<Vec<u8>>>,

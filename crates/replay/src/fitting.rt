@@ -14,7 +14,7 @@ use std::alloc::Global;
 use std::cmp::Ordering;
 use values::{NoMemory, Row};
 
-/// Whether each of the entries may stand where it does.
+/// Whether each of the entries may be where it is.
 fn are_over(layers: &Layers<'_>, entries: &[Entry]) -> bool
     ensures { result ≡ are_over layers.now.schema (image_table layers.now) entries.now }
 {
@@ -28,7 +28,7 @@ fn are_over(layers: &Layers<'_>, entries: &[Entry]) -> bool
     true
 }
 
-/// Whether an entry may stand where it does, before the next one.
+/// Whether an entry may be where it is, before the next one.
 fn is_over(layers: &Layers<'_>, entry: &Entry, next: Option<&Entry>) -> bool
     ensures { result ≡ is_over layers.now.schema (image_table layers.now) entry.now (option_copied next.entry) }
 {
@@ -72,7 +72,7 @@ fn deletes_at(sid: u64, next: Option<&Entry>) -> bool
     }
 }
 
-/// Whether an entry stands before the next one, where there is one.
+/// Whether an entry is before the next one, where there is one.
 fn stands_before(key_cols: usize, entry: &Entry, next: Option<&Entry>) -> bool
     ensures { result ≡ stands_before key_cols entry.now (option_copied next.entry) }
 {

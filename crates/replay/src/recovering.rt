@@ -63,7 +63,7 @@ pub struct Recovered {
 /// # Errors
 ///
 /// `Rot` with the first commit whose frame is damaged though it was safe; `Gap` with the first commit that is missing, which is the
-/// one after the last frame that was read, where another one stands in its place or the journal ends before the image, and the one
+/// one after the last frame that was read, where another one is in its place or the journal ends before the image, and the one
 /// after the image, where the journal begins after it; `NumbersSpent` where the newest commit has a number above 2^62; then
 /// `BadLimit` and `TooManyRows` as an opening; then the first fault of a frame, `BadPayload`, `Misfit` or `TooManyRows`; and
 /// `NoMemory` where a growth is refused.

@@ -5,7 +5,7 @@ ghost use Rattle.segments.specs.Listing.{HasFile, IsGreatest, IsLast, IsMissing,
 use crate::fault::MissingFile;
 use itoa::Buffer;
 
-/// What stands before the number in a file's name.
+/// What is before the number in a file's name.
 const JOURNAL: &str = "journal-";
 
 /// The number of the last file of a journal, by the names in its folder, which may have others. All files from the first one on are

@@ -1,4 +1,4 @@
-//! The place of a number among ascending ones that stand in blocks: the block first, then the place in it.
+//! The place of a number among ascending ones that are in blocks: the block first, then the place in it.
 ghost use Rattle.std.specs.Prelude.{◌≡◌, ◌<◌, ◌≤◌, ◌^◌, true, false, get_or, length};
 ghost use Rattle.std.specs.List.Sorted.{IsPartitionedBy, IsPartitionPoint};
 ghost use Rattle.values.specs.declared.value.ColumnType.TheVariants as column;

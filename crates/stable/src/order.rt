@@ -1,4 +1,4 @@
-//! Whether rows are a table: row by row, whether it fits the schema and stands above the row before it.
+//! Whether rows are a table: row by row, whether it fits the schema and is above the row before it.
 ghost use Rattle.std.specs.Prelude.{◌≡◌, option_map};
 ghost use Rattle.stable.specs.Stable.{build_fault, row_fault_at, ascends};
 
@@ -23,7 +23,7 @@ pub(crate) fn first_fault(schema: &Schema, rows: &[Row]) -> Option<BuildFault>
     None
 }
 
-/// The first fault of row `i`, which stands after this one, where there is one.
+/// The first fault of row `i`, which is after this one, where there is one.
 fn row_fault(schema: &Schema, i: usize, before: Option<&Row>, row: &Row) -> Option<BuildFault>
     ensures { result ≡ row_fault_at schema.now i (option_map (λ r. r.now) before.entry) row.now }
 {

@@ -43,7 +43,7 @@ fn repeated(alloc: Global, (head, unit, count, tail): Parts) -> Result<String, N
     Ok(text)
 }
 
-/// What a text is made of: a head, a unit and how often it stands, and a tail.
+/// What a text is made of: a head, a unit and how often it is, and a tail.
 type Parts = (&'static str, &'static str, u32, &'static str);
 
 static TABLES: [(&str, Parts, TableFault); 4] = [

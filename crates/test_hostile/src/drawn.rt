@@ -78,7 +78,7 @@ fn draw_failure(draws: &mut Draws) -> Option<Failure> {
     }
 }
 
-/// A script of two to eight clients, with what stands before its run.
+/// A script of two to eight clients, with what is before its run.
 fn draw(alloc: Global, seed: u64, kinds: u64) -> Result<Drawn, Fail>
     requires { 0 < kinds }
 {

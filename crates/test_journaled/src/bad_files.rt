@@ -142,7 +142,7 @@ fn columns_without_an_image_are_refused(rt: HostRuntime) -> Result<(), Fail> {
     Ok(())
 }
 
-/// A journal of a base, behind whose header the frames of the commits from a number on stand; the places of the checkpoints; and the
+/// A journal of a base, behind whose header the frames of the commits from a number on are; the places of the checkpoints; and the
 /// commit that is told as missing, where one is.
 struct Based {
     base: u64,
@@ -219,8 +219,8 @@ fn a_commit_that_is_missing_is_a_gap(rt: HostRuntime) -> Result<(), Fail> {
 }
 
 /// Tables over which the commits aren't made again, and the first that isn't: the insert of 25 at the third place, where there are too
-/// few rows, a row of that key, or a smaller one behind it; the delete of 20 at the second place, where another row stands; and the delete
-/// of 30, where no row stands.
+/// few rows, a row of that key, or a smaller one behind it; the delete of 20 at the second place, where another row is; and the delete
+/// of 30, where no row is.
 static OTHERS: [(&[u8], u64); 5] = [
     (b"id:int:key,name:text,qty:int\n25,Eve,5\n", 1),
     (

@@ -65,7 +65,7 @@ pub(crate) fn spelt(alloc: Global, first: u64, count: u64) -> Result<Vec<u8>, No
     Ok(out)
 }
 
-/// What stands in a slot: the bytes, and how many of them are safe.
+/// What is in a slot: the bytes, and how many of them are safe.
 pub(crate) fn left_in(slot: &Slot) -> (&[u8], usize) {
     match slot.get() {
         Some(left) => (left.bytes.as_slice(), left.safe),

@@ -8,7 +8,7 @@ use std::test::Fail;
 /// How many commits are logged, or tried.
 const COUNT: u64 = 4;
 
-/// What a failure is to leave: how many commits are answered, how many bytes stand there, and how many of these are safe.
+/// What a failure is to leave: how many commits are answered, how many bytes are there, and how many of these are safe.
 #[derive(Drop)]
 struct Wanted {
     answered: u64,

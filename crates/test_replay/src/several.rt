@@ -1,4 +1,4 @@
-//! Two tables whose commits stand in the same frames.
+//! Two tables whose commits are in the same frames.
 use crate::assertions::assert_at;
 use crate::histories::begun;
 use crate::journals::{Journal, commit_part, frames_behind};

@@ -1,5 +1,5 @@
 //! Runs that the program's words can't ask for: over devices that fail, to writers that refuse, with clients who meet, and what they hand
-//! on. Those that they can stand in examples/cases.
+//! on. Those that they can are in examples/cases.
 mod checkpoints;
 mod edges;
 mod long_run;

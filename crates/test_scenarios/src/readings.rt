@@ -1,4 +1,4 @@
-//! Tables and scripts as the library reads them. How they are read, and what is refused, stands in examples/cases.
+//! Tables and scripts as the library reads them. How they are read, and what is refused, is in examples/cases.
 mod scripts;
 mod shown;
 mod shuffled_tables;

@@ -22,7 +22,7 @@ use values::{Key, NoMemory, Row, Value};
 /// How often a session begins.
 const TURNS: u64 = 50;
 
-/// Whether the row that was inserted stands third of four.
+/// Whether the row that was inserted is third of four.
 fn is_inserted<O: Opening>(session: &Session<O>) -> bool {
     match session.row_at(2) {
         Ok(Some(view)) => session.len() == Ok(4) && is_item(&view, (25, "Dee", 4)),

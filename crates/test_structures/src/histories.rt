@@ -199,7 +199,7 @@ fn a_table_stands_after_its_commits(rt: HostRuntime) -> Result<(), Fail> {
 /// A client's writes, all of them done, from where it began, and the reply to its commit.
 type Step = (u32, u64, &'static [ItemWrite], CommitReply);
 
-/// What stands before a cut, and after it: an insert; a set that began at the cut, one that began before it, and no write.
+/// What is before a cut, and after it: an insert; a set that began at the cut, one that began before it, and no write.
 static BEFORE: [Step; 1] = [(1, 0, &[ItemWrite::Insert(25, "Dee", 4)], Committed(1))];
 
 static AFTER: [Step; 3] = [

@@ -251,7 +251,7 @@ fn the_first_fault_of_a_payload_is_named(rt: HostRuntime) -> Result<(), Fail> {
     Ok(())
 }
 
-/// The payload of one text of so many letters a, whose length stands before it in two bytes.
+/// The payload of one text of so many letters a, whose length is before it in two bytes.
 fn letters(alloc: Global, length: [u8; 2], count: usize) -> Result<Vec<u8>, NoMemory> {
     let mut bytes = Vec::from_slice(alloc, &length)?;
     for _ in 0..count {

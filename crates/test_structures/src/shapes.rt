@@ -42,7 +42,7 @@ fn base_schema(alloc: Global) -> Result<Schema, SchemaFault> {
     Schema::new(alloc, cols, 1)
 }
 
-/// What stands in a cell of a case.
+/// What is in a cell of a case.
 #[derive(Clone, Copy)]
 enum Given {
     Number,

@@ -75,7 +75,7 @@ fn tables_at_the_edges_of_a_block(rt: HostRuntime) -> Result<(), Fail> {
     Ok(())
 }
 
-/// The number at a place of the first column, or -1 where none stands.
+/// The number at a place of the first column, or -1 where none is.
 fn number_at(table: &StableTable, sid: u64) -> i64 {
     if sid < table.len() && table.schema().width() > 0 {
         number(table.value(sid, 0))

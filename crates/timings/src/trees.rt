@@ -71,7 +71,7 @@ fn time_of_walk(rt: &HostRuntime, tree: &CountedTree) -> anyhow::Result<u64> {
     Ok(time.saturating_mul(10) / count.max(1))
 }
 
-/// The nanoseconds of a search for what stands first at a drawn SID.
+/// The nanoseconds of a search for what is first at a drawn SID.
 fn time_of_searches(rt: &HostRuntime, tree: &CountedTree) -> anyhow::Result<u64> {
     let mut draws = Draws::new(1);
     let count = (tree.len() as u64).max(1);

@@ -22,7 +22,7 @@ impl<T: Drop> From<AllocFailed<T>> for NoMemory {
     }
 }
 
-/// Why columns make no schema. The first that stands is answered, in the order of the variants. Columns count from 0.
+/// Why columns make no schema. The first that holds is answered, in the order of the variants. Columns count from 0.
 #[derive(Clone, Copy, Debug, PartialEq, Eq, Error)]
 pub enum SchemaFault {
     /// There is no column.

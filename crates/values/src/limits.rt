@@ -1,5 +1,5 @@
 //! Every limit of the product, once. The least is 1 in each, but for the bytes of a text and the values of a block,
-//! where it is 0, and a generation, whose least stands with the store.
+//! where it is 0, and a generation, whose least is with the store.
 
 /// Columns of a table. So few that names are compared two by two, and that one row's changes fit beside one another.
 pub const MAX_COLUMNS: usize = 32;
@@ -29,5 +29,5 @@ pub const MAX_GENERATION: u32 = 4_294_967_295;
 /// Bytes of a column's name in a header cell. A name is told in an error line and compared with every other name.
 pub const MAX_NAME_BYTES: usize = 64;
 
-/// Bytes of a client's name in a script. A name stands in each of its client's reply lines.
+/// Bytes of a client's name in a script. A name is in each of its client's reply lines.
 pub const MAX_CLIENT_BYTES: usize = 32;

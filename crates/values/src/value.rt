@@ -19,8 +19,8 @@ pub enum ColumnType {
     Bool,
 }
 
-/// A cell. Numbers are ordered by size, texts by their bytes, false before true, and cells of different types as the
-/// variants stand.
+/// A cell. Numbers are ordered by size, texts by their bytes, false before true, and cells of different types by the order
+/// of the variants.
 #[derive(Debug, Drop)]
 pub enum Value {
     Int(i64),

@@ -1,4 +1,4 @@
-//! Edits by path copying: the nodes of a tree stay as they are, and what changes stands in new ones.
+//! Edits by path copying: the nodes of a tree stay as they are, and what changes is in new ones.
 ghost use Rattle.std.specs.Prelude.{◌≡◌, ◌+◌, ◌-◌, ◌^◌, ◌<◌, ◌≤◌, ◌++◌, ◌∷◌, [], length, take, drop, IfOk, IfSome, IfNone};
 ghost use Rattle.std.specs.Arc.{arc_value};
 ghost use Rattle.std.specs.List.{All};
@@ -82,7 +82,7 @@ fn both_inner(alloc: Global, left: &[Child], right: &[Child]) -> Result<Vec<Chil
     Ok(children)
 }
 
-/// The node as a root: its only child stands in its place where it has one alone.
+/// The node as a root: its only child is in its place where it has one alone.
 fn root_of(alloc: Global, node: Node) -> Result<Arc<Node, Global>, AllocError>
     ensures root { IfOk result (λ a. IsRoot (arc_value a)) }
     ensures items { IfOk result (λ a. (arc_value a).items ≡ node.items) }

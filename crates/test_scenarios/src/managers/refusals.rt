@@ -133,7 +133,7 @@ fn do_others(alloc: Global, manager: &mut Manager, case: &Case) -> Result<(), No
     another(alloc, manager, case.others.1)
 }
 
-/// A manager and a transaction of it, as they stand before its commit.
+/// A manager and a transaction of it, as they are before its commit.
 fn made(alloc: Global, case: &Case) -> Result<(Manager, Txn), Fail>
     ensures own { IfOk result (λ both. IsOwn both.0 both.1) }
 {

@@ -1,4 +1,4 @@
-//! Tables of several blocks whose rows stand in no order.
+//! Tables of several blocks whose rows are in no order.
 ghost use Rattle.std.specs.Prelude.{◌<◌, length};
 
 use crate::readings::shown::write_cells;

@@ -1,7 +1,7 @@
 //! Calls of sessions where a growth is refused in them: nothing changes, and the same call succeeds when it is made again.
 //!
 //! One growth of a run is refused under `rt try --test --fail-alloc N`, for N from 1 on. Every scene makes a call that
-//! met it again. Here stands a last commit after which, where it met it, the session goes on in one of two ways. Where the
+//! met it again. Here is a last commit after which, where it met it, the session goes on in one of two ways. Where the
 //! growth is one of what the test makes for itself, or a device's, the test ends with that error.
 
 use super::{Last, Left, NONE, PLAIN, Scene, play};

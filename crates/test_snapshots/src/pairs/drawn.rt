@@ -23,7 +23,7 @@ const PAIRS: u64 = 1_000;
 /// The keys are the numbers below this one.
 const KEYS: u64 = 300;
 
-/// Each so many keys there is a row, so that several inserts stand at one SID.
+/// Each so many keys there is a row, so that several inserts are at one SID.
 const STEP: u64 = 6;
 
 /// The rows under each pair.

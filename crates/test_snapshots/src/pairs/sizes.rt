@@ -39,7 +39,7 @@ fn deletes(alloc: Global, count: u16) -> Result<Vec<Write>, Fail> {
     Ok(writes_of(alloc, named.as_slice())?)
 }
 
-/// Where an entry stands, and its number where it is an insert.
+/// Where an entry is, and its number where it is an insert.
 fn spot_of(entry: &SharedEntry) -> Spot {
     match entry.change() {
         ChangeRef::Ins(row) => match row.cells().first() {
@@ -50,7 +50,7 @@ fn spot_of(entry: &SharedEntry) -> Spot {
     }
 }
 
-/// Whether the inserts of the tree stand in these spots, and it has no other entries.
+/// Whether the inserts of the tree are in these spots, and it has no other entries.
 fn stands(tree: &DeltaTree, spots: &[Spot]) -> bool {
     tree.len() == spots.len()
         && tree

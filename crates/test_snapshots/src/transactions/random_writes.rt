@@ -93,7 +93,7 @@ fn has_places(alloc: Global, txn: &Txn, rows: &[Row]) -> Result<bool, Fail> {
     Ok(true)
 }
 
-/// Whether each key has the row of the table, or none, and stands where it does there.
+/// Whether each key has the row of the table, or none, and is in its place there.
 fn has_keys(alloc: Global, txn: &Txn, table: &OrderedTable) -> Result<bool, Fail> {
     for id in 0..KEYS {
         let key = key(alloc, id as i64)?;

@@ -52,7 +52,7 @@ const KEYS: usize = 120;
 /// Tables of none, of one row, at the edges of a block, and of three blocks.
 const COUNTS: [u16; 6] = [0, 1, 1_023, 1_024, 1_025, 2_500];
 
-/// The cell of a row in a column: a number twice what counts it, so that another stands between two.
+/// The cell of a row in a column: a number twice what counts it, so that another is between two.
 fn cell(alloc: Global, wheel: Wheel, row: u32, odd: u64) -> Result<Value, NoMemory> {
     let turn = u64::from(row / wheel.rows.max(1) % wheel.cells.max(1));
     let number = turn * 2 + odd % 2;
@@ -106,7 +106,7 @@ fn copy_cells(alloc: Global, cells: &[Value]) -> Result<Vec<Value>, NoMemory> {
     Ok(copies)
 }
 
-/// A key near those of so many rows: each cell is of a drawn row or of the one that was drawn, or stands past it, and one in
+/// A key near those of so many rows: each cell is of a drawn row or of the one that was drawn, or is past it, and one in
 /// twenty is of another type. One key in six has fewer cells or more.
 fn drawn_key(
     alloc: Global,

@@ -1,5 +1,5 @@
 //! Columns that are extended by runs of another one's values: the same values come to stand there, wherever a run begins and
-//! ends. Where a growth is refused, the first of them stand there, and nothing else.
+//! ends. Where a growth is refused, the first of them are there, and nothing else.
 
 use crate::assertions::assert_holds;
 use stable::{Column, StableTable};

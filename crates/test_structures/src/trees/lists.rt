@@ -14,7 +14,7 @@ use values::{Value, ValueRef};
 /// The SIDs are the numbers below this one, and at each there are three keys.
 const SIDS: u64 = 300;
 
-/// Where an entry stands among those at its SID.
+/// Where an entry is among those at its SID.
 #[derive(Clone, Copy, PartialEq, Eq, PartialOrd, Ord)]
 enum Spot {
     /// The insert of a key.
@@ -40,14 +40,14 @@ struct Pair {
     list: Vec<Kept>,
 }
 
-/// How many of the entries stand before this place.
+/// How many of the entries are before this place.
 fn index_of(list: &[Kept], sid: u64, spot: Spot) -> usize
     ensures { result ≤ length list.now }
 {
     list.partition_point(|kept| (kept.sid, kept.spot) < (sid, spot))
 }
 
-/// Whether an entry stands at this place.
+/// Whether an entry is at this place.
 fn is_there(list: &[Kept], sid: u64, spot: Spot) -> bool {
     match list.get(index_of(list, sid, spot)) {
         Some(kept) => kept.sid == sid && kept.spot == spot,
@@ -55,7 +55,7 @@ fn is_there(list: &[Kept], sid: u64, spot: Spot) -> bool {
     }
 }
 
-/// Puts the entry in, in place of one that stands there.
+/// Puts the entry in, in place of one that is there.
 fn put(list: &mut Vec<Kept>, sid: u64, spot: Spot, number: i64) -> Result<(), Fail> {
     list.retain(|kept| kept.sid != sid || kept.spot != spot);
     let index = index_of(list.as_slice(), sid, spot);

@@ -1,5 +1,5 @@
-//! What stands at a SID and at a position of three layers' trees, over the base rows with the keys 10, 20 and 30. Each
-//! layer stands over the image of the one before it, so its SIDs are positions there.
+//! What is at a SID and at a position of three layers' trees, over the base rows with the keys 10, 20 and 30. Each
+//! layer is over the image of the one before it, so its SIDs are positions there.
 ghost use Rattle.std.specs.Prelude.{◌≡◌, ◌<◌, ◌^◌, IfOk};
 
 use super::changed;
@@ -16,7 +16,7 @@ use values::{NoMemory, ValueRef};
 /// The greatest position that a look-up takes.
 const MOST: u64 = 9_223_372_036_854_775_807;
 
-/// A SID and the number of a key; how many entries stand before its insert there, at which position that stands or would
+/// A SID and the number of a key; how many entries are before its insert there, at which position that is or would
 /// stand, and whether it is there.
 pub(super) type KeyCase = (u64, i64, usize, u64, bool);
 
@@ -114,10 +114,10 @@ fn the_entries_at_a_sid_are_found(rt: HostRuntime) -> Result<(), Fail> {
     Ok(())
 }
 
-/// A SID; how many entries stand before what becomes of its base row, and the entries from there on.
+/// A SID; how many entries are before what becomes of its base row, and the entries from there on.
 type BaseCase<'a> = (u64, usize, &'a str);
 
-/// That what becomes of a base row stands there.
+/// That what becomes of a base row is there.
 fn assert_base(
     rt: &impl Abort,
     alloc: Global,
@@ -253,7 +253,7 @@ fn a_tree_with_no_entries_moves_nothing(rt: HostRuntime) -> Result<(), Fail> {
     Ok(())
 }
 
-/// That a tree of these changes moves what stands at each SID so far.
+/// That a tree of these changes moves what is at each SID so far.
 fn assert_shifts(
     rt: &impl Abort,
     alloc: Global,
@@ -280,7 +280,7 @@ fn entries_move_what_stands_at_greater_sids(rt: HostRuntime) -> Result<(), Fail>
     assert_shifts(&rt, rt.alloc(), "trans", &TRANS, &TRANS_SHIFTS)
 }
 
-/// That a tree of these changes has at each position what stands there.
+/// That a tree of these changes has at each position what is there.
 fn assert_places(
     rt: &impl Abort,
     alloc: Global,

@@ -27,7 +27,7 @@ fn shared_entries(alloc: Global, count: u32) -> Result<Vec<SharedEntry>, Fail> {
     Ok(entries)
 }
 
-/// That the entries of the tree stand in these spots.
+/// That the entries of the tree are in these spots.
 fn assert_spots(rt: &impl Abort, tree: &CountedTree, spots: &[(u64, i64)]) {
     let mut left = spots.iter();
     for entry in tree.iter(0, tree.len()) {
