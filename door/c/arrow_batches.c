@@ -128,7 +128,7 @@ static void copy_texts(const char *const *texts, const int64_t *offsets, size_t 
   }
 }
 
-/* The lengths of the texts are put where their ends will stand: each offset is then the sum of those before. */
+/* The lengths of the texts are put where their ends will be: each offset is then the sum of those before. */
 static int put_texts(pdti_scan *out, const pdti_shown *column, size_t rows, const char **texts, int64_t *offsets, buffers *own) {
   size_t got = rows;
   if (pdt_texts(out->txn, column->column, out->at, texts, offsets + 1, &got) || got != rows) return missing(out);

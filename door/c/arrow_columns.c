@@ -122,7 +122,7 @@ static bool is_dictionary(const struct ArrowArray *array, const pdti_format *as)
   return array->buffers[0] || array->null_count <= 0;
 }
 
-/* A batch's column whose cells stand from a place on: it has no null, and says so. */
+/* A batch's column whose cells are from a place on: it has no null, and says so. */
 static int look_at(const pdti_gathering *all, size_t at, const struct ArrowArray *array, uint64_t from, uint64_t rows) {
   const void *bits = array->buffers[0];
   if (all->columns[at].takes_nulls && bits) return PDT_OK;

@@ -68,7 +68,7 @@ bool pdti_goes_out(int type, const pdti_format *as) {
   return as->kind != PDTI_VIEWS && (as->kind != PDTI_DOUBLES || as->bytes == 8);
 }
 
-/* The scale of a decimal: how many digits stand behind its point. */
+/* The scale of a decimal: how many digits are behind its point. */
 static int scale_of(const char *format) {
   const char *at = strchr(format, ',') + 1;
   int scale = 0;

@@ -1,4 +1,4 @@
-/* Tables that are made of Arrow's C streams, whose rows may stand in any order. */
+/* Tables that are made of Arrow's C streams, whose rows may be in any order. */
 #include "arrow.h"
 #include "database.h"
 
@@ -75,7 +75,7 @@ static int compare(const making *make, uint32_t one, uint32_t other) {
   return order;
 }
 
-/* Merges two runs of rows that stand in order; of equal keys the earlier row stays first. */
+/* Merges two runs of rows that are in order; of equal keys the earlier row stays first. */
 static void merge(const making *make, const uint32_t *rows, size_t first, size_t middle, size_t end, uint32_t *out) {
   for (size_t left = first, right = middle, at = first; at < end; at++) {
     bool is_left = left < middle && (right == end || compare(make, rows[left], rows[right]) <= 0);
@@ -164,7 +164,7 @@ static int create(const home *where, const making *make, pdt_place *place, pdt_s
   return PDT_OK;
 }
 
-/* Makes the table of rows that don't stand in order: they are sorted first. A key that is there twice is told at its second row. */
+/* Makes the table of rows that aren't in order: they are sorted first. A key that is there twice is told at its second row. */
 static int create_sorted(const home *where, making *make, pdt_place *place, pdt_store **store) {
   size_t count = (size_t)make->all->rows;
   uint32_t *rows = malloc(count * sizeof *rows), *room = malloc(count * sizeof *room), *sorted = NULL;

@@ -34,7 +34,7 @@ typedef struct {
 /* An image of a table. */
 typedef struct {
   uint64_t number; /* it has the commits up to this one */
-  uint64_t folder; /* and stands in the folder image-TABLE-FOLDER: no other image ever has it */
+  uint64_t folder; /* and is in the folder image-TABLE-FOLDER: no other image ever has it */
   file_mark header, columns[PDT_MAX_COLUMNS];
 } table_image;
 
@@ -52,7 +52,7 @@ struct pdt_database {
   pdti_locks locks; /* of all its tables */
   int dir, lock_file;
   uint64_t name, salt;
-  pdt_database_options options; /* as they stand, with no zeros */
+  pdt_database_options options; /* as they are, with no zeros */
   pid_t process;                /* which opened it */
   const volatile bool *is_ours; /* whether this is that one: on a page that the kernel wipes in a child, or null where it can't */
 
@@ -104,7 +104,7 @@ struct pdt_database {
 
 /* ---- journals.c */
 
-/* Puts the frame of prepared commits after the pending ones, which makes it none of them yet. The transactions stand in the order of
+/* Puts the frame of prepared commits after the pending ones, which makes it none of them yet. The transactions are in the order of
    their tables' numbers. Under the lock, as is the next. */
 int pdti_stage(pdt_database *database, pdt_txn *const *txns, size_t count);
 /* Makes it one of them, and answers its number. Nothing of it can fail. */

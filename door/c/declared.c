@@ -42,12 +42,12 @@ int pdti_write_types(pdt_database *database, const pdti_table *entry) {
   char name[NAME], text[(PDT_MAX_COLUMNS + 1) * LINE];
   name_types(name, entry->number);
   size_t len = put_types(entry->store, text);
-  if (len == END) return PDT_OK; /* of a new table, of which no other stands there */
+  if (len == END) return PDT_OK; /* of a new table, of which no other is there */
   int file = pdti_open_in(database->dir, name, O_WRONLY | O_CREAT | O_TRUNC);
   return file < 0 ? PDT_IO : pdti_close_synced(file, pdti_write_to(file, text, len));
 }
 
-/* Writes it anew for a table that is there: one or the other file stands there after a crash. */
+/* Writes it anew for a table that is there: one or the other file is there after a crash. */
 static int rewrite_types(pdt_database *database, const pdti_table *entry) {
   char name[NAME], text[(PDT_MAX_COLUMNS + 1) * LINE];
   name_types(name, entry->number);

@@ -36,7 +36,7 @@ static int sync_file(int file) {
   return bad;
 }
 
-/* Closes a file whose bytes stand written, synced first. A close that a signal cuts off has closed it. */
+/* Closes a file whose bytes are written, synced first. A close that a signal cuts off has closed it. */
 static int end_file(int file, int code) {
   if (!code && sync_file(file)) code = PDT_IO;
   int why = errno;
@@ -94,7 +94,7 @@ static int sync_folder(const char *folder) {
   return code;
 }
 
-/* Syncs the folder, and the one that it stands in, so that its own name lasts: that one may be another's, and not be read. */
+/* Syncs the folder, and the one that it is in, so that its own name lasts: that one may be another's, and not be read. */
 static int sync_names(const char *folder) {
   char parent[PATH_BYTES];
   int code = sync_folder(folder), len = snprintf(parent, sizeof parent, "%s/..", folder);

@@ -31,7 +31,7 @@ static bool is_there(const pdt_database *database, const char *name) {
 
 bool pdti_has_run(const pdt_database *database) { return is_there(database, "images.pdt") || is_there(database, "journal.pdt"); }
 
-/* ---- reading: the tests stand in the order of `pdt recover` */
+/* ---- reading: the tests are in the order of `pdt recover` */
 
 static int read_one(pdt_database *database, const char *name, buffer *into, char *file) {
   snprintf(file, NAME, "%s", name);

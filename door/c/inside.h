@@ -3,7 +3,7 @@
    Nothing there is checked against a C caller, so these files meet each `requires`: a handle is never copied and goes to one call
    at a time, one that is asked to hold something holds it, one that is filled holds nothing, and a commit gets the store that its
    transaction began over. From a prepare to its install the lock is kept, so that the store is as it was; a table is installed only
-   where no fold and no checkpoint came since its begin, so that it is what stands below the Write-PDT. */
+   where no fold and no checkpoint came since its begin, so that it is what is below the Write-PDT. */
 #ifndef PDT_INSIDE_H
 #define PDT_INSIDE_H
 
@@ -179,7 +179,7 @@ struct pdt_store {
 
   /* under the lock */
   size_t snapshots; /* how many checkpoints have begun and not ended */
-  uint64_t rebuilt;  /* how often what stands below the Write-PDT was made anew */
+  uint64_t rebuilt;  /* how often what is below the Write-PDT was made anew */
   uint64_t unpacked; /* how many entries were folded into the Read-PDT since it was packed */
   uint64_t newest;  /* the number of the newest table: of a database's, the number that its last commit has there */
   uint64_t *made_by; /* of a database's: the numbers there of its last commits and of the table before them, each at its own number

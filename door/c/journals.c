@@ -4,7 +4,7 @@
 #include <fcntl.h>
 #include <stdio.h>
 
-/* What stands in the room of a frame's head until it is written: only then it is known which commits are safe. */
+/* What is in the room of a frame's head until it is written: only then it is known which commits are safe. */
 typedef struct {
   uint64_t number;
   uint32_t len; /* of the payload */

@@ -23,7 +23,7 @@
 
    Errors. A call that can fail returns a code; PDT_OK is 0. PDT_MISUSE is told of what can be seen: a null pointer where
    none may be, a store that is closed while transactions are open, a call on a store of which this thread has a commit
-   prepared. What stands in a caller's room after a code other than PDT_OK is unspecified.
+   prepared. What is in a caller's room after a code other than PDT_OK is unspecified.
 
    Cells. A row or a key is passed as one number for each column and the bytes of its texts, one after the other, in the
    order of the columns: a text's number is how many bytes it has, a truth's is 0 or 1. There are as many bytes as the
@@ -164,7 +164,7 @@ typedef struct pdt_bytes {
   size_t len;
 } pdt_bytes;
 
-/* Opens a store over the image that pdt_checkpoint_to handed out, or that stands in files that the caller has read: the bytes
+/* Opens a store over the image that pdt_checkpoint_to handed out, or that is in files that the caller has read: the bytes
    of the header, and of so many columns. *generation, if not null, is which image of theirs it is: the newest whole one.
    PDT_BAD_TABLE (the header), PDT_BAD_STORE, PDT_NO_IMAGE, and those of pdt_open: *store is null then.
    The bytes may go after the call. */
@@ -229,7 +229,7 @@ pdt_code pdt_fold(pdt_store *store);
 pdt_code pdt_cut(pdt_store *store);
 
 /* Writes the newest table into a folder that has no store, as header.csv and column-N.pdt, each synced, then the folder, and
-   then the one that it stands in. Once it answers PDT_OK the table is durable, as far as these go: who made folders further up
+   then the one that it is in. Once it answers PDT_OK the table is durable, as far as these go: who made folders further up
    syncs those, and who may not read the one above (EACCES, EPERM) has it synced by its owner. A folder whose file system
    syncs none (EINVAL) is passed over.
    In memory it is the stable table then, with what was committed meanwhile. Where a fold or another checkpoint comes in the
@@ -363,7 +363,7 @@ pdt_code pdt_set(pdt_txn *txn, const int64_t *key, const void *texts, size_t byt
 
 /* ---- marks: places in a transaction's writes to which it goes back, as SQL's savepoints */
 
-/* Marks the transaction as it stands. *level is how many marks there were before: 0 for the first one.
+/* Marks the transaction as it is. *level is how many marks there were before: 0 for the first one.
    PDT_NOMEM, PDT_MISUSE.
    A mark shares what the transaction has by then; the next writes copy what they change of it. */
 pdt_code pdt_mark(pdt_txn *txn, size_t *level);
@@ -384,7 +384,7 @@ pdt_code pdt_release(pdt_txn *txn, size_t level);
 /* How many rows there are. PDT_MISUSE. */
 pdt_code pdt_rows(pdt_txn *txn, uint64_t *rows);
 
-/* How many rows stand below a key, and whether there is a row of it: a range of keys is the positions between two ranks.
+/* How many rows are below a key, and whether there is a row of it: a range of keys is the positions between two ranks.
    PDT_SHAPE, PDT_NOMEM, PDT_MISUSE. In logarithmic time. */
 pdt_code pdt_rank(pdt_txn *txn, const int64_t *key, const void *texts, size_t bytes, uint64_t *below, bool *there);
 
@@ -417,7 +417,7 @@ pdt_code pdt_bools(pdt_txn *txn, size_t column, uint64_t from, uint8_t *truths, 
    pdt_back_to or pdt_commit on the transaction, or its end. */
 pdt_code pdt_texts(pdt_txn *txn, size_t column, uint64_t from, const char **texts, int64_t *lens, size_t *count);
 
-/* Numbers that stand together: count of them from at on, or the one in number where at is null. */
+/* Numbers that are together: count of them from at on, or the one in number where at is null. */
 typedef struct pdt_piece {
   const int64_t *at;
   uint64_t count;
@@ -454,7 +454,7 @@ pdt_code pdt_stretches(pdt_txn *txn, uint64_t from, uint64_t to, pdt_stretch *st
    row. Those of an inserted row are all 1. PDT_MISSING past the end, PDT_MISUSE. */
 pdt_code pdt_changed(pdt_txn *txn, uint64_t position, uint8_t *changed, size_t columns);
 
-/* ---- layers: the entries that change the rows below them, by position. The Read-PDT stands over the stable table, the
+/* ---- layers: the entries that change the rows below them, by position. The Read-PDT is over the stable table, the
    Write-PDT over the Read-PDT, and a transaction's own entries over the table that it began on */
 
 /* The entries of a layer as they stood when it was asked for: nothing that is done later changes them. A pdt_layer is used
@@ -466,7 +466,7 @@ enum pdt_kind { PDT_INSERT = 1, PDT_DELETE = 2, PDT_MODIFY = 3 };
 
 /* An entry. Its cells are all of the row that it inserts, the key of the row that it deletes, or the cell that it sets. */
 typedef struct pdt_entry {
-  uint64_t sid;  /* where it stands among the rows below the layer */
+  uint64_t sid;  /* where it is among the rows below the layer */
   uint64_t rid;  /* where its row is among those above; of a delete, where it would be */
   size_t column; /* the column of a modify, and else 0 */
   size_t cells;  /* how many cells it has */

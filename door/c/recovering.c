@@ -41,7 +41,7 @@ int pdti_lock_folder(pdt_database *database) {
 
 /* ---- what is new */
 
-/* What stands in a folder without a manifest, of which one would have told. */
+/* What is in a folder without a manifest, of which one would have told. */
 typedef struct {
   int dir;
   size_t count;
@@ -105,7 +105,7 @@ typedef struct {
   pdt_database *database;
   buffer frames;
   size_t starts[JOURNAL_FILES]; /* where those of each file begin */
-  size_t fronts[JOURNAL_FILES]; /* and how many bytes stand before them in the file: its header, or none where it has no header */
+  size_t fronts[JOURNAL_FILES]; /* and how many bytes are before them in the file: its header, or none where it has no header */
   uint64_t first;               /* the number of the first file that an image wants */
   bool is_full;
 } journal_read;
@@ -198,7 +198,7 @@ static size_t last_with_frames(const journal_read *read) {
   return at;
 }
 
-/* Whether the files stand behind one another: none was begun before all in those before it was safe. */
+/* Whether the files are behind one another: none was begun before all in those before it was safe. */
 static bool is_chain(const journal_read *read, const reopened *found, size_t last) {
   const pdt_database *database = read->database;
   for (size_t i = 0; i < database->file_count; i++)

@@ -25,7 +25,7 @@ Files = List[Tuple[str, bytes]]
 
 
 def shared(name: str) -> bytes:
-    """A file that stands at the top of the repository; or in the package, of a source distribution."""
+    """A file that is at the top of the repository; or in the package, of a source distribution."""
     packed = HERE / NAME / name
     return (packed if packed.is_file() else HERE / "../.." / name).read_bytes()
 

@@ -1,4 +1,4 @@
-/* Declarations: what stands between the brackets of USING pdt(..), of which SQLite hands out what is between the commas. */
+/* Declarations: what is between the brackets of USING pdt(..), of which SQLite hands out what is between the commas. */
 #include "stores.h"
 
 #include <errno.h>
@@ -21,7 +21,7 @@ static const char *value_of(const char *word, const char *name) {
   return *word == '=' ? past_blanks(word + 1) : NULL;
 }
 
-/* A literal without its quotes, a doubled one of them single; a word in no quotes as it stands. sqlite3_malloc's. */
+/* A literal without its quotes, a doubled one of them single; a word in no quotes as it is. sqlite3_malloc's. */
 static char *unquoted(const char *word) {
   char *out = sqlite3_mprintf("%s", word), quote = *word, *to = out;
   if (!out || (quote != '\'' && quote != '"')) return out;
@@ -127,7 +127,7 @@ static const char *take_piece(const char *at, piece *out) {
 
 static bool is_word(const piece *p, const char *word) { return !p->is_quoted && !sqlite3_stricmp(p->text, word); }
 
-/* What stands behind two words; null where they aren't there. */
+/* What is behind two words; null where they aren't there. */
 static const char *past_words(const char *at, const char *first, const char *second) {
   piece p;
   at = take_piece(at, &p);
@@ -179,14 +179,14 @@ static char *read_key(const char *word, const char *at, declaration *out) {
   return sqlite3_mprintf("a key is declared as PRIMARY KEY (a, b), not as %s", word);
 }
 
-/* What stands behind the word NULL, of a column that may take it; null where it isn't there. */
+/* What is behind the word NULL, of a column that may take it; null where it isn't there. */
 static const char *past_null_of(const char *at, const column_type *type) {
   piece p;
   at = type->nullable ? take_piece(at, &p) : NULL;
   return at && is_word(&p, "NULL") ? at : NULL;
 }
 
-/* What stands behind the type of a column: NOT NULL, which each is that doesn't say NULL, and PRIMARY KEY. */
+/* What is behind the type of a column: NOT NULL, which each is that doesn't say NULL, and PRIMARY KEY. */
 static char *read_rules(const char *at, const piece *name, const column_type *type, declaration *out) {
   const char *past_own = past_null_of(at, type);
   if (past_own) {

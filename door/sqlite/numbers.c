@@ -131,7 +131,7 @@ static bool take_date(const char **at, int64_t *number) {
   return back[2] == of_month; /* no day that the month lacks */
 }
 
-/* Takes ` HH:MM`, and `:SS` and a fraction where they stand there; the microseconds since midnight. */
+/* Takes ` HH:MM`, and `:SS` and a fraction where they are there; the microseconds since midnight. */
 static bool take_time(const char **at, int64_t *since) {
   int hours, minutes, seconds = 0, fraction = 0, digits = 0;
   if (!take_digits(at, " T", 2, 0, 23, &hours) || !take_digits(at, ":", 2, 0, 59, &minutes)) return false;

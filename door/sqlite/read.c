@@ -21,7 +21,7 @@ static bool is_in_range(const session *s, const cursor *c, const key *k) {
   return !c->bounded || (order == 0 ? c->past : (order > 0) == c->down);
 }
 
-/* Where a row that is inserted at a position stands beside the current one: below it, above it, or in its place. */
+/* Where a row that is inserted at a position is beside the current one: below it, above it, or in its place. */
 static int side_of(const session *s, const cursor *c, uint64_t position, const key *k) {
   if (c->gone) return key_compare(s, k, &c->stand);
   return position <= cursor_position(c) ? -1 : 1;
@@ -61,7 +61,7 @@ void cursors_delete(const session *s, uint64_t position, const key *k) {
     if (!c->over) cursor_delete(c, position, k);
 }
 
-/* Puts the key of the current row into c->stand, where that of a row that is gone stands. */
+/* Puts the key of the current row into c->stand, where that of a row that is gone is. */
 static int stand_read(session *s, cursor *c) {
   if (c->gone) return PDT_OK;
   int code = pdt_row_at(s->view->txn, cursor_position(c), s->old, s->old_texts, s->text_room, NULL);

@@ -21,7 +21,7 @@ struct shared {
   shared *next;
 };
 
-static pthread_mutex_t lock = PTHREAD_MUTEX_INITIALIZER; /* of all that stands below, and in databases.c */
+static pthread_mutex_t lock = PTHREAD_MUTEX_INITIALIZER; /* of all that is below, and in databases.c */
 static shared *all;
 
 /* ---- opening */

@@ -65,7 +65,7 @@ struct session {
   bool wrote;    /* whether the view has writes */
   bool doomed;   /* whether some of them had to be undone, and memory was refused for that */
   size_t marks;  /* how many marks the view has: after a write has begun, one for each level */
-  size_t first;  /* how many of these stand before the first write */
+  size_t first;  /* how many of these are before the first write */
   size_t last;   /* from this level on no mark has a write after it */
 
   int64_t row[PDT_MAX_COLUMNS], old[PDT_MAX_COLUMNS]; /* the row that is written, and the one in its place */
@@ -95,14 +95,14 @@ int64_t number_of_real(double real);
 double real_of_number(int64_t number);
 /* The text of a date or a timestamp; false where it is none of the years 0000 to 9999. */
 bool stamp_of_number(const meaning *m, int64_t number, char *text, size_t *len);
-/* The number of such a text, behind which a zero stands; false where it is no date, or no whole number of the unit. */
+/* The number of such a text, behind which a zero is; false where it is no date, or no whole number of the unit. */
 bool number_of_stamp(const meaning *m, const char *text, size_t len, int64_t *number);
 /* A value as the number that is kept; false where the column doesn't take it. */
 bool number_of_value(const meaning *m, sqlite3_value *value, int64_t *number);
 /* Answers a number's value; false where there is none, as of a date after the year 9999. */
 bool result_number(sqlite3_context *to, const meaning *m, int64_t number);
 /* Narrows the numbers of dates or timestamps that a column may have by a comparison with a text, and those of doubles by
-   one with a value, as SQLite compares them. A zero stands behind the text. False where none is left. */
+   one with a value, as SQLite compares them. A zero is behind the text. False where none is left. */
 bool narrow_by_stamp(const meaning *m, int op, const char *text, size_t len, int64_t *least, int64_t *most);
 bool narrow_by_number(int op, sqlite3_value *value, int64_t *least, int64_t *most);
 
@@ -134,7 +134,7 @@ int refuse_doomed(sqlite3_vtab *base, const session *s);
 int view_enter(sqlite3_vtab *base, bool write);
 /* The view has no writes any more. */
 void view_unwrite(session *s);
-/* Lets the session's view go. Cursors that stand in it read on, unless it has writes, which are no more to be seen. */
+/* Lets the session's view go. Cursors that are in it read on, unless it has writes, which are no more to be seen. */
 void view_leave(session *s);
 void view_free(session *s, view *v);
 /* Whether the view is of a transaction that has ended, or of a statement outside one. */
@@ -309,7 +309,7 @@ int x_update(sqlite3_vtab *base, int argc, sqlite3_value **argv, sqlite3_int64 *
 
 /* ---- functions.c */
 
-/* The session of the one table of a name, before which a schema's may stand, as in main.t; null, and a sentence that
+/* The session of the one table of a name, before which a schema's may be, as in main.t; null, and a sentence that
    says why, sqlite3_malloc's, where there is none or several. */
 session *session_named(connection *c, const char *name, char **why);
 /* Has SQLite make its object for a table, which it otherwise does when a statement first names it. One of its codes. */

@@ -53,7 +53,7 @@ static void wrote(session *s) {
   s->last = s->marks;
 }
 
-/* Several writes of one row are done all or none: they stand between these two. The second is handed their code, and
+/* Several writes of one row are done all or none: they are between these two. The second is handed their code, and
    answers it. */
 static int whole_starts(session *s) { return marks_make(s, s->marks + 1); }
 
@@ -124,7 +124,7 @@ static size_t count_named(const session *s, sqlite3_value **values) {
   return count;
 }
 
-/* Sets the cells that an UPDATE names; their numbers and texts stand in s->row, in their order. */
+/* Sets the cells that an UPDATE names; their numbers and texts are in s->row, in their order. */
 static int set_cells(session *s, const key *k, sqlite3_value **values) {
   const char *text = s->row_texts;
   bool several = count_named(s, values) > 1;

@@ -8,7 +8,7 @@ use crate::updates::{Change, Mix, Update, begun, image, make, state, updates};
 
 pub const NAME: &str = "rebases";
 
-/// What stands between a transaction's begin and its commit.
+/// What is between a transaction's begin and its commit.
 pub struct Rebase {
     /// How many rows the transaction sets.
     pub own: usize,

@@ -476,7 +476,7 @@ static void truths_and_batches_come_in(void) {
   for (int i = 0; i < 6; i++) is("a truth", 0x2d >> i & 1, truths[i]);
   pdt_abort(txn);
   is("close", PDT_OK, pdt_close(store));
-  /* three batches, whose keys stand in no order: the second is empty */
+  /* three batches, whose keys are in no order: the second is empty */
   of_format(&in, "l", 2, six, NULL);
   source_batch(&in, 0);
   source_cells(&in, 0, 2, NULL, NULL, NULL);
@@ -524,7 +524,7 @@ static void keys_are_looked_for(void) {
     says(cases[i].what, cases[i].cause, fault.cause);
     is("all is released", 0, live);
   }
-  /* the key is the second column, and stands first in the table */
+  /* the key is the second column, and is first in the table */
   of_format(&in, "u", 3, ends, "fedcbazyx");
   in.buffers[0][1][1] = (int32_t[]){0, 1, 2, 3, 4, 5, 6};
   struct ArrowArrayStream stream = source_stream(&in);

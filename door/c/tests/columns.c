@@ -24,7 +24,7 @@ static uint64_t offsets[ROWS + 1];
 static uint8_t texts[8 * ROWS], truths[ROWS];
 static pdt_column columns[WIDTH];
 
-/* Five thousand rows: in the name of each stands its number, and every third truth is true. */
+/* Five thousand rows: in the name of each is its number, and every third truth is true. */
 static void fill(void) {
   for (int row = 0; row < ROWS; row++) {
     ids[row] = 10 * row;

@@ -800,7 +800,7 @@ static void is_told(void) {
   closed(database);
 }
 
-/* ---- threads: money moves between three tables, and the sum stands in each work */
+/* ---- threads: money moves between three tables, and the sum is in each work */
 
 enum { THREADS = 8, MOVES = 300, ACCOUNTS = 50 };
 static pdt_store *banks[3];

@@ -157,7 +157,7 @@ static void recovers(const char *what, const char *folder, const char *name) {
   is(what, PDT_OK, pdt_close(store));
 }
 
-/* ---- the order: each file is synced before it is closed, then the folder, and then the one that it stands in */
+/* ---- the order: each file is synced before it is closed, then the folder, and then the one that it is in */
 
 static const char *order(const char *folder) {
   static char wanted[1024];

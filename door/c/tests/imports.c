@@ -302,7 +302,7 @@ static void others(const char *file) { /* the same with the header of another st
   uint8_t bytes[4096];
   size_t len = got(file, bytes, sizeof bytes);
   uint64_t salt = 0, store = 0;
-  for (int at = 0; at + 24 <= HEADER; at += 4) { /* found by its spelling, wherever it stands */
+  for (int at = 0; at + 24 <= HEADER; at += 4) { /* found by its spelling, wherever it is */
     uint8_t header[HEADER];
     salt = long_at(bytes + at), store = long_at(bytes + at + 8);
     if (pdtr_journal_header(salt, store, 0, header, HEADER) && !memcmp(header, bytes, HEADER)) break;
@@ -353,7 +353,7 @@ static void parts(void) {
   is("close", PDT_OK, pdt_database_close(database));
 }
 
-/* What stands beside the run's files. */
+/* What is beside the run's files. */
 static void beside(void) {
   copied(run);
   put("manifest-new", "narthex", 7);

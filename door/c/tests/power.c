@@ -70,7 +70,7 @@ static event *add(enum kind kind, int of) {
   return &events[count++];
 }
 
-/* The object of a name in a folder as it stands after all events, or -1. */
+/* The object of a name in a folder as it is after all events, or -1. */
 static int find_in(int folder, const char *name) {
   int found = -1;
   for (int i = 0; i < count; i++) {

@@ -22,7 +22,7 @@ typedef struct {
 } views;
 static views lent, again;
 
-/* What is to stand there, text by text. */
+/* What is to be there, text by text. */
 static char wanted[MOST][24];
 static size_t rows;
 

@@ -1,6 +1,6 @@
 """``python -m narthexmace show TABLE.csv [--script SCRIPT.csv]``: a table, and what a script's calls make of it.
 
-With a script it prints the replies, in the words of the program ``pdt``, and then, side by side, what stands after the
+With a script it prints the replies, in the words of the program ``pdt``, and then, side by side, what is after the
 last call: the stable table, the Read-PDT, the Write-PDT, the newest image, and the entries of each open transaction.
 But a ``cut`` has no count here, and a commit that changes nothing takes no number: it has that of the table it saw.
 ``+25,Dee,4 at 2`` is an insert, ``-20 at 1`` a delete, ``qty=5 at 0`` a cell that is set; the number is the SID, the

@@ -109,7 +109,7 @@ class Batch:
 
 
 class Pieces(Sequence[memoryview]):
-    """The numbers of an int column where they lie: views of int64, one for each run of rows that stand together.
+    """The numbers of an int column where they lie: views of int64, one for each run of rows that are together.
 
     No number is copied, but those of rows that were changed since the last checkpoint. Nobody may write through the
     views: they lie in the table that all transactions read. They may be read until the next write on the transaction,

@@ -106,7 +106,7 @@ def _over_columns(
 
 
 def _sorted(calls: Calls, columns: Sequence[Named], formats: Formats, options: Options, room: c_void_p) -> None:
-    """Opens a table over columns whose rows stand in any order."""
+    """Opens a table over columns whose rows are in any order."""
     try:
         _over_text(calls, text_of_columns(columns), formats, options, room)
     except BadTable as fault:  # of the records only their keys can be refused: all cells were read before

@@ -82,7 +82,7 @@ def beside(blocks: Sequence[Block]) -> List[Line]:
 
 
 def spelled(cell: Cell) -> str:
-    """A cell as it stands in a line of a terminal."""
+    """A cell as it is in a line of a terminal."""
     if isinstance(cell, bool):
         return "true" if cell else "false"
     return "".join(it if it.isprintable() else it.encode("unicode_escape").decode() for it in str(cell))
@@ -121,7 +121,7 @@ def laid(title: str, entries: Iterable[Entry], row_of: Callable[[Entry], Row], k
 
 
 def layer_block(layer: Laid, keys: Sequence[Row]) -> Block:
-    """A layer in lines, one for each key. The entries of a key stand at one SID."""
+    """A layer in lines, one for each key. The entries of a key are at one SID."""
     return [[], *(_entries_line(layer.entries.get(key, ())) for key in keys)]
 
 

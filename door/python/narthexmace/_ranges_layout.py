@@ -63,7 +63,7 @@ class Layout(NamedTuple):
         write_whole(folder, NAME, json.dumps(told).encode())
 
     def order_of(self, key: Row) -> Row:
-        """A key as the cells by which keys stand in order: the ints of declared columns."""
+        """A key as the cells by which keys are in order: the ints of declared columns."""
         return kept(key, kinds_of(self.formats))
 
     def _ordered_bounds(self) -> Tuple[Row, ...]:

@@ -159,7 +159,7 @@ def runs_of(pieces: Sequence[Piece]) -> List[Any]:
 
 
 def aligned(columns: Sequence[List[Any]]) -> Sequence[List[Any]]:
-    """The runs of several columns, cut so that each has as many rows as those that stand beside it."""
+    """The runs of several columns, cut so that each has as many rows as those that are beside it."""
     if len(columns) == 1:
         return columns
     ends = sorted({end for runs in columns for end in accumulate(map(len, runs))})

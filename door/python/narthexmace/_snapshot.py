@@ -28,7 +28,7 @@ _WRITES = ("insert", "delete", "set", "insert_many", "upsert_many", "delete_many
 
 
 class Rank(NamedTuple):
-    """How many rows stand below a key, and whether there is a row of it."""
+    """How many rows are below a key, and whether there is a row of it."""
 
     below: int
     there: bool
@@ -98,7 +98,7 @@ class Snapshot(Single):
         return default if row is None else row
 
     def rank(self, key: Key) -> Rank:
-        """How many rows stand below a key, and whether there is a row of it: a range of keys is between two ranks."""
+        """How many rows are below a key, and whether there is a row of it: a range of keys is between two ranks."""
         numbers, texts, count = self._shaping.key(key)
         below, there = c_uint64(), c_bool()
         with self._handle as at:

@@ -18,7 +18,7 @@ def order(key: Key) -> Tuple[Any, ...]:
 
 
 def after(effect: Effect, row: Optional[Row]) -> Optional[Row]:
-    """The row that stands at a key after an effect."""
+    """The row that is at a key after an effect."""
     if effect[0] == "del":
         return None
     if effect[0] == "mod":

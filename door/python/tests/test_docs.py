@@ -1,4 +1,4 @@
-"""Each example of the documents and of the package is run, and prints what stands there."""
+"""Each example of the documents and of the package is run, and prints what is there."""
 import doctest
 import os
 import re

@@ -28,7 +28,7 @@ STORE = {
 }  # fmt: skip
 #: What no drawn call raises: memory is refused in test_errors alone, and the rest is for calls that the package lacks.
 NEVER = {"NoMemory", "TooSmall", "NotAscending", "Superseded", "Error"}
-#: What stands behind no name of its own.
+#: What is behind no name of its own.
 CLAUSES = {
     "commit Committed", "commit Conflict", "commit TooOld", "commit Full", "block committed", "block aborted",
     "block Conflict", "block ended inside", "commit after a cut", "commit of nothing", "commit at a pin Committed",

@@ -19,7 +19,7 @@ CALLS = int(os.environ.get("NARTHEXMACE_CALLS", "5000"))
 SEED = int(os.environ.get("NARTHEXMACE_SEED", "1"))
 #: What no drawn call raises: test_damage has files that are damaged, and devices that fail.
 NEVER = {"Rot", "Gap", "Misfit", "Unsure", "Failed", "TooLong"}
-#: What stands behind no name of its own.
+#: What is behind no name of its own.
 CLAUSES = {
     "commit Committed", "commit Conflict", "commit TooOld", "commit Full", "commit of nothing", "commit of several",
     "block committed", "block aborted", "opened again", "opened again after commits",

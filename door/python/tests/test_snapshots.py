@@ -6,7 +6,7 @@ from narthexmace import Misuse, ReadOnly, Shape
 
 TABLE = "id:int:key,name:text,qty:int\n10,Ann,7\n20,Bob,2\n"
 ROWS = [(10, "Ann", 7), (20, "Bob", 2)]
-# keys of two columns, of which each cell stands in several
+# keys of two columns, of which each cell is in several
 PAIRS = "k:text:key,n:int:key,ok:bool\na,1,true\na,3,true\nb,2,true\n"
 
 

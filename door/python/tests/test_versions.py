@@ -212,7 +212,7 @@ class Pins(Case):
 
 
 def applied(names: Sequence[str], rows: Sequence[Row], entries: Sequence[Entry]) -> List[Row]:
-    """A table with a commit's entries over it: by their SIDs alone, each row that stands before an entry goes first."""
+    """A table with a commit's entries over it: by their SIDs alone, each row that is before an entry goes first."""
     image: List[Row] = []
     below, at = list(rows), 0
     for entry in entries:

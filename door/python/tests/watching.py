@@ -7,7 +7,7 @@ from typing import Any, Dict, Iterator, List, Optional, Set, Tuple
 
 import narthexmace
 
-#: What stands behind an operator, a `with` or a call of Python's own.
+#: What is behind an operator, a `with` or a call of Python's own.
 _BEHIND = {"__len__", "__getitem__", "__iter__", "__contains__", "__enter__", "__exit__", "__repr__", "__array__"}
 
 
@@ -32,7 +32,7 @@ def exceptions() -> Set[str]:
 
 
 def attributes(kind: type) -> Iterator[Tuple[type, str, Any]]:
-    """What a class has of the package: the class that says it, the name, and what stands there."""
+    """What a class has of the package: the class that says it, the name, and what is there."""
     for base in kind.__mro__:
         if base.__module__.startswith("narthexmace"):
             for name, value in vars(base).items():

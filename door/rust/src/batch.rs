@@ -100,7 +100,7 @@ impl<'t> Batch<'t> {
     }
 }
 
-/// Numbers that stand together in a column.
+/// Numbers that are together in a column.
 #[derive(Clone, Copy, Debug)]
 pub enum Piece<'t> {
     /// Numbers of the stable table, where they lie.

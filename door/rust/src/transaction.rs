@@ -12,7 +12,7 @@ use std::ptr::NonNull;
 /// Room for the texts of a row that is read without asking twice.
 pub(crate) const TEXT_ROOM: usize = 512;
 
-/// Where a key stands among the rows.
+/// Where a key is among the rows.
 #[derive(Clone, Copy, Debug, PartialEq, Eq)]
 pub struct Rank {
     /// How many rows have a smaller key: the position of the key's row, or where it would come to stand.

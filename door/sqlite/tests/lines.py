@@ -1,4 +1,4 @@
-"""The lines of README's part 'From SQL', run from the top of the repository; what stands after -- is what they show.
+"""The lines of README's part 'From SQL', run from the top of the repository; what is after -- is what they show.
 
     lines.py
 """

@@ -220,7 +220,7 @@ def a_cursor_comes_to_the_rows_that_sqlites_own_comes_to(room):
 
 
 def visited(connection, sql, at, text):
-    """The rows that a statement shows, where others are run once it stands at a row; at most as many as end it."""
+    """The rows that a statement shows, where others are run once it is at a row; at most as many as end it."""
     rows = []
     for row in connection.rows(sql):
         rows.append(row)
