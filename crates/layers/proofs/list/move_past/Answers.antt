@@ -1,4 +1,4 @@
-use Rattle.std.proofs.Common.{◌≡◌, ℕ, T, ◌+◌, ◌*◌, ◌/◌, ◌<◌, ◌^◌, ◌++◌, map, ◌≤◌, not, Some, List, length, take, drop}
+use Rattle.std.proofs.Common.{◌≡◌, ℕ, T, ◌+◌, ◌*◌, ◌/◌, ◌<◌, ◌^◌, ◌++◌, map, ◌≤◌, not, None, Some, List, length, take, drop}
 use Rattle.std.proofs.Common.{sym, ap, ◌∙◌, subst, arith}
 use Rattle.std.specs.Prelude.{nat_lt, slice_get, slice_index_or, slice_set}
 use Rattle.std.specs.List.{All, list_all}
@@ -8,7 +8,7 @@ use Rattle.std.proofs.lemmas.List.Elements.{All-set, All-weaker}
 use Rattle.std.proofs.lemmas.Option.{slice_get-get_or}
 use Rattle.model.specs.declared.entry.Entry.{Entry}
 use Rattle.model.specs.Entries.{entry_at}
-use Rattle.model.specs.Rebasing.{rebased_entry}
+use Rattle.model.specs.Rebasing.{first_clash, rebased_entries, rebased_entry}
 use Rattle.delta.specs.Tree.{Tree}
 use Rattle.layers.specs.declared.shift.Shift.{Shift}
 use Rattle.layers.specs.Held.{moved_by}
@@ -21,7 +21,7 @@ use Rattle.layers.proofs.PassLemmas.{ahead_at, counts_fit}
 use Rattle.layers.proofs.SerialLemmas.{clash_here, clash_is, order_x, small_sid}
 use Rattle.layers.proofs.ShiftLemmas.{length-moved, map_alike, moved_to_end, own_block, puts_own, stands_own}
 use Rattle.layers.proofs.list.move_past.Goals as goal
-use Rattle.layers.proofs.list.move_past.Goals.{in-Some, in-None}
+use Rattle.layers.proofs.list.move_past.Goals.{in-Some, in-None, After-index-entries-index, After-loop-index}
 
 -- the entries beside which the other tree's stand
 abbrev own : ℕ → List Entry → Tree
@@ -39,6 +39,20 @@ here_is ss new entries es n e lt covered is same at =
     let none = ap (λ (zs : List Shift). shift_at zs n) is
     ∙ own_block ss n (n + 1) (length es) lt covered (omega arith) n (omega arith) (omega arith) in
     (none, sym (ap (λ (zs : List Entry). slice_get zs n) same) ∙ stands_own new es n e none at)
+
+-- the entry at hand, whose block is settled
+at_hand : (c : After-index-entries-index) → (shift_at c.settle.new.shifts c.loop-index.index ≡ no_shift)
+    × (slice_get (shifted_entries c.loop-index.shifts c.loop-index.entries) c.loop-index.index
+    ≡ Some (slice_index_or c.settle.new.entries c.loop-index.index c.index-entries-index.result))
+at_hand c =
+    let n = c.loop-index.index in
+    let es = c.settle.new.entries in
+    let d = c.index-entries-index.result in
+    let lt : n < length es = omega (arith, c.loop-index-test.true, c.settle.auto.entries) in
+    let covered : length es ≤ length c.loop-index.shifts * 256 = omega
+    (arith, c.requires.covered, c.settle.auto.entries, c.loop-index.auto.entries, c.loop-index.auto.shifts) in
+    here_is c.loop-index.shifts c.settle.new.shifts (shifted_entries c.loop-index.shifts c.loop-index.entries) es n (slice_index_or es n d)
+    lt covered c.settle.ensures.shifts c.settle.ensures.same (slice_get-get_or es n d lt)
 
 pub count_below-index-requires : goal.count_below-index-requires
 count_below-index-requires c =
@@ -143,11 +157,7 @@ find-found-requires-clause-before c =
     let es = c.settle.new.entries in
     let d = c.index-entries-index.result in
     let e = slice_index_or es n d in
-    let lt : n < length es = omega (arith, c.loop-index-test.true, c.settle.auto.entries) in
-    let covered : length es ≤ length c.loop-index.shifts * 256 = omega
-    (arith, c.requires.covered, c.settle.auto.entries, c.loop-index.auto.entries, c.loop-index.auto.shifts) in
-    let here = here_is c.loop-index.shifts c.settle.new.shifts so_far es n e lt covered c.settle.ensures.shifts c.settle.ensures.same
-    (slice_get-get_or es n d lt) in
+    let here = at_hand (goal.at.find-found-requires-clause-before c).After-index-entries-index in
     inv.ready e (same_at n so_far all e inv.left here.1)
 
 pub find-found-requires-clause-sid : goal.find-found-requires-clause-sid
@@ -160,11 +170,7 @@ find-found-requires-clause-sid c =
     let es = c.settle.new.entries in
     let d = c.index-entries-index.result in
     let e = slice_index_or es n d in
-    let lt : n < length es = omega (arith, c.loop-index-test.true, c.settle.auto.entries) in
-    let covered : length es ≤ length c.loop-index.shifts * 256 = omega
-    (arith, c.requires.covered, c.settle.auto.entries, c.loop-index.auto.entries, c.loop-index.auto.shifts) in
-    let here = here_is c.loop-index.shifts c.settle.new.shifts so_far es n e lt covered c.settle.ensures.shifts c.settle.ensures.same
-    (slice_get-get_or es n d lt) in
+    let here = at_hand (goal.at.find-found-requires-clause-sid c).After-index-entries-index in
     small_sid c.args.rule (own y.key_cols all) y c.requires.aligned n e (same_at n so_far all e inv.left here.1)
 
 pub returns-in-Some-clash-clause-clash : goal.returns-in-Some-clash-clause-clash
@@ -177,11 +183,7 @@ returns-in-Some-clash-clause-clash c =
     let es = c.settle.new.entries in
     let d = c.index-entries-index.result in
     let e = slice_index_or es n d in
-    let lt : n < length es = omega (arith, c.loop-index-test.true, c.settle.auto.entries) in
-    let covered : length es ≤ length c.loop-index.shifts * 256 = omega
-    (arith, c.requires.covered, c.settle.auto.entries, c.loop-index.auto.entries, c.loop-index.auto.shifts) in
-    let here = here_is c.loop-index.shifts c.settle.new.shifts so_far es n e lt covered c.settle.ensures.shifts c.settle.ensures.same
-    (slice_get-get_or es n d lt) in
+    let here = at_hand (goal.at.returns-in-Some-clash-clause-clash c).After-index-entries-index in
     let at = same_at n so_far x.entries e inv.left here.1 in
     let beside = subst (λ (t : Tree). IsClashBeside c.args.rule t.key_cols n e t.entries c.find-found.result.clash) inv.tree
     c.find-found.ensures.clash in
@@ -200,10 +202,8 @@ loop-index-preserved c =
     let e = slice_index_or es n d in
     let found = c.find-found.ensures in
     let lt : n < length es = omega (arith, c.loop-index-test.true, c.settle.auto.entries) in
-    let covered : length es ≤ length c.loop-index.shifts * 256 = omega
-    (arith, c.requires.covered, c.settle.auto.entries, c.loop-index.auto.entries, c.loop-index.auto.shifts) in
     let own_at = slice_get-get_or es n d lt in
-    let here = here_is c.loop-index.shifts ss so_far es n e lt covered c.settle.ensures.shifts c.settle.ensures.same own_at in
+    let here = at_hand (goal.at.loop-index-preserved c).After-index-entries-index in
     let at = here.1 in
     let new = c.move_to.new.self in
     let there = slice_get-get_or es n c.index-entries-index-in-loop-index.result lt in
@@ -228,8 +228,12 @@ loop-index-preserved c =
           (subst (λ (z : Entry). z.sid < 2 ^ 64) (sym moved) (omega (arith, c.find-found.type_inv))) c.loop-index.invariant.placed);
     }
 
-pub returns-clause-clash : goal.returns-clause-clash
-returns-clause-clash c =
+-- every entry has passed
+every : (c : After-loop-index) → (first_clash c.args.rule c.args.other.now.key_cols
+    (shifted_entries c.args.shifts.now c.args.entries.now) c.args.other.now.entries ≡ None)
+    × (shifted_entries c.loop-index.shifts c.loop-index.entries
+    ≡ rebased_entries c.args.other.now.key_cols c.args.other.now.entries (shifted_entries c.args.shifts.now c.args.entries.now))
+every c =
     let y = c.args.other.now in
     let n = c.loop-index.index in
     let all = shifted_entries c.args.shifts.now c.args.entries.now in
@@ -238,20 +242,11 @@ returns-clause-clash c =
     let end : length so_far ≤ n = omega (arith, c.loop-index-test.false, size) in
     let own_end : length all ≤ n = omega
     (arith, end, size, length-shifted c.args.shifts.now c.args.entries.now, c.loop-index.auto.entries) in
-    let every = ended c.args.rule (own y.key_cols all) y c.requires.aligned so_far c.loop-index.cursor n
-    (c.loop-index.invariant.moved c.requires.aligned) end own_end in
-    sym every.0
+    ended c.args.rule (own y.key_cols all) y c.requires.aligned so_far c.loop-index.cursor n
+    (c.loop-index.invariant.moved c.requires.aligned) end own_end
+
+pub returns-clause-clash : goal.returns-clause-clash
+returns-clause-clash c = sym (every (goal.at.returns-clause-clash c).After-loop-index).0
 
 pub returns-clause-moved : goal.returns-clause-moved
-returns-clause-moved c =
-    let y = c.args.other.now in
-    let n = c.loop-index.index in
-    let all = shifted_entries c.args.shifts.now c.args.entries.now in
-    let so_far = shifted_entries c.loop-index.shifts c.loop-index.entries in
-    let size = length-shifted c.loop-index.shifts c.loop-index.entries in
-    let end : length so_far ≤ n = omega (arith, c.loop-index-test.false, size) in
-    let own_end : length all ≤ n = omega
-    (arith, end, size, length-shifted c.args.shifts.now c.args.entries.now, c.loop-index.auto.entries) in
-    let every = ended c.args.rule (own y.key_cols all) y c.requires.aligned so_far c.loop-index.cursor n
-    (c.loop-index.invariant.moved c.requires.aligned) end own_end in
-    λ is. every.1
+returns-clause-moved c = λ is. (every (goal.at.returns-clause-moved c).After-loop-index).1
