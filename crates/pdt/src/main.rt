@@ -67,17 +67,17 @@ fn main(rt: HostRuntime) -> ExitCode {
     // Held until the end: a stream that was closed stays one that can't be written to.
     let streams = hold_streams(&rt);
     let status = match &streams {
-        Ok(_) => answered(&rt, &rt),
-        Err(_) => told(&rt, &Err(Refusal::Output(ShowFault::Write))),
+        Ok(_) => run_command_line(&rt, &rt),
+        Err(_) => tell(&rt, &Err(Refusal::Output(ShowFault::Write))),
     };
     ExitCode::from(status)
 }
 
-/// Does what the words ask for, and gives the status to end with. What is refused is told on standard error. The second handle
+/// Does what the command line asks for, and gives the status to end with. What is refused is told on standard error. The second handle
 /// may start threads and wait for them.
-fn answered<T: Threads + Wait + Sync>(rt: &HostRuntime, starter: &T) -> u8 {
-    match given_words(rt) {
-        Ok(given) => answer_to(rt, starter, given.as_slice()),
+fn run_command_line<T: Threads + Wait + Sync>(rt: &HostRuntime, starter: &T) -> u8 {
+    match command_line_words(rt) {
+        Ok(given) => run_words(rt, starter, given.as_slice()),
         Err(fault) => {
             let _ = eprintln!(rt; "error: {}", words_fault(fault.kind()));
             MISUSED
@@ -86,16 +86,16 @@ fn answered<T: Threads + Wait + Sync>(rt: &HostRuntime, starter: &T) -> u8 {
 }
 
 /// Does what these words ask for.
-fn answer_to<T: Threads + Wait + Sync>(rt: &HostRuntime, starter: &T, given: &[String]) -> u8 {
-    let words = match lent(rt.alloc(), given) {
+fn run_words<T: Threads + Wait + Sync>(rt: &HostRuntime, starter: &T, given: &[String]) -> u8 {
+    let words = match words_of(rt.alloc(), given) {
         Ok(words) => words,
         Err(_) => {
             let _ = eprintln!(rt; "error: {}", words_fault(io::ErrorKind::OutOfMemory));
             return MISUSED;
         }
     };
-    match asked(rt, words.as_slice()) {
-        Ok(settings) => told(rt, &done(rt, starter, settings)),
+    match settings_of(rt, words.as_slice()) {
+        Ok(settings) => tell(rt, &carry_out(rt, starter, settings)),
         Err(status) => status,
     }
 }
@@ -103,7 +103,7 @@ fn answer_to<T: Threads + Wait + Sync>(rt: &HostRuntime, starter: &T, given: &[S
 /// What the words ask for. Where they say nothing that can be done, that is told, and the status is given. The 16 KB of stack
 /// that `clap` wants are free again before a run.
 #[inline(never)]
-fn asked<'w>(rt: &HostRuntime, words: &'w [&'w str]) -> Result<Settings<'w>, u8> {
+fn settings_of<'w>(rt: &HostRuntime, words: &'w [&'w str]) -> Result<Settings<'w>, u8> {
     match read_words(rt.alloc(), words) {
         Ok(settings) => Ok(settings),
         Err(fault) => {
@@ -114,7 +114,7 @@ fn asked<'w>(rt: &HostRuntime, words: &'w [&'w str]) -> Result<Settings<'w>, u8>
 }
 
 /// Tells what was refused, and gives the status to end with.
-fn told(rt: &HostRuntime, answer: &Result<u8, Refusal>) -> u8 {
+fn tell(rt: &HostRuntime, answer: &Result<u8, Refusal>) -> u8 {
     if let Err(refusal) = answer {
         // Where even this can't be written, the status alone tells.
         let _ = eprintln!(rt; "{refusal}");
@@ -123,7 +123,7 @@ fn told(rt: &HostRuntime, answer: &Result<u8, Refusal>) -> u8 {
 }
 
 /// The words of the command line, the first of which is the program's name.
-fn given_words(rt: &HostRuntime) -> io::Result<Vec<String>> {
+fn command_line_words(rt: &HostRuntime) -> io::Result<Vec<String>> {
     let mut given = Vec::new(rt.alloc());
     for word in env::args(rt)? {
         given.push(word)?;
@@ -132,7 +132,7 @@ fn given_words(rt: &HostRuntime) -> io::Result<Vec<String>> {
 }
 
 /// The words, lent.
-fn lent<'a>(alloc: Global, given: &'a [String]) -> Result<Vec<&'a str>, NoMemory> {
+fn words_of<'a>(alloc: Global, given: &'a [String]) -> Result<Vec<&'a str>, NoMemory> {
     let mut words = Vec::new(alloc);
     for word in given {
         words.push(word.as_str())?;
@@ -150,7 +150,7 @@ fn words_fault(kind: io::ErrorKind) -> &'static str {
 }
 
 /// Does what the settings ask for.
-fn done<T: Threads + Wait + Sync>(
+fn carry_out<T: Threads + Wait + Sync>(
     rt: &HostRuntime,
     starter: &T,
     settings: Settings<'_>,
@@ -396,7 +396,7 @@ fn recover_database(
 ) -> Result<u8, Refusal> {
     let alloc = rt.alloc();
     let names = names_in(rt, dir)?;
-    let listed = lent(alloc, names.as_slice())?;
+    let listed = words_of(alloc, names.as_slice())?;
     let wanted = wanted_files(alloc, text, name, listed.as_slice())?;
     let read = read_files(rt, dir, &wanted)?;
     let files = lent_files(alloc, &read)?;
