@@ -1,4 +1,4 @@
-use Rattle.std.proofs.Common.{◌≡◌, ◌-◌, ◌+◌, ◌/◌, ◌<◌, [], length, get_or, is_lt, sym, ap, ◌∙◌, subst, arith}
+use Rattle.std.proofs.Common.{◌≡◌, ℕ, ◌-◌, ◌+◌, ◌/◌, ◌<◌, ◌≤◌, [], length, get_or, is_lt, sym, ap, ◌∙◌, subst, arith}
 use Rattle.std.proofs.lemmas.List.{get_or_default}
 use Rattle.values.specs.Orders.{key_cmp}
 use Rattle.values.specs.Shape.{key_of}
@@ -8,48 +8,40 @@ use Rattle.stable.proofs.BelowLemmas.{high_part, low_part}
 use Rattle.stable.proofs.RankLemmas.{rank-point}
 use Rattle.stable.proofs.SpanLemmas.{shared_cells, wide_rows}
 use Rattle.stable.proofs.StableLemmas.{stable_sorted}
+use Rattle.stable.proofs.table.StableTable.rank_of_cells.Goals.{After-min-tied}
 use Rattle.stable.proofs.table.StableTable.rank_of_cells.Goals as goal
 
-pub rank_among-requires-clause-span : goal.rank_among-requires-clause-span
-rank_among-requires-clause-span c =
+-- the rows that are left have the cells that both ends have
+left_have : (c : After-min-tied) → (k : ℕ) → c.loop-low.low ≤ k → k < c.loop-low.high
+    → HasCells c.min-tied.result c.args.key.now (get_or c.args.self.now.rows k [])
+left_have c =
     let s = c.args.self.now in
-    let key = c.args.key.now in
     let inside = c.self.inside in
     let h = c.loop-low.invariant in
-    let low = c.loop-low.low in
-    let high = c.loop-low.high in
     let wide =
     wide_rows inside.schema inside.count inside.columns.items c.self.invariant c.key_cols-key_cols.ensures.lawful.key_within s
     c.self.view_is in
-    let cells =
-    shared_cells s.schema.key_cols key s.rows wide (stable_sorted s c.len-high.ensures.lawful) low high c.loop-low.tied_before
-    c.loop-low.tied_after c.min-tied.result (omega (arith, c.min-tied.ensures)) (omega (arith, c.min-tied.ensures)) h.within
-    h.few h.short h.some h.before h.more h.after in
+    shared_cells s.schema.key_cols c.args.key.now s.rows wide (stable_sorted s c.len-high.ensures.lawful) c.loop-low.low c.loop-low.high
+    c.loop-low.tied_before c.loop-low.tied_after c.min-tied.result (omega (arith, c.min-tied.ensures)) (omega (arith, c.min-tied.ensures))
+    h.within h.few h.short h.some h.before h.more h.after
+
+pub rank_among-requires-clause-span : goal.rank_among-requires-clause-span
+rank_among-requires-clause-span c =
+    let h = c.loop-low.invariant in
     record {
       ordered = h.ordered;
       within = h.within;
       below = h.below;
       above = h.above;
-      cells = cells;
+      cells = left_have (goal.at.rank_among-requires-clause-span c).After-min-tied;
     }
 
 pub compare_from-order-requires-clause-tied : goal.compare_from-order-requires-clause-tied
 compare_from-order-requires-clause-tied c =
-    let s = c.args.self.now in
-    let key = c.args.key.now in
-    let inside = c.self.inside in
-    let h = c.loop-low.invariant in
     let low = c.loop-low.low in
-    let high = c.loop-low.high in
-    let wide =
-    wide_rows inside.schema inside.count inside.columns.items c.self.invariant c.key_cols-key_cols.ensures.lawful.key_within s
-    c.self.view_is in
-    let cells =
-    shared_cells s.schema.key_cols key s.rows wide (stable_sorted s c.len-high.ensures.lawful) low high c.loop-low.tied_before
-    c.loop-low.tied_after c.min-tied.result (omega (arith, c.min-tied.ensures)) (omega (arith, c.min-tied.ensures)) h.within
-    h.few h.short h.some h.before h.more h.after in
-    let middle = low + (high - low) / 2 in
-    cells middle (omega arith) (omega (arith, c.loop-low-test.true))
+    let middle = low + (c.loop-low.high - low) / 2 in
+    left_have (goal.at.compare_from-order-requires-clause-tied c).After-min-tied middle (omega arith)
+    (omega (arith, c.loop-low-test.true))
 
 pub loop-low-preserved-then-is_lt : goal.loop-low-preserved-then-is_lt
 loop-low-preserved-then-is_lt c =
