@@ -17,10 +17,9 @@ use Rattle.inputs.specs.declared.call.Call.TheVariants as call
 use Rattle.inputs.specs.declared.call.ClientCall.{ClientCall}
 use Rattle.inputs.specs.Typed.{is_typed_call}
 use Rattle.pdtcli.specs.declared.reply.Reply.{Reply}
-use Rattle.pdtcli.specs.declared.reply.Reply.TheVariants.{Begun, AlreadyOpen, NotOpen, Wrote, KeyColumn, TextTooLong, Row as Shown}
-use Rattle.pdtcli.specs.declared.reply.Reply.TheVariants.{Missing, NoRow, Place, Rows, Scanned, Decided, Aborted, Folded, Stored}
-use Rattle.pdtcli.specs.declared.reply.Reply.TheVariants.{DeviceFailed, StoreFailed, GenerationsSpent, Cut, Ended, Stranger, NoMemory}
-use Rattle.pdtcli.specs.declared.reply.Reply.TheVariants.{TooLong, Unsure, JournalFailed}
+use Rattle.pdtcli.specs.declared.reply.Reply.TheVariants.{Begun, AlreadyOpen, Wrote, KeyColumn, TextTooLong, Row as Shown}
+use Rattle.pdtcli.specs.declared.reply.Reply.TheVariants.{Decided, Folded}
+use Rattle.pdtcli.specs.declared.reply.Reply.TheVariants.{Cut, NoMemory}
 use Rattle.pdtcli.specs.declared.reply.ReplyLine.{ReplyLine}
 use Rattle.txn.specs.Txn.{Transaction}
 use Rattle.txn.specs.Version.{Lower, alone}
@@ -124,29 +123,7 @@ begin_keeps : (client : ℕ) (old new : Side) (reply : Reply) → IfSome old.own
 begin_keeps client old new Begun own h = side_with old (Some (begun_at old.manager client)) (begun_own old.manager client) new h.1
 begin_keeps client old new AlreadyOpen own h = side_same old new own h.1
 begin_keeps client old new NoMemory own h = side_same old new own h.1
-begin_keeps client old new NotOpen own h = absurd h
-begin_keeps client old new (Wrote r) own h = absurd h
-begin_keeps client old new KeyColumn own h = absurd h
-begin_keeps client old new (TextTooLong n) own h = absurd h
-begin_keeps client old new (Decided r) own h = absurd h
-begin_keeps client old new Aborted own h = absurd h
-begin_keeps client old new (Shown row) own h = absurd h
-begin_keeps client old new Missing own h = absurd h
-begin_keeps client old new NoRow own h = absurd h
-begin_keeps client old new (Place below there) own h = absurd h
-begin_keeps client old new (Rows count) own h = absurd h
-begin_keeps client old new (Scanned rows) own h = absurd h
-begin_keeps client old new Folded own h = absurd h
-begin_keeps client old new (Stored generation) own h = absurd h
-begin_keeps client old new (DeviceFailed i) own h = absurd h
-begin_keeps client old new StoreFailed own h = absurd h
-begin_keeps client old new GenerationsSpent own h = absurd h
-begin_keeps client old new (Cut count) own h = absurd h
-begin_keeps client old new Ended own h = absurd h
-begin_keeps client old new Stranger own h = absurd h
-begin_keeps client old new TooLong own h = absurd h
-begin_keeps client old new Unsure own h = absurd h
-begin_keeps client old new JournalFailed own h = absurd h
+begin_keeps client old new reply own h = absurd h
 
 write_keeps : (txn : Transaction) (write : Write) (old new : Side) (reply : Reply) → IsOwn old.manager txn
     → IfSome old.own (IsOwn old.manager) → OpenWriteStep txn write old reply new → SideKeeps old new
@@ -156,28 +133,7 @@ write_keeps txn write old new (Wrote r) mine own h =
 write_keeps txn write old new KeyColumn mine own h = side_same old new own h.1
 write_keeps txn write old new (TextTooLong n) mine own h = side_same old new own h.1
 write_keeps txn write old new NoMemory mine own h = side_same old new own h.1
-write_keeps txn write old new Begun mine own h = absurd h
-write_keeps txn write old new AlreadyOpen mine own h = absurd h
-write_keeps txn write old new NotOpen mine own h = absurd h
-write_keeps txn write old new (Decided r) mine own h = absurd h
-write_keeps txn write old new Aborted mine own h = absurd h
-write_keeps txn write old new (Shown row) mine own h = absurd h
-write_keeps txn write old new Missing mine own h = absurd h
-write_keeps txn write old new NoRow mine own h = absurd h
-write_keeps txn write old new (Place below there) mine own h = absurd h
-write_keeps txn write old new (Rows count) mine own h = absurd h
-write_keeps txn write old new (Scanned rows) mine own h = absurd h
-write_keeps txn write old new Folded mine own h = absurd h
-write_keeps txn write old new (Stored generation) mine own h = absurd h
-write_keeps txn write old new (DeviceFailed i) mine own h = absurd h
-write_keeps txn write old new StoreFailed mine own h = absurd h
-write_keeps txn write old new GenerationsSpent mine own h = absurd h
-write_keeps txn write old new (Cut count) mine own h = absurd h
-write_keeps txn write old new Ended mine own h = absurd h
-write_keeps txn write old new Stranger mine own h = absurd h
-write_keeps txn write old new TooLong mine own h = absurd h
-write_keeps txn write old new Unsure mine own h = absurd h
-write_keeps txn write old new JournalFailed mine own h = absurd h
+write_keeps txn write old new reply mine own h = absurd h
 
 is_none : (own : Option Transaction) → IsNone own → own ≡ None
 is_none None h = refl
@@ -191,30 +147,7 @@ commit_keeps txn old new (Decided r) own h =
       own = subst (λ (o : Option Transaction). IfSome o (IsOwn new.manager)) (sym (is_none new.own h.1)) tt;
     }
 commit_keeps txn old new NoMemory own h = side_same old new own h.0
-commit_keeps txn old new Begun own h = absurd h
-commit_keeps txn old new AlreadyOpen own h = absurd h
-commit_keeps txn old new NotOpen own h = absurd h
-commit_keeps txn old new (Wrote r) own h = absurd h
-commit_keeps txn old new KeyColumn own h = absurd h
-commit_keeps txn old new (TextTooLong n) own h = absurd h
-commit_keeps txn old new Aborted own h = absurd h
-commit_keeps txn old new (Shown row) own h = absurd h
-commit_keeps txn old new Missing own h = absurd h
-commit_keeps txn old new NoRow own h = absurd h
-commit_keeps txn old new (Place below there) own h = absurd h
-commit_keeps txn old new (Rows count) own h = absurd h
-commit_keeps txn old new (Scanned rows) own h = absurd h
-commit_keeps txn old new Folded own h = absurd h
-commit_keeps txn old new (Stored generation) own h = absurd h
-commit_keeps txn old new (DeviceFailed i) own h = absurd h
-commit_keeps txn old new StoreFailed own h = absurd h
-commit_keeps txn old new GenerationsSpent own h = absurd h
-commit_keeps txn old new (Cut count) own h = absurd h
-commit_keeps txn old new Ended own h = absurd h
-commit_keeps txn old new Stranger own h = absurd h
-commit_keeps txn old new TooLong own h = absurd h
-commit_keeps txn old new Unsure own h = absurd h
-commit_keeps txn old new JournalFailed own h = absurd h
+commit_keeps txn old new reply own h = absurd h
 
 cut_own : (m : Managed) (own : Option Transaction) → IfSome own (IsOwn m) → IfSome own (IsOwn (cut_of m))
 cut_own m None h = tt
