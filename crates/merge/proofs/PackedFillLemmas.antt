@@ -202,18 +202,3 @@ none_nearer a b (p ∷ ps) le e =
   where
     lower : (n : ℕ) → nat_lt n b ≡ false → nat_lt n a ≡ false
     lower n k = grind (arith, le, nat_tests)
-
--- none lies before the first one
-pub none_before : (s : ℕ) (ps : List Patch) (p : Patch) → slice_get ps 0 ≡ Some p → s ≤ p.sid → patches_before s ps ≡ []
-none_before s [] p is le = cc
-none_before s (q ∷ ps) p is le = ap (λ x. cond x (q ∷ patches_before s ps) []) (past q.sid (ap (λ (r : Patch). r.sid) (some_same is)))
-  where
-    some_same : {X : Type 0} {x y : X} → Some x ≡ Some y → x ≡ y
-    some_same e = cc
-
-    past : (n : ℕ) → n ≡ p.sid → nat_lt n s ≡ false
-    past n same = grind (arith, le, nat_tests)
-
-pub none_there : (s : ℕ) (ps : List Patch) → slice_get ps 0 ≡ None → patches_before s ps ≡ []
-none_there s [] is = refl
-none_there s (p ∷ ps) is = cc

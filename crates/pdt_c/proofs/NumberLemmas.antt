@@ -76,12 +76,6 @@ length-between col from to rows =
       length-take to rows,
     )
 
--- the numbers of a run go from those that are left to those so far
-pub numbers_move : (seen : List ℤ) (own rest : List Value) (all : List ℤ) → seen ++ numbers_of (own ++ rest) ≡ all
-    → (seen ++ numbers_of own) ++ numbers_of rest ≡ all
-numbers_move seen own rest all is =
-    append_assoc seen (numbers_of own) (numbers_of rest) ∙ ap (λ ns. seen ++ ns) (sym (map-append number_of own rest)) ∙ is
-
 -- ---- pieces
 
 pub shown_more : (pieces : List Piece) (piece : Piece) (numbers own : List ℤ) → AreShown pieces numbers → IsShown piece own

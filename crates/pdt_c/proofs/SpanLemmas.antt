@@ -34,12 +34,6 @@ byte_past [] b h j = refl
 byte_past (x ∷ xs) b h zero = h 0 (omega arith)
 byte_past (x ∷ xs) b h (suc j) = byte_past xs b (λ k l. h (suc k) (omega (arith, l))) j
 
--- bytes that stand past the end are none
-pub byte_within : (xs : List ℕ) (j : ℕ) → get_or xs j 1 ≡ 0 → j < length xs
-byte_within [] j h = absurd (omega (arith, h))
-byte_within (x ∷ xs) zero h = omega arith
-byte_within (x ∷ xs) (suc j) h = let less : j < length xs = byte_within xs j h in omega (arith, less)
-
 pub put_told : (P : ℕ → Type 0) (xs : List ℕ) (i b j : ℕ) → (j < i → get_or xs j 1 ≡ 0 → P j) → (b ≡ 0 → P i) → j < i + 1
     → get_or (set xs i b) j 1 ≡ 0 → P j
 put_told P [] i b j h own lt z = absurd (omega (arith, z))
