@@ -1,4 +1,4 @@
-/* pdt_layers('t'): the entries of a table's layers, as rows of layer, position, rid, kind and cells. First those of the
+/* pdt_layers('t'): the entries of a table's layers, as rows of layer, sid, rid, kind and cells. First those of the
    newest table's Read-PDT, then of its Write-PDT, then the connection's own, where it has a transaction open. A
    cursor has them as they stood at its first row, and what it needs to show them: its table may go before it. */
 #include "vtab.h"
@@ -8,7 +8,7 @@
 SQLITE_EXTENSION_INIT3
 
 enum { LAYERS = 3 };
-enum { LAYER, POSITION, RID, KIND, CELLS, TABLE };
+enum { LAYER, SID, RID, KIND, CELLS, TABLE };
 
 typedef struct layers_table {
   sqlite3_vtab base;
@@ -33,7 +33,7 @@ typedef struct layers_cursor {
 static int connect_layers(sqlite3 *db, void *context, int argc, const char *const *argv, sqlite3_vtab **out,
                           char **error) {
   (void)argc, (void)argv, (void)error;
-  int code = sqlite3_declare_vtab(db, "CREATE TABLE x(layer TEXT, position INTEGER, rid INTEGER, kind TEXT, "
+  int code = sqlite3_declare_vtab(db, "CREATE TABLE x(layer TEXT, sid INTEGER, rid INTEGER, kind TEXT, "
                                       "cells TEXT, name TEXT HIDDEN)");
   if (!code) code = sqlite3_vtab_config(db, SQLITE_VTAB_DIRECTONLY);
   if (code) return code;
@@ -217,7 +217,7 @@ static int column_layers(sqlite3_vtab_cursor *base, sqlite3_context *to, int col
   const layers_cursor *c = (const layers_cursor *)base;
   switch (column) {
   case LAYER: sqlite3_result_text(to, layers[c->layer], -1, SQLITE_STATIC); break;
-  case POSITION: sqlite3_result_int64(to, (sqlite3_int64)c->entry.sid); break;
+  case SID: sqlite3_result_int64(to, (sqlite3_int64)c->entry.sid); break;
   case RID: sqlite3_result_int64(to, (sqlite3_int64)c->entry.rid); break;
   case KIND: sqlite3_result_text(to, kinds[c->entry.kind], -1, SQLITE_STATIC); break;
   case CELLS: put_cells(to, c); break;
