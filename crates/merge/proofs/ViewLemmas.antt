@@ -66,10 +66,10 @@ last_cell-so_far col so_far (c ∷ cells) =
 pub same_next : (i j : ℕ) → (i == j) ≡ (suc i == suc j)
 same_next i j = grind (arith, nat_tests)
 
-first_other : (j : ℕ) → (0 == suc j) ≡ false
+pub first_other : (j : ℕ) → (0 == suc j) ≡ false
 first_other j = grind (arith, nat_tests)
 
-other_first : (i : ℕ) → (suc i == 0) ≡ false
+pub other_first : (i : ℕ) → (suc i == 0) ≡ false
 other_first i = grind (arith, nat_tests)
 
 slice_get-slice_set : {X : Type 0} (xs : List X) (i j : ℕ) (x : X) → j < length xs

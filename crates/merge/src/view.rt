@@ -1,5 +1,5 @@
 //! A row of the image, lent.
-ghost use Rattle.std.specs.Prelude.{◌≡◌, ◌<◌, ◌^◌, suc, false, IfOk, IfSome, Some, None, is_some, List, length, get_or, slice_get, [], ◌∷◌};
+ghost use Rattle.std.specs.Prelude.{◌≡◌, ◌<◌, ◌^◌, suc, true, false, IfOk, IfSome, Some, None, is_some, List, length, get_or, slice_get, [], ◌∷◌};
 ghost use Rattle.values.specs.declared.row.Row.{Row as Cells};
 ghost use Rattle.std.specs.Option.{option_map};
 ghost use Rattle.values.specs.Lent.{value_of};
@@ -188,6 +188,10 @@ impl<'a> RowView<'a> {
         // Else the value is that of the row before its modifies: of the stable row, where it is over one, whatever stands there.
         ensures kept { result ≡ false → (base : List Cells)
             → slice_get (row_over base self.now) col ≡ slice_get (source_over base self.now.source) col }
+
+        // And if so, it is the one that they give, in rows as wide.
+        ensures own { result ≡ true → (base other : List Cells) → length (row_over base self.now) ≡ length (row_over other self.now)
+            → slice_get (row_over base self.now) col ≡ slice_get (row_over other self.now) col }
     {
         self.modified_value(col).is_some()
     }

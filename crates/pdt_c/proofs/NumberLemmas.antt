@@ -2,7 +2,7 @@
 use Rattle.std.proofs.Common.{◌≡◌, ◌∙◌, ℕ, ◌+◌, ◌<◌, ◌≤◌, false, List, [], ◌∷◌, ◌++◌, append_assoc, length, take, drop, map, get_or, refl, sym, ap, subst, arith, inl, inr}
 use Rattle.std.specs.Prelude.{ℤ, min}
 use Rattle.std.proofs.lemmas.Bool.{cases_lt}
-use Rattle.std.proofs.lemmas.List.{append-nil, drop-take, length-append, length-drop, length-map, length-take, map-append, take-map, take_all}
+use Rattle.std.proofs.lemmas.List.{append-nil, drop-take, length-append, length-drop, length-map, length-take, take-map, take_all}
 use Rattle.values.specs.declared.row.Row.{Row}
 use Rattle.values.specs.declared.value.Value.{Value}
 use Rattle.values.specs.declared.value.Value.TheVariants.{Int, Bool as Truth}

@@ -1,12 +1,11 @@
 -- Bytes for the columns of a row, and spans of an image, one after the other.
 use Rattle.std.proofs.Common.{◌≡◌, ◌∙◌, ℕ, zero, suc, ◌+◌, ◌-◌, ◌<◌, ◌≤◌, List, [], ◌∷◌, ◌++◌, Some, length, take, drop, set, get_or, refl, sym, ap, subst, arith}
-use Rattle.std.proofs.Common.{length-take, length-drop, length-append}
-use Rattle.std.specs.Prelude.{min, slice_get, slice_set}
-use Rattle.std.proofs.lemmas.Option.{get_or_from_slice_get}
+use Rattle.std.proofs.Common.{length-take, length-drop}
+use Rattle.std.specs.Prelude.{slice_get, slice_set}
 use Rattle.values.specs.declared.row.Row.{Row}
 use Rattle.merge.specs.Image.{Stack, image_rows, stack_over}
 use Rattle.merge.specs.Placed.{PassesPlaced, Placed, placed_rows}
-use Rattle.merge.specs.Stretches.{IsStretch, IsStableStretch, stretch_over, stretch_rows}
+use Rattle.merge.specs.Stretches.{IsStretch, stretch_over, stretch_rows}
 use Rattle.merge.specs.View.{layer_cells, own_cells, row_over, source_over}
 use Rattle.model.specs.Effects.{Cells, set_cells}
 use Rattle.merge.specs.declared.stretch.Stretch.{Stretch}
@@ -22,26 +21,20 @@ use Rattle.pdt_c.specs.declared.calls.stretches.TheConstants.{CHANGED}
 
 -- ---- bytes
 
-pub put_byte : (xs : List ℕ) (i j b : ℕ) → (j < i → get_or xs j b ≡ b) → j < i + 1 → get_or (set xs i b) j b ≡ b
-put_byte [] i j b h lt = refl
-put_byte (x ∷ xs) zero zero b h lt = refl
-put_byte (x ∷ xs) zero (suc j) b h lt = absurd (omega (arith, lt))
-put_byte (x ∷ xs) (suc i) zero b h lt = h (omega arith)
-put_byte (x ∷ xs) (suc i) (suc j) b h lt = put_byte xs i j b (λ l. h (omega (arith, l))) (omega (arith, lt))
+-- what holds of the byte at a place, where one more is put
+pub put_byte : (P : ℕ → Type 0) (xs : List ℕ) (i j b d : ℕ) → P d → (j < i → P (get_or xs j d)) → (j ≡ i → P b) → j < i + 1
+    → P (get_or (set xs i b) j d)
+put_byte P [] i j b d past h own lt = past
+put_byte P (x ∷ xs) zero zero b d past h own lt = own refl
+put_byte P (x ∷ xs) zero (suc j) b d past h own lt = absurd (omega (arith, lt))
+put_byte P (x ∷ xs) (suc i) zero b d past h own lt = h (omega arith)
+put_byte P (x ∷ xs) (suc i) (suc j) b d past h own lt =
+    put_byte P xs i j b d past (λ l. h (omega (arith, l))) (λ e. own (ap suc e)) (omega (arith, lt))
 
 pub byte_past : (xs : List ℕ) (b : ℕ) → ((j : ℕ) → j < length xs → get_or xs j b ≡ b) → (j : ℕ) → get_or xs j b ≡ b
 byte_past [] b h j = refl
 byte_past (x ∷ xs) b h zero = h 0 (omega arith)
 byte_past (x ∷ xs) b h (suc j) = byte_past xs b (λ k l. h (suc k) (omega (arith, l))) j
-
-pub put_told : (P : ℕ → Type 0) (xs : List ℕ) (i b j : ℕ) → (j < i → get_or xs j 1 ≡ 0 → P j) → (b ≡ 0 → P i) → j < i + 1
-    → get_or (set xs i b) j 1 ≡ 0 → P j
-put_told P [] i b j h own lt z = absurd (omega (arith, z))
-put_told P (x ∷ xs) zero b zero h own lt z = own z
-put_told P (x ∷ xs) zero b (suc j) h own lt z = absurd (omega (arith, lt))
-put_told P (x ∷ xs) (suc i) b zero h own lt z = h (omega arith) z
-put_told P (x ∷ xs) (suc i) b (suc j) h own lt z =
-    put_told (λ k. P (suc k)) xs i b j (λ l e. h (omega (arith, l)) e) own (omega (arith, lt)) z
 
 -- ---- spans
 
@@ -94,6 +87,7 @@ module _ (old new : Placed) (stretch : Stretch) (p : PassesPlaced old stretch ne
       record {
         some = omega (arith, p.some, h.rows_are);
         stable = λ kind base same. there base same ∙ h.stable kind base;
+        known = h.known;
         one = h.one;
         changed = λ kind.
             let row = h.changed kind in (
@@ -129,6 +123,7 @@ changed_span view position sid over =
       position_is = refl;
       rows_are = refl;
       stable = λ kind. absurd (omega (arith, kind));
+      known = λ unstable unchanged. absurd (unchanged refl);
       one = λ kind. refl;
       changed = λ kind. (
         own_cells view,
@@ -172,13 +167,31 @@ told_stable stretch s is base row first col =
     ap (λ (r : Row). slice_get r col)
     (sym (taken_first s.len s.sid base row [] (subst (λ (x : Stretch). slice_get (stretch_over base x) 0 ≡ Some row) is first)))
 
-pub told_row : (stretch : Stretch) (view : RowView) → stretch ≡ One view → (sid : ℕ) (own : List ℕ) → TellsOwn view sid own
-    → (base : List Row) → (row : Row) → slice_get (stretch_over base stretch) 0 ≡ Some row → (col : ℕ) → get_or own col 1 ≡ 0
-    → slice_get row col ≡ slice_get (get_or base sid []) col
-told_row stretch view is sid own told base row first col none =
-    ap (λ (r : Row). slice_get r col)
-    (sym (one_first (row_over base view) row (subst (λ (x : Stretch). slice_get (stretch_over base x) 0 ≡ Some row) is first)))
-    ∙ told base col none
+-- a byte that is 0 everywhere isn't another
+pub first_stable : (stretch : Stretch) (s : StableStretch) → stretch ≡ Stable s → (bytes : List ℕ) → ((col : ℕ) → get_or bytes col 0 ≡ 0)
+    → TellsFirst stretch s.sid bytes
+first_stable stretch s is bytes none = record {
+  kept = λ base row first col unset. told_stable stretch s is base row first col;
+  own = λ base other row that first second wide col some. absurd (some (none col));
+}
+
+first_row : (stretch : Stretch) (view : RowView) → stretch ≡ One view → (base : List Row) (row : Row)
+    → slice_get (stretch_over base stretch) 0 ≡ Some row → row_over base view ≡ row
+first_row stretch view is base row first =
+    one_first (row_over base view) row (subst (λ (x : Stretch). slice_get (stretch_over base x) 0 ≡ Some row) is first)
+
+pub first_changed : (stretch : Stretch) (view : RowView) → stretch ≡ One view → (sid : ℕ) (bytes : List ℕ) → TellsOwn view sid bytes
+    → TellsFirst stretch sid bytes
+first_changed stretch view is sid bytes told = record {
+  kept = λ base row first col unset.
+      ap (λ (r : Row). slice_get r col) (sym (first_row stretch view is base row first)) ∙ told.kept base col unset;
+  own = λ base other row that first second wide col some.
+      let one = first_row stretch view is base row first in
+      let two = first_row stretch view is other that second in
+      ap (λ (r : Row). slice_get r col) (sym one)
+      ∙ told.own base other (ap length one ∙ wide ∙ sym (ap length two)) col some
+      ∙ ap (λ (r : Row). slice_get r col) two;
+}
 
 module _ (old new : Placed) (stretch : Stretch) (p : PassesPlaced old stretch new) where
   pub first_there : (base : List Row) → length base ≡ length old.stack.rows → (row : Row)
@@ -189,13 +202,16 @@ module _ (old new : Placed) (stretch : Stretch) (p : PassesPlaced old stretch ne
       (sym (stands_there old new stretch p base same) ∙ ap (take (length (stretch_rows stretch))) (drop-at rows old.rid row is))
       ∙ first_taken (length (stretch_rows stretch)) row (drop (old.rid + 1) rows) p.some
 
-  pub hands_own : (txn : Transaction) (rid sid : ℕ) (own : List ℕ) → image_rows old.stack ≡ rows_of (image_of txn) → old.rid ≡ rid
-      → TellsFirst stretch sid own → HandsOwn txn rid sid own
-  hands_own txn rid sid own image at told = record {
-    stack = old.stack;
-    image = image;
-    kept = λ base same row there.
-        told base row
-        (first_there base same row
-        (subst (λ n. slice_get (image_rows (stack_over base old.stack)) n ≡ Some row) (sym at) there));
-  }
+  pub hands_own : (txn : Transaction) (rid sid : ℕ) (bytes : List ℕ) → image_rows old.stack ≡ rows_of (image_of txn) → old.rid ≡ rid
+      → TellsFirst stretch sid bytes → HandsOwn txn rid sid bytes
+  hands_own txn rid sid bytes image at told =
+      let there = λ (base : List Row) (same : length base ≡ length old.stack.rows) (row : Row)
+      (is : slice_get (image_rows (stack_over base old.stack)) rid ≡ Some row).
+      first_there base same row (subst (λ n. slice_get (image_rows (stack_over base old.stack)) n ≡ Some row) (sym at) is) in
+      record {
+        stack = old.stack;
+        image = image;
+        kept = λ base same row is. told.kept base row (there base same row is);
+        own = λ some base other same alike row that is also.
+            told.own base other row that (there base same row is) (there other alike that also);
+      }

@@ -18,6 +18,7 @@ pub record IsSpan (stack : Stack) (span : Span) : Type 0 where
   pub some : 0 < span.rows
   pub stable : span.source ≡ STABLE → (base : List Row) → length base ≡ length stack.rows
       → take span.rows (drop span.position (image_rows (stack_over base stack))) ≡ take span.rows (drop span.sid base)
+  pub known : span.source ≢ STABLE → span.source ≢ CHANGED → span.source ≡ INSERTED
   pub one : span.source ≢ STABLE → span.rows ≡ 1
   pub changed : span.source ≡ CHANGED
       → (cells : Cells) × ((base : List Row) → length base ≡ length stack.rows
@@ -30,6 +31,7 @@ pub record IsSpanOf (stretch : Stretch) (rid : ℕ) (span : Span) : Type 0 where
   pub position_is : span.position ≡ rid
   pub rows_are : span.rows ≡ length (stretch_rows stretch)
   pub stable : span.source ≡ STABLE → (base : List Row) → stretch_over base stretch ≡ take span.rows (drop span.sid base)
+  pub known : span.source ≢ STABLE → span.source ≢ CHANGED → span.source ≡ INSERTED
   pub one : span.source ≢ STABLE → span.rows ≡ 1
   pub changed : span.source ≡ CHANGED
       → (cells : Cells) × ((base : List Row) → stretch_over base stretch ≡ set_cells cells (get_or base span.sid []) ∷ [])
@@ -49,21 +51,30 @@ pub record HandsSpans (txn : Transaction) (from to room count : ℕ) (spans : Li
   pub told : AreSpans stack (min from (length (image_of txn))) (take count spans) end
   pub all : count < room → min from (length (image_of txn)) ≤ min to (length (image_of txn)) → end ≡ min to (length (image_of txn))
 
--- a byte that is 0 says that the column's value is that of the stable row at a SID, whatever the stable rows are
-abbrev pub TellsOwn : RowView → ℕ → List ℕ → Type 0
-TellsOwn view sid own =
-    (base : List Row) → (col : ℕ) → get_or own col 1 ≡ 0 → slice_get (row_over base view) col ≡ slice_get (get_or base sid []) col
+-- bytes for the columns of a row: 0, that its value is that of the stable row at a SID, whatever the stable rows are; and else, that
+-- it is the same over all of them, of rows as wide
+pub record TellsOwn (view : RowView) (sid : ℕ) (bytes : List ℕ) : Type 0 where
+  pub kept : (base : List Row) → (col : ℕ) → get_or bytes col 1 ≡ 0
+      → slice_get (row_over base view) col ≡ slice_get (get_or base sid []) col
+  pub own : (base other : List Row) → length (row_over base view) ≡ length (row_over other view) → (col : ℕ) → get_or bytes col 0 ≢ 0
+      → slice_get (row_over base view) col ≡ slice_get (row_over other view) col
 
--- and that of the first row of a stretch
-abbrev pub TellsFirst : Stretch → ℕ → List ℕ → Type 0
-TellsFirst stretch sid own =
-    (base : List Row) → (row : Row) → slice_get (stretch_over base stretch) 0 ≡ Some row → (col : ℕ) → get_or own col 1 ≡ 0
-    → slice_get row col ≡ slice_get (get_or base sid []) col
+-- and so of the first row of a stretch
+pub record TellsFirst (stretch : Stretch) (sid : ℕ) (bytes : List ℕ) : Type 0 where
+  pub kept : (base : List Row) → (row : Row) → slice_get (stretch_over base stretch) 0 ≡ Some row → (col : ℕ) → get_or bytes col 1 ≡ 0
+      → slice_get row col ≡ slice_get (get_or base sid []) col
+  pub own : (base other : List Row) → (row that : Row) → slice_get (stretch_over base stretch) 0 ≡ Some row
+      → slice_get (stretch_over other stretch) 0 ≡ Some that → length row ≡ length that → (col : ℕ) → get_or bytes col 0 ≢ 0
+      → slice_get row col ≡ slice_get that col
 
--- a column whose byte is 0 has the value of the stable row at that SID, whatever the stable rows are
-pub record HandsOwn (txn : Transaction) (rid sid : ℕ) (own : List ℕ) : Type 0 where
+-- and so of a transaction's row at a position, where there is one
+pub record HandsOwn (txn : Transaction) (rid sid : ℕ) (bytes : List ℕ) : Type 0 where
   pub stack : Stack
   pub image : image_rows stack ≡ rows_of (image_of txn)
   pub kept : (base : List Row) → length base ≡ length stack.rows → (row : Row)
-      → slice_get (image_rows (stack_over base stack)) rid ≡ Some row → (col : ℕ) → get_or own col 1 ≡ 0
+      → slice_get (image_rows (stack_over base stack)) rid ≡ Some row → (col : ℕ) → get_or bytes col 1 ≡ 0
       → slice_get row col ≡ slice_get (get_or base sid []) col
+  pub own : rid < length (image_of txn) → (base other : List Row) → length base ≡ length stack.rows
+      → length other ≡ length stack.rows → (row that : Row) → slice_get (image_rows (stack_over base stack)) rid ≡ Some row
+      → slice_get (image_rows (stack_over other stack)) rid ≡ Some that → length row ≡ length that → (col : ℕ)
+      → get_or bytes col 0 ≢ 0 → slice_get row col ≡ slice_get that col

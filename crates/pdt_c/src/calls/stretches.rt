@@ -1,6 +1,6 @@
 //! What a transaction's image is made of: stable rows by their SIDs, and rows that layers change or insert. So an engine merges
 //! columns of its own, which stay with it, by position.
-ghost use Rattle.std.specs.Prelude.{◌≡◌, ℕ, false, IsSome, IfSome, length, get_or};
+ghost use Rattle.std.specs.Prelude.{◌≡◌, ◌≢◌, ℕ, true, false, IsSome, IfSome, length, get_or};
 ghost use Rattle.merge.specs.Stretches.{IsStretch};
 ghost use Rattle.pdt_c.specs.Spans.{HandsOwn, HandsSpans, IsSpanOf, TellsFirst, TellsOwn};
 
@@ -165,7 +165,8 @@ fn put_all(own: &mut [u8], byte: u8)
 
 /// 1 where it is so.
 fn byte_of(is: bool) -> u8
-    ensures { result ≡ 0 → is ≡ false }
+    ensures unset { result ≡ 0 → is ≡ false }
+    ensures set { result ≢ 0 → is ≡ true }
 {
     u8::from(is)
 }

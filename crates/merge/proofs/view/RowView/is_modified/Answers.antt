@@ -1,8 +1,8 @@
-use Rattle.std.proofs.Common.{◌≡◌, ◌∙◌, Bool, false, Option, Some, None, is_some, refl, sym, ap}
+use Rattle.std.proofs.Common.{◌≡◌, ◌∙◌, false, Option, Some, None, is_some, refl, sym, ap}
 use Rattle.std.specs.Option.{option_map}
 use Rattle.values.specs.Lent.{value_of}
 use Rattle.values.specs.declared.value.ValueRef.{ValueRef}
-use Rattle.merge.proofs.ModifiedLemmas.{kept_over}
+use Rattle.merge.proofs.ModifiedLemmas.{kept_over, own_over}
 use Rattle.merge.proofs.view.RowView.is_modified.Goals as goal
 
 is_some-mapped : (o : Option ValueRef) → is_some o ≡ is_some (option_map value_of o)
@@ -20,3 +20,6 @@ pub returns-clause-kept : goal.returns-clause-kept
 returns-clause-kept c = λ none.
     kept_over c.args.self.now c.args.col
     (sym c.modified_value.ensures ∙ none_mapped c.modified_value.result (sym c.is_some.ensures ∙ none))
+
+pub returns-clause-own : goal.returns-clause-own
+returns-clause-own c = λ so. own_over c.args.self.now c.args.col (sym (returns-clause-is c) ∙ so)

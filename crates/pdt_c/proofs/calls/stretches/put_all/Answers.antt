@@ -1,4 +1,4 @@
-use Rattle.std.proofs.Common.{◌∙◌, arith}
+use Rattle.std.proofs.Common.{◌≡◌, ◌∙◌, refl, arith}
 use Rattle.std.proofs.lemmas.List.{length-set}
 use Rattle.pdt_c.proofs.SpanLemmas.{byte_past, put_byte}
 use Rattle.pdt_c.proofs.calls.stretches.put_all.Goals as goal
@@ -9,7 +9,7 @@ loop-col-preserved c =
     let col = c.loop-col.col in
     let byte = c.args.byte in (
       length-set out col byte ∙ c.loop-col.invariant.0,
-      λ j lt. put_byte out col j byte (c.loop-col.invariant.1 j) lt,
+      λ j lt. put_byte (λ b. b ≡ byte) out col j byte byte refl (c.loop-col.invariant.1 j) (λ e. refl) lt,
     )
 
 pub returns : goal.returns
