@@ -13,6 +13,7 @@ ghost use Rattle.merge.specs.Image.{AreStacked, IsLayer};
 mod columns;
 mod drawn;
 mod numbers;
+mod placed;
 
 use crate::assertions::{assert_holds, assert_text, assert_text_at};
 use crate::shown::{row_text, rows_text};
