@@ -494,6 +494,29 @@ static void keeps_the_last(void) {
   closed(database);
 }
 
+static int descriptors(void) {
+  DIR *dir = opendir("/proc/self/fd");
+  if (!dir) return -1;
+  int count = 0;
+  while (readdir(dir)) count++;
+  closedir(dir);
+  return count;
+}
+
+/* Two images of one round have the journal's next file once. */
+static void turns_over_once(void) {
+  int before = descriptors();
+  options.checkpoint_entries = 1;
+  pdt_database *database = opened("turns");
+  pdt_store *one = created(database, "one"), *two = created(database, "two");
+  committed(one, 10, 5), committed(two, 20, 6);
+  is("upkeep", PDT_OK, pdt_upkeep(database));
+  is("both at once", 2, (long long)counted(database).images);
+  closed(database);
+  options.checkpoint_entries = 0;
+  is("files are closed", before, descriptors());
+}
+
 /* What a crash has left, whichever of its files, is taken away. */
 static void tidies(void) {
   pdt_database *database = opened("tidies");
@@ -935,6 +958,7 @@ static void drops(void) {
 int main(int argc, char **argv) {
   if (argc < 2) return 2;
   room = argv[1];
+  int before = descriptors();
   lasts();
   refuses();
   works();
@@ -947,6 +971,7 @@ int main(int argc, char **argv) {
   takes_no_signal();
   keeps_no_idle();
   keeps_the_last();
+  turns_over_once();
   tidies();
   starts_over();
   keeps_options();
@@ -960,5 +985,6 @@ int main(int argc, char **argv) {
   threads(PDT_SYNC_OFF, true);
   drops();
   is("some copies are opened", 1, copied > 0);
+  is("no file is left open", before, descriptors());
   return failures ? 1 : 0;
 }
