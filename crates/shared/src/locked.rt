@@ -46,6 +46,17 @@ pub struct Locked<O: Opening, S: ImageStore> {
     publisher: Publisher<O>,
 }
 
+/// What lay under the lock, once readers find nothing any more.
+pub struct Unlocked<O: Opening, S: ImageStore> {
+    pub(crate) manager: Manager,
+    pub(crate) store: S,
+    pub(crate) book: Book<O>,
+    /// A share with no part.
+    pub(crate) rest: Share<O>,
+    /// All that was published.
+    pub(crate) list: SeenList,
+}
+
 impl<O: Opening, S: ImageStore> Model for Locked<O, S> {
     ghost use Rattle.std.specs.Prelude.{◌≡◌, ◌+◌};
     ghost use Rattle.publishing.specs.Lists.{IsListed};
@@ -253,18 +264,17 @@ impl<O: Opening, S: ImageStore> Locked<O, S> {
         exchange(held, store, manager.version().schema())
     }
 
-    /// The manager with its store, the book and the share with no part, and the whole list. Readers find nothing from now
-    /// on.
-    pub fn close<R: Wait>(self, rt: &R) -> (Manager, S, Book<O>, Share<O>, SeenList)
-        ensures manager { result.0 ≡ self.manager }
-        ensures lawful { IsManaged result.0 }
-        ensures listed { IsListed O.opened.manager self.list result.0 }
-        ensures list { (result.4.list ≡ self.list) × (result.4.opening ≡ O.opened) }
-        ensures store { S.columns result.1 ≡ result.0.schema }
-        ensures next { S.next result.1 ≡ self.next }
-        ensures book { result.0.made ≡ O.opened.manager.made + result.2.total }
-        ensures goes_on { GoesOn O.opened.manager result.0 }
-        ensures rest { (result.3.parts ≡ 0) × (result.3.amount ≡ 0) }
+    /// All that it has. Readers find nothing from now on.
+    pub fn close<R: Wait>(self, rt: &R) -> Unlocked<O, S>
+        ensures manager { result.manager ≡ self.manager }
+        ensures lawful { IsManaged result.manager }
+        ensures listed { IsListed O.opened.manager self.list result.manager }
+        ensures list { (result.list.list ≡ self.list) × (result.list.opening ≡ O.opened) }
+        ensures store { S.columns result.store ≡ result.manager.schema }
+        ensures next { S.next result.store ≡ self.next }
+        ensures book { result.manager.made ≡ O.opened.manager.made + result.book.total }
+        ensures goes_on { GoesOn O.opened.manager result.manager }
+        ensures rest { (result.rest.parts ≡ 0) × (result.rest.amount ≡ 0) }
     {
         let Locked {
             manager,
@@ -275,6 +285,12 @@ impl<O: Opening, S: ImageStore> Locked<O, S> {
         } = self;
         kept(&manager);
         let list = publisher.close(rt);
-        (manager, store, book, rest, list)
+        Unlocked {
+            manager,
+            store,
+            book,
+            rest,
+            list,
+        }
     }
 }

@@ -38,6 +38,16 @@ pub struct Session<O: Opening> {
     alloc: Global,
 }
 
+/// What is left of a session that has ended.
+pub(crate) struct EndedSession<O: Opening> {
+    /// How many commit replies it got.
+    pub(crate) count: u64,
+    /// The share that stands for it, with the count for its amount.
+    pub(crate) share: Share<O>,
+    /// The list that it saw.
+    pub(crate) seen: SeenList,
+}
+
 impl<O: Opening> Model for Session<O> {
     ghost use Rattle.std.specs.Prelude.{◌≡◌, ◌≤◌, IfSome};
     ghost use Rattle.left_right.specs.Sides.{view as sight};
@@ -245,10 +255,10 @@ impl<O: Opening> Session<O> {
         }
     }
 
-    /// The count with the share that stands for it, and what was seen. An open transaction is aborted.
-    pub(crate) fn into_parts(self) -> (u64, Share<O>, SeenList)
-        ensures share { (result.0 ≡ self.count) × (result.1.parts ≡ 1) × (result.1.amount ≡ self.count) }
-        ensures list { (result.2.list ≡ self.seen) × (result.2.opening ≡ O.opened) }
+    /// What is left of it. An open transaction is aborted.
+    pub(crate) fn end(self) -> EndedSession<O>
+        ensures share { (result.count ≡ self.count) × (result.share.parts ≡ 1) × (result.share.amount ≡ self.count) }
+        ensures list { (result.seen.list ≡ self.seen) × (result.seen.opening ≡ O.opened) }
     {
         let Self {
             client: _,
@@ -264,6 +274,10 @@ impl<O: Opening> Session<O> {
         if let Some(txn) = txn {
             txn.abort();
         }
-        (count, share, list)
+        EndedSession {
+            count,
+            share,
+            seen: list,
+        }
     }
 }

@@ -15,9 +15,9 @@ ghost use Rattle.shared.specs.declared.fault.ShareFault.TheVariants as share_fau
 
 use crate::fault::{CommitFault, ShareFault};
 use crate::laws::kept;
-use crate::locked::Locked;
+use crate::locked::{Locked, Unlocked};
 use crate::publisher::{Publisher, VersionWriter};
-use crate::session::Session;
+use crate::session::{EndedSession, Session};
 use crate::store::ImageStore;
 use manager::{CheckpointFault, History, Manager};
 use model::CommitReply;
@@ -324,9 +324,15 @@ impl<O: Opening, S: ImageStore> Shared<O, S> {
         ensures store { S.columns result.store ≡ result.manager.schema }
     {
         let Shared { state, mut counts } = self;
-        let (manager, store, mut book, mut all, list) = state.into_inner().close(wait);
+        let Unlocked {
+            manager,
+            store,
+            mut book,
+            rest: mut all,
+            list,
+        } = state.into_inner().close(wait);
         for session in sessions {
-            let (count, share, seen) = session.into_parts();
+            let EndedSession { count, share, seen } = session.end();
             let _both = seen.longer(&list);
             all.merge(share);
             counts.push_reserved(count);

@@ -16,10 +16,10 @@ use Rattle.shared.proofs.shared.Shared.close.Goals as goal
 
 pub loop-session-preserved : goal.loop-session-preserved
 loop-session-preserved g c =
-    let list = c.close-manager.result.4.list in
+    let list = c.close-manager.result.list.list in
     let s = c.in-Some.session in
     let both = c.longer-both.result.list in
-    let seen = subst (λ (l : List Item). IsPrefix l both) c.into_parts-count.ensures.list.0 c.longer-both.ensures.this in
+    let seen = subst (λ (l : List Item). IsPrefix l both) c.end-count.ensures.list.0 c.longer-both.ensures.this in
     record {
       can = search rules;
       finite = search rules;
@@ -40,10 +40,10 @@ returns-clause-closed g c =
     c.loop-session.yielded_by _ c.next.new.self c.in-None.is
     c.next.ensures.steps).0 in
     let e = c.close-manager.ensures in
-    let list = c.close-manager.result.4.list in
+    let list = c.close-manager.result.list.list in
     record {
       list = list;
-      listed = subst (λ (l : List Item). IsListed g.O.Opening.opened.manager l c.close-manager.result.0) (sym e.list.0) e.listed;
+      listed = subst (λ (l : List Item). IsListed g.O.Opening.opened.manager l c.close-manager.result.manager) (sym e.list.0) e.listed;
       seen = subst (All (λ (s : Seat). AreOfOneList s.seen list)) all c.loop-session.invariant.seen;
       goes_on = e.goes_on;
     }
@@ -57,11 +57,11 @@ returns-clause-lists g c =
     c.next.ensures.steps).0 in
     let o = g.O.Opening.opened.manager in
     let e = c.close-manager.ensures in
-    let m = c.close-manager.result.0 in
-    let list = c.close-manager.result.4.list in
+    let m = c.close-manager.result.manager in
+    let list = c.close-manager.result.list.list in
     let listed = subst (λ (l : List Item). IsListed o l m) (sym e.list.0) e.listed in
     all_are_beginnings o list m listed c.args.sessions.items
     (subst (All (λ (s : Seat). AreOfOneList s.seen list)) all c.loop-session.invariant.seen)
 
 pub returns-clause-handed : goal.returns-clause-handed
-returns-clause-handed g c = goes_on-made g.O.Opening.opened.manager c.close-manager.result.0 c.close-manager.ensures.goes_on
+returns-clause-handed g c = goes_on-made g.O.Opening.opened.manager c.close-manager.result.manager c.close-manager.ensures.goes_on
