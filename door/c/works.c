@@ -209,11 +209,11 @@ static int take_versions(pdt_work *work, pdt_store **hidden) {
   return PDT_OK;
 }
 
-/* Has a version shared again: a transaction that begins does so. The store is open no longer. */
+/* Has a version shared again: a transaction that begins does so, which is none of the caller's. The store is open no longer. */
 static int share_again(pdt_store *store) {
-  pdt_txn *txn = NULL;
-  int code = pdt_begin(store, &txn);
-  pdt_abort(txn);
+  pdt_txn txn = {.store = store};
+  int code = pdti_begin_newest(store, &txn);
+  if (!code) pdtr_abort(&txn.raw);
   store->open--;
   return code;
 }

@@ -72,6 +72,9 @@ static int run(const char *folder) {
     if (commit(database, a, b, n)) return 1;
     if (n % 3 == 0) CALL(pdt_upkeep(database));
   }
+  pdt_counts counts = {.size = sizeof counts};
+  CALL(pdt_count(a, &counts)); /* none of what the library begins to share a version again that was refused before */
+  if (counts.begins != 3 * COMMITS) return fprintf(stderr, "%llu transactions have begun\n", (unsigned long long)counts.begins), 1;
   CALL(pdt_changes(a, 2 * COMMITS, &layer));
   if (pdt_layer_size(layer) != 1) return fprintf(stderr, "%zu changes\n", pdt_layer_size(layer)), 1;
   pdt_layer_close(layer);
