@@ -291,8 +291,8 @@ void pdt_checkpoint_end(pdt_snapshot *snapshot);
    lock once, and shares it again. */
 pdt_code pdt_begin(pdt_store *store, pdt_txn **txn);
 
-/* The number of the table that a transaction sees: how many commits made it, and of a database the number of the last one of them.
-   PDT_MISUSE. */
+/* The number of the table that a transaction sees: how many commits made it. Of a database it is the number of the last one of them; where
+   none has come since the table was made or the folder was opened, that which the newest commit of the database had then. PDT_MISUSE. */
 pdt_code pdt_begun(pdt_txn *txn, uint64_t *commits);
 
 /* Ends a transaction and leaves no record of it, also one whose commit this thread has prepared. One that another thread has
@@ -332,8 +332,9 @@ void pdt_unpin(pdt_pinned *pin);
    changed. PDT_CONFLICT, PDT_TOO_OLD, PDT_FULL, PDT_NOMEM: as of pdt_commit. PDT_MISUSE.
    From PDT_OK on the store's lock is kept: other threads' calls on the store wait, and their commits; begins and pins don't, and are
    of the newest table as it was. This thread's are PDT_MISUSE but for begins and pins, the ends of transactions that change nothing,
-   pdt_size, pdt_count, pdt_wait, pdt_abort and pdt_checkpoint_end, and so are writes and marks of the transaction; reads of
-   transactions are not. Over a table of a database the end of a transaction that changes nothing is PDT_MISUSE too while what it saw
+   pdt_size, pdt_count, pdt_wait, pdt_abort, pdt_checkpoint_read, pdt_checkpoint_write and pdt_checkpoint_end, and so are writes and marks
+   of the transaction; reads of transactions are not. (Of a database pdt_checkpoint_write is PDT_MISUSE until the device has the table's
+   commits.) Over a table of a database the end of a transaction that changes nothing is PDT_MISUSE too while what it saw
    isn't as safe as enum pdt_sync says, but by pdt_abort: it stays open then.
    Of a transaction that changes nothing no lock is kept: pdt_install ends it, and it takes no number. */
 pdt_code pdt_prepare(pdt_txn *txn, uint64_t *commits);
@@ -446,8 +447,8 @@ typedef struct pdt_stretch {
 /* What the rows between two positions are made of, in order: up to *count stretches. *count says how many came. Read over the rows
    of the stable table they are those rows, and so they are over any other rows that are as many: an engine reads columns of its own
    by the SIDs, and the cells that a changed row has of its own from the library. PDT_MISUSE.
-   The stable table is that of the last checkpoint, made or installed, before the transaction began, or else that of the opening.
-   No key is read. */
+   The stable table is that of the last checkpoint, made or installed, before the transaction began, or before the pin was made or the
+   checkpoint begun that it began at; or else that of the opening. No key is read. */
 pdt_code pdt_stretches(pdt_txn *txn, uint64_t from, uint64_t to, pdt_stretch *stretches, size_t *count);
 
 /* Which columns of the row at a position are its own: a byte for each of the first so many, 0 where the cell is that of the stable
@@ -482,9 +483,9 @@ pdt_code pdt_layers(pdt_store *store, pdt_layer **read, pdt_layer **write);
 pdt_code pdt_own_layer(pdt_txn *txn, pdt_layer **layer);
 
 /* What the commit of a number changed: its entries over the table of the number before, whose image under them is the table of this
-   number. PDT_MISSING where it isn't one of the last pdt_options.recent commits, or came before the last cut: *layer is null then, as
-   after PDT_NOMEM and PDT_MISUSE. Of a database's commit that changed other tables there are no entries. Takes memory for each
-   entry, and copies no row; commits wait for it. */
+   number. PDT_MISSING where it isn't one of the last pdt_options.recent commits, or came before the last cut or the opening: *layer is
+   null then, as after PDT_NOMEM and PDT_MISUSE. Of a database's commit that changed other tables there are no entries. Takes memory for
+   each entry, and copies no row; commits wait for it. */
 pdt_code pdt_changes(pdt_store *store, uint64_t number, pdt_layer **layer);
 
 /* Waits until the newest table has a number above this one, for so many milliseconds at most. *commits, if not null, is its number.
