@@ -2,6 +2,7 @@
 use Rattle.std.proofs.Common.{ℕ, ◌≤◌, List, [], ◌∷◌, ◌++◌, length, sym, subst}
 use Rattle.std.specs.List.{All}
 use Rattle.std.proofs.lemmas.List.Elements.{All-nil, All-cons, All-head, All-tail}
+use Rattle.counted.specs.declared.node.TheConstants.{MAX_WIDTH}
 use Rattle.counted.specs.declared.node.Child.{Child}
 use Rattle.counted.specs.Shapes.{IsChild, AreChildren, depth_of}
 use Rattle.counted.proofs.Places.{depth_all}
@@ -23,5 +24,5 @@ level_of depth children each some =
     let P : ℕ → Type 0 = λ n. All (IsChild n) children in
     subst P (sym (depth_all depth children each some)) each
 
-pub group_of : (depth : ℕ) (group : List Child) → All (IsChild depth) group → 1 ≤ length group → length group ≤ 16 → AreChildren group
+pub group_of : (depth : ℕ) (group : List Child) → All (IsChild depth) group → 1 ≤ length group → length group ≤ MAX_WIDTH → AreChildren group
 group_of depth group each some room = record { some = some; room = room; each = level_of depth group each some }

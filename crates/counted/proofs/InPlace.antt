@@ -7,6 +7,7 @@ use Rattle.std.proofs.lemmas.List.{drop_more, drop-set, take-set, take-append-dr
 use Rattle.std.specs.List.{All}
 use Rattle.std.proofs.lemmas.List.Elements.{All-set}
 use Rattle.model.specs.declared.entry.Entry.{Entry}
+use Rattle.counted.specs.declared.node.TheConstants.{MAX_WIDTH, MIN_WIDTH}
 use Rattle.counted.specs.declared.node.Body.{Body}
 use Rattle.counted.specs.declared.node.Body.TheVariants.{Leaf, Inner}
 use Rattle.counted.specs.declared.node.Child.{Child}
@@ -93,20 +94,20 @@ leaf_edit at gone least put old new (Err back) enough ok err = record {
 -- ---- in a child
 
 -- a node that is at least half full
-pub sized_law : (b : Body) (v : View) → view_of b ≡ v → IsBalanced b → 8 ≤ v.width → IsSized v
+pub sized_law : (b : Body) (v : View) → view_of b ≡ v → IsBalanced b → MIN_WIDTH ≤ v.width → IsSized v
 sized_law (Leaf entries) v is h full =
-    let P : View → Type 0 = λ w. 8 ≤ w.width → IsSized w in
+    let P : View → Type 0 = λ w. MIN_WIDTH ≤ w.width → IsSized w in
     let most = most_law (Leaf entries) (view_of (Leaf entries)) refl h in
     subst P is (λ wide. record { many = wide; most = most; deep = omega arith }) full
 sized_law (Inner children) v is h full =
-    let P : View → Type 0 = λ w. 8 ≤ w.width → IsSized w in
+    let P : View → Type 0 = λ w. MIN_WIDTH ≤ w.width → IsSized w in
     let most = most_below children.items h in
     subst P is (λ wide. record { many = many_below children.items h wide; most = most; deep = omega arith }) full
 
 -- a child whose node was edited, and what is kept of it with it
 pub child_edit : (depth at gone : ℕ) (put : Option Entry) (added : ℤ) (c x : Child) → IsChild depth c → at + gone ≤ length (items_of c)
     → IsEdit at gone put (items_of c) (items_of x) added
-    → x.node.value.depth ≡ c.node.value.depth → 8 ≤ x.node.value.width → IsSized x.node.value
+    → x.node.value.depth ≡ c.node.value.depth → MIN_WIDTH ≤ x.node.value.width → IsSized x.node.value
     → ((e : Entry) → slice_get (items_of x) 0 ≡ Some e → x.head ≡ head_of e)
     → x.count + gone ≡ c.count + length (put_items put) → x.net ≡ c.net +ℤ added → IsChild depth x
 child_edit depth at gone put added c x h within edit level full sized first count net =
@@ -118,8 +119,8 @@ child_edit depth at gone put added c x h within edit level full sized first coun
       level = same;
       full = full;
       deep = h.deep;
-      many = let P : ℕ → Type 0 = λ d. 8 ^ d ≤ length (items_of x) in subst P same sized.many;
-      most = let P : ℕ → Type 0 = λ d. length (items_of x) ≤ 16 ^ d in subst P same sized.most;
+      many = let P : ℕ → Type 0 = λ d. MIN_WIDTH ^ d ≤ length (items_of x) in subst P same sized.many;
+      most = let P : ℕ → Type 0 = λ d. length (items_of x) ≤ MAX_WIDTH ^ d in subst P same sized.most;
       count = omega (arith, h.count);
       net = omega (arith, ints, h.net);
       head = first;
@@ -263,7 +264,7 @@ copied_children children source new v h is same items count each =
 
 pub leaf_split : (children new : List Child) (i at gone : ℕ) (put : Option Entry) (e : Entry) (entries : List Entry) (c : Child) (added : ℤ)
     → AreChildren children → i < length children → put ≡ Some e → items_of (get_or children i c) ≡ entries
-    → (get_or children i c).node.value.depth ≡ 1 → gone ≡ 0 → length children ≤ 15 → added ≡ weight_of e.change
+    → (get_or children i c).node.value.depth ≡ 1 → gone ≡ 0 → length children < MAX_WIDTH → added ≡ weight_of e.change
     → all_items new ≡ all_items (take i children) ++ edited at 0 (e ∷ []) entries ++ all_items (drop (i + 1) children)
     → length new ≤ length children + 1 → length children ≤ length new → All (IsChild 1) new → IsSplit children i at gone put new added
 leaf_split children new i at gone put e entries c added h lt put_is items_is leaf none room net items more wide all =

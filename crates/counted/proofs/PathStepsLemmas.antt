@@ -7,6 +7,7 @@ use Rattle.std.proofs.lemmas.List.{append-nil}
 use Rattle.model.specs.declared.entry.Entry.{Entry}
 use Rattle.counted.specs.declared.node.Child.{Child}
 use Rattle.counted.specs.declared.node.grown.Grown.{Grown}
+use Rattle.counted.specs.declared.node.TheConstants.{MIN_WIDTH}
 use Rattle.counted.specs.declared.node.path.Path.{Path}
 use Rattle.counted.specs.declared.node.path.Step.{Step}
 use Rattle.counted.specs.Edits.{edited}
@@ -16,7 +17,8 @@ use Rattle.counted.specs.Shapes.{AreChildren, IsChild, all_items, depth_of, item
 use Rattle.counted.specs.Trees.{IsDepth, IsRoot}
 use Rattle.counted.specs.Views.{View}
 use Rattle.counted.proofs.Places.{AtInner, AtLeaf, deep_children, depth_all, edited-between, grown_is, grown_same, items_from}
-use Rattle.counted.proofs.Places.{power_suc, split_items}
+use Rattle.std.proofs.Math.Nat.{pow-succ'}
+use Rattle.counted.proofs.Places.{split_items}
 
 -- ---- one step more
 
@@ -49,11 +51,11 @@ around-length steps inner =
 -- how wide a node that the steps lead to is at least, where the first one is so wide
 abbrev width_at : ℕ → List Step → ℕ
 width_at least [] = least
-width_at least (s ∷ steps) = 8
+width_at least (s ∷ steps) = MIN_WIDTH
 
-eight : (steps : List Step) → width_at 8 steps ≡ 8
-eight [] = refl
-eight (s ∷ steps) = refl
+width-at_least : (steps : List Step) → width_at MIN_WIDTH steps ≡ MIN_WIDTH
+width-at_least [] = refl
+width-at_least (s ∷ steps) = refl
 
 longer : (depth : ℕ) (steps : List Step) (s : Step) → suc depth + length steps ≡ depth + length (steps ++ s ∷ [])
 longer depth steps s = omega (arith, length-append steps (s ∷ []))
@@ -63,7 +65,7 @@ steps-push : (depth least : ℕ) (steps : List Step) (s : Step) → AreSteps (su
 steps-push depth least [] s h is = let e : depth ≡ depth + 0 = omega arith in (subst (λ n. IsStep n least s) e is, tt)
 steps-push depth least (x ∷ steps) s h is = (
   subst (λ n. IsStep n least x) (longer depth steps s) h.0,
-  steps-push depth 8 steps s h.1 (subst (λ n. IsStep depth n s) (sym (eight steps)) is),
+  steps-push depth MIN_WIDTH steps s h.1 (subst (λ n. IsStep depth n s) (sym (width-at_least steps)) is),
 )
 
 -- what is known of the last step, and of those before it
@@ -75,9 +77,9 @@ steps-pop : (depth least : ℕ) (steps : List Step) (s : Step) → AreSteps dept
 steps-pop depth least [] s h =
     let e : depth + 0 ≡ depth = omega arith in record { last = subst (λ n. IsStep n least s) e h.0; rest = tt }
 steps-pop depth least (x ∷ steps) s h =
-    let more = steps-pop depth 8 steps s h.1 in
+    let more = steps-pop depth MIN_WIDTH steps s h.1 in
     record {
-      last = subst (λ n. IsStep depth n s) (eight steps) more.last;
+      last = subst (λ n. IsStep depth n s) (width-at_least steps) more.last;
       rest = (subst (λ n. IsStep n least x) (sym (longer depth steps s)) h.0, more.rest);
     }
 
@@ -87,19 +89,19 @@ steps-pop depth least (x ∷ steps) s h =
 pub record IsAlong (v : View) (whole : ℕ) (node : View) (end : ℕ) (steps : List Step) : Type 0 where
   pub levels : AreSteps node.depth 2 steps
   pub root : IsRoot node
-  pub full : 1 ≤ length steps → 8 ≤ node.width
+  pub full : 1 ≤ length steps → MIN_WIDTH ≤ node.width
   pub within : end ≤ length node.items
   pub index : end + length (before steps) ≡ whole
   pub some : 1 ≤ whole → 1 ≤ end
   pub items : around steps node.items ≡ v.items
   pub room : length steps + node.depth ≤ 21
 
-power_from : (m n : ℕ) → 8 ^ m ≤ 8 ^ (n + m)
-power_from m zero = let e = ap (λ k. 8 ^ k) (let f : 0 + m ≡ m = omega arith in f) in omega arith
+power_from : (m n : ℕ) → MIN_WIDTH ^ m ≤ MIN_WIDTH ^ (n + m)
+power_from m zero = let e = ap (λ k. MIN_WIDTH ^ k) (let f : 0 + m ≡ m = omega arith in f) in omega arith
 power_from m (suc n) =
     let rest = power_from m n in
-    let more = power_suc (n + m) in
-    let e = ap (λ k. 8 ^ k) (let f : suc n + m ≡ suc (n + m) = omega arith in f) in
+    let more = pow-succ' MIN_WIDTH (n + m) in
+    let e = ap (λ k. MIN_WIDTH ^ k) (let f : suc n + m ≡ suc (n + m) = omega arith in f) in
     omega arith
 
 depth_few : (d n : ℕ) → IsDepth d n → n < 2 ^ 61 → d ≤ 21
@@ -108,7 +110,7 @@ depth_few d n is few =
       | inl lt ↦ omega arith
       | inr le ↦
           let least = power_from 21 (d - 22) in
-          let e = ap (λ k. 8 ^ k) (let f : (d - 22) + 21 ≡ d - 1 = omega arith in f) in
+          let e = ap (λ k. MIN_WIDTH ^ k) (let f : (d - 22) + 21 ≡ d - 1 = omega arith in f) in
           let h = is.many (omega arith) in
           absurd (omega arith)
     ]
@@ -132,7 +134,7 @@ pub along_few : (v node : View) (whole end : ℕ) (steps : List Step) → IsAlon
 along_few v node whole end steps h = omega (arith, ap length h.items, around-length steps node.items)
 
 -- a node that is gone on from is as wide as it has to be
-wide_here : (steps : List Step) (node : View) → IsRoot node → 2 ≤ node.depth → (1 ≤ length steps → 8 ≤ node.width)
+wide_here : (steps : List Step) (node : View) → IsRoot node → 2 ≤ node.depth → (1 ≤ length steps → MIN_WIDTH ≤ node.width)
     → width_at 2 steps ≤ node.width
 wide_here [] node root deep full = root deep
 wide_here (s ∷ steps) node root deep full = full (omega arith)
@@ -155,7 +157,7 @@ goes_down v node w children whole end rest steps new s d h few at same lt past f
     let here : w.items ≡ items_of c = ap (λ (x : View). x.items) is in
     let long = ap length here in
     let deep : w.depth ≡ depth_of children = ap (λ (x : View). x.depth) is ∙ child.level in
-    let wide : 8 ≤ w.width = let e = ap (λ (x : View). x.width) is in omega (arith, child.full) in
+    let wide : MIN_WIDTH ≤ w.width = let e = ap (λ (x : View). x.width) is in omega (arith, child.full) in
     let split : front ++ w.items ++ back ≡ node.items = ap (λ es. front ++ es ++ back) here ∙ append_assoc front (items_of c) back
     ∙ sym (split_items i children ∙ ap (λ es. front ++ es) (items_from children i d lt)) ∙ sym at.items in
     let last : IsStep (depth_of children) (width_at 2 steps) s = record {
@@ -227,16 +229,16 @@ pub record IsUp (s : Step) (g : Grown) : Type 0 where
   pub children : AreChildren s.children.now
   pub index : s.index < length s.children.now
   pub two : 2 ≤ length s.children.now
-  pub grown : IsGrown (depth_of s.children.now) 7 (grown_items g) g
+  pub grown : IsGrown (depth_of s.children.now) (MIN_WIDTH - 1) (grown_items g) g
   pub few : length (all_items s.children.now) + length (grown_items g) < 2 ^ 62
 
 two_at : (steps : List Step) → 2 ≤ width_at 2 steps
 two_at [] = omega arith
 two_at (s ∷ steps) = omega arith
 
-seven : (steps : List Step) (s : Step) → least_width (steps ++ s ∷ []) ≡ 7
-seven [] s = refl
-seven (x ∷ steps) s = refl
+least_width-push : (steps : List Step) (s : Step) → least_width (steps ++ s ∷ []) ≡ MIN_WIDTH - 1
+least_width-push [] s = refl
+least_width-push (x ∷ steps) s = refl
 
 -- a node may lose one of what it holds
 less_by_one : (steps : List Step) → least_width steps + 1 ≤ width_at 2 steps
@@ -252,7 +254,7 @@ popped all leaf left rest g s split few h =
       children = last.children;
       index = last.index;
       two = omega (arith, last.wide, two_at rest);
-      grown = grown_same depth _ _ 7 _ _ g (sym last.level) (omega (arith, ap least_width split, seven rest s)) refl h.grown;
+      grown = grown_same depth _ _ (MIN_WIDTH - 1) _ _ g (sym last.level) (omega (arith, ap least_width split, least_width-push rest s)) refl h.grown;
       few = omega (arith, last.few, ap length h.items, around-length left (grown_items g));
     }
 

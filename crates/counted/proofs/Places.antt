@@ -7,12 +7,13 @@ use Rattle.std.specs.Prelude.{Result, Ok, Err, IfOk, Some, slice_get}
 use Rattle.std.specs.declared.alloc.AllocError.{AllocError}
 use Rattle.std.proofs.lemmas.Int.{ints}
 use Rattle.std.proofs.lemmas.List.{append-nil, take_more, drop_more, take-append-drop}
-use Rattle.std.proofs.Math.Nat.{mul-le-mul_right}
+use Rattle.std.proofs.Math.Nat.{mul-le-mul_right, pow-succ'}
 use Rattle.std.proofs.lemmas.List.Concat.{flat_map-append}
 use Rattle.model.specs.declared.entry.Entry.{Entry}
 use Rattle.counted.specs.Edits.{edited}
 use Rattle.counted.specs.declared.entry.Head.{Head}
 use Rattle.counted.specs.Heads.{head_of}
+use Rattle.counted.specs.declared.node.TheConstants.{MAX_WIDTH, MIN_WIDTH}
 use Rattle.counted.specs.declared.node.Child.{Child}
 use Rattle.counted.specs.Sums.{total}
 use Rattle.counted.specs.Shapes.{items_of, all_items, depth_of, view_of, IsChild, AreChildren, IsBalanced}
@@ -27,25 +28,16 @@ use Rattle.counted.specs.declared.node.Body.{Body}
 use Rattle.counted.specs.declared.node.Body.TheVariants.{Leaf, Inner}
 use Rattle.counted.proofs.Totals.{IsWithin, first_sid, total_within, total-append}
 
-pub power_some : (d : ℕ) → 1 ≤ 8 ^ d
+pub power_some : (d : ℕ) → 1 ≤ MIN_WIDTH ^ d
 power_some zero = omega arith
 power_some (suc d) = let h = power_some d in grind arith
 
-pub power_suc : (d : ℕ) → 8 ^ suc d ≡ 8 * 8 ^ d
-power_suc d = grind arith
-
 -- from a bound on a product to one on a smaller product
-many_by : (p n a b : ℕ) → a ≡ 8 * p → 8 ≤ n → n * p ≤ b → a ≤ b
-many_by p n a b e full le = let m = mul-le-mul_right p full in omega arith
+many_by : (m p n b : ℕ) → m ≤ n → n * p ≤ b → m * p ≤ b
+many_by m p n b full le = let more = mul-le-mul_right p full in omega arith
 
-power_suc_16 : (d : ℕ) → 16 ^ suc d ≡ 16 * 16 ^ d
-power_suc_16 d = grind arith
-
-most_by : (p n a b : ℕ) → a ≡ 16 * p → n ≤ 16 → b ≤ n * p → b ≤ a
-most_by p n a b e full le = let m = mul-le-mul_right p full in omega arith
-
-two_by : (p n b : ℕ) → 2 ≤ n → n * p ≤ b → 2 * p ≤ b
-two_by p n b wide le = let m = mul-le-mul_right p wide in omega arith
+most_by : (m p n b : ℕ) → n ≤ m → b ≤ n * p → b ≤ m * p
+most_by m p n b full le = let more = mul-le-mul_right p full in omega arith
 
 pub child_some : (depth : ℕ) (c : Child) → IsChild depth c → 1 ≤ length (items_of c)
 child_some depth c h = omega (arith, power_some depth, h.many)
@@ -166,41 +158,43 @@ depth_all depth [] h some = absurd (omega arith)
 depth_all depth (c ∷ children) h some = (All-head (IsChild depth) c children h).level
 
 pub many_items : (depth : ℕ) (children : List Child) → All (IsChild depth) children
-    → length children * 8 ^ depth ≤ length (all_items children)
+    → length children * MIN_WIDTH ^ depth ≤ length (all_items children)
 many_items depth [] h = omega arith
 many_items depth (c ∷ children) h =
     let here = (All-head (IsChild depth) c children h).many in
     let rest = many_items depth children (All-tail (IsChild depth) c children h) in
     omega (arith, length-append (items_of c) (all_items children))
 
-pub many_below : (children : List Child) → AreChildren children → 8 ≤ length children
-    → 8 ^ suc (depth_of children) ≤ length (all_items children)
+pub many_below : (children : List Child) → AreChildren children → MIN_WIDTH ≤ length children
+    → MIN_WIDTH ^ suc (depth_of children) ≤ length (all_items children)
 many_below children h full =
     let all = many_items (depth_of children) children h.each in
-    many_by (8 ^ depth_of children) (length children) _ _ (power_suc (depth_of children)) full all
+    let more = many_by MIN_WIDTH (MIN_WIDTH ^ depth_of children) (length children) _ full all in
+    omega (arith, pow-succ' MIN_WIDTH (depth_of children))
 
 pub most_items : (depth : ℕ) (children : List Child) → All (IsChild depth) children
-    → length (all_items children) ≤ length children * 16 ^ depth
+    → length (all_items children) ≤ length children * MAX_WIDTH ^ depth
 most_items depth [] h = omega arith
 most_items depth (c ∷ children) h =
     let here = (All-head (IsChild depth) c children h).most in
     let rest = most_items depth children (All-tail (IsChild depth) c children h) in
     omega (arith, length-append (items_of c) (all_items children))
 
-pub most_below : (children : List Child) → AreChildren children → length (all_items children) ≤ 16 ^ suc (depth_of children)
+pub most_below : (children : List Child) → AreChildren children → length (all_items children) ≤ MAX_WIDTH ^ suc (depth_of children)
 most_below children h =
     let all = most_items (depth_of children) children h.each in
-    most_by (16 ^ depth_of children) (length children) _ _ (power_suc_16 (depth_of children)) h.room all
+    let more = most_by MAX_WIDTH (MAX_WIDTH ^ depth_of children) (length children) _ h.room all in
+    omega (arith, pow-succ' MAX_WIDTH (depth_of children))
 
 -- an inner root
 pub many_at_root : (children : List Child) → AreChildren children → 2 ≤ length children
-    → 2 * 8 ^ depth_of children ≤ length (all_items children)
+    → 2 * MIN_WIDTH ^ depth_of children ≤ length (all_items children)
 many_at_root children h wide =
     let all = many_items (depth_of children) children h.each in
-    two_by (8 ^ depth_of children) (length children) _ wide all
+    many_by 2 (MIN_WIDTH ^ depth_of children) (length children) _ wide all
 
 -- the second half of many children
-pub are_children_after : (children : List Child) (n : ℕ) → All (IsChild (depth_of children)) children → length children ≤ n + 16
+pub are_children_after : (children : List Child) (n : ℕ) → All (IsChild (depth_of children)) children → length children ≤ n + MAX_WIDTH
     → n < length children → AreChildren (drop n children)
 are_children_after children n each most lt =
     let all = All-drop (IsChild (depth_of children)) n children each in
@@ -291,7 +285,7 @@ grown_same depth depth' width width' items items' (One node) e le same h = (h.0 
 grown_same depth depth' width width' items items' (Two left right) e le same h = (h.0 ∙ e, h.1 ∙ e, h.2, h.3, h.4 ∙ same)
 
 pub record AtLeaf (entries : List Entry) (v : View) : Type 0 where
-  pub room : length entries ≤ 16
+  pub room : length entries ≤ MAX_WIDTH
   pub depth : v.depth ≡ 1
   pub width : v.width ≡ length entries
   pub items : v.items ≡ entries
@@ -318,9 +312,9 @@ regrown children new depth h e each some =
     let P : ℕ → Type 0 = λ n. All (IsChild n) new in
     subst P (sym (depth_all depth new each some)) each
 
-pub below_power : (d : ℕ) → d < 8 ^ d
+pub below_power : (d : ℕ) → d < MIN_WIDTH ^ d
 below_power zero = omega arith
-below_power (suc d) = let h = below_power d in let p = power_suc d in omega arith
+below_power (suc d) = let h = below_power d in let p = pow-succ' MIN_WIDTH d in omega arith
 
 -- two nodes in place of one hold one entry more
 pub grown_length : (depth width : ℕ) (items : List Entry) (g : Grown) → IsGrown depth width items g → length (grown_items g) ≡ length items
@@ -334,18 +328,18 @@ child_fits children i d lt =
     let all = ap length (split_items i children) ∙ length-append (all_items (take i children)) (all_items (drop i children)) in
     omega arith
 
-pub deep_law : (b : Body) (v : View) → view_of b ≡ v → IsBalanced b → 2 ≤ v.depth → 2 ≤ v.width → 2 * 8 ^ (v.depth - 1) ≤ length v.items
+pub deep_law : (b : Body) (v : View) → view_of b ≡ v → IsBalanced b → 2 ≤ v.depth → 2 ≤ v.width → 2 * MIN_WIDTH ^ (v.depth - 1) ≤ length v.items
 deep_law (Leaf entries) v is h deep wide = let e = ap (λ (w : View). w.depth) is in absurd (omega arith)
 deep_law (Inner children) v is h deep wide =
-    let P : View → Type 0 = λ w. 2 ≤ w.width → 2 * 8 ^ (w.depth - 1) ≤ length w.items in
+    let P : View → Type 0 = λ w. 2 ≤ w.width → 2 * MIN_WIDTH ^ (w.depth - 1) ≤ length w.items in
     let less : depth_of children.items ≡ suc (depth_of children.items) - 1 = omega arith in
-    let Q : ℕ → Type 0 = λ n. 2 * 8 ^ n ≤ length (all_items children.items) in
+    let Q : ℕ → Type 0 = λ n. 2 * MIN_WIDTH ^ n ≤ length (all_items children.items) in
     subst P is (λ many. subst Q less (many_at_root children.items h many)) wide
 
-pub most_law : (b : Body) (v : View) → view_of b ≡ v → IsBalanced b → length v.items ≤ 16 ^ v.depth
+pub most_law : (b : Body) (v : View) → view_of b ≡ v → IsBalanced b → length v.items ≤ MAX_WIDTH ^ v.depth
 most_law (Leaf entries) v is h =
-    let P : View → Type 0 = λ w. length w.items ≤ 16 ^ w.depth in let one : 16 ^ 1 ≡ 16 = refl in subst P is (omega (arith, h, one))
-most_law (Inner children) v is h = let P : View → Type 0 = λ w. length w.items ≤ 16 ^ w.depth in subst P is (most_below children.items h)
+    let P : View → Type 0 = λ w. length w.items ≤ MAX_WIDTH ^ w.depth in let one : MAX_WIDTH ^ 1 ≡ MAX_WIDTH = refl in subst P is (omega (arith, h, one))
+most_law (Inner children) v is h = let P : View → Type 0 = λ w. length w.items ≤ MAX_WIDTH ^ w.depth in subst P is (most_below children.items h)
 
 some_law : (b : Body) (v : View) → view_of b ≡ v → 1 ≤ v.depth
 some_law (Leaf entries) v is = let e = ap (λ (w : View). w.depth) is in omega arith

@@ -1,6 +1,7 @@
 -- What a node grows to.
 use Rattle.std.specs.Prelude.{◌≡◌, ℕ, ◌≤◌, min, ◌^◌, List, ◌++◌, length}
 use Rattle.model.specs.declared.entry.Entry.{Entry}
+use Rattle.counted.specs.declared.node.TheConstants.{MAX_WIDTH, MIN_WIDTH}
 use Rattle.counted.specs.declared.node.grown.Grown.{Grown}
 use Rattle.counted.specs.declared.node.grown.Grown.TheVariants.{One, Two}
 use Rattle.counted.specs.declared.node.Child.{Child}
@@ -26,7 +27,7 @@ AreGrown depth (Two left right) = (left.depth ≡ depth) × (right.depth ≡ dep
 abbrev pub IsGrown : ℕ → ℕ → List Entry → Grown → Type 0
 IsGrown depth width items (One node) = (node.depth ≡ depth) × (width ≤ node.width) × (node.items ≡ items)
 IsGrown depth width items (Two left right) =
-    (left.depth ≡ depth) × (right.depth ≡ depth) × (8 ≤ left.width) × (8 ≤ right.width) × (left.items ++ right.items ≡ items)
+    (left.depth ≡ depth) × (right.depth ≡ depth) × (MIN_WIDTH ≤ left.width) × (MIN_WIDTH ≤ right.width) × (left.items ++ right.items ≡ items)
 
 -- the same counts and the same node
 pub record IsSameChild (c x : Child) : Type 0 where
@@ -40,8 +41,8 @@ pub record AreCounts (node : View) (counts : Counts) : Type 0 where
   pub count : counts.count ≡ length node.items
   pub net : counts.net ≡ total node.items
 
--- a node holds as many entries as nodes of 8 to 16 do on so many levels
+-- a node holds as many entries as nodes of such widths do on so many levels
 pub record IsSized (node : View) : Type 0 where
-  pub many : 8 ^ node.depth ≤ length node.items
-  pub most : length node.items ≤ 16 ^ node.depth
+  pub many : MIN_WIDTH ^ node.depth ≤ length node.items
+  pub most : length node.items ≤ MAX_WIDTH ^ node.depth
   pub deep : 1 ≤ node.depth

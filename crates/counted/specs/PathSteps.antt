@@ -1,6 +1,7 @@
 -- The way down to a leaf, and what lies around it.
-use Rattle.std.specs.Prelude.{◌≡◌, ℕ, ◌+◌, ◌^◌, ◌<◌, ◌≤◌, List, [], ◌∷◌, ◌++◌, length, take, drop}
+use Rattle.std.specs.Prelude.{◌≡◌, ℕ, ◌+◌, ◌-◌, ◌^◌, ◌<◌, ◌≤◌, List, [], ◌∷◌, ◌++◌, length, take, drop}
 use Rattle.model.specs.declared.entry.Entry.{Entry}
+use Rattle.counted.specs.declared.node.TheConstants.{MAX_WIDTH, MIN_WIDTH}
 use Rattle.counted.specs.declared.node.path.Path.{Path}
 use Rattle.counted.specs.declared.node.path.Step.{Step}
 use Rattle.counted.specs.Shapes.{AreChildren, all_items, depth_of}
@@ -30,18 +31,18 @@ pub record IsStep (depth least : ℕ) (s : Step) : Type 0 where
 -- steps, one a level, from a node at least so wide, and then from nodes that are at least half full, to one of so many levels
 abbrev pub AreSteps : ℕ → ℕ → List Step → Type 0
 AreSteps depth least [] = Unit {0}
-AreSteps depth least (s ∷ steps) = IsStep (depth + length steps) least s × AreSteps depth 8 steps
+AreSteps depth least (s ∷ steps) = IsStep (depth + length steps) least s × AreSteps depth MIN_WIDTH steps
 
 -- how wide a node has to stay that the steps lead to: any width serves at the root
 abbrev pub least_width : List Step → ℕ
 least_width [] = 0
-least_width (s ∷ steps) = 7
+least_width (s ∷ steps) = MIN_WIDTH - 1
 
 -- the way from a node down to the leaf in which so many of its entries end
 pub record IsPath (v : View) (end : ℕ) (path : Path) : Type 0 where
   pub steps : AreSteps 1 2 path.steps.items
-  pub full : 1 ≤ length path.steps.items → 8 ≤ length path.leaf.now
-  pub room : length path.leaf.now ≤ 16
+  pub full : 1 ≤ length path.steps.items → MIN_WIDTH ≤ length path.leaf.now
+  pub room : length path.leaf.now ≤ MAX_WIDTH
   pub within : path.end ≤ length path.leaf.now
   pub index : path.end + length (before path.steps.items) ≡ end
   pub some : 1 ≤ end → 1 ≤ path.end

@@ -2,6 +2,7 @@
 use Rattle.std.specs.Prelude.{◌≡◌, ℕ, suc, ◌^◌, ◌≤◌, Some, List, [], ◌∷◌, length, slice_get}
 use Rattle.std.specs.List.{All, flat_map}
 use Rattle.model.specs.declared.entry.Entry.{Entry}
+use Rattle.counted.specs.declared.node.TheConstants.{MAX_WIDTH, MIN_WIDTH}
 use Rattle.counted.specs.declared.node.Body.{Body}
 use Rattle.counted.specs.declared.node.Body.TheVariants.{Leaf, Inner}
 use Rattle.counted.specs.declared.node.Child.{Child}
@@ -25,14 +26,14 @@ abbrev pub view_of : Body → View
 view_of (Leaf entries) = record { depth = 1; width = length entries.items; items = entries.items }
 view_of (Inner children) = record { depth = suc (depth_of children.items); width = length children.items; items = all_items children.items }
 
--- a child stands at this depth, is at least half full, holds as many entries as nodes of 8 to 16 do on so many levels, and
+-- a child stands at this depth, is at least half full, holds as many entries as nodes of such widths do on so many levels, and
 -- its counts are those of its entries
 pub record IsChild (depth : ℕ) (c : Child) : Type 0 where
   pub level : c.node.value.depth ≡ depth
-  pub full : 8 ≤ c.node.value.width
+  pub full : MIN_WIDTH ≤ c.node.value.width
   pub deep : 1 ≤ depth
-  pub many : 8 ^ depth ≤ length c.node.value.items
-  pub most : length c.node.value.items ≤ 16 ^ depth
+  pub many : MIN_WIDTH ^ depth ≤ length c.node.value.items
+  pub most : length c.node.value.items ≤ MAX_WIDTH ^ depth
   pub count : c.count ≡ length c.node.value.items
   pub net : c.net ≡ total c.node.value.items
   pub head : (e : Entry) → slice_get c.node.value.items 0 ≡ Some e → c.head ≡ head_of e
@@ -40,9 +41,9 @@ pub record IsChild (depth : ℕ) (c : Child) : Type 0 where
 -- all children stand at one depth
 pub record AreChildren (children : List Child) : Type 0 where
   pub some : 1 ≤ length children
-  pub room : length children ≤ 16
+  pub room : length children ≤ MAX_WIDTH
   pub each : All (IsChild (depth_of children)) children
 
 abbrev pub IsBalanced : Body → Type 0
-IsBalanced (Leaf entries) = length entries.items ≤ 16
+IsBalanced (Leaf entries) = length entries.items ≤ MAX_WIDTH
 IsBalanced (Inner children) = AreChildren children.items

@@ -1,9 +1,11 @@
 //! The entries of one leaf.
 ghost use Rattle.std.specs.Prelude.{◌≡◌, ◌^◌, ◌+◌, ◌<◌, ◌≤◌, ◌++◌, length, IfOk, OnOk};
+ghost use Rattle.counted.specs.declared.node.TheConstants.{MAX_WIDTH};
 ghost use Rattle.counted.specs.Sums.{total};
 ghost use Rattle.counted.specs.Edits.{put_items, edited};
 
 use crate::SharedEntry;
+use crate::node::MAX_WIDTH;
 use std::alloc::{AllocError, Global};
 
 /// What the entries add.
@@ -43,8 +45,8 @@ pub(crate) fn both_leaves(
     left: &[SharedEntry],
     right: &[SharedEntry],
 ) -> Result<Vec<SharedEntry>, AllocError>
-    requires left { length left.now ≤ 16 }
-    requires right { length right.now ≤ 16 }
+    requires left { length left.now ≤ MAX_WIDTH }
+    requires right { length right.now ≤ MAX_WIDTH }
     ensures { IfOk result (λ v. v.items ≡ left.now ++ right.now) }
 {
     let mut out = Vec::with_capacity(alloc, left.len() + right.len())?;
@@ -76,15 +78,15 @@ pub(crate) fn push_some(
     Ok(())
 }
 
-/// The same entries, with room for sixteen.
+/// The same entries, with room for the most.
 pub(crate) fn copied_entries(
     alloc: Global,
     entries: &[SharedEntry],
 ) -> Result<Vec<SharedEntry>, AllocError>
-    requires { length entries.now ≤ 16 }
+    requires { length entries.now ≤ MAX_WIDTH }
     ensures { IfOk result (λ v. v.items ≡ entries.now) }
 {
-    let mut out = Vec::with_capacity(alloc, 16)?;
+    let mut out = Vec::with_capacity(alloc, MAX_WIDTH)?;
     for entry in entries {
         out.push_reserved(entry.copy()?);
     }

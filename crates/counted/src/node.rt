@@ -23,6 +23,14 @@ use std::marker::Model;
 use std::sync::Arc;
 use std::sync::ledger::Ledger;
 
+/// The most entries or children of a node: an edit of a shared path copies so many on each level, and a search looks at as
+/// many.
+pub(crate) const MAX_WIDTH: usize = 16;
+
+/// The fewest, but at the root. The most is twice as many, so that a node of one too many falls into two, and one of one too
+/// few makes one with its neighbour, or two.
+pub(crate) const MIN_WIDTH: usize = 8;
+
 /// A node: entries, or shared children.
 #[cycle(node)]
 #[derive(Drop)]

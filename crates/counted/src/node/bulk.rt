@@ -2,12 +2,13 @@
 ghost use Rattle.std.specs.Prelude.{◌≡◌, suc, ◌+◌, ◌^◌, ◌<◌, ◌≤◌, ◌++◌, length, IfOk, OnOk};
 ghost use Rattle.std.specs.List.{All};
 ghost use Rattle.std.specs.Vec.Iter.{into_iter_items, into_iter_len};
+ghost use Rattle.counted.specs.declared.node.TheConstants.{MAX_WIDTH, MIN_WIDTH};
 ghost use Rattle.counted.specs.Shapes.{IsChild, all_items, depth_of};
 ghost use Rattle.counted.specs.Trees.{IsRoot};
 
 use crate::SharedEntry;
 use crate::node::grown::push_node;
-use crate::node::{Body, Child, Node};
+use crate::node::{Body, Child, MAX_WIDTH, Node};
 use model::Entry;
 use std::alloc::{AllocError, Global};
 use std::vec::IntoIter;
@@ -18,13 +19,13 @@ pub(crate) fn root_over(alloc: Global, entries: Vec<SharedEntry>) -> Result<Node
     ensures root { IfOk result IsRoot }
     ensures items { IfOk result (λ n. n.items ≡ entries.items) }
 {
-    if entries.len() <= 16 {
+    if entries.len() <= MAX_WIDTH {
         return Ok(Node {
             body: Body::Leaf(entries),
         });
     }
     let mut level = leaves(alloc, entries)?;
-    while level.len() > 16 {
+    while level.len() > MAX_WIDTH {
         level = parents(alloc, level)?;
     }
     Ok(Node {
@@ -45,13 +46,13 @@ pub(crate) fn shared(alloc: Global, entries: Vec<Entry>) -> Result<Vec<SharedEnt
 
 /// Leaves of the entries.
 fn leaves(alloc: Global, entries: Vec<SharedEntry>) -> Result<Vec<Child>, AllocError>
-    requires many { 17 ≤ length entries.items }
+    requires many { MAX_WIDTH < length entries.items }
     requires few { length entries.items < 2 ^ 60 }
     ensures some { IfOk result (λ v. 2 ≤ length v.items) }
     ensures items { IfOk result (λ v. all_items v.items ≡ entries.items) }
     ensures each { IfOk result (λ v. All (IsChild 1) v.items) }
 {
-    let mut children = Vec::with_capacity(alloc, entries.len() / 16 + 1)?;
+    let mut children = Vec::with_capacity(alloc, entries.len() / MAX_WIDTH + 1)?;
     let mut rest = entries.into_iter();
     while rest.len() > 0 {
         let count = share_of(rest.len());
@@ -66,7 +67,7 @@ fn leaves(alloc: Global, entries: Vec<SharedEntry>) -> Result<Vec<Child>, AllocE
 
 /// Inner nodes of the children.
 fn parents(alloc: Global, children: Vec<Child>) -> Result<Vec<Child>, AllocError>
-    requires many { 17 ≤ length children.items }
+    requires many { MAX_WIDTH < length children.items }
     requires each { All (IsChild (depth_of children.items)) children.items }
     requires few { length (all_items children.items) < 2 ^ 60 }
     ensures some { IfOk result (λ v. 2 ≤ length v.items) }
@@ -74,7 +75,7 @@ fn parents(alloc: Global, children: Vec<Child>) -> Result<Vec<Child>, AllocError
     ensures items { IfOk result (λ v. all_items v.items ≡ all_items children.items) }
     ensures each { IfOk result (λ v. All (IsChild (suc (depth_of children.items))) v.items) }
 {
-    let mut out = Vec::with_capacity(alloc, children.len() / 16 + 1)?;
+    let mut out = Vec::with_capacity(alloc, children.len() / MAX_WIDTH + 1)?;
     let mut rest = children.into_iter();
     while rest.len() > 0 {
         let count = share_of(rest.len());
@@ -89,15 +90,15 @@ fn parents(alloc: Global, children: Vec<Child>) -> Result<Vec<Child>, AllocError
 
 /// How many of those that are left make the next node: a full one, and of the last two each about a half.
 fn share_of(left: usize) -> usize
-    requires { 8 ≤ left }
-    ensures full { 8 ≤ result }
-    ensures room { result ≤ 16 }
+    requires { MIN_WIDTH ≤ left }
+    ensures full { MIN_WIDTH ≤ result }
+    ensures room { result ≤ MAX_WIDTH }
     ensures within { result ≤ left }
-    ensures rest { result < left → result + 8 ≤ left }
+    ensures rest { result < left → result + MIN_WIDTH ≤ left }
 {
-    if left >= 32 {
-        16
-    } else if left > 16 {
+    if left >= 2 * MAX_WIDTH {
+        MAX_WIDTH
+    } else if left > MAX_WIDTH {
         left / 2
     } else {
         left

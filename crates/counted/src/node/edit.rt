@@ -1,7 +1,8 @@
 //! Edits by path copying: the nodes of a tree stay as they are, and what changes is in new ones.
-ghost use Rattle.std.specs.Prelude.{◌≡◌, ◌+◌, ◌-◌, ◌^◌, ◌<◌, ◌≤◌, ◌++◌, ◌∷◌, [], length, take, drop, IfOk, IfSome, IfNone};
+ghost use Rattle.std.specs.Prelude.{◌≡◌, ◌+◌, ◌-◌, ◌*◌, ◌^◌, ◌<◌, ◌≤◌, ◌++◌, ◌∷◌, [], length, take, drop, IfOk, IfSome, IfNone};
 ghost use Rattle.std.specs.Arc.{arc_value};
 ghost use Rattle.std.specs.List.{All};
+ghost use Rattle.counted.specs.declared.node.TheConstants.{MIN_WIDTH};
 ghost use Rattle.counted.specs.Edits.{put_items, edited};
 ghost use Rattle.counted.specs.Grown.{IsGrown, grown_items};
 ghost use Rattle.counted.specs.Shapes.{IsChild, AreChildren, all_items, depth_of};
@@ -10,7 +11,7 @@ ghost use Rattle.counted.specs.Trees.{IsRoot};
 use crate::SharedEntry;
 use crate::leaf::{both_leaves, edited_leaf};
 use crate::node::grown::{Grown, above, grown_inner, grown_leaf, push_children, with_grown};
-use crate::node::{Body, Child, Node};
+use crate::node::{Body, Child, MIN_WIDTH, Node};
 use std::alloc::{AllocError, Global};
 use std::sync::Arc;
 
@@ -51,8 +52,8 @@ impl Node {
     /// Two nodes side by side as one, or as two that are at least half full.
     fn joined(&self, alloc: Global, right: &Node) -> Result<Grown, AllocError>
         requires depth { self.now.depth ≡ right.now.depth }
-        requires enough { 15 ≤ self.now.width + right.now.width }
-        ensures { IfOk result (IsGrown self.now.depth 8 (self.now.items ++ right.now.items)) }
+        requires enough { 2 * MIN_WIDTH ≤ self.now.width + right.now.width + 1 }
+        ensures { IfOk result (IsGrown self.now.depth MIN_WIDTH (self.now.items ++ right.now.items)) }
     {
         match &self.body {
             Body::Leaf(one) => match &right.body {
@@ -104,7 +105,7 @@ pub(crate) fn replaced(
     requires children { AreChildren children.now }
     requires two { 2 ≤ length children.now }
     requires index { index < length children.now }
-    requires grown { IsGrown (depth_of children.now) 7 (grown_items grown) grown }
+    requires grown { IsGrown (depth_of children.now) (MIN_WIDTH - 1) (grown_items grown) grown }
     requires few { length (all_items children.now) + length (grown_items grown) < 2 ^ 62 }
     ensures items { IfOk result (λ v. all_items v.items
         ≡ all_items (take index children.now) ++ grown_items grown ++ all_items (drop (index + 1) children.now)) }
@@ -114,7 +115,7 @@ pub(crate) fn replaced(
 {
     match grown {
         Grown::One(node) => {
-            if node.width() < 8 {
+            if node.width() < MIN_WIDTH {
                 return mended(alloc, children, index, node);
             }
             with_grown(alloc, children, index, index + 1, Grown::One(node))
@@ -129,7 +130,7 @@ pub(crate) fn replaced(
     }
 }
 
-/// The children with one of them replaced by a node of seven, which is joined with a neighbour.
+/// The children with one of them replaced by a node that has one too few, which is joined with a neighbour.
 fn mended(
     alloc: Global,
     children: &[Child],
@@ -140,7 +141,7 @@ fn mended(
     requires two { 2 ≤ length children.now }
     requires index { index < length children.now }
     requires depth { node.depth ≡ depth_of children.now }
-    requires seven { 7 ≤ node.width }
+    requires nearly { MIN_WIDTH ≤ node.width + 1 }
     requires few { length (all_items children.now) + length node.items < 2 ^ 62 }
     ensures items { IfOk result (λ v. all_items v.items
         ≡ all_items (take index children.now) ++ node.items ++ all_items (drop (index + 1) children.now)) }

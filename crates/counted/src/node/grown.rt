@@ -1,7 +1,8 @@
 //! What a node grows to, and what is kept of it.
-ghost use Rattle.std.specs.Prelude.{◌≡◌, ◌+◌, ◌-◌, ◌^◌, ◌<◌, ◌≤◌, ◌++◌, length, take, drop, slice_get, Some, ℕ, IfOk, OnOk};
+ghost use Rattle.std.specs.Prelude.{◌≡◌, ◌+◌, ◌-◌, ◌*◌, ◌^◌, ◌<◌, ◌≤◌, ◌++◌, length, take, drop, slice_get, Some, ℕ, IfOk, OnOk};
 ghost use Rattle.std.specs.List.{All};
 ghost use Rattle.model.specs.declared.entry.Entry.{Entry};
+ghost use Rattle.counted.specs.declared.node.TheConstants.{MAX_WIDTH, MIN_WIDTH};
 ghost use Rattle.counted.specs.Grown.{IsGrown, grown_items, grown_width, AreGrown, IsSameChild, IsSized, AreCounts};
 ghost use Rattle.counted.specs.Heads.{head_of};
 ghost use Rattle.counted.specs.Shapes.{IsChild, all_items, items_of, depth_of};
@@ -10,7 +11,7 @@ use crate::SharedEntry;
 use crate::children::{count_of, net_of};
 use crate::entry::Head;
 use crate::leaf::total_of;
-use crate::node::{Body, Child, Node};
+use crate::node::{Body, Child, MAX_WIDTH, Node};
 use std::alloc::{AllocError, Global};
 use std::sync::Arc;
 
@@ -31,7 +32,7 @@ pub(crate) struct Counts {
 impl Node {
     /// What is kept of a node that is at least half full.
     fn counts(&self) -> Counts
-        requires full { 8 ≤ self.now.width }
+        requires full { MIN_WIDTH ≤ self.now.width }
         requires few { length self.now.items < 2 ^ 62 }
         ensures { AreCounts self.now result }
     {
@@ -49,7 +50,7 @@ impl Node {
 
     /// What is kept of its first entry.
     pub(crate) fn head(&self) -> Head
-        requires full { 8 ≤ self.now.width }
+        requires full { MIN_WIDTH ≤ self.now.width }
         ensures head { (e : Entry) → slice_get self.now.items 0 ≡ Some e → result ≡ head_of e }
         ensures sized { IsSized self.now }
     {
@@ -63,7 +64,7 @@ impl Node {
 impl Child {
     /// A child with its counts.
     pub(crate) fn new(alloc: Global, node: Node) -> Result<Child, AllocError>
-        requires full { 8 ≤ node.width }
+        requires full { MIN_WIDTH ≤ node.width }
         requires few { length node.items < 2 ^ 62 }
         ensures counts { IfOk result (IsChild node.depth) }
         ensures items { IfOk result (λ c. items_of c ≡ node.items) }
@@ -104,7 +105,7 @@ pub(crate) fn with_grown(
     requires range { from ≤ to }
     requires within { to ≤ length children.now }
     requires few { length (grown_items grown) < 2 ^ 62 }
-    requires full { 8 ≤ grown_width grown }
+    requires full { MIN_WIDTH ≤ grown_width grown }
     ensures items { IfOk result (λ v. all_items v.items
         ≡ all_items (take from children.now) ++ grown_items grown ++ all_items (drop to children.now)) }
     ensures few_more { IfOk result (λ v. length v.items + (to - from) ≤ length children.now + 2) }
@@ -121,7 +122,7 @@ pub(crate) fn with_grown(
 /// What a node grew to, at the end of a vector.
 fn push_grown(alloc: Global, out: &mut Vec<Child>, grown: Grown) -> Result<(), AllocError>
     requires few { length (grown_items grown) < 2 ^ 62 }
-    requires full { 8 ≤ grown_width grown }
+    requires full { MIN_WIDTH ≤ grown_width grown }
     ensures items { OnOk result (all_items out.new.items ≡ all_items out.old.items ++ grown_items grown) }
     ensures some { OnOk result (length out.old.items + 1 ≤ length out.new.items) }
     ensures few_more { OnOk result (length out.new.items ≤ length out.old.items + 2) }
@@ -139,7 +140,7 @@ fn push_grown(alloc: Global, out: &mut Vec<Child>, grown: Grown) -> Result<(), A
 
 /// A node as a child, at the end of a vector.
 pub(crate) fn push_node(alloc: Global, out: &mut Vec<Child>, node: Node) -> Result<(), AllocError>
-    requires full { 8 ≤ node.width }
+    requires full { MIN_WIDTH ≤ node.width }
     requires few { length node.items < 2 ^ 62 }
     ensures items { OnOk result (all_items out.new.items ≡ all_items out.old.items ++ node.items) }
     ensures count { OnOk result (length out.new.items ≡ length out.old.items + 1) }
@@ -177,11 +178,11 @@ pub(crate) fn copied_children(alloc: Global, children: &[Child]) -> Result<Vec<C
 
 /// A leaf, or two.
 pub(crate) fn grown_leaf(entries: Vec<SharedEntry>) -> Result<Grown, AllocError>
-    requires { length entries.items ≤ 32 }
+    requires { length entries.items ≤ 2 * MAX_WIDTH }
     ensures { IfOk result (IsGrown 1 (length entries.items) entries.items) }
 {
     let mut entries = entries;
-    if entries.len() <= 16 {
+    if entries.len() <= MAX_WIDTH {
         return Ok(Grown::One(Node {
             body: Body::Leaf(entries),
         }));
@@ -200,12 +201,12 @@ pub(crate) fn grown_leaf(entries: Vec<SharedEntry>) -> Result<Grown, AllocError>
 /// An inner node, or two.
 pub(crate) fn grown_inner(children: Vec<Child>) -> Result<Grown, AllocError>
     requires some { 1 ≤ length children.items }
-    requires room { length children.items ≤ 32 }
+    requires room { length children.items ≤ 2 * MAX_WIDTH }
     requires each { All (IsChild (depth_of children.items)) children.items }
     ensures { IfOk result (IsGrown (1 + depth_of children.items) (length children.items) (all_items children.items)) }
 {
     let mut children = children;
-    if children.len() <= 16 {
+    if children.len() <= MAX_WIDTH {
         return Ok(Grown::One(Node {
             body: Body::Inner(children),
         }));
@@ -224,8 +225,8 @@ pub(crate) fn grown_inner(children: Vec<Child>) -> Result<Grown, AllocError>
 /// The inner node above two nodes.
 pub(crate) fn above(alloc: Global, left: Node, right: Node) -> Result<Node, AllocError>
     requires depth { left.depth ≡ right.depth }
-    requires left_full { 8 ≤ left.width }
-    requires right_full { 8 ≤ right.width }
+    requires left_full { MIN_WIDTH ≤ left.width }
+    requires right_full { MIN_WIDTH ≤ right.width }
     requires few { length left.items + length right.items < 2 ^ 62 }
     ensures width { IfOk result (λ n. n.width ≡ 2) }
     ensures items { IfOk result (λ n. n.items ≡ left.items ++ right.items) }

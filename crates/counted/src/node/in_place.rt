@@ -3,6 +3,7 @@ ghost use Rattle.std.specs.Prelude.{◌≡◌, ◌+◌, ◌^◌, ◌<◌, ◌≤
 ghost use Rattle.std.specs.Prelude.{IfErr, IfSome, OnOk};
 ghost use Rattle.std.specs.Arc.{arc_value};
 ghost use Rattle.std.specs.List.{All};
+ghost use Rattle.counted.specs.declared.node.TheConstants.{MAX_WIDTH};
 ghost use Rattle.counted.specs.declared.node.Child.{Child};
 ghost use Rattle.counted.specs.Edits.{IsEdit, IsEditedNode, put_items, edited};
 ghost use Rattle.counted.specs.Shapes.{AreChildren, IsChild, all_items, depth_of, items_of};
@@ -11,7 +12,7 @@ ghost use Rattle.counted.specs.Splits.{IsSplit};
 use crate::children::child_at;
 use crate::leaf::{copied_entries, count_put, edited_leaf};
 use crate::node::grown::{copied_children, grown_leaf, with_grown};
-use crate::node::{Body, Child, Node};
+use crate::node::{Body, Child, MAX_WIDTH, MIN_WIDTH, Node};
 use crate::{CountedTree, SharedEntry};
 use std::alloc::{AllocError, Global};
 use std::sync::Arc;
@@ -84,7 +85,7 @@ impl Node {
         }
     }
 
-    /// The same node, of nodes and changes that it shares. A leaf gets room for sixteen entries.
+    /// The same node, of nodes and changes that it shares. A leaf gets room for the most.
     fn copied(&self, alloc: Global) -> Result<Node, AllocError>
         ensures { IfOk result (λ n. n ≡ self.now) }
     {
@@ -124,7 +125,7 @@ impl Child {
         let Some(node) = Arc::get_mut(&mut self.node) else {
             return Err(put);
         };
-        match node.edit_in_place(alloc, at, gone, put, 8) {
+        match node.edit_in_place(alloc, at, gone, put, MIN_WIDTH) {
             Ok(added) => {
                 self.head = node.head();
                 self.count = self.count + more - gone;
@@ -159,11 +160,11 @@ fn split_of(
     requires few { length (all_items children.now) < 2 ^ 61 }
     ensures { IfSome result (λ split. IsSplit children.now index at gone put.now split.children.items split.added) }
 {
-    if gone > 0 || children.len() >= 16 {
+    if gone > 0 || children.len() >= MAX_WIDTH {
         return None;
     }
     match (put, &children[index].node.body) {
-        (Some(entry), Body::Leaf(entries)) if entries.len() >= 16 => {
+        (Some(entry), Body::Leaf(entries)) if entries.len() >= MAX_WIDTH => {
             match with_entry(alloc, children, index, entries, at, entry) {
                 Ok(children) => Some(Split {
                     children,
@@ -189,8 +190,8 @@ fn with_entry(
     requires children { AreChildren children.now }
     requires index { index < length children.now }
     requires level { depth_of children.now ≡ 1 }
-    requires full { length entries.now ≡ 16 }
-    requires at { at ≤ 16 }
+    requires full { length entries.now ≡ MAX_WIDTH }
+    requires at { at ≤ MAX_WIDTH }
     ensures items { IfOk result (λ v. all_items v.items ≡ all_items (take index children.now)
         ++ edited at 0 (put.now ∷ []) entries.now ++ all_items (drop (index + 1) children.now)) }
     ensures one_more { IfOk result (λ v. length v.items ≤ length children.now + 1) }
@@ -221,8 +222,8 @@ fn edit_leaf(
 ) -> Result<i64, Option<SharedEntry>>
     requires one { gone ≤ 1 }
     requires within { at + gone ≤ length entries.old.items }
-    requires room { length entries.old.items ≤ 16 }
-    ensures room { length entries.new.items ≤ 16 }
+    requires room { length entries.old.items ≤ MAX_WIDTH }
+    ensures room { length entries.new.items ≤ MAX_WIDTH }
     ensures least { least ≤ length entries.old.items → least ≤ length entries.new.items }
     ensures ok { IfOk result (IsEdit at gone put entries.old.items entries.new.items) }
     ensures err { IfErr result (λ back. (entries.new.items ≡ entries.old.items) × (back ≡ put)) }
@@ -234,7 +235,7 @@ fn edit_leaf(
 }
 
 /// Puts an entry in the place of so many from an index on, one at most, unless the leaf is full. A leaf gets room for
-/// sixteen at once.
+/// the most at once.
 fn put_in_leaf(
     entries: &mut Vec<SharedEntry>,
     at: usize,
@@ -243,8 +244,8 @@ fn put_in_leaf(
 ) -> Result<i64, Option<SharedEntry>>
     requires one { gone ≤ 1 }
     requires within { at + gone ≤ length entries.old.items }
-    requires room { length entries.old.items ≤ 16 }
-    ensures room { length entries.new.items ≤ 16 }
+    requires room { length entries.old.items ≤ MAX_WIDTH }
+    ensures room { length entries.new.items ≤ MAX_WIDTH }
     ensures no_fewer { length entries.old.items ≤ length entries.new.items }
     ensures ok { IfOk result (IsEdit at gone (Some put) entries.old.items entries.new.items) }
     ensures err { IfErr result (λ back. (entries.new.items ≡ entries.old.items) × (back ≡ Some put)) }
@@ -256,7 +257,7 @@ fn put_in_leaf(
         return Ok(weight - before);
     }
     let len = entries.len();
-    if len >= 16 || entries.reserve_exact(16 - len).is_err() {
+    if len >= MAX_WIDTH || entries.reserve_exact(MAX_WIDTH - len).is_err() {
         return Err(Some(put));
     }
     match entries.insert(at, put) {

@@ -1,5 +1,6 @@
 use Rattle.std.proofs.Common.{◌^◌, ◌≤◌, length, slice_get, ap, sym, ◌∙◌, subst, arith}
 use Rattle.std.proofs.lemmas.Int.{ints}
+use Rattle.counted.specs.declared.node.TheConstants.{MAX_WIDTH, MIN_WIDTH}
 use Rattle.counted.specs.Sums.{total}
 use Rattle.counted.specs.Views.{View}
 use Rattle.counted.proofs.node.Child.new.Goals as goal
@@ -13,8 +14,8 @@ returns-clause-counts c =
       level = ap (λ (v : View). v.depth) node;
       full = omega (arith, ap (λ (v : View). v.width) node, c.requires.full);
       deep = sized.deep;
-      many = let P : View → Type 0 = λ v. 8 ^ c.args.node.depth ≤ length v.items in subst P (sym node) sized.many;
-      most = let P : View → Type 0 = λ v. length v.items ≤ 16 ^ c.args.node.depth in subst P (sym node) sized.most;
+      many = let P : View → Type 0 = λ v. MIN_WIDTH ^ c.args.node.depth ≤ length v.items in subst P (sym node) sized.many;
+      most = let P : View → Type 0 = λ v. length v.items ≤ MAX_WIDTH ^ c.args.node.depth in subst P (sym node) sized.most;
       count = counts.count ∙ sym (ap (λ (v : View). length v.items) node);
       net = omega (arith, ints, ap (λ (v : View). total v.items) node);
       head = λ e first. c.head-head.ensures.head e (ap (λ (v : View). slice_get v.items 0) (sym node) ∙ first);

@@ -1,4 +1,5 @@
 use Rattle.std.proofs.Common.{◌≡◌, ◌+◌, ◌≤◌, ◌++◌, length, refl, ap, sym, ◌∙◌, subst, arith, length-append}
+use Rattle.counted.specs.declared.node.TheConstants.{MIN_WIDTH}
 use Rattle.counted.specs.Shapes.{AreChildren, all_items, depth_of}
 use Rattle.counted.proofs.Places.{at_inner, at_leaf, deep_children, regrown, depth_all, grown_result_same}
 use Rattle.counted.proofs.node.Node.joined.Goals as goal
@@ -35,7 +36,7 @@ returns-in_ok-both_leaves-in-Leaf-body c =
     let same : new ≡ c.args.self.now.items ++ c.args.right.now.items = c.in_ok-both_leaves-in-Leaf-body.ensures
     ∙ ap (λ xs. xs ++ c.deref-in-Leaf-body.result.now) left ∙ ap (λ xs. c.args.self.now.items ++ xs) right in
     let long = ap length same in
-    let wide : 8 ≤ length new = omega (
+    let wide : MIN_WIDTH ≤ length new = omega (
       arith,
       c.requires.enough,
       one.width,
@@ -64,6 +65,6 @@ returns-in_ok-both_inner-in-Inner-body-2 c =
     ∙ ap (λ xs. all_items c.in-Inner.one.items ++ all_items xs) right
     ∙ ap (λ xs. xs ++ all_items c.in-Inner-body-2.two.items) (sym one.items)
     ∙ ap (λ xs. c.args.self.now.items ++ xs) (sym two.items) in
-    let wide : 8 ≤ length new = omega (arith, c.requires.enough, one.width, two.width, count, a, b) in
+    let wide : MIN_WIDTH ≤ length new = omega (arith, c.requires.enough, one.width, two.width, count, a, b) in
     let level : 1 + depth_of new ≡ c.args.self.now.depth = omega (arith, depth, one.depth, ap depth_of left) in
     grown_result_same _ _ _ _ _ _ _ level wide same c.grown_inner.ensures

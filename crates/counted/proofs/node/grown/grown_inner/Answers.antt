@@ -1,5 +1,6 @@
 use Rattle.std.proofs.Common.{◌+◌, ◌<◌, ◌≤◌, ◌/◌, length, take, drop, sym, subst, arith, length-take, length-drop}
 use Rattle.std.proofs.lemmas.List.Elements.{All-take, All-drop}
+use Rattle.counted.specs.declared.node.TheConstants.{MAX_WIDTH}
 use Rattle.counted.specs.Shapes.{IsChild, AreChildren, depth_of}
 use Rattle.counted.proofs.Places.{are_children_after, depth_all, split_items}
 use Rattle.counted.proofs.node.grown.grown_inner.Goals as goal
@@ -7,7 +8,7 @@ use Rattle.counted.proofs.node.grown.grown_inner.Goals as goal
 pub invariant_of-result-3 : goal.invariant_of-result-3
 invariant_of-result-3 c =
     let n = c.len-2.result / 2 in
-    let long : length c.args.children.items ≤ n + 16 = omega arith in
+    let long : length c.args.children.items ≤ n + MAX_WIDTH = omega arith in
     let lt : n < length c.args.children.items = omega arith in
     subst AreChildren (sym c.in_ok-right.ensures.tail) (are_children_after c.args.children.items n c.requires.each long lt)
 

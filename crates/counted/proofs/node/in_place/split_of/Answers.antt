@@ -15,5 +15,5 @@ returns-in-Ok c =
     c.index-children-index.result _ c.requires.children c.requires.index c.in-Some-Leaf.is-0
     (sym (ap (λ (v : View). v.items) c.deref.ensures) ∙ at.items ∙ sym c.deref-in-Some-Leaf.ensures.value)
     (sym (ap (λ (v : View). v.depth) c.deref.ensures) ∙ at.depth)
-    (omega (arith, c.if-gone-gt0.false)) (omega (arith, c.if-children-ge16.false)) (let small = weight_within c.in-Some-Leaf.entry.change in let net = c.weight.ensures in omega (arith, ints))
+    (omega (arith, c.if-gone-gt0.false)) (omega (arith, c.if-children-ge-MAX_WIDTH.false)) (let small = weight_within c.in-Some-Leaf.entry.change in let net = c.weight.ensures in omega (arith, ints))
     made.items made.one_more made.not_fewer made.each
