@@ -2,10 +2,10 @@
 use crate::error::done;
 use crate::keeper::Keeper;
 use crate::store::path_of;
-use crate::{Error, Store, ffi};
+use crate::{Error, Store, Transaction, ffi};
 use std::fmt;
 use std::path::Path;
-use std::ptr::NonNull;
+use std::ptr::{self, NonNull};
 
 /// A checkpoint that has begun: the table as it was then. Commits wait neither for the making of its table nor for its
 /// files. It may be sent to another thread, and ends when it is dropped; what it wrote stays.
@@ -55,6 +55,18 @@ impl<'s> Checkpoint<'s> {
         let folder = path_of(folder.as_ref())?;
         // SAFETY: the checkpoint has not ended; the path ends with a zero, and is there during the call.
         done(unsafe { ffi::pdt_checkpoint_write(self.raw.as_ptr(), folder.as_ptr()) })
+    }
+
+    /// Begins a transaction over its table, whatever was committed since, as [`Pin::begin`](crate::Pin::begin) does. Before the install
+    /// its stretches are over the stable table that the checkpoint replaces: who has a column in files of its own writes the next one
+    /// by them. [`Error::NoMemory`].
+    pub fn begin(&mut self) -> Result<Transaction<'s>, Error> {
+        let mut raw = ptr::null_mut();
+        // SAFETY: the checkpoint has not ended, and its store is kept, and so is open.
+        done(unsafe { ffi::pdt_checkpoint_read(self.raw.as_ptr(), &mut raw) })?;
+        let raw = NonNull::new(raw).expect("a begin that is done hands out a transaction");
+        // SAFETY: the transaction is open, over this store, and nobody else has it.
+        Ok(unsafe { Transaction::adopt(raw, self.store.clone()) })
     }
 
     /// Makes what was written the stable table in memory. The commits since the begin stay in the Write-PDT, and no

@@ -1,6 +1,6 @@
 //! Stores over columns that the caller has, and images as bytes.
 use crate::error::done;
-use crate::{Error, Options, Store, ffi};
+use crate::{ColumnType, Error, Options, Store, ffi};
 use std::any::Any;
 use std::ffi::{CString, c_int, c_void};
 use std::fmt;
@@ -21,6 +21,14 @@ pub enum ColumnValues<'a> {
     },
     /// Truths.
     Bools(&'a [bool]),
+    /// Values that stay with the caller, of a column that is none of the key: 0, a text of no bytes or false stands for each until a
+    /// transaction sets it. [`Transaction::stretches`](crate::Transaction::stretches) says where the rows are.
+    Outside {
+        /// Their type.
+        column_type: ColumnType,
+        /// How many there are.
+        rows: usize,
+    },
 }
 
 impl ColumnValues<'_> {
@@ -30,6 +38,7 @@ impl ColumnValues<'_> {
             ColumnValues::Ints(ints) => ints.len(),
             ColumnValues::Texts { offsets, .. } => offsets.len().saturating_sub(1),
             ColumnValues::Bools(truths) => truths.len(),
+            ColumnValues::Outside { rows, .. } => *rows,
         }
     }
 
@@ -55,6 +64,7 @@ impl ColumnValues<'_> {
                 column.column_type = ffi::BOOL;
                 column.bytes = truths.as_ptr().cast();
             }
+            ColumnValues::Outside { column_type, .. } => column.column_type = column_type.passed() | ffi::OUTSIDE,
         }
         column
     }
@@ -118,7 +128,7 @@ pub enum ColumnsError {
         row: u64,
     },
     /// [`Error::BadTable`]: the names, the types and the key make no columns; [`Error::TooManyRows`],
-    /// [`Error::BadLimit`], [`Error::NoMemory`].
+    /// [`Error::BadLimit`], [`Error::NoMemory`]; [`Error::Misuse`] of a table of a database whose values stay with the caller.
     Other(Error),
 }
 

@@ -100,6 +100,15 @@ pub struct Piece {
 }
 
 #[repr(C)]
+#[derive(Clone, Copy, Debug, Default)]
+pub struct Stretch {
+    pub position: u64,
+    pub rows: u64,
+    pub sid: u64,
+    pub source: u32,
+}
+
+#[repr(C)]
 pub struct Column {
     pub name: *const c_char,
     pub column_type: c_int,
@@ -167,9 +176,16 @@ pub const INT: c_int = 1;
 pub const TEXT: c_int = 2;
 pub const BOOL: c_int = 3;
 
+/// Added to the type of a column whose values stay with the caller.
+pub const OUTSIDE: c_int = 16;
+
 pub const INSERT: u32 = 1;
 pub const DELETE: u32 = 2;
 pub const MODIFY: u32 = 3;
+
+pub const STABLE: u32 = 1;
+pub const CHANGED: u32 = 2;
+pub const INSERTED: u32 = 3;
 
 pub const MAX_COLUMNS: usize = 32;
 pub const MAX_TEXT: usize = 4096;
@@ -217,6 +233,7 @@ unsafe extern "C" {
 
     pub fn pdt_checkpoint_begin(store: *mut Store, commits: *mut u64, snapshot: *mut *mut Snapshot) -> c_int;
     pub fn pdt_checkpoint_write(snapshot: *mut Snapshot, folder: *const c_char) -> c_int;
+    pub fn pdt_checkpoint_read(snapshot: *mut Snapshot, txn: *mut *mut Txn) -> c_int;
     pub fn pdt_checkpoint_install(snapshot: *mut Snapshot) -> c_int;
     pub fn pdt_checkpoint_end(snapshot: *mut Snapshot);
 
@@ -305,6 +322,8 @@ unsafe extern "C" {
         count: *mut usize,
         rows: *mut u64,
     ) -> c_int;
+    pub fn pdt_stretches(txn: *mut Txn, from: u64, to: u64, stretches: *mut Stretch, count: *mut usize) -> c_int;
+    pub fn pdt_changed(txn: *mut Txn, position: u64, changed: *mut u8, columns: usize) -> c_int;
 
     pub fn pdt_changes(store: *mut Store, number: u64, layer: *mut *mut Layer) -> c_int;
     pub fn pdt_wait(store: *mut Store, after: u64, milliseconds: u64, commits: *mut u64) -> c_int;

@@ -4,7 +4,7 @@ use crate::cells::{filled, row_of};
 use crate::error::done;
 use crate::store::ColumnType;
 use crate::transaction::{Ending, Rank, TEXT_ROOM};
-use crate::{CellRef, Error, Row, Transaction, ffi, texts};
+use crate::{CellRef, Error, Row, Stretches, Transaction, ffi, texts};
 use std::ffi::{c_int, c_void};
 use std::ops::{Bound, RangeBounds};
 
@@ -133,6 +133,56 @@ impl<E: Ending> Transaction<'_, E> {
             return Err(Error::Shape);
         }
         batch::truths(&self.open, column, from, truths)
+    }
+
+    /// What the rows between two positions are made of, cut to the end of the table, in order: stable rows as they are, stable rows that
+    /// layers change, and rows that they insert. No key is read.
+    ///
+    /// Read over the rows of the stable table they are those rows, and so they are over any other rows that are as many. Who has a
+    /// column of the table's in files of its own ([`ColumnValues::Outside`](crate::ColumnValues::Outside)) reads it there by the SIDs, and
+    /// the cells that a row has of its own from the table. The stable table is that of the last checkpoint before the transaction
+    /// began, or else that of the opening.
+    ///
+    /// ```
+    /// use narthexmace::{ColumnType, ColumnValues, Error, Options, Store, Stretch};
+    /// let mine = [7, 2, 4]; // the values of qty, which the library never sees
+    /// let qty = ColumnValues::Outside { column_type: ColumnType::Int, rows: 3 };
+    /// let columns = [("id", ColumnValues::Ints(&[10, 20, 30])), ("qty", qty)];
+    /// let store = Store::from_columns(&columns, 1, &Options::default())?;
+    /// let mut txn = store.begin()?;
+    /// txn.insert([15, 5])?;
+    /// txn.set([20], 1, 3)?;
+    /// let (mut read, mut own) = (Vec::new(), [0]);
+    /// for stretch in txn.stretches(..) {
+    ///     let position = stretch.position();
+    ///     match stretch {
+    ///         Stretch::Stable { sid, rows, .. } => read.extend_from_slice(&mine[sid as usize..][..rows as usize]),
+    ///         Stretch::Changed { sid, .. } if !txn.changed(position)?[1] => read.push(mine[sid as usize]),
+    ///         Stretch::Changed { .. } | Stretch::Inserted { .. } => {
+    ///             txn.ints(1, position, &mut own)?;
+    ///             read.push(own[0]);
+    ///         }
+    ///     }
+    /// }
+    /// assert_eq!(vec![7, 5, 3, 4], read);
+    /// # Ok::<(), Error>(())
+    /// ```
+    pub fn stretches(&self, positions: impl RangeBounds<u64>) -> Stretches<'_> {
+        let (from, to) = self.within(positions);
+        Stretches::over(&self.open, from, to)
+    }
+
+    /// Which columns of the row at a position are its own, a truth for each column: false where the cell is that of the stable row,
+    /// whatever that holds. Those of an inserted row are all true. [`Error::Missing`] past the end, [`Error::NoMemory`].
+    pub fn changed(&self, position: u64) -> Result<Vec<bool>, Error> {
+        let mut bytes = [0u8; ffi::MAX_COLUMNS];
+        let width = self.store().columns().len();
+        // SAFETY: the transaction is open, and a table has at most so many columns.
+        done(unsafe { ffi::pdt_changed(self.raw(), position, bytes.as_mut_ptr(), width) })?;
+        let mut changed = Vec::new();
+        changed.try_reserve_exact(width)?;
+        changed.extend(bytes[..width].iter().map(|byte| *byte != 0));
+        Ok(changed)
     }
 
     /// The positions from the first up to but without the second, both cut to the length of the table.

@@ -22,6 +22,17 @@ pub enum ColumnType {
     Bool,
 }
 
+impl ColumnType {
+    /// The type as the library takes it.
+    pub(crate) fn passed(self) -> c_int {
+        match self {
+            ColumnType::Int => ffi::INT,
+            ColumnType::Text => ffi::TEXT,
+            ColumnType::Bool => ffi::BOOL,
+        }
+    }
+}
+
 /// A column of a table.
 #[derive(Clone, Debug, PartialEq, Eq, Hash)]
 pub struct Column {
