@@ -1,5 +1,7 @@
 -- A run of a list put after another list.
-use Rattle.std.proofs.Common.{◌≡◌, ℕ, zero, suc, ◌+◌, ◌<◌, ◌≤◌, List, [], ◌∷◌, ◌++◌, length, map, take, drop, get_or, slice_get, Some, Result, Ok, Err, OnOk, OnErr, append_assoc, sym, ap, subst, ◌∙◌, arith}
+use Rattle.std.proofs.Common.{◌≡◌, ℕ, zero, suc, ◌+◌, ◌<◌, ◌≤◌, List, [], ◌∷◌, ◌++◌, length, map, take, drop, get_or, slice_get, Some, Result, Ok, Err, OnOk, OnErr, Bool, true, false, cond, pos, append_assoc, refl, sym, ap, subst, ◌∙◌, arith}
+use Rattle.std.specs.Prelude.{ℤ}
+use mir.Val.{bool_byte}
 use Rattle.std.specs.List.{AllByRecursion}
 use Rattle.std.proofs.lemmas.List.{take_more, take-map, drop-map, map-append, get_or-drop, length-append, length-drop, length-take}
 use Rattle.std.proofs.lemmas.Option.{slice_get_within, get_or_from_slice_get}
@@ -29,6 +31,22 @@ pub map-with_run : {X Y : Type 0} (f : X → Y) (front xs : List X) (start i : �
 map-with_run f front xs start i =
     map-append f front (take i (drop start xs))
     ∙ ap (λ run. map f front ++ run) (sym (take-map f i (drop start xs)) ∙ ap (take i) (sym (drop-map f start xs)))
+
+-- ---- truths as numbers
+
+-- the numbers of so many truths, from one of them on
+abbrev pub run_numbers : List Bool → ℕ → ℕ → List ℤ
+run_numbers truths first count = map (λ truth. cond truth (pos 1) (pos 0)) (take count (drop first truths))
+
+pub number_is : (truth : Bool) → pos (bool_byte truth) ≡ cond truth (pos 1) (pos 0)
+number_is true = refl
+number_is false = refl
+
+pub run_numbers_more : (truths : List Bool) (first i : ℕ) (truth : Bool) → slice_get truths (first + i) ≡ Some truth
+    → run_numbers truths first (i + 1) ≡ run_numbers truths first i ++ cond truth (pos 1) (pos 0) ∷ []
+run_numbers_more truths first i truth is =
+    ap (map (λ truth. cond truth (pos 1) (pos 0))) (sym (run_more [] truths first i truth is))
+    ∙ map-append (λ truth. cond truth (pos 1) (pos 0)) (take i (drop first truths)) (truth ∷ [])
 
 -- ---- what holds of each
 

@@ -1,5 +1,5 @@
 //! Truth values, eight a byte.
-ghost use Rattle.std.specs.Prelude.{◌≡◌, ◌<◌, ◌≤◌, ◌+◌, ◌-◌, ◌*◌, ◌^◌, ◌++◌, ◌∷◌, [], Bool, List, cond, length, map, take, drop, Some, slice_get, IfOk, IsOk, OnOk, OnErr, IsTrue, vec_capacity};
+ghost use Rattle.std.specs.Prelude.{◌≡◌, ◌<◌, ◌≤◌, ◌+◌, ◌-◌, ◌*◌, ◌^◌, ◌++◌, ◌∷◌, [], Bool, List, pos, cond, length, map, take, drop, Some, slice_get, IfOk, IsOk, OnOk, OnErr, IsTrue, vec_capacity};
 ghost use Rattle.values.specs.declared.limits.TheConstants.{MAX_BLOCK_VALUES};
 ghost use Rattle.blocks.specs.Payload.{ArePacked, all_bits, is_true, IsPacked, bit_of, byte_of, byte_count, packed, has_set_padding};
 
@@ -42,6 +42,18 @@ impl Bits {
         ensures { slice_get self.now i ≡ Some result }
     {
         (self.bytes[i / 8] >> (7 - i % 8)) & 1 == 1
+    }
+
+    /// Puts truths from one of them on into a room, as many as it holds: 1 for true, and 0 for false.
+    pub fn put_numbers(&self, first: usize, out: &mut [i64])
+        requires { first + length out.old ≤ length self.now }
+        ensures { out.new ≡ map (λ truth. cond truth (pos 1) (pos 0)) (take (length out.old) (drop first self.now)) }
+    {
+        let length = self.len();
+        prove!(first + out.len() <= length);
+        for i in 0..out.len() {
+            out[i] = i64::from(self.get(first + i));
+        }
     }
 
     /// No truths. It takes no memory.
