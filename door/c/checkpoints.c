@@ -3,7 +3,7 @@
 
 /* ---- a checkpoint while others commit */
 
-struct pdt_snapshot {
+struct pdt_open_checkpoint {
   pdt_store *store;
   handle version;   /* the newest one when it began */
   uint64_t commits; /* the number of its table */
@@ -12,77 +12,77 @@ struct pdt_snapshot {
   bool is_written, is_installed;
 };
 
-pdt_code pdt_checkpoint_begin(pdt_store *store, uint64_t *commits, pdt_snapshot **out) {
+pdt_code pdt_checkpoint_begin(pdt_store *store, uint64_t *commits, pdt_open_checkpoint **out) {
   if (!out) return PDT_MISUSE;
   *out = NULL;
   if (!store) return PDT_MISUSE;
-  pdt_snapshot *snapshot = calloc(1, sizeof *snapshot);
-  if (!snapshot) return PDT_NOMEM;
+  pdt_open_checkpoint *checkpoint = calloc(1, sizeof *checkpoint);
+  if (!checkpoint) return PDT_NOMEM;
   replaced before = {{{NULL}}};
   int code = pdti_enter(store);
   if (!code) {
     uint64_t entries = pdtr_write_entries(&store->raw);
-    code = (int)pdtr_checkpoint_begin(&store->raw, &snapshot->version);
+    code = (int)pdtr_checkpoint_begin(&store->raw, &checkpoint->version);
     if (!code) {
       store->unpacked += entries;
-      store->snapshots++;
-      snapshot->rebuilt = ++store->rebuilt;
-      snapshot->commits = store->newest;
+      store->checkpoints_open++;
+      checkpoint->rebuilt = ++store->rebuilt;
+      checkpoint->commits = store->newest;
       before = pdti_refresh(store);
     }
     pdti_leave(store);
   }
   pdti_drop(before);
   if (code) {
-    free(snapshot);
+    free(checkpoint);
     return code;
   }
-  snapshot->store = store;
-  if (commits) *commits = snapshot->commits;
-  *out = snapshot;
+  checkpoint->store = store;
+  if (commits) *commits = checkpoint->commits;
+  *out = checkpoint;
   return PDT_OK;
 }
 
-pdt_code pdt_checkpoint_write(pdt_snapshot *snapshot, const char *folder) {
-  if (!snapshot || snapshot->is_written || !folder) return PDT_MISUSE;
-  int code = pdti_try_folder(snapshot->store, folder);
+pdt_code pdt_checkpoint_write(pdt_open_checkpoint *checkpoint, const char *folder) {
+  if (!checkpoint || checkpoint->is_written || !folder) return PDT_MISUSE;
+  int code = pdti_try_folder(checkpoint->store, folder);
   if (code) return code;
   uint8_t *chunk = malloc(CHUNK);
   if (!chunk) return PDT_NOMEM;
   handle image = {NULL};
-  code = pdti_snapshot_image(snapshot, &image);
+  code = pdti_checkpoint_image(checkpoint, &image);
   if (!code) {
-    code = pdti_write_files(snapshot->store, &image, folder, chunk);
+    code = pdti_write_files(checkpoint->store, &image, folder, chunk);
     int why = errno;
     pdtr_image_close(&image);
     errno = why;
   }
   pdti_free_chunk(chunk);
-  snapshot->is_written = !code;
+  checkpoint->is_written = !code;
   return code;
 }
 
-pdt_code pdt_checkpoint_read(pdt_snapshot *snapshot, pdt_txn **out) {
+pdt_code pdt_checkpoint_read(pdt_open_checkpoint *checkpoint, pdt_txn **out) {
   if (!out) return PDT_MISUSE;
   *out = NULL;
-  if (!snapshot) return PDT_MISUSE;
-  return pdti_begin_over(snapshot->store, &(kept_version){&snapshot->version, NULL, snapshot->commits}, out);
+  if (!checkpoint) return PDT_MISUSE;
+  return pdti_begin_over(checkpoint->store, &(kept_version){&checkpoint->version, NULL, checkpoint->commits}, out);
 }
 
-int pdti_snapshot_image(pdt_snapshot *snapshot, handle *image) {
-  pdt_store *store = snapshot->store;
-  int code = store->database ? pdti_wait_for_image(store->database, snapshot->commits) : PDT_OK;
-  if (!code && !snapshot->table.at) code = (int)pdtr_snapshot_table(&snapshot->version, &snapshot->table);
-  return code ? code : (int)pdtr_table_image(&snapshot->table, image);
+int pdti_checkpoint_image(pdt_open_checkpoint *checkpoint, handle *image) {
+  pdt_store *store = checkpoint->store;
+  int code = store->database ? pdti_wait_for_image(store->database, checkpoint->commits) : PDT_OK;
+  if (!code && !checkpoint->table.at) code = (int)pdtr_snapshot_table(&checkpoint->version, &checkpoint->table);
+  return code ? code : (int)pdtr_table_image(&checkpoint->table, image);
 }
 
-void pdti_snapshot_is_written(pdt_snapshot *snapshot) { snapshot->is_written = true; }
+void pdti_checkpoint_is_written(pdt_open_checkpoint *checkpoint) { checkpoint->is_written = true; }
 
-pdt_code pdt_checkpoint_install(pdt_snapshot *snapshot) {
-  if (!snapshot || !snapshot->is_written || snapshot->is_installed) return PDT_MISUSE;
-  pdt_store *store = snapshot->store;
+pdt_code pdt_checkpoint_install(pdt_open_checkpoint *checkpoint) {
+  if (!checkpoint || !checkpoint->is_written || checkpoint->is_installed) return PDT_MISUSE;
+  pdt_store *store = checkpoint->store;
   if (pdti_enter(store)) return PDT_MISUSE;
-  int code = store->rebuilt == snapshot->rebuilt ? (int)pdtr_restack(&store->raw, &snapshot->table) : PDT_SUPERSEDED;
+  int code = store->rebuilt == checkpoint->rebuilt ? (int)pdtr_restack(&store->raw, &checkpoint->table) : PDT_SUPERSEDED;
   replaced before = {{{NULL}}};
   if (!code) {
     store->rebuilt++;
@@ -93,18 +93,18 @@ pdt_code pdt_checkpoint_install(pdt_snapshot *snapshot) {
   if (code == PDT_SUPERSEDED) store->done.superseded++;
   pdti_leave(store);
   pdti_drop(before);
-  snapshot->is_installed = !code;
+  checkpoint->is_installed = !code;
   return code;
 }
 
-void pdt_checkpoint_end(pdt_snapshot *snapshot) {
-  if (!snapshot) return;
-  pdt_store *store = snapshot->store;
-  if (snapshot->table.at) pdtr_table_close(&snapshot->table);
-  pdtr_unpin(&snapshot->version); /* without the lock: what the new table replaced goes with it */
-  free(snapshot);
+void pdt_checkpoint_end(pdt_open_checkpoint *checkpoint) {
+  if (!checkpoint) return;
+  pdt_store *store = checkpoint->store;
+  if (checkpoint->table.at) pdtr_table_close(&checkpoint->table);
+  pdtr_unpin(&checkpoint->version); /* without the lock: what the new table replaced goes with it */
+  free(checkpoint);
   int held = pdti_enter(store); /* by this thread, where a commit of its own is prepared */
-  store->snapshots--;
+  store->checkpoints_open--;
   if (!held) pdti_leave(store);
 }
 
@@ -138,19 +138,19 @@ static void end_draft(draft *made) {
 /* Makes the newest table the stable one in memory: the table that was written or, where commits came since, one that is made
    anew. Where a fold or another checkpoint comes between, its layers stay. */
 static int install_draft(pdt_store *store, draft *made) {
-  pdt_snapshot *snapshot = NULL;
+  pdt_open_checkpoint *checkpoint = NULL;
   uint64_t commits = 0;
-  int code = pdt_checkpoint_begin(store, &commits, &snapshot);
+  int code = pdt_checkpoint_begin(store, &commits, &checkpoint);
   if (code) return code;
   if (commits == made->commits) {
-    snapshot->table = made->table;
+    checkpoint->table = made->table;
     made->table.at = NULL;
   } else {
-    code = (int)pdtr_snapshot_table(&snapshot->version, &snapshot->table);
+    code = (int)pdtr_snapshot_table(&checkpoint->version, &checkpoint->table);
   }
-  snapshot->is_written = !code;
-  if (!code) code = pdt_checkpoint_install(snapshot);
-  pdt_checkpoint_end(snapshot);
+  checkpoint->is_written = !code;
+  if (!code) code = pdt_checkpoint_install(checkpoint);
+  pdt_checkpoint_end(checkpoint);
   return code == PDT_SUPERSEDED ? PDT_OK : code;
 }
 

@@ -178,7 +178,7 @@ struct pdt_store {
   _Atomic(pdti_commit *) waiting_commits; /* the last one that waits to be made */
 
   /* under the lock */
-  size_t snapshots; /* how many checkpoints have begun and not ended */
+  size_t checkpoints_open; /* those that have begun and not ended */
   uint64_t rebuilt;  /* how often what is below the Write-PDT was made anew */
   uint64_t unpacked; /* how many entries were folded into the Read-PDT since it was packed */
   uint64_t newest;  /* the number of the newest table: of a database's, the number that its last commit has there */
@@ -377,9 +377,9 @@ enum { CHUNK = 1 << 20 };
 int pdti_write_to(int file, const void *bytes, size_t len);
 
 /* The bytes of a checkpoint that has begun, once a crash can't take its commits away: of a database PDT_FAILED where that is never. */
-int pdti_snapshot_image(pdt_snapshot *snapshot, handle *image);
+int pdti_checkpoint_image(pdt_open_checkpoint *checkpoint, handle *image);
 /* They are written. */
-void pdti_snapshot_is_written(pdt_snapshot *snapshot);
+void pdti_checkpoint_is_written(pdt_open_checkpoint *checkpoint);
 
 /* Whether a store can be made in a folder: it is there, may be read, and has no file of one. Nothing is changed by it. */
 int pdti_try_folder(const pdt_store *store, const char *folder);

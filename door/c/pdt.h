@@ -259,30 +259,30 @@ pdt_code pdt_checkpoint_to(pdt_store *store, pdt_write write, void *context, siz
 
 /* A checkpoint that has begun: the table as it was then. It is used by one thread at a time, and ended before its store is
    closed. */
-typedef struct pdt_snapshot pdt_snapshot;
+typedef struct pdt_open_checkpoint pdt_open_checkpoint;
 
 /* Begins a checkpoint of the newest table. *commits, if not null, is the number of that table: what an engine has logged of
-   later commits has to stay. PDT_NOMEM, PDT_MISUSE: *snapshot is null then.
+   later commits has to stay. PDT_NOMEM, PDT_MISUSE: *checkpoint is null then.
    It folds, and commits wait for that. */
-pdt_code pdt_checkpoint_begin(pdt_store *store, uint64_t *commits, pdt_snapshot **snapshot);
+pdt_code pdt_checkpoint_begin(pdt_store *store, uint64_t *commits, pdt_open_checkpoint **checkpoint);
 
 /* Writes that table into a folder as pdt_checkpoint does, and takes no lock. Once it answers PDT_OK the table is durable, as it
    is there. PDT_EXISTS, PDT_IO, PDT_NOMEM: what was written is removed, nothing in memory has changed, and it may be asked
    for again. PDT_MISUSE, also once it is done. It takes the memory of the table, and twice that of its bytes. */
-pdt_code pdt_checkpoint_write(pdt_snapshot *snapshot, const char *folder);
+pdt_code pdt_checkpoint_write(pdt_open_checkpoint *checkpoint, const char *folder);
 
 /* Begins a transaction over that table, whatever was committed since, as pdt_begin_at does over a pin's. PDT_NOMEM, PDT_MISUSE: *txn is
    null then. So an engine reads the stretches from which it writes columns of its own, before the install. */
-pdt_code pdt_checkpoint_read(pdt_snapshot *snapshot, pdt_txn **txn);
+pdt_code pdt_checkpoint_read(pdt_open_checkpoint *checkpoint, pdt_txn **txn);
 
 /* Makes what was written the stable table in memory: the commits since the begin stay in the Write-PDT, and no table changes.
    PDT_SUPERSEDED where a fold, or the begin or the install of another checkpoint came since: nothing changes. What was
    written stays good: it is the table of the begin. PDT_NOMEM: ask again. PDT_MISUSE before a write is done, and once it is.
    Commits wait for a handful of allocations. */
-pdt_code pdt_checkpoint_install(pdt_snapshot *snapshot);
+pdt_code pdt_checkpoint_install(pdt_open_checkpoint *checkpoint);
 
 /* Lets a checkpoint go, whatever was done of it: what was written stays where it is. A null pointer is no error. */
-void pdt_checkpoint_end(pdt_snapshot *snapshot);
+void pdt_checkpoint_end(pdt_open_checkpoint *checkpoint);
 
 /* ---- transactions */
 

@@ -171,7 +171,7 @@ void pdti_drop(replaced versions) {
 
 /* ---- what a store has */
 
-bool pdti_is_used_now(const pdt_store *store) { return store->open || store->snapshots || store->pins || store->waiting; }
+bool pdti_is_used_now(const pdt_store *store) { return store->open || store->checkpoints_open || store->pins || store->waiting; }
 
 bool pdti_is_used(pdt_store *store) {
   pthread_mutex_lock(&store->locks->fresh_lock);

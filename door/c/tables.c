@@ -63,14 +63,14 @@ static int safe_number(pdt_database *database, uint64_t *number) {
 }
 
 int pdti_write_first(pdt_database *database, pdti_table *entry) {
-  pdt_snapshot *snapshot = NULL;
+  pdt_open_checkpoint *checkpoint = NULL;
   handle image = {NULL};
-  int code = pdt_checkpoint_begin(entry->store, NULL, &snapshot);
-  if (!code) code = pdti_snapshot_image(snapshot, &image);
+  int code = pdt_checkpoint_begin(entry->store, NULL, &checkpoint);
+  if (!code) code = pdti_checkpoint_image(checkpoint, &image);
   if (!code) code = pdti_write_image(database, entry, &image, &entry->image);
   int why = errno;
   if (image.at) pdtr_image_close(&image);
-  pdt_checkpoint_end(snapshot);
+  pdt_checkpoint_end(checkpoint);
   errno = why;
   return code;
 }

@@ -54,11 +54,11 @@ static bool is_long(pdt_database *database) {
 
 /* Makes an image of a table, has the manifest name it, and makes it the stable table in memory. With files_lock held. */
 static int make_image(pdt_database *database, pdti_table *entry) {
-  pdt_snapshot *snapshot = NULL;
+  pdt_open_checkpoint *checkpoint = NULL;
   handle bytes = {NULL};
   table_image made, before = entry->image;
-  int code = pdt_checkpoint_begin(entry->store, &made.number, &snapshot);
-  if (!code) code = pdti_snapshot_image(snapshot, &bytes);
+  int code = pdt_checkpoint_begin(entry->store, &made.number, &checkpoint);
+  if (!code) code = pdti_checkpoint_image(checkpoint, &bytes);
   if (!code) code = pdti_write_image(database, entry, &bytes, &made);
   int why = errno;
   if (bytes.at) pdtr_image_close(&bytes);
@@ -72,11 +72,11 @@ static int make_image(pdt_database *database, pdti_table *entry) {
   if (!code) {
     database->images++;
     pdti_remove_images(database);
-    pdti_snapshot_is_written(snapshot);
-    code = pdt_checkpoint_install(snapshot);
+    pdti_checkpoint_is_written(checkpoint);
+    code = pdt_checkpoint_install(checkpoint);
     if (code == PDT_SUPERSEDED) code = PDT_OK; /* a fold of the caller's came between: the image is as good */
   }
-  pdt_checkpoint_end(snapshot);
+  pdt_checkpoint_end(checkpoint);
   return code;
 }
 

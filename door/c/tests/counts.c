@@ -141,22 +141,22 @@ static void pins(void) {
 }
 
 static void upkeep(const char *room) {
-  pdt_snapshot *snapshot = NULL;
+  pdt_open_checkpoint *checkpoint = NULL;
   char folder[320];
   is("fold", PDT_OK, pdt_fold(store));
   due.folds++;
   counted("a fold", 0);
-  is("begin a checkpoint", PDT_OK, pdt_checkpoint_begin(store, NULL, &snapshot));
+  is("begin a checkpoint", PDT_OK, pdt_checkpoint_begin(store, NULL, &checkpoint));
   counted("a checkpoint that has begun", 0);
   snprintf(folder, sizeof folder, "%s", room);
-  is("write", PDT_OK, pdt_checkpoint_write(snapshot, folder));
+  is("write", PDT_OK, pdt_checkpoint_write(checkpoint, folder));
   counted("a checkpoint that is written", 0);
   is("fold", PDT_OK, pdt_fold(store));
   due.folds++;
-  is("superseded", PDT_SUPERSEDED, pdt_checkpoint_install(snapshot));
-  is("superseded", PDT_SUPERSEDED, pdt_checkpoint_install(snapshot));
+  is("superseded", PDT_SUPERSEDED, pdt_checkpoint_install(checkpoint));
+  is("superseded", PDT_SUPERSEDED, pdt_checkpoint_install(checkpoint));
   due.superseded += 2;
-  pdt_checkpoint_end(snapshot);
+  pdt_checkpoint_end(checkpoint);
   counted("a checkpoint that something else came before", 0);
   is("checkpoint", PDT_OK, pdt_checkpoint_to(store, takes_all, NULL, NULL));
   due.checkpoints++;

@@ -189,11 +189,11 @@ static void refuses(void) {
   is("a kept pin", PDT_MISUSE, pdt_table_drop(database, "items"));
   is("of its table", PDT_MISUSE, pdt_database_close(database));
   pdt_unpin(pin);
-  pdt_snapshot *snapshot = NULL;
-  is("checkpoint", PDT_OK, pdt_checkpoint_begin(items, NULL, &snapshot));
+  pdt_open_checkpoint *checkpoint = NULL;
+  is("checkpoint", PDT_OK, pdt_checkpoint_begin(items, NULL, &checkpoint));
   is("one that has begun", PDT_MISUSE, pdt_table_drop(database, "items"));
   is("of its table", PDT_MISUSE, pdt_database_close(database));
-  pdt_checkpoint_end(snapshot);
+  pdt_checkpoint_end(checkpoint);
   is("no such table", PDT_MISSING, pdt_table_drop(database, "nothing"));
   is("a drop", PDT_OK, pdt_table_drop(database, "items"));
   is("is gone", PDT_MISSING, pdt_table_open(database, "items", &store));

@@ -83,7 +83,7 @@ static kept_table pins[PINS];
 static pdt_counts counted; /* what the store counts of what has been done */
 static int commit_count, cut_at, recent, row_limit;
 static bool by_row;
-static pdt_snapshot *snapshot;
+static pdt_open_checkpoint *begun_checkpoint;
 static view begun_rows; /* of the checkpoint that has begun */
 static bool is_superseded, is_written, is_installed;
 
@@ -364,7 +364,7 @@ static void commit(client *c) {
 static void beside(client *c) {
   pdt_txn *txn;
   pdt_layer *read, *write;
-  pdt_snapshot *other;
+  pdt_open_checkpoint *other;
   pdt_pinned *pin;
   uint64_t number = 0;
   answers("a write of what is prepared", PDT_MISUSE, D(pdt_set, c->txn, (int64_t[]){0}, NULL, 0, 3, 1, NULL));
@@ -584,8 +584,8 @@ static void checkpoint(void) {
 static void checkpoint_parts(void) {
   uint64_t number = 0;
   pdt_store *other = NULL;
-  if (!snapshot) {
-    answers("begin a checkpoint", PDT_OK, D(pdt_checkpoint_begin, store, &number, &snapshot));
+  if (!begun_checkpoint) {
+    answers("begin a checkpoint", PDT_OK, D(pdt_checkpoint_begin, store, &number, &begun_checkpoint));
     is("its number", commit_count, (long long)number);
     begun_rows = newest;
     is_superseded = is_written = is_installed = false;
@@ -595,7 +595,7 @@ static void checkpoint_parts(void) {
     case 4: {
       pdt_txn *txn = NULL;
       uint64_t rows = 0;
-      answers("read a checkpoint", PDT_OK, D(pdt_checkpoint_read, snapshot, &txn));
+      answers("read a checkpoint", PDT_OK, D(pdt_checkpoint_read, begun_checkpoint, &txn));
       counted.begins++;
       answers("rows of the begin", PDT_OK, D(pdt_rows, txn, &rows));
       is("rows of the begin", rows_of(&begun_rows), (long long)rows);
@@ -604,7 +604,7 @@ static void checkpoint_parts(void) {
     }
     case 0:
     case 1:
-      answers("write", is_written ? PDT_MISUSE : PDT_OK, D(pdt_checkpoint_write, snapshot, room));
+      answers("write", is_written ? PDT_MISUSE : PDT_OK, D(pdt_checkpoint_write, begun_checkpoint, room));
       if (is_written) return;
       is_written = true;
       recover_files(NULL, &other);
@@ -613,7 +613,7 @@ static void checkpoint_parts(void) {
       return;
     case 2: {
       int wanted = !is_written || is_installed ? PDT_MISUSE : is_superseded ? PDT_SUPERSEDED : PDT_OK;
-      answers("install a checkpoint", wanted, D(pdt_checkpoint_install, snapshot));
+      answers("install a checkpoint", wanted, D(pdt_checkpoint_install, begun_checkpoint));
       is_installed |= wanted == PDT_OK;
       counted.checkpoints += wanted == PDT_OK;
       counted.superseded += wanted == PDT_SUPERSEDED;
@@ -621,8 +621,8 @@ static void checkpoint_parts(void) {
     }
     default:
       answers("close with a checkpoint begun", PDT_MISUSE, D(pdt_close, store));
-      D(pdt_checkpoint_end, snapshot);
-      snapshot = NULL;
+      D(pdt_checkpoint_end, begun_checkpoint);
+      begun_checkpoint = NULL;
   }
 }
 
@@ -634,8 +634,8 @@ static void reopen(void) {
     D(pdt_abort, clients[i].txn);
     clients[i].txn = NULL;
   }
-  if (snapshot) D(pdt_checkpoint_end, snapshot);
-  snapshot = NULL;
+  if (begun_checkpoint) D(pdt_checkpoint_end, begun_checkpoint);
+  begun_checkpoint = NULL;
   for (int i = 0; i < PINS; i++) {
     if (!pins[i].pin) continue;
     answers("close with a pin kept", PDT_MISUSE, D(pdt_close, store));

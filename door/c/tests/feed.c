@@ -128,11 +128,11 @@ static int takes_all(void *context, size_t column, const uint8_t *bytes, size_t 
   return (void)context, (void)column, (void)bytes, (void)len, 0;
 }
 static void upkeep(pdt_store *store) {
-  pdt_snapshot *snapshot;
+  pdt_open_checkpoint *checkpoint;
   switch (below(12)) {
     case 0: is("fold", PDT_OK, pdt_fold(store)); return;
     case 1: is("checkpoint", PDT_OK, pdt_checkpoint_to(store, takes_all, NULL, NULL)); return;
-    case 2: is("begin a checkpoint", PDT_OK, pdt_checkpoint_begin(store, NULL, &snapshot)), pdt_checkpoint_end(snapshot);
+    case 2: is("begin a checkpoint", PDT_OK, pdt_checkpoint_begin(store, NULL, &checkpoint)), pdt_checkpoint_end(checkpoint);
   }
 }
 

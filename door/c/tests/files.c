@@ -177,7 +177,7 @@ static void the_order_is(const char *what, const char *folder) {
 
 static void orders(void) {
   pdt_store *store = opened();
-  pdt_snapshot *snapshot = NULL;
+  pdt_open_checkpoint *checkpoint = NULL;
   const char *folder = new_folder();
   set(store, "Rob");
   listen(NULL, -1, 0);
@@ -187,12 +187,12 @@ static void orders(void) {
   is("no entry is left", 0, (long long)read_entries(store));
   recovers("a checkpoint", folder, "Rob");
   folder = new_folder();
-  is("begin", PDT_OK, pdt_checkpoint_begin(store, NULL, &snapshot));
+  is("begin", PDT_OK, pdt_checkpoint_begin(store, NULL, &checkpoint));
   listen(NULL, -1, 0);
-  is("write", PDT_OK, pdt_checkpoint_write(snapshot, folder));
+  is("write", PDT_OK, pdt_checkpoint_write(checkpoint, folder));
   stop();
   the_order_is("a checkpoint in two parts", folder);
-  pdt_checkpoint_end(snapshot);
+  pdt_checkpoint_end(checkpoint);
   is("close", PDT_OK, pdt_close(store));
 }
 
@@ -213,7 +213,7 @@ static void failing_calls(int why, bool in_parts) {
   long after = 0;
   for (bool all = false; !all; after++) {
     pdt_store *store = opened();
-    pdt_snapshot *first = NULL, *second = NULL;
+    pdt_open_checkpoint *first = NULL, *second = NULL;
     const char *folder;
     set(store, "Rob");
     is("begin", PDT_OK, pdt_checkpoint_begin(store, NULL, &first));
@@ -323,17 +323,17 @@ static void cut_short(void) {
 
 static void paths(void) {
   pdt_store *store = opened(), *again = NULL;
-  pdt_snapshot *snapshot = NULL;
-  is("begin", PDT_OK, pdt_checkpoint_begin(store, NULL, &snapshot));
+  pdt_open_checkpoint *checkpoint = NULL;
+  is("begin", PDT_OK, pdt_checkpoint_begin(store, NULL, &checkpoint));
   listen(NULL, -1, 0);
   is("a checkpoint in no folder", PDT_MISUSE, pdt_checkpoint(store, ""));
-  is("a write in no folder", PDT_MISUSE, pdt_checkpoint_write(snapshot, ""));
+  is("a write in no folder", PDT_MISUSE, pdt_checkpoint_write(checkpoint, ""));
   is("a recovery of no folder", PDT_MISUSE, pdt_recover("", NULL, &again));
   stop();
   is("no file is looked at", 0, (long long)ends);
   is("a file in the place of a folder", PDT_IO, pdt_checkpoint(store, "/proc/self/stat"));
   is("why", ENOTDIR, errno);
-  pdt_checkpoint_end(snapshot);
+  pdt_checkpoint_end(checkpoint);
   is("close", PDT_OK, pdt_close(store));
 }
 

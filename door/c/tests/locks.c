@@ -217,7 +217,7 @@ static void store_calls(const char *room) {
   pdt_sizes sizes;
   pdt_txn *txn = NULL;
   pdt_layer *read, *write, *own, *feed;
-  pdt_snapshot *snapshot;
+  pdt_open_checkpoint *checkpoint;
   pdt_pinned *pin;
   pdt_counts counts = {.size = sizeof counts};
   uint64_t number;
@@ -247,13 +247,13 @@ static void store_calls(const char *room) {
   TAKES(1, 0, pdt_layers(store, &read, &write));
   TAKES(1, 0, pdt_fold(store));
   TAKES(1, 0, pdt_cut(store));
-  TAKES(1, 0, pdt_checkpoint_begin(store, NULL, &snapshot));
-  TAKES(0, 0, pdt_checkpoint_write(snapshot, folder));
-  TAKES(1, 0, pdt_checkpoint_install(snapshot));
-  TAKES(1, 0, pdt_checkpoint_end(snapshot));
-  is("begin", PDT_OK, pdt_checkpoint_begin(store, NULL, &snapshot));
+  TAKES(1, 0, pdt_checkpoint_begin(store, NULL, &checkpoint));
+  TAKES(0, 0, pdt_checkpoint_write(checkpoint, folder));
+  TAKES(1, 0, pdt_checkpoint_install(checkpoint));
+  TAKES(1, 0, pdt_checkpoint_end(checkpoint));
+  is("begin", PDT_OK, pdt_checkpoint_begin(store, NULL, &checkpoint));
   ending = store;
-  pdt_checkpoint_end(snapshot);
+  pdt_checkpoint_end(checkpoint);
   TAKES(5, 0, pdt_checkpoint(store, other));
   txn = begun(store);
   TAKES(0, 0, pdt_abort(txn));
@@ -437,7 +437,7 @@ static void unshared(void) {
   } while (0)
 static void shares(const char *room) {
   pdt_store *store = opened(0);
-  pdt_snapshot *snapshot = NULL;
+  pdt_open_checkpoint *checkpoint = NULL;
   pdt_txn *txn = NULL;
   char folder[320];
   snprintf(folder, sizeof folder, "%s/three", room);
@@ -451,10 +451,10 @@ static void shares(const char *room) {
   SHARES(1, pdt_install(txn));
   SHARES(1, pdt_fold(store));
   SHARES(0, pdt_cut(store));
-  SHARES(1, pdt_checkpoint_begin(store, NULL, &snapshot));
-  SHARES(0, pdt_checkpoint_write(snapshot, folder));
-  SHARES(1, pdt_checkpoint_install(snapshot));
-  pdt_checkpoint_end(snapshot);
+  SHARES(1, pdt_checkpoint_begin(store, NULL, &checkpoint));
+  SHARES(0, pdt_checkpoint_write(checkpoint, folder));
+  SHARES(1, pdt_checkpoint_install(checkpoint));
+  pdt_checkpoint_end(checkpoint);
   is("close", PDT_OK, pdt_close(store));
 }
 

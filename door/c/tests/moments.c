@@ -302,19 +302,19 @@ static void prepared(void) {
   one = (task){.store = store};
   start(&one, commits);
   is("a commit in memory", PDT_OK, joined(&one));
-  pdt_snapshot *snapshot = NULL;
-  is("checkpoint", PDT_OK, pdt_checkpoint_begin(store, NULL, &snapshot));
+  pdt_open_checkpoint *checkpoint = NULL;
+  is("checkpoint", PDT_OK, pdt_checkpoint_begin(store, NULL, &checkpoint));
   txn = begun(store);
   set(txn, 1, 1);
   char folder[500];
   snprintf(folder, sizeof folder, "%s/image", room);
   is("mkdir", 0, mkdir(folder, 0777));
   is("prepare", PDT_OK, pdt_prepare(txn, NULL));
-  is("not now", PDT_MISUSE, pdt_checkpoint_write(snapshot, folder));
+  is("not now", PDT_MISUSE, pdt_checkpoint_write(checkpoint, folder));
   is("give up", PDT_OK, pdt_give_up(txn));
-  is("write", PDT_OK, pdt_checkpoint_write(snapshot, folder));
+  is("write", PDT_OK, pdt_checkpoint_write(checkpoint, folder));
   is("is safe then", 1, (long long)counted(database).safe);
-  pdt_checkpoint_end(snapshot);
+  pdt_checkpoint_end(checkpoint);
   is("goes on", PDT_OK, pdt_commit(txn, NULL));
   closed(database);
 }

@@ -1,5 +1,5 @@
 /* A column that stays with the engine: a file of numbers by mmap, which is read by stretches beside the same column as the library
-   keeps it, changed, written anew by the stretches of a checkpoint's snapshot while others commit, and mapped again.
+   keeps it, changed, written anew by the stretches of an open checkpoint while others commit, and mapped again.
    outside FOLDER: the folder is empty. */
 #define _POSIX_C_SOURCE 200809L
 #include <fcntl.h>
@@ -148,23 +148,23 @@ static pdt_store *opened(int64_t *numbers) {
   is("open", PDT_OK, pdt_open_columns(columns, WIDTH, 1, NULL, NULL, &store));
   return store;
 }
-/* A checkpoint of table and column: the column is written by the snapshot's stretches, while another transaction commits. */
+/* A checkpoint of table and column: the column is written by the checkpoint's stretches, while another transaction commits. */
 static column_file checkpoint(pdt_store *store, column_file old, const char *folder, const char *file) {
   static int64_t numbers[MANY];
-  pdt_snapshot *snapshot = NULL;
+  pdt_open_checkpoint *checkpoint = NULL;
   pdt_txn *txn = NULL;
   uint64_t commits = 0, seen = 0;
-  is("begin a checkpoint", PDT_OK, pdt_checkpoint_begin(store, &commits, &snapshot));
+  is("begin a checkpoint", PDT_OK, pdt_checkpoint_begin(store, &commits, &checkpoint));
   write_all(store, 2);
-  is("read it", PDT_OK, pdt_checkpoint_read(snapshot, &txn));
+  is("read it", PDT_OK, pdt_checkpoint_read(checkpoint, &txn));
   is("its number", PDT_OK, pdt_begun(txn, &seen));
   is("the table of the begin", (long long)commits, (long long)seen);
-  are_the_same("the snapshot", txn, old);
+  are_the_same("the checkpoint", txn, old);
   write_column(file, numbers, read_outside(txn, old, 0, UINT64_MAX, numbers));
   pdt_abort(txn);
-  is("write the table", PDT_OK, pdt_checkpoint_write(snapshot, folder));
-  is("install it", PDT_OK, pdt_checkpoint_install(snapshot));
-  pdt_checkpoint_end(snapshot);
+  is("write the table", PDT_OK, pdt_checkpoint_write(checkpoint, folder));
+  is("install it", PDT_OK, pdt_checkpoint_install(checkpoint));
+  pdt_checkpoint_end(checkpoint);
   return map_column(file);
 }
 
@@ -203,7 +203,7 @@ int main(int argc, char **argv) {
   newest_is("after one more commit", store, new);
 
   is("no transaction", PDT_MISUSE, pdt_stretches(NULL, 0, 1, NULL, &(size_t){0}));
-  is("no snapshot", PDT_MISUSE, pdt_checkpoint_read(NULL, &txn));
+  is("no checkpoint", PDT_MISUSE, pdt_checkpoint_read(NULL, &txn));
   unmap_column(old);
   unmap_column(new);
   is("close", PDT_OK, pdt_close(store));

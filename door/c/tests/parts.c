@@ -89,7 +89,7 @@ static void prepares(void) {
   pdt_txn *txn = setting(store, 10, 5), *late = setting(store, 10, 6), *third = setting(store, 20, 7);
   pdt_txn *elsewhere = setting(other, 10, 9);
   pdt_layer *read, *write;
-  pdt_snapshot *snapshot;
+  pdt_open_checkpoint *checkpoint;
   uint64_t number = 77;
   size_t level;
   int64_t key = 20;
@@ -110,7 +110,7 @@ static void prepares(void) {
   is("cut", PDT_MISUSE, pdt_cut(store));
   is("layers", PDT_MISUSE, pdt_layers(store, &read, &write));
   is("checkpoint", PDT_MISUSE, pdt_checkpoint(store, "/nowhere"));
-  is("begin a checkpoint", PDT_MISUSE, pdt_checkpoint_begin(store, NULL, &snapshot));
+  is("begin a checkpoint", PDT_MISUSE, pdt_checkpoint_begin(store, NULL, &checkpoint));
   is("changes", PDT_MISUSE, pdt_changes(store, 1, &read));
   is("null then", 1, read == NULL);
   is("close", PDT_MISUSE, pdt_close(store));
@@ -261,30 +261,30 @@ static void checkpoints(const char *room) {
   make_folder(folder, sizeof folder, room, "begun");
   make_folder(second, sizeof second, room, "second");
   pdt_store *store = opened(), *again = NULL;
-  pdt_snapshot *snapshot = NULL;
+  pdt_open_checkpoint *checkpoint = NULL;
   pthread_t thread;
   uint64_t number = 77;
   is("commit", PDT_OK, pdt_commit(setting(store, 10, 5), NULL));
   pdt_txn *open = setting(store, 30, 8);
-  is("begin of null", PDT_MISUSE, pdt_checkpoint_begin(NULL, NULL, &snapshot));
+  is("begin of null", PDT_MISUSE, pdt_checkpoint_begin(NULL, NULL, &checkpoint));
   is("begin to nowhere", PDT_MISUSE, pdt_checkpoint_begin(store, NULL, NULL));
-  is("begin", PDT_OK, pdt_checkpoint_begin(store, &number, &snapshot));
+  is("begin", PDT_OK, pdt_checkpoint_begin(store, &number, &checkpoint));
   is("its number", 1, (long long)number);
   is("it folds", 0, (long long)sizes_of(store).write_entries);
-  is("install before it is written", PDT_MISUSE, pdt_checkpoint_install(snapshot));
+  is("install before it is written", PDT_MISUSE, pdt_checkpoint_install(checkpoint));
 
   if (pthread_create(&thread, NULL, commits, store)) exit(1);
-  is("no folder", PDT_IO, pdt_checkpoint_write(snapshot, "/nowhere/at/all"));
-  is("write", PDT_OK, pdt_checkpoint_write(snapshot, folder));
-  is("once", PDT_MISUSE, pdt_checkpoint_write(snapshot, second));
+  is("no folder", PDT_IO, pdt_checkpoint_write(checkpoint, "/nowhere/at/all"));
+  is("write", PDT_OK, pdt_checkpoint_write(checkpoint, folder));
+  is("once", PDT_MISUSE, pdt_checkpoint_write(checkpoint, second));
   pthread_join(thread, NULL);
   is("an open transaction commits", PDT_OK, pdt_commit(open, &number));
   is("its number", COMMITS + 2, (long long)number);
   open = setting(store, 20, -1);
   is("commit", PDT_OK, pdt_commit(setting(store, 10, 6), NULL));
 
-  is("install", PDT_OK, pdt_checkpoint_install(snapshot));
-  is("once", PDT_MISUSE, pdt_checkpoint_install(snapshot));
+  is("install", PDT_OK, pdt_checkpoint_install(checkpoint));
+  is("once", PDT_MISUSE, pdt_checkpoint_install(checkpoint));
   is("close too soon", PDT_MISUSE, pdt_close(store));
   pdt_sizes sizes = sizes_of(store);
   is("nothing is left to move", 0, (long long)sizes.read_entries);
@@ -294,15 +294,15 @@ static void checkpoints(const char *room) {
   is("what began before reads on", 5, qty_of(open, 10));
   is("and commits", PDT_OK, pdt_commit(open, NULL));
   newest_is("over the new stable table", store, 6, -1, 8);
-  pdt_checkpoint_end(snapshot);
+  pdt_checkpoint_end(checkpoint);
 
   is("recover", PDT_OK, pdt_recover(folder, NULL, &again));
   newest_is("the table of the begin", again, 5, 2, 3);
   is("close", PDT_OK, pdt_close(again));
-  is("a folder that has a store", PDT_OK, pdt_checkpoint_begin(store, NULL, &snapshot));
-  is("write", PDT_EXISTS, pdt_checkpoint_write(snapshot, folder));
+  is("a folder that has a store", PDT_OK, pdt_checkpoint_begin(store, NULL, &checkpoint));
+  is("write", PDT_EXISTS, pdt_checkpoint_write(checkpoint, folder));
   is("close with a checkpoint alone begun", PDT_MISUSE, pdt_close(store));
-  pdt_checkpoint_end(snapshot);
+  pdt_checkpoint_end(checkpoint);
   pdt_checkpoint_end(NULL);
   is("write null", PDT_MISUSE, pdt_checkpoint_write(NULL, folder));
   is("install null", PDT_MISUSE, pdt_checkpoint_install(NULL));
@@ -314,13 +314,13 @@ static void reads_stable(const char *room) {
   char folder[512];
   make_folder(folder, sizeof folder, room, "stable");
   pdt_store *store = opened();
-  pdt_snapshot *snapshot = NULL;
+  pdt_open_checkpoint *checkpoint = NULL;
   pdt_piece pieces[3];
   is("commit", PDT_OK, pdt_commit(setting(store, 20, 5), NULL));
-  is("begin", PDT_OK, pdt_checkpoint_begin(store, NULL, &snapshot));
-  is("write", PDT_OK, pdt_checkpoint_write(snapshot, folder));
+  is("begin", PDT_OK, pdt_checkpoint_begin(store, NULL, &checkpoint));
+  is("write", PDT_OK, pdt_checkpoint_write(checkpoint, folder));
   for (int installed = 0; installed < 2; installed++) {
-    if (installed) is("install", PDT_OK, pdt_checkpoint_install(snapshot));
+    if (installed) is("install", PDT_OK, pdt_checkpoint_install(checkpoint));
     pdt_txn *txn = begun(store);
     size_t count = 3;
     is("pieces", PDT_OK, pdt_pieces(txn, 1, 0, 3, pieces, &count, NULL));
@@ -328,7 +328,7 @@ static void reads_stable(const char *room) {
     pdt_abort(txn);
   }
   is("as they were committed", 1, pieces[0].at && pieces[0].at[0] == 1 && pieces[0].at[1] == 5 && pieces[0].at[2] == 3);
-  pdt_checkpoint_end(snapshot);
+  pdt_checkpoint_end(checkpoint);
   is("close", PDT_OK, pdt_close(store));
 }
 
@@ -338,10 +338,10 @@ static void failed_checkpoints(const char *room) {
   make_folder(folder, sizeof folder, room, "beside");
   make_folder(full, sizeof full, room, "full");
   pdt_store *store = opened();
-  pdt_snapshot *snapshot = NULL;
+  pdt_open_checkpoint *checkpoint = NULL;
   is("commit", PDT_OK, pdt_commit(setting(store, 10, 5), NULL));
-  is("begin", PDT_OK, pdt_checkpoint_begin(store, NULL, &snapshot));
-  is("write", PDT_OK, pdt_checkpoint_write(snapshot, folder));
+  is("begin", PDT_OK, pdt_checkpoint_begin(store, NULL, &checkpoint));
+  is("write", PDT_OK, pdt_checkpoint_write(checkpoint, folder));
   is("commit", PDT_OK, pdt_commit(setting(store, 20, 6), NULL));
   is("no folder", PDT_IO, pdt_checkpoint(store, "/nowhere/at/all"));
   is("a folder that has a store", PDT_EXISTS, pdt_checkpoint(store, folder));
@@ -349,8 +349,8 @@ static void failed_checkpoints(const char *room) {
   pdt_sizes sizes = sizes_of(store);
   is("what a fold moves", 1, (long long)sizes.write_entries);
   is("what a checkpoint moves", 1, (long long)sizes.read_entries);
-  is("the other one is installed", PDT_OK, pdt_checkpoint_install(snapshot));
-  pdt_checkpoint_end(snapshot);
+  is("the other one is installed", PDT_OK, pdt_checkpoint_install(checkpoint));
+  pdt_checkpoint_end(checkpoint);
   is("what a checkpoint moves", 0, (long long)sizes_of(store).read_entries);
   newest_is("no table has changed", store, 5, 6, 3);
   is("checkpoint", PDT_OK, pdt_checkpoint(store, full));
@@ -381,9 +381,9 @@ static pdt_code fold(pdt_store *store, const char *folder) { return (void)folder
 static pdt_code cut(pdt_store *store, const char *folder) { return (void)folder, pdt_cut(store); }
 static pdt_code commit(pdt_store *store, const char *folder) { return (void)folder, pdt_commit(setting(store, 20, 9), NULL); }
 static pdt_code begin(pdt_store *store, const char *folder) {
-  pdt_snapshot *snapshot;
-  pdt_code code = pdt_checkpoint_begin(store, NULL, &snapshot);
-  return (void)folder, pdt_checkpoint_end(code ? NULL : snapshot), code;
+  pdt_open_checkpoint *checkpoint;
+  pdt_code code = pdt_checkpoint_begin(store, NULL, &checkpoint);
+  return (void)folder, pdt_checkpoint_end(code ? NULL : checkpoint), code;
 }
 static pdt_code prepare(pdt_store *store, const char *folder) {
   pdt_txn *txn = setting(store, 20, 9);
@@ -419,14 +419,14 @@ static void comes_between(const char *room) {
     snprintf(name, sizeof name, "beside-%zu", i);
     make_folder(other, sizeof other, room, name);
     pdt_store *store = opened(), *again = NULL;
-    pdt_snapshot *snapshot = NULL;
+    pdt_open_checkpoint *checkpoint = NULL;
     is("commit", PDT_OK, pdt_commit(setting(store, 10, 5), NULL));
-    is("begin", PDT_OK, pdt_checkpoint_begin(store, NULL, &snapshot));
-    is("write", PDT_OK, pdt_checkpoint_write(snapshot, folder));
+    is("begin", PDT_OK, pdt_checkpoint_begin(store, NULL, &checkpoint));
+    is("write", PDT_OK, pdt_checkpoint_write(checkpoint, folder));
     is(cases[i].name, PDT_OK, cases[i].call(store, other));
-    is(cases[i].name, cases[i].code, pdt_checkpoint_install(snapshot));
+    is(cases[i].name, cases[i].code, pdt_checkpoint_install(checkpoint));
     newest_is(cases[i].name, store, 5, cases[i].qty, 3);
-    pdt_checkpoint_end(snapshot);
+    pdt_checkpoint_end(checkpoint);
     newest_is(cases[i].name, store, 5, cases[i].qty, 3);
     is("recover", PDT_OK, pdt_recover(folder, NULL, &again));
     newest_is(cases[i].name, again, 5, 2, 3);

@@ -62,7 +62,7 @@ typedef struct {
   pdt_store *store;
   pdt_txn *txn;
   pdt_pinned *pin;
-  pdt_snapshot *snapshot;
+  pdt_open_checkpoint *checkpoint;
   pdt_layer *layer;
   const pdt_piece *pieces;
   const char *const *texts;
@@ -77,7 +77,7 @@ static void *uses_store(void *with) {
   for (int i = 0; i < ROUNDS; i++) {
     pdt_sizes sizes;
     pdt_layer *read, *write;
-    pdt_snapshot *snapshot;
+    pdt_open_checkpoint *checkpoint;
     is("columns", 3, (long long)pdt_columns(store));
     is("key columns", 1, (long long)pdt_key_columns(store));
     is("type", PDT_TEXT, pdt_column_type(store, 1));
@@ -106,8 +106,8 @@ static void *uses_store(void *with) {
     pdt_layer_close(read), pdt_layer_close(write);
     if (i % 20 == 0) is("fold", PDT_OK, pdt_fold(store));
     if (i % 20 == 5) is("cut", PDT_OK, pdt_cut(store));
-    is("begin a checkpoint", PDT_OK, pdt_checkpoint_begin(store, NULL, &snapshot));
-    pdt_checkpoint_end(snapshot);
+    is("begin a checkpoint", PDT_OK, pdt_checkpoint_begin(store, NULL, &checkpoint));
+    pdt_checkpoint_end(checkpoint);
   }
   return NULL;
 }
@@ -173,11 +173,11 @@ static void *writes_it(void *with) {
   char folder[320];
   snprintf(folder, sizeof folder, "%s/rules", room);
   is("mkdir", 0, mkdir(folder, 0777));
-  is("write", PDT_OK, pdt_checkpoint_write(((shared *)with)->snapshot, folder));
+  is("write", PDT_OK, pdt_checkpoint_write(((shared *)with)->checkpoint, folder));
   return NULL;
 }
-static void *installs_it(void *with) { return is("install", PDT_OK, pdt_checkpoint_install(((shared *)with)->snapshot)), NULL; }
-static void *ends_it(void *with) { return pdt_checkpoint_end(((shared *)with)->snapshot), NULL; }
+static void *installs_it(void *with) { return is("install", PDT_OK, pdt_checkpoint_install(((shared *)with)->checkpoint)), NULL; }
+static void *ends_it(void *with) { return pdt_checkpoint_end(((shared *)with)->checkpoint), NULL; }
 static void commits(void *with) {
   shared *s = with;
   for (int i = 0; i < 50; i++) {
@@ -209,9 +209,9 @@ static void changes_all(void *with) {
   commits(with);
   is("fold", PDT_OK, pdt_fold(s->store));
   is("cut", PDT_OK, pdt_cut(s->store));
-  pdt_snapshot *snapshot;
-  is("begin a checkpoint", PDT_OK, pdt_checkpoint_begin(s->store, NULL, &snapshot));
-  pdt_checkpoint_end(snapshot);
+  pdt_open_checkpoint *checkpoint;
+  is("begin a checkpoint", PDT_OK, pdt_checkpoint_begin(s->store, NULL, &checkpoint));
+  pdt_checkpoint_end(checkpoint);
 }
 static void begins_and_changes(void *with) {
   changes_all(with);
@@ -292,7 +292,7 @@ int main(int argc, char **argv) {
   is("set", PDT_OK, set(s.txn, 5, -5));
   is("prepare", PDT_OK, pdt_prepare(s.txn, NULL));
   beside(asks_sizes, &s, installs);
-  is("begin a checkpoint", PDT_OK, pdt_checkpoint_begin(s.store, NULL, &s.snapshot));
+  is("begin a checkpoint", PDT_OK, pdt_checkpoint_begin(s.store, NULL, &s.checkpoint));
   beside(writes_it, &s, commits);
   beside(installs_it, &s, NULL);
   beside(ends_it, &s, commits);

@@ -20,12 +20,12 @@ use std::ptr::{self, NonNull};
 /// # Ok::<(), Error>(())
 /// ```
 pub struct Checkpoint<'s> {
-    raw: NonNull<ffi::Snapshot>,
+    raw: NonNull<ffi::OpenCheckpoint>,
     number: u64,
     store: Keeper<'s>,
 }
 
-// SAFETY: a `pdt_snapshot` is used by one thread at a time, whichever that is: only a call with `&mut self` uses it.
+// SAFETY: a `pdt_open_checkpoint` is used by one thread at a time, whichever that is: only a call with `&mut self` uses it.
 unsafe impl Send for Checkpoint<'_> {}
 
 impl<'s> Checkpoint<'s> {
@@ -33,7 +33,7 @@ impl<'s> Checkpoint<'s> {
     ///
     /// # Safety
     /// `raw` has begun over this store, at the commit of this number, and nobody else has it.
-    pub(crate) unsafe fn adopt(raw: NonNull<ffi::Snapshot>, number: u64, store: Keeper<'s>) -> Checkpoint<'s> {
+    pub(crate) unsafe fn adopt(raw: NonNull<ffi::OpenCheckpoint>, number: u64, store: Keeper<'s>) -> Checkpoint<'s> {
         Checkpoint { raw, number, store }
     }
 

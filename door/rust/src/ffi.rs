@@ -21,9 +21,9 @@ pub struct Txn {
     pinned: PhantomData<(*mut u8, PhantomPinned)>,
 }
 
-/// A `pdt_snapshot`, known by its address.
+/// A `pdt_open_checkpoint`, known by its address.
 #[repr(C)]
-pub struct Snapshot {
+pub struct OpenCheckpoint {
     private: [u8; 0],
     pinned: PhantomData<(*mut u8, PhantomPinned)>,
 }
@@ -231,11 +231,11 @@ unsafe extern "C" {
     pub fn pdt_checkpoint(store: *mut Store, folder: *const c_char) -> c_int;
     pub fn pdt_checkpoint_to(store: *mut Store, write: Write, context: *mut c_void, column: *mut usize) -> c_int;
 
-    pub fn pdt_checkpoint_begin(store: *mut Store, commits: *mut u64, snapshot: *mut *mut Snapshot) -> c_int;
-    pub fn pdt_checkpoint_write(snapshot: *mut Snapshot, folder: *const c_char) -> c_int;
-    pub fn pdt_checkpoint_read(snapshot: *mut Snapshot, txn: *mut *mut Txn) -> c_int;
-    pub fn pdt_checkpoint_install(snapshot: *mut Snapshot) -> c_int;
-    pub fn pdt_checkpoint_end(snapshot: *mut Snapshot);
+    pub fn pdt_checkpoint_begin(store: *mut Store, commits: *mut u64, checkpoint: *mut *mut OpenCheckpoint) -> c_int;
+    pub fn pdt_checkpoint_write(checkpoint: *mut OpenCheckpoint, folder: *const c_char) -> c_int;
+    pub fn pdt_checkpoint_read(checkpoint: *mut OpenCheckpoint, txn: *mut *mut Txn) -> c_int;
+    pub fn pdt_checkpoint_install(checkpoint: *mut OpenCheckpoint) -> c_int;
+    pub fn pdt_checkpoint_end(checkpoint: *mut OpenCheckpoint);
 
     pub fn pdt_begin(store: *mut Store, txn: *mut *mut Txn) -> c_int;
     pub fn pdt_begun(txn: *mut Txn, commits: *mut u64) -> c_int;
