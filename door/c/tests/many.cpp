@@ -426,7 +426,7 @@ static void keep_up(Table *t, Random &r, Tally &y) {
     default: {
       if (!r.one_in(3))
         break;
-      pdt_snapshot *s;
+      pdt_open_checkpoint *s;
       uint64_t number;
       File file;
       {

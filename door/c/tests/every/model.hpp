@@ -188,7 +188,7 @@ struct Pin {
   V v;
 };
 struct Snap {
-  pdt_snapshot *h;
+  pdt_open_checkpoint *h;
   V v;
   int64_t rebuilt;
   bool written = false, installed = false;

@@ -275,7 +275,7 @@ static void beside(Txn *t) {
     answers("a cut", PDT_MISUSE, D(pdt_cut, s->h));
     answers("layers", PDT_MISUSE, D(pdt_layers, s->h, &a, &b));
     answers("changes", PDT_MISUSE, D(pdt_changes, s->h, 1, &a));
-    pdt_snapshot *snap;
+    pdt_open_checkpoint *snap;
     answers("a checkpoint's begin", PDT_MISUSE, D(pdt_checkpoint_begin, s->h, nullptr, &snap));
     answers("a checkpoint", PDT_MISUSE, D(pdt_checkpoint, s->h, "/nowhere"));
     for (Txn *o : s->txns)
