@@ -1,6 +1,7 @@
 -- How far a descent has come: the entries below a node, among those of the tree.
-use Rattle.std.proofs.Common.{◌≡◌, ℕ, zero, suc, ◌+◌, ◌<◌, ◌≤◌, inl, inr, Bool, List, [], ◌∷◌, ◌++◌, length, take, drop, get_or}
-use Rattle.std.proofs.Common.{refl, ap, sym, ◌∙◌, subst, arith, append_assoc, length-append, length-take, length-drop, true, false}
+use Rattle.std.proofs.Common.{◌≡◌, ℕ, zero, suc, ◌+◌, ◌^◌, ◌<◌, ◌≤◌, inl, inr, Bool, List, [], ◌∷◌, ◌++◌, length, take, drop, get_or}
+use Rattle.std.proofs.Common.{to_z, of_z, w64, refl, ap, sym, ◌∙◌, subst, arith, append_assoc, length-append, length-take, length-drop}
+use Rattle.std.proofs.Common.{true, false}
 use Rattle.std.specs.Prelude.{ℤ, pos, ◌+ℤ◌, Option, None, slice_get}
 use Rattle.std.specs.Option.{option_map}
 use Rattle.std.proofs.lemmas.Int.{ints}
@@ -9,21 +10,17 @@ use Rattle.std.proofs.lemmas.List.{append-nil, drop-drop, drop_all, take_all, ta
 use Rattle.std.proofs.lemmas.Option.{unwrap_or-slice_get, slice_get_past}
 use Rattle.std.specs.Option.{unwrap_or}
 use Rattle.model.specs.declared.entry.Entry.{Entry}
-use Rattle.model.specs.declared.entry.Change.{Change}
 use Rattle.counted.specs.declared.entry.Head.{Head}
 use Rattle.counted.specs.declared.node.Child.{Child}
 use Rattle.counted.specs.declared.spot.Above.{Above}
-use Rattle.counted.specs.Descents.{AreBelow, IsAt}
-use Rattle.counted.specs.Gaps.{AreNext, Leads, Follows, IsGap}
+use Rattle.counted.specs.Descents.{AreBelow, AreNext, IsAt}
 use Rattle.counted.specs.Heads.{head_of, head_at}
-use Rattle.counted.specs.Search.{IsBoundary}
+use Rattle.counted.specs.Search.{Begins, IsChildPlace, IsNear, IsPlace}
 use Rattle.counted.specs.Shapes.{items_of, all_items, AreChildren}
 use Rattle.counted.specs.Sums.{total}
 use Rattle.counted.proofs.Totals.{IsWithin, total_within, total-append}
 use Rattle.counted.proofs.Places.{split_items, child_fits, child_some, count_within, drop_in_child, items-more}
 use Rattle.counted.proofs.Heads.{get-past}
-use Rattle.counted.proofs.Boundaries.{true_false}
-use Rattle.counted.proofs.GapSteps.{never_both}
 
 -- ---- entries that come next
 
@@ -224,28 +221,38 @@ below_within items index shift node next b =
     let sum = b.sum in
     record { above = omega (arith, ints, length-take index items); below = omega (arith, ints, length-take index items) }
 
+-- what the entries before a node add is a small number, where all are few
+pub small : (items : List Entry) (index : ℕ) (shift : ℤ) (node : List Entry) (next : Option Head) → AreBelow items index shift node next
+    → length items < 2 ^ 61 → to_z w64 (of_z w64 shift) ≡ shift
+small items index shift node next b few =
+    let w = below_within items index shift node next b in
+    let fits = b.here.within in
+    omega (arith, ints, w.above, w.below)
+
+-- and the entries below it are near
+pub below_near : (items : List Entry) (index : ℕ) (shift : ℤ) (node es : List Entry) (next : Option Head)
+    → AreBelow items index shift node next → length items < 2 ^ 61 → es ≡ node → IsNear (to_z w64 (of_z w64 shift)) (length es)
+below_near items index shift node es next b few same =
+    let w = below_within items index shift node next b in
+    let fits = b.here.within in
+    let count = ap length same in
+    record { above = omega (arith, ints, w.above, w.below); below = omega (arith, ints, w.above, w.below) }
+
 -- ---- the place in all, from that in a leaf
 
--- the entry before this place, if there is one, is of the one kind, and the one at it, if there is one, of the other, by what
--- stands before each
-pub record IsPlace (L H : Entry → ℤ → Type 0) (shift : ℤ) (entries : List Entry) (n : ℕ) : Type 0 where
-  pub within : n ≤ length entries
-  pub low : (m : ℕ) (d : Entry) → m + 1 ≡ n → L (get_or entries m d) (total (take m entries) +ℤ shift)
-  pub high : (d : Entry) → n < length entries → H (get_or entries n d) (total (take n entries) +ℤ shift)
-
--- the first of the entries below a node, if any stand before them, is of the one kind, and the one behind them, if there is one,
--- of the other
-pub record IsBetween (L H : Entry → ℤ → Type 0) (items : List Entry) (index : ℕ) (shift : ℤ) (node : List Entry) : Type 0 where
+-- the first of the entries below a node, if any stand before them, passes the test, and the one behind them, if there is one, does
+-- not
+pub record IsBetween (test : Entry → ℤ → Bool) (items : List Entry) (index : ℕ) (shift : ℤ) (node : List Entry) : Type 0 where
   pub some : 1 ≤ index → 1 ≤ length node
-  pub low : (e : Entry) → 1 ≤ index → L (get_or node 0 e) shift
+  pub low : (e : Entry) → 1 ≤ index → test (get_or node 0 e) shift ≡ true
   pub high : (e : Entry) → index + length node < length items
-      → H (get_or items (index + length node) e) (total (take (index + length node) items))
+      → test (get_or items (index + length node) e) (total (take (index + length node) items)) ≡ false
 
-moved : (P : Entry → ℤ → Type 0) (x y : Entry) (z w : ℤ) → x ≡ y → z ≡ w → P x z → P y w
-moved P x y z w a b h = subst (λ (e : Entry). P e w) a (subst (P x) b h)
+module _ (test : Entry → ℤ → Bool) where
+  moved : (b : Bool) (x y : Entry) (z w : ℤ) → x ≡ y → z ≡ w → test x z ≡ b → test y w ≡ b
+  moved b x y z w same is h = sym (ap (λ (e : Entry). test e z) same ∙ ap (test y) is) ∙ h
 
-module _ (L H : Entry → ℤ → Type 0) where
-  pub between_top : (items : List Entry) (shift : ℤ) → IsBetween L H items 0 shift items
+  pub between_top : (items : List Entry) (shift : ℤ) → IsBetween test items 0 shift items
   between_top items shift = record {
     some = λ h. absurd (omega arith);
     low = λ e h. absurd (omega arith);
@@ -254,29 +261,28 @@ module _ (L H : Entry → ℤ → Type 0) where
 
   -- before the root, a descent is at the first of all entries
   pub begun : (items : List Entry) (above : Above) → above ≡ record { index = 0; shift = pos 0; next = None }
-      → AreBelow items above.index above.shift items above.next × IsBetween L H items above.index above.shift items
+      → AreBelow items above.index above.shift items above.next × IsBetween test items above.index above.shift items
   begun items above is =
-      subst (λ (a : Above). AreBelow items a.index a.shift items a.next × IsBetween L H items a.index a.shift items) (sym is)
+      subst (λ (a : Above). AreBelow items a.index a.shift items a.next × IsBetween test items a.index a.shift items) (sym is)
       (below_top items, between_top items (pos 0))
 
   pub between_moved : (items : List Entry) (index k : ℕ) (shift z : ℤ) (node es : List Entry) → index ≡ k → shift ≡ z → node ≡ es
-      → IsBetween L H items index shift node → IsBetween L H items k z es
+      → IsBetween test items index shift node → IsBetween test items k z es
   between_moved items index k shift z node es a b c h =
-      subst (λ (n : ℕ). IsBetween L H items n z es) a
-      (subst (λ (w : ℤ). IsBetween L H items index w es) b
-      (subst (λ (xs : List Entry). IsBetween L H items index shift xs) c h))
+      subst (λ (n : ℕ). IsBetween test items n z es) a
+      (subst (λ (w : ℤ). IsBetween test items index w es) b
+      (subst (λ (xs : List Entry). IsBetween test items index shift xs) c h))
 
   module _ (items : List Entry) (index : ℕ) (shift : ℤ) (children : List Child) (i : ℕ) (d : Child) (h : AreChildren children)
       (lt : i < length children) (a : AreNext items index (all_items children)) (sum : shift ≡ total (take index items))
-      (b : IsBetween L H items index shift (all_items children)) where
-    child_low : ((e : Entry) → 1 ≤ i → L (get_or (items_of (get_or children i d)) 0 e) (total (all_items (take i children)) +ℤ shift))
-        → (e : Entry) → 1 ≤ index + length (all_items (take i children))
-        → L (get_or (items_of (get_or children i d)) 0 e) (shift +ℤ total (all_items (take i children)))
+      (b : IsBetween test items index shift (all_items children)) where
+    child_low : (1 ≤ i → Begins test shift children i true) → (e : Entry) → 1 ≤ index + length (all_items (take i children))
+        → test (get_or (items_of (get_or children i d)) 0 e) (shift +ℤ total (all_items (take i children))) ≡ true
     child_low low e some =
         let here = items_of (get_or children i d) in
         elim (cases_lt 0 i) [
-          | inl above ↦ moved L (get_or here 0 e) (get_or here 0 e) (total (all_items (take i children)) +ℤ shift)
-              (shift +ℤ total (all_items (take i children))) refl (omega (arith, ints)) (low e above)
+          | inl above ↦ moved true (get_or here 0 e) (get_or here 0 e) (total (all_items (take i children)) +ℤ shift)
+              (shift +ℤ total (all_items (take i children))) refl (omega (arith, ints)) (low above d e)
           | inr first ↦
               let none : i ≡ 0 = omega arith in
               let empty : all_items (take i children) ≡ [] = ap (λ k. all_items (take k children)) none in
@@ -287,14 +293,13 @@ module _ (L H : Entry → ℤ → Type 0) where
               let front = or-next (all_items children) here (length (all_items (take i children))) 0 e own nonempty in
               let at : length (all_items (take i children)) + 0 ≡ 0 = omega arith in
               let same : get_or (all_items children) 0 e ≡ get_or here 0 e = ap (λ k. get_or (all_items children) k e) (sym at) ∙ front in
-              moved L (get_or (all_items children) 0 e) (get_or here 0 e) shift (shift +ℤ total (all_items (take i children))) same
+              moved true (get_or (all_items children) 0 e) (get_or here 0 e) shift (shift +ℤ total (all_items (take i children))) same
               (omega (arith, ints)) (b.low e (omega arith))
         ]
 
-    child_high : ((e : Entry) → i + 1 < length children
-        → H (get_or (items_of (get_or children (i + 1) d)) 0 e) (total (all_items (take (i + 1) children)) +ℤ shift))
+    child_high : (i + 1 < length children → Begins test shift children (i + 1) false)
         → (e : Entry) → (k : ℕ) → k ≡ (index + length (all_items (take i children))) + length (items_of (get_or children i d))
-        → k < length items → H (get_or items k e) (total (take k items))
+        → k < length items → test (get_or items k e) (total (take k items)) ≡ false
     child_high high e k is short =
         let before = length (all_items (take i children)) in
         let here = items_of (get_or children i d) in
@@ -314,32 +319,28 @@ module _ (L H : Entry → ℤ → Type 0) where
               let front = ap total (take-front children (i + 1)) in
               let at' : index + length (all_items (take (i + 1) children)) ≡ k = omega arith in
               let to = ap (λ n. total (take n items)) at' in
-              moved H (get_or next 0 e) (get_or items k e) (total (all_items (take (i + 1) children)) +ℤ shift)
-              (total (take k items)) item (omega (arith, ints)) (high e more)
+              moved false (get_or next 0 e) (get_or items k e) (total (all_items (take (i + 1) children)) +ℤ shift)
+              (total (take k items)) item (omega (arith, ints)) (high more d e)
           | inr none ↦
               let ends = child_ends children i d lt none in
               let at : index + length (all_items children) ≡ k = omega arith in
-              let P : ℕ → Type 0 = λ n. H (get_or items n e) (total (take n items)) in
+              let P : ℕ → Type 0 = λ n. test (get_or items n e) (total (take n items)) ≡ false in
               subst P at (b.high e (omega arith))
         ]
 
-    pub between_child : ((e : Entry) → 1 ≤ i
-        → L (get_or (items_of (get_or children i d)) 0 e) (total (all_items (take i children)) +ℤ shift))
-        → ((e : Entry) → i + 1 < length children
-        → H (get_or (items_of (get_or children (i + 1) d)) 0 e) (total (all_items (take (i + 1) children)) +ℤ shift))
-        → IsBetween L H items (index + length (all_items (take i children))) (shift +ℤ total (all_items (take i children)))
+    pub between_child : IsChildPlace test shift children i
+        → IsBetween test items (index + length (all_items (take i children))) (shift +ℤ total (all_items (take i children)))
         (items_of (get_or children i d))
-    between_child low high = record {
+    between_child at = record {
       some = λ some. child_some _ _ (h.each i d lt);
-      low = child_low low;
-      high = λ e short. child_high high e _ refl short;
+      low = child_low at.low;
+      high = λ e short. child_high at.high e _ refl short;
     }
 
-  module _ (never : (e : Entry) (z : ℤ) → L e z → H e z
-      → ⊥) (items : List Entry) (index : ℕ) (shift : ℤ) (node : List Entry) (a : AreNext items index node)
-      (sum : shift ≡ total (take index items)) (t : IsBetween L H items index shift node) where
-    place_high : (at : ℕ) (d : Entry) → IsPlace L H shift node at → (k : ℕ) → k ≡ index + at → k < length items
-        → H (get_or items k d) (total (take k items) +ℤ pos 0)
+  module _ (items : List Entry) (index : ℕ) (shift : ℤ) (node : List Entry) (a : AreNext items index node)
+      (sum : shift ≡ total (take index items)) (t : IsBetween test items index shift node) where
+    place_high : (at : ℕ) (d : Entry) → IsPlace test shift node at → (k : ℕ) → k ≡ index + at → k < length items
+        → test (get_or items k d) (total (take k items) +ℤ pos 0) ≡ false
     place_high at d g k is lt =
         let inner = g.within in
         elim (cases_lt at (length node)) [
@@ -348,21 +349,22 @@ module _ (L H : Entry → ℤ → Type 0) where
               let item : get_or node at d ≡ get_or items k d = sym (or-next items node index at d a here)
               ∙ ap (λ n. get_or items n d) (sym is) in
               let to = ap (λ n. total (take n items)) is in
-              moved H (get_or node at d) (get_or items k d) (total (take at node) +ℤ shift) (total (take k items) +ℤ pos 0) item
+              moved false (get_or node at d) (get_or items k d) (total (take at node) +ℤ shift) (total (take k items) +ℤ pos 0) item
               (omega (arith, ints)) (g.high d here)
           | inr past ↦
               let e : index + length node ≡ k = omega arith in
-              let P : ℕ → Type 0 = λ n. H (get_or items n d) (total (take n items)) in
-              moved H (get_or items k d) (get_or items k d) (total (take k items)) (total (take k items) +ℤ pos 0) refl
+              let P : ℕ → Type 0 = λ n. test (get_or items n d) (total (take n items)) ≡ false in
+              moved false (get_or items k d) (get_or items k d) (total (take k items)) (total (take k items) +ℤ pos 0) refl
               (omega (arith, ints)) (subst P e (t.high d (omega arith)))
         ]
 
-    place_low : (at m : ℕ) (d : Entry) → IsPlace L H shift node at → m + 1 ≡ index + at
-        → L (get_or items m d) (total (take m items) +ℤ pos 0)
+    place_low : (at m : ℕ) (d : Entry) → IsPlace test shift node at → m + 1 ≡ index + at
+        → test (get_or items m d) (total (take m items) +ℤ pos 0) ≡ true
     place_low zero m d g is =
         let some = t.some (omega arith) in
-        let high = moved H (get_or node 0 d) (get_or node 0 d) (pos 0 +ℤ shift) shift refl (omega (arith, ints)) (g.high d (omega arith)) in
-        absurd (never (get_or node 0 d) shift (t.low d (omega arith)) high)
+        let first = get_or node 0 d in
+        let high = moved false first first (pos 0 +ℤ shift) shift refl (omega (arith, ints)) (g.high d (omega arith)) in
+        let low = t.low d (omega arith) in absurd cc
     place_low (suc at) m d g is =
         let inner = g.within in
         let both = sum-next items node index at a (omega arith) in
@@ -370,39 +372,12 @@ module _ (L H : Entry → ℤ → Type 0) where
         let item : get_or node at d ≡ get_or items m d = sym (or-next items node index at d a (omega arith))
         ∙ ap (λ n. get_or items n d) e in
         let to = ap (λ n. total (take n items)) e in
-        moved L (get_or node at d) (get_or items m d) (total (take at node) +ℤ shift) (total (take m items) +ℤ pos 0) item
+        moved true (get_or node at d) (get_or items m d) (total (take at node) +ℤ shift) (total (take m items) +ℤ pos 0) item
         (omega (arith, ints)) (g.low at d (omega arith))
 
-    pub place_below : (at : ℕ) → IsPlace L H shift node at → IsPlace L H (pos 0) items (index + at)
+    pub place_below : (at : ℕ) → IsPlace test shift node at → IsPlace test (pos 0) items (index + at)
     place_below at g = record {
       within = let w = a.within in let inner = g.within in omega arith;
       low = λ m d is. place_low at m d g is;
       high = λ d lt. place_high at d g _ refl lt;
     }
-
--- ---- by SID, and by position
-
-abbrev pub Passes : (Entry → Bool) → Entry → ℤ → Type 0
-Passes test e z = test e ≡ true
-
-abbrev pub Fails : (Entry → Bool) → Entry → ℤ → Type 0
-Fails test e z = test e ≡ false
-
-pub boundary_below : (test : Entry
-    → Bool) (items : List Entry) (index : ℕ) (shift : ℤ) (node : List Entry) (next : Option Head) (at : ℕ)
-    → AreBelow items index shift node next
-    → IsBetween (Passes test) (Fails test) items index shift node → IsBoundary test node at → IsBoundary test items (index + at)
-boundary_below test items index shift node next at a t b =
-    let p = place_below (Passes test) (Fails test) (λ e z. true_false (test e)) items index shift node a.here a.sum t at
-    (record { within = b.within; low = b.low; high = b.high }) in
-    record { within = p.within; low = p.low; high = p.high }
-
-pub gap_below : (after : Change
-    → Bool) (rid : ℤ) (items : List Entry) (index : ℕ) (shift : ℤ) (node : List Entry) (next : Option Head) (at : ℕ)
-    → AreBelow items index shift node next
-    → IsBetween (Leads after rid) (Follows after rid) items index shift node → IsGap after rid shift node at
-    → IsGap after rid (pos 0) items (index + at)
-gap_below after rid items index shift node next at a t g =
-    let p = place_below (Leads after rid) (Follows after rid) (never_both after rid) items index shift node a.here a.sum t at
-    (record { within = g.within; low = g.low; high = g.high }) in
-    record { within = p.within; low = p.low; high = p.high }

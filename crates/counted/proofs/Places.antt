@@ -3,7 +3,7 @@ use Rattle.std.proofs.Common.{Vec, Global, ◌≡◌, ℕ, zero, suc, ◌+◌, �
 use Rattle.std.proofs.Common.{get_or, refl, ap, sym, ◌∙◌, subst, arith, append_assoc, length-append, length-take, length-drop, ◌-◌}
 use Rattle.std.specs.Prelude.{◌+ℤ◌}
 use Rattle.std.specs.List.{All}
-use Rattle.std.specs.Prelude.{Result, Ok, Err, IfOk, Some, slice_get}
+use Rattle.std.specs.Prelude.{Result, Ok, Err, IfOk, slice_get}
 use Rattle.std.specs.declared.alloc.AllocError.{AllocError}
 use Rattle.std.proofs.lemmas.Int.{ints}
 use Rattle.std.proofs.lemmas.List.{append-nil, take_more, drop_more, take-append-drop}
@@ -11,8 +11,6 @@ use Rattle.std.proofs.Math.Nat.{mul-le-mul_right, pow-succ'}
 use Rattle.std.proofs.lemmas.List.Concat.{flat_map-append}
 use Rattle.model.specs.declared.entry.Entry.{Entry}
 use Rattle.counted.specs.Edits.{edited}
-use Rattle.counted.specs.declared.entry.Head.{Head}
-use Rattle.counted.specs.Heads.{head_of}
 use Rattle.counted.specs.declared.node.TheConstants.{MAX_WIDTH, MIN_WIDTH}
 use Rattle.counted.specs.declared.node.Child.{Child}
 use Rattle.counted.specs.Sums.{total}
@@ -26,7 +24,7 @@ use Rattle.std.proofs.lemmas.List.Elements.{All-head, All-tail, All-drop}
 use Rattle.std.proofs.lemmas.List.{take-append-le, drop-append-le}
 use Rattle.counted.specs.declared.node.Body.{Body}
 use Rattle.counted.specs.declared.node.Body.TheVariants.{Leaf, Inner}
-use Rattle.counted.proofs.Totals.{IsWithin, first_sid, total_within, total-append}
+use Rattle.counted.proofs.Totals.{IsWithin, total_within, total-append}
 
 pub power_some : (d : ℕ) → 1 ≤ MIN_WIDTH ^ d
 power_some zero = omega arith
@@ -54,23 +52,6 @@ split_items i children = ap all_items (sym (take-append-drop i children)) ∙ fl
 pub items_from : (children : List Child) (i : ℕ) (d : Child) → i < length children
     → all_items (drop i children) ≡ items_of (get_or children i d) ++ all_items (drop (i + 1) children)
 items_from children i d h = ap all_items (drop_more children i d h)
-
-first-append : (xs ys : List Entry) → 1 ≤ length xs → first_sid (xs ++ ys) ≡ first_sid xs
-first-append [] ys h = absurd (omega arith)
-first-append (x ∷ xs) ys h = refl
-
-first_sid-head : (es : List Entry) (h : Head) → 1 ≤ length es → ((e : Entry) → slice_get es 0 ≡ Some e → h ≡ head_of e)
-    → first_sid es ≡ h.sid
-first_sid-head [] h some is = absurd (omega arith)
-first_sid-head (y ∷ es) h some is = ap (λ (x : Head). x.sid) (sym (is y refl))
-
-pub first_from : (children : List Child) (i : ℕ) (d : Child) → AreChildren children → i < length children
-    → first_sid (all_items (drop i children)) ≡ (get_or children i d).head.sid
-first_from children i d h lt =
-    let is = h.each i d lt in
-    ap first_sid (items_from children i d lt)
-    ∙ first-append (items_of (get_or children i d)) (all_items (drop (i + 1) children)) (child_some _ _ is)
-    ∙ first_sid-head _ _ (child_some _ _ is) is.head
 
 -- what the children so far add
 pub total_items-more : (children : List Child) (i : ℕ) (d : Child) → AreChildren children → i < length children
@@ -328,7 +309,8 @@ child_fits children i d lt =
     let all = ap length (split_items i children) ∙ length-append (all_items (take i children)) (all_items (drop i children)) in
     omega arith
 
-pub deep_law : (b : Body) (v : View) → view_of b ≡ v → IsBalanced b → 2 ≤ v.depth → 2 ≤ v.width → 2 * MIN_WIDTH ^ (v.depth - 1) ≤ length v.items
+pub deep_law : (b : Body) (v : View) → view_of b ≡ v → IsBalanced b → 2 ≤ v.depth → 2 ≤ v.width
+    → 2 * MIN_WIDTH ^ (v.depth - 1) ≤ length v.items
 deep_law (Leaf entries) v is h deep wide = let e = ap (λ (w : View). w.depth) is in absurd (omega arith)
 deep_law (Inner children) v is h deep wide =
     let P : View → Type 0 = λ w. 2 ≤ w.width → 2 * MIN_WIDTH ^ (w.depth - 1) ≤ length w.items in
@@ -338,8 +320,10 @@ deep_law (Inner children) v is h deep wide =
 
 pub most_law : (b : Body) (v : View) → view_of b ≡ v → IsBalanced b → length v.items ≤ MAX_WIDTH ^ v.depth
 most_law (Leaf entries) v is h =
-    let P : View → Type 0 = λ w. length w.items ≤ MAX_WIDTH ^ w.depth in let one : MAX_WIDTH ^ 1 ≡ MAX_WIDTH = refl in subst P is (omega (arith, h, one))
-most_law (Inner children) v is h = let P : View → Type 0 = λ w. length w.items ≤ MAX_WIDTH ^ w.depth in subst P is (most_below children.items h)
+    let P : View → Type 0 = λ w. length w.items ≤ MAX_WIDTH ^ w.depth in
+    let one : MAX_WIDTH ^ 1 ≡ MAX_WIDTH = refl in subst P is (omega (arith, h, one))
+most_law (Inner children) v is h =
+    let P : View → Type 0 = λ w. length w.items ≤ MAX_WIDTH ^ w.depth in subst P is (most_below children.items h)
 
 some_law : (b : Body) (v : View) → view_of b ≡ v → 1 ≤ v.depth
 some_law (Leaf entries) v is = let e = ap (λ (w : View). w.depth) is in omega arith

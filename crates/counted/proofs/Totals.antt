@@ -1,5 +1,5 @@
 -- Bounds and steps of what entries add up to.
-use Rattle.std.proofs.Common.{Less, inl, inr, sym, zero, ◌≡◌, ℕ, suc, ◌+◌, ◌<◌, ◌≤◌, true, false, cond, List, [], ◌∷◌, ◌++◌}
+use Rattle.std.proofs.Common.{Less, Equal, Greater, sym, zero, ◌≡◌, ℕ, suc, ◌+◌, ◌<◌, ◌≤◌, true, false, cond, List, [], ◌∷◌, ◌++◌}
 use Rattle.std.proofs.Common.{length, take, get_or, refl, ap, arith, length-take}
 use Rattle.std.specs.Prelude.{ℤ, pos, ◌+ℤ◌, ◌≤ℤ◌, ltb}
 use Rattle.std.proofs.lemmas.Int.{ints}
@@ -8,9 +8,10 @@ use Rattle.std.specs.List.{AllByRecursion}
 use Rattle.model.specs.declared.entry.Entry.{Entry}
 use Rattle.model.specs.declared.entry.Change.{Change}
 use Rattle.model.specs.declared.entry.Change.TheVariants.{Ins, Del, Mod}
-use Rattle.std.proofs.lemmas.Bool.{cases_lt}
-use Rattle.counted.specs.Search.{stands_before, IsBoundary}
-use Rattle.counted.proofs.Boundaries.{true_false, before_lt, before_gt, before_eq}
+use Rattle.std.specs.Cmp.{ranked}
+use Rattle.std.specs.Ordering.{nat_cmp, is_gt, ordering_then}
+use Rattle.counted.specs.declared.search.Target.TheVariants.{Sid}
+use Rattle.counted.specs.Search.{is_before, IsPlace}
 use Rattle.counted.specs.Sums.{weight_of, total, shift_before, next_sid, IsOrdered}
 
 -- a sum lies between the number of entries and its negation
@@ -97,22 +98,21 @@ past_first sid (e ∷ entries) o le =
 
 -- ---- what stands before all at a place
 
-not_before : (sid : ℕ) (e : Entry) → stands_before (λ c. Less) sid e ≡ false → sid ≤ e.sid
-not_before sid e is =
-    elim (cases_lt e.sid sid) [
-      | inl lt ↦ absurd (true_false _ (before_lt (λ c. Less) sid e lt) is)
-      | inr le ↦ le
-    ]
+not_before : (sid n : ℕ) → is_gt (ordering_then (nat_cmp sid n) Less) ≡ false → sid ≤ n
+not_before sid n is =
+    elim (nat_cmp sid n) as (λ r. nat_cmp sid n ≡ r → is_gt (ordering_then r Less) ≡ false → sid ≤ n) [
+      | Less ↦ λ q h. let lt : sid < n = ranked sid n Less (sym q) in omega arith
+      | Equal ↦ λ q h. let e : sid ≡ n = ranked sid n Equal (sym q) in omega arith
+      | Greater ↦ λ q h. absurd cc
+    ] refl is
 
-is_before : (sid : ℕ) (e : Entry) → stands_before (λ c. Less) sid e ≡ true → e.sid < sid
-is_before sid e is =
-    elim (cases_lt e.sid sid) [
-      | inl lt ↦ lt
-      | inr le ↦ elim (cases_lt sid e.sid) [
-        | inl gt ↦ absurd (true_false _ is (before_gt (λ c. Less) sid e gt))
-        | inr ge ↦ let same : sid ≡ e.sid = omega arith in absurd (true_false _ is (before_eq (λ c. Less) sid e same))
-      ]
-    ]
+is_below : (sid n : ℕ) → is_gt (ordering_then (nat_cmp sid n) Less) ≡ true → n < sid
+is_below sid n is =
+    elim (nat_cmp sid n) as (λ r. nat_cmp sid n ≡ r → is_gt (ordering_then r Less) ≡ true → n < sid) [
+      | Less ↦ λ q h. absurd cc
+      | Equal ↦ λ q h. absurd cc
+      | Greater ↦ λ q h. ranked sid n Greater (sym q)
+    ] refl is
 
 all-at : (low : ℕ) (es : List Entry) (m : ℕ) (d : Entry) → AllByRecursion (λ x. low ≤ x.sid) es → m < length es → low ≤ (get_or es m d).sid
 all-at low [] m d h lt = absurd (omega arith)
@@ -120,23 +120,23 @@ all-at low (e ∷ es) zero d h lt = h.0
 all-at low (e ∷ es) (suc m) d h lt = all-at low es m d h.1 (omega arith)
 
 first_before : (sid : ℕ) (e : Entry) (es : List Entry) (n : ℕ) → IsOrdered (e ∷ es)
-    → IsBoundary (stands_before (λ c. Less) sid) (e ∷ es) (suc n) → e.sid < sid
-first_before sid e es zero o b = is_before sid e (b.low 0 e refl)
+    → IsPlace (is_before (λ c. Less) (Sid sid)) (pos 0) (e ∷ es) (suc n) → e.sid < sid
+first_before sid e es zero o b = is_below sid e.sid (b.low 0 e refl)
 first_before sid e es (suc m) o b =
     let within = b.within in
     let there = all-at (next_sid e.sid e.change) es m e o.0 (omega arith) in
-    let lt = is_before sid (get_or es m e) (b.low (suc m) e (omega arith)) in
+    let lt = is_below sid (get_or es m e).sid (b.low (suc m) e (omega arith)) in
     let n = next_sid-le e.sid e.change in
     omega arith
 
-pub total-boundary : (sid : ℕ) (es : List Entry) (n : ℕ) → IsOrdered es → IsBoundary (stands_before (λ c. Less) sid) es n
+pub total-first : (sid : ℕ) (es : List Entry) (n : ℕ) → IsOrdered es → IsPlace (is_before (λ c. Less) (Sid sid)) (pos 0) es n
     → total (take n es) ≡ shift_before sid es
-total-boundary sid [] zero o b = refl
-total-boundary sid [] (suc n) o b = refl
-total-boundary sid (e ∷ es) zero o b = sym (past_first sid (e ∷ es) o (not_before sid e (b.high e (omega arith))))
-total-boundary sid (e ∷ es) (suc n) o b =
+total-first sid [] zero o b = refl
+total-first sid [] (suc n) o b = refl
+total-first sid (e ∷ es) zero o b = sym (past_first sid (e ∷ es) o (not_before sid e.sid (b.high e (omega arith))))
+total-first sid (e ∷ es) (suc n) o b =
     let within = b.within in
-    let rest = total-boundary sid es n o.1 (record {
+    let rest = total-first sid es n o.1 (record {
       within = omega arith;
       low = λ m d is. b.low (suc m) d (omega arith);
       high = λ d lt. b.high d (omega arith);

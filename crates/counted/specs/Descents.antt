@@ -1,10 +1,14 @@
 -- How far a descent has come, and where it ends.
-use Rattle.std.specs.Prelude.{◌≡◌, ℕ, ◌+◌, ℤ, Option, List, length, take}
+use Rattle.std.specs.Prelude.{◌≡◌, ℕ, ◌+◌, ◌≤◌, ℤ, Option, List, ◌++◌, length, take, drop}
 use Rattle.model.specs.declared.entry.Entry.{Entry}
 use Rattle.counted.specs.declared.entry.Head.{Head}
-use Rattle.counted.specs.Gaps.{AreNext}
 use Rattle.counted.specs.Heads.{head_at}
 use Rattle.counted.specs.Sums.{total}
+
+-- some entries come next from a place on
+pub record AreNext (entries : List Entry) (n : ℕ) (some : List Entry) : Type 0 where
+  pub within : n + length some ≤ length entries
+  pub rest : drop n entries ≡ some ++ drop (n + length some) entries
 
 -- the entries below a node come next, those before them add so much, and this is the head of the one behind them
 pub record AreBelow (entries : List Entry) (index : ℕ) (shift : ℤ) (node : List Entry) (next : Option Head) : Type 0 where

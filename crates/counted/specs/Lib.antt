@@ -1,7 +1,6 @@
 pub mod Changes
 pub mod Descents
 pub mod Edits
-pub mod Gaps
 pub mod Grown
 pub mod Heads
 pub mod Falls

@@ -2,7 +2,7 @@
 ghost use Rattle.std.specs.Prelude.{◌≡◌, ◌+◌, ◌-◌, ◌^◌, ◌<◌, ◌≤◌, ◌++◌, length, slice_get, take, drop};
 ghost use Rattle.std.specs.Iterator.{YieldsFirstRef, item_count};
 ghost use Rattle.std.specs.Option.{option_copied};
-ghost use Rattle.counted.specs.Gaps.{AreNext};
+ghost use Rattle.counted.specs.Descents.{AreNext};
 ghost use Rattle.counted.specs.Paths.{AreFrom, IsReached};
 
 use crate::SharedEntry;

@@ -3,7 +3,6 @@
 
 mod children;
 mod entry;
-mod gap;
 mod iter;
 mod leaf;
 mod node;
@@ -14,9 +13,8 @@ mod steps;
 mod tree;
 
 pub use entry::{ChangeRef, Head, SharedEntry};
-pub use gap::Gap;
 pub use iter::Iter;
-pub use search::{First, Probe};
+pub use search::{First, Probe, Target};
 pub use spot::Spot;
 pub use starts::Start;
 pub use steps::Steps;

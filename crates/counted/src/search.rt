@@ -1,16 +1,17 @@
-//! Search by SID, and at one SID by what is there.
-ghost use Rattle.std.specs.Prelude.{◌≡◌, ◌+◌, ◌-◌, ◌*◌, ◌^◌, ◌<◌, ◌≤◌, true, false, ℤ, Option, Some, IsSome, length, slice_get};
-ghost use Rattle.std.specs.Prelude.{slice_index_or};
+//! Search, by SID or by position, and at one place by what is there.
+ghost use Rattle.std.specs.Prelude.{◌≡◌, ◌+◌, ◌-◌, ◌*◌, ◌^◌, ◌<◌, ◌≤◌, ◌+ℤ◌, pos, ℕ, ℤ, Option, Some, IsSome, length};
+ghost use Rattle.std.specs.Prelude.{slice_get, take};
+ghost use Rattle.std.specs.Ordering.{is_gt, is_lt};
+ghost use Rattle.std.proofs.Common.{Ordering, Less};
 ghost use Rattle.model.specs.declared.entry.Change.{Change};
 ghost use Rattle.model.specs.declared.entry.Entry.{Entry};
-ghost use Rattle.std.proofs.Common.{Ordering, Less};
 ghost use Rattle.counted.specs.declared.node.Child.{Child};
 ghost use Rattle.counted.specs.Changes.{change_of};
 ghost use Rattle.counted.specs.Descents.{IsAt};
 ghost use Rattle.counted.specs.Heads.{head_of};
-ghost use Rattle.counted.specs.Search.{stands_before, IsBoundary};
-ghost use Rattle.counted.specs.Shapes.{AreChildren, items_of};
-ghost use Rattle.counted.specs.Sums.{weight_of};
+ghost use Rattle.counted.specs.Search.{is_before, order, IsChildPlace, IsNear, IsPlace, IsReached, IsUp, MayMeet};
+ghost use Rattle.counted.specs.Shapes.{AreChildren, all_items, items_of};
+ghost use Rattle.counted.specs.Sums.{total, weight_of};
 
 use crate::node::{Body, Child, Node};
 use crate::spot::{Above, Spot};
@@ -18,9 +19,18 @@ use crate::{ChangeRef, SharedEntry, Steps};
 use std::cmp::Ordering;
 use std::sync::ledger::Ledger;
 
-/// What is looked for at a SID.
+/// Where something is looked for.
+#[derive(Clone, Copy)]
+pub enum Target {
+    /// At a SID.
+    Sid(u64),
+    /// At a position of the image above. The rows below are thought to go on without end.
+    Rid(u64),
+}
+
+/// What is looked for there.
 pub trait Probe {
-    /// How it stands to a change at its SID.
+    /// How it stands to a change that stands there.
     ghost stand: { Self → Change → Ordering };
 
     /// The same by what the change adds alone, where that tells.
@@ -36,7 +46,7 @@ pub trait Probe {
             → stand self.now change ≡ order };
 }
 
-/// What is before all at a SID.
+/// What is before all at a place.
 pub struct First;
 
 impl Probe for First {
@@ -53,26 +63,102 @@ impl Probe for First {
     }
 }
 
+impl Target {
+    /// Whether an entry at the SID, so far above the rows below, stands before it.
+    #[inline(always)]
+    fn is_past(self, sid: u64, up: i64) -> bool
+        requires { IsReached self sid up }
+        ensures { result ≡ is_gt (order self sid up) }
+    {
+        match self {
+            Target::Sid(to) => sid < to,
+            Target::Rid(to) => sid as i64 + up < to as i64,
+        }
+    }
+
+    /// Whether it stands behind it.
+    #[inline(always)]
+    fn is_short_of(self, sid: u64, up: i64) -> bool
+        requires { IsReached self sid up }
+        ensures { result ≡ is_lt (order self sid up) }
+    {
+        match self {
+            Target::Sid(to) => to < sid,
+            Target::Rid(to) => (to as i64) < sid as i64 + up,
+        }
+    }
+
+    /// Which of those from one up to another is looked at next: by a SID the one in the middle. By a position it is the first,
+    /// since what those before it add is added up from the left.
+    #[inline(always)]
+    fn next_of(self, low: usize, high: usize) -> usize
+        requires { low < high }
+        ensures low { low ≤ result }
+        ensures high { result < high }
+        ensures up { (up : ℤ) (sum : ℕ → ℤ) → IsUp self up (sum low) → IsUp self up (sum result) }
+    {
+        match self {
+            Target::Sid(_) => low + (high - low) / 2,
+            Target::Rid(_) => low,
+        }
+    }
+
+    /// How far above the rows below what comes behind a child is, by the same of the child. A SID asks for no rows.
+    #[inline(always)]
+    fn up_past_child(self, up: i64, children: &[Child], at: usize) -> i64
+        requires children { AreChildren children.now }
+        requires within { at < length children.now }
+        requires up { (shift : ℤ) × IsNear shift (length (all_items children.now))
+            × IsUp self up (total (all_items (take at children.now)) +ℤ shift) }
+        ensures { (shift : ℤ) → IsUp self up (total (all_items (take at children.now)) +ℤ shift)
+            → IsUp self result (total (all_items (take (at + 1) children.now)) +ℤ shift) }
+    {
+        match self {
+            Target::Sid(_) => up,
+            Target::Rid(_) => up + children[at].net,
+        }
+    }
+
+    /// The same of an entry of a leaf.
+    #[inline(always)]
+    fn up_past_entry(self, up: i64, entries: &[SharedEntry], at: usize) -> i64
+        requires within { at < length entries.now }
+        requires up { (shift : ℤ) × IsNear shift (length entries.now) × IsUp self up (total (take at entries.now) +ℤ shift) }
+        ensures { (shift : ℤ) → IsUp self up (total (take at entries.now) +ℤ shift)
+            → IsUp self result (total (take (at + 1) entries.now) +ℤ shift) }
+    {
+        match self {
+            Target::Sid(_) => up,
+            Target::Rid(_) => up + entries[at].weight(),
+        }
+    }
+}
+
 impl Node {
-    /// Where what is looked for at the SID stands. It reads one node on each level, and more only where what a change adds
-    /// doesn't tell how it stands to that.
-    pub(crate) fn place_of<P: Probe, L: Ledger>(
+    /// Where what is looked for stands. It reads one node on each level, and more only where what a change adds doesn't tell
+    /// how it stands to that.
+    #[inline(always)]
+    pub(crate) fn find<P: Probe, L: Ledger>(
         &self,
-        sid: u64,
+        target: Target,
         probe: &P,
         steps: &mut Steps<L>,
     ) -> Spot<'_>
+        requires met { MayMeet target self.now.items }
         requires few { length self.now.items < 2 ^ 61 }
-        ensures boundary { IsBoundary (stands_before (P.stand probe.now) sid) self.now.items result.index }
+        ensures place { IsPlace (is_before (P.stand probe.now) target) (pos 0) self.now.items result.index }
         ensures at { IsAt self.now.items result.index result.shift result.leaf.now result.head }
         ensures steps { ((weight : ℤ) → IsSome (P.by_weight probe.now weight)) → steps.new ≡ steps.old + self.now.depth }
     {
         let (mut node, mut above) = (self, Above::root());
         loop {
             match node.read(steps) {
-                Body::Leaf(entries) => return above.spot(entries, place_in(entries, sid, probe)),
+                Body::Leaf(entries) => {
+                    let at = place_in(entries, target, above.shift, probe);
+                    return above.spot(entries, at);
+                }
                 Body::Inner(children) => {
-                    let at = child_before(children, sid, probe, steps);
+                    let at = child_before(children, target, above.shift, probe, steps);
                     above = above.child(children, at);
                     node = &children[at].node;
                 }
@@ -81,52 +167,58 @@ impl Node {
     }
 }
 
-/// The last child found whose first entry is before what is looked for at the SID, or else the first.
+/// The last child found whose first entry is before what is looked for, or else the first, where the first child's entries
+/// are `shift` above the rows below.
+#[inline(always)]
 fn child_before<P: Probe, L: Ledger>(
     children: &[Child],
-    sid: u64,
+    target: Target,
+    shift: i64,
     probe: &P,
     steps: &mut Steps<L>,
 ) -> usize
     requires children { AreChildren children.now }
-    ensures child { result < length children.now }
-    ensures low { (d : Child) (e : Entry) → 1 ≤ result
-        → stands_before (P.stand probe.now) sid (slice_index_or (items_of (slice_index_or children.now result d)) 0 e) ≡ true }
-    ensures high { (d : Child) (e : Entry) → result + 1 < length children.now
-        → stands_before (P.stand probe.now) sid (slice_index_or (items_of (slice_index_or children.now (result + 1) d)) 0 e)
-        ≡ false }
+    requires met { MayMeet target (all_items children.now) }
+    requires near { IsNear shift (length (all_items children.now)) }
+    ensures place { IsChildPlace (is_before (P.stand probe.now) target) shift children.now result }
     ensures steps { ((weight : ℤ) → IsSome (P.by_weight probe.now weight)) → steps.new ≡ steps.old }
 {
     let mut low = 0;
     let mut high = children.len();
+    let mut up = target.up_past_child(shift, children, low);
     while low + 1 < high {
-        let middle = low + (high - low) / 2;
-        if begins_before(&children[middle], sid, probe, steps) {
-            low = middle;
+        let next = target.next_of(low + 1, high);
+        if begins_before(&children[next], target, up, probe, steps) {
+            low = next;
+            up = target.up_past_child(up, children, low);
         } else {
-            high = middle;
+            high = next;
         }
     }
     low
 }
 
-/// Whether the first entry of a child is before what is looked for at the SID.
+/// Whether the first entry of a child, so far above the rows below, is before what is looked for.
+#[inline(always)]
 fn begins_before<P: Probe, L: Ledger>(
     child: &Child,
-    sid: u64,
+    target: Target,
+    up: i64,
     probe: &P,
     steps: &mut Steps<L>,
 ) -> bool
     requires some { 1 ≤ length (items_of child.now) }
     requires head { (e : Entry) → slice_get (items_of child.now) 0 ≡ Some e → child.now.head ≡ head_of e }
-    ensures before { (e : Entry) → slice_get (items_of child.now) 0 ≡ Some e → stands_before (P.stand probe.now) sid e ≡ result }
+    requires reached { IsReached target child.now.head.sid up }
+    ensures before { (e : Entry) → slice_get (items_of child.now) 0 ≡ Some e
+        → is_before (P.stand probe.now) target e up ≡ result }
     ensures steps { ((weight : ℤ) → IsSome (P.by_weight probe.now weight)) → steps.new ≡ steps.old }
 {
     let head = child.head;
-    if head.sid < sid {
+    if target.is_past(head.sid, up) {
         return true;
     }
-    if sid < head.sid {
+    if target.is_short_of(head.sid, up) {
         return false;
     }
     match probe.compare_weight(head.weight) {
@@ -136,12 +228,18 @@ fn begins_before<P: Probe, L: Ledger>(
 }
 
 impl SharedEntry {
-    /// Whether it stands before what is looked for at the SID. It reads its change only where what that adds doesn't tell.
-    pub fn is_before<P: Probe>(&self, sid: u64, probe: &P) -> bool
-        ensures { stands_before (P.stand probe.now) sid self.now ≡ result }
+    /// Whether it stands before what is looked for, where it is so far above the rows below. It reads its change only where
+    /// what that adds doesn't tell.
+    #[inline(always)]
+    pub fn is_before<P: Probe>(&self, target: Target, up: i64, probe: &P) -> bool
+        requires { IsReached target self.now.sid up }
+        ensures { is_before (P.stand probe.now) target self.now up ≡ result }
     {
-        if self.sid() != sid {
-            return self.sid() < sid;
+        if target.is_past(self.sid(), up) {
+            return true;
+        }
+        if target.is_short_of(self.sid(), up) {
+            return false;
         }
         match probe.compare_weight(self.weight()) {
             Some(order) => order.is_gt(),
@@ -150,18 +248,23 @@ impl SharedEntry {
     }
 }
 
-/// How many entries of a leaf are before what is looked for at the SID.
-fn place_in<P: Probe>(entries: &[SharedEntry], sid: u64, probe: &P) -> usize
-    ensures { IsBoundary (stands_before (P.stand probe.now) sid) entries.now result }
+/// How many entries of a leaf, which are `shift` above the rows below, are before what is looked for.
+#[inline(always)]
+fn place_in<P: Probe>(entries: &[SharedEntry], target: Target, shift: i64, probe: &P) -> usize
+    requires met { MayMeet target entries.now }
+    requires near { IsNear shift (length entries.now) }
+    ensures { IsPlace (is_before (P.stand probe.now) target) shift entries.now result }
 {
     let mut low = 0;
     let mut high = entries.len();
+    let mut up = shift;
     while low < high {
-        let middle = low + (high - low) / 2;
-        if entries[middle].is_before(sid, probe) {
-            low = middle + 1;
+        let next = target.next_of(low, high);
+        if entries[next].is_before(target, up, probe) {
+            low = next + 1;
+            up = target.up_past_entry(up, entries, next);
         } else {
-            high = middle;
+            high = next;
         }
     }
     low

@@ -3,14 +3,12 @@ ghost use Rattle.std.specs.Prelude.{◌≡◌, ◌<◌, ◌^◌, List, pos, drop
 ghost use Rattle.std.specs.Option.{option_copied};
 ghost use Rattle.model.specs.declared.entry.Entry.{Entry};
 ghost use Rattle.counted.specs.Descents.{IsAt};
-ghost use Rattle.counted.specs.Gaps.{ArePlaced, IsGap};
-ghost use Rattle.counted.specs.Search.{stands_before, IsBoundary};
+ghost use Rattle.counted.specs.Search.{is_before, IsPlace, MayMeet};
 ghost use Rattle.counted.specs.Sums.{total};
 
-use crate::gap::Gap;
-use crate::search::Probe;
+use crate::search::{Probe, Target};
 use crate::spot::Spot;
-use crate::tree::{CountedTree, gap_uncounted, place_uncounted};
+use crate::tree::{CountedTree, place_uncounted};
 use crate::{Iter, SharedEntry};
 use std::marker::Brand;
 use std::sync::ledger::Blank;
@@ -34,25 +32,15 @@ impl<'a> Start<'a> {
 }
 
 impl CountedTree {
-    /// Where what is looked for at the SID stands, where nobody counts nodes.
-    pub fn place<P: Probe>(&self, sid: u64, probe: &P) -> Start<'_>
-        ensures boundary { IsBoundary (stands_before (P.stand probe.now) sid) self.now.entries result.index }
+    /// Where what is looked for stands, where nobody counts nodes.
+    #[inline(always)]
+    pub fn place<P: Probe>(&self, target: Target, probe: &P) -> Start<'_>
+        requires met { MayMeet target self.now.entries }
+        ensures place { IsPlace (is_before (P.stand probe.now) target) (pos 0) self.now.entries result.index }
         ensures shift { result.shift ≡ total (take result.index self.now.entries) }
         ensures rest { result.entries ≡ drop result.index self.now.entries }
     {
-        self.start_at(place_uncounted::<P, Brand>(self, sid, probe, Blank::new(1)))
-    }
-
-    /// Where something comes to stand at a position, where nobody counts nodes; the rows below are thought to go on without
-    /// end.
-    pub fn gap<G: Gap>(&self, rid: u64, gap: &G) -> Start<'_>
-        requires rid { rid < 2 ^ 63 }
-        requires placed { ArePlaced self.now.entries }
-        ensures gap { IsGap (G.after gap.now) (pos rid) (pos 0) self.now.entries result.index }
-        ensures shift { result.shift ≡ total (take result.index self.now.entries) }
-        ensures rest { result.entries ≡ drop result.index self.now.entries }
-    {
-        self.start_at(gap_uncounted::<G, Brand>(self, rid, gap, Blank::new(1)))
+        self.start_at(place_uncounted::<P, Brand>(self, target, probe, Blank::new(1)))
     }
 
     /// A place with the entries from there on. The leaf that the search ended at is at hand, so that no descent is made for

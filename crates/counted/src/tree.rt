@@ -6,16 +6,14 @@ ghost use Rattle.std.specs.List.{insert, remove};
 ghost use Rattle.counted.specs.Edits.{put_items, edited};
 ghost use Rattle.std.specs.Option.{option_copied};
 ghost use Rattle.counted.specs.Descents.{IsAt};
-ghost use Rattle.counted.specs.Gaps.{ArePlaced, IsGap};
 ghost use Rattle.counted.specs.Paths.{AreFrom};
-ghost use Rattle.counted.specs.Search.{stands_before, IsBoundary};
+ghost use Rattle.counted.specs.Search.{is_before, IsPlace, MayMeet};
 ghost use Rattle.counted.specs.Sums.{total, shift_before, IsOrdered};
 ghost use Rattle.counted.specs.Trees.{IsDepth, IsRoot};
 
-use crate::gap::Gap;
 use crate::node::bulk::{root_over, shared};
 use crate::node::{Child, Node};
-use crate::search::{First, Probe};
+use crate::search::{First, Probe, Target};
 use crate::spot::Spot;
 use crate::{SharedEntry, Steps};
 use model::Entry;
@@ -89,7 +87,7 @@ impl CountedTree {
         ensures steps { steps.new ≡ steps.old + self.now.depth }
         ensures levels { IsDepth self.now.depth (length self.now.entries) }
     {
-        self.place_of(sid, &First, steps).shift
+        self.place_of(Target::Sid(sid), &First, steps).shift
     }
 
     /// The entry at an index that there is. It takes no memory.
@@ -100,32 +98,16 @@ impl CountedTree {
         &self.leaf_from(at).0[0]
     }
 
-    /// Where something comes to stand at a position; the rows below are thought to go on without end.
-    pub fn find_gap<G: Gap, L: Ledger>(&self, rid: u64, gap: &G, steps: &mut Steps<L>) -> Spot<'_>
-        requires rid { rid < 2 ^ 63 }
-        requires placed { ArePlaced self.now.entries }
-        ensures gap { IsGap (G.after gap.now) (pos rid) (pos 0) self.now.entries result.index }
-        ensures at { IsAt self.now.entries result.index result.shift result.leaf.now result.head }
-        ensures steps { ((weight : ℤ) → IsSome (G.by_weight gap.now weight)) → steps.new ≡ steps.old + self.now.depth }
-        ensures levels { IsDepth self.now.depth (length self.now.entries) }
-    {
-        match &self.root {
-            None => Spot::first(steps),
-            Some(root) => {
-                root.levels();
-                root.find_gap(rid as i64, gap, steps)
-            }
-        }
-    }
-
-    /// Where what is looked for at the SID stands.
+    /// Where what is looked for stands.
+    #[inline(always)]
     pub fn place_of<P: Probe, L: Ledger>(
         &self,
-        sid: u64,
+        target: Target,
         probe: &P,
         steps: &mut Steps<L>,
     ) -> Spot<'_>
-        ensures boundary { IsBoundary (stands_before (P.stand probe.now) sid) self.now.entries result.index }
+        requires met { MayMeet target self.now.entries }
+        ensures place { IsPlace (is_before (P.stand probe.now) target) (pos 0) self.now.entries result.index }
         ensures at { IsAt self.now.entries result.index result.shift result.leaf.now result.head }
         ensures steps { ((weight : ℤ) → IsSome (P.by_weight probe.now weight)) → steps.new ≡ steps.old + self.now.depth }
         ensures levels { IsDepth self.now.depth (length self.now.entries) }
@@ -135,7 +117,7 @@ impl CountedTree {
             None => Spot::first(steps),
             Some(root) => {
                 root.levels();
-                root.place_of(sid, probe, steps)
+                root.find(target, probe, steps)
             }
         }
     }
@@ -315,38 +297,21 @@ impl CountedTree {
     }
 }
 
-/// Where what is looked for at the SID is, by a count that is let go.
+/// Where what is looked for stands, by a count that is let go.
+#[inline(always)]
 pub(crate) fn place_uncounted<'a, P: Probe, L: Ledger>(
     tree: &'a CountedTree,
-    sid: u64,
+    target: Target,
     probe: &P,
     blank: Blank,
 ) -> Spot<'a>
     requires name { blank.name ≡ L.name }
     requires parts { blank.parts ≡ L.parts }
     requires some { 0 < L.parts }
-    ensures boundary { IsBoundary (stands_before (P.stand probe.now) sid) tree.now.entries result.index }
+    requires met { MayMeet target tree.now.entries }
+    ensures place { IsPlace (is_before (P.stand probe.now) target) (pos 0) tree.now.entries result.index }
     ensures at { IsAt tree.now.entries result.index result.shift result.leaf.now result.head }
 {
     let mut steps = Steps::<L>::new(blank);
-    tree.place_of(sid, probe, &mut steps)
-}
-
-/// Where something comes to stand at a position, by a count that is let go.
-pub(crate) fn gap_uncounted<'a, G: Gap, L: Ledger>(
-    tree: &'a CountedTree,
-    rid: u64,
-    gap: &G,
-    blank: Blank,
-) -> Spot<'a>
-    requires name { blank.name ≡ L.name }
-    requires parts { blank.parts ≡ L.parts }
-    requires some { 0 < L.parts }
-    requires rid { rid < 2 ^ 63 }
-    requires placed { ArePlaced tree.now.entries }
-    ensures gap { IsGap (G.after gap.now) (pos rid) (pos 0) tree.now.entries result.index }
-    ensures at { IsAt tree.now.entries result.index result.shift result.leaf.now result.head }
-{
-    let mut steps = Steps::<L>::new(blank);
-    tree.find_gap(rid, gap, &mut steps)
+    tree.place_of(target, probe, &mut steps)
 }

@@ -16,8 +16,7 @@ use Rattle.model.specs.declared.entry.Change.TheVariants.{Ins, Del, Mod}
 use Rattle.model.specs.Entries.{change_cmp, entry_cmp, are_ordered}
 use Rattle.model.specs.Places.{insert_count, delete_count}
 use Rattle.model.proofs.CallerLemmas.{first, second, less}
-use Rattle.counted.specs.Search.{IsBoundary}
-use Rattle.counted.specs.Gaps.{ArePlaced}
+use Rattle.counted.specs.Search.{ArePlaced, IsPlace}
 use Rattle.counted.specs.Sums.{weight_of, total, next_sid, IsOrdered}
 use Rattle.counted.specs.Sums as sums
 use Rattle.delta.specs.Search.{IsSplit}
@@ -100,17 +99,17 @@ not_so false h = refl
 pub true_false : (b : Bool) → b ≡ true → b ≡ false → ⊥
 true_false b p q = cc
 
-before_boundary : (test : Entry → Bool) (xs : List Entry) (n : ℕ) → IsPartitionedBy test xs → IsBoundary test xs n
+before_place : (test : Entry → Bool) (xs : List Entry) (n : ℕ) → IsPartitionedBy test xs → IsPlace (λ e up. test e) (pos 0) xs n
     → (k : ℕ) (d : Entry) → 0 ≤ k → k < n → test (get_or xs k d) ≡ true
-before_boundary test xs zero parted b k d low lt = absurd (omega arith)
-before_boundary test xs (suc n) parted b k d low lt =
+before_place test xs zero parted b k d low lt = absurd (omega arith)
+before_place test xs (suc n) parted b k d low lt =
     let within = b.within in parted k n d (omega arith) (omega arith) (b.low n d (omega arith))
 
-pub split_from_boundary : (test : Entry → Bool) (xs : List Entry) (n : ℕ) → IsPartitionedBy test xs → IsBoundary test xs n
+pub split_from_place : (test : Entry → Bool) (xs : List Entry) (n : ℕ) → IsPartitionedBy test xs → IsPlace (λ e up. test e) (pos 0) xs n
     → IsSplit test xs n
-split_from_boundary test xs n parted b =
+split_from_place test xs n parted b =
     split_at test xs n b.within (
-      before_boundary test xs n parted b,
+      before_place test xs n parted b,
       λ k d le lt. not_so (test (get_or xs k d))
           (λ yes. true_false (test (get_or xs n d)) (parted n k d le lt yes) (b.high d (omega arith))),
     )

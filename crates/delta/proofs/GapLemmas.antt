@@ -17,9 +17,9 @@ use Rattle.model.specs.declared.entry.Change.TheVariants.{Ins, Del, Mod}
 use Rattle.model.specs.Entries.{change_cmp, entry_cmp, are_ordered}
 use Rattle.model.specs.Places.{deleted_keys, insert_count, delete_count}
 use Rattle.model.proofs.CallerLemmas.{first, second, less}
-use Rattle.counted.specs.Gaps.{Leads, Follows, IsGap}
 use Rattle.counted.specs.Sums.{weight_of, total, next_sid}
 use Rattle.delta.specs.Positions.{deletes_below, is_passed, keys_ascend, deletes_ascend, IsGapAt}
+use Rattle.delta.proofs.RidLemmas.{Leads, Follows, IsGap}
 use Rattle.delta.proofs.CountedLemmas.{ordered_from_lawful, total-is, some_get, some_within, true_false}
 
 -- ---- what is passed, by numbers

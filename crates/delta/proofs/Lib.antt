@@ -12,6 +12,7 @@ mod StartLemmas
 mod LengthLemmas
 mod LawsLemmas
 mod CountedLemmas
+mod RidLemmas
 mod RowLemmas
 mod AheadLemmas
 mod KeyPlaceLemmas

@@ -19,7 +19,7 @@ use Rattle.model.proofs.CallerLemmas.{first}
 use Rattle.delta.specs.Search.{insert_cmp, base_cmp, modify_cmp, past_cmp, stands_before, IsSplit}
 use Rattle.delta.specs.Changes.{is_modify_at, modifies_column, modify_count, entries_with, MayBePut, IsRun}
 use Rattle.delta.proofs.ChangesLemmas.{all_from, base-le-past, base_is_past, put_ins-split, put_mod-split, put_del-split}
-use Rattle.delta.proofs.CountedLemmas.{split_from_boundary}
+use Rattle.delta.proofs.CountedLemmas.{split_from_place}
 use Rattle.delta.proofs.SearchLemmas.{is_true, at_index, parted, past_cmp-closed}
 use Rattle.delta.proofs.LawfulLemmas.{IsLawful-put_ins, IsLawful-put_del, IsLawful-put_mod}
 use Rattle.delta.proofs.Words.{with_run}
@@ -40,7 +40,7 @@ module _ (key_cols sid : ℕ) where
       → ((d : Entry) → n < length es → (get_or es n d).sid ≡ sid → ⊥) → IsSplit (stands_before past_cmp sid) es n
   past-base es n ordered h none =
       let within = h.within in
-      split_from_boundary (stands_before past_cmp sid) es n (parted key_cols past_cmp (past_cmp-closed key_cols) sid es ordered)
+      split_from_place (stands_before past_cmp sid) es n (parted key_cols past_cmp (past_cmp-closed key_cols) sid es ordered)
       (record {
         within = within;
         low = λ m d is.

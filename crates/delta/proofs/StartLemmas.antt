@@ -12,12 +12,12 @@ use Rattle.model.specs.declared.entry.Entry.{Entry}
 use Rattle.model.specs.declared.entry.Change.{Change}
 use Rattle.model.specs.declared.entry.Change.TheVariants.{Ins, Del, Mod}
 use Rattle.model.specs.Entries.{is_delete, are_ordered}
-use Rattle.counted.specs.Gaps.{IsGap}
 use Rattle.counted.specs.Sums.{weight_of, total}
 use Rattle.counted.proofs.CallerLemmas.{total-more, total_within}
 use Rattle.delta.specs.Changes.{is_delete_at}
 use Rattle.delta.specs.Search.{base_cmp, first_cmp, stands_before}
 use Rattle.delta.specs.Starts.{IsStart}
+use Rattle.delta.proofs.RidLemmas.{IsGap}
 use Rattle.delta.proofs.CountedLemmas.{total-is, some_get, some_within, not_so, true_false}
 use Rattle.delta.proofs.SearchLemmas.{nat_cmp-greater, parted, all_before, all_after, first_cmp-closed, base_cmp-closed}
 

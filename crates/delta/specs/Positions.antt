@@ -1,6 +1,7 @@
 -- Positions in the image: how far the entries move a row, and the row at a position.
 use Rattle.std.specs.Prelude.{◌≡◌, ℕ, ℤ, pos, int_lt, ◌+◌, ◌≤◌, ◌==◌, nat_lt, Bool, true, false, ◌&&◌, ◌||◌, cond, IsTrue, IsFalse}
 use Rattle.std.specs.Prelude.{Option, Some, None, List, [], ◌∷◌, length, map, filter, take, slice_get}
+use Rattle.std.proofs.Common.{Ordering, Less, Greater}
 use Rattle.std.specs.Option.{IsSomeAnd}
 use Rattle.std.specs.Ordering.{is_lt}
 use Rattle.std.specs.List.{list_all}
@@ -56,10 +57,14 @@ pub record IsGapAt (rid : ℕ) (key : Key) (entries : List Entry) (sid index : �
   pub after : (e : Entry) → slice_get entries index ≡ Some e
       → is_passed key (e.sid + insert_count (take index entries)) (rid + delete_count (take index entries)) e.change ≡ false
 
--- ---- what a change that adds so much tells of whether something comes after it
+-- ---- how something stands to a change at its position
 
-abbrev pub after_deletes : ℤ → Option Bool
-after_deletes weight = Some (int_lt weight (pos 0))
+abbrev pub past_where : Bool → Ordering
+past_where behind = cond behind Greater Less
 
-abbrev pub after_some_deletes : ℤ → Option Bool
-after_some_deletes weight = cond (int_lt weight (pos 0)) None (Some false)
+-- the same by what the change adds alone, where that tells
+abbrev pub past_deletes : ℤ → Option Ordering
+past_deletes weight = Some (past_where (int_lt weight (pos 0)))
+
+abbrev pub past_some_deletes : ℤ → Option Ordering
+past_some_deletes weight = cond (int_lt weight (pos 0)) None (Some Less)

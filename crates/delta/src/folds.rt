@@ -8,14 +8,15 @@ ghost use Rattle.delta.specs.declared.places.Place.{Place};
 ghost use Rattle.delta.specs.declared.places.Place.TheVariants.{Base};
 ghost use Rattle.delta.specs.Ahead.{IsAhead};
 ghost use Rattle.delta.specs.Folds.{row_of_fold, IsRunOf, IsFold, IsOnlyFold};
-ghost use Rattle.delta.specs.Positions.{after_some_deletes, deletes_below, deletes_ascend, IsAtRid};
+ghost use Rattle.delta.specs.Positions.{deletes_below, deletes_ascend, past_some_deletes, past_where, IsAtRid};
 ghost use Rattle.delta.specs.Search.{base_cmp, stands_before, IsSplit};
 
 use crate::changes::modify_worth;
-use crate::places::{Place, Start, next_row, row_at};
+use crate::places::{Place, Start, next_row, past_where, row_at};
 use crate::sorted::Ahead;
 use crate::tree::DeltaTree;
-use counted::{ChangeRef, Gap};
+use counted::{ChangeRef, Probe, Target};
+use std::cmp::Ordering;
 use values::{SharedRow, Value};
 
 /// Where an entry over the image is folded in.
@@ -33,17 +34,21 @@ struct RowOf<'a> {
     key: &'a [Value],
 }
 
-impl<'a> Gap for RowOf<'a> {
-    ghost after = { λ p. deletes_below p.key.now };
+impl<'a> Probe for RowOf<'a> {
+    ghost stand = { λ p c. past_where (deletes_below p.key.now c) };
 
-    ghost by_weight = { λ p. after_some_deletes };
+    ghost by_weight = { λ p. past_some_deletes };
 
-    fn is_after(&self, change: ChangeRef<'_>) -> bool {
-        deletes_below(self.key, change)
+    fn compare(&self, change: ChangeRef<'_>) -> Ordering {
+        past_where(deletes_below(self.key, change))
     }
 
-    fn is_after_weight(&self, weight: i64) -> Option<bool> {
-        if weight < 0 { None } else { Some(false) }
+    fn compare_weight(&self, weight: i64) -> Option<Ordering> {
+        if weight < 0 {
+            None
+        } else {
+            Some(Ordering::Less)
+        }
     }
 }
 
@@ -73,11 +78,11 @@ impl DeltaTree {
         ensures fold { IsFold self.now.key_cols self.now.entries rid (Ins row.now) result }
         ensures only { IsOnlyFold self.now.key_cols self.now.entries rid (Ins row.now) result }
     {
-        let gap = RowOf {
+        let sought = RowOf {
             key: row.key(self.key_cols),
         };
-        let place = self.tree.gap(rid, &gap);
-        let sid = next_row(&self.tree, rid, &gap, place.index, place.shift);
+        let place = self.tree.place(Target::Rid(rid), &sought);
+        let sid = next_row(&self.tree, rid, &sought, place.index, place.shift);
         Fold::Put(sid, place.index, place.index)
     }
 

@@ -1,21 +1,24 @@
 //! Positions in the image above: how far the entries move what is at a SID, and what is at a position.
 ghost use Rattle.std.specs.Prelude.{◌≡◌, false, ◌<◌, ◌≤◌, ◌^◌, ◌+ℤ◌, ◌≤ℤ◌, Option, drop, length, pos, take};
 ghost use Rattle.std.specs.Option.{option_copied, option_map};
+ghost use Rattle.std.specs.Ordering.{is_gt};
 ghost use Rattle.values.specs.declared.row.Row.{Row};
 ghost use Rattle.counted.specs.Changes.{change_of};
-ghost use Rattle.counted.specs.Gaps.{IsGap};
+ghost use Rattle.counted.specs.declared.search.Target.TheVariants.{Rid};
 ghost use Rattle.counted.specs.Heads.{head_of};
+ghost use Rattle.counted.specs.Search.{is_before, IsPlace};
 ghost use Rattle.counted.specs.Sums.{total};
 ghost use Rattle.model.specs.declared.entry.Entry.{Entry};
 ghost use Rattle.model.specs.Entries.{is_delete, IsLawful};
 ghost use Rattle.model.specs.declared.entry.Change.TheVariants.{Ins};
 ghost use Rattle.model.specs.Places.{delete_count, rid_of_insert};
-ghost use Rattle.delta.specs.Positions.{shift_before, after_deletes, IsAtRid};
+ghost use Rattle.delta.specs.Positions.{shift_before, past_deletes, past_where, IsAtRid};
 ghost use Rattle.delta.specs.Depth.{CountsEachLevel};
 ghost use Rattle.delta.specs.Starts.{IsStart, place_at};
 
 use crate::tree::DeltaTree;
-use counted::{ChangeRef, CountedTree, Gap, Head, Iter, SharedEntry, Steps};
+use counted::{ChangeRef, CountedTree, Head, Iter, Probe, SharedEntry, Steps, Target};
+use std::cmp::Ordering;
 use std::sync::ledger::Ledger;
 
 /// Where the row at a position of the image comes from.
@@ -41,17 +44,17 @@ pub struct Start<'a> {
 /// The row at a position, which is after the deletes there, and before its own modifies.
 struct RowThere;
 
-impl Gap for RowThere {
-    ghost after = { λ p. is_delete };
+impl Probe for RowThere {
+    ghost stand = { λ p c. past_where (is_delete c) };
 
-    ghost by_weight = { λ p. after_deletes };
+    ghost by_weight = { λ p. past_deletes };
 
-    fn is_after(&self, change: ChangeRef<'_>) -> bool {
-        is_delete(change)
+    fn compare(&self, change: ChangeRef<'_>) -> Ordering {
+        past_where(is_delete(change))
     }
 
-    fn is_after_weight(&self, weight: i64) -> Option<bool> {
-        Some(weight < 0)
+    fn compare_weight(&self, weight: i64) -> Option<Ordering> {
+        Some(past_where(weight < 0))
     }
 }
 
@@ -75,7 +78,7 @@ impl DeltaTree {
         ensures only { (place : Place) → IsAtRid self.now.entries rid place → place ≡ result }
         ensures steps { CountsEachLevel (length self.now.entries) steps.old steps.new }
     {
-        let found = self.tree.find_gap(rid, &RowThere, steps);
+        let found = self.tree.place_of(Target::Rid(rid), &RowThere, steps);
         let sid = next_row(&self.tree, rid, &RowThere, found.index, found.shift);
         row_of(found.head, found.index, sid)
     }
@@ -89,7 +92,7 @@ impl DeltaTree {
         ensures rest { result.entries ≡ drop result.index self.now.entries }
         ensures lawful { IsLawful self.now.key_cols self.now.entries }
     {
-        let start = self.tree.gap(rid, &RowThere);
+        let start = self.tree.place(Target::Rid(rid), &RowThere);
         Start {
             index: start.index,
             sid: next_row(&self.tree, rid, &RowThere, start.index, start.shift),
@@ -99,10 +102,10 @@ impl DeltaTree {
 }
 
 /// The base row that is next where something comes to stand at a position, behind so many entries that add so much.
-pub(crate) fn next_row<G: Gap>(
+pub(crate) fn next_row<P: Probe>(
     tree: &CountedTree,
     rid: u64,
-    gap: &G,
+    probe: &P,
     index: usize,
     shift: i64,
 ) -> u64
@@ -110,8 +113,8 @@ pub(crate) fn next_row<G: Gap>(
     requires few { length tree.now.entries ≤ 2 ^ 40 }
 
     // It comes behind no insert there.
-    requires first { (row : Row) → G.after gap.now (Ins row) ≡ false }
-    requires gap { IsGap (G.after gap.now) (pos rid) (pos 0) tree.now.entries index }
+    requires first { (row : Row) → is_gt (P.stand probe.now (Ins row)) ≡ false }
+    requires place { IsPlace (is_before (P.stand probe.now) (Rid rid)) (pos 0) tree.now.entries index }
     requires shift { shift ≡ total (take index tree.now.entries) }
     ensures { (pos result +ℤ total (take index tree.now.entries)) ≡ pos rid }
 {
@@ -146,6 +149,17 @@ fn row_of(head: Option<Head>, index: usize, sid: u64) -> Place
     match head {
         Some(found) if found.sid == sid && found.weight > 0 => Place::Inserted(index),
         _ => Place::Base(sid),
+    }
+}
+
+/// How something stands to a change that it comes behind, where that is so, or before.
+pub(crate) fn past_where(behind: bool) -> Ordering
+    ensures { result ≡ past_where behind }
+{
+    if behind {
+        Ordering::Greater
+    } else {
+        Ordering::Less
     }
 }
 

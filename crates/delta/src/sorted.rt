@@ -12,7 +12,7 @@ ghost use Rattle.delta.specs.Search.{insert_by_weight, base_by_weight, modify_by
 
 use crate::by_sid::Sought;
 use crate::tree::DeltaTree;
-use counted::{ChangeRef, First, Iter, Probe, SharedEntry, Start};
+use counted::{ChangeRef, First, Iter, Probe, SharedEntry, Start, Target};
 use std::cmp::Ordering;
 use values::Value;
 
@@ -123,7 +123,7 @@ impl DeltaTree {
         ensures rest { result.entries ≡ drop result.index self.now.entries }
         ensures lawful { IsLawful self.now.key_cols self.now.entries }
     {
-        self.tree.place(sid, probe)
+        self.tree.place(Target::Sid(sid), probe)
     }
 
     /// Where what is looked for at the SID stands, from a place on where it may stand, and the entry there: past the entries
@@ -147,7 +147,7 @@ impl DeltaTree {
             mut rest,
         } = ahead;
         while let Some(entry) = next {
-            if !entry.is_before(sid, probe) {
+            if !entry.is_before(Target::Sid(sid), 0, probe) {
                 break;
             }
             next = rest.next();

@@ -3,7 +3,7 @@ ghost use Rattle.std.specs.Prelude.{◌<◌, ◌^◌, length};
 
 use crate::draws::Draws;
 use anyhow::anyhow;
-use counted::{CountedTree, First};
+use counted::{CountedTree, First, Target};
 use model::{Change, Entry};
 use std::alloc::{AllocError, Global};
 use std::time::Instant;
@@ -79,7 +79,7 @@ fn time_of_searches(rt: &HostRuntime, tree: &CountedTree) -> anyhow::Result<u64>
     let mut differ = false;
     for _ in 0..CALLS {
         let sid = draws.number() % count;
-        differ |= tree.place(sid, &First).index as u64 != sid;
+        differ |= tree.place(Target::Sid(sid), &First).index as u64 != sid;
     }
     let time = nanos_since(rt, start)?;
     expect(!differ, "the index of a SID")?;

@@ -1,20 +1,25 @@
-use Rattle.std.proofs.Common.{arith}
+use Rattle.std.proofs.Common.{is_gt, refl, arith}
 use Rattle.std.proofs.lemmas.Int.{ints}
+use Rattle.delta.proofs.RidLemmas.{gap_from}
 use Rattle.delta.proofs.StartLemmas.{start_bounds}
 use Rattle.delta.proofs.places.next_row.Goals as goal
 
 pub overflow_sub-shift : goal.overflow_sub-shift
 overflow_sub-shift g c =
     let b =
-    start_bounds (g.G.Gap.after c.args.gap.now) c.requires.first c.args.rid c.args.tree.now.entries c.args.index c.args.shift
-    c.requires.gap c.requires.shift c.requires.few in
+    start_bounds (λ x. is_gt (g.P.Probe.stand c.args.probe.now x)) c.requires.first c.args.rid c.args.tree.now.entries c.args.index
+    c.args.shift
+    (gap_from (g.P.Probe.stand c.args.probe.now) _ (λ x. refl) c.args.rid c.args.tree.now.entries c.args.index c.requires.place)
+    c.requires.shift c.requires.few in
     omega (arith, ints, b.1)
 
 pub moved-requires : goal.moved-requires
 moved-requires g c =
     let b =
-    start_bounds (g.G.Gap.after c.args.gap.now) c.requires.first c.args.rid c.args.tree.now.entries c.args.index c.args.shift
-    c.requires.gap c.requires.shift c.requires.few in
+    start_bounds (λ x. is_gt (g.P.Probe.stand c.args.probe.now x)) c.requires.first c.args.rid c.args.tree.now.entries c.args.index
+    c.args.shift
+    (gap_from (g.P.Probe.stand c.args.probe.now) _ (λ x. refl) c.args.rid c.args.tree.now.entries c.args.index c.requires.place)
+    c.requires.shift c.requires.few in
     record {
       small = c.requires.rid;
       above = omega (arith, ints, b.2, b.1);
@@ -25,8 +30,10 @@ moved-requires g c =
 pub returns : goal.returns
 returns g c =
     let b =
-    start_bounds (g.G.Gap.after c.args.gap.now) c.requires.first c.args.rid c.args.tree.now.entries c.args.index c.args.shift
-    c.requires.gap c.requires.shift c.requires.few in
+    start_bounds (λ x. is_gt (g.P.Probe.stand c.args.probe.now x)) c.requires.first c.args.rid c.args.tree.now.entries c.args.index
+    c.args.shift
+    (gap_from (g.P.Probe.stand c.args.probe.now) _ (λ x. refl) c.args.rid c.args.tree.now.entries c.args.index c.requires.place)
+    c.requires.shift c.requires.few in
     let at = c.moved.ensures in
     let shift = c.requires.shift in
     omega (arith, ints, b.0, b.1, b.2)

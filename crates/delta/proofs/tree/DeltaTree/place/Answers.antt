@@ -6,7 +6,7 @@ use Rattle.counted.specs.Sums.{total}
 use Rattle.delta.specs.Tree.{Tree}
 use Rattle.delta.specs.Search.{stands_before, IsClosed, IsSplit}
 use Rattle.delta.proofs.SearchLemmas.{parted}
-use Rattle.delta.proofs.CountedLemmas.{split_from_boundary}
+use Rattle.delta.proofs.CountedLemmas.{split_from_place}
 use Rattle.delta.proofs.tree.DeltaTree.place.Goals as goal
 
 pub returns : goal.returns
@@ -18,8 +18,8 @@ returns g c =
     let whole : xs ≡ c.args.self.now.entries = ap (λ (t : Tree). t.entries) c.self.view_is in
     let width : k ≡ c.args.self.now.key_cols = ap (λ (t : Tree). t.key_cols) c.self.view_is in
     let closed : IsClosed k cmp = subst (λ (w : ℕ). IsClosed w cmp) (sym width) c.requires in
-    let split = split_from_boundary (stands_before cmp c.args.sid) xs n
-    (parted k cmp closed c.args.sid xs (T_from_true _ c.self.invariant.ordered)) c.place.ensures.boundary in
+    let split = split_from_place (stands_before cmp c.args.sid) xs n
+    (parted k cmp closed c.args.sid xs (T_from_true _ c.self.invariant.ordered)) c.place.ensures.place in
     record {
       lawful = subst (λ (w : Tree). IsLawful w.key_cols w.entries) c.self.view_is c.self.invariant;
       split = subst (λ (es : List Entry). IsSplit (stands_before cmp c.args.sid) es n) whole split;

@@ -1,4 +1,0 @@
-use Rattle.counted.proofs.tree.CountedTree.gap.Given as goal
-
-abbrev pub ghosts-gap_uncounted : goal.ghosts-gap_uncounted
-ghosts-gap_uncounted g a = record { name = a.blank.name; parts = a.blank.parts }
