@@ -219,8 +219,8 @@ pdt_code pdt_count(pdt_store *store, pdt_counts *counts);
 /* Folds the Write-PDT into the Read-PDT: later commits are folded into a smaller tree. No table changes, and no open
    transaction. PDT_NOMEM, PDT_MISUSE. Commits wait for it.
    Then it packs a Read-PDT of 256 entries or more, where a sixteenth of them came since it was packed last: what begins from there on
-   reads numbers by pdt_ints several times as fast. No commit waits for that, and where malloc refuses the memory (24 bytes an entry,
-   and 8 for each column of a row that is inserted) nothing is packed. */
+   reads numbers by pdt_ints, and truths by pdt_bools, several times as fast. No commit waits for that, and where malloc refuses the
+   memory (24 bytes an entry, and 8 for each column of a row that is inserted) nothing is packed. */
 pdt_code pdt_fold(pdt_store *store);
 
 /* Lets the changes of the last commits go, before there are pdt_options.recent of them. A transaction that began before the newest

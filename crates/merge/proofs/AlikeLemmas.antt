@@ -1,5 +1,5 @@
 -- The same layers over other stable rows, as many as there are.
-use Rattle.std.proofs.Common.{◌≡◌, ◌∙◌, ℕ, suc, ◌<◌, ◌≤◌, ◌^◌, Option, Some, None, List, [], ◌∷◌, ◌++◌, length, drop, refl, sym, ap, subst, arith}
+use Rattle.std.proofs.Common.{◌≡◌, ℕ, suc, ◌<◌, ◌≤◌, ◌^◌, None, List, [], ◌∷◌, ◌++◌, length, drop, refl, sym, ap, subst, arith}
 use Rattle.std.proofs.Common.{length-append, length-drop}
 use Rattle.std.specs.Prelude.{slice_set}
 use Rattle.values.specs.declared.row.Row.{Row}
@@ -12,7 +12,7 @@ use Rattle.stable.specs.Stable.{Stable}
 use Rattle.merge.specs.Image.{Stack, stack_of, stack_over, tree_over, read_rows, write_rows, image_rows}
 use Rattle.merge.specs.Level.{IsOver, AreKept}
 use Rattle.merge.specs.Cursor.{TreeCursor, rows_left, IsCursorAt}
-use Rattle.merge.proofs.LeftLemmas.{Places, read_at, write_at, trans_at, write_is, own_is}
+use Rattle.merge.proofs.LeftLemmas.{Places, read_at, write_at, write_is, own_is}
 use Rattle.merge.proofs.StackLemmas.{AreLevels, are_levels, merged_rows-nothing}
 
 -- ---- as many rows are merged from as many

@@ -1,23 +1,24 @@
 -- Numbers of a column, batch by batch.
 use Rattle.std.proofs.Common.{inl, inr, w64, SFits, to_z, of_z, Some, None, slice_get, ◌≡◌, ◌∙◌, ℕ, zero, suc, ◌+◌, ◌-◌, ◌<◌, ◌≤◌, List, [], ◌∷◌, ◌++◌, append_assoc, length, map, take, drop, get_or, refl, sym, ap, subst, arith}
-use Rattle.std.specs.Prelude.{ℤ, IsTrue, false, min, slice_set}
+use Rattle.std.specs.Prelude.{ℤ, pos, Bool, IsTrue, cond, false, min, slice_set}
 use Rattle.std.specs.List.{All}
 use Rattle.std.proofs.lemmas.Bool.{cases_lt}
 use Rattle.std.proofs.lemmas.List.{drop-drop, drop_all, length-append, length-map, length-take, map-append, take-append-le}
-use Rattle.std.proofs.lemmas.List.Elements.{All-drop, All-head, All-same, All-weaker}
+use Rattle.std.proofs.lemmas.List.Elements.{All-drop, All-head, All-map, All-same, All-weaker}
 use Rattle.std.proofs.Math.Seq.{take-append_seam}
 use Rattle.std.proofs.lemmas.Int.{to_z-of_z}
 use Rattle.values.specs.declared.row.Row.{Row}
 use Rattle.values.specs.declared.value.Value.{Value}
 use Rattle.values.specs.Shape.{has_type}
 use Rattle.values.specs.declared.value.Value.TheVariants.{Int, Text, Bool as Truth}
+use Rattle.values.specs.declared.value.ColumnType.{ColumnType}
 use Rattle.values.specs.declared.value.ColumnType.TheVariants as column
 use Rattle.model.specs.Effects.{Cells, set_cells}
 use Rattle.stable.specs.Rows.{column_values}
 use Rattle.merge.specs.Cursor.{TreeCursor, InsertsNext, IsCursor, ModifiesNext, rows_left}
-use Rattle.merge.specs.Filling.{FillsRows, HaveNumbers, IsWide}
+use Rattle.merge.specs.Filling.{FillsRows, HaveValues, IsWide}
 use Rattle.merge.specs.Fitting.{StandsAt}
-use Rattle.merge.specs.Packed.{number_at, number_of}
+use Rattle.merge.specs.Packed.{AreNumbersOf, number_at, number_of}
 use Rattle.merge.specs.Parts.{PassesRow}
 use Rattle.merge.specs.View.{last_cell}
 use Rattle.merge.proofs.PartLemmas.{over_next, value-cell, value_or_false}
@@ -32,12 +33,28 @@ is_own (Text t) h = cc h
 is_own (Truth b) h = cc h
 
 -- the numbers of rows in a column of numbers are its values
-pub values_are : (col : ℕ) (rows : List Row) → HaveNumbers col rows → map Int (map (number_at col) rows) ≡ column_values col rows
+pub values_are : (col : ℕ) (rows : List Row) → HaveValues column.Int col rows → map Int (map (number_at col) rows) ≡ column_values col rows
 values_are col [] have = refl
 values_are col (row ∷ rows) have =
     let own = is_own (get_or row col (Truth false)) (have 0 row (omega arith)).typed in
     let rest = values_are col rows (λ k d lt. have (suc k) d (omega (arith, lt))) in
     λ i. own i ∷ rest i
+
+-- the numbers of values, as a row has them in a column
+pub numbers_values : (col : ℕ) (rows : List Row) → map number_of (column_values col rows) ≡ map (number_at col) rows
+numbers_values col [] = refl
+numbers_values col (row ∷ rows) = ap (λ ns. number_at col row ∷ ns) (numbers_values col rows)
+
+-- and of values of a type
+pub are_numbers_of : (ty : ColumnType) (col : ℕ) (rows : List Row) → HaveValues ty col rows
+    → AreNumbersOf ty (column_values col rows) (map (number_at col) rows)
+are_numbers_of ty col rows have =
+    record {
+      typed =
+          All-map (λ value. IsTrue (has_type ty value)) (λ (row : Row). get_or row col (Truth false)) rows
+          (All-weaker (StandsAt ty col) (λ row. IsTrue (has_type ty (get_or row col (Truth false)))) (λ row stands. stands.typed) rows have);
+      numbers_are = sym (numbers_values col rows);
+    }
 
 -- ---- rows that are passed
 
@@ -92,9 +109,9 @@ all_filled P col old new xs p h = all_left P old p.passed new p.rows h
 pub all_skipped : (P : Row → Type 0) (old new : List Row) → PassesRow old new → All P old → All P new
 all_skipped P old new p h = all_left P old (p.row ∷ []) new p.rows h
 
--- rows with numbers are wide
-pub are_wide : (col : ℕ) (rows : List Row) → HaveNumbers col rows → All (IsWide col) rows
-are_wide col rows h = All-weaker (StandsAt column.Int col) (IsWide col) (λ row stands. stands.wide) rows h
+-- rows with values in a column are wide
+pub are_wide : (ty : ColumnType) (col : ℕ) (rows : List Row) → HaveValues ty col rows → All (IsWide col) rows
+are_wide ty col rows h = All-weaker (StandsAt ty col) (IsWide col) (λ row stands. stands.wide) rows h
 
 -- ---- a room that is filled part by part
 
@@ -122,14 +139,13 @@ take_more done more out part le few =
             next : suc (length xs) + more ≡ suc (length xs + more)
             next = omega arith
 
--- the numbers of values, as a row has them in a column
-pub numbers_values : (col : ℕ) (rows : List Row) → map number_of (column_values col rows) ≡ map (number_at col) rows
-numbers_values col [] = refl
-numbers_values col (row ∷ rows) = ap (λ ns. number_at col row ∷ ns) (numbers_values col rows)
-
 pub numbers_int : (xs : List ℤ) → map number_of (map Int xs) ≡ xs
 numbers_int [] = refl
 numbers_int (x ∷ xs) = ap (λ ns. x ∷ ns) (numbers_int xs)
+
+pub numbers_truth : (truths : List Bool) → map number_of (map Truth truths) ≡ map (λ truth. cond truth (pos 1) (pos 0)) truths
+numbers_truth [] = refl
+numbers_truth (truth ∷ truths) = ap (λ ns. cond truth (pos 1) (pos 0) ∷ ns) (numbers_truth truths)
 
 -- the first part of a column's values are those of as many rows
 pub first_filled : (col most n : ℕ) (sid : ℕ) (rows : List Row) (own rest : List Value)

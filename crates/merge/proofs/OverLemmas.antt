@@ -1,6 +1,6 @@
 -- Stretches read over other stable rows, level by level.
-use Rattle.std.proofs.Common.{◌≡◌, ◌∙◌, ℕ, suc, ◌+◌, ◌<◌, ◌≤◌, List, [], ◌∷◌, ◌++◌, length, take, drop, refl, sym, ap, subst, arith}
-use Rattle.std.proofs.Common.{append_assoc, length-append}
+use Rattle.std.proofs.Common.{◌≡◌, ◌∙◌, ℕ, suc, ◌+◌, ◌<◌, ◌≤◌, List, [], ◌∷◌, ◌++◌, length, drop, refl, sym, ap, subst, arith}
+use Rattle.std.proofs.Common.{length-append}
 use Rattle.values.specs.declared.row.Row.{Row}
 use Rattle.model.specs.Effects.{Cells, set_cells}
 use Rattle.merge.specs.Cursor.{TreeCursor, IsCursor, InsertsNext, KeepsNext, ModifiesNext, moved, rows_left}

@@ -3,16 +3,15 @@ use Rattle.std.proofs.Common.{◌≡◌, ◌∙◌, Option, ℕ, ◌<◌, ◌≤
 use Rattle.std.specs.List.{All}
 use Rattle.std.proofs.lemmas.List.Elements.{All-drop, All-same, All-take, All-weaker}
 use Rattle.values.specs.declared.row.Row.{Row}
-use Rattle.values.specs.declared.value.ColumnType.{ColumnType}
 use Rattle.values.specs.declared.value.ColumnType.TheVariants as column
 use Rattle.model.specs.Table.{IsTable}
 use Rattle.delta.specs.Tree.{Tree}
 use Rattle.stable.specs.Stable.{Stable}
 use Rattle.merge.specs.Cursor.{TreeCursor, IsCursor, IsCursorAt, rows_left}
-use Rattle.merge.specs.Filling.{HaveNumbers, IsWide}
+use Rattle.merge.specs.Filling.{HaveValues, IsWide}
 use Rattle.merge.specs.Fitting.{StandsAt}
 use Rattle.merge.specs.Image.{Stack, stack_of, tree_over, read_rows, write_rows, image_rows, image_table}
-use Rattle.merge.specs.Packed.{IsNumberColumn}
+use Rattle.merge.specs.Packed.{type_at}
 use Rattle.merge.specs.Level.{AreKept}
 use Rattle.merge.proofs.LeftLemmas.{Places, read_at, write_at, write_is, write_stands}
 use Rattle.merge.proofs.RunLemmas.{table_stands}
@@ -24,18 +23,15 @@ pub record IsPlaced (s : Stack) (rid : ℕ) (w r : TreeCursor) (base : List Row)
   pub stands : IsCursor (length (rows_left r base)) w
   pub cursor : IsCursor (length base) r
   pub wide : (col : ℕ) → col < length s.schema.types → All (IsWide col) (rows_left r base)
-  pub numbers : (col : ℕ) → col < length s.schema.types → get_or s.schema.types col column.Int ≡ column.Int → HaveNumbers col base
+  pub values : (col : ℕ) → col < length s.schema.types → HaveValues (type_at s.schema col) col base
 
 module _ (stable : Stable) (read write top : Tree) (len : ℕ) (h : AreKept stable read write top len) where
   abbrev s : Stack
   s = stack_of stable read write top
 
   -- the rows at each level have the column
-  wide_stable : (col : ℕ) → col < length stable.schema.types → get_or stable.schema.types col column.Int ≡ column.Int
-      → HaveNumbers col stable.rows
-  wide_stable col lt ints =
-      subst (λ (ty : ColumnType). All (StandsAt ty col) stable.rows) ints
-      (table_stands stable.schema stable.rows col (stable_is_table stable read write top h.stacked) lt)
+  wide_stable : (col : ℕ) → col < length stable.schema.types → HaveValues (type_at stable.schema col) col stable.rows
+  wide_stable col lt = table_stands stable.schema stable.rows col (stable_is_table stable read write top h.stacked) lt
 
   wide_read : (col : ℕ) → col < length stable.schema.types → All (IsWide col) (read_rows s)
   wide_read col lt =
@@ -73,9 +69,9 @@ module _ (stable : Stable) (read write top : Tree) (len : ℕ) (h : AreKept stab
           wide = λ col lt.
               All-same (IsWide col) (rows_left r base) (drop w.sid (read_rows s)) in_read
               (All-drop (IsWide col) w.sid (read_rows s) (wide_read col lt));
-          numbers = λ col lt ints.
-              All-same (StandsAt column.Int col) base (drop r.sid stable.rows) base_is
-              (All-drop (StandsAt column.Int col) r.sid stable.rows (wide_stable col lt ints));
+          values = λ col lt.
+              let Here : Row → Type 0 = StandsAt (type_at stable.schema col) col in
+              All-same Here base (drop r.sid stable.rows) base_is (All-drop Here r.sid stable.rows (wide_stable col lt));
         }
 
 -- layers as they keep them, seen as a stack
@@ -99,11 +95,11 @@ module _ (stable : Stable) (read write : Tree) (over : Option Tree) (len : ℕ) 
       (placed stable read write top len kept rid (subst (λ (x : Stack). rid ≤ length (write_rows x)) (sym view) low) w r places_w
       (subst (λ n. Places read n r) below_is places_r) w_tree r_tree (drop sid stable.rows) (ap (λ n. drop n stable.rows) sid_is))
 
-  -- the rows of the image have numbers in a column of numbers
-  pub image_numbers : (col : ℕ) → IsNumberColumn s.schema col → (from count : ℕ) → HaveNumbers col (take count (drop from (image_rows s)))
-  image_numbers col is from count =
+  -- the rows of the image have values of the column's type in it
+  pub image_values : (col : ℕ) → col < length s.schema.types → (from count : ℕ)
+      → HaveValues (type_at s.schema col) col (take count (drop from (image_rows s)))
+  image_values col there from count =
       let table = subst (λ (x : Stack). IsTable x.schema (image_table x)) view (image_is_table stable read write top kept.stacked) in
-      let Here : Row → Type 0 = StandsAt column.Int col in
-      let all = subst (λ (ty : ColumnType). All (StandsAt ty col) (image_rows s)) is.ints
-      (table_stands s.schema (image_rows s) col table is.there) in
+      let Here : Row → Type 0 = StandsAt (type_at s.schema col) col in
+      let all = table_stands s.schema (image_rows s) col table there in
       All-take Here count (drop from (image_rows s)) (All-drop Here from (image_rows s) all)

@@ -1,14 +1,12 @@
 -- Stretches of a range, over the stable rows and over any others.
-use Rattle.std.proofs.Common.{◌≡◌, ◌∙◌, ℕ, ◌+◌, ◌-◌, ◌<◌, ◌≤◌, List, [], ◌∷◌, ◌++◌, length, take, drop, refl, sym, ap, subst, arith}
-use Rattle.std.proofs.Common.{length-append, length-drop}
+use Rattle.std.proofs.Common.{◌≡◌, ◌∙◌, ℕ, ◌+◌, ◌-◌, ◌≤◌, List, [], ◌∷◌, ◌++◌, length, take, drop, refl, sym, ap, subst, arith}
 use Rattle.std.proofs.lemmas.List.{drop-drop}
 use Rattle.values.specs.declared.row.Row.{Row}
 use Rattle.merge.specs.Image.{Stack, image_rows, stack_over}
 use Rattle.merge.specs.Left.{AreAlike, AreCursors, image_left, image_over}
-use Rattle.merge.specs.Placed.{IsPlaced, PassesPlaced, Placed, placed_past, placed_rows}
+use Rattle.merge.specs.Placed.{IsPlaced, PassesPlaced, placed_past}
 use Rattle.merge.specs.Stretches.{IsStretch, PassesOver, stretch_over, stretch_rows}
 use Rattle.merge.specs.declared.image.Image.{Image}
-use Rattle.merge.specs.declared.image.Image.TheVariants.{Committed, Own}
 use Rattle.merge.specs.declared.stretch.Stretch.{Stretch}
 use Rattle.merge.proofs.StretchLemmas.{take_append, stretch_some}
 

@@ -2,7 +2,7 @@
 use Rattle.std.specs.Prelude.{◌≡◌, ◌<◌, ◌≤◌, ℕ, ℤ, ◌+◌, ◌-◌, ◌==◌, nat_lt, nat_le, ◌&&◌, Bool, false, cond, T, List, [], ◌∷◌, ◌++◌, length, map, take, get_or, slice_set}
 use Rattle.std.specs.List.{All, list_all}
 use Rattle.values.specs.declared.row.Row.{Row}
-use Rattle.values.specs.declared.value.ColumnType.TheVariants as column
+use Rattle.values.specs.declared.value.ColumnType.{ColumnType}
 use Rattle.model.specs.declared.entry.Entry.{Entry}
 use Rattle.model.specs.declared.entry.Change.{Change}
 use Rattle.model.specs.declared.entry.Change.TheVariants.{Ins, Del, Mod}
@@ -24,9 +24,9 @@ pub record FillsRows (col : ℕ) (old : List Row) (numbers : List ℤ) (new : Li
 abbrev pub IsWide : ℕ → Row → Type 0
 IsWide col row = col < length row
 
--- the rows have a number in the column
-abbrev pub HaveNumbers : ℕ → List Row → Type 0
-HaveNumbers col rows = All (StandsAt column.Int col) rows
+-- the rows have a value of the type in the column
+abbrev pub HaveValues : ColumnType → ℕ → List Row → Type 0
+HaveValues ty col rows = All (StandsAt ty col) rows
 
 -- the numbers of a run
 abbrev pub numbers_in : NumberRun → List ℤ

@@ -2,6 +2,7 @@
 use Rattle.std.specs.Prelude.{◌≡◌, ◌<◌, ◌++◌, ℕ, ℤ, Option, MatchOption, List, [], length}
 use Rattle.std.specs.List.{All}
 use Rattle.values.specs.declared.row.Row.{Row}
+use Rattle.values.specs.declared.value.ColumnType.{ColumnType}
 use Rattle.merge.specs.Cursor.{IsCursor, rows_left}
 use Rattle.merge.specs.Filling.{IsWide, numbers_in}
 use Rattle.merge.specs.ReadRows.{AreReadRows, HasReadColumn, rows_of_read}
@@ -22,10 +23,10 @@ AreNumbered (Own l) =
     × IsCursor (length (rows_left l.below.cursor (rows_of_read l.below.below))) l.cursor
 
 -- the numbers of the column may be handed out
-abbrev pub HasNumberedColumn : ℕ → NumberedRows → Type 0
-HasNumberedColumn col (Committed l) = HasReadColumn col l.below × All (IsWide col) (rows_of_read l.below)
-HasNumberedColumn col (Own l) =
-    (HasReadColumn col l.below.below × All (IsWide col) (rows_of_read l.below.below))
+abbrev pub HasNumberedColumn : ColumnType → ℕ → NumberedRows → Type 0
+HasNumberedColumn ty col (Committed l) = HasReadColumn ty col l.below × All (IsWide col) (rows_of_read l.below)
+HasNumberedColumn ty col (Own l) =
+    (HasReadColumn ty col l.below.below × All (IsWide col) (rows_of_read l.below.below))
     × All (IsWide col) (rows_left l.below.cursor (rows_of_read l.below.below))
 
 -- what a call that hands out the next run gives: all numbers come in order, and no run is empty

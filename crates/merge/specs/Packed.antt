@@ -1,6 +1,7 @@
--- What a tree makes of numbers, packed: its inserts and deletes side by side, and what it makes of each column.
-use Rattle.std.specs.Prelude.{◌≡◌, ℕ, ℤ, suc, pos, ◌<◌, ◌==◌, nat_lt, Bool, true, false, cond, Option, Some, None, List, [], ◌∷◌, length, map, get_or}
-use Rattle.values.specs.Shape.{Columns}
+-- What a tree makes of numbers and truths, packed: its inserts and deletes side by side, and what it makes of each column.
+use Rattle.std.specs.Prelude.{◌≡◌, ℕ, ℤ, suc, pos, ◌<◌, ◌==◌, nat_lt, Bool, true, false, cond, IsTrue, Option, Some, None, List, [], ◌∷◌, length, map, get_or}
+use Rattle.std.specs.List.{All}
+use Rattle.values.specs.Shape.{Columns, has_type}
 use Rattle.values.specs.declared.row.Row.{Row}
 use Rattle.values.specs.declared.value.ColumnType.{ColumnType}
 use Rattle.values.specs.declared.value.ColumnType.TheVariants as column
@@ -14,21 +15,26 @@ use Rattle.merge.specs.declared.packed.Patch.{Patch}
 use Rattle.merge.specs.declared.packed.RowChange.{RowChange}
 use Rattle.merge.specs.declared.packed.RowChange.TheVariants.{Insert, Delete}
 
--- a value's number: its own, and 0 for what is none
+-- a value's number: its own, 1 for true and 0 for false; a text has none, and counts as 0
 abbrev pub number_of : Value → ℤ
 number_of (Int n) = n
 number_of (Text t) = pos 0
-number_of (Truth b) = pos 0
+number_of (Truth b) = cond b (pos 1) (pos 0)
 
 -- the number of a row in a column, and 0 where it ends before
 abbrev pub number_at : ℕ → Row → ℤ
 number_at col row = number_of (get_or row col (Truth false))
 
--- whether a column is one of numbers
-abbrev pub is_number : ColumnType → Bool
-is_number column.Int = true
-is_number column.Text = false
-is_number column.Bool = false
+-- whether all values of a column take the same room, so that each has a number: a column of numbers or of truths
+abbrev pub is_fixed_width : ColumnType → Bool
+is_fixed_width column.Int = true
+is_fixed_width column.Text = false
+is_fixed_width column.Bool = true
+
+-- these are the numbers of values of a column of the type
+pub record AreNumbersOf (ty : ColumnType) (values : List Value) (numbers : List ℤ) : Type 0 where
+  pub typed : All (λ value. IsTrue (has_type ty value)) values
+  pub numbers_are : numbers ≡ map number_of values
 
 -- the first of a list, where there is one more
 abbrev pub with_first : {X : Type 0} → Option X → List X → List X
@@ -99,10 +105,19 @@ pub record IsPacked (entries : List Entry) (p : PackedView) : Type 0 where
   pub changes_are : p.changes ≡ row_changes_from 0 0 entries
   pub columns_are : (col : ℕ) (c : ColumnView) → get_or p.columns col None ≡ Some c → IsPackedColumn col entries c
 
+-- the type of the column of this number
+abbrev pub type_at : Columns → ℕ → ColumnType
+type_at schema col = get_or schema.types col column.Int
+
 -- there is a column of this number, and it is one of numbers
 pub record IsNumberColumn (schema : Columns) (col : ℕ) : Type 0 where
   pub there : col < length schema.types
-  pub ints : get_or schema.types col column.Int ≡ column.Int
+  pub ints : type_at schema col ≡ column.Int
+
+-- there is a column of this number, and it is one of numbers or of truths
+pub record IsFixedWidthColumn (schema : Columns) (col : ℕ) : Type 0 where
+  pub there : col < length schema.types
+  pub fixed : IsTrue (is_fixed_width (type_at schema col))
 
 -- ---- a packed insert or delete
 

@@ -1,12 +1,13 @@
 -- What is left under a packed tree.
 use Rattle.std.specs.Prelude.{◌≡◌, ◌+◌, ◌<◌, ◌≤◌, ℕ, suc, nat_lt, cond, Some, List, [], ◌∷◌, length, map, take, drop, slice_get}
 use Rattle.values.specs.declared.row.Row.{Row}
+use Rattle.values.specs.declared.value.ColumnType.{ColumnType}
 use Rattle.values.specs.declared.limits.TheConstants.{MAX_ROWS}
 use Rattle.model.specs.declared.entry.Entry.{Entry}
 use Rattle.model.specs.declared.entry.Change.TheVariants.{Ins}
 use Rattle.model.specs.Entries.{entry_at}
 use Rattle.merge.specs.Cursor.{TreeCursor, IsCursor, entries_left, rows_left}
-use Rattle.merge.specs.Filling.{HaveNumbers}
+use Rattle.merge.specs.Filling.{HaveValues}
 use Rattle.merge.specs.Packed.{number_at, patches_in, row_changes_from, rows_in}
 use Rattle.merge.specs.declared.packed.RowChange.{RowChange}
 use Rattle.merge.specs.declared.packed_rows.PackedRows.{PackedRows}
@@ -42,11 +43,11 @@ pub record IsPackedRows (p : PackedRows) : Type 0 where
   pub cursor : IsCursor (length (base_left p)) (cursor_of p)
   pub changes_are : p.changes.now ≡ changes_left (cursor_of p)
 
--- this column is packed, and the base rows have numbers in it
-pub record HasPackedColumn (col : ℕ) (p : PackedRows) : Type 0 where
+-- this column is packed, and the base rows have values of the type in it
+pub record HasPackedColumn (ty : ColumnType) (col : ℕ) (p : PackedRows) : Type 0 where
   pub inserted_are : p.inserted.now ≡ map (number_at col) (rows_in p.tree.now.entries)
   pub patches_are : p.patches.now ≡ patches_in col (entries_left (cursor_of p))
-  pub numbers : HaveNumbers col (base_left p)
+  pub values : HaveValues ty col (base_left p)
 
 -- the next entry inserts the row of this number before the next base row
 pub record IsInsertNext (row : ℕ) (p : PackedRows) : Type 0 where

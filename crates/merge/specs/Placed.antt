@@ -1,5 +1,5 @@
 -- Stretches of a range of the image, read over any stable rows.
-use Rattle.std.specs.Prelude.{◌≡◌, ℕ, ◌+◌, ◌-◌, ◌<◌, ◌≤◌, ◌^◌, Option, MatchOption, List, ◌++◌, length, take, drop}
+use Rattle.std.specs.Prelude.{◌≡◌, ℕ, ◌+◌, ◌-◌, ◌<◌, ◌≤◌, Option, MatchOption, List, ◌++◌, length, take, drop}
 use Rattle.values.specs.declared.row.Row.{Row}
 use Rattle.merge.specs.Image.{Stack, image_rows, stack_over}
 use Rattle.merge.specs.Left.{AreAlike, AreCursors, image_left, image_over}

@@ -7,7 +7,7 @@ ghost use Rattle.merge.specs.Image.{image_rows, image_table};
 ghost use Rattle.merge.specs.Cursor.{IsCursor, rows_left};
 ghost use Rattle.merge.specs.Filling.{IsWide};
 ghost use Rattle.merge.specs.Numbered.{AreNumbered, HasNumberedColumn, numbered_left};
-ghost use Rattle.merge.specs.Packed.{IsNumberColumn, IsPacked};
+ghost use Rattle.merge.specs.Packed.{AreNumbersOf, IsFixedWidthColumn, IsNumberColumn, IsPacked, type_at};
 ghost use Rattle.merge.specs.ReadRows.{AreReadRows, HasReadColumn, rows_of_read};
 ghost use Rattle.merge.specs.View.{row_of};
 ghost use Rattle.stable.specs.Rows.{column_at, column_values};
@@ -214,9 +214,9 @@ impl<'a> Layers<'a> {
         ColumnRuns::new(self.stable.column(col), col, self.stretches(from, to))
     }
 
-    /// Puts the numbers of a column from a position on into a room, as many as there are and fit, and answers how many. Base rows
-    /// that stand together are copied, and what the layers modify of the column is put in their place. Where the Read-PDT is packed
-    /// too it is read so, in a fraction of the time. No memory is taken.
+    /// Puts the numbers of a column from a position on into a room, as many as there are and fit, and answers how many; a truth's number
+    /// is 1 or 0. Base rows that stand together are copied, and what the layers modify of the column is put in their place. Where the
+    /// Read-PDT is packed too it is read so, in a fraction of the time. No memory is taken.
     pub fn fill_numbers(
         &self,
         packed: Option<&'a Packed>,
@@ -225,9 +225,10 @@ impl<'a> Layers<'a> {
         out: &mut [i64],
     ) -> usize
         requires packed { IfSome (option_copied packed) (IsPacked self.now.read) }
-        requires column { IsNumberColumn self.now.schema col }
+        requires column { IsFixedWidthColumn self.now.schema col }
         ensures count { result ≡ min (length out.old) (length (drop from (image_rows self.now))) }
-        ensures values { map Int (take result out.new) ≡ column_values col (take result (drop from (image_rows self.now))) }
+        ensures values { AreNumbersOf (type_at self.now.schema col) (column_values col (take result (drop from (image_rows self.now))))
+            (take result out.new) }
     {
         let start = from.min(self.len);
         let count = (out.len() as u64).min(self.len - start) as usize;
@@ -329,10 +330,10 @@ impl<'a> Layers<'a> {
     fn numbered_from(&self, packed: Option<&'a Packed>, col: usize, rid: u64) -> NumberedRows<'a>
         requires rid { rid ≤ length (image_rows self.now) }
         requires packed { IfSome (option_copied packed) (IsPacked self.now.read) }
-        requires column { IsNumberColumn self.now.schema col }
+        requires column { col < length self.now.schema.types }
         ensures rows { numbered_left result ≡ drop rid (image_rows self.now) }
         ensures lawful { AreNumbered result }
-        ensures column { HasNumberedColumn col result }
+        ensures column { HasNumberedColumn (type_at self.now.schema col) col result }
     {
         match self.trans {
             None => NumberedRows::Committed(self.numbers_from(packed, col, rid)),
@@ -356,11 +357,11 @@ impl<'a> Layers<'a> {
     ) -> Level<'a, ReadRows<'a>>
         requires rid { rid ≤ length (write_rows self.now) }
         requires packed { IfSome (option_copied packed) (IsPacked self.now.read) }
-        requires column { IsNumberColumn self.now.schema col }
+        requires column { col < length self.now.schema.types }
         ensures rows { rows_left result.cursor (rows_of_read result.below) ≡ drop rid (write_rows self.now) }
         ensures lawful { AreReadRows result.below }
         ensures cursor { IsCursor (length (rows_of_read result.below)) result.cursor }
-        ensures column { HasReadColumn col result.below }
+        ensures column { HasReadColumn (type_at self.now.schema col) col result.below }
         ensures wide { All (IsWide col) (rows_of_read result.below) }
     {
         let write = Cursor::at(self.write, rid);

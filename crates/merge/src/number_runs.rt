@@ -1,6 +1,7 @@
 //! A walk over one column of numbers, run by run. Where the column is packed, changes of other columns aren't met.
 ghost use Rattle.std.specs.Prelude.{◌≡◌, ◌≤◌, length, map, take};
 ghost use Rattle.std.specs.Iterator.{at_most};
+ghost use Rattle.values.specs.declared.value.ColumnType.TheVariants as column;
 ghost use Rattle.merge.specs.Filling.{numbers_in};
 ghost use Rattle.merge.specs.Numbered.{AreNumbered, HasNumberedColumn, YieldsNumbers, numbered_left};
 ghost use Rattle.merge.specs.Packed.{number_at};
@@ -43,6 +44,7 @@ pub struct NumberRuns<'a> {
 
 impl<'a> Model for NumberRuns<'a> {
     ghost use Rattle.std.specs.Prelude.{List, ℤ, ◌≤◌, length, map, take};
+    ghost use Rattle.values.specs.declared.value.ColumnType.TheVariants as column;
     ghost use Rattle.merge.specs.Numbered.{AreNumbered, HasNumberedColumn, numbered_left};
     ghost use Rattle.merge.specs.Packed.{number_at};
 
@@ -50,14 +52,14 @@ impl<'a> Model for NumberRuns<'a> {
 
     ghost view = { λ r. take r.left (map (number_at r.col) (numbered_left r.rows)) };
 
-    ghost invariant = { λ r. AreNumbered r.rows × HasNumberedColumn r.col r.rows × (r.left ≤ length (numbered_left r.rows)) };
+    ghost invariant = { λ r. AreNumbered r.rows × HasNumberedColumn column.Int r.col r.rows × (r.left ≤ length (numbered_left r.rows)) };
 }
 
 impl<'a> NumberRuns<'a> {
     /// The runs of so many rows.
     pub(crate) fn new(rows: NumberedRows<'a>, col: usize, left: usize) -> NumberRuns<'a>
         requires lawful { AreNumbered rows }
-        requires column { HasNumberedColumn col rows }
+        requires column { HasNumberedColumn column.Int col rows }
         requires left { left ≤ length (numbered_left rows) }
         ensures { result ≡ take left (map (number_at col) (numbered_left rows.entry)) }
     {

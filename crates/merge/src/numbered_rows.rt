@@ -18,7 +18,7 @@ impl<'a> Numbers<'a> for NumberedRows<'a> {
 
     ghost is_lawful = { λ r. AreNumbered r };
 
-    ghost has_column = { λ col r. HasNumberedColumn col r };
+    ghost has_column = { λ ty col r. HasNumberedColumn ty col r };
 
     #[inline(always)]
     fn fill_next(&mut self, col: usize, out: &mut [i64]) -> usize {

@@ -1,13 +1,14 @@
-//! The numbers of one column, batch by batch: each level fills the caller's room with those of the rows below it, and puts its own
-//! where it changes them (Boncz, Zukowski and Nes 2005, "MonetDB/X100", has vectors for the same reason).
-ghost use Rattle.std.specs.Prelude.{◌≡◌, ℕ, List, ◌<◌, ◌≤◌, ◌+◌, ◌-◌, ◌%◌, length, take, drop, map, min};
+//! The numbers of one column, of numbers or of truths, batch by batch: each level fills the caller's room with those of the rows below
+//! it, and puts its own where it changes them (Boncz, Zukowski and Nes 2005, "MonetDB/X100", has vectors for the same reason).
+ghost use Rattle.std.specs.Prelude.{◌≡◌, ℕ, List, ◌<◌, ◌≤◌, ◌+◌, ◌-◌, ◌%◌, IsTrue, length, take, drop, map, min};
 ghost use Rattle.std.specs.List.{All};
 ghost use Rattle.values.specs.declared.row.Row.{Row as Cells};
 ghost use Rattle.values.specs.declared.limits.TheConstants.{MAX_ROWS, MAX_BLOCK_VALUES};
+ghost use Rattle.values.specs.declared.value.ColumnType.{ColumnType};
 ghost use Rattle.values.specs.declared.value.ColumnType.TheVariants as column;
 ghost use Rattle.merge.specs.Cursor.{DeletesNone, IsCursor, rows_left};
-ghost use Rattle.merge.specs.Filling.{FillsRows, HaveNumbers, IsWide, numbers_in};
-ghost use Rattle.merge.specs.Packed.{number_of};
+ghost use Rattle.merge.specs.Filling.{FillsRows, HaveValues, IsWide, numbers_in};
+ghost use Rattle.merge.specs.Packed.{is_fixed_width, number_of};
 ghost use Rattle.merge.specs.Parts.{PassesRow};
 ghost use Rattle.merge.specs.Runs.{IsRun, run_values};
 
@@ -26,30 +27,30 @@ pub(crate) trait Numbers<'a> {
     /// What keeps the rows as they are to be.
     ghost is_lawful: { Self → Type 0 };
 
-    /// The rows have the column, those below too, and the stable ones have numbers in it.
-    ghost has_column: { ℕ → Self → Type 0 };
+    /// The rows have the column, those below too, and the stable ones have values of the type in it.
+    ghost has_column: { ColumnType → ℕ → Self → Type 0 };
 
     /// Puts the numbers of the next rows at the begin of the room, of as many as come together, and answers how many: at least one.
     fn fill_next(&mut self, col: usize, out: &mut [i64]) -> usize
         requires lawful { is_lawful self.old }
-        requires column { has_column col self.old }
+        requires column { (ty : ColumnType) × IsTrue (is_fixed_width ty) × has_column ty col self.old }
         requires some { 0 < length out.old }
         requires room { length out.old ≤ length (left self.old) }
         ensures lawful { is_lawful self.new }
-        ensures column { has_column col self.new }
+        ensures column { (ty : ColumnType) → has_column ty col self.old → has_column ty col self.new }
         ensures length { length out.new ≡ length out.old }
         ensures some { 0 < result }
         ensures few { result ≤ length out.old }
         ensures numbers { FillsRows col (left self.old) (take result out.new) (left self.new) };
 
-    /// The numbers of the next rows that come from one place: at least one, and at most so many.
+    /// The next rows' numbers in a column of numbers that come from one place: at least one, and at most so many.
     fn next_run(&mut self, col: usize, most: usize) -> NumberRun<'a>
         requires lawful { is_lawful self.old }
-        requires column { has_column col self.old }
+        requires column { has_column column.Int col self.old }
         requires some { 0 < most }
         requires room { most ≤ length (left self.old) }
         ensures lawful { is_lawful self.new }
-        ensures column { has_column col self.new }
+        ensures column { has_column column.Int col self.new }
         ensures some { 0 < length (numbers_in result) }
         ensures few { length (numbers_in result) ≤ most }
         ensures numbers { FillsRows col (left self.old) (numbers_in result) (left self.new) };
@@ -59,7 +60,7 @@ pub(crate) trait Numbers<'a> {
         requires lawful { is_lawful self.old }
         requires some { 0 < length (left self.old) }
         ensures lawful { is_lawful self.new }
-        ensures column { (col : ℕ) → has_column col self.old → has_column col self.new }
+        ensures column { (ty : ColumnType) (col : ℕ) → has_column ty col self.old → has_column ty col self.new }
         ensures row { PassesRow (left self.old) (left self.new) };
 }
 
@@ -67,10 +68,10 @@ pub(crate) trait Numbers<'a> {
 #[inline(always)]
 pub(crate) fn fill<'a, N: Numbers<'a>>(rows: &mut N, col: usize, out: &mut [i64])
     requires lawful { N.is_lawful rows.old }
-    requires column { N.has_column col rows.old }
+    requires column { (ty : ColumnType) × IsTrue (is_fixed_width ty) × N.has_column ty col rows.old }
     requires room { length out.old ≤ length (N.left rows.old) }
     ensures lawful { N.is_lawful rows.new }
-    ensures column { N.has_column col rows.new }
+    ensures column { (ty : ColumnType) → N.has_column ty col rows.old → N.has_column ty col rows.new }
     ensures length { length out.new ≡ length out.old }
     ensures numbers { FillsRows col (N.left rows.old) out.new (N.left rows.new) }
 {
@@ -85,7 +86,7 @@ impl<'a> Numbers<'a> for StableRows<'a> {
 
     ghost is_lawful = { λ r. length r.table.now.rows ≤ MAX_ROWS };
 
-    ghost has_column = { λ col r. HaveNumbers col (drop r.sid r.table.now.rows) };
+    ghost has_column = { λ ty col r. HaveValues ty col (drop r.sid r.table.now.rows) };
 
     #[inline(always)]
     fn fill_next(&mut self, col: usize, out: &mut [i64]) -> usize {
@@ -112,11 +113,11 @@ impl<'a> Numbers<'a> for StableRows<'a> {
 }
 
 impl<'a> StableRows<'a> {
-    /// The numbers of the next rows, at most so many, as far as one block has them.
+    /// The next rows' numbers in a column of numbers, at most so many, as far as one block has them.
     #[inline(always)]
     pub(crate) fn next_in_block(&mut self, col: usize, most: usize) -> NumberRun<'a>
         requires few { length self.old.table.now.rows ≤ MAX_ROWS }
-        requires column { HaveNumbers col (drop self.old.sid self.old.table.now.rows) }
+        requires column { HaveValues column.Int col (drop self.old.sid self.old.table.now.rows) }
         requires some { 0 < most }
         requires room { most ≤ length (drop self.old.sid self.old.table.now.rows) }
         ensures count { length (numbers_in result) ≡ min (MAX_BLOCK_VALUES - self.old.sid % MAX_BLOCK_VALUES) most }
@@ -150,10 +151,10 @@ fn run_of_numbers(run: Run<'_>) -> NumberRun<'_>
     }
 }
 
-/// Puts the values of a run of numbers at the begin of the room, and answers how many there are.
+/// Puts the numbers of a run's values at the begin of the room, and answers how many there are.
 #[inline(always)]
 fn put_run(run: Run<'_>, out: &mut [i64]) -> usize
-    requires typed { IsRun column.Int run }
+    requires typed { (ty : ColumnType) × IsTrue (is_fixed_width ty) × IsRun ty run }
     requires room { length (run_values run) ≤ length out.old }
     ensures length { length out.new ≡ length out.old }
     ensures count { result ≡ length (run_values run.entry) }
@@ -164,11 +165,18 @@ fn put_run(run: Run<'_>, out: &mut [i64]) -> usize
             out[..ints.len()].copy_from_slice(ints);
             ints.len()
         }
+        Run::Truths(together) => {
+            let count = together.count;
+            together
+                .truths
+                .put_numbers(together.first, &mut out[..count]);
+            count
+        }
         Run::Value(value) => {
             out[0] = number_of(value);
             1
         }
-        Run::Texts(_) | Run::Truths(_) => unreachable!(),
+        Run::Texts(_) => unreachable!(),
     }
 }
 
@@ -180,7 +188,7 @@ impl<'a, B: Numbers<'a> + Drop> Level<'a, B> {
         requires cursor { IsCursor (length (B.left self.old.below)) self.old.cursor }
         ensures rows { rows_left self.new.cursor (B.left self.new.below) ≡ rows_left self.old.cursor (B.left self.old.below) }
         ensures below { B.is_lawful self.new.below }
-        ensures column { (col : ℕ) → B.has_column col self.old.below → B.has_column col self.new.below }
+        ensures column { (ty : ColumnType) (col : ℕ) → B.has_column ty col self.old.below → B.has_column ty col self.new.below }
         ensures wide { (col : ℕ) → All (IsWide col) (B.left self.old.below) → All (IsWide col) (B.left self.new.below) }
         ensures cursor { IsCursor (length (B.left self.new.below)) self.new.cursor }
         ensures none { DeletesNone self.new.cursor }
@@ -196,7 +204,7 @@ impl<'a, B: Numbers<'a> + Drop> Numbers<'a> for Level<'a, B> {
 
     ghost is_lawful = { λ l. B.is_lawful l.below × IsCursor (length (B.left l.below)) l.cursor };
 
-    ghost has_column = { λ col l. B.has_column col l.below × All (IsWide col) (B.left l.below) };
+    ghost has_column = { λ ty col l. B.has_column ty col l.below × All (IsWide col) (B.left l.below) };
 
     #[inline(always)]
     fn fill_next(&mut self, col: usize, out: &mut [i64]) -> usize {

@@ -1,13 +1,13 @@
-//! What a tree makes of numbers, packed for scans: its inserts and deletes side by side, and for each column of numbers those of the
-//! rows that it inserts and those that it sets. A scan of a column reads them in order, where in the tree it waits for each node and
-//! each row; what other columns are set to it doesn't meet.
+//! What a tree makes of numbers and truths, packed for scans: its inserts and deletes side by side, and for each column of numbers or
+//! of truths the numbers of the rows that it inserts and those that it sets. A scan of a column reads them in order, where in the tree
+//! it waits for each node and each row; what other columns are set to it doesn't meet.
 ghost use Rattle.std.specs.Prelude.{◌≡◌, ◌<◌, ◌^◌, List, length, map, take, drop, get_or, is_some, None, IfOk, IfSome};
 ghost use Rattle.std.specs.List.Sorted.{IsNonDecreasingBy};
 ghost use Rattle.std.specs.Option.{option_copied};
 ghost use Rattle.values.specs.Lent.{value_of};
 ghost use Rattle.model.specs.declared.entry.Entry.{Entry};
 ghost use Rattle.merge.specs.Filling.{patches_from};
-ghost use Rattle.merge.specs.Packed.{IsPacked, IsPackedColumn, is_number, number_at, number_of, patch_at, patches_in};
+ghost use Rattle.merge.specs.Packed.{IsPacked, IsPackedColumn, is_fixed_width, number_at, number_of, patch_at, patches_in};
 ghost use Rattle.merge.specs.Packed.{row_change_at, row_changes_from, rows_after, rows_in, is_gone, place_of, row_in, sid_of};
 
 use delta::{ChangeRef, DeltaTree, SharedEntry};
@@ -32,10 +32,10 @@ pub(crate) struct Patch {
     pub(crate) number: i64,
 }
 
-/// What a tree makes of a column of numbers.
+/// What a tree makes of a column of numbers or of truths.
 #[derive(Debug, Drop)]
 pub(crate) struct PackedColumn {
-    /// The numbers of the rows that are inserted, in order; 0 for what is no number.
+    /// The numbers of the rows that are inserted, in order.
     inserted: Vec<i64>,
     /// The modifies of the column, in order.
     modified: Vec<Patch>,
@@ -54,7 +54,7 @@ impl Model for PackedColumn {
 pub struct Packed {
     /// The inserts and the deletes, in order.
     changes: Vec<RowChange>,
-    /// What becomes of each column; none where it is none of numbers.
+    /// What becomes of each column; none where it is one of texts.
     columns: Vec<Option<PackedColumn>>,
 }
 
@@ -93,8 +93,8 @@ impl Packed {
     pub fn of(alloc: Global, tree: &DeltaTree, schema: &Schema) -> Result<Packed, NoMemory>
         ensures packed { IfOk result (λ packed. IsPacked tree.now.entries packed) }
 
-        // The columns of numbers are packed, and no other ones.
-        ensures columns { IfOk result (λ packed. map is_some packed.columns ≡ map is_number schema.now.types) }
+        // The columns of numbers and of truths are packed, and no other ones.
+        ensures columns { IfOk result (λ packed. map is_some packed.columns ≡ map is_fixed_width schema.now.types) }
     {
         let mut columns = Vec::new(alloc);
         for ty in schema.types() {
@@ -168,14 +168,15 @@ impl RowChange {
     }
 }
 
-/// A value's number: its own, and 0 for what is none.
+/// A value's number: its own, 1 for true and 0 for false. A text has none, and counts as 0.
 #[inline(always)]
 pub(crate) fn number_of(value: ValueRef<'_>) -> i64
     ensures { result ≡ number_of (value_of value.entry) }
 {
     match value {
         ValueRef::Int(number) => number,
-        ValueRef::Text(_) | ValueRef::Bool(_) => 0,
+        ValueRef::Bool(truth) => i64::from(truth),
+        ValueRef::Text(_) => 0,
     }
 }
 
@@ -220,22 +221,22 @@ fn rows_after(entry: &SharedEntry, rows: usize) -> usize
     }
 }
 
-/// What a tree makes of a column, where it is one of numbers.
+/// What a tree makes of a column, where it is one of numbers or of truths.
 fn column_in(
     alloc: Global,
     tree: &DeltaTree,
     ty: ColumnType,
     col: usize,
 ) -> Result<Option<PackedColumn>, NoMemory>
-    ensures number { IfOk result (λ column. is_some column ≡ is_number ty) }
+    ensures fixed { IfOk result (λ column. is_some column ≡ is_fixed_width ty) }
     ensures packed { IfOk result (λ column. IfSome column (IsPackedColumn col tree.now.entries)) }
 {
     match ty {
-        ColumnType::Int => Ok(Some(PackedColumn {
+        ColumnType::Int | ColumnType::Bool => Ok(Some(PackedColumn {
             inserted: inserted_numbers(alloc, tree, col)?,
             modified: modifies(alloc, tree, col)?,
         })),
-        ColumnType::Text | ColumnType::Bool => Ok(None),
+        ColumnType::Text => Ok(None),
     }
 }
 

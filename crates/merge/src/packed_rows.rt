@@ -1,12 +1,14 @@
-//! The stable rows under a packed tree, of which the numbers of a column are handed out: those of base rows that stand together are
+//! The stable rows under a packed tree, of which a column's numbers are handed out: those of base rows that stand together are
 //! copied, what the tree modifies of them is put in, and rows that it inserts come from their column.
-ghost use Rattle.std.specs.Prelude.{◌≡◌, ℕ, ◌+◌, ◌-◌, ◌%◌, ◌<◌, ◌≤◌, ◌^◌, ◌∷◌, [], T, MatchOption, Some, length, drop, slice_get};
+ghost use Rattle.std.specs.Prelude.{◌≡◌, ℕ, ◌+◌, ◌-◌, ◌%◌, ◌<◌, ◌≤◌, ◌^◌, ◌∷◌, [], T, IsTrue, MatchOption, Some, length, drop, slice_get};
 ghost use Rattle.std.specs.List.{list_all};
+ghost use Rattle.values.specs.declared.value.ColumnType.{ColumnType};
+ghost use Rattle.values.specs.declared.value.ColumnType.TheVariants as column;
 ghost use Rattle.values.specs.declared.limits.TheConstants.{MAX_BLOCK_VALUES};
 ghost use Rattle.merge.specs.Cursor.{DeletesNone, entries_left, starts_with_delete};
 ghost use Rattle.merge.specs.Filling.{FillsRows, InsertsNone, KeepsModified, is_from, numbers_in, patched, patches_before, patches_from};
 ghost use Rattle.merge.specs.PackedLeft.{HasPackedColumn, IsInsertNext, IsPackedRows, base_left, count_passed, cursor_of, packed_left};
-ghost use Rattle.merge.specs.Packed.{place_of};
+ghost use Rattle.merge.specs.Packed.{is_fixed_width, place_of};
 ghost use Rattle.merge.specs.declared.packed.RowChange.{RowChange};
 
 use crate::level::StableRows;
@@ -47,7 +49,7 @@ impl<'a> PackedRows<'a> {
         requires lawful { IsPackedRows self.old }
         ensures lawful { IsPackedRows self.new }
         ensures rows { packed_left self.new ≡ packed_left self.old }
-        ensures column { (col : ℕ) → HasPackedColumn col self.old → HasPackedColumn col self.new }
+        ensures column { (ty : ColumnType) (col : ℕ) → HasPackedColumn ty col self.old → HasPackedColumn ty col self.new }
         ensures none { DeletesNone (cursor_of self.new) }
     {
         while self.deletes_next() {
@@ -101,10 +103,10 @@ impl<'a> PackedRows<'a> {
     fn next_inserted(&mut self, row: usize) -> i64
         requires lawful { IsPackedRows self.old }
         requires next { IsInsertNext row self.old }
-        requires column { (col : ℕ) × HasPackedColumn col self.old }
+        requires column { (ty : ColumnType) × (col : ℕ) × HasPackedColumn ty col self.old }
         ensures lawful { IsPackedRows self.new }
-        ensures column { (col : ℕ) → HasPackedColumn col self.old → HasPackedColumn col self.new }
-        ensures number { (col : ℕ) → HasPackedColumn col self.old
+        ensures column { (ty : ColumnType) (col : ℕ) → HasPackedColumn ty col self.old → HasPackedColumn ty col self.new }
+        ensures number { (ty : ColumnType) (col : ℕ) → HasPackedColumn ty col self.old
             → FillsRows col (packed_left self.old) (result ∷ []) (packed_left self.new) }
     {
         let number = self.inserted[row];
@@ -131,12 +133,12 @@ impl<'a> PackedRows<'a> {
     #[inline(always)]
     fn fill_modified(&mut self, col: usize, out: &mut [i64])
         requires lawful { IsPackedRows self.old }
-        requires column { HasPackedColumn col self.old }
+        requires column { (ty : ColumnType) × IsTrue (is_fixed_width ty) × HasPackedColumn ty col self.old }
         requires kept { (most : ℕ) × KeepsModified most (count_passed (length out.old) (cursor_of self.old)) (length out.old)
             (cursor_of self.old) }
         requires room { length out.old ≤ length (base_left self.old) }
         ensures lawful { IsPackedRows self.new }
-        ensures column { HasPackedColumn col self.new }
+        ensures column { (ty : ColumnType) → HasPackedColumn ty col self.old → HasPackedColumn ty col self.new }
         ensures length { length out.new ≡ length out.old }
         ensures numbers { FillsRows col (packed_left self.old) out.new (packed_left self.new) }
     {
@@ -167,11 +169,11 @@ impl<'a> PackedRows<'a> {
     #[inline(always)]
     fn next_modified(&mut self, col: usize) -> NumberRun<'a>
         requires lawful { IsPackedRows self.old }
-        requires column { HasPackedColumn col self.old }
+        requires column { HasPackedColumn column.Int col self.old }
         requires kept { KeepsModified 1 (count_passed 1 (cursor_of self.old)) 1 (cursor_of self.old) }
         requires room { 0 < length (base_left self.old) }
         ensures lawful { IsPackedRows self.new }
-        ensures column { HasPackedColumn col self.new }
+        ensures column { HasPackedColumn column.Int col self.new }
         ensures count { length (numbers_in result) ≡ 1 }
         ensures numbers { FillsRows col (packed_left self.old) (numbers_in result) (packed_left self.new) }
     {
@@ -184,14 +186,14 @@ impl<'a> PackedRows<'a> {
     #[inline(always)]
     fn next_plain(&mut self, col: usize, rows: usize) -> NumberRun<'a>
         requires lawful { IsPackedRows self.old }
-        requires column { HasPackedColumn col self.old }
+        requires column { HasPackedColumn column.Int col self.old }
         requires kept { (most : ℕ) × KeepsModified most (count_passed rows (cursor_of self.old)) rows (cursor_of self.old) }
         requires some { 0 < rows }
         requires room { rows ≤ length (base_left self.old) }
         requires block { rows ≤ MAX_BLOCK_VALUES - self.old.below.sid % MAX_BLOCK_VALUES }
         requires none { patches_before (self.old.sid + rows) self.old.patches.now ≡ [] }
         ensures lawful { IsPackedRows self.new }
-        ensures column { HasPackedColumn col self.new }
+        ensures column { HasPackedColumn column.Int col self.new }
         ensures count { length (numbers_in result) ≡ rows }
         ensures numbers { FillsRows col (packed_left self.old) (numbers_in result) (packed_left self.new) }
     {
@@ -206,7 +208,7 @@ impl<'a> Numbers<'a> for PackedRows<'a> {
 
     ghost is_lawful = { λ p. IsPackedRows p };
 
-    ghost has_column = { λ col p. HasPackedColumn col p };
+    ghost has_column = { λ ty col p. HasPackedColumn ty col p };
 
     fn fill_next(&mut self, col: usize, out: &mut [i64]) -> usize {
         self.pass_deleted();

@@ -1,9 +1,10 @@
 //! The rows under the Read-PDT, of which the numbers of a column are handed out: as it is packed, or by its tree.
 ghost use Rattle.std.specs.Prelude.{◌≡◌, ◌≤◌, IfSome, length};
 ghost use Rattle.std.specs.Option.{option_copied};
+ghost use Rattle.values.specs.declared.value.ColumnType.{ColumnType};
 ghost use Rattle.values.specs.declared.limits.TheConstants.{MAX_ROWS};
 ghost use Rattle.merge.specs.Cursor.{IsCursor, rows_left};
-ghost use Rattle.merge.specs.Filling.{HaveNumbers};
+ghost use Rattle.merge.specs.Filling.{HaveValues};
 ghost use Rattle.merge.specs.Left.{stable_left};
 ghost use Rattle.merge.specs.Packed.{IsPacked};
 ghost use Rattle.merge.specs.ReadRows.{AreReadRows, HasReadColumn, rows_of_read};
@@ -38,10 +39,9 @@ impl<'a> ReadRows<'a> {
         requires inside { read.index ≤ length read.tree.entries }
         requires cursor { IsCursor (length (stable_left stable)) read }
         requires packed { IfSome (option_copied packed) (IsPacked read.tree.entries) }
-        requires numbers { HaveNumbers col (stable_left stable) }
         ensures rows { rows_of_read result ≡ rows_left read.entry (stable_left stable.entry) }
         ensures lawful { AreReadRows result }
-        ensures column { HasReadColumn col result }
+        ensures column { (ty : ColumnType) → HaveValues ty col (stable_left stable.entry) → HasReadColumn ty col result }
     {
         if let Some(packed) = packed {
             if let Some(column) = packed.column(col) {
@@ -69,7 +69,7 @@ impl<'a> Numbers<'a> for ReadRows<'a> {
 
     ghost is_lawful = { λ r. AreReadRows r };
 
-    ghost has_column = { λ col r. HasReadColumn col r };
+    ghost has_column = { λ ty col r. HasReadColumn ty col r };
 
     #[inline(always)]
     fn fill_next(&mut self, col: usize, out: &mut [i64]) -> usize {

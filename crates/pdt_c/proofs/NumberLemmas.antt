@@ -1,19 +1,53 @@
 -- Numbers of a column, run by run.
 use Rattle.std.proofs.Common.{◌≡◌, ◌∙◌, ℕ, ◌+◌, ◌<◌, ◌≤◌, false, List, [], ◌∷◌, ◌++◌, append_assoc, length, take, drop, map, get_or, refl, sym, ap, subst, arith, inl, inr}
-use Rattle.std.specs.Prelude.{ℤ, min}
+use Rattle.std.specs.Prelude.{ℤ, IsTrue, Option, Some, None, min, slice_get, suc, true}
+use Rattle.std.proofs.lemmas.Option.{get_or_from_slice_get, slice_get_within}
+use Rattle.std.specs.List.{All}
 use Rattle.std.proofs.lemmas.Bool.{cases_lt}
 use Rattle.std.proofs.lemmas.List.{append-nil, drop-take, length-append, length-drop, length-map, length-take, take-map, take_all}
 use Rattle.values.specs.declared.row.Row.{Row}
 use Rattle.values.specs.declared.value.Value.{Value}
-use Rattle.values.specs.declared.value.Value.TheVariants.{Int, Bool as Truth}
+use Rattle.values.specs.declared.value.Value.TheVariants.{Int, Text, Bool as Truth}
+use Rattle.values.specs.declared.value.ColumnType.{ColumnType}
+use Rattle.values.specs.declared.value.ColumnType.TheVariants as column
+use Rattle.values.specs.Shape.{has_type}
+use Rattle.merge.specs.Packed.{AreNumbersOf, number_of as packed_number}
 use Rattle.stable.specs.Rows.{column_values}
 use Rattle.pdt_c.specs.Cells.{number_of, numbers_of}
-use Rattle.pdt_c.specs.Numbers.{IsShown, AreShown, HandsPieces}
+use Rattle.pdt_c.specs.Numbers.{IsShown, AreShown, HandsPieces, is_int}
 use Rattle.pdt_c.specs.declared.calls.pieces.Piece.{Piece}
 
 pub numbers_int : (xs : List ℤ) → numbers_of (map Int xs) ≡ xs
 numbers_int [] = refl
 numbers_int (x ∷ xs) = ap (λ rest. x ∷ rest) (numbers_int xs)
+
+-- an int's number is what C is handed of it
+int_number : (v : Value) → IsTrue (has_type column.Int v) → packed_number v ≡ number_of v
+int_number (Int n) h = refl
+int_number (Text t) h = cc h
+int_number (Truth b) h = cc h
+
+pub int_numbers : (values : List Value) (numbers : List ℤ) → AreNumbersOf column.Int values numbers → numbers ≡ numbers_of values
+int_numbers values numbers are = are.numbers_are ∙ each values are.typed
+  where
+    each : (vs : List Value) → All (λ v. IsTrue (has_type column.Int v)) vs → map packed_number vs ≡ numbers_of vs
+    each [] typed = refl
+    each (v ∷ vs) typed =
+        let own = int_number v (typed 0 v (omega arith)) in
+        let rest = each vs (λ k d lt. typed (suc k) d (omega (arith, lt))) in
+        λ i. own i ∷ rest i
+
+-- a column of ints is there
+pub ints_there : (types : List ColumnType) (col : ℕ) → is_int (slice_get types col) ≡ true
+    → (col < length types) × (get_or types col column.Int ≡ column.Int)
+ints_there types col is = by (slice_get types col) refl is
+  where
+    by : (found : Option ColumnType) → slice_get types col ≡ found → is_int found ≡ true
+        → (col < length types) × (get_or types col column.Int ≡ column.Int)
+    by (Some column.Int) e h = (slice_get_within types col column.Int e, get_or_from_slice_get types col column.Int column.Int e)
+    by (Some column.Text) e h = cc h
+    by (Some column.Bool) e h = cc h
+    by None e h = cc h
 
 -- ---- a range of rows
 
@@ -47,24 +81,26 @@ numbers_cut col from room to rows cut =
     ∙ ap numbers_of (sym (take-map (λ (row : Row). get_or row col (Truth false)) room (drop from rows)))
     ∙ sym (take-map number_of room (column_values col (drop from rows)))
 
+-- as many as there are and fit
+pub take_least : {X : Type 0} (room count : ℕ) (xs : List X) → count ≡ min room (length xs) → take count xs ≡ take room xs
+take_least room count xs is =
+    elim (cases_lt (length xs) room) [
+      | inl l ↦ take_all count xs (omega (arith, l, is)) ∙ sym (take_all room xs (omega (arith, l)))
+      | inr g ↦ ap (λ n. take n xs) (omega (arith, g, is))
+    ]
+
 -- a room that is filled with the first values of rows in a column has the first of its numbers
 pub numbers_filled : (col room count : ℕ) (out : List ℤ) (rows : List Row) → count ≡ min room (length rows)
-    → map Int (take count out) ≡ column_values col (take count rows)
+    → AreNumbersOf column.Int (column_values col (take count rows)) (take count out)
     → take count out ≡ take room (numbers_of (column_values col rows))
 numbers_filled col room count out rows count_is told =
     let all = numbers_of (column_values col rows) in
     let many = length-map (column_values col rows) number_of in
     let wide = length-map rows (λ (row : Row). get_or row col (Truth false)) in
-    let same : take count all ≡ take room all =
-    elim (cases_lt (length rows) room) [
-      | inl l ↦ take_all count all (omega (arith, l, many, wide, count_is)) ∙ sym (take_all room all (omega (arith, l, many, wide)))
-      | inr g ↦ ap (λ n. take n all) (omega (arith, g, count_is))
-    ] in
-    sym (numbers_int (take count out))
-    ∙ ap numbers_of told
+    int_numbers (column_values col (take count rows)) (take count out) told
     ∙ ap numbers_of (sym (take-map (λ (row : Row). get_or row col (Truth false)) count rows))
     ∙ sym (take-map number_of count (column_values col rows))
-    ∙ same
+    ∙ take_least room count all (omega (arith, count_is, many, wide))
 
 pub length-between : (col from to : ℕ) (rows : List Row) → length (numbers_of (column_values col (drop from (take to rows)))) ≤ length rows
 length-between col from to rows =

@@ -1,51 +1,64 @@
--- Truths that are put into C's room, one by one, and run by run.
-use Rattle.std.proofs.Common.{◌≡◌, ◌∙◌, Bool, false, ℕ, ◌+◌, ◌<◌, List, [], ◌∷◌, ◌++◌, append_assoc, length, take, drop, map, set, get_or, sym, ap, arith}
-use Rattle.std.specs.Prelude.{Some, slice_get}
-use Rattle.std.proofs.lemmas.List.{get_or-drop, length-drop, map-append, take-map, take_more, take_more_set}
+-- Truths that are put into C's room by their numbers, part by part.
+use Rattle.std.proofs.Common.{◌≡◌, ◌∙◌, Bool, true, false, ℕ, ◌+◌, ◌<◌, List, [], ◌∷◌, ◌++◌, length, take, drop, get_or, refl, sym, ap, arith}
+use Rattle.std.specs.Prelude.{ℤ, IsTrue, Option, Some, None, slice_get}
+use Rattle.std.specs.List.{drop-map}
+use Rattle.std.proofs.Math.Seq.{take-add}
+use Rattle.std.proofs.lemmas.List.{drop-drop, get_or-map, length-map, take_more}
 use Rattle.std.proofs.lemmas.Option.{get_or_from_slice_get, slice_get_within}
+use Rattle.values.specs.Shape.{has_type}
 use Rattle.values.specs.declared.row.Row.{Row}
-use Rattle.values.specs.declared.value.Value.TheVariants.{Bool as Truth}
+use Rattle.values.specs.declared.value.ColumnType.{ColumnType}
+use Rattle.values.specs.declared.value.ColumnType.TheVariants as column
+use Rattle.values.specs.declared.value.Value.{Value}
+use Rattle.values.specs.declared.value.Value.TheVariants.{Int, Text, Bool as Truth}
 use Rattle.stable.specs.Rows.{column_values}
-use Rattle.pdt_c.specs.Truths.{byte_of, truths_of}
+use Rattle.merge.specs.Packed.{AreNumbersOf, number_of}
+use Rattle.pdt_c.specs.Truths.{byte_of, is_truth, truths_of}
 
--- the bytes of so many truths of a block, from one of them on
-abbrev pub run_truths : List Bool → ℕ → ℕ → List ℕ
-run_truths truths first count = truths_of (map Truth (take count (drop first truths)))
-
-run_truths_more : (truths : List Bool) (first i : ℕ) (truth : Bool) → slice_get truths (first + i) ≡ Some truth
-    → run_truths truths first (i + 1) ≡ run_truths truths first i ++ byte_of (Truth truth) ∷ []
-run_truths_more truths first i truth is =
-    ap (λ (ts : List Bool). truths_of (map Truth ts)) more
-    ∙ ap truths_of (map-append Truth (take i (drop first truths)) (truth ∷ []))
-    ∙ map-append byte_of (map Truth (take i (drop first truths))) (Truth truth ∷ [])
+-- a column of truths is there
+pub truths_there : (types : List ColumnType) (col : ℕ) → is_truth (slice_get types col) ≡ true
+    → (col < length types) × (get_or types col column.Int ≡ column.Bool)
+truths_there types col is = by (slice_get types col) refl is
   where
-    within : i < length (drop first truths)
-    within = omega (arith, length-drop first truths, slice_get_within truths (first + i) truth is)
+    by : (found : Option ColumnType) → slice_get types col ≡ found → is_truth found ≡ true
+        → (col < length types) × (get_or types col column.Int ≡ column.Bool)
+    by (Some column.Bool) e h = (slice_get_within types col column.Bool e, get_or_from_slice_get types col column.Bool column.Int e)
+    by (Some column.Int) e h = cc h
+    by (Some column.Text) e h = cc h
+    by None e h = cc h
 
-    more : take (i + 1) (drop first truths) ≡ take i (drop first truths) ++ truth ∷ []
-    more =
-        take_more (drop first truths) i truth within
-        ∙ ap (λ t. take i (drop first truths) ++ t ∷ [])
-        (get_or-drop first truths i truth ∙ get_or_from_slice_get truths (first + i) truth truth is)
+truth_is : (v : Value) → IsTrue (has_type column.Bool v) → (truth : Bool) × (v ≡ Truth truth)
+truth_is (Truth b) h = (b, refl)
+truth_is (Int n) h = cc h
+truth_is (Text t) h = cc h
 
--- the next truth is put after those so far
-pub truth_put : (before out : List ℕ) (truths : List Bool) (first i done : ℕ) (truth : Bool) → done + i < length out
-    → slice_get truths (first + i) ≡ Some truth
-    → take (done + i) out ≡ before ++ run_truths truths first i
-    → take (done + (i + 1)) (set out (done + i) (byte_of (Truth truth))) ≡ before ++ run_truths truths first (i + 1)
-truth_put before out truths first i done truth within there is =
-    ap (λ n. take n (set out (done + i) (byte_of (Truth truth)))) next
-    ∙ take_more_set out (done + i) (byte_of (Truth truth)) within
-    ∙ ap (λ (ns : List ℕ). ns ++ byte_of (Truth truth) ∷ []) is
-    ∙ append_assoc before (run_truths truths first i) (byte_of (Truth truth) ∷ [])
-    ∙ ap (λ (ns : List ℕ). before ++ ns) (sym (run_truths_more truths first i truth there))
+-- one byte more of truths, by their numbers
+pub bytes_more : (truths : List Value) (numbers : List ℤ) (i byte : ℕ) (d : ℤ) → AreNumbersOf column.Bool truths numbers
+    → i < length numbers
+    → ((truth : Bool) → get_or numbers i d ≡ number_of (Truth truth) → byte ≡ byte_of (Truth truth))
+    → take (i + 1) (truths_of truths) ≡ take i (truths_of truths) ++ byte ∷ []
+bytes_more truths numbers i byte d are lt told =
+    take_more (truths_of truths) i 0 (omega (arith, within, length-map truths byte_of))
+    ∙ ap (λ b. take i (truths_of truths) ++ b ∷ []) (get_or-map byte_of truths i (Truth false) 0 within ∙ ap byte_of is.1 ∙ sym own)
   where
-    next : done + (i + 1) ≡ (done + i) + 1
-    next = omega arith
+    within : i < length truths
+    within = omega (arith, lt, ap (λ (ns : List ℤ). length ns) are.numbers_are, length-map truths number_of)
 
-pub truths_cut : (col from room to : ℕ) (rows : List Row) → drop from (take to rows) ≡ take room (drop from rows)
-    → truths_of (column_values col (drop from (take to rows))) ≡ take room (truths_of (column_values col (drop from rows)))
-truths_cut col from room to rows cut =
-    ap (λ rs. truths_of (column_values col rs)) cut
-    ∙ ap truths_of (sym (take-map (λ (row : Row). get_or row col (Truth false)) room (drop from rows)))
-    ∙ sym (take-map byte_of room (column_values col (drop from rows)))
+    is : (truth : Bool) × (get_or truths i (Truth false) ≡ Truth truth)
+    is = truth_is (get_or truths i (Truth false)) (are.typed i (Truth false) within)
+
+    own : byte ≡ byte_of (Truth is.0)
+    own =
+        told is.0
+        (ap (λ (ns : List ℤ). get_or ns i d) are.numbers_are ∙ get_or-map number_of truths i (Truth false) d within ∙ ap number_of is.1)
+
+-- a part more of the truths of a column from a position on
+pub truths_more : (col from done more : ℕ) (rows : List Row)
+    → take (done + more) (truths_of (column_values col (drop from rows)))
+    ≡ take done (truths_of (column_values col (drop from rows))) ++ take more (truths_of (column_values col (drop (from + done) rows)))
+truths_more col from done more rows =
+    take-add done more (truths_of (column_values col (drop from rows)))
+    ∙ ap (λ (bs : List ℕ). take done (truths_of (column_values col (drop from rows))) ++ take more bs)
+    (drop-map byte_of done (column_values col (drop from rows))
+    ∙ ap truths_of (drop-map (λ (row : Row). get_or row col (Truth false)) done (drop from rows))
+    ∙ ap (λ (rs : List Row). truths_of (column_values col rs)) (drop-drop done from rows))

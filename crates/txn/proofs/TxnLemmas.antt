@@ -15,7 +15,7 @@ use Rattle.model.specs.declared.write.Write.TheVariants.{Insert, Delete, Set}
 use Rattle.model.specs.declared.write.WriteReply.{WriteReply}
 use Rattle.model.specs.Maps.{find}
 use Rattle.model.specs.Table.{Table, rank}
-use Rattle.model.specs.Effects.{Effects, fits, all_fit, table_with, AreOver}
+use Rattle.model.specs.Effects.{Effects, all_fit, table_with, AreOver}
 use Rattle.model.specs.Writes.{write_fits_schema, key_of_write, reply_where, reply_to, is_done, effects_after, replies_to, effects_after_all}
 use Rattle.model.specs.Entries.{are_ordered, canonical_entries}
 use Rattle.model.specs.Edits.{edited_entries}

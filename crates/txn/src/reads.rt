@@ -6,7 +6,7 @@ ghost use Rattle.model.specs.Table.{rank, row_at, rows_of};
 ghost use Rattle.stable.specs.Rows.{column_at, column_values};
 ghost use Rattle.values.specs.declared.value.Value.TheVariants.{Int};
 ghost use Rattle.merge.specs.Image.{image_rows};
-ghost use Rattle.merge.specs.Packed.{IsNumberColumn};
+ghost use Rattle.merge.specs.Packed.{AreNumbersOf, IsFixedWidthColumn, IsNumberColumn, type_at};
 ghost use Rattle.merge.specs.View.{row_of};
 
 use crate::transaction::Txn;
@@ -74,12 +74,14 @@ impl Txn {
         self.layers().column_runs(col, from, to)
     }
 
-    /// Puts the numbers of a column from a position on into a room, as many as there are and fit, and answers how many. Base rows that
-    /// stand together are copied; where the Read-PDT is packed, a change of another column costs next to nothing.
+    /// Puts the numbers of a column from a position on into a room, as many as there are and fit, and answers how many; a truth's number
+    /// is 1 or 0. Base rows that stand together are copied; where the Read-PDT is packed, a change of another column costs next to
+    /// nothing.
     pub fn fill_numbers(&self, col: usize, from: u64, out: &mut [i64]) -> usize
-        requires { IsNumberColumn self.now.schema col }
+        requires { IsFixedWidthColumn self.now.schema col }
         ensures count { result ≡ min (length out.old) (length (drop from (rows_of (image_of self.now)))) }
-        ensures values { map Int (take result out.new) ≡ column_values col (take result (drop from (rows_of (image_of self.now)))) }
+        ensures values { AreNumbersOf (type_at self.now.schema col)
+            (column_values col (take result (drop from (rows_of (image_of self.now))))) (take result out.new) }
     {
         let layers = self.version.layers(&self.tree);
         layers.fill_numbers(self.version.read().packed(), col, from, out)

@@ -1,16 +1,21 @@
 //! The truths of one column from a position on, copied into C's room, a byte for each.
-ghost use Rattle.std.specs.Prelude.{◌≡◌, ◌+◌, ◌++◌, ◌≤◌, IsSome, IfSome, length, min, take};
+ghost use Rattle.std.specs.Prelude.{◌≡◌, ◌+◌, ◌≤◌, Bool, List, true, IsSome, IfSome, length, min, take};
 ghost use Rattle.values.specs.declared.value.ColumnType.TheVariants as column;
+ghost use Rattle.values.specs.declared.value.Value.{Value};
 ghost use Rattle.values.specs.declared.value.Value.TheVariants as cell;
-ghost use Rattle.merge.specs.Runs.{IsRun, run_values};
-ghost use Rattle.merge.specs.declared.run.Run.TheVariants.{Truths as Together};
+ghost use Rattle.model.specs.Table.{rows_of};
+ghost use Rattle.merge.specs.Packed.{AreNumbersOf, number_of};
+ghost use Rattle.txn.specs.Txn.{image_of};
+ghost use Rattle.pdt_c.specs.Reads.{column_from};
 ghost use Rattle.pdt_c.specs.Truths.{byte_of, has_truths, truths_from, truths_of};
 
 use crate::handles::transaction::{Transaction, put, take};
-use merge::{Run, TruthRun};
 use std::alloc::Global;
 use txn::Txn;
-use values::{ColumnType, ValueRef};
+use values::ColumnType;
+
+/// So many numbers of truths are filled at once.
+const AT_ONCE: usize = 512;
 
 /// Puts the truths of a column from a position on into C's room, 1 for true and 0 for false, as many as there are and fit, and
 /// answers how many. A column that isn't one of truths has none.
@@ -40,12 +45,17 @@ fn read_bools(txn: &Txn, col: usize, from: u64, out: &mut [u8]) -> usize
     if !is_of_truths(txn, col) {
         return 0;
     }
-    let to = from.saturating_add(out.len() as u64).min(txn.len());
+    let rows = txn.len().saturating_sub(from);
+    let count = (out.len() as u64).min(rows) as usize;
+    let mut numbers = [0; AT_ONCE];
     let mut done = 0;
-    for run in txn.column_runs(col, from, to) {
-        done = put_run(run, out, done);
+    while done < count {
+        let more = (count - done).min(AT_ONCE);
+        let part = &mut out[done..done + more];
+        fill_bytes(txn, col, from + done as u64, &mut numbers[..more], part);
+        done += more;
     }
-    done
+    count
 }
 
 /// Whether there is a column of this number, and it is one of truths.
@@ -58,43 +68,33 @@ fn is_of_truths(txn: &Txn, col: usize) -> bool
     }
 }
 
-/// Puts the truths of a run after the first `done`, and answers how many there are then.
-fn put_run(run: Run<'_>, out: &mut [u8], done: usize) -> usize
-    requires typed { IsRun column.Bool run }
-    requires room { done + length (run_values run) ≤ length out.old }
+/// Fills a part of C's room with the truths of as many rows from a position on, by their numbers, for which there is as much room.
+fn fill_bytes(txn: &Txn, col: usize, from: u64, numbers: &mut [i64], out: &mut [u8])
+    requires column { has_truths txn.now col ≡ true }
+    requires rows { from + length out.old ≤ length (rows_of (image_of txn.now)) }
+    requires room { length numbers.old ≡ length out.old }
     ensures length { length out.new ≡ length out.old }
-    ensures count { result ≡ done + length (run_values run.entry) }
-    ensures truths { take result out.new ≡ take done out.old ++ truths_of (run_values run.entry) }
+    ensures truths { out.new ≡ take (length out.old) (truths_of (column_from txn.now col from)) }
 {
-    match run {
-        Run::Truths(together) => put_truths(together, out, done),
-        Run::Value(ValueRef::Bool(truth)) => {
-            out[done] = byte_of(truth);
-            done + 1
-        }
-        _ => unreachable!(),
+    txn.fill_numbers(col, from, numbers);
+    put_bytes(numbers, out);
+}
+
+/// Puts the bytes of truths into a room for as many, by their numbers.
+fn put_bytes(numbers: &[i64], out: &mut [u8])
+    requires { length numbers.now ≡ length out.old }
+    ensures length { length out.new ≡ length out.old }
+    ensures truths { (truths : List Value) → AreNumbersOf column.Bool truths numbers.now → out.new ≡ truths_of truths }
+{
+    for i in 0..numbers.len() {
+        out[i] = byte_of(numbers[i]);
     }
 }
 
-/// Puts the truths of a block after the first `done`, and answers how many there are then.
-fn put_truths(run: TruthRun<'_>, out: &mut [u8], done: usize) -> usize
-    requires within { run.first + run.count ≤ length run.truths.now }
-    requires room { done + run.count ≤ length out.old }
-    ensures length { length out.new ≡ length out.old }
-    ensures count { result ≡ done + run.entry.count }
-    ensures truths { take result out.new ≡ take done out.old ++ truths_of (run_values (Together run.entry)) }
+/// The byte of a truth, by its number.
+#[inline(always)]
+fn byte_of(number: i64) -> u8
+    ensures { (truth : Bool) → number ≡ number_of (cell.Bool truth) → result ≡ byte_of (cell.Bool truth) }
 {
-    let length = run.truths.len();
-    prove!(run.first + run.count <= length);
-    for i in 0..run.count {
-        out[done + i] = byte_of(run.truths.get(run.first + i));
-    }
-    done + run.count
-}
-
-/// A truth's byte.
-fn byte_of(truth: bool) -> u8
-    ensures { result ≡ byte_of (cell.Bool truth) }
-{
-    u8::from(truth)
+    u8::from(number != 0)
 }

@@ -5,7 +5,7 @@ use Rattle.merge.proofs.numbers.fill.Goals as goal
 
 pub loop-done-init : goal.loop-done-init
 loop-done-init g c =
-    (refl, omega arith, c.requires.lawful, c.requires.column, fills_nothing c.args.col (g.N.Numbers.left c.args.rows.now))
+    (refl, omega arith, c.requires.lawful, λ ty column. column, fills_nothing c.args.col (g.N.Numbers.left c.args.rows.now))
 
 pub fill_next-done-requires : goal.fill_next-done-requires
 fill_next-done-requires g c =
@@ -31,7 +31,8 @@ fill_next-done-requires g c =
       length-take (length out - done) (drop done out),
       length-drop done out,
     ) in
-    λ lifetimes. ((refl, tt), (inv.2, (inv.3, (some, room))))
+    let ty = c.requires.column.0 in
+    λ lifetimes. ((refl, tt), (inv.2, ((ty, c.requires.column.1, inv.3 ty c.requires.column.2), (some, room))))
 
 pub loop-done-preserved : goal.loop-done-preserved
 loop-done-preserved g c =
@@ -60,7 +61,7 @@ loop-done-preserved g c =
       whole ∙ inv.0,
       omega (arith, whole, few, same, lengths, cut, inv.1),
       c.fill_next-done.ensures.lawful,
-      c.fill_next-done.ensures.column,
+      λ ty column. c.fill_next-done.ensures.column ty (inv.3 ty column),
       fills_same c.args.col (g.N.Numbers.left c.args.rows.now) (g.N.Numbers.left c.fill_next-done.new.self)
           (take done out ++ take more part) (take (done + more) (take done out ++ (part ++ rest)))
           (sym (take_more done more out part inv.1 (omega (arith, few, same))))

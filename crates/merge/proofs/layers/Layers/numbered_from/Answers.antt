@@ -65,5 +65,5 @@ returns-in-Some-clause-column c =
     let sid = c.at-cursor.result.sid in (
       (lower.column, lower.wide),
       All-same (IsWide col) left (drop sid (write_rows c.args.self.now)) left_is
-          (All-drop (IsWide col) sid (write_rows c.args.self.now) (wide col c.requires.column.there)),
+          (All-drop (IsWide col) sid (write_rows c.args.self.now) (wide col c.requires.column)),
     )

@@ -4,6 +4,7 @@ use Rattle.std.proofs.lemmas.List.Elements.{All-same}
 use Rattle.merge.specs.Cursor.{IsCursor, rows_left}
 use Rattle.merge.specs.Filling.{IsWide}
 use Rattle.merge.specs.Image.{Stack, stack_of, tree_over, write_rows}
+use Rattle.merge.specs.Packed.{type_at}
 use Rattle.merge.specs.ReadRows.{rows_of_read}
 use Rattle.merge.proofs.LeftLemmas.{write_at}
 use Rattle.merge.proofs.PackedPlaceLemmas.{IsPlaced, placed_under}
@@ -32,9 +33,6 @@ here c =
 pub at-requires-clause-cursor : goal.at-requires-clause-cursor
 at-requires-clause-cursor c = (here c).cursor
 
-pub at-requires-clause-numbers : goal.at-requires-clause-numbers
-at-requires-clause-numbers c = (here c).numbers c.args.col c.requires.column.there c.requires.column.ints
-
 pub returns-clause-rows : goal.returns-clause-rows
 returns-clause-rows c = ap (rows_left c.at-write.result) c.at.ensures.rows ∙ (here (goal.at.returns-clause-rows c).After-sid-2).rows
 
@@ -43,8 +41,13 @@ returns-clause-cursor c =
     subst (λ rows. IsCursor (length rows) c.at-write.result) (sym c.at.ensures.rows)
     (here (goal.at.returns-clause-cursor c).After-sid-2).stands
 
+pub returns-clause-column : goal.returns-clause-column
+returns-clause-column c =
+    c.at.ensures.column (type_at c.args.self.now.schema c.args.col)
+    ((here (goal.at.returns-clause-column c).After-sid-2).values c.args.col c.requires.column)
+
 pub returns-clause-wide : goal.returns-clause-wide
 returns-clause-wide c =
     All-same (IsWide c.args.col) (rows_of_read c.at.result)
     (rows_left c.at-read.result (drop c.sid-2.result c.self.inside.stable.now.rows)) c.at.ensures.rows
-    ((here (goal.at.returns-clause-wide c).After-sid-2).wide c.args.col c.requires.column.there)
+    ((here (goal.at.returns-clause-wide c).After-sid-2).wide c.args.col c.requires.column)

@@ -16,7 +16,7 @@ loop-self-preserved g c =
     let over = subst (λ (xs : List Cells). IsCursor (length xs) old.cursor) passed.rows inv.4 in (
       sym (ap (rows_left old.cursor) passed.rows ∙ next.rows passed.row left over) ∙ inv.0,
       c.skip_row.ensures.lawful,
-      λ col h. c.skip_row.ensures.column col (inv.2 col h),
+      λ ty col h. c.skip_row.ensures.column ty col (inv.2 ty col h),
       λ col h. all_skipped (IsWide col) below left passed (inv.3 col h),
       next.cursor (length left) over,
     )

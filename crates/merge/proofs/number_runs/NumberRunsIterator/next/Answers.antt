@@ -1,4 +1,4 @@
-use Rattle.std.proofs.Common.{◌≡◌, ◌∙◌, ◌-◌, ◌++◌, length, map, take, sym, ap}
+use Rattle.std.proofs.Common.{◌∙◌, ◌-◌, ◌++◌, map, take, sym, ap}
 use Rattle.merge.specs.Filling.{numbers_in}
 use Rattle.merge.specs.Numbered.{numbered_left}
 use Rattle.merge.specs.Packed.{number_at}

@@ -3,7 +3,7 @@ use Rattle.merge.specs.Numbered.{HasNumberedColumn}
 use Rattle.merge.proofs.numbered_rows.NumberedRowsNumbers.skip_row.Goals as goal
 
 pub returns-in-Committed-clause-column : goal.returns-in-Committed-clause-column
-returns-in-Committed-clause-column c = λ col has. c.skip_row.ensures.column col (subst (HasNumberedColumn col) c.in-Committed.is has)
+returns-in-Committed-clause-column c = λ ty col has. c.skip_row.ensures.column ty col (subst (HasNumberedColumn ty col) c.in-Committed.is has)
 
 pub returns-in-Own-clause-column : goal.returns-in-Own-clause-column
-returns-in-Own-clause-column c = λ col has. c.skip_row-in-Own.ensures.column col (subst (HasNumberedColumn col) c.in-Own.is has)
+returns-in-Own-clause-column c = λ ty col has. c.skip_row-in-Own.ensures.column ty col (subst (HasNumberedColumn ty col) c.in-Own.is has)

@@ -9,8 +9,8 @@ use Rattle.merge.proofs.ViewLemmas.{found_in}
 use Rattle.merge.proofs.numbers.LevelNumbers.fill_next.Goals as goal
 
 pub returns-in-Inserted-clause-column : goal.returns-in-Inserted-clause-column
-returns-in-Inserted-clause-column g c =
-    (c.pass_deleted.ensures.column c.args.col c.requires.column.0, c.pass_deleted.ensures.wide c.args.col c.requires.column.1)
+returns-in-Inserted-clause-column g c = λ ty column.
+    (c.pass_deleted.ensures.column ty c.args.col column.0, c.pass_deleted.ensures.wide c.args.col column.1)
 
 pub returns-in-Inserted-clause-numbers : goal.returns-in-Inserted-clause-numbers
 returns-in-Inserted-clause-numbers g c =
@@ -24,12 +24,12 @@ returns-in-Inserted-clause-numbers g c =
     filled
 
 pub returns-in-Some-clause-column : goal.returns-in-Some-clause-column
-returns-in-Some-clause-column g c =
+returns-in-Some-clause-column g c = λ ty column.
     let skipped = c.pass_deleted.new.self in
     let col = c.args.col in (
-      c.skip_row.ensures.column col (c.pass_deleted.ensures.column col c.requires.column.0),
+      c.skip_row.ensures.column ty col (c.pass_deleted.ensures.column ty col column.0),
       all_skipped (IsWide col) (g.B.Numbers.left skipped.below) (g.B.Numbers.left c.skip_row.new.self) c.skip_row.ensures.row
-          (c.pass_deleted.ensures.wide col c.requires.column.1),
+          (c.pass_deleted.ensures.wide col column.1),
     )
 
 pub returns-in-Some-clause-numbers : goal.returns-in-Some-clause-numbers
@@ -39,7 +39,7 @@ returns-in-Some-clause-numbers g c =
     let left = g.B.Numbers.left c.skip_row.new.self in
     let col = c.args.col in
     let cells = layer_cells c.in-Modified.modifies in
-    let wide = c.pass_deleted.ensures.wide col c.requires.column.1 in
+    let wide = c.pass_deleted.ensures.wide col c.requires.column.2.1 in
     let given = found_in col cells _ _ c.value.ensures c.in-Some.is in
     let filled =
     fills_given col cells skipped.cursor c.step.new.self below left c.in-Modified.ensures.step c.pass_deleted.ensures.cursor wide
@@ -55,7 +55,7 @@ returns-in-None-clause-lawful g c =
     let left = g.B.Numbers.left c.fill.new.rows in
     let col = c.args.col in
     let cells = layer_cells c.in-Modified.modifies in
-    let wide = c.pass_deleted.ensures.wide col c.requires.column.1 in
+    let wide = c.pass_deleted.ensures.wide col c.requires.column.2.1 in
     let none = found_in col cells _ _ c.value.ensures c.in-None.is in
     let one : length c.fill.new.out ≡ 1 = omega (arith, c.fill.ensures.length, length-take 1 c.args.out.now, c.requires.some) in
     let filled =
@@ -64,12 +64,12 @@ returns-in-None-clause-lawful g c =
     (c.fill.ensures.lawful, filled.1)
 
 pub returns-in-None-clause-column : goal.returns-in-None-clause-column
-returns-in-None-clause-column g c =
+returns-in-None-clause-column g c = λ ty column.
     let skipped = c.pass_deleted.new.self in
     let col = c.args.col in (
-      c.fill.ensures.column,
+      c.fill.ensures.column ty (c.pass_deleted.ensures.column ty col column.0),
       all_filled (IsWide col) col (g.B.Numbers.left skipped.below) (g.B.Numbers.left c.fill.new.rows) c.fill.new.out c.fill.ensures.numbers
-          (c.pass_deleted.ensures.wide col c.requires.column.1),
+          (c.pass_deleted.ensures.wide col column.1),
     )
 
 pub returns-in-None-clause-numbers : goal.returns-in-None-clause-numbers
@@ -79,7 +79,7 @@ returns-in-None-clause-numbers g c =
     let left = g.B.Numbers.left c.fill.new.rows in
     let col = c.args.col in
     let cells = layer_cells c.in-Modified.modifies in
-    let wide = c.pass_deleted.ensures.wide col c.requires.column.1 in
+    let wide = c.pass_deleted.ensures.wide col c.requires.column.2.1 in
     let none = found_in col cells _ _ c.value.ensures c.in-None.is in
     let one : length c.fill.new.out ≡ 1 = omega (arith, c.fill.ensures.length, length-take 1 c.args.out.now, c.requires.some) in
     let filled =
@@ -89,10 +89,10 @@ returns-in-None-clause-numbers g c =
     (sym (room_first c.fill.new.out (drop 1 c.args.out.now) one)) filled.0
 
 pub returns-in-Kept-clause-column : goal.returns-in-Kept-clause-column
-returns-in-Kept-clause-column g c =
+returns-in-Kept-clause-column g c = λ ty column.
     let skipped = c.pass_deleted.new.self in
     let col = c.args.col in (
-      c.fill-in-Kept.ensures.column,
+      c.fill-in-Kept.ensures.column ty (c.pass_deleted.ensures.column ty col column.0),
       all_filled (IsWide col) col (g.B.Numbers.left skipped.below) (g.B.Numbers.left c.fill-in-Kept.new.rows) c.fill-in-Kept.new.out
-          c.fill-in-Kept.ensures.numbers (c.pass_deleted.ensures.wide col c.requires.column.1),
+          c.fill-in-Kept.ensures.numbers (c.pass_deleted.ensures.wide col column.1),
     )

@@ -1,7 +1,8 @@
-use Rattle.std.proofs.Common.{rules, ◌≡◌, ◌∙◌, [], ◌∷◌, length, refl, sym, ap, arith, to_z, w64}
+use Rattle.std.proofs.Common.{rules, ◌≡◌, ◌∙◌, [], ◌∷◌, length, refl, sym, ap, arith, w64}
 use Rattle.std.proofs.lemmas.Int.{to_z-of_z}
 use Rattle.std.specs.Prelude.{ℤ}
 use Rattle.values.specs.Lent.{value_of}
+use Rattle.values.specs.declared.value.ColumnType.TheVariants as column
 use Rattle.merge.specs.Cursor.{rows_left}
 use Rattle.merge.specs.Filling.{IsWide, numbers_in}
 use Rattle.merge.specs.View.{layer_cells}
@@ -11,7 +12,7 @@ use Rattle.merge.proofs.numbers.LevelNumbers.next_run.Goals as goal
 
 pub returns-in-Inserted-clause-column : goal.returns-in-Inserted-clause-column
 returns-in-Inserted-clause-column g c =
-    (c.pass_deleted.ensures.column c.args.col c.requires.column.0, c.pass_deleted.ensures.wide c.args.col c.requires.column.1)
+    (c.pass_deleted.ensures.column column.Int c.args.col c.requires.column.0, c.pass_deleted.ensures.wide c.args.col c.requires.column.1)
 
 pub returns-in-Inserted-clause-numbers : goal.returns-in-Inserted-clause-numbers
 returns-in-Inserted-clause-numbers g c =
@@ -28,7 +29,7 @@ pub returns-in-Some-clause-column : goal.returns-in-Some-clause-column
 returns-in-Some-clause-column g c =
     let skipped = c.pass_deleted.new.self in
     let col = c.args.col in (
-      c.skip_row.ensures.column col (c.pass_deleted.ensures.column col c.requires.column.0),
+      c.skip_row.ensures.column column.Int col (c.pass_deleted.ensures.column column.Int col c.requires.column.0),
       all_skipped (IsWide col) (g.B.Numbers.left skipped.below) (g.B.Numbers.left c.skip_row.new.self) c.skip_row.ensures.row
           (c.pass_deleted.ensures.wide col c.requires.column.1),
     )

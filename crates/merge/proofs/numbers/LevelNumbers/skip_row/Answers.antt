@@ -8,12 +8,12 @@ use Rattle.merge.proofs.PartLemmas.{row-kept, cursor-kept_row}
 use Rattle.merge.proofs.numbers.LevelNumbers.skip_row.Goals as goal
 
 pub returns-in-Inserted-clause-column : goal.returns-in-Inserted-clause-column
-returns-in-Inserted-clause-column g c = λ col h. (c.pass_deleted.ensures.column col h.0, c.pass_deleted.ensures.wide col h.1)
+returns-in-Inserted-clause-column g c = λ ty col h. (c.pass_deleted.ensures.column ty col h.0, c.pass_deleted.ensures.wide col h.1)
 
 pub returns-in-Modified-clause-column : goal.returns-in-Modified-clause-column
-returns-in-Modified-clause-column g c = λ col h.
+returns-in-Modified-clause-column g c = λ ty col h.
     let skipped = c.pass_deleted.new.self in (
-      c.skip_row.ensures.column col (c.pass_deleted.ensures.column col h.0),
+      c.skip_row.ensures.column ty col (c.pass_deleted.ensures.column ty col h.0),
       all_skipped (IsWide col) (g.B.Numbers.left skipped.below) (g.B.Numbers.left c.skip_row.new.self) c.skip_row.ensures.row
           (c.pass_deleted.ensures.wide col h.1),
     )
@@ -31,9 +31,9 @@ returns-in-Kept-clause-lawful g c =
     )
 
 pub returns-in-Kept-clause-column : goal.returns-in-Kept-clause-column
-returns-in-Kept-clause-column g c = λ col h.
+returns-in-Kept-clause-column g c = λ ty col h.
     let skipped = c.pass_deleted.new.self in (
-      c.skip_row-in-Kept.ensures.column col (c.pass_deleted.ensures.column col h.0),
+      c.skip_row-in-Kept.ensures.column ty col (c.pass_deleted.ensures.column ty col h.0),
       all_skipped (IsWide col) (g.B.Numbers.left skipped.below) (g.B.Numbers.left c.skip_row-in-Kept.new.self)
           c.skip_row-in-Kept.ensures.row (c.pass_deleted.ensures.wide col h.1),
     )

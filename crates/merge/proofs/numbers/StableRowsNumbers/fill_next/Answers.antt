@@ -6,7 +6,6 @@ use Rattle.values.specs.declared.row.Row.{Row as Cells}
 use Rattle.values.specs.declared.value.Value.{Value}
 use Rattle.values.specs.declared.value.Value.TheVariants.{Bool as Truth}
 use Rattle.values.specs.declared.value.ColumnType.{ColumnType}
-use Rattle.values.specs.declared.value.ColumnType.TheVariants as column
 use Rattle.merge.specs.Fitting.{StandsAt}
 use Rattle.merge.specs.Runs.{IsRun, part_values, run_values}
 use Rattle.merge.proofs.FillingLemmas.{fills_same, first_filled}
@@ -15,9 +14,9 @@ use Rattle.merge.proofs.numbers.StableRowsNumbers.fill_next.Goals as goal
 pub put_run-count-requires-clause-typed : goal.put_run-count-requires-clause-typed
 put_run-count-requires-clause-typed c =
     let left = drop c.args.self.now.sid c.args.self.now.table.now.rows in
-    let ty = c.of_stretch.ensures.typed column.Int
-    (All-take (StandsAt column.Int c.args.col) (length c.args.out.now) left c.requires.column) in
-    subst (λ (t : ColumnType). IsRun t c.next_run-run.result) ty c.next_run-run.ensures.run
+    let ty = c.requires.column.0 in
+    let is = c.of_stretch.ensures.typed ty (All-take (StandsAt ty c.args.col) (length c.args.out.now) left c.requires.column.2) in
+    (ty, c.requires.column.1, subst (λ (t : ColumnType). IsRun t c.next_run-run.result) is c.next_run-run.ensures.run)
 
 pub put_run-count-requires-clause-room : goal.put_run-count-requires-clause-room
 put_run-count-requires-clause-room c =
@@ -34,12 +33,11 @@ put_run-count-requires-clause-room c =
     )
 
 pub returns-clause-column : goal.returns-clause-column
-returns-clause-column c =
+returns-clause-column c = λ ty column.
     let rows : List Cells = c.args.self.now.table.now.rows in
     let sid = c.args.self.now.sid in
     let n = c.put_run-count.result in
-    All-same (StandsAt column.Int c.args.col) _ _ (sym (drop-drop n sid rows))
-    (All-drop (StandsAt column.Int c.args.col) n (drop sid rows) c.requires.column)
+    All-same (StandsAt ty c.args.col) _ _ (sym (drop-drop n sid rows)) (All-drop (StandsAt ty c.args.col) n (drop sid rows) column)
 
 pub returns-clause-numbers : goal.returns-clause-numbers
 returns-clause-numbers c =

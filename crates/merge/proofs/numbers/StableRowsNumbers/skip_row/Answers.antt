@@ -3,16 +3,15 @@ use Rattle.std.proofs.lemmas.List.{drop-drop}
 use Rattle.std.proofs.lemmas.List.Elements.{All-drop, All-same}
 use Rattle.std.proofs.lemmas.Option.{slice_get-get_or}
 use Rattle.values.specs.declared.row.Row.{Row as Cells}
-use Rattle.values.specs.declared.value.ColumnType.TheVariants as column
 use Rattle.merge.specs.Fitting.{StandsAt}
 use Rattle.merge.proofs.CursorLemmas.{drop-at}
 use Rattle.merge.proofs.numbers.StableRowsNumbers.skip_row.Goals as goal
 
 pub returns-clause-column : goal.returns-clause-column
-returns-clause-column c = λ col h.
+returns-clause-column c = λ ty col h.
     let rows : List Cells = c.args.self.now.table.now.rows in
-    All-same (StandsAt column.Int col) _ _ (sym (drop-drop 1 c.args.self.now.sid rows))
-    (All-drop (StandsAt column.Int col) 1 (drop c.args.self.now.sid rows) h)
+    All-same (StandsAt ty col) _ _ (sym (drop-drop 1 c.args.self.now.sid rows))
+    (All-drop (StandsAt ty col) 1 (drop c.args.self.now.sid rows) h)
 
 pub returns-clause-row : goal.returns-clause-row
 returns-clause-row c =

@@ -4,7 +4,7 @@ use Rattle.std.proofs.lemmas.List.{map-append}
 use Rattle.std.proofs.lemmas.Option.{slice_get-get_or}
 use Rattle.values.specs.declared.value.ColumnType.{ColumnType}
 use Rattle.values.specs.declared.value.ColumnType.TheVariants as column
-use Rattle.merge.specs.Packed.{ColumnView, IsPackedColumn, is_number}
+use Rattle.merge.specs.Packed.{ColumnView, IsPackedColumn, is_fixed_width}
 use Rattle.merge.proofs.CursorLemmas.{drop-at}
 use Rattle.merge.proofs.PackedLemmas.{column_more}
 use Rattle.merge.proofs.packed.Packed.of.Goals as goal
@@ -15,15 +15,15 @@ loop-ty-preserved c =
     let i = c.loop-ty.ty-index in
     let before = c.loop-ty.columns.items in
     let made = c.in_ok-column.column in
-    let rest : List Bool = map is_number (drop (i + 1) types) in
+    let rest : List Bool = map is_fixed_width (drop (i + 1) types) in
     let is = ap (λ (ts : List ColumnType). get_or ts i column.Int) c.types-ty-items.ensures in
     let there : i < length types = omega (arith, c.loop-ty-test.true, ap (λ (ts : List ColumnType). length ts) c.types-ty-items.ensures) in
     let left = drop-at types i (get_or types i column.Int) (slice_get-get_or types i column.Int there) in (
       ap (λ (cs : List (Option ColumnView)). map is_some cs ++ rest) c.in_ok-push.ensures.items
           ∙ ap (λ (bs : List Bool). bs ++ rest) (map-append is_some before (made ∷ []))
           ∙ append_assoc (map is_some before) (is_some made ∷ []) rest
-          ∙ ap (λ (b : Bool). map is_some before ++ b ∷ rest) (c.in_ok-column.ensures.number ∙ ap is_number is)
-          ∙ ap (λ (ts : List ColumnType). map is_some before ++ map is_number ts) (sym left)
+          ∙ ap (λ (b : Bool). map is_some before ++ b ∷ rest) (c.in_ok-column.ensures.fixed ∙ ap is_fixed_width is)
+          ∙ ap (λ (ts : List ColumnType). map is_some before ++ map is_fixed_width ts) (sym left)
           ∙ c.loop-ty.invariant.0,
       λ col x h.
           by col x

@@ -17,7 +17,7 @@ pub patch-self-requires-clause-near : goal.patch-self-requires-clause-near
 patch-self-requires-clause-near c =
     let p = c.args.self.now in
     let left = entries_left (cursor_of p) in
-    subst (λ (ps : List Patch). T (list_all (is_from p.sid) ps)) (sym c.requires.column.patches_are)
+    subst (λ (ps : List Patch). T (list_all (is_from p.sid) ps)) (sym c.requires.column.2.patches_are)
     (patches_all_from c.args.col p.sid left (within_all p.sid (p.sid + length (base_left p)) left c.requires.lawful.cursor.over.within))
 
 pub patch-self-requires-clause-few : goal.patch-self-requires-clause-few
@@ -40,11 +40,11 @@ returns-clause-lawful c =
     let patched_is : c.patch-self.new.out ≡ patched p.sid (patches_in col (take n (entries_left (cursor_of p)))) c.fill.new.out =
     c.patch-self.ensures.patched
     ∙ ap (λ k. patched p.sid (patches_before (p.sid + k) p.patches.now) c.fill.new.out) (sym c.patch-self.ensures.length)
-    ∙ ap (λ (ps : List Patch). patched p.sid (patches_before (p.sid + m) ps) c.fill.new.out) c.requires.column.patches_are
+    ∙ ap (λ (ps : List Patch). patched p.sid (patches_before (p.sid + m) ps) c.fill.new.out) c.requires.column.2.patches_are
     ∙ ap (λ (ps : List Patch). patched p.sid ps c.fill.new.out)
     (patches_past p.tree.now.key_cols (p.sid + m) col (entries_left (cursor_of p)) c.requires.lawful.cursor.over.ordered).0 in
     let filled = fills_patched col (cursor_of p) c.requires.kept.0 n m kept (base_left p) left c.fill.new.out c.patch-self.new.out
-    c.requires.lawful.cursor c.fill.ensures.numbers (c.fill.ensures.length ∙ many) (are_wide col (base_left p) c.requires.column.numbers)
+    c.requires.lawful.cursor c.fill.ensures.numbers (c.fill.ensures.length ∙ many) (are_wide c.requires.column.0 col (base_left p) c.requires.column.2.values)
     patched_is in
     let cursor = cursor_kept p m c.requires.lawful in
     record {
@@ -57,18 +57,18 @@ returns-clause-lawful c =
     }
 
 pub returns-clause-column : goal.returns-clause-column
-returns-clause-column c =
+returns-clause-column c = λ ty column.
     let p = c.args.self.now in
     let col = c.args.col in
     let m = length c.patch-self.new.out in
     record {
-      inserted_are = c.requires.column.inserted_are;
+      inserted_are = column.inserted_are;
       patches_are =
           c.patch-self.ensures.left
           ∙ ap (λ k. patches_from (p.sid + k) p.patches.now) (sym c.patch-self.ensures.length)
-          ∙ patches_kept p m c.requires.lawful col c.requires.column.patches_are
+          ∙ patches_kept p m c.requires.lawful col column.patches_are
           ∙ ap (λ (x : TreeCursor). patches_in col (entries_left x)) (sym (cursor_kept p m c.requires.lawful));
-      numbers = c.fill.ensures.column;
+      values = c.fill.ensures.column ty column.values;
     }
 
 pub returns-clause-numbers : goal.returns-clause-numbers
@@ -83,11 +83,11 @@ returns-clause-numbers c =
     let patched_is : c.patch-self.new.out ≡ patched p.sid (patches_in col (take n (entries_left (cursor_of p)))) c.fill.new.out =
     c.patch-self.ensures.patched
     ∙ ap (λ k. patched p.sid (patches_before (p.sid + k) p.patches.now) c.fill.new.out) (sym c.patch-self.ensures.length)
-    ∙ ap (λ (ps : List Patch). patched p.sid (patches_before (p.sid + m) ps) c.fill.new.out) c.requires.column.patches_are
+    ∙ ap (λ (ps : List Patch). patched p.sid (patches_before (p.sid + m) ps) c.fill.new.out) c.requires.column.2.patches_are
     ∙ ap (λ (ps : List Patch). patched p.sid ps c.fill.new.out)
     (patches_past p.tree.now.key_cols (p.sid + m) col (entries_left (cursor_of p)) c.requires.lawful.cursor.over.ordered).0 in
     let filled = fills_patched col (cursor_of p) c.requires.kept.0 n m kept (base_left p) left c.fill.new.out c.patch-self.new.out
-    c.requires.lawful.cursor c.fill.ensures.numbers (c.fill.ensures.length ∙ many) (are_wide col (base_left p) c.requires.column.numbers)
+    c.requires.lawful.cursor c.fill.ensures.numbers (c.fill.ensures.length ∙ many) (are_wide c.requires.column.0 col (base_left p) c.requires.column.2.values)
     patched_is in
     subst (λ (x : TreeCursor). FillsRows col (packed_left p) c.patch-self.new.out (rows_left x left))
     (sym (cursor_kept p m c.requires.lawful)) filled.0

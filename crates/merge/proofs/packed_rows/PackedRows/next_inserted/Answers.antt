@@ -1,10 +1,10 @@
 use Rattle.std.proofs.lemmas.Int.{to_z-of_z}
-use Rattle.std.proofs.Common.{rules, to_z, w64, ◌≡◌, ◌∙◌, ◌+◌, ◌≤◌, [], ◌∷◌, List, length, map, take, get_or, refl, sym, ap, subst, arith, length-take}
+use Rattle.std.proofs.Common.{rules, w64, ◌≡◌, ◌∙◌, ◌+◌, ◌≤◌, [], ◌∷◌, List, length, map, take, get_or, refl, sym, ap, subst, arith, length-take}
 use Rattle.std.specs.Prelude.{ℤ, pos}
 use Rattle.values.specs.declared.row.Row.{Row as Cells}
 use Rattle.values.specs.declared.limits.TheConstants.{MAX_ROWS}
 use Rattle.merge.specs.Cursor.{TreeCursor, IsCursor, rows_left}
-use Rattle.merge.specs.Filling.{FillsRows, HaveNumbers}
+use Rattle.merge.specs.Filling.{FillsRows, HaveValues}
 use Rattle.merge.specs.Packed.{number_at, rows_in}
 use Rattle.merge.specs.PackedLeft.{base_left, cursor_of}
 use Rattle.merge.specs.declared.packed_rows.PackedRows.{PackedRows}
@@ -32,8 +32,8 @@ pub bounds-self-row : goal.bounds-self-row
 bounds-self-row c =
     let p = c.args.self.now in
     let next = c.requires.next in
-    let column = c.requires.column.1 in
-    let numbers = inserted_number c.requires.column.0 p.sid (cursor_of p).index p.tree.now.entries next.inserted (pos 0) next.there in
+    let column = c.requires.column.2 in
+    let numbers = inserted_number c.requires.column.1 p.sid (cursor_of p).index p.tree.now.entries next.inserted (pos 0) next.there in
     omega (arith, numbers.0, next.numbered, ap (λ (ns : List ℤ). length ns) column.inserted_are)
 
 pub returns-clause-lawful : goal.returns-clause-lawful
@@ -61,7 +61,7 @@ returns-clause-lawful c =
     }
 
 pub returns-clause-column : goal.returns-clause-column
-returns-clause-column c = λ col column.
+returns-clause-column c = λ ty col column.
     let p = c.args.self.now in
     let q = c.pass_change.new.self in
     let lawful = c.requires.lawful in
@@ -83,11 +83,11 @@ returns-clause-column c = λ col column.
           patches_here p q lawful here c.pass_change.ensures.place c.pass_change.ensures.changes
           tree p.sid (length (base_left p)) sid ahead col
           (ap (λ (x : PackedRows). x.patches.now) same) column.patches_are;
-      numbers = subst (λ (x : PackedRows). HaveNumbers col (base_left x)) (sym same) column.numbers;
+      values = subst (λ (x : PackedRows). HaveValues ty col (base_left x)) (sym same) column.values;
     }
 
 pub returns-clause-number : goal.returns-clause-number
-returns-clause-number c = λ col column.
+returns-clause-number c = λ ty col column.
     let p = c.args.self.now in
     let q = c.pass_change.new.self in
     let lawful = c.requires.lawful in

@@ -1,10 +1,9 @@
 use Rattle.std.proofs.Common.{◌≡◌, ◌∙◌, ◌+◌, ◌≤◌, [], List, length, take, drop, sym, ap, subst, arith}
-use Rattle.std.specs.Prelude.{ℤ}
 use Rattle.values.specs.declared.row.Row.{Row as Cells}
 use Rattle.values.specs.declared.limits.TheConstants.{MAX_ROWS}
 use Rattle.values.specs.declared.value.ColumnType.TheVariants as column
 use Rattle.merge.specs.Cursor.{TreeCursor, IsCursor, entries_left, rows_left}
-use Rattle.merge.specs.Filling.{FillsRows, KeepsModified, numbers_in, patched, patches_before, past_modifies}
+use Rattle.merge.specs.Filling.{FillsRows, KeepsModified, numbers_in, patched, patches_before}
 use Rattle.merge.specs.Fitting.{StandsAt}
 use Rattle.merge.specs.Packed.{patches_in}
 use Rattle.merge.specs.PackedLeft.{base_left, changes_left, count_passed, cursor_of, packed_left}
@@ -32,7 +31,7 @@ returns-clause-lawful c =
     ∙ ap (patches_before (p.sid + m)) c.requires.column.patches_are
     ∙ (patches_past p.tree.now.key_cols (p.sid + m) col (entries_left (cursor_of p)) c.requires.lawful.cursor.over.ordered).0 in
     let filled = fills_patched col (cursor_of p) c.requires.kept.0 n m kept (base_left p) left numbers numbers
-    c.requires.lawful.cursor c.next_in_block-run.ensures.numbers (sym c.len.ensures) (are_wide col (base_left p) c.requires.column.numbers)
+    c.requires.lawful.cursor c.next_in_block-run.ensures.numbers (sym c.len.ensures) (are_wide column.Int col (base_left p) c.requires.column.values)
     (ap (λ (ps : List Patch). patched p.sid ps numbers) nothing) in
     let cursor = cursor_kept p m c.requires.lawful in
     record {
@@ -61,9 +60,9 @@ returns-clause-column c =
           sym (none_passed (p.sid + m) p.patches.now none)
           ∙ patches_kept p m c.requires.lawful col c.requires.column.patches_are
           ∙ ap (λ (x : TreeCursor). patches_in col (entries_left x)) (sym (cursor_kept p m c.requires.lawful));
-      numbers =
+      values =
           all_filled (StandsAt column.Int col) col (base_left p) left (numbers_in c.next_in_block-run.result)
-          c.next_in_block-run.ensures.numbers c.requires.column.numbers;
+          c.next_in_block-run.ensures.numbers c.requires.column.values;
     }
 
 pub returns-clause-numbers : goal.returns-clause-numbers
@@ -83,7 +82,7 @@ returns-clause-numbers c =
     ∙ ap (patches_before (p.sid + m)) c.requires.column.patches_are
     ∙ (patches_past p.tree.now.key_cols (p.sid + m) col (entries_left (cursor_of p)) c.requires.lawful.cursor.over.ordered).0 in
     let filled = fills_patched col (cursor_of p) c.requires.kept.0 n m kept (base_left p) left numbers numbers
-    c.requires.lawful.cursor c.next_in_block-run.ensures.numbers (sym c.len.ensures) (are_wide col (base_left p) c.requires.column.numbers)
+    c.requires.lawful.cursor c.next_in_block-run.ensures.numbers (sym c.len.ensures) (are_wide column.Int col (base_left p) c.requires.column.values)
     (ap (λ (ps : List Patch). patched p.sid ps numbers) nothing) in
     subst (λ (x : TreeCursor). FillsRows col (packed_left p) numbers (rows_left x left)) (sym (cursor_kept p m c.requires.lawful))
     filled.0

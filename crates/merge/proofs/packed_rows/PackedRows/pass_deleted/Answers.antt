@@ -2,7 +2,7 @@ use Rattle.std.proofs.Common.{◌≡◌, ◌∙◌, ◌+◌, ◌<◌, true, List
 use Rattle.std.proofs.lemmas.Option.{slice_get_within}
 use Rattle.values.specs.declared.row.Row.{Row as Cells}
 use Rattle.merge.specs.Cursor.{IsCursor, entries_left, rows_left, starts_with_delete}
-use Rattle.merge.specs.Filling.{HaveNumbers}
+use Rattle.merge.specs.Filling.{HaveValues}
 use Rattle.merge.specs.Packed.{number_at, rows_in}
 use Rattle.merge.specs.PackedLeft.{IsPackedRows, base_left, cursor_of}
 use Rattle.merge.specs.Parts.{PassesRow}
@@ -83,8 +83,8 @@ loop-self-preserved c =
       ap (λ x. rows_left x left) cursor
           ∙ sym (ap (rows_left (cursor_of p)) passed.rows ∙ next.rows passed.row left over)
           ∙ inv.1,
-      λ col h.
-          let old = inv.2 col h in
+      λ ty col h.
+          let old = inv.2 ty col h in
           record {
             inserted_are =
                 ap (λ (x : PackedRows). x.inserted.now) same
@@ -94,6 +94,6 @@ loop-self-preserved c =
                 patches_here p new lawful here c.pass_change.ensures.place c.pass_change.ensures.changes
                 tree (p.sid + 1) (length left) sid ahead
                 col (ap (λ (x : PackedRows). x.patches.now) same) old.patches_are;
-            numbers = c.skip_row.ensures.column col (subst (λ (xs : List Cells). HaveNumbers col xs) (sym base_is) old.numbers);
+            values = c.skip_row.ensures.column ty col (subst (λ (xs : List Cells). HaveValues ty col xs) (sym base_is) old.values);
           },
     )

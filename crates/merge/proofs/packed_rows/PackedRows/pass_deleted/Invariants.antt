@@ -1,4 +1,5 @@
 use Rattle.std.proofs.Common.{◌≡◌, ℕ, length}
+use Rattle.values.specs.declared.value.ColumnType.{ColumnType}
 use Rattle.merge.specs.PackedLeft.{HasPackedColumn, IsPackedRows, packed_left}
 use Rattle.merge.proofs.packed_rows.PackedRows.pass_deleted.Given as goal
 
@@ -7,7 +8,7 @@ abbrev pub invariant-loop-self : goal.invariant-loop-self
 invariant-loop-self l =
     IsPackedRows l.self
     × (packed_left l.self ≡ packed_left l.fn.self)
-    × ((col : ℕ) → HasPackedColumn col l.fn.self → HasPackedColumn col l.self)
+    × ((ty : ColumnType) (col : ℕ) → HasPackedColumn ty col l.fn.self → HasPackedColumn ty col l.self)
 
 abbrev pub decreases-loop-self : goal.decreases-loop-self
 decreases-loop-self l = length l.self.changes.now

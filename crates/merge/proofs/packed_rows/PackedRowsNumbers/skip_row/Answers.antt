@@ -3,7 +3,7 @@ use Rattle.std.specs.Prelude.{MatchOption}
 use Rattle.values.specs.declared.row.Row.{Row as Cells}
 use Rattle.values.specs.declared.limits.TheConstants.{MAX_ROWS}
 use Rattle.merge.specs.Cursor.{TreeCursor, IsCursor, entries_left, rows_left}
-use Rattle.merge.specs.Filling.{HaveNumbers, InsertsNone}
+use Rattle.merge.specs.Filling.{HaveValues, InsertsNone}
 use Rattle.merge.specs.Packed.{number_at, patches_in, rows_in}
 use Rattle.merge.specs.PackedLeft.{IsInsertNext, base_left, changes_left, count_passed, cursor_of}
 use Rattle.merge.specs.declared.packed_rows.PackedRows.{PackedRows}
@@ -42,8 +42,8 @@ returns-in-Some-clause-lawful c =
     }
 
 pub returns-in-Some-clause-column : goal.returns-in-Some-clause-column
-returns-in-Some-clause-column c = λ col h.
-    let column = c.pass_deleted.ensures.column col h in
+returns-in-Some-clause-column c = λ ty col h.
+    let column = c.pass_deleted.ensures.column ty col h in
     let p = c.pass_deleted.new.self in
     let q = c.pass_change.new.self in
     let lawful = c.pass_deleted.ensures.lawful in
@@ -65,7 +65,7 @@ returns-in-Some-clause-column c = λ col h.
           patches_here p q lawful here c.pass_change.ensures.place c.pass_change.ensures.changes
           tree p.sid (length (base_left p)) sid ahead col
           (ap (λ (x : PackedRows). x.patches.now) same) column.patches_are;
-      numbers = subst (λ (x : PackedRows). HaveNumbers col (base_left x)) (sym same) column.numbers;
+      values = subst (λ (x : PackedRows). HaveValues ty col (base_left x)) (sym same) column.values;
     }
 
 pub returns-in-Some-clause-row : goal.returns-in-Some-clause-row
@@ -109,17 +109,17 @@ returns-clause-lawful c =
     }
 
 pub returns-clause-column : goal.returns-clause-column
-returns-clause-column c = λ col h.
+returns-clause-column c = λ ty col h.
     let p = c.pass_deleted.new.self in
     let lawful = c.pass_deleted.ensures.lawful in
-    let column = c.pass_deleted.ensures.column col h in
+    let column = c.pass_deleted.ensures.column ty col h in
     record {
       inserted_are = column.inserted_are;
       patches_are =
           c.past-self.ensures
           ∙ patches_kept p 1 lawful col column.patches_are
           ∙ ap (λ (x : TreeCursor). patches_in col (entries_left x)) (sym (cursor_kept p 1 lawful));
-      numbers = c.skip_row.ensures.column col column.numbers;
+      values = c.skip_row.ensures.column ty col column.values;
     }
 
 pub returns-clause-row : goal.returns-clause-row

@@ -1,7 +1,5 @@
-use Rattle.std.proofs.Common.{◌≡◌, ◌+◌, ◌-◌, ◌≤◌, length, sym, subst, arith}
-use Rattle.merge.specs.Image.{image_rows}
+use Rattle.std.proofs.Common.{◌+◌, ◌-◌, ◌≤◌, sym, subst, arith}
 use Rattle.merge.specs.Placed.{IsPlaced, PassesPlaced, Placed}
-use Rattle.merge.specs.Stretches.{stretch_rows}
 use Rattle.merge.proofs.PlacedLemmas.{passes_next, placed_next}
 use Rattle.merge.proofs.placed.PlacedStretchesIterator.next.Goals as goal
 

@@ -35,7 +35,7 @@ returns-in-Some-column-clause-lawful c =
     }
 
 pub returns-in-Some-column-clause-column : goal.returns-in-Some-column-clause-column
-returns-in-Some-column-clause-column c =
+returns-in-Some-column-clause-column c = λ ty have.
     let read = c.args.read in
     let col = c.args.col in
     let es = read.tree.entries in
@@ -57,5 +57,5 @@ returns-in-Some-column-clause-column c =
           ∙ ap (patches_from read.sid) modified
           ∙ patches_start read c.requires.cursor col
           ∙ ap (λ (x : TreeCursor). patches_in col (entries_left x)) (sym cursor);
-      numbers = c.requires.numbers;
+      values = have;
     }

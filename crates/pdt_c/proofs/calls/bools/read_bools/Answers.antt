@@ -1,14 +1,46 @@
-use Rattle.std.proofs.Common.{◌≡◌, ◌∙◌, ◌++◌, ℕ, Bool, true, List, [], length, take, ap, sym, arith}
-use Rattle.std.specs.Prelude.{cond}
-use Rattle.std.proofs.lemmas.List.{append-nil, length-map}
-use Rattle.values.specs.declared.value.Value.{Value}
+use Rattle.std.proofs.Common.{◌≡◌, ◌∙◌, ℕ, ◌+◌, ◌-◌, ◌≤◌, ◌++◌, Bool, true, [], List, length, take, drop, get_or, ap, sym, arith}
+use Rattle.std.specs.Prelude.{cond, false}
+use Rattle.std.proofs.lemmas.List.{length-drop, length-map, length-take}
+use Rattle.std.proofs.lemmas.Slice.{take-put_mid}
+use Rattle.values.specs.declared.row.Row.{Row}
+use Rattle.values.specs.declared.value.Value.TheVariants.{Bool as Truth}
 use Rattle.model.specs.Table.{rows_of}
+use Rattle.stable.specs.Rows.{column_values}
 use Rattle.txn.specs.Txn.{image_of}
 use Rattle.pdt_c.specs.Reads.{column_from}
-use Rattle.pdt_c.specs.Truths.{has_truths, truths_of}
-use Rattle.pdt_c.proofs.NumberLemmas.{range_cut}
-use Rattle.pdt_c.proofs.TruthLemmas.{truths_cut}
+use Rattle.pdt_c.specs.Truths.{byte_of, has_truths, truths_of}
+use Rattle.pdt_c.proofs.NumberLemmas.{take_least}
+use Rattle.pdt_c.proofs.TruthLemmas.{truths_more}
 use Rattle.pdt_c.proofs.calls.bools.read_bools.Goals as goal
+
+pub loop-done-preserved : goal.loop-done-preserved
+loop-done-preserved c =
+    let txn = c.args.txn.now in
+    let col = c.args.col in
+    let from = c.args.from in
+    let done = c.loop-done.done in
+    let more = c.min-more.result in
+    let out = c.loop-done.out in
+    let part = c.fill_bytes.new.out in
+    let room = (done + more) - done in
+    let within : done + more ≤ c.min-count.result = omega (arith, c.min-more.ensures, c.loop-done-test.true) in
+    let many : length (take room (drop done out)) ≡ more = omega (
+      arith,
+      within,
+      c.min-count.ensures,
+      c.loop-done.auto.out,
+      length-take room (drop done out),
+      length-drop done out,
+    ) in
+    let so_far : List ℕ = take done (truths_of (column_from txn col from)) in (
+      within,
+      take-put_mid done room out part (done + more) (omega (arith, many, c.fill_bytes.ensures.length))
+          (omega (arith, within, c.min-count.ensures, c.loop-done.auto.out))
+          ∙ ap (λ (bs : List ℕ). bs ++ part) c.loop-done.invariant.1
+          ∙ ap (λ (bs : List ℕ). so_far ++ bs)
+          (c.fill_bytes.ensures.truths ∙ ap (λ n. take n (truths_of (column_from txn col (from + done)))) many)
+          ∙ sym (truths_more col from done more (rows_of (image_of txn))),
+    )
 
 pub returns-clause-truths : goal.returns-clause-truths
 returns-clause-truths c =
@@ -16,16 +48,24 @@ returns-clause-truths c =
     let col = c.args.col in
     let from = c.args.from in
     let room = length c.args.out.now in
-    let to = c.min-to.result in
-    let rows = rows_of (image_of txn) in
-    let many = length-map (image_of txn) (λ e. e.1) in
-    let so_far : List ℕ = take c.loop-run.done c.loop-run.out in
+    let count = c.min-count.result in
+    let rows : List Row = rows_of (image_of txn) in
+    let cells = column_values col (drop from rows) in
+    let all = truths_of cells in
     let has : has_truths txn col ≡ true = sym c.is_of_truths.ensures ∙ c.if-not-is_of_truths.false in
-    let cut = range_cut from room to rows
-    (λ le. omega (arith, le, many, c.len.ensures, c.len.type_inv, c.saturating_add.ensures, c.min-to.ensures))
-    (λ le. omega (arith, le, many, c.len.ensures, c.len.type_inv, c.saturating_add.ensures, c.min-to.ensures)) in
-    sym (append-nil so_far)
-    ∙ ap (λ (vs : List Value). so_far ++ truths_of vs) (sym c.in-None.ensures.steps.0)
-    ∙ c.loop-run.invariant.3
-    ∙ truths_cut col from room to rows cut
-    ∙ ap (λ (b : Bool). take room (cond b (truths_of (column_from txn col from)) [])) (sym has)
+    let done : count ≡ c.loop-done.done = omega (arith, c.loop-done-test.false, c.loop-done.invariant.0) in
+    ap (λ n. take n c.loop-done.out) done
+    ∙ c.loop-done.invariant.1
+    ∙ ap (λ n. take n all) (sym done)
+    ∙ take_least room count all
+    (omega (
+      arith,
+      c.min-count.ensures,
+      c.saturating_sub-rows.ensures,
+      c.len.ensures,
+      length-map (image_of txn) (λ e. e.1),
+      length-map cells byte_of,
+      length-map (drop from rows) (λ (row : Row). get_or row col (Truth false)),
+      length-drop from rows,
+    ))
+    ∙ ap (λ (b : Bool). take room (cond b all [])) (sym has)

@@ -1,14 +1,11 @@
-use Rattle.std.proofs.Common.{◌≡◌, ◌+◌, ◌++◌, length, take}
-use Rattle.values.specs.declared.value.ColumnType.TheVariants as column
-use Rattle.pdt_c.specs.Numbers.{column_between}
+use Rattle.std.proofs.Common.{◌≡◌, ◌-◌, ◌≤◌, take}
+use Rattle.pdt_c.specs.Reads.{column_from}
 use Rattle.pdt_c.specs.Truths.{truths_of}
 use Rattle.pdt_c.proofs.calls.bools.read_bools.Given as goal
 
--- the truths so far stand in C's room, and those of the runs that are left come after them
-abbrev pub invariant-loop-run : goal.invariant-loop-run
-invariant-loop-run l =
-    let all = column_between l.txn l.col l.from l.to in
-    (length l.out ≡ length l.fn.out)
-    × (l.run-iterator.ty ≡ column.Bool)
-    × (l.done + length l.run-iterator.values ≡ length all)
-    × (take l.done l.out ++ truths_of l.run-iterator.values ≡ truths_of all)
+-- so much of C's room has truths
+abbrev pub invariant-loop-done : goal.invariant-loop-done
+invariant-loop-done l = (l.done ≤ l.count) × (take l.done l.out ≡ take l.done (truths_of (column_from l.txn l.col l.from)))
+
+abbrev pub decreases-loop-done : goal.decreases-loop-done
+decreases-loop-done l = l.count - l.done

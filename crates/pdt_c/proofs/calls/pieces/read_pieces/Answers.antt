@@ -5,7 +5,7 @@ use Rattle.model.specs.Table.{rows_of}
 use Rattle.stable.specs.Rows.{column_values}
 use Rattle.txn.specs.Txn.{image_of}
 use Rattle.merge.specs.Filling.{numbers_in}
-use Rattle.pdt_c.specs.Cells.{number_of, numbers_of}
+use Rattle.pdt_c.specs.Cells.{numbers_of}
 use Rattle.pdt_c.specs.Numbers.{has_numbers, column_between, numbers_between, AreShown}
 use Rattle.pdt_c.specs.declared.calls.pieces.Piece.{Piece}
 use Rattle.pdt_c.proofs.NumberLemmas.{handed, length-between, numbers_int, shown_more, take_cut}

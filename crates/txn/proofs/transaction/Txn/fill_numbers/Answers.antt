@@ -4,7 +4,9 @@ use Rattle.model.specs.Table.{rows_of}
 use Rattle.model.specs.Merging.{merged_rows}
 use Rattle.delta.specs.Tree.{Tree}
 use Rattle.stable.specs.Rows.{column_values}
+use Rattle.values.specs.Shape.{Columns}
 use Rattle.merge.specs.Image.{IsLayer, image_rows}
+use Rattle.merge.specs.Packed.{AreNumbersOf, type_at}
 use Rattle.txn.specs.Txn.{Transaction, transaction_at, image_of}
 use Rattle.txn.specs.Version.{table_version}
 use Rattle.txn.proofs.ReadsLemmas.{is_layer, image_rows_is}
@@ -35,6 +37,14 @@ returns-clause-count c =
 
 pub returns-clause-values : goal.returns-clause-values
 returns-clause-values c =
-    c.fill_numbers.ensures.values
-    ∙ ap (λ (rows : List Row). column_values c.args.col (take c.fill_numbers.result (drop c.args.from rows)))
+    let col = c.args.col in
+    let count = c.fill_numbers.result in
+    let filled = take count c.fill_numbers.new.out in
+    let ty = type_at c.args.self.now.schema col in
+    let same = c.layers-layers.ensures.schema ∙ ap (λ (t : Transaction). t.schema) c.self.view_is in
+    subst (λ (rows : List Row). AreNumbersOf ty (column_values col (take count (drop c.args.from rows))) filled)
     (shown (goal.at.returns-clause-values c).After-fill_numbers)
+    (subst
+    (λ (schema : Columns).
+    AreNumbersOf (type_at schema col) (column_values col (take count (drop c.args.from (image_rows c.layers-layers.result)))) filled) same
+    c.fill_numbers.ensures.values)
