@@ -23,6 +23,7 @@ mod syncs;
 mod tails;
 mod texts;
 mod transactions;
+mod truths;
 mod untouched;
 mod upkeep;
 mod wide;
@@ -109,10 +110,11 @@ pub struct Case {
     pub run: fn(&Size) -> Table,
 }
 
-pub const CASES: [Case; 28] = [
+pub const CASES: [Case; 29] = [
     Case { name: scans::NAME, run: scans::run },
     Case { name: untouched::NAME, run: untouched::run },
     Case { name: keys::NAME, run: keys::run },
+    Case { name: truths::NAME, run: truths::run },
     Case { name: texts::NAME, run: texts::run },
     Case { name: lookups::NAME, run: lookups::run },
     Case { name: writes::NAME, run: writes::run },
