@@ -1,5 +1,5 @@
-/* A Read-PDT that a fold packs for scans: when it does, and that pdt_ints reads what it read before, beside rows that lie in an
-   array: over each stack of layers, at each length, in transactions of before the fold and after it. */
+/* A Read-PDT that a fold packs for scans: when it does, and that pdt_ints and pdt_bools read what they read before, beside rows that lie
+   in an array: over each stack of layers, at each length, in transactions of before the fold and after it. */
 #include <pdt.h>
 #include <stdio.h>
 #include <stdlib.h>
@@ -23,6 +23,7 @@ static uint64_t drawn(uint64_t below) {
 enum { MOST = 20000, KEY = 0, FIRST = 1, NAME = 2, SECOND = 3, TRUTH = 4 };
 typedef struct {
   int64_t key, first, second;
+  uint8_t truth;
 } row;
 typedef struct {
   row rows[MOST];
@@ -58,8 +59,26 @@ static void reads(const char *what, pdt_txn *txn, const table *due, size_t colum
       return;
     }
 }
+/* The same of the column of truths, and as pdt_cells has them, which reads no packed entry. */
+static void reads_truths(const char *what, pdt_txn *txn, const table *due, uint64_t from, size_t room) {
+  static uint8_t truths[MOST + 1];
+  static int64_t cells[MOST];
+  size_t count = room, many = room, wanted = from >= due->count ? 0 : due->count - from < room ? due->count - from : room;
+  truths[room] = 77;
+  is(what, PDT_OK, pdt_bools(txn, TRUTH, from, truths, &count));
+  is(what, PDT_OK, pdt_cells(txn, TRUTH, from, cells, &many, NULL, 0, NULL));
+  is("how many truths", (long long)wanted, (long long)count);
+  is("how many cells", (long long)wanted, (long long)many);
+  is("nothing past the room", 77, truths[room]);
+  for (size_t i = 0; i < wanted && i < count && !failures; i++) {
+    is(what, due->rows[from + i].truth, truths[i]);
+    is("the cell of a truth", truths[i], cells[i]);
+  }
+}
 static void reads_all(const char *what, pdt_txn *txn, const table *due) {
   static const size_t columns[] = {KEY, FIRST, SECOND};
+  reads_truths(what, txn, due, 0, MOST);
+  for (int k = 0; k < 4; k++) reads_truths(what, txn, due, drawn(due->count + 2), drawn(1300));
   for (size_t i = 0; i < 3; i++) {
     reads(what, txn, due, columns[i], 0, MOST);
     for (int k = 0; k < 4; k++) reads(what, txn, due, columns[i], drawn(due->count + 2), drawn(300));
@@ -80,9 +99,10 @@ static void draw_write(pdt_txn *txn, table *on) {
     int64_t key = (int64_t)drawn(1000000), first = (int64_t)drawn(1u << 30) - (1 << 29), second = INT64_MIN + (int64_t)drawn(100);
     at = rank_of(on, key);
     if (on->count == MOST || (at < on->count && on->rows[at].key == key)) return;
-    is("insert", PDT_OK, pdt_insert(txn, (int64_t[]){key, first, 3, second, 1}, "Bob", 3));
+    uint8_t truth = (uint8_t)drawn(2);
+    is("insert", PDT_OK, pdt_insert(txn, (int64_t[]){key, first, 3, second, truth}, "Bob", 3));
     memmove(&on->rows[at + 1], &on->rows[at], (on->count - at) * sizeof(row));
-    on->rows[at] = (row){key, first, second};
+    on->rows[at] = (row){key, first, second, truth};
     on->count++;
   } else if (kind < 5) {
     is("delete", PDT_OK, pdt_delete(txn, &on->rows[at].key, NULL, 0));
@@ -97,7 +117,8 @@ static void draw_write(pdt_txn *txn, table *on) {
   } else if (kind < 9) {
     is("set", PDT_OK, pdt_set(txn, &on->rows[at].key, NULL, 0, NAME, 5, "Robin"));
   } else {
-    is("set", PDT_OK, pdt_set(txn, &on->rows[at].key, NULL, 0, TRUTH, (int64_t)drawn(2), NULL));
+    on->rows[at].truth = (uint8_t)drawn(2);
+    is("set", PDT_OK, pdt_set(txn, &on->rows[at].key, NULL, 0, TRUTH, on->rows[at].truth, NULL));
   }
 }
 
@@ -106,8 +127,8 @@ static pdt_store *opened(table *as, size_t rows) {
   static uint64_t ends[MOST + 1];
   static uint8_t truths[MOST], none[1];
   for (size_t i = 0; i < rows; i++) {
-    as->rows[i] = (row){(int64_t)i * 90 + 5, (int64_t)i, -(int64_t)i};
-    keys[i] = as->rows[i].key, firsts[i] = as->rows[i].first, seconds[i] = as->rows[i].second;
+    as->rows[i] = (row){(int64_t)i * 90 + 5, (int64_t)i, -(int64_t)i, i % 3 == 0 || i / 1024 == 1};
+    keys[i] = as->rows[i].key, firsts[i] = as->rows[i].first, seconds[i] = as->rows[i].second, truths[i] = as->rows[i].truth;
   }
   as->count = rows;
   pdt_column columns[] = {{"key", PDT_INT, rows, keys, NULL, NULL, 0},
@@ -163,6 +184,23 @@ static void beside_the_array(size_t rows, int rounds, size_t most) {
   is("close", PDT_OK, pdt_close(store));
 }
 
+/* One row in ten is changed, and they are read before a fold and after it. */
+static void one_in_ten(void) {
+  pdt_store *store = opened(&now, 10000);
+  pdt_txn *txn = begun(store);
+  for (int i = 0; i < 1000; i++) draw_write(txn, &now);
+  is("commit", PDT_OK, pdt_commit(txn, NULL));
+  txn = begun(store);
+  reads_all("one in ten, before the fold", txn, &now);
+  pdt_abort(txn);
+  is("fold", PDT_OK, pdt_fold(store));
+  is("it packed", 1, (long long)packs_of(store));
+  txn = begun(store);
+  reads_all("one in ten, after the fold", txn, &now);
+  pdt_abort(txn);
+  is("close", PDT_OK, pdt_close(store));
+}
+
 /* ---- when a fold packs */
 
 static void set_rows(pdt_store *store, int64_t from, int64_t to) {
@@ -207,6 +245,7 @@ static void when(void) {
 
 int main(void) {
   when();
+  one_in_ten();
   beside_the_array(3000, 60, 400);
   beside_the_array(0, 40, 600);
   beside_the_array(16500, 12, 3000); /* of three blocks */
