@@ -170,10 +170,12 @@ pdt_code pdt_table_create_csv(pdt_database *database, const char *name, const vo
   return code ? code : pdti_create_table(database, name, options, store, out);
 }
 
-/* Takes an entry out of the list, where nothing has begun over it: no work begins meanwhile. */
-static int take_out(pdt_database *database, size_t at) {
+/* Takes an entry out of the list, where nothing has begun over it: no work begins meanwhile. *number is that of the newest commit then:
+   none over the table comes after it. */
+static int take_out(pdt_database *database, size_t at, uint64_t *number) {
   lock_tables(database);
   bool is_used = pdti_is_used_now(database->tables[at]->store);
+  *number = database->newest;
   if (!is_used) memmove(database->tables + at, database->tables + at + 1, (--database->count - at) * sizeof *database->tables);
   unlock_tables(database);
   return is_used ? PDT_MISUSE : PDT_OK;
@@ -197,8 +199,12 @@ static int drop(pdt_database *database, const char *name) {
   uint64_t number = 0;
   int code = safe_number(database, &number);
   if (code) return code;
-  code = take_out(database, at);
+  code = take_out(database, at, &number);
   if (code) return code;
+  if (pdti_wait_until_safe(database, number)) {
+    put_back(database, at, entry);
+    return PDT_FAILED;
+  }
   code = pdti_write_manifest(database, number, NULL);
   if (code) {
     int why = errno;

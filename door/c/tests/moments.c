@@ -435,6 +435,31 @@ static void dropped(void) {
   closed(database);
 }
 
+/* A commit that comes while a drop waits for the device has a number that no other gets. */
+static void drops_late(void) {
+  pdt_database_options options = {.size = sizeof options, .sync = PDT_SYNC_NORMAL, .no_upkeep = true};
+  pdt_database *database = opened("drops-late", &options, NULL);
+  pdt_store *a = created(database, "a");
+  task one = {.store = a, .key = 0}, two = {.store = a, .key = 1}, dropper = {.database = database, .name = "a"};
+  start(&one, commits);
+  is("the first", PDT_OK, joined(&one));
+  hold_syncs();
+  start(&dropper, drops); /* waits for the first commit */
+  is("a sync", 1, comes(&syncs_begun, 1));
+  start(&two, commits);
+  is("the second", PDT_OK, joined(&two));
+  is("its number", 2, (long long)two.number);
+  let_syncs();
+  is("a drop", PDT_OK, joined(&dropper));
+  closed(database);
+  database = opened("drops-late", &options, NULL);
+  task three = {.store = created(database, "b")};
+  start(&three, commits);
+  is("the third", PDT_OK, joined(&three));
+  is("a number of its own", 3, (long long)three.number);
+  closed(database);
+}
+
 static void *keeps_up(void *context) {
   task *one = context;
   one->code = pdt_upkeep(one->database);
@@ -666,6 +691,7 @@ int main(int argc, char **argv) {
   prepared();
   tables();
   dropped();
+  drops_late();
   unsure();
   pauses();
   goes_on();
