@@ -14,6 +14,7 @@ mod columns;
 mod drawn;
 mod numbers;
 mod placed;
+mod truths;
 
 use crate::assertions::{assert_holds, assert_text, assert_text_at};
 use crate::shown::{row_text, rows_text};
@@ -126,11 +127,23 @@ fn make_layers(
     Ok((read, write, trans))
 }
 
-/// The rows under three transactions' writes.
+/// The rows of the base table's columns under three transactions' writes.
 fn stacked(alloc: Global, rows: &[Row], writes: [&[Write]; 3]) -> Result<Stack, Fail>
     ensures { IfOk result (λ made. AreStacked made.stable made.read.tree made.write.tree made.trans.tree) }
 {
-    let stable = StableTable::build(alloc, item_columns(alloc)?, copy_rows(alloc, rows)?)?;
+    stacked_with(alloc, item_columns(alloc)?, rows, writes)
+}
+
+/// The rows of these columns under three transactions' writes.
+fn stacked_with(
+    alloc: Global,
+    columns: Schema,
+    rows: &[Row],
+    writes: [&[Write]; 3],
+) -> Result<Stack, Fail>
+    ensures { IfOk result (λ made. AreStacked made.stable made.read.tree made.write.tree made.trans.tree) }
+{
+    let stable = StableTable::build(alloc, columns, copy_rows(alloc, rows)?)?;
     let schema = stable.schema();
     let table = OrderedTable::from_rows(alloc, schema.key_cols(), copy_rows(alloc, rows)?)?;
     let (read, write, trans) = make_layers(alloc, schema, &table, writes)?;

@@ -1,9 +1,9 @@
 //! The numbers of a column as they are filled, through a packed Read-PDT and through its tree, beside the rows that the plain program
-//! merges of the same entries.
+//! merges of the same entries. A truth's number is 1 or 0.
 ghost use Rattle.merge.specs.Image.{AreStacked};
 ghost use Rattle.std.specs.Prelude.{◌≡◌, IfSome, true};
 ghost use Rattle.std.specs.Option.{option_copied};
-ghost use Rattle.merge.specs.Packed.{IsNumberColumn, IsPacked};
+ghost use Rattle.merge.specs.Packed.{IsFixedWidthColumn, IsNumberColumn, IsPacked};
 
 use super::drawn::drawn_stack;
 use super::{Stack, written_stack};
@@ -15,7 +15,7 @@ use test_fixtures::{ItemWrite, item};
 use values::{ColumnType, NoMemory, Row, Schema, ValueRef};
 
 /// Positions to fill from, with the length of the room.
-static ROOMS: [(u64, usize); 9] = [
+pub(super) static ROOMS: [(u64, usize); 9] = [
     (0, 2_000),
     (0, 1),
     (1, 0),
@@ -28,7 +28,7 @@ static ROOMS: [(u64, usize); 9] = [
 ];
 
 /// Positions around the end of a block and the end of the rows, with the length of the room.
-static EDGES: [(u64, usize); 10] = [
+pub(super) static EDGES: [(u64, usize); 10] = [
     (0, 1_100),
     (1_017, 3),
     (1_018, 8),
@@ -41,10 +41,20 @@ static EDGES: [(u64, usize); 10] = [
     (1_099, 1),
 ];
 
+/// Whether this is the number of a cell.
+fn is_number_of(cell: ValueRef<'_>, number: i64) -> bool {
+    match cell {
+        ValueRef::Int(own) => own == number,
+        ValueRef::Bool(true) => number == 1,
+        ValueRef::Bool(false) => number == 0,
+        ValueRef::Text(_) => false,
+    }
+}
+
 /// Whether a row has the number in a column.
 fn has_number(row: Option<&Row>, col: usize, number: Option<&i64>) -> bool {
     match (row.and_then(|row| row.cells().get(col)), number) {
-        (Some(cell), Some(number)) => cell.as_ref() == ValueRef::Int(*number),
+        (Some(cell), Some(number)) => is_number_of(cell.as_ref(), *number),
         _ => false,
     }
 }
@@ -59,7 +69,7 @@ fn is_filled(
     room: &mut [i64],
 ) -> bool
     requires packed { IfSome (option_copied packed) (IsPacked layers.now.read) }
-    requires column { IsNumberColumn layers.now.schema col }
+    requires column { IsFixedWidthColumn layers.now.schema col }
 {
     let count = layers.fill_numbers(packed, col, from, room);
     let due = (rows.len() as u64)
@@ -122,7 +132,18 @@ fn is_of_numbers(schema: &Schema, col: usize) -> bool
     matches!(schema.types().get(col), Some(ColumnType::Int))
 }
 
-/// That each room is filled with the numbers of each column that has numbers, that its runs have them too, and that two columns have some.
+/// Whether a column is one of numbers or of truths.
+fn is_fixed_width(schema: &Schema, col: usize) -> bool
+    ensures { result ≡ true → IsFixedWidthColumn schema.now col }
+{
+    matches!(
+        schema.types().get(col),
+        Some(ColumnType::Int | ColumnType::Bool)
+    )
+}
+
+/// That each room is filled with the numbers of each column that has numbers or truths, which is each but one at most, and that the runs
+/// of one of numbers have them too.
 fn assert_filled(
     rt: &impl Abort,
     layers: &Layers<'_>,
@@ -135,21 +156,25 @@ fn assert_filled(
 {
     let mut columns = 0_usize;
     for col in 0..layers.schema().width() {
-        if is_of_numbers(layers.schema(), col) {
+        if is_fixed_width(layers.schema(), col) {
             columns = columns.wrapping_add(1);
             for (from, len) in rooms {
                 let len = (*len).min(room.len());
                 assert!(rt; is_filled(layers, packed, rows, col, *from, &mut room[..len]));
-                let to = from.saturating_add(len as u64);
+            }
+        }
+        if is_of_numbers(layers.schema(), col) {
+            for (from, len) in rooms {
+                let to = from.saturating_add(*len as u64);
                 assert!(rt; has_runs(layers, packed, rows, col, *from, to));
             }
         }
     }
-    assert!(rt; columns == 2);
+    assert!(rt; layers.schema().width() <= columns.wrapping_add(1));
 }
 
 /// That the numbers of the image are filled so, and those of the image with no transaction on top.
-fn assert_numbers(
+pub(super) fn assert_numbers(
     rt: &impl Abort,
     alloc: Global,
     stack: &Stack,

@@ -2,7 +2,7 @@ use Rattle.std.proofs.Common.{◌∙◌, sym, ap}
 use Rattle.stable.specs.Stable.{Stable}
 use Rattle.values.specs.Shape.{Columns}
 use Rattle.test_snapshots.proofs.LayerLemmas.{are_stacked, same_table}
-use Rattle.test_snapshots.proofs.images.stacked.Goals as goal
+use Rattle.test_snapshots.proofs.images.stacked_with.Goals as goal
 
 pub returns : goal.returns
 returns c =
