@@ -4,7 +4,7 @@ mod Heads
 mod InPlace
 mod Leaves
 mod Paths
-mod PathStepsLemmas
+mod BranchesLemmas
 mod Places
 mod Runs
 mod Searches

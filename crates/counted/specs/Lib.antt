@@ -5,7 +5,7 @@ pub mod Grown
 pub mod Heads
 pub mod Falls
 pub mod Paths
-pub mod PathSteps
+pub mod Branches
 pub mod Roots
 pub mod Search
 pub mod Shapes

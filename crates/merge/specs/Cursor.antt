@@ -10,8 +10,8 @@ use Rattle.model.specs.Merging.{merged_rows, merged_rows_from}
 use Rattle.delta.specs.Tree.{Tree}
 use Rattle.merge.specs.Level.{IsOver}
 use Rattle.merge.specs.View.{layer_cells}
-use Rattle.merge.specs.declared.cursor.Step.{Step}
-use Rattle.merge.specs.declared.cursor.Step.TheVariants.{Inserted, Modified, Kept}
+use Rattle.merge.specs.declared.cursor.Next.{Next}
+use Rattle.merge.specs.declared.cursor.Next.TheVariants.{Inserted, Modified, Kept}
 
 -- how many entries of a tree are passed, and the base row that is next
 pub record TreeCursor : Type 0 where
@@ -99,7 +99,7 @@ pub record KeepsNext (most n : ℕ) (c : TreeCursor) : Type 0 where
   pub cursor : (k count : ℕ) → k ≤ n → IsCursor (k + count) c → IsCursor count (moved k c)
 
 -- what a step passes
-abbrev pub StepGives : ℕ → TreeCursor → Step → TreeCursor → Type 0
+abbrev pub StepGives : ℕ → TreeCursor → Next → TreeCursor → Type 0
 StepGives most old (Inserted row) new = InsertsNext row.now old new
 StepGives most old (Modified modifies) new = ModifiesNext (layer_cells modifies) old new
 StepGives most old (Kept n) new = KeepsNext most n old × (new ≡ old)

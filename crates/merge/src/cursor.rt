@@ -43,7 +43,7 @@ impl<'a> Model for Cursor<'a> {
 }
 
 /// What comes next in the image of a tree.
-pub(crate) enum Step<'a> {
+pub(crate) enum Next<'a> {
     /// A row that the tree inserts.
     Inserted(&'a SharedRow),
     /// The next base row, of which the tree modifies this.
@@ -140,26 +140,26 @@ impl<'a> Cursor<'a> {
     /// Goes past what comes next, where that isn't a deleted row, or tells how many base rows stand as they are: at most so
     /// many.
     #[inline(always)]
-    pub(crate) fn step(&mut self, most: u64) -> Step<'a>
+    pub(crate) fn step(&mut self, most: u64) -> Next<'a>
         requires is { (count : ℕ) × IsCursor count self.old }
         requires undeleted { DeletesNone self.old }
         ensures tree { self.new.tree ≡ self.old.tree }
         ensures step { StepGives most self.old result self.new }
     {
         match self.next_entry() {
-            None => Step::Kept(most),
+            None => Next::Kept(most),
             Some(entry) => {
                 let sid = self.sid();
                 let at = entry.sid();
                 if at > sid {
-                    return Step::Kept(most.min(at - sid));
+                    return Next::Kept(most.min(at - sid));
                 }
                 match entry.change() {
                     ChangeRef::Ins(row) => {
                         self.advance();
-                        Step::Inserted(row)
+                        Next::Inserted(row)
                     }
-                    ChangeRef::Del(_) | ChangeRef::Mod(..) => Step::Modified(self.pass_modifies(
+                    ChangeRef::Del(_) | ChangeRef::Mod(..) => Next::Modified(self.pass_modifies(
                         entry,
                     )),
                 }

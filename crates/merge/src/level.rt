@@ -16,7 +16,7 @@ ghost use Rattle.merge.specs.Left.{stable_left};
 ghost use Rattle.merge.specs.Parts.{HasFirst, PassesPart, PassesRow, part_count};
 ghost use Rattle.merge.specs.declared.stretch.Stretch.TheVariants.{Stable};
 
-use crate::cursor::{Cursor, Step};
+use crate::cursor::{Cursor, Next};
 use crate::part::Part;
 use crate::stretch::{StableStretch, Stretch};
 use crate::view::{Layer, RowView};
@@ -182,12 +182,12 @@ impl<'a, B: Rows<'a> + Drop> Rows<'a> for Level<'a, B> {
     fn next_stretch(&mut self, most: u64) -> Stretch<'a> {
         self.skip_deleted();
         match self.cursor.step(most) {
-            Step::Inserted(row) => Stretch::Row(RowView::inserted(row)),
-            Step::Modified(modifies) => {
+            Next::Inserted(row) => Stretch::Row(RowView::inserted(row)),
+            Next::Modified(modifies) => {
                 let view = self.below.next_stretch(1).first();
                 Stretch::Row(view.modified_in(self.layer, modifies))
             }
-            Step::Kept(count) => {
+            Next::Kept(count) => {
                 let stretch = self.below.next_stretch(count);
                 self.cursor.pass(stretch.count());
                 stretch
@@ -199,15 +199,15 @@ impl<'a, B: Rows<'a> + Drop> Rows<'a> for Level<'a, B> {
     fn next_part(&mut self, col: usize, most: u64) -> Part<'a> {
         self.skip_deleted();
         match self.cursor.step(most) {
-            Step::Inserted(row) => Part::Value(row.cells()[col].as_ref()),
-            Step::Modified(modifies) => match modifies.value(col) {
+            Next::Inserted(row) => Part::Value(row.cells()[col].as_ref()),
+            Next::Modified(modifies) => match modifies.value(col) {
                 Some(value) => {
                     self.below.pass_row();
                     Part::Value(value)
                 }
                 None => self.below.next_part(col, 1),
             },
-            Step::Kept(count) => {
+            Next::Kept(count) => {
                 let part = self.below.next_part(col, count);
                 self.cursor.pass(part.count());
                 part
@@ -219,9 +219,9 @@ impl<'a, B: Rows<'a> + Drop> Rows<'a> for Level<'a, B> {
     fn pass_row(&mut self) {
         self.skip_deleted();
         match self.cursor.step(1) {
-            Step::Inserted(_) => {}
-            Step::Modified(_) => self.below.pass_row(),
-            Step::Kept(_) => {
+            Next::Inserted(_) => {}
+            Next::Modified(_) => self.below.pass_row(),
+            Next::Kept(_) => {
                 self.below.pass_row();
                 self.cursor.pass(1);
             }

@@ -12,7 +12,7 @@ ghost use Rattle.merge.specs.Packed.{is_fixed_width, number_of};
 ghost use Rattle.merge.specs.Parts.{PassesRow};
 ghost use Rattle.merge.specs.Runs.{IsRun, run_values};
 
-use crate::cursor::Step;
+use crate::cursor::Next;
 use crate::level::{Level, StableRows};
 use crate::number_runs::NumberRun;
 use crate::packed::{number_in, number_of};
@@ -210,11 +210,11 @@ impl<'a, B: Numbers<'a> + Drop> Numbers<'a> for Level<'a, B> {
     fn fill_next(&mut self, col: usize, out: &mut [i64]) -> usize {
         self.pass_deleted();
         match self.cursor.step(out.len() as u64) {
-            Step::Inserted(row) => {
+            Next::Inserted(row) => {
                 out[0] = number_in(row, col);
                 1
             }
-            Step::Modified(modifies) => {
+            Next::Modified(modifies) => {
                 match modifies.value(col) {
                     Some(value) => {
                         self.below.skip_row();
@@ -224,7 +224,7 @@ impl<'a, B: Numbers<'a> + Drop> Numbers<'a> for Level<'a, B> {
                 }
                 1
             }
-            Step::Kept(count) => {
+            Next::Kept(count) => {
                 fill(&mut self.below, col, &mut out[..count as usize]);
                 self.cursor.pass(count);
                 count as usize
@@ -236,15 +236,15 @@ impl<'a, B: Numbers<'a> + Drop> Numbers<'a> for Level<'a, B> {
     fn next_run(&mut self, col: usize, most: usize) -> NumberRun<'a> {
         self.pass_deleted();
         match self.cursor.step(most as u64) {
-            Step::Inserted(row) => NumberRun::One(number_in(row, col)),
-            Step::Modified(modifies) => match modifies.value(col) {
+            Next::Inserted(row) => NumberRun::One(number_in(row, col)),
+            Next::Modified(modifies) => match modifies.value(col) {
                 Some(value) => {
                     self.below.skip_row();
                     NumberRun::One(number_of(value))
                 }
                 None => self.below.next_run(col, 1),
             },
-            Step::Kept(count) => {
+            Next::Kept(count) => {
                 let run = self.below.next_run(col, count as usize);
                 self.cursor.pass(run.len() as u64);
                 run
@@ -256,9 +256,9 @@ impl<'a, B: Numbers<'a> + Drop> Numbers<'a> for Level<'a, B> {
     fn skip_row(&mut self) {
         self.pass_deleted();
         match self.cursor.step(1) {
-            Step::Inserted(_) => {}
-            Step::Modified(_) => self.below.skip_row(),
-            Step::Kept(_) => {
+            Next::Inserted(_) => {}
+            Next::Modified(_) => self.below.skip_row(),
+            Next::Kept(_) => {
                 self.below.skip_row();
                 self.cursor.pass(1);
             }

@@ -1,7 +1,7 @@
 //! The way down to the leaf of an edit, by which new nodes are made up to the root.
 ghost use Rattle.std.specs.Prelude.{◌≡◌, ◌+◌, ◌^◌, ◌<◌, ◌≤◌, IfOk, length};
 ghost use Rattle.counted.specs.Grown.{IsGrown, grown_items};
-ghost use Rattle.counted.specs.PathSteps.{AreSteps, IsPath, around, least_width};
+ghost use Rattle.counted.specs.Branches.{AreBranches, IsPath, around, least_width};
 ghost use Rattle.counted.specs.Trees.{IsRoot};
 
 use crate::SharedEntry;
@@ -12,9 +12,9 @@ use crate::node::{Body, Child, Node};
 use smallvec::SmallVec;
 use std::alloc::{AllocError, Global};
 
-/// A step down: the children of a node, and the index of the one that was gone into.
+/// A branch taken: the children of a node, and the index of the one that was gone into.
 #[derive(Clone, Copy, Default)]
-struct Step<'a> {
+struct Branch<'a> {
     children: &'a [Child],
     index: usize,
 }
@@ -23,7 +23,7 @@ struct Step<'a> {
 #[derive(Drop)]
 pub(crate) struct Path<'a> {
     /// From the node down to the leaf's parent. There is room for those of the deepest tree, so that they take no memory.
-    steps: SmallVec<Step<'a>, 21>,
+    branches: SmallVec<Branch<'a>, 21>,
     pub(crate) leaf: &'a [SharedEntry],
     /// How many entries of the leaf the path was made for.
     pub(crate) end: usize,
@@ -38,14 +38,18 @@ impl Node {
         ensures { IsPath self.now end result }
     {
         self.levels();
-        let mut steps = SmallVec::new(alloc);
+        let mut branches = SmallVec::new(alloc);
         let (mut node, mut end) = (self, end);
         loop {
             match &node.body {
-                Body::Leaf(leaf) => return Path { steps, leaf, end },
+                Body::Leaf(leaf) => return Path {
+                    branches,
+                    leaf,
+                    end,
+                },
                 Body::Inner(children) => {
                     let (index, rest) = child_at(children, end);
-                    steps.push_reserved(Step { children, index });
+                    branches.push_reserved(Branch { children, index });
                     node = &children[index].node;
                     end = rest;
                 }
@@ -58,15 +62,15 @@ impl<'a> Path<'a> {
     /// What the node at the head of the path grows to where its leaf has grown to this: on each level, from the leaf's parent
     /// up, a new node over what the child became.
     pub(crate) fn grown(self, alloc: Global, leaf: Grown) -> Result<Grown, AllocError>
-        requires steps { AreSteps 1 2 self.steps.items }
-        requires leaf { IsGrown 1 (least_width self.steps.items) (grown_items leaf) leaf }
-        requires few { length (around self.steps.items (grown_items leaf)) ≤ 2 ^ 61 }
-        ensures { IfOk result (IsGrown (1 + length self.entry.steps.items) 0 (around self.entry.steps.items (grown_items leaf))) }
+        requires branches { AreBranches 1 2 self.branches.items }
+        requires leaf { IsGrown 1 (least_width self.branches.items) (grown_items leaf) leaf }
+        requires few { length (around self.branches.items (grown_items leaf)) ≤ 2 ^ 61 }
+        ensures { IfOk result (IsGrown (1 + length self.entry.branches.items) 0 (around self.entry.branches.items (grown_items leaf))) }
     {
-        let Path { mut steps, .. } = self;
+        let Path { mut branches, .. } = self;
         let mut grown = leaf;
-        while let Some(step) = steps.pop() {
-            grown = grown_inner(replaced(alloc, step.children, step.index, grown)?)?;
+        while let Some(branch) = branches.pop() {
+            grown = grown_inner(replaced(alloc, branch.children, branch.index, grown)?)?;
         }
         Ok(grown)
     }

@@ -5,7 +5,7 @@ use Rattle.model.specs.declared.entry.Entry.{Entry}
 use Rattle.counted.specs.Edits.{edited, put_items}
 use Rattle.counted.specs.Grown.{grown_items}
 use Rattle.counted.proofs.Leaves.{gone_within, put_items-le}
-use Rattle.counted.proofs.PathStepsLemmas.{edited_along}
+use Rattle.counted.proofs.BranchesLemmas.{edited_along}
 use Rattle.counted.proofs.Places.{length-edited}
 use Rattle.counted.proofs.node.Node.edited_root.Goals as goal
 

@@ -1,13 +1,13 @@
 use Rattle.std.proofs.Common.{ap, arith, length, refl, ◌∙◌}
 use Rattle.counted.specs.Shapes.{all_items}
-use Rattle.counted.proofs.PathStepsLemmas.{at_end, begun, goes_down}
+use Rattle.counted.proofs.BranchesLemmas.{at_end, begun, goes_down}
 use Rattle.counted.proofs.Places.{at_inner, at_leaf}
 use Rattle.counted.proofs.node.Node.path_to.Goals as goal
 
 pub loop-node-init : goal.loop-node-init
 loop-node-init c = record {
-  capacity = omega (arith, c.new-steps.ensures.capacity);
-  along = begun c.args.self.now c.args.end _ c.new-steps.ensures.items c.requires.root c.levels.ensures c.requires.within c.requires.few;
+  capacity = omega (arith, c.new-branches.ensures.capacity);
+  along = begun c.args.self.now c.args.end _ c.new-branches.ensures.items c.requires.root c.levels.ensures c.requires.within c.requires.few;
 }
 
 pub returns-in-Leaf : goal.returns-in-Leaf
