@@ -19,9 +19,9 @@ use Rattle.merge.specs.Cursor.{TreeCursor, InsertsNext, IsCursor, ModifiesNext, 
 use Rattle.merge.specs.Filling.{FillsRows, HaveValues, IsWide}
 use Rattle.merge.specs.Fitting.{StandsAt}
 use Rattle.merge.specs.Packed.{AreNumbersOf, number_at, number_of}
-use Rattle.merge.specs.Parts.{PassesRow}
+use Rattle.merge.specs.ColumnStretches.{PassesRow}
 use Rattle.merge.specs.View.{last_cell}
-use Rattle.merge.proofs.PartLemmas.{over_next, value-cell, value_or_false}
+use Rattle.merge.proofs.ColumnStretchLemmas.{over_next, value-cell, value_or_false}
 use Rattle.merge.proofs.StretchLemmas.{take_append}
 use Rattle.merge.proofs.ViewLemmas.{or_else, slice_get-set_cells}
 

@@ -16,7 +16,7 @@ use Rattle.model.specs.Merging.{changes_at, inserted_rows, left_of, merged_rows,
 use Rattle.merge.specs.Image.{Stack, image_rows, read_rows, write_rows}
 use Rattle.merge.specs.Laws.{Alter, Keeps, AMergeCommutes, APlaceholderIsEnough, AlteredEntriesAreOrdered}
 use Rattle.merge.specs.Laws.{altered_change, altered_entry, altered_from, altered_row, altered_stack}
-use Rattle.merge.specs.Parts.{column_cells}
+use Rattle.merge.specs.ColumnStretches.{column_cells}
 
 module _ (f : Alter) where
   -- ---- a merge

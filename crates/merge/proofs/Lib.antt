@@ -16,7 +16,7 @@ mod LawsLemmas
 mod KeyLemmas
 mod TableLemmas
 mod RunLemmas
-mod PartLemmas
+mod ColumnStretchLemmas
 mod ColumnsLemmas
 mod BetweenLemmas
 mod KeyRowLemmas

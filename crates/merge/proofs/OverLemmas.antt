@@ -4,7 +4,7 @@ use Rattle.std.proofs.Common.{length-append}
 use Rattle.values.specs.declared.row.Row.{Row}
 use Rattle.model.specs.Effects.{Cells, set_cells}
 use Rattle.merge.specs.Cursor.{TreeCursor, IsCursor, InsertsNext, KeepsNext, ModifiesNext, moved, rows_left}
-use Rattle.merge.specs.Parts.{PassesRow}
+use Rattle.merge.specs.ColumnStretches.{PassesRow}
 use Rattle.merge.specs.Stretches.{PassesOver, stretch_over, stretch_rows}
 use Rattle.merge.specs.View.{row_over}
 use Rattle.merge.specs.declared.stretch.Stretch.{Stretch}

@@ -18,7 +18,7 @@ use Rattle.merge.specs.Filling.{KeepsModified, modified_by, modified_rows, modif
 use Rattle.merge.specs.Filling.{patches_before, patches_from, starts_with_insert}
 use Rattle.merge.specs.Level.{IsOver, stands_within}
 use Rattle.merge.specs.PackedLeft.{changes_left, count_before, count_passed}
-use Rattle.merge.specs.Parts.{PassesRow}
+use Rattle.merge.specs.ColumnStretches.{PassesRow}
 use Rattle.merge.specs.Packed.{patch_at, patches_in, place_of, row_changes_from, rows_after, rows_in, with_first}
 use Rattle.merge.specs.declared.packed.Patch.{Patch}
 use Rattle.merge.specs.declared.packed.RowChange.{RowChange}

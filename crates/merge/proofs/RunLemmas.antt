@@ -15,13 +15,13 @@ use Rattle.model.proofs.CallerLemmas.{first, second}
 use Rattle.stable.specs.Rows.{column_values}
 use Rattle.stable.proofs.CallerLemmas.{fit_at, width_of}
 use Rattle.merge.specs.Fitting.{StandsAt}
-use Rattle.merge.specs.Runs.{part_values}
-use Rattle.merge.specs.declared.run.ColumnPart.{ColumnPart}
+use Rattle.merge.specs.Runs.{range_values}
+use Rattle.merge.specs.declared.run.ColumnRange.{ColumnRange}
 
 -- the first of so many values, and the others
-pub part_next : (values : List Value) (first count n : ℕ) → n ≤ count
+pub range_next : (values : List Value) (first count n : ℕ) → n ≤ count
     → take count (drop first values) ≡ take n (drop first values) ++ take (count - n) (drop (first + n) values)
-part_next values first count n le =
+range_next values first count n le =
     let is : count ≡ n + (count - n) = omega (arith, le) in
     ap (λ m. take m (drop first values)) is
     ∙ take-add n (count - n) (drop first values)
@@ -37,13 +37,13 @@ run_mapped f xs values first count n is same =
 
 -- ---- the next stretch, where nothing is left of the one before
 
-pub nothing_left : (part : ColumnPart) → part.count ≤ 0 → part_values part ≡ []
-nothing_left part none = let is : part.count ≡ 0 = omega (arith, none) in ap (λ n. take n (drop part.first part.column.now.values)) is
+pub nothing_left : (range : ColumnRange) → range.count ≤ 0 → range_values range ≡ []
+nothing_left range none = let is : range.count ≡ 0 = omega (arith, none) in ap (λ n. take n (drop range.first range.column.now.values)) is
 
-pub values_next : (col : ℕ) (part : ColumnPart) (own rest all : List Row) (values : List Value) → part.count ≤ 0 → all ≡ own ++ rest
-    → values ≡ column_values col own → part_values part ++ column_values col all ≡ values ++ column_values col rest
-values_next col part own rest all values none is own_are =
-    ap (λ vs. vs ++ column_values col all) (nothing_left part none)
+pub values_next : (col : ℕ) (range : ColumnRange) (own rest all : List Row) (values : List Value) → range.count ≤ 0 → all ≡ own ++ rest
+    → values ≡ column_values col own → range_values range ++ column_values col all ≡ values ++ column_values col rest
+values_next col range own rest all values none is own_are =
+    ap (λ vs. vs ++ column_values col all) (nothing_left range none)
     ∙ ap (column_values col) is
     ∙ map-append (λ (row : Row). get_or row col (Truth false)) own rest
     ∙ ap (λ vs. vs ++ column_values col rest) (sym own_are)

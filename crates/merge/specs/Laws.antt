@@ -8,7 +8,7 @@ use Rattle.model.specs.declared.entry.Change.TheVariants.{Ins, Del, Mod}
 use Rattle.model.specs.Entries.{are_ordered}
 use Rattle.model.specs.Merging.{merged_rows}
 use Rattle.merge.specs.Image.{Stack, image_rows}
-use Rattle.merge.specs.Parts.{column_cells}
+use Rattle.merge.specs.ColumnStretches.{column_cells}
 
 -- what becomes of each value of a column
 abbrev pub Alter : Type 0

@@ -11,7 +11,7 @@ pub mod Fitting
 pub mod KeyRow
 pub mod Columns
 pub mod Runs
-pub mod Parts
+pub mod ColumnStretches
 pub mod Packed
 pub mod Filling
 pub mod PackedLeft

@@ -9,7 +9,7 @@ use Rattle.values.specs.declared.value.Value.TheVariants.{Int, Text, Bool as Tru
 use Rattle.blocks.specs.Column.{Column}
 use Rattle.merge.specs.declared.run.Run.{Run}
 use Rattle.merge.specs.declared.run.Run.TheVariants.{Ints, Texts, Truths, Value as One}
-use Rattle.merge.specs.declared.run.ColumnPart.{ColumnPart}
+use Rattle.merge.specs.declared.run.ColumnRange.{ColumnRange}
 
 -- the values of a run
 abbrev pub run_values : Run → List Value
@@ -31,6 +31,6 @@ YieldsRun old result new =
     MatchOption result ((old.values ≡ []) × (new ≡ old))
     (λ run. (old ≡ record { ty = new.ty; values = run_values run ++ new.values }) × (0 < length (run_values run)) × IsRun new.ty run)
 
--- the values of a part of a column
-abbrev pub part_values : ColumnPart → List Value
-part_values part = take part.count (drop part.first part.column.now.values)
+-- the values of a range of a column
+abbrev pub range_values : ColumnRange → List Value
+range_values range = take range.count (drop range.first range.column.now.values)

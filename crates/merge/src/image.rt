@@ -3,10 +3,10 @@ ghost use Rattle.std.specs.Prelude.{◌≡◌, ◌<◌, ◌≤◌, List, ◌++�
 ghost use Rattle.values.specs.declared.row.Row.{Row as Cells};
 ghost use Rattle.merge.specs.Left.{AreAlike, AreCursors, image_left, image_over};
 ghost use Rattle.merge.specs.Stretches.{IsStretch, PassesOver, stretch_rows};
-ghost use Rattle.merge.specs.Parts.{HasFirst, PassesPart, part_count};
+ghost use Rattle.merge.specs.ColumnStretches.{HasFirst, PassesColumn, value_count};
 
+use crate::column_stretch::ColumnStretch;
 use crate::level::{Level, Rows, StableRows};
-use crate::part::Part;
 use crate::stretch::Stretch;
 
 /// The rows under the Read- and the Write-PDT.
@@ -41,18 +41,18 @@ impl<'a> Image<'a> {
     }
     /// The next values of a column that come from one place: at least one, and at most so many.
     #[inline(always)]
-    pub(crate) fn next_part(&mut self, col: usize, most: u64) -> Part<'a>
+    pub(crate) fn next_of_column(&mut self, col: usize, most: u64) -> ColumnStretch<'a>
         requires cursors { AreCursors self.old }
         requires some { 0 < most }
         requires most { most ≤ length (image_left self.old) }
         requires first { HasFirst col (image_left self.old) }
-        ensures part { PassesPart col (image_left self.old) result (image_left self.new) }
-        ensures most { part_count result ≤ most }
+        ensures values { PassesColumn col (image_left self.old) result (image_left self.new) }
+        ensures most { value_count result ≤ most }
         ensures cursors { AreCursors self.new }
     {
         match self {
-            Image::Committed(rows) => rows.next_part(col, most),
-            Image::Own(rows) => rows.next_part(col, most),
+            Image::Committed(rows) => rows.next_of_column(col, most),
+            Image::Own(rows) => rows.next_of_column(col, most),
         }
     }
 }

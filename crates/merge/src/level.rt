@@ -13,18 +13,18 @@ ghost use Rattle.merge.specs.Cursor.{IsCursor, DeletesNone, rows_left};
 ghost use Rattle.merge.specs.View.{layer_number};
 ghost use Rattle.merge.specs.Stretches.{IsStableStretch, IsStretch, PassesOver, stretch_rows};
 ghost use Rattle.merge.specs.Left.{stable_left};
-ghost use Rattle.merge.specs.Parts.{HasFirst, PassesPart, PassesRow, part_count};
+ghost use Rattle.merge.specs.ColumnStretches.{HasFirst, PassesColumn, PassesRow, value_count};
 ghost use Rattle.merge.specs.declared.stretch.Stretch.TheVariants.{Stable};
 
+use crate::column_stretch::ColumnStretch;
 use crate::cursor::{Cursor, Next};
-use crate::part::Part;
 use crate::stretch::{StableStretch, Stretch};
 use crate::view::{Layer, RowView};
 use delta::{DeltaTree, Sought};
 use stable::StableTable;
 use values::Value;
 
-/// Rows that are left, handed out stretch by stretch, or one column of them part by part.
+/// Rows that are left, handed out stretch by stretch, or one column of them stretch by stretch.
 pub(crate) trait Rows<'a> {
     /// The rows that are left.
     ghost rows: { Self → List Cells };
@@ -55,13 +55,13 @@ pub(crate) trait Rows<'a> {
         ensures sound { is_sound self.new };
 
     /// The next values of a column that come from one place: at least one, and at most so many. No row is made on the way.
-    fn next_part(&mut self, col: usize, most: u64) -> Part<'a>
+    fn next_of_column(&mut self, col: usize, most: u64) -> ColumnStretch<'a>
         requires sound { is_sound self.old }
         requires some { 0 < most }
         requires most { most ≤ length (rows self.old) }
         requires first { HasFirst col (rows self.old) }
-        ensures part { PassesPart col (rows self.old) result (rows self.new) }
-        ensures most { part_count result ≤ most }
+        ensures values { PassesColumn col (rows self.old) result (rows self.new) }
+        ensures most { value_count result ≤ most }
         ensures depth { depth self.new ≡ depth self.old }
         ensures sound { is_sound self.new };
 
@@ -124,8 +124,8 @@ impl<'a> Rows<'a> for StableRows<'a> {
     }
 
     #[inline(always)]
-    fn next_part(&mut self, _col: usize, most: u64) -> Part<'a> {
-        Part::Stable(self.next_rows(most))
+    fn next_of_column(&mut self, _col: usize, most: u64) -> ColumnStretch<'a> {
+        ColumnStretch::Stable(self.next_rows(most))
     }
 
     #[inline(always)]
@@ -196,21 +196,21 @@ impl<'a, B: Rows<'a> + Drop> Rows<'a> for Level<'a, B> {
     }
 
     #[inline(always)]
-    fn next_part(&mut self, col: usize, most: u64) -> Part<'a> {
+    fn next_of_column(&mut self, col: usize, most: u64) -> ColumnStretch<'a> {
         self.skip_deleted();
         match self.cursor.step(most) {
-            Next::Inserted(row) => Part::Value(row.cells()[col].as_ref()),
+            Next::Inserted(row) => ColumnStretch::Value(row.cells()[col].as_ref()),
             Next::Modified(modifies) => match modifies.value(col) {
                 Some(value) => {
                     self.below.pass_row();
-                    Part::Value(value)
+                    ColumnStretch::Value(value)
                 }
-                None => self.below.next_part(col, 1),
+                None => self.below.next_of_column(col, 1),
             },
             Next::Kept(count) => {
-                let part = self.below.next_part(col, count);
-                self.cursor.pass(part.count());
-                part
+                let values = self.below.next_of_column(col, count);
+                self.cursor.pass(values.count());
+                values
             }
         }
     }

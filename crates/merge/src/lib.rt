@@ -9,6 +9,7 @@
 //! *What it stands on.* `stable` for the rows, `delta` for the trees, `model` for what merged rows are.
 #![tactic(auto)]
 
+mod column_stretch;
 mod cursor;
 mod image;
 mod key_row;
@@ -20,7 +21,6 @@ mod numbered_rows;
 mod numbers;
 mod packed;
 mod packed_rows;
-mod part;
 mod placed;
 mod read_rows;
 mod read_tree;

@@ -9,14 +9,14 @@ ghost use Rattle.values.specs.declared.value.ColumnType.TheVariants as column;
 ghost use Rattle.merge.specs.Cursor.{DeletesNone, IsCursor, rows_left};
 ghost use Rattle.merge.specs.Filling.{FillsRows, HaveValues, IsWide, numbers_in};
 ghost use Rattle.merge.specs.Packed.{is_fixed_width, number_of};
-ghost use Rattle.merge.specs.Parts.{PassesRow};
+ghost use Rattle.merge.specs.ColumnStretches.{PassesRow};
 ghost use Rattle.merge.specs.Runs.{IsRun, run_values};
 
 use crate::cursor::Next;
 use crate::level::{Level, StableRows};
 use crate::number_runs::NumberRun;
 use crate::packed::{number_in, number_of};
-use crate::run::{ColumnPart, Run};
+use crate::run::{ColumnRange, Run};
 use crate::stretch::StableStretch;
 
 /// Rows that are left, of which the numbers of a column are handed out.
@@ -95,7 +95,7 @@ impl<'a> Numbers<'a> for StableRows<'a> {
             sid: self.sid,
             len: out.len() as u64,
         };
-        let run = ColumnPart::of_stretch(stretch, col).next_run();
+        let run = ColumnRange::of_stretch(stretch, col).next_run();
         let count = put_run(run, out);
         self.sid += count as u64;
         count
@@ -131,7 +131,7 @@ impl<'a> StableRows<'a> {
             sid: self.sid,
             len: most as u64,
         };
-        let run = ColumnPart::of_stretch(stretch, col).next_run();
+        let run = ColumnRange::of_stretch(stretch, col).next_run();
         let numbers = run_of_numbers(run);
         self.sid += numbers.len() as u64;
         numbers

@@ -5,7 +5,7 @@ ghost use Rattle.values.specs.declared.value.ColumnType.{ColumnType};
 ghost use Rattle.values.specs.declared.limits.TheConstants.{MAX_BLOCK_VALUES};
 ghost use Rattle.stable.specs.Rows.{column_values};
 ghost use Rattle.merge.specs.Fitting.{StandsAt};
-ghost use Rattle.merge.specs.Runs.{IsRun, part_values, run_values};
+ghost use Rattle.merge.specs.Runs.{IsRun, range_values, run_values};
 ghost use Rattle.merge.specs.Stretches.{IsStableStretch, stretch_rows};
 ghost use Rattle.merge.specs.declared.stretch.Stretch.TheVariants.{Stable};
 
@@ -46,18 +46,18 @@ pub enum Run<'a> {
 
 /// So many values of a column, from one of them on.
 #[derive(Clone, Copy)]
-pub(crate) struct ColumnPart<'a> {
+pub(crate) struct ColumnRange<'a> {
     pub(crate) column: &'a Column,
     pub(crate) first: usize,
     pub(crate) count: usize,
 }
 
-impl<'a> ColumnPart<'a> {
+impl<'a> ColumnRange<'a> {
     /// The values of a stretch's rows in a column that its table has.
-    pub(crate) fn of_stretch(stretch: StableStretch<'a>, col: usize) -> ColumnPart<'a>
+    pub(crate) fn of_stretch(stretch: StableStretch<'a>, col: usize) -> ColumnRange<'a>
         requires is { IsStableStretch stretch }
         requires stand { (ty : ColumnType) × All (StandsAt ty col) (stretch_rows (Stable stretch)) }
-        ensures values { part_values result ≡ column_values col (stretch_rows (Stable stretch.entry)) }
+        ensures values { range_values result ≡ column_values col (stretch_rows (Stable stretch.entry)) }
         ensures typed { (ty : ColumnType) → All (StandsAt ty col) (stretch_rows (Stable stretch.entry)) → result.column.now.ty ≡ ty }
         ensures place { (result.first ≡ stretch.entry.sid) × (result.count ≡ stretch.entry.len) }
         ensures some { 0 < result.count }
@@ -65,18 +65,18 @@ impl<'a> ColumnPart<'a> {
     {
         let width = stretch.table.schema().width();
         prove!(col < width);
-        ColumnPart {
+        ColumnRange {
             column: stretch.table.column(col),
             first: stretch.sid as usize,
             count: stretch.len as usize,
         }
     }
 
-    /// The first values of the part, as far as one block has them. The part goes on after them.
+    /// The first values of the range, as far as one block has them. The range goes on after them.
     pub(crate) fn next_run(&mut self) -> Run<'a>
         requires some { 0 < self.old.count }
         requires within { self.old.first + self.old.count ≤ length self.old.column.now.values }
-        ensures values { part_values self.old ≡ run_values result ++ part_values self.new }
+        ensures values { range_values self.old ≡ run_values result ++ range_values self.new }
         ensures some { 0 < length (run_values result) }
         ensures count { length (run_values result) ≡ min (MAX_BLOCK_VALUES - self.old.first % MAX_BLOCK_VALUES) self.old.count }
         ensures run { IsRun self.old.column.now.ty result }

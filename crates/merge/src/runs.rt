@@ -6,8 +6,8 @@ ghost use Rattle.stable.specs.Rows.{column_values};
 ghost use Rattle.merge.specs.Fitting.{StandsAt};
 ghost use Rattle.merge.specs.Runs.{YieldsRun};
 
-use crate::part::Part;
-use crate::run::{ColumnPart, Run};
+use crate::column_stretch::ColumnStretch;
+use crate::run::{ColumnRange, Run};
 use crate::scan::Stretches;
 use stable::Column;
 use std::iter::FusedIterator;
@@ -20,7 +20,7 @@ pub struct ColumnRuns<'a> {
     stretches: Stretches<'a>,
     col: usize,
     /// What is left of the stretch that was begun.
-    part: ColumnPart<'a>,
+    range: ColumnRange<'a>,
 }
 
 impl<'a> Model for ColumnRuns<'a> {
@@ -29,17 +29,17 @@ impl<'a> Model for ColumnRuns<'a> {
     ghost use Rattle.blocks.specs.Column.{Column as Values};
     ghost use Rattle.stable.specs.Rows.{column_values};
     ghost use Rattle.merge.specs.Fitting.{StandsAt};
-    ghost use Rattle.merge.specs.Runs.{part_values};
+    ghost use Rattle.merge.specs.Runs.{range_values};
 
     ghost Value = { Values };
 
     ghost view = { λ r. record {
-      ty = r.part.column.now.ty;
-      values = part_values r.part ++ column_values r.col r.stretches;
+      ty = r.range.column.now.ty;
+      values = range_values r.range ++ column_values r.col r.stretches;
     } };
 
-    ghost invariant = { λ r. (r.part.first + r.part.count ≤ length r.part.column.now.values)
-        × All (StandsAt r.part.column.now.ty r.col) r.stretches };
+    ghost invariant = { λ r. (r.range.first + r.range.count ≤ length r.range.column.now.values)
+        × All (StandsAt r.range.column.now.ty r.col) r.stretches };
 }
 
 impl<'a> ColumnRuns<'a> {
@@ -48,7 +48,7 @@ impl<'a> ColumnRuns<'a> {
         requires { All (StandsAt column.now.ty col) stretches }
         ensures { result ≡ record { ty = column.now.ty; values = column_values col stretches.entry } }
     {
-        let part = ColumnPart {
+        let range = ColumnRange {
             column,
             first: 0,
             count: 0,
@@ -56,7 +56,7 @@ impl<'a> ColumnRuns<'a> {
         ColumnRuns {
             stretches,
             col,
-            part,
+            range,
         }
     }
 }
@@ -72,15 +72,15 @@ impl<'a> Iterator for ColumnRuns<'a> {
     ghost remaining = { λ s. at_most (length s.values) };
 
     fn next(&mut self) -> Option<Run<'a>> {
-        if self.part.count > 0 {
-            return Some(self.part.next_run());
+        if self.range.count > 0 {
+            return Some(self.range.next_run());
         }
-        match self.stretches.next_part(self.col)? {
-            Part::Value(value) => Some(Run::Value(value)),
-            Part::Stable(stretch) => {
-                let mut part = ColumnPart::of_stretch(stretch, self.col);
-                let run = part.next_run();
-                self.part = part;
+        match self.stretches.next_of_column(self.col)? {
+            ColumnStretch::Value(value) => Some(Run::Value(value)),
+            ColumnStretch::Stable(stretch) => {
+                let mut range = ColumnRange::of_stretch(stretch, self.col);
+                let run = range.next_run();
+                self.range = range;
                 Some(run)
             }
         }

@@ -3,10 +3,10 @@ ghost use Rattle.std.specs.Prelude.{◌≡◌, ◌++◌, ◌≤◌, ◌<◌, ◌
 ghost use Rattle.std.specs.Iterator.{YieldsFirstBy, at_most};
 ghost use Rattle.merge.specs.View.{row_of};
 ghost use Rattle.merge.specs.Stretches.{YieldsStretch};
-ghost use Rattle.merge.specs.Parts.{HasFirst, YieldsPart};
+ghost use Rattle.merge.specs.ColumnStretches.{HasFirst, YieldsColumn};
 
+use crate::column_stretch::ColumnStretch;
 use crate::image::Image;
-use crate::part::Part;
 use crate::stretch::{StableStretch, Stretch};
 use crate::view::RowView;
 use stable::StableTable;
@@ -57,17 +57,17 @@ impl<'a> Stretches<'a> {
 
     /// The next values of a column that come from one place.
     #[inline(always)]
-    pub(crate) fn next_part(&mut self, col: usize) -> Option<Part<'a>>
+    pub(crate) fn next_of_column(&mut self, col: usize) -> Option<ColumnStretch<'a>>
         requires { HasFirst col self.old }
-        ensures { YieldsPart col self.old result self.new }
+        ensures { YieldsColumn col self.old result self.new }
     {
         let Stretches { rows, left } = self;
         if *left == 0 {
             return None;
         }
-        let part = rows.next_part(col, *left);
-        *left -= part.count();
-        Some(part)
+        let values = rows.next_of_column(col, *left);
+        *left -= values.count();
+        Some(values)
     }
 }
 

@@ -1,10 +1,10 @@
 use Rattle.std.proofs.Common.{◌≡◌, ◌∙◌, List, length, sym, ap, subst, arith}
 use Rattle.values.specs.declared.row.Row.{Row as Cells}
 use Rattle.merge.specs.Cursor.{TreeCursor, IsCursor, moved, rows_left}
-use Rattle.merge.specs.Parts.{PassesRow}
+use Rattle.merge.specs.ColumnStretches.{PassesRow}
 use Rattle.merge.specs.View.{layer_cells, layer_number}
 use Rattle.merge.proofs.OverLemmas.{left_alike-row}
-use Rattle.merge.proofs.PartLemmas.{row-kept, row-modified, cursor-kept_row}
+use Rattle.merge.proofs.ColumnStretchLemmas.{row-kept, row-modified, cursor-kept_row}
 use Rattle.merge.proofs.level.LevelRows.pass_row.Goals as goal
 
 pub returns-in-Kept-clause-rows : goal.returns-in-Kept-clause-rows

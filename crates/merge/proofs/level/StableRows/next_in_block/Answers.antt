@@ -7,7 +7,7 @@ use Rattle.values.specs.declared.value.ColumnType.{ColumnType}
 use Rattle.values.specs.declared.value.ColumnType.TheVariants as column
 use Rattle.merge.specs.Fitting.{StandsAt}
 use Rattle.merge.specs.Packed.{number_of}
-use Rattle.merge.specs.Runs.{IsRun, part_values, run_values}
+use Rattle.merge.specs.Runs.{IsRun, range_values, run_values}
 use Rattle.merge.proofs.FillingLemmas.{fills_same, first_filled}
 use Rattle.merge.proofs.level.StableRows.next_in_block.Goals as goal
 
@@ -32,7 +32,7 @@ returns-clause-numbers c =
     let rows : List Cells = c.args.self.now.table.now.rows in
     let sid = c.args.self.now.sid in
     let own = run_values c.next_run-run.result in
-    let rest = part_values c.next_run-run.new.self in
+    let rest = range_values c.next_run-run.new.self in
     let count : c.len.result ≡ length own =
     c.len.ensures ∙ ap (λ (ns : List ℤ). length ns) c.run_of_numbers-numbers.ensures ∙ length-map own number_of in
     fills_same c.args.col (drop sid rows) (drop (sid + c.len.result) rows) _ _ (sym c.run_of_numbers-numbers.ensures)

@@ -2,9 +2,9 @@ use Rattle.std.proofs.Common.{◌≡◌, ◌∙◌, List, length, sym, ap, subst
 use Rattle.values.specs.declared.row.Row.{Row as Cells}
 use Rattle.merge.specs.Cursor.{TreeCursor, IsCursor, moved, rows_left}
 use Rattle.merge.specs.Filling.{IsWide}
-use Rattle.merge.specs.Parts.{PassesRow}
+use Rattle.merge.specs.ColumnStretches.{PassesRow}
 use Rattle.merge.proofs.FillingLemmas.{all_skipped}
-use Rattle.merge.proofs.PartLemmas.{row-kept, cursor-kept_row}
+use Rattle.merge.proofs.ColumnStretchLemmas.{row-kept, cursor-kept_row}
 use Rattle.merge.proofs.numbers.LevelNumbers.skip_row.Goals as goal
 
 pub returns-in-Inserted-clause-column : goal.returns-in-Inserted-clause-column

@@ -7,7 +7,7 @@ use Rattle.values.specs.declared.value.Value.{Value}
 use Rattle.values.specs.declared.value.Value.TheVariants.{Bool as Truth}
 use Rattle.values.specs.declared.value.ColumnType.{ColumnType}
 use Rattle.merge.specs.Fitting.{StandsAt}
-use Rattle.merge.specs.Runs.{IsRun, part_values, run_values}
+use Rattle.merge.specs.Runs.{IsRun, range_values, run_values}
 use Rattle.merge.proofs.FillingLemmas.{fills_same, first_filled}
 use Rattle.merge.proofs.numbers.StableRowsNumbers.fill_next.Goals as goal
 
@@ -22,7 +22,7 @@ pub put_run-count-requires-clause-room : goal.put_run-count-requires-clause-room
 put_run-count-requires-clause-room c =
     let left : List Cells = drop c.args.self.now.sid c.args.self.now.table.now.rows in
     let own = run_values c.next_run-run.result in
-    let rest = part_values c.next_run-run.new.self in
+    let rest = range_values c.next_run-run.new.self in
     let room = length c.args.out.now in
     omega (
       arith,
@@ -44,7 +44,7 @@ returns-clause-numbers c =
     let rows = c.args.self.now.table.now.rows in
     let sid = c.args.self.now.sid in
     let own = run_values c.next_run-run.result in
-    let rest = part_values c.next_run-run.new.self in
+    let rest = range_values c.next_run-run.new.self in
     fills_same c.args.col (drop sid rows) (drop (sid + c.put_run-count.result) rows) _ _ (sym c.put_run-count.ensures.numbers)
     (first_filled c.args.col (length c.args.out.now) c.put_run-count.result sid rows own rest
     (sym c.of_stretch.ensures.values ∙ c.next_run-run.ensures.values) c.put_run-count.ensures.count)

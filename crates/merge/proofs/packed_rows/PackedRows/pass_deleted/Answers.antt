@@ -5,7 +5,7 @@ use Rattle.merge.specs.Cursor.{IsCursor, entries_left, rows_left, starts_with_de
 use Rattle.merge.specs.Filling.{HaveValues}
 use Rattle.merge.specs.Packed.{number_at, rows_in}
 use Rattle.merge.specs.PackedLeft.{IsPackedRows, base_left, cursor_of}
-use Rattle.merge.specs.Parts.{PassesRow}
+use Rattle.merge.specs.ColumnStretches.{PassesRow}
 use Rattle.merge.specs.declared.packed.RowChange.{RowChange}
 use Rattle.merge.specs.declared.packed_rows.PackedRows.{PackedRows}
 use Rattle.merge.proofs.CursorLemmas.{starts-fits}

@@ -3,15 +3,15 @@ use Rattle.std.proofs.lemmas.List.{length-drop, length-take}
 use Rattle.values.specs.declared.value.Value.{Value}
 use Rattle.blocks.specs.Column.{Column}
 use Rattle.merge.specs.Runs.{run_values}
-use Rattle.merge.proofs.RunLemmas.{part_next}
-use Rattle.merge.proofs.run.ColumnPart.next_run.Goals as goal
+use Rattle.merge.proofs.RunLemmas.{range_next}
+use Rattle.merge.proofs.run.ColumnRange.next_run.Goals as goal
 use Rattle.stable.proofs.CallerLemmas.{run_of_block}
 
 pub run_of-requires : goal.run_of-requires
 run_of-requires c =
-    let part = c.args.self.now in
-    let values = part.column.now.values in
-    let begin = 1024 * (part.first / 1024) in
+    let range = c.args.self.now in
+    let values = range.column.now.values in
+    let begin = 1024 * (range.first / 1024) in
     omega (
       arith,
       c.requires.within,
@@ -23,21 +23,21 @@ run_of-requires c =
 
 pub returns-clause-values : goal.returns-clause-values
 returns-clause-values c =
-    let part = c.args.self.now in
-    let values = part.column.now.values in
+    let range = c.args.self.now in
+    let values = range.column.now.values in
     let n = c.min-count.result in
-    let run : run_values c.run_of.result ≡ take n (drop part.first values) =
+    let run : run_values c.run_of.result ≡ take n (drop range.first values) =
     c.run_of.ensures.values
-    ∙ ap (λ (b : Column). take n (drop (part.first % 1024) b.values)) c.block-block.ensures
-    ∙ run_of_block values part.first n (omega (arith, c.min-count.ensures)) in
-    part_next values part.first part.count n (omega (arith, c.min-count.ensures))
-    ∙ ap (λ vs. vs ++ take (part.count - n) (drop (part.first + n) values)) (sym run)
+    ∙ ap (λ (b : Column). take n (drop (range.first % 1024) b.values)) c.block-block.ensures
+    ∙ run_of_block values range.first n (omega (arith, c.min-count.ensures)) in
+    range_next values range.first range.count n (omega (arith, c.min-count.ensures))
+    ∙ ap (λ vs. vs ++ take (range.count - n) (drop (range.first + n) values)) (sym run)
 
 pub returns-clause-some : goal.returns-clause-some
 returns-clause-some c =
-    let part = c.args.self.now in
-    let values = part.column.now.values in
-    let begin = 1024 * (part.first / 1024) in
+    let range = c.args.self.now in
+    let values = range.column.now.values in
+    let begin = 1024 * (range.first / 1024) in
     let block = c.block-block.result.now.values in
     let n = c.min-count.result in
     omega (
@@ -46,8 +46,8 @@ returns-clause-some c =
       c.requires.within,
       c.min-count.ensures,
       ap (λ (vs : List Value). length vs) c.run_of.ensures.values,
-      length-take n (drop (part.first % 1024) block),
-      length-drop (part.first % 1024) block,
+      length-take n (drop (range.first % 1024) block),
+      length-drop (range.first % 1024) block,
       ap (λ (b : Column). length b.values) c.block-block.ensures,
       length-take 1024 (drop begin values),
       length-drop begin values,
@@ -55,9 +55,9 @@ returns-clause-some c =
 
 pub returns-clause-count : goal.returns-clause-count
 returns-clause-count c =
-    let part = c.args.self.now in
-    let values = part.column.now.values in
-    let begin = 1024 * (part.first / 1024) in
+    let range = c.args.self.now in
+    let values = range.column.now.values in
+    let begin = 1024 * (range.first / 1024) in
     let block = c.block-block.result.now.values in
     let n = c.min-count.result in
     omega (
@@ -65,8 +65,8 @@ returns-clause-count c =
       c.requires.within,
       c.min-count.ensures,
       ap (λ (vs : List Value). length vs) c.run_of.ensures.values,
-      length-take n (drop (part.first % 1024) block),
-      length-drop (part.first % 1024) block,
+      length-take n (drop (range.first % 1024) block),
+      length-drop (range.first % 1024) block,
       ap (λ (b : Column). length b.values) c.block-block.ensures,
       length-take 1024 (drop begin values),
       length-drop begin values,

@@ -1,4 +1,4 @@
--- Parts of a column, layer by layer.
+-- Stretches of a column, layer by layer.
 use Rattle.std.proofs.Common.{◌≡◌, ◌∙◌, ℕ, zero, suc, ◌+◌, ◌-◌, ◌<◌, ◌≤◌, true, false, Option, Some, None, List, []}
 use Rattle.std.proofs.Common.{◌∷◌, ◌++◌, length, map, take, drop, get_or, slice_get, refl, sym, ap, subst, arith}
 use Rattle.std.proofs.Common.{length-take, length-drop}
@@ -17,11 +17,11 @@ use Rattle.model.specs.Effects.{Cells, set_cells}
 use Rattle.stable.specs.Rows.{column_values}
 use Rattle.merge.specs.Cursor.{TreeCursor, IsCursor, InsertsNext, KeepsNext, ModifiesNext, moved, rows_left}
 use Rattle.merge.specs.Fitting.{StandsAt}
-use Rattle.merge.specs.Parts.{HasFirst, IsPart, PassesPart, PassesRow, column_cells, part_cells, part_count}
+use Rattle.merge.specs.ColumnStretches.{HasFirst, IsColumnStretch, PassesColumn, PassesRow, column_cells, stretch_cells, value_count}
 use Rattle.merge.specs.Stretches.{stretch_rows}
 use Rattle.merge.specs.View.{last_cell}
-use Rattle.merge.specs.declared.part.Part.{Part}
-use Rattle.merge.specs.declared.part.Part.TheVariants.{Stable, Value as One}
+use Rattle.merge.specs.declared.column_stretch.ColumnStretch.{ColumnStretch}
+use Rattle.merge.specs.declared.column_stretch.ColumnStretch.TheVariants.{Stable, Value as One}
 use Rattle.merge.specs.declared.stretch.Stretch.TheVariants.{Stable as Together}
 use Rattle.merge.proofs.StretchLemmas.{take_append}
 use Rattle.merge.proofs.ViewLemmas.{length-set_cells, or_else, slice_get-set_cells}
@@ -61,7 +61,7 @@ module _ (below left : List Row) (p : PassesRow below left) where
       → IsCursor (length left) (moved 1 c)
   cursor-kept_row most n c h some is = h.cursor 1 (length left) (omega (arith, some)) (as_sum c is)
 
--- ---- the next part of a column
+-- ---- the next stretch of a column
 
 module _ (col : ℕ) where
   -- a row that the layer changes has the column below it too
@@ -87,14 +87,14 @@ module _ (col : ℕ) where
 
   -- the value of a row that the layer inserts
   pub passes-inserted : (row : Row) (value : ValueRef) (old new : TreeCursor) (below : List Row) → InsertsNext row old new
-      → slice_get row col ≡ Some (value_of value) → PassesPart col (rows_left old below) (One value) (rows_left new below)
+      → slice_get row col ≡ Some (value_of value) → PassesColumn col (rows_left old below) (One value) (rows_left new below)
   passes-inserted row value old new below h cell =
       record { passed = row ∷ []; rows = h.rows below; cells = ap (λ x. x ∷ []) cell; is = tt }
 
   -- the value that the layer gives a row of those below
   pub passes-given : (cells : Cells) (value : ValueRef) (old new : TreeCursor) (below left : List Row) → ModifiesNext cells old new
       → IsCursor (length below) old → HasFirst col below → PassesRow below left → last_cell col None cells ≡ Some (value_of value)
-      → PassesPart col (rows_left old below) (One value) (rows_left new left)
+      → PassesColumn col (rows_left old below) (One value) (rows_left new left)
   passes-given cells value old new below left h is first p given =
       let wide : col < length p.row = subst (HasFirst col) p.rows first in
       record {
@@ -106,7 +106,7 @@ module _ (col : ℕ) where
         is = tt;
       }
 
-  pub length-passed : (old new : List Row) (part : Part) (p : PassesPart col old part new) → length p.passed ≡ part_count part
+  pub length-passed : (old new : List Row) (values : ColumnStretch) (p : PassesColumn col old values new) → length p.passed ≡ value_count values
   length-passed old new (Stable stretch) p =
       let rows = stretch.table.now.rows in
       let cell = λ (row : Row). slice_get row col in
@@ -123,16 +123,16 @@ module _ (col : ℕ) where
   length-passed old new (One value) p =
       let cell = λ (row : Row). slice_get row col in omega (arith, ap length p.cells, length-map p.passed cell)
 
-  pub part_some : (part : Part) → IsPart part → 0 < part_count part
-  part_some (Stable stretch) h = h.some
-  part_some (One value) h = omega arith
+  pub some_values : (values : ColumnStretch) → IsColumnStretch values → 0 < value_count values
+  some_values (Stable stretch) h = h.some
+  some_values (One value) h = omega arith
 
   -- the value of a row below, where the layer modifies other columns of it
-  module _ (cells : Cells) (old new : TreeCursor) (below left : List Row) (part : Part) (h : ModifiesNext cells old new)
-      (is : IsCursor (length below) old) (first : HasFirst col below) (p : PassesPart col below part left)
-      (few : part_count part ≤ 1) where
+  module _ (cells : Cells) (old new : TreeCursor) (below left : List Row) (values : ColumnStretch) (h : ModifiesNext cells old new)
+      (is : IsCursor (length below) old) (first : HasFirst col below) (p : PassesColumn col below values left)
+      (few : value_count values ≤ 1) where
     one : length p.passed ≡ 1
-    one = omega (arith, length-passed below left part p, part_some part p.is, few)
+    one = omega (arith, length-passed below left values p, some_values values p.is, few)
 
     passes-row : (passed : List Row) → length passed ≡ 1 → below ≡ passed ++ left → PassesRow below left
     passes-row [] e rows = absurd (omega (arith, e))
@@ -142,8 +142,8 @@ module _ (col : ℕ) where
     pub cursor-below : IsCursor (length left) new
     cursor-below = cursor-modified below left (passes-row p.passed one p.rows) cells old new h is
 
-    above : (passed : List Row) → length passed ≡ 1 → below ≡ passed ++ left → column_cells col passed ≡ part_cells col part
-        → last_cell col None cells ≡ None → PassesPart col (rows_left old below) part (rows_left new left)
+    above : (passed : List Row) → length passed ≡ 1 → below ≡ passed ++ left → column_cells col passed ≡ stretch_cells col values
+        → last_cell col None cells ≡ None → PassesColumn col (rows_left old below) values (rows_left new left)
     above [] e rows own none = absurd (omega (arith, e))
     above (row ∷ other ∷ more) e rows own none = absurd (omega (arith, e))
     above (row ∷ []) e rows own none =
@@ -156,18 +156,18 @@ module _ (col : ℕ) where
           is = p.is;
         }
 
-    pub passes-below : last_cell col None cells ≡ None → PassesPart col (rows_left old below) part (rows_left new left)
+    pub passes-below : last_cell col None cells ≡ None → PassesColumn col (rows_left old below) values (rows_left new left)
     passes-below none = above p.passed one p.rows p.cells none
 
   -- the values of rows below that stand as they are
-  module _ (most n : ℕ) (c : TreeCursor) (below left : List Row) (part : Part) (h : KeepsNext most n c) (is : IsCursor (length below) c)
-      (p : PassesPart col below part left) (few : part_count part ≤ n) where
+  module _ (most n : ℕ) (c : TreeCursor) (below left : List Row) (values : ColumnStretch) (h : KeepsNext most n c) (is : IsCursor (length below) c)
+      (p : PassesColumn col below values left) (few : value_count values ≤ n) where
     in_order : IsCursor (length p.passed + length left) c
     in_order = subst (λ m. IsCursor m c) (ap length p.rows ∙ length-append p.passed left) is
 
-    pub passes-kept : PassesPart col (rows_left c below) part (rows_left (moved (part_count part) c) left)
+    pub passes-kept : PassesColumn col (rows_left c below) values (rows_left (moved (value_count values) c) left)
     passes-kept =
-        let count = length-passed below left part p in
+        let count = length-passed below left values p in
         let within : length p.passed ≤ n = omega (arith, count, few) in
         record {
           passed = p.passed;
@@ -179,17 +179,17 @@ module _ (col : ℕ) where
           is = p.is;
         }
 
-    pub cursor-kept : IsCursor (length left) (moved (part_count part) c)
+    pub cursor-kept : IsCursor (length left) (moved (value_count values) c)
     cursor-kept =
-        let count = length-passed below left part p in
-        h.cursor (part_count part) (length left) few (subst (λ m. IsCursor (m + length left) c) count in_order)
+        let count = length-passed below left values p in
+        h.cursor (value_count values) (length left) few (subst (λ m. IsCursor (m + length left) c) count in_order)
 
   -- ---- a range of rows
 
-  pub passes-taken : (n : ℕ) (old new : List Row) (part : Part) → PassesPart col old part new → part_count part ≤ n
-      → PassesPart col (take n old) part (take (n - part_count part) new)
-  passes-taken n old new part p few =
-      let count = length-passed old new part p in
+  pub passes-taken : (n : ℕ) (old new : List Row) (values : ColumnStretch) → PassesColumn col old values new → value_count values ≤ n
+      → PassesColumn col (take n old) values (take (n - value_count values) new)
+  passes-taken n old new values p few =
+      let count = length-passed old new values p in
       let within : length p.passed ≤ n = omega (arith, count, few) in
       record {
         passed = p.passed;

@@ -2,7 +2,7 @@ use Rattle.std.proofs.Common.{take, drop, length, ap, ◌∙◌, arith}
 use Rattle.values.specs.Shape.{Columns}
 use Rattle.blocks.specs.Column.{Column}
 use Rattle.merge.proofs.TableLemmas.{has_column, column_type, stretch_values}
-use Rattle.merge.proofs.run.ColumnPart.of_stretch.Goals as goal
+use Rattle.merge.proofs.run.ColumnRange.of_stretch.Goals as goal
 
 pub prove-unreachable-requires : goal.prove-unreachable-requires
 prove-unreachable-requires c =
