@@ -295,7 +295,7 @@ edited_around v at gone put path h own =
     (omega arith) (omega arith)
     ∙ ap (edited at gone put) h.items
 
--- what the node at the head of the path grows to has that edit
+-- what the node at the top of the path grows to has that edit
 pub edited_along : (v : View) (at gone depth wide : ℕ) (put new : List Entry) (path : Path) (leaf g : Grown) → IsPath v (at + gone) path
     → gone ≤ path.end → new ≡ edited (path.end - gone) gone put path.leaf.now → IsGrown 1 (length new) new leaf
     → IsGrown depth wide (around path.branches.items (grown_items leaf)) g → grown_items g ≡ edited at gone put v.items

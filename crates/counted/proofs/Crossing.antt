@@ -12,7 +12,7 @@ use Rattle.std.proofs.Crossing.{crosses, Arc-send, Arc-sync, Vec-send, Vec-sync}
 use Rattle.std.specs.contracts.alloc.Global as Global
 use Rattle.std.specs.contracts.impls.GlobalAllocator.TheImpl.{ghosts}
 use Rattle.std.specs.contracts.vec.Vec as Vec
-use Rattle.counted.specs.contracts.entry.Head as Head
+use Rattle.counted.specs.contracts.entry.Lead as Lead
 use Rattle.counted.specs.contracts.entry.SharedEntry as SharedEntry
 use Rattle.counted.specs.contracts.tree.CountedTree as CountedTree
 use Rattle.counted.specs.declared.node.Node.TheDeep.{the_members, member-Node, joins-Node, joins-Body, joins-Child}
@@ -25,11 +25,11 @@ entry_send = search (sendable, crosses) depth 60 fits 20000
 entry_sync : IsSync SharedEntry.the_row
 entry_sync = search (sendable, crosses) depth 60 fits 20000
 
-head_send : IsSend (Head.the_field).row
-head_send = search (sendable, crosses) depth 60
+lead_send : IsSend (Lead.the_field).row
+lead_send = search (sendable, crosses) depth 60
 
-head_sync : IsSync (Head.the_field).row
-head_sync = search (sendable, crosses) depth 60
+lead_sync : IsSync (Lead.the_field).row
+lead_sync = search (sendable, crosses) depth 60
 
 abbrev leaf : Field
 leaf = Vec.the_field SharedEntry.the_row Global.the_row ghosts
@@ -60,7 +60,7 @@ module _ (p : Parts frame) (s : IsSend (rows frame p member-Node)) (y : IsSync (
     (
       as_row_send (row_field (as_row i64-field)) net_send,
       (
-        as_row_send (row_field (as_row Head.the_field)) (as_row_send Head.the_field head_send),
+        as_row_send (row_field (as_row Lead.the_field)) (as_row_send Lead.the_field lead_send),
         (as_row_send (row_field _) (Arc-send (rows frame p member-Node) s y), tt),
       ),
     ),
@@ -72,7 +72,7 @@ module _ (p : Parts frame) (s : IsSend (rows frame p member-Node)) (y : IsSync (
     (
       as_row_sync (row_field (as_row i64-field)) net_sync,
       (
-        as_row_sync (row_field (as_row Head.the_field)) (as_row_sync Head.the_field head_sync),
+        as_row_sync (row_field (as_row Lead.the_field)) (as_row_sync Lead.the_field lead_sync),
         (as_row_sync (row_field _) (Arc-sync (rows frame p member-Node) s y), tt),
       ),
     ),

@@ -10,17 +10,17 @@ use Rattle.std.proofs.lemmas.List.{append-nil, drop-drop, drop_all, take_all, ta
 use Rattle.std.proofs.lemmas.Option.{unwrap_or-slice_get, slice_get_past}
 use Rattle.std.specs.Option.{unwrap_or}
 use Rattle.model.specs.declared.entry.Entry.{Entry}
-use Rattle.counted.specs.declared.entry.Head.{Head}
+use Rattle.counted.specs.declared.entry.Lead.{Lead}
 use Rattle.counted.specs.declared.node.Child.{Child}
 use Rattle.counted.specs.declared.spot.Above.{Above}
 use Rattle.counted.specs.Descents.{AreBelow, AreNext, IsAt}
-use Rattle.counted.specs.Heads.{head_of, head_at}
+use Rattle.counted.specs.Leads.{lead_of, lead_at}
 use Rattle.counted.specs.Search.{Begins, IsChildPlace, IsNear, IsPlace}
 use Rattle.counted.specs.Shapes.{items_of, all_items, AreChildren}
 use Rattle.counted.specs.Sums.{total}
 use Rattle.counted.proofs.Totals.{IsWithin, total_within, total-append}
 use Rattle.counted.proofs.Places.{split_items, child_fits, child_some, count_within, drop_in_child, items-more}
-use Rattle.counted.proofs.Heads.{get-past}
+use Rattle.counted.proofs.Leads.{get-past}
 
 -- ---- entries that come next
 
@@ -122,10 +122,10 @@ some_behind children i h lt =
     let both = ap length (split_items i children) ∙ length-append (all_items (take i children)) (all_items (drop i children)) in
     omega arith
 
-pub below_child : (items : List Entry) (index : ℕ) (shift : ℤ) (children : List Child) (next more : Option Head) (i : ℕ) (d : Child)
+pub below_child : (items : List Entry) (index : ℕ) (shift : ℤ) (children : List Child) (next more : Option Lead) (i : ℕ) (d : Child)
     → AreChildren children → i < length children
     → AreBelow items index shift (all_items children) next
-    → (i + 1 < length children → more ≡ head_at (all_items (drop (i + 1) children)) 0)
+    → (i + 1 < length children → more ≡ lead_at (all_items (drop (i + 1) children)) 0)
     → (length children ≤ i + 1 → more ≡ next)
     → AreBelow items (index + length (all_items (take i children))) (shift +ℤ total (all_items (take i children)))
     (items_of (get_or children i d)) more
@@ -150,13 +150,13 @@ below_child items index shift children next more i d h lt b some last =
                 let long = ap length (items-more children i d lt) ∙ length-append (all_items (take i children)) here in
                 let short : before + length here < length (all_items children) = omega arith in
                 some lt'
-                ∙ ap (option_map head_of) (sym (child_behind children i d lt lt')
+                ∙ ap (option_map lead_of) (sym (child_behind children i d lt lt')
                 ∙ sym (get-next items (all_items children) index (before + length here) b.here short))
-                ∙ ap (head_at items) (let e : index + (before + length here) ≡ (index + before) + length here = omega arith in e)
+                ∙ ap (lead_at items) (let e : index + (before + length here) ≡ (index + before) + length here = omega arith in e)
             | inr le ↦
                 let ends = child_ends children i d lt le in
                 last le ∙ b.behind
-                ∙ ap (head_at items)
+                ∙ ap (lead_at items)
                 (let e : index + length (all_items children) ≡ (index + before) + length here = omega arith in e)
           ];
     }
@@ -168,14 +168,14 @@ below_top items = record {
     rest = sym (ap (λ es. items ++ es) (drop_all (0 + length items) items (omega arith)) ∙ append-nil items);
   };
   sum = refl;
-  behind = sym (ap (option_map head_of) (slice_get_past items (0 + length items) (omega arith)));
+  behind = sym (ap (option_map lead_of) (slice_get_past items (0 + length items) (omega arith)));
 }
 
-pub below_spot : (items : List Entry) (index : ℕ) (shift : ℤ) (leaf : List Entry) (next head : Option Head) (at : ℕ)
+pub below_spot : (items : List Entry) (index : ℕ) (shift : ℤ) (leaf : List Entry) (next lead : Option Lead) (at : ℕ)
     → at ≤ length leaf → AreBelow items index shift leaf next
-    → (at < length leaf → head ≡ head_at leaf at) → (length leaf ≤ at → head ≡ next)
-    → IsAt items (index + at) (shift +ℤ total (take at leaf)) (drop at leaf) head
-below_spot items index shift leaf next head at le b some last =
+    → (at < length leaf → lead ≡ lead_at leaf at) → (length leaf ≤ at → lead ≡ next)
+    → IsAt items (index + at) (shift +ℤ total (take at leaf)) (drop at leaf) lead
+below_spot items index shift leaf next lead at le b some last =
     let within = b.here.within in
     record {
       here = next-next items leaf (drop at leaf) index at b.here (record {
@@ -187,33 +187,33 @@ below_spot items index shift leaf next head at le b some last =
       sum = let both = sum-next items leaf index at b.here le in let sum = b.sum in omega (arith, ints);
       there =
           elim (cases_lt at (length leaf)) [
-            | inl lt ↦ some lt ∙ ap (option_map head_of) (sym (get-next items leaf index at b.here lt))
-            | inr past ↦ last past ∙ b.behind ∙ ap (head_at items) (let e : index + length leaf ≡ index + at = omega arith in e)
+            | inl lt ↦ some lt ∙ ap (option_map lead_of) (sym (get-next items leaf index at b.here lt))
+            | inr past ↦ last past ∙ b.behind ∙ ap (lead_at items) (let e : index + length leaf ≡ index + at = omega arith in e)
           ];
     }
 
-pub below_moved : (items : List Entry) (index k : ℕ) (shift z : ℤ) (node es : List Entry) (next : Option Head) → index ≡ k
+pub below_moved : (items : List Entry) (index k : ℕ) (shift z : ℤ) (node es : List Entry) (next : Option Lead) → index ≡ k
     → shift ≡ z → node ≡ es → AreBelow items index shift node next → AreBelow items k z es next
 below_moved items index k shift z node es next a b c h =
     subst (λ (n : ℕ). AreBelow items n z es next) a
     (subst (λ (w : ℤ). AreBelow items index w es next) b (subst (λ (xs : List Entry). AreBelow items index shift xs next) c h))
 
-at_moved : (items : List Entry) (index k : ℕ) (shift z : ℤ) (leaf es : List Entry) (head : Option Head) → index ≡ k → shift ≡ z
-    → leaf ≡ es → IsAt items index shift leaf head → IsAt items k z es head
-at_moved items index k shift z leaf es head a b c h =
-    subst (λ (n : ℕ). IsAt items n z es head) a
-    (subst (λ (w : ℤ). IsAt items index w es head) b (subst (λ (xs : List Entry). IsAt items index shift xs head) c h))
+at_moved : (items : List Entry) (index k : ℕ) (shift z : ℤ) (leaf es : List Entry) (lead : Option Lead) → index ≡ k → shift ≡ z
+    → leaf ≡ es → IsAt items index shift leaf lead → IsAt items k z es lead
+at_moved items index k shift z leaf es lead a b c h =
+    subst (λ (n : ℕ). IsAt items n z es lead) a
+    (subst (λ (w : ℤ). IsAt items index w es lead) b (subst (λ (xs : List Entry). IsAt items index shift xs lead) c h))
 
 -- where a search ends in a leaf whose entries are seen as these
-pub spot_at : (items : List Entry) (index : ℕ) (shift : ℤ) (leaf es : List Entry) (next head : Option Head) (at k : ℕ) (z : ℤ)
+pub spot_at : (items : List Entry) (index : ℕ) (shift : ℤ) (leaf es : List Entry) (next lead : Option Lead) (at k : ℕ) (z : ℤ)
     (some : List Entry) → at ≤ length es → AreBelow items index shift leaf next → es ≡ leaf
-    → k ≡ index + at → z ≡ shift +ℤ total (take at es) → some ≡ drop at es → (at < length es → head ≡ head_at es at)
-    → (length es ≤ at → head ≡ next) → IsAt items k z some head
-spot_at items index shift leaf es next head at k z some le b same a c d there past =
+    → k ≡ index + at → z ≡ shift +ℤ total (take at es) → some ≡ drop at es → (at < length es → lead ≡ lead_at es at)
+    → (length es ≤ at → lead ≡ next) → IsAt items k z some lead
+spot_at items index shift leaf es next lead at k z some le b same a c d there past =
     at_moved _ _ _ _ _ _ _ _ (sym a) (sym c) (sym d)
-    (below_spot items index shift es next head at le (below_moved _ _ _ _ _ _ _ _ refl refl (sym same) b) there past)
+    (below_spot items index shift es next lead at le (below_moved _ _ _ _ _ _ _ _ refl refl (sym same) b) there past)
 
-pub below_within : (items : List Entry) (index : ℕ) (shift : ℤ) (node : List Entry) (next : Option Head)
+pub below_within : (items : List Entry) (index : ℕ) (shift : ℤ) (node : List Entry) (next : Option Lead)
     → AreBelow items index shift node next → IsWithin shift index
 below_within items index shift node next b =
     let w = total_within (take index items) in
@@ -222,7 +222,7 @@ below_within items index shift node next b =
     record { above = omega (arith, ints, length-take index items); below = omega (arith, ints, length-take index items) }
 
 -- what the entries before a node add is a small number, where all are few
-pub small : (items : List Entry) (index : ℕ) (shift : ℤ) (node : List Entry) (next : Option Head) → AreBelow items index shift node next
+pub small : (items : List Entry) (index : ℕ) (shift : ℤ) (node : List Entry) (next : Option Lead) → AreBelow items index shift node next
     → length items < 2 ^ 61 → to_z w64 (of_z w64 shift) ≡ shift
 small items index shift node next b few =
     let w = below_within items index shift node next b in
@@ -230,7 +230,7 @@ small items index shift node next b few =
     omega (arith, ints, w.above, w.below)
 
 -- and the entries below it are near
-pub below_near : (items : List Entry) (index : ℕ) (shift : ℤ) (node es : List Entry) (next : Option Head)
+pub below_near : (items : List Entry) (index : ℕ) (shift : ℤ) (node es : List Entry) (next : Option Lead)
     → AreBelow items index shift node next → length items < 2 ^ 61 → es ≡ node → IsNear (to_z w64 (of_z w64 shift)) (length es)
 below_near items index shift node es next b few same =
     let w = below_within items index shift node next b in

@@ -13,7 +13,7 @@ use Rattle.counted.specs.declared.node.Body.TheVariants.{Leaf, Inner}
 use Rattle.counted.specs.declared.node.Child.{Child}
 use Rattle.counted.specs.Edits.{IsEdit, IsEditedNode, put_items, edited}
 use Rattle.counted.specs.Grown.{IsSized}
-use Rattle.counted.specs.Heads.{head_of}
+use Rattle.counted.specs.Leads.{lead_of}
 use Rattle.counted.specs.Shapes.{items_of, all_items, depth_of, view_of, IsChild, AreChildren, IsBalanced}
 use Rattle.counted.specs.Splits.{IsSplit}
 use Rattle.counted.specs.Sums.{weight_of, total}
@@ -108,7 +108,7 @@ sized_law (Inner children) v is h full =
 pub child_edit : (depth at gone : ℕ) (put : Option Entry) (added : ℤ) (c x : Child) → IsChild depth c → at + gone ≤ length (items_of c)
     → IsEdit at gone put (items_of c) (items_of x) added
     → x.node.value.depth ≡ c.node.value.depth → MIN_WIDTH ≤ x.node.value.width → IsSized x.node.value
-    → ((e : Entry) → slice_get (items_of x) 0 ≡ Some e → x.head ≡ head_of e)
+    → ((e : Entry) → slice_get (items_of x) 0 ≡ Some e → x.lead ≡ lead_of e)
     → x.count + gone ≡ c.count + length (put_items put) → x.net ≡ c.net +ℤ added → IsChild depth x
 child_edit depth at gone put added c x h within edit level full sized first count net =
     let long = length-edited at gone (put_items put) (items_of c) within in
@@ -123,7 +123,7 @@ child_edit depth at gone put added c x h within edit level full sized first coun
       most = let P : ℕ → Type 0 = λ d. length (items_of x) ≤ MAX_WIDTH ^ d in subst P same sized.most;
       count = omega (arith, h.count);
       net = omega (arith, ints, h.net);
-      head = first;
+      lead = first;
     }
 
 -- the depth of children of which one is written over by another as deep

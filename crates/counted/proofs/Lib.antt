@@ -1,6 +1,6 @@
 mod BulkLemmas
 mod Descents
-mod Heads
+mod Leads
 mod InPlace
 mod Leaves
 mod Paths

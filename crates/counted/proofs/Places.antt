@@ -129,7 +129,7 @@ same_is_child depth c x same h = record {
   most = let e = ap (λ v. length v.items) same.node in let f = h.most in omega arith;
   count = same.count ∙ h.count ∙ sym (ap (λ v. length v.items) same.node);
   net = same.net ∙ h.net ∙ sym (ap (λ v. total v.items) same.node);
-  head = λ e is. same.head ∙ h.head e (sym (ap (λ v. slice_get v.items 0) same.node) ∙ is);
+  lead = λ e is. same.lead ∙ h.lead e (sym (ap (λ v. slice_get v.items 0) same.node) ∙ is);
 }
 
 -- ---- depths and numbers of entries

@@ -1,4 +1,4 @@
--- What a search asks of each entry, and what its head tells.
+-- What a search asks of each entry, and what its lead tells.
 use Rattle.std.proofs.Common.{◌≡◌, ℕ, zero, suc, ◌+◌, ◌<◌, ◌≤◌, ◌^◌, true, false, Ordering, Less, Equal, Greater, List, [], ◌∷◌, ◌++◌}
 use Rattle.std.proofs.Common.{length, take}
 use Rattle.std.proofs.Common.{drop, get_or, int_cmp, is_gt, is_lt, refl, ap, sym, ◌∙◌, subst, arith, to_z, of_z, w64}
@@ -8,11 +8,11 @@ use Rattle.std.proofs.lemmas.Int.{ints}
 use Rattle.std.proofs.lemmas.Option.{get_or_from_slice_get}
 use Rattle.model.specs.declared.entry.Entry.{Entry}
 use Rattle.model.specs.declared.entry.Change.{Change}
-use Rattle.counted.specs.declared.entry.Head.{Head}
+use Rattle.counted.specs.declared.entry.Lead.{Lead}
 use Rattle.counted.specs.declared.node.Child.{Child}
 use Rattle.counted.specs.declared.search.Target.{Target}
 use Rattle.counted.specs.declared.search.Target.TheVariants.{Sid, Rid}
-use Rattle.counted.specs.Heads.{head_of}
+use Rattle.counted.specs.Leads.{lead_of}
 use Rattle.counted.specs.Search.{is_before, order, ArePlaced, IsNear, IsReached, IsUp, MayMeet}
 use Rattle.counted.specs.Shapes.{items_of, all_items}
 use Rattle.counted.specs.Sums.{total, weight_of}
@@ -40,10 +40,10 @@ child_placed children i d lt placed =
     let all = placed-right (all_items (take i children)) (all_items (drop i children)) (subst ArePlaced (split_items i children) placed) in
     placed-left (items_of (get_or children i d)) (all_items (drop (i + 1) children)) (subst ArePlaced (items_from children i d lt) all)
 
-pub head_placed : (es : List Entry) (h : Head) → 1 ≤ length es → ((e : Entry) → slice_get es 0 ≡ Some e → h ≡ head_of e)
+pub lead_placed : (es : List Entry) (h : Lead) → 1 ≤ length es → ((e : Entry) → slice_get es 0 ≡ Some e → h ≡ lead_of e)
     → ArePlaced es → h.sid < 2 ^ 32
-head_placed [] h some is placed = absurd (omega arith)
-head_placed (e ∷ es) h some is placed = let same = ap (λ (x : Head). x.sid) (is e refl) in omega (arith, placed.0)
+lead_placed [] h some is placed = absurd (omega arith)
+lead_placed (e ∷ es) h some is placed = let same = ap (λ (x : Lead). x.sid) (is e refl) in omega (arith, placed.0)
 
 -- ---- how far above the rows below an entry is
 
@@ -99,14 +99,14 @@ tied_then Less s h g = absurd cc
 tied_then Equal s h g = refl
 tied_then Greater s h g = absurd cc
 
--- ---- what the head of an entry tells
+-- ---- what the lead of an entry tells
 
-pub head_sid : (h : Head) (e : Entry) → h ≡ head_of e → h.sid ≡ e.sid
-head_sid h e is = ap (λ (x : Head). x.sid) is
+pub lead_sid : (h : Lead) (e : Entry) → h ≡ lead_of e → h.sid ≡ e.sid
+lead_sid h e is = ap (λ (x : Lead). x.sid) is
 
-pub head_weight : (h : Head) (e : Entry) → h ≡ head_of e → weight_of e.change ≡ to_z w64 (of_z w64 h.weight)
-head_weight h e is =
-    let same = ap (λ (x : Head). x.weight) is in
+pub lead_weight : (h : Lead) (e : Entry) → h ≡ lead_of e → weight_of e.change ≡ to_z w64 (of_z w64 h.weight)
+lead_weight h e is =
+    let same = ap (λ (x : Lead). x.weight) is in
     let w = weight_within e.change in
     omega (arith, ints, w.above, w.below)
 

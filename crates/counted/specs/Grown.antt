@@ -33,7 +33,7 @@ IsGrown depth width items (Two left right) =
 pub record IsSameChild (c x : Child) : Type 0 where
   pub count : x.count ≡ c.count
   pub net : x.net ≡ c.net
-  pub head : x.head ≡ c.head
+  pub lead : x.lead ≡ c.lead
   pub node : x.node.value ≡ c.node.value
 
 -- the counts are those of the node's entries

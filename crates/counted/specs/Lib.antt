@@ -2,7 +2,7 @@ pub mod Changes
 pub mod Descents
 pub mod Edits
 pub mod Grown
-pub mod Heads
+pub mod Leads
 pub mod Falls
 pub mod Paths
 pub mod Branches

@@ -6,7 +6,7 @@ use Rattle.counted.specs.declared.node.TheConstants.{MAX_WIDTH, MIN_WIDTH}
 use Rattle.counted.specs.declared.node.Body.{Body}
 use Rattle.counted.specs.declared.node.Body.TheVariants.{Leaf, Inner}
 use Rattle.counted.specs.declared.node.Child.{Child}
-use Rattle.counted.specs.Heads.{head_of}
+use Rattle.counted.specs.Leads.{lead_of}
 use Rattle.counted.specs.Sums.{total}
 use Rattle.counted.specs.Views.{View}
 
@@ -36,7 +36,7 @@ pub record IsChild (depth : ℕ) (c : Child) : Type 0 where
   pub most : length c.node.value.items ≤ MAX_WIDTH ^ depth
   pub count : c.count ≡ length c.node.value.items
   pub net : c.net ≡ total c.node.value.items
-  pub head : (e : Entry) → slice_get c.node.value.items 0 ≡ Some e → c.head ≡ head_of e
+  pub lead : (e : Entry) → slice_get c.node.value.items 0 ≡ Some e → c.lead ≡ lead_of e
 
 -- all children stand at one depth
 pub record AreChildren (children : List Child) : Type 0 where

@@ -1,11 +1,11 @@
 //! The children of a node, read by what is kept of each.
 ghost use Rattle.std.specs.Prelude.{◌≡◌, ◌+◌, ◌^◌, ◌<◌, ◌≤◌, length, slice_index_or, take, drop};
 ghost use Rattle.counted.specs.declared.node.Child.{Child};
-ghost use Rattle.counted.specs.Heads.{head_at};
+ghost use Rattle.counted.specs.Leads.{lead_at};
 ghost use Rattle.counted.specs.Shapes.{AreChildren, all_items, items_of};
 ghost use Rattle.counted.specs.Sums.{total};
 
-use crate::entry::Head;
+use crate::entry::Lead;
 use crate::node::Child;
 
 /// How many entries the children have.
@@ -51,15 +51,15 @@ pub(crate) fn sums_before(children: &[Child], index: usize) -> (usize, i64)
     (count, net)
 }
 
-/// The head of the first entry after those of a child: that of the next one, or else the one that is given.
-pub(crate) fn head_behind(children: &[Child], index: usize, next: Option<Head>) -> Option<Head>
+/// The lead of the first entry after those of a child: that of the next one, or else the one that is given.
+pub(crate) fn lead_behind(children: &[Child], index: usize, next: Option<Lead>) -> Option<Lead>
     requires children { AreChildren children.now }
     requires within { index < length children.now }
-    ensures more { index + 1 < length children.now → result ≡ head_at (all_items (drop (index + 1) children.now)) 0 }
+    ensures more { index + 1 < length children.now → result ≡ lead_at (all_items (drop (index + 1) children.now)) 0 }
     ensures last { length children.now ≤ index + 1 → result ≡ next }
 {
     if index + 1 < children.len() {
-        Some(children[index + 1].head)
+        Some(children[index + 1].lead)
     } else {
         next
     }

@@ -2,7 +2,7 @@
 ghost use Rattle.std.specs.Prelude.{◌≡◌, IfOk};
 ghost use Rattle.model.specs.Entries.{is_delete};
 ghost use Rattle.counted.specs.Changes.{change_of, kept_change};
-ghost use Rattle.counted.specs.Heads.{head_of};
+ghost use Rattle.counted.specs.Leads.{lead_of};
 ghost use Rattle.counted.specs.Sums.{weight_of};
 
 use model::{Change, Entry};
@@ -47,7 +47,7 @@ pub enum ChangeRef<'a> {
 
 /// What is kept of an entry where it is the first of a child: enough to place it by its SID, with no look at its change.
 #[derive(Clone, Copy)]
-pub struct Head {
+pub struct Lead {
     pub sid: u64,
     pub weight: i64,
 }
@@ -121,10 +121,10 @@ impl SharedEntry {
 
     /// What places it by its SID, and tells what its change adds. It reads no change.
     #[inline(always)]
-    pub fn head(&self) -> Head
-        ensures { result ≡ head_of self.now }
+    pub fn lead(&self) -> Lead
+        ensures { result ≡ lead_of self.now }
     {
-        Head {
+        Lead {
             sid: self.sid,
             weight: self.weight(),
         }

@@ -12,7 +12,7 @@ mod starts;
 mod steps;
 mod tree;
 
-pub use entry::{ChangeRef, Head, SharedEntry};
+pub use entry::{ChangeRef, Lead, SharedEntry};
 pub use iter::Iter;
 pub use search::{First, Probe, Target};
 pub use spot::Spot;

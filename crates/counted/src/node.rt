@@ -15,7 +15,7 @@ mod in_place;
 mod path;
 
 use crate::children::{child_of, count_of, net_of};
-use crate::entry::Head;
+use crate::entry::Lead;
 use crate::leaf::{push_some, total_of};
 use crate::{SharedEntry, Steps};
 use std::alloc::{AllocError, Global};
@@ -46,14 +46,14 @@ pub(crate) enum Body {
     Inner(Vec<Child>),
 }
 
-/// A child, with its number of entries, its inserts minus deletes and the head of its first entry, so that a search seldom
+/// A child, with its number of entries, its inserts minus deletes and the lead of its first entry, so that a search seldom
 /// looks at a child that it does not go into, and a copy of a node shares nothing but its children.
 #[cycle(node)]
 #[derive(Drop)]
 pub(crate) struct Child {
     pub(crate) count: usize,
     pub(crate) net: i64,
-    pub(crate) head: Head,
+    pub(crate) lead: Lead,
     pub(crate) node: Arc<Node, Global>,
 }
 

@@ -8,7 +8,7 @@ ghost use Rattle.model.specs.declared.entry.Entry.{Entry};
 ghost use Rattle.counted.specs.declared.node.Child.{Child};
 ghost use Rattle.counted.specs.Changes.{change_of};
 ghost use Rattle.counted.specs.Descents.{IsAt};
-ghost use Rattle.counted.specs.Heads.{head_of};
+ghost use Rattle.counted.specs.Leads.{lead_of};
 ghost use Rattle.counted.specs.Search.{is_before, order, IsChildPlace, IsNear, IsPlace, IsReached, IsUp, MayMeet};
 ghost use Rattle.counted.specs.Shapes.{AreChildren, all_items, items_of};
 ghost use Rattle.counted.specs.Sums.{total, weight_of};
@@ -147,7 +147,7 @@ impl Node {
         requires met { MayMeet target self.now.items }
         requires few { length self.now.items < 2 ^ 61 }
         ensures place { IsPlace (is_before (P.stand probe.now) target) (pos 0) self.now.items result.index }
-        ensures at { IsAt self.now.items result.index result.shift result.leaf.now result.head }
+        ensures at { IsAt self.now.items result.index result.shift result.leaf.now result.lead }
         ensures steps { ((weight : ℤ) → IsSome (P.by_weight probe.now weight)) → steps.new ≡ steps.old + self.now.depth }
     {
         let (mut node, mut above) = (self, Above::root());
@@ -208,20 +208,20 @@ fn begins_before<P: Probe, L: Ledger>(
     steps: &mut Steps<L>,
 ) -> bool
     requires some { 1 ≤ length (items_of child.now) }
-    requires head { (e : Entry) → slice_get (items_of child.now) 0 ≡ Some e → child.now.head ≡ head_of e }
-    requires reached { IsReached target child.now.head.sid up }
+    requires lead { (e : Entry) → slice_get (items_of child.now) 0 ≡ Some e → child.now.lead ≡ lead_of e }
+    requires reached { IsReached target child.now.lead.sid up }
     ensures before { (e : Entry) → slice_get (items_of child.now) 0 ≡ Some e
         → is_before (P.stand probe.now) target e up ≡ result }
     ensures steps { ((weight : ℤ) → IsSome (P.by_weight probe.now weight)) → steps.new ≡ steps.old }
 {
-    let head = child.head;
-    if target.is_past(head.sid, up) {
+    let lead = child.lead;
+    if target.is_past(lead.sid, up) {
         return true;
     }
-    if target.is_short_of(head.sid, up) {
+    if target.is_short_of(lead.sid, up) {
         return false;
     }
-    match probe.compare_weight(head.weight) {
+    match probe.compare_weight(lead.weight) {
         Some(order) => order.is_gt(),
         None => probe.compare(child.node.first(steps).change()).is_gt(),
     }

@@ -3,32 +3,32 @@ ghost use Rattle.std.specs.Prelude.{◌≡◌, ◌+◌, ◌^◌, ◌<◌, ◌≤
 ghost use Rattle.model.specs.declared.entry.Entry.{Entry};
 ghost use Rattle.counted.specs.declared.node.Child.{Child};
 ghost use Rattle.counted.specs.Descents.{AreBelow, IsAt};
-ghost use Rattle.counted.specs.Heads.{head_at};
+ghost use Rattle.counted.specs.Leads.{lead_at};
 ghost use Rattle.counted.specs.Shapes.{AreChildren, all_items, items_of};
 ghost use Rattle.counted.specs.Sums.{total};
 
-use crate::children::{head_behind, sums_before};
-use crate::entry::Head;
+use crate::children::{lead_behind, sums_before};
+use crate::entry::Lead;
 use crate::leaf::total_of;
 use crate::node::Child;
 use crate::{SharedEntry, Steps};
 use std::sync::ledger::Ledger;
 
 /// Where a search ended: how many entries are before it, what those add, the entries that come next in its leaf, and the
-/// head of the entry there.
+/// lead of the entry there.
 #[derive(Clone, Copy)]
 pub struct Spot<'a> {
     pub index: usize,
     pub shift: i64,
     pub leaf: &'a [SharedEntry],
-    pub head: Option<Head>,
+    pub lead: Option<Lead>,
 }
 
 impl<'a> Spot<'a> {
     /// The place before all entries where there are none, which takes a step too.
     pub(crate) fn first<L: Ledger>(steps: &mut Steps<L>) -> Spot<'a>
         ensures index { result.index ≡ 0 }
-        ensures at { IsAt [] 0 result.shift result.leaf.now result.head }
+        ensures at { IsAt [] 0 result.shift result.leaf.now result.lead }
         ensures steps { steps.new ≡ steps.old + 1 }
     {
         steps.tick();
@@ -36,17 +36,17 @@ impl<'a> Spot<'a> {
             index: 0,
             shift: 0,
             leaf: &[],
-            head: None,
+            lead: None,
         }
     }
 }
 
-/// How far a descent has come: how many entries are before a node, what those add, and the head of the one behind it.
+/// How far a descent has come: how many entries are before a node, what those add, and the lead of the one behind it.
 #[derive(Clone, Copy)]
 pub(crate) struct Above {
     index: usize,
     pub(crate) shift: i64,
-    next: Option<Head>,
+    next: Option<Lead>,
 }
 
 impl Above {
@@ -77,7 +77,7 @@ impl Above {
         Above {
             index: self.index + count,
             shift: self.shift + net,
-            next: head_behind(children, at, self.next),
+            next: lead_behind(children, at, self.next),
         }
     }
 
@@ -89,24 +89,24 @@ impl Above {
         ensures index { result.index ≡ self.index + at }
         ensures at { (items : List Entry)
             → AreBelow items self.index self.shift entries.now self.next
-            → IsAt items result.index result.shift result.leaf.now result.head }
+            → IsAt items result.index result.shift result.leaf.now result.lead }
     {
         Spot {
             index: self.index + at,
             shift: self.shift + total_of(&entries[..at]),
             leaf: &entries[at..],
-            head: head_or(entries, at, self.next),
+            lead: lead_or(entries, at, self.next),
         }
     }
 }
 
-/// The head of the entry at an index, or else the one that is given.
-fn head_or(entries: &[SharedEntry], at: usize, next: Option<Head>) -> Option<Head>
-    ensures head { at < length entries.now → result ≡ head_at entries.now at }
+/// The lead of the entry at an index, or else the one that is given.
+fn lead_or(entries: &[SharedEntry], at: usize, next: Option<Lead>) -> Option<Lead>
+    ensures lead { at < length entries.now → result ≡ lead_at entries.now at }
     ensures next { length entries.now ≤ at → result ≡ next }
 {
     if at < entries.len() {
-        Some(entries[at].head())
+        Some(entries[at].lead())
     } else {
         next
     }

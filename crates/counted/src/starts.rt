@@ -46,7 +46,7 @@ impl CountedTree {
     /// A place with the entries from there on. The leaf that the search ended at is at hand, so that no descent is made for
     /// its entries.
     fn start_at<'a>(&'a self, spot: Spot<'a>) -> Start<'a>
-        requires { IsAt self.now.entries spot.index spot.shift spot.leaf.now spot.head }
+        requires { IsAt self.now.entries spot.index spot.shift spot.leaf.now spot.lead }
         ensures index { result.index ≡ spot.entry.index }
         ensures shift { result.shift ≡ spot.entry.shift }
         ensures rest { result.entries ≡ drop spot.entry.index self.now.entries }

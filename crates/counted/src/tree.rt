@@ -108,7 +108,7 @@ impl CountedTree {
     ) -> Spot<'_>
         requires met { MayMeet target self.now.entries }
         ensures place { IsPlace (is_before (P.stand probe.now) target) (pos 0) self.now.entries result.index }
-        ensures at { IsAt self.now.entries result.index result.shift result.leaf.now result.head }
+        ensures at { IsAt self.now.entries result.index result.shift result.leaf.now result.lead }
         ensures steps { ((weight : ℤ) → IsSome (P.by_weight probe.now weight)) → steps.new ≡ steps.old + self.now.depth }
         ensures levels { IsDepth self.now.depth (length self.now.entries) }
         ensures few { length self.now.entries < 2 ^ 61 }
@@ -310,7 +310,7 @@ pub(crate) fn place_uncounted<'a, P: Probe, L: Ledger>(
     requires some { 0 < L.parts }
     requires met { MayMeet target tree.now.entries }
     ensures place { IsPlace (is_before (P.stand probe.now) target) (pos 0) tree.now.entries result.index }
-    ensures at { IsAt tree.now.entries result.index result.shift result.leaf.now result.head }
+    ensures at { IsAt tree.now.entries result.index result.shift result.leaf.now result.lead }
 {
     let mut steps = Steps::<L>::new(blank);
     tree.place_of(target, probe, &mut steps)

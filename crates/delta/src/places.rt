@@ -5,7 +5,7 @@ ghost use Rattle.std.specs.Ordering.{is_gt};
 ghost use Rattle.values.specs.declared.row.Row.{Row};
 ghost use Rattle.counted.specs.Changes.{change_of};
 ghost use Rattle.counted.specs.declared.search.Target.TheVariants.{Rid};
-ghost use Rattle.counted.specs.Heads.{head_of};
+ghost use Rattle.counted.specs.Leads.{lead_of};
 ghost use Rattle.counted.specs.Search.{is_before, IsPlace};
 ghost use Rattle.counted.specs.Sums.{total};
 ghost use Rattle.model.specs.declared.entry.Entry.{Entry};
@@ -17,7 +17,7 @@ ghost use Rattle.delta.specs.Depth.{CountsEachLevel};
 ghost use Rattle.delta.specs.Starts.{IsStart, place_at};
 
 use crate::tree::DeltaTree;
-use counted::{ChangeRef, CountedTree, Head, Iter, Probe, SharedEntry, Steps, Target};
+use counted::{ChangeRef, CountedTree, Iter, Lead, Probe, SharedEntry, Steps, Target};
 use std::cmp::Ordering;
 use std::sync::ledger::Ledger;
 
@@ -80,7 +80,7 @@ impl DeltaTree {
     {
         let found = self.tree.place_of(Target::Rid(rid), &RowThere, steps);
         let sid = next_row(&self.tree, rid, &RowThere, found.index, found.shift);
-        row_of(found.head, found.index, sid)
+        row_of(found.lead, found.index, sid)
     }
 
     /// Where a walk over the image starts at a position: at the insert whose row stands there, or before the modifies of the
@@ -137,16 +137,16 @@ pub(crate) fn row_at(entry: Option<&SharedEntry>, index: usize, sid: u64) -> Pla
     ensures { result ≡ place_at index sid (option_copied entry.entry) }
 {
     match entry {
-        Some(found) => row_of(Some(found.head()), index, sid),
+        Some(found) => row_of(Some(found.lead()), index, sid),
         None => Place::Base(sid),
     }
 }
 
-/// The same by the head of the entry there.
-fn row_of(head: Option<Head>, index: usize, sid: u64) -> Place
-    ensures { (entry : Option Entry) → head ≡ option_map head_of entry → result ≡ place_at index sid entry }
+/// The same by the lead of the entry there.
+fn row_of(lead: Option<Lead>, index: usize, sid: u64) -> Place
+    ensures { (entry : Option Entry) → lead ≡ option_map lead_of entry → result ≡ place_at index sid entry }
 {
-    match head {
+    match lead {
         Some(found) if found.sid == sid && found.weight > 0 => Place::Inserted(index),
         _ => Place::Base(sid),
     }

@@ -31,26 +31,26 @@ use Rattle.model.proofs.CallerLemmas.{first, second, both, less, turn_less, turn
 use Rattle.delta.specs.Search.{base_cmp, stands_before, IsSplit}
 use Rattle.delta.proofs.CallerLemmas.{insert_count-cons, delete_count-cons, insert_worth, delete_worth, entry_cmp-trans, ordered_right}
 use Rattle.delta.proofs.CallerLemmas.{split_is}
-use Rattle.layers.specs.Serialization.{row_cmp, clash_cmp, clash_with_head}
+use Rattle.layers.specs.Serialization.{row_cmp, clash_cmp, clash_with_first}
 use Rattle.layers.proofs.RowPlaceLemmas.{cond_length, inserts_cond, deletes_cond}
 
 -- ---- the first entry that is left
 
 module _ (rule : ConflictRule) (key_cols i j : ℕ) (x : Entry) where
-  pub clash_head : (y : Entry) (es : List Entry) → slice_get es j ≡ Some y →
-      or_clash i j (clash_of_entries rule key_cols x y) None ≡ clash_with_head rule key_cols i x j (drop j es)
-  clash_head y es is = by j es is
+  pub clash_first : (y : Entry) (es : List Entry) → slice_get es j ≡ Some y →
+      or_clash i j (clash_of_entries rule key_cols x y) None ≡ clash_with_first rule key_cols i x j (drop j es)
+  clash_first y es is = by j es is
     where
       by : (n : ℕ) (zs : List Entry) → slice_get zs n ≡ Some y →
-          or_clash i j (clash_of_entries rule key_cols x y) None ≡ clash_with_head rule key_cols i x j (drop n zs)
+          or_clash i j (clash_of_entries rule key_cols x y) None ≡ clash_with_first rule key_cols i x j (drop n zs)
       by n [] p = cc
       by zero (z ∷ zs) p = let same : y ≡ z = cc in ap (λ (e : Entry). or_clash i j (clash_of_entries rule key_cols x e) None) same
       by (suc n) (z ∷ zs) p = by n zs p
 
-  pub clash_none : (es : List Entry) → slice_get es j ≡ None → None ≡ clash_with_head rule key_cols i x j (drop j es)
+  pub clash_none : (es : List Entry) → slice_get es j ≡ None → None ≡ clash_with_first rule key_cols i x j (drop j es)
   clash_none es is = by j es is
     where
-      by : (n : ℕ) (zs : List Entry) → slice_get zs n ≡ None → None ≡ clash_with_head rule key_cols i x j (drop n zs)
+      by : (n : ℕ) (zs : List Entry) → slice_get zs n ≡ None → None ≡ clash_with_first rule key_cols i x j (drop n zs)
       by zero [] p = refl
       by (suc n) [] p = refl
       by zero (z ∷ zs) p = cc
@@ -344,7 +344,7 @@ module _ (key_cols : ℕ) where
           off Greater g e = cc
 
       at_head : (ys : List Entry) (i j : ℕ) → T (are_ordered key_cols ys) → T (list_all (λ y. not (stands_off y)) ys) →
-          T (list_all (agrees x) ys) → clash_with rule key_cols i x j ys ≡ clash_with_head rule key_cols i x j ys
+          T (list_all (agrees x) ys) → clash_with rule key_cols i x j ys ≡ clash_with_first rule key_cols i x j ys
       at_head [] i j o h a = refl
       at_head (y ∷ ys) i j o h a = by (clash_of_entries rule key_cols x y) refl
         where
@@ -368,7 +368,7 @@ module _ (key_cols : ℕ) where
 
       -- the first clash is that with the entry at the change's place, or there is none
       pub clash_place : (es : List Entry) (n i : ℕ) → T (are_ordered key_cols es) → IsSplit stands_off es n → T (list_all (agrees x) es) →
-          clash_with rule key_cols i x 0 es ≡ clash_with_head rule key_cols i x n (drop n es)
+          clash_with rule key_cols i x 0 es ≡ clash_with_first rule key_cols i x n (drop n es)
       clash_place es n i o split a =
           let count : 0 + length (take n es) ≡ n = omega (arith, length-take n es, split.within) in
           let order = ordered_right key_cols (take n es) (drop n es)

@@ -23,7 +23,7 @@ use Rattle.layers.specs.declared.cursor.Cursor.{Cursor}
 use Rattle.layers.specs.Held.{moved_by}
 use Rattle.layers.specs.Over.{AreAligned}
 use Rattle.layers.specs.Passing.{IsCursor, AreBefore}
-use Rattle.layers.specs.Serialization.{clash_cmp, clash_with_head}
+use Rattle.layers.specs.Serialization.{clash_cmp, clash_with_first}
 use Rattle.model.proofs.CallerLemmas.{both, first, second}
 use Rattle.layers.proofs.ClashLemmas.{agrees, clash_order, rebased_place, unclashed_entry}
 use Rattle.layers.proofs.PassLemmas.{is_before, tested, greater_sid, sids_greater, split_none, split_some, all_still}
@@ -196,7 +196,7 @@ module _ (rule : ConflictRule) (x y : Tree) (w : AreAligned x y) where
           clash_is rule x y w n e 0 at zeroth ∙ by y.entries head (agree rule x y w n e at)
         where
           by : (ys : List Entry) → slice_get ys 0 ≡ Some y0 → T (list_all (agrees y.key_cols e) ys)
-              → clash_with_head rule y.key_cols n e 0 ys ≡ None
+              → clash_with_first rule y.key_cols n e 0 ys ≡ None
           by [] is a = cc
           by (z ∷ ys) is a =
               let same : z ≡ y0 = cc in
@@ -277,7 +277,7 @@ module _ (rule : ConflictRule) (x y : Tree) (w : AreAligned x y) where
         let size = none_there c.passed c.tree.now.entries past in
         let none = none_left c.passed y.entries (subst (λ (t : Tree). length t.entries ≤ c.passed) tree size) in
         clash_is rule x y w n e c.passed at (split_at e before)
-        ∙ ap (clash_with_head rule y.key_cols n e c.passed) none
+        ∙ ap (clash_with_first rule y.key_cols n e c.passed) none
 
     -- those from an index on move alike, and clash with none
     abbrev MoveAlike : ℕ → Type 0

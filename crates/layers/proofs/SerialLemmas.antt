@@ -25,7 +25,7 @@ use Rattle.delta.specs.Search.{stands_before, IsSplit}
 use Rattle.delta.specs.Tree.{Tree}
 use Rattle.layers.specs.Over.{IsTreeOf, AreAligned}
 use Rattle.layers.specs.Passing.{put_entries}
-use Rattle.layers.specs.Serialization.{clash_cmp, clash_with_head, rebased_tree}
+use Rattle.layers.specs.Serialization.{clash_cmp, clash_with_first, rebased_tree}
 use Rattle.delta.proofs.CallerLemmas.{inserts_less_deletes, length-entries_over}
 use Rattle.layers.proofs.ClashLemmas.{agrees, is_ranked, agree_all, ranked-canonical_entries, clash_place}
 
@@ -243,7 +243,7 @@ module _ (rule : ConflictRule) (x y : Tree) (w : AreAligned x y) where
   -- the first clash of an entry is that at its place
   pub clash_is : (n : ℕ) (e : Entry) (p : ℕ) → slice_get x.entries n ≡ Some e
       → IsSplit (stands_before (clash_cmp y.key_cols rule e.change) e.sid) y.entries p
-      → clash_with rule y.key_cols n e 0 y.entries ≡ clash_with_head rule y.key_cols n e p (drop p y.entries)
+      → clash_with rule y.key_cols n e 0 y.entries ≡ clash_with_first rule y.key_cols n e p (drop p y.entries)
   clash_is n e p at split = clash_place y.key_cols rule e y.entries p n order_y split (agree n e at)
 
   -- the first clash of all, in the words of the effects

@@ -47,12 +47,12 @@ module _ (key_cols : ℕ) where
   clash_cmp ByRow x y = row_cmp x y
 
 -- the clash of the entry at place i with the first of these, the one at place j
-abbrev pub clash_with_head : ConflictRule → ℕ → ℕ → Entry → ℕ → List Entry → Option Clash
-clash_with_head rule key_cols i x j [] = None
-clash_with_head rule key_cols i x j (y ∷ ys) = or_clash i j (clash_of_entries rule key_cols x y) None
+abbrev pub clash_with_first : ConflictRule → ℕ → ℕ → Entry → ℕ → List Entry → Option Clash
+clash_with_first rule key_cols i x j [] = None
+clash_with_first rule key_cols i x j (y ∷ ys) = or_clash i j (clash_of_entries rule key_cols x y) None
 
 -- the clash of the entry at place i, if there is one, is that with the first entry that it can clash with
 abbrev pub IsClashBeside : ConflictRule → ℕ → ℕ → Entry → List Entry → Option Clash → Type 0
 IsClashBeside rule key_cols i x ys clash =
     (j : ℕ) × IsSplit (stands_before (clash_cmp key_cols rule x.change) x.sid) ys j
-    × (clash ≡ clash_with_head rule key_cols i x j (drop j ys))
+    × (clash ≡ clash_with_first rule key_cols i x j (drop j ys))

@@ -9,7 +9,7 @@ ghost use Rattle.delta.specs.Search.{base_cmp, stands_before, IsSplit};
 ghost use Rattle.model.specs.Entries.{change_cmp};
 ghost use Rattle.model.specs.Rebasing.{clash_of_entries, clash_of_changes, columns_clash, or_clash};
 ghost use Rattle.model.specs.declared.entry.Entry.{Entry};
-ghost use Rattle.layers.specs.Serialization.{clash_cmp, clash_with_head, turned_clash, IsClashBeside};
+ghost use Rattle.layers.specs.Serialization.{clash_cmp, clash_with_first, turned_clash, IsClashBeside};
 
 use delta::{ChangeRef, DeltaTree, SharedEntry, SidPlace, Sought};
 use model::{Clash, ClashKind, ConflictRule};
@@ -110,7 +110,7 @@ pub(crate) fn clash_at(
     there: Option<&SharedEntry>,
 ) -> Option<Clash>
     ensures { (es : List Entry) → option_copied there.entry ≡ slice_get es j → result
-        ≡ clash_with_head rule key_cols i entry.now j (drop j es) }
+        ≡ clash_with_first rule key_cols i entry.now j (drop j es) }
 {
     match there {
         Some(found) => clash_of_kind(i, j, clash_of_entries(rule, key_cols, entry, found)),

@@ -8,8 +8,8 @@ abbrev pub IsCounted : List Cell → List Item → Type 0
 IsCounted cells log = (n : ℕ) × (length log ≡ n + 1) × (cells ≡ (n, true) ∷ [])
 
 -- the word of a book
-abbrev pub head_of : Book → Named
-head_of book = record { tracked = true; key = 0; book = book }
+abbrev pub counter_of : Book → Named
+counter_of book = record { tracked = true; key = 0; book = book }
 
 -- the item was added to all that had been seen; or the list was longer
 abbrev pub Adds : Step Item → View Item ℕ → ℕ → View Item ℕ → Type 0

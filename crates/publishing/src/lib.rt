@@ -20,4 +20,4 @@ pub use item::Item;
 pub use opening::Opening;
 pub use published::{Notes, Published, Publishing, Sees, View};
 pub use reading::{ReadingFault, VersionReader, newest_seen};
-pub use seen::{Head, NewBook, SeenList};
+pub use seen::{ItemCounter, NewBook, SeenList};

@@ -2,7 +2,7 @@
 ghost use Rattle.std.specs.Prelude.{◌≡◌, ◌+◌, ◌<◌, ◌^◌, ◌++◌, ◌∷◌, ◌⊎◌, [], length, IfSome};
 ghost use mathlib.Core.List.{IsPrefix};
 ghost use Rattle.publishing.specs.Lists.{number_in, with_item};
-ghost use Rattle.publishing.specs.Rules.{head_of};
+ghost use Rattle.publishing.specs.Rules.{counter_of};
 
 use crate::book::{Add, Counted, Nothing, Starts};
 use crate::item::Item;
@@ -79,9 +79,9 @@ impl SeenList {
 /// The book of an opening that no type stands for yet.
 #[derive(Drop)]
 pub struct NewBook {
-    head: Word<Item, u64, Counted>,
+    counter: Word<Item, u64, Counted>,
     pub list: SeenList,
-    ghost head_is: { head ≡ head_of list.opening.book },
+    ghost counter_is: { counter ≡ counter_of list.opening.book },
 }
 
 impl NewBook {
@@ -97,7 +97,7 @@ impl NewBook {
             1,
         );
         NewBook {
-            head: Word::tracked(0, &mut pens.take()),
+            counter: Word::tracked(0, &mut pens.take()),
             list: SeenList {
                 items: 0,
                 number: manager.version().number(),
@@ -107,14 +107,14 @@ impl NewBook {
     }
 
     /// The book under its name: its word, and the list with no items.
-    pub fn named<O: Opening>(self) -> (Head<O>, SeenList)
+    pub fn named<O: Opening>(self) -> (ItemCounter<O>, SeenList)
         requires { self.list.opening ≡ O.opened }
         ensures { result.1 ≡ self.list }
     {
-        let NewBook { head, list } = self;
+        let NewBook { counter, list } = self;
         (
-            Head {
-                head,
+            ItemCounter {
+                counter,
                 of: PhantomData,
             },
             list,
@@ -124,23 +124,23 @@ impl NewBook {
 
 /// The word that counts the items of an opening's list.
 #[derive(Drop)]
-pub struct Head<O: Opening> {
-    head: Word<Item, u64, Counted>,
+pub struct ItemCounter<O: Opening> {
+    counter: Word<Item, u64, Counted>,
     of: PhantomData<O>,
 }
 
-impl<O: Opening> Model for Head<O> {
+impl<O: Opening> Model for ItemCounter<O> {
     ghost use Rattle.std.specs.Prelude.{◌≡◌};
-    ghost use Rattle.publishing.specs.Rules.{head_of};
+    ghost use Rattle.publishing.specs.Rules.{counter_of};
 
     ghost Value = { Unit {0} };
 
     ghost view = { λ h. tt };
 
-    ghost invariant = { λ h. h.head ≡ head_of O.opened.book };
+    ghost invariant = { λ h. h.counter ≡ counter_of O.opened.book };
 }
 
-impl<O: Opening> Head<O> {
+impl<O: Opening> ItemCounter<O> {
     /// Adds an item behind all that was seen. It does not where the list is longer.
     pub fn add(&self, list: &SeenList, item: Item, number: u64) -> Option<SeenList>
         requires opening { list.now.opening ≡ O.opened }
@@ -153,7 +153,7 @@ impl<O: Opening> Head<O> {
         let mut pen = seen.no_pen();
         let items = list.items;
         let found = self
-            .head
+            .counter
             .compare_exchange::<Add, Nothing>(items, items + 1, &mut seen, &mut offer, &mut pen);
         if found != items {
             return None;

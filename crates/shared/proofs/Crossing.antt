@@ -30,9 +30,9 @@ use Rattle.publishing.specs.contracts.published.Published as Published
 use Rattle.publishing.specs.contracts.published.PublishedAbsorb.TheImpl as absorbs
 use Rattle.publishing.specs.contracts.published.Publishing as Publishing
 use Rattle.publishing.specs.contracts.published.PublishingProtocolPublishedView.TheImpl as protocol
-use Rattle.publishing.specs.contracts.seen.Head as Head
+use Rattle.publishing.specs.contracts.seen.ItemCounter as ItemCounter
 use Rattle.publishing.specs.contracts.seen.SeenList as SeenList
-use Rattle.publishing.proofs.seen.Head.TheSendSync as head
+use Rattle.publishing.proofs.seen.ItemCounter.TheSendSync as counter
 use Rattle.publishing.proofs.seen.SeenList.TheSendSync as list
 use Rattle.shared.specs.declared.store.ImageStore as store
 use Rattle.shared.specs.contracts.locked.Locked as Locked
@@ -106,7 +106,7 @@ module _ (O : RattleType) (g : opening.Ghosts O.Denot) (h : ledger.Ghosts O.Deno
 
   publisher_send : IsSend (Publisher.the_row O g h)
   publisher_send = view_send _ _ _ _ _ (declared_send (publisher.the_type O g h) (
-    as_row_send (Head.the_field O g h) (head.the_send O g h),
+    as_row_send (ItemCounter.the_field O g h) (counter.the_send O g h),
     (as_row_send SeenList.the_field list.the_send, (writer_place_send, tt)),
   ))
 

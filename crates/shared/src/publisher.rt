@@ -12,7 +12,7 @@ ghost use Rattle.txn.specs.Version.{lower_table, table_version};
 use crate::laws::kept;
 use left_right::writer::Writer;
 use manager::{Manager, Prepared};
-use publishing::{Head, Item, Opening, Published, Publishing, SeenList, Sees, View};
+use publishing::{Item, ItemCounter, Opening, Published, Publishing, SeenList, Sees, View};
 use std::marker::Model;
 use std::snapshot::Snapshot;
 use std::sync::Wait;
@@ -27,7 +27,7 @@ pub type VersionWriter = Writer<Published, Published, View, Publishing>;
 
 /// What publishes the versions of an opening. Contracts see the items of its list, which is what the readers are shown.
 pub struct Publisher<O: Opening> {
-    head: Head<O>,
+    counter: ItemCounter<O>,
     list: SeenList,
     /// Nothing only while it publishes.
     writer: Option<VersionWriter>,
@@ -50,7 +50,7 @@ impl<O: Opening> Model for Publisher<O> {
 /// Publishes a version with one item more, which says so. At `Err` the same is published as before.
 fn publish<O: Opening, R: Wait>(
     rt: &R,
-    head: &Head<O>,
+    counter: &ItemCounter<O>,
     list: &SeenList,
     mut writer: VersionWriter,
     version: Version,
@@ -65,7 +65,7 @@ fn publish<O: Opening, R: Wait>(
     ensures { MatchResult result.1 (λ next. (next ≡ with_item list.now item) × (result.0.desk.shown.value ≡ next))
         (λ _. result.0.desk.shown.value ≡ list.now) }
 {
-    let Some(next) = head.add(list, item, version.number()) else {
+    let Some(next) = counter.add(list, item, version.number()) else {
         return (writer, Err(NoMemory));
     };
     let operation = Published::new(version, next.again());
@@ -91,13 +91,13 @@ fn put_back(place: &mut Option<VersionWriter>, writer: VersionWriter)
 
 impl<O: Opening> Publisher<O> {
     /// The publisher of a list that its writer shows.
-    pub fn new(head: Head<O>, list: SeenList, writer: VersionWriter) -> Publisher<O>
+    pub fn new(counter: ItemCounter<O>, list: SeenList, writer: VersionWriter) -> Publisher<O>
         requires opening { list.opening ≡ O.opened }
         requires shown { writer.desk.shown.value ≡ list }
         ensures { result ≡ list.list }
     {
         Publisher {
-            head,
+            counter,
             list,
             writer: Some(writer),
         }
@@ -141,7 +141,7 @@ impl<O: Opening> Publisher<O> {
             return Err(NoMemory);
         }
         let writer = self.writer.take().unwrap();
-        match publish(rt, &self.head, &self.list, writer, version, item) {
+        match publish(rt, &self.counter, &self.list, writer, version, item) {
             (writer, Ok(next)) => {
                 put_back(&mut self.writer, writer);
                 self.list = next;
@@ -220,7 +220,7 @@ impl<O: Opening> Publisher<O> {
         ensures opening { result.opening ≡ O.opened }
     {
         let Publisher {
-            head: _head,
+            counter: _counter,
             list,
             writer,
         } = self;

@@ -208,13 +208,13 @@ pub fn open<O: Opening, S: ImageStore, R: Wait>(
     }
     let counts = Vec::with_capacity(alloc, clients as usize)?;
     let NewOpening { book, blank } = fresh;
-    let (head, list) = book.named::<O>();
+    let (counter, list) = book.named::<O>();
     let row_limit = manager.row_limit();
     let mut writer = writer_over(alloc, &manager, &list, clients, wait)?;
     let (book, mut rest) = blank.open::<O>();
     match sessions_of(alloc, clients, row_limit, &mut writer, &list, &mut rest) {
         Ok(sessions) => {
-            let publisher = Publisher::new(head, list, writer);
+            let publisher = Publisher::new(counter, list, writer);
             let state = Mutex::new(Locked::new(manager, store, book, rest, publisher));
             Ok((Shared { state, counts }, sessions))
         }

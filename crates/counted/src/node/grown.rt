@@ -4,12 +4,12 @@ ghost use Rattle.std.specs.List.{All};
 ghost use Rattle.model.specs.declared.entry.Entry.{Entry};
 ghost use Rattle.counted.specs.declared.node.TheConstants.{MAX_WIDTH, MIN_WIDTH};
 ghost use Rattle.counted.specs.Grown.{IsGrown, grown_items, grown_width, AreGrown, IsSameChild, IsSized, AreCounts};
-ghost use Rattle.counted.specs.Heads.{head_of};
+ghost use Rattle.counted.specs.Leads.{lead_of};
 ghost use Rattle.counted.specs.Shapes.{IsChild, all_items, items_of, depth_of};
 
 use crate::SharedEntry;
 use crate::children::{count_of, net_of};
-use crate::entry::Head;
+use crate::entry::Lead;
 use crate::leaf::total_of;
 use crate::node::{Body, Child, MAX_WIDTH, Node};
 use std::alloc::{AllocError, Global};
@@ -49,14 +49,14 @@ impl Node {
     }
 
     /// What is kept of its first entry.
-    pub(crate) fn head(&self) -> Head
+    pub(crate) fn lead(&self) -> Lead
         requires full { MIN_WIDTH ≤ self.now.width }
-        ensures head { (e : Entry) → slice_get self.now.items 0 ≡ Some e → result ≡ head_of e }
+        ensures lead { (e : Entry) → slice_get self.now.items 0 ≡ Some e → result ≡ lead_of e }
         ensures sized { IsSized self.now }
     {
         match &self.body {
-            Body::Leaf(entries) => entries[0].head(),
-            Body::Inner(children) => children[0].head,
+            Body::Leaf(entries) => entries[0].lead(),
+            Body::Inner(children) => children[0].lead,
         }
     }
 }
@@ -70,11 +70,11 @@ impl Child {
         ensures items { IfOk result (λ c. items_of c ≡ node.items) }
     {
         let counts = node.counts();
-        let head = node.head();
+        let lead = node.lead();
         Ok(Child {
             count: counts.count,
             net: counts.net,
-            head,
+            lead,
             node: Arc::new(alloc, node)?,
         })
     }
@@ -88,7 +88,7 @@ impl Child {
         Ok(Child {
             count: self.count,
             net: self.net,
-            head: self.head,
+            lead: self.lead,
             node,
         })
     }

@@ -127,7 +127,7 @@ impl Child {
         };
         match node.edit_in_place(alloc, at, gone, put, MIN_WIDTH) {
             Ok(added) => {
-                self.head = node.head();
+                self.lead = node.lead();
                 self.count = self.count + more - gone;
                 self.net += added;
                 Ok(added)

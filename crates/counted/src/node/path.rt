@@ -59,7 +59,7 @@ impl Node {
 }
 
 impl<'a> Path<'a> {
-    /// What the node at the head of the path grows to where its leaf has grown to this: on each level, from the leaf's parent
+    /// What the node at the top of the path grows to where its leaf has grown to this: on each level, from the leaf's parent
     /// up, a new node over what the child became.
     pub(crate) fn grown(self, alloc: Global, leaf: Grown) -> Result<Grown, AllocError>
         requires branches { AreBranches 1 2 self.branches.items }

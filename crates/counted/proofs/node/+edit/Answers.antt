@@ -38,7 +38,7 @@ Child::edit_in_place-returns-in-Ok-clause-child t c =
     child_edit c.args.self.now.node.value.depth c.args.at c.args.gone c.args.put c.in-Ok.added c.args.self.now _ is c.requires.within edit
     (c.in-Ok.ensures.depth ∙ ap (λ (v : View). v.depth) was)
     (c.in-Ok.ensures.enough (omega (arith, is.full, ap (λ (v : View). v.width) was)))
-    c.head-self.ensures.sized c.head-self.ensures.head (omega (arith, is.count, c.requires.within)) (omega (arith, ints, is.net))
+    c.lead-self.ensures.sized c.lead-self.ensures.lead (omega (arith, is.count, c.requires.within)) (omega (arith, ints, is.net))
 
 pub Node::edit_in_place-edit_in_place-requires : goal.Node::edit_in_place-edit_in_place-requires
 Node::edit_in_place-edit_in_place-requires t c =

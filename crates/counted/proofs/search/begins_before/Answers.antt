@@ -4,7 +4,7 @@ use Rattle.std.proofs.lemmas.Int.{to_z-of_z}
 use Rattle.model.specs.declared.entry.Entry.{Entry}
 use Rattle.counted.specs.Search.{is_before}
 use Rattle.counted.specs.Shapes.{items_of}
-use Rattle.counted.proofs.Searches.{before_by, first_one, head_sid, head_weight, past_then, short_then, tied_then}
+use Rattle.counted.proofs.Searches.{before_by, first_one, lead_sid, lead_weight, past_then, short_then, tied_then}
 use Rattle.counted.proofs.search.begins_before.Given as given
 use Rattle.counted.proofs.search.begins_before.Goals.{Else-is_short_of}
 use Rattle.counted.proofs.search.begins_before.Goals as goal
@@ -13,14 +13,14 @@ pub returns-then-is_past-clause-before : goal.returns-then-is_past-clause-before
 returns-then-is_past-clause-before g c = λ e is.
     let plain = to_z-of_z w64 c.args.up c.ranges.up in
     let past = rw plain at c.is_past.ensures in
-    before_by (g.P.Probe.stand c.args.probe.now) c.args.target e _ c.args.up (head_sid _ e (c.requires.head e is))
+    before_by (g.P.Probe.stand c.args.probe.now) c.args.target e _ c.args.up (lead_sid _ e (c.requires.lead e is))
     ∙ past_then _ _ (sym past ∙ c.if-is_past.true)
 
 pub returns-then-is_short_of-clause-before : goal.returns-then-is_short_of-clause-before
 returns-then-is_short_of-clause-before g c = λ e is.
     let plain = to_z-of_z w64 c.args.up c.ranges.up in
     let short = rw plain at c.is_short_of.ensures in
-    before_by (g.P.Probe.stand c.args.probe.now) c.args.target e _ c.args.up (head_sid _ e (c.requires.head e is))
+    before_by (g.P.Probe.stand c.args.probe.now) c.args.target e _ c.args.up (lead_sid _ e (c.requires.lead e is))
     ∙ short_then _ _ (sym short ∙ c.if-is_short_of.true)
 
 -- past both tests the first entry stands at the target
@@ -30,13 +30,13 @@ tied g c e is =
     let plain = to_z-of_z w64 c.args.up c.ranges.up in
     let past = rw plain at c.is_past.ensures in
     let short = rw plain at c.is_short_of.ensures in
-    before_by (g.P.Probe.stand c.args.probe.now) c.args.target e _ c.args.up (head_sid _ e (c.requires.head e is))
+    before_by (g.P.Probe.stand c.args.probe.now) c.args.target e _ c.args.up (lead_sid _ e (c.requires.lead e is))
     ∙ tied_then _ _ (sym past ∙ c.if-is_past.false) (sym short ∙ c.if-is_short_of.false)
 
 pub returns-in-Some-clause-before : goal.returns-in-Some-clause-before
 returns-in-Some-clause-before g c = λ e is.
     tied g (goal.at.returns-in-Some-clause-before g c).Else-is_short_of e is
-    ∙ ap is_gt (c.compare_weight.ensures.tells e.change c.in-Some.order (head_weight _ e (c.requires.head e is)) c.in-Some.is)
+    ∙ ap is_gt (c.compare_weight.ensures.tells e.change c.in-Some.order (lead_weight _ e (c.requires.lead e is)) c.in-Some.is)
     ∙ sym c.is_gt.ensures
 
 pub returns-in-None-clause-before : goal.returns-in-None-clause-before

@@ -5,9 +5,9 @@ use Rattle.counted.specs.declared.node.Child.{Child}
 use Rattle.counted.specs.Search.{is_before, ArePlaced, IsChildPlace, IsNear, IsUp}
 use Rattle.counted.specs.Shapes.{items_of, all_items}
 use Rattle.counted.specs.Sums.{total}
-use Rattle.counted.proofs.Heads.{first_entry}
+use Rattle.counted.proofs.Leads.{first_entry}
 use Rattle.counted.proofs.Places.{child_read, child_some, count_within}
-use Rattle.counted.proofs.Searches.{before_up, child_placed, head_placed, near_part, reached}
+use Rattle.counted.proofs.Searches.{before_up, child_placed, lead_placed, near_part, reached}
 use Rattle.counted.proofs.search.child_before.Given as given
 use Rattle.counted.proofs.search.child_before.Goals.{After-index-children-next}
 use Rattle.counted.proofs.search.child_before.Goals as goal
@@ -38,8 +38,8 @@ begins_before-requires-clause-reached g c =
     let x = c.index-children-next.result in
     let is = child_read cs m x c.requires.children lt c.index-children-next.is in
     let at = (goal.at.begins_before-requires-clause-reached g c).After-index-children-next in
-    reached c.args.target (all_items cs) x.head.sid _ _ c.requires.met
-    (λ placed. head_placed (items_of x) x.head (child_some _ _ is) is.head
+    reached c.args.target (all_items cs) x.lead.sid _ _ c.requires.met
+    (λ placed. lead_placed (items_of x) x.lead (child_some _ _ is) is.lead
     (subst (λ (y : Child). ArePlaced (items_of y)) (sym c.index-children-next.is) (child_placed cs m x lt placed)))
     (here g at) (near_part (all_items (take m cs)) (all_items cs) _ (count_within cs m) (near g at))
 

@@ -8,7 +8,7 @@ use Rattle.counted.proofs.node.Child.new.Goals as goal
 pub returns-clause-counts : goal.returns-clause-counts
 returns-clause-counts c =
     let counts = c.counts-counts.ensures in
-    let sized = c.head-head.ensures.sized in
+    let sized = c.lead-lead.ensures.sized in
     let node = c.in_ok-new.ensures.ok in
     record {
       level = ap (λ (v : View). v.depth) node;
@@ -18,5 +18,5 @@ returns-clause-counts c =
       most = let P : View → Type 0 = λ v. length v.items ≤ MAX_WIDTH ^ c.args.node.depth in subst P (sym node) sized.most;
       count = counts.count ∙ sym (ap (λ (v : View). length v.items) node);
       net = omega (arith, ints, ap (λ (v : View). total v.items) node);
-      head = λ e first. c.head-head.ensures.head e (ap (λ (v : View). slice_get v.items 0) (sym node) ∙ first);
+      lead = λ e first. c.lead-lead.ensures.lead e (ap (λ (v : View). slice_get v.items 0) (sym node) ∙ first);
     }

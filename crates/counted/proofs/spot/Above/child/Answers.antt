@@ -34,4 +34,4 @@ returns-clause-shift c =
 pub returns-clause-below : goal.returns-clause-below
 returns-clause-below c = λ items d b.
     below_moved _ _ _ _ _ _ _ _ (omega (arith, c.sums_before-count.ensures.count)) (sym (returns-clause-shift c)) refl
-    (below_child _ _ _ _ _ _ _ d c.requires.children c.requires.within b c.head_behind.ensures.more c.head_behind.ensures.last)
+    (below_child _ _ _ _ _ _ _ d c.requires.children c.requires.within b c.lead_behind.ensures.more c.lead_behind.ensures.last)

@@ -21,4 +21,4 @@ returns-clause-at c = λ items b.
     let v = total_within (take c.args.at c.args.entries.now) in
     spot_at _ _ _ _ c.args.entries.now _ _ c.args.at _ _ _ c.requires.within b refl refl
     (omega (arith, ints, w.above, w.below, v.above, v.below, length-take c.args.at c.args.entries.now, c.total_of.ensures))
-    (take_all _ _ (omega (arith, length-drop c.args.at c.args.entries.now))) c.head_or.ensures.head c.head_or.ensures.next
+    (take_all _ _ (omega (arith, length-drop c.args.at c.args.entries.now))) c.lead_or.ensures.lead c.lead_or.ensures.next

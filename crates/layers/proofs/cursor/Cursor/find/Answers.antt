@@ -2,7 +2,7 @@ use Rattle.std.proofs.Common.{ℕ, ◌+◌, ◌-◌, take, drop, sym, ap, ◌∙
 use Rattle.std.specs.Prelude.{slice_get}
 use Rattle.model.specs.Places.{rid_of_insert}
 use Rattle.delta.specs.Tree.{Tree}
-use Rattle.layers.specs.Serialization.{clash_with_head}
+use Rattle.layers.specs.Serialization.{clash_with_first}
 use Rattle.layers.proofs.ClashLemmas.{rebased_place}
 use Rattle.layers.proofs.PassLemmas.{ahead_at, counts_fit}
 use Rattle.layers.proofs.cursor.Cursor.find.Goals as goal
@@ -32,5 +32,5 @@ returns-clause-clash c =
     c.first.ensures ∙ sym (ahead_at now c.pass_before.ensures.cursor) ∙ ap (λ (t : Tree). slice_get t.entries now.passed) tree in
     let cols = c.key_cols.ensures ∙ ap (λ (t : Tree). t.key_cols) tree in
     let clash = c.clash_at.ensures y.entries at in
-    let head = ap (λ (k : ℕ). clash_with_head c.args.rule k c.args.i c.args.entry.now now.passed (drop now.passed y.entries)) cols in
+    let head = ap (λ (k : ℕ). clash_with_first c.args.rule k c.args.i c.args.entry.now now.passed (drop now.passed y.entries)) cols in
     (now.passed, c.pass_before.ensures.split, clash ∙ head)

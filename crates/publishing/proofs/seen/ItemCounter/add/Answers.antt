@@ -1,6 +1,6 @@
 use Rattle.std.proofs.Common.{sym, ◌∙◌, ap, length}
 use Rattle.publishing.proofs.Adding.{adds_moves}
-use Rattle.publishing.proofs.seen.Head.add.Goals as goal
+use Rattle.publishing.proofs.seen.ItemCounter.add.Goals as goal
 
 pub compare_exchange-found-requires : goal.compare_exchange-found-requires
 compare_exchange-found-requires g c =
