@@ -3,19 +3,19 @@
 
 mod children;
 mod entry;
+mod entry_place;
 mod iter;
 mod leaf;
 mod node;
 mod search;
 mod spot;
-mod starts;
 mod steps;
 mod tree;
 
 pub use entry::{ChangeRef, Lead, SharedEntry};
+pub use entry_place::EntryPlace;
 pub use iter::Iter;
 pub use search::{First, Probe, Target};
 pub use spot::Spot;
-pub use starts::Start;
 pub use steps::Steps;
 pub use tree::CountedTree;

@@ -8,7 +8,7 @@ mod LookupLemmas
 mod RangesLemmas
 mod PositionsLemmas
 mod GapLemmas
-mod StartLemmas
+mod WalkLemmas
 mod LengthLemmas
 mod LawsLemmas
 mod CountedLemmas

@@ -16,7 +16,7 @@ use Rattle.delta.specs.declared.places.Place.TheVariants.{Inserted, Base}
 use Rattle.delta.specs.Changes.{is_delete_at}
 use Rattle.delta.specs.Positions.{IsAtRid}
 use Rattle.delta.specs.Search.{base_cmp, first_cmp, stands_before, IsSplit}
-use Rattle.delta.specs.Starts.{IsStart, place_at}
+use Rattle.delta.specs.Walks.{IsWalk, place_at}
 use Rattle.delta.proofs.CountLemmas.{insert_worth, delete_worth, insert_count-cons, delete_count-cons}
 use Rattle.delta.proofs.CountedLemmas.{next_passes, none_is, some_is, split_where}
 use Rattle.delta.proofs.LookupLemmas.{head_of, has_delete-split}
@@ -98,7 +98,7 @@ module _ (s : ℕ) where
   not_before (Del key) m h g = grind (arith, nat_tests)
   not_before (Mod col value) m h g = grind (arith, nat_tests)
 
-module _ (key_cols rid s : ℕ) (es : List Entry) (n : ℕ) (ordered : T (are_ordered key_cols es)) (st : IsStart es rid s n) where
+module _ (key_cols rid s : ℕ) (es : List Entry) (n : ℕ) (ordered : T (are_ordered key_cols es)) (st : IsWalk es rid s n) where
   -- no insert of the row is next
   abbrev pub NoInsert : Type 0
   NoInsert = (e : Entry) → slice_get es n ≡ Some e → ((e.sid == s) && is_insert e.change) ≡ false

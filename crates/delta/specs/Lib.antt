@@ -6,7 +6,7 @@ pub mod Changes
 pub mod Laws
 pub mod Depth
 pub mod BySid
-pub mod Starts
+pub mod Walks
 pub mod Folds
 pub mod Ahead
 pub mod Lent

@@ -11,7 +11,7 @@ ghost use Rattle.delta.specs.declared.by_sid.BaseChange.TheVariants.{Kept, Modif
 
 use crate::places::row_behind;
 use crate::tree::DeltaTree;
-use counted::{ChangeRef, Iter, SharedEntry, Start};
+use counted::{ChangeRef, EntryPlace, Iter, SharedEntry};
 use values::{SharedRow, Value};
 
 /// What is looked for at a SID.
@@ -118,7 +118,7 @@ impl DeltaTree {
     /// The row that is inserted with the key, where an insert is looked for, by the place of it.
     fn row_sought<'a>(
         &self,
-        place: &Start<'a>,
+        place: &EntryPlace<'a>,
         sid: u64,
         sought: Sought<'_>,
     ) -> Option<&'a SharedRow>

@@ -12,7 +12,7 @@ ghost use Rattle.delta.specs.Search.{base_cmp, past_cmp, stands_before, IsSplit}
 ghost use Rattle.delta.specs.Changes.{is_modify_at, modify_count, has_cell, entries_with, MayBePut, MayBePutAt, IsRun};
 
 use crate::tree::{DeltaTree, copy_entry};
-use counted::{ChangeRef, SharedEntry, Start};
+use counted::{ChangeRef, EntryPlace, SharedEntry};
 use model::{Change, Entry};
 use std::alloc::Global;
 use values::{Key, NoMemory, Row, Value};
@@ -199,7 +199,7 @@ impl DeltaTree {
 
     /// The end of the entries at the SID, where a search has found what becomes of the base row. It searches again only
     /// where something does.
-    fn end_of_row(&self, place: &Start<'_>, sid: u64) -> usize
+    fn end_of_row(&self, place: &EntryPlace<'_>, sid: u64) -> usize
         requires lawful { IsLawful self.now.key_cols self.now.entries }
         requires split { IsSplit (stands_before base_cmp sid) self.now.entries place.now.index }
         requires rest { place.now.entries ≡ drop place.now.index self.now.entries }

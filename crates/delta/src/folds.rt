@@ -12,7 +12,7 @@ ghost use Rattle.delta.specs.Positions.{deletes_below, deletes_ascend, past_some
 ghost use Rattle.delta.specs.Search.{base_cmp, stands_before, IsSplit};
 
 use crate::changes::modify_worth;
-use crate::places::{Place, Start, next_row, past_where, row_at};
+use crate::places::{Place, Walk, next_row, past_where, row_at};
 use crate::sorted::Ahead;
 use crate::tree::DeltaTree;
 use counted::{ChangeRef, Probe, Target};
@@ -93,11 +93,11 @@ impl DeltaTree {
         ensures only { (place : Place) → IsAtRid self.now.entries rid place → place ≡ row_of_fold result }
         ensures run { IsRunOf self.now.key_cols self.now.entries (change_of change.entry) result }
     {
-        let Start {
+        let Walk {
             index,
             sid,
             entries: mut rest,
-        } = self.find_start(rid);
+        } = self.find_walk(rid);
         let next = rest.next();
         match row_at(next, index, sid) {
             Place::Inserted(at) => Fold::Into(at),

@@ -20,5 +20,5 @@ pub use counted::{ChangeRef, Iter, SharedEntry, Steps};
 pub use folds::Fold;
 pub use laws::{a_write_is_one_call, canonical_look_ups, inserts_ascend_at_a_sid};
 pub use model::{Change, Entry};
-pub use places::{Place, Start};
+pub use places::{Place, Walk};
 pub use tree::DeltaTree;

@@ -7,14 +7,14 @@ ghost use Rattle.delta.specs.Search.{insert_cmp, stands_before, IsSplit};
 
 use crate::sorted::compare_insert;
 use crate::tree::DeltaTree;
-use counted::{ChangeRef, SharedEntry, Start};
+use counted::{ChangeRef, EntryPlace, SharedEntry};
 use values::{SharedRow, Value};
 
 impl DeltaTree {
     /// The row that is inserted at the SID with the key of these cells, if there is one, by the place of the key.
     pub(crate) fn insert_at<'a>(
         &self,
-        place: &Start<'a>,
+        place: &EntryPlace<'a>,
         sid: u64,
         key: &[Value],
     ) -> Option<&'a SharedRow>

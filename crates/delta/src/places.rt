@@ -14,7 +14,7 @@ ghost use Rattle.model.specs.declared.entry.Change.TheVariants.{Ins};
 ghost use Rattle.model.specs.Places.{delete_count, rid_of_insert};
 ghost use Rattle.delta.specs.Positions.{shift_before, past_deletes, past_where, IsAtRid};
 ghost use Rattle.delta.specs.Depth.{CountsEachLevel};
-ghost use Rattle.delta.specs.Starts.{IsStart, place_at};
+ghost use Rattle.delta.specs.Walks.{IsWalk, place_at};
 
 use crate::tree::DeltaTree;
 use counted::{ChangeRef, CountedTree, Iter, Lead, Probe, SharedEntry, Steps, Target};
@@ -30,9 +30,9 @@ pub enum Place {
     Base(u64),
 }
 
-/// Where a walk over the image starts.
+/// Where a walk over the image begins.
 #[derive(Drop)]
-pub struct Start<'a> {
+pub struct Walk<'a> {
     /// How many entries it has passed.
     pub index: usize,
     /// The base row that is next.
@@ -83,20 +83,20 @@ impl DeltaTree {
         row_of(found.lead, found.index, sid)
     }
 
-    /// Where a walk over the image starts at a position: at the insert whose row stands there, or before the modifies of the
+    /// Where a walk over the image begins at a position: at the insert whose row stands there, or before the modifies of the
     /// base row; the base is thought to go on without end. One descent finds the place and hands over the entries; it takes
     /// no memory.
-    pub fn find_start(&self, rid: u64) -> Start<'_>
+    pub fn find_walk(&self, rid: u64) -> Walk<'_>
         requires { rid < 2 ^ 63 }
-        ensures start { IsStart self.now.entries rid result.sid result.index }
+        ensures walk { IsWalk self.now.entries rid result.sid result.index }
         ensures rest { result.entries ≡ drop result.index self.now.entries }
         ensures lawful { IsLawful self.now.key_cols self.now.entries }
     {
-        let start = self.tree.place(Target::Rid(rid), &RowThere);
-        Start {
-            index: start.index,
-            sid: next_row(&self.tree, rid, &RowThere, start.index, start.shift),
-            entries: start.entries,
+        let place = self.tree.place(Target::Rid(rid), &RowThere);
+        Walk {
+            index: place.index,
+            sid: next_row(&self.tree, rid, &RowThere, place.index, place.shift),
+            entries: place.entries,
         }
     }
 }

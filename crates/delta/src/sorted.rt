@@ -12,7 +12,7 @@ ghost use Rattle.delta.specs.Search.{insert_by_weight, base_by_weight, modify_by
 
 use crate::by_sid::Sought;
 use crate::tree::DeltaTree;
-use counted::{ChangeRef, First, Iter, Probe, SharedEntry, Start, Target};
+use counted::{ChangeRef, EntryPlace, First, Iter, Probe, SharedEntry, Target};
 use std::cmp::Ordering;
 use values::Value;
 
@@ -116,7 +116,7 @@ impl Probe for Past {
 
 impl DeltaTree {
     /// Where what is looked for at the SID stands, what the entries before it add, and the entries from there on. One descent.
-    fn place<P: Probe>(&self, sid: u64, probe: &P) -> Start<'_>
+    fn place<P: Probe>(&self, sid: u64, probe: &P) -> EntryPlace<'_>
         requires { IsClosed self.now.key_cols (P.stand probe.now) }
         ensures split { IsSplit (stands_before (P.stand probe.now) sid) self.now.entries result.index }
         ensures shift { result.shift ≡ total (take result.index self.now.entries) }
@@ -190,7 +190,7 @@ impl DeltaTree {
     }
 
     /// Where the inserts of this key, or a greater one, stand at the SID.
-    pub(crate) fn place_of_insert(&self, sid: u64, key: &[Value]) -> Start<'_>
+    pub(crate) fn place_of_insert(&self, sid: u64, key: &[Value]) -> EntryPlace<'_>
         ensures split { IsSplit (stands_before (insert_cmp self.now.key_cols key.now) sid) self.now.entries result.index }
         ensures shift { result.shift ≡ total (take result.index self.now.entries) }
         ensures rest { result.entries ≡ drop result.index self.now.entries }
@@ -213,7 +213,7 @@ impl DeltaTree {
     }
 
     /// Where what becomes of the base row at the SID stands: its delete or its modifies, past the inserts there.
-    pub(crate) fn place_of_base(&self, sid: u64) -> Start<'_>
+    pub(crate) fn place_of_base(&self, sid: u64) -> EntryPlace<'_>
         ensures split { IsSplit (stands_before base_cmp sid) self.now.entries result.index }
         ensures shift { result.shift ≡ total (take result.index self.now.entries) }
         ensures rest { result.entries ≡ drop result.index self.now.entries }
@@ -230,7 +230,7 @@ impl DeltaTree {
     }
 
     /// Where the modifies of this column, or a greater one, stand at the SID.
-    pub(crate) fn place_of_modify(&self, sid: u64, col: usize) -> Start<'_>
+    pub(crate) fn place_of_modify(&self, sid: u64, col: usize) -> EntryPlace<'_>
         ensures split { IsSplit (stands_before (modify_cmp col) sid) self.now.entries result.index }
         ensures shift { result.shift ≡ total (take result.index self.now.entries) }
         ensures rest { result.entries ≡ drop result.index self.now.entries }
@@ -240,7 +240,7 @@ impl DeltaTree {
     }
 
     /// Where what is looked for at the SID stands, or would stand.
-    pub(crate) fn place_of(&self, sid: u64, sought: Sought<'_>) -> Start<'_>
+    pub(crate) fn place_of(&self, sid: u64, sought: Sought<'_>) -> EntryPlace<'_>
         ensures split { IsSplit (stands_before (stand_of self.now.key_cols sought.entry) sid) self.now.entries result.index }
         ensures shift { result.shift ≡ total (take result.index self.now.entries) }
         ensures rest { result.entries ≡ drop result.index self.now.entries }
@@ -254,7 +254,7 @@ impl DeltaTree {
     }
 
     /// Where a change stands at the SID, or would stand.
-    fn place_of_change(&self, sid: u64, change: ChangeRef<'_>) -> Start<'_>
+    fn place_of_change(&self, sid: u64, change: ChangeRef<'_>) -> EntryPlace<'_>
         ensures split { IsSplit (stands_before (change_cmp self.now.key_cols (change_of change.entry)) sid) self.now.entries result.index }
         ensures shift { result.shift ≡ total (take result.index self.now.entries) }
         ensures rest { result.entries ≡ drop result.index self.now.entries }

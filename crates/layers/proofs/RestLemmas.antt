@@ -487,8 +487,8 @@ module _ (lower upper : Tree) (w : AreConsecutive lower upper) where
       let some = sym (canonical-first w.schema.key_cols over_image e g here) ∙ is in
       cc
 
-  pub start_is : lower ≡ tree_from (length upper.entries)
-  start_is =
+  pub walk_is : lower ≡ tree_from (length upper.entries)
+  walk_is =
       let none = none_left (left_from (length upper.entries)) (over_left (length upper.entries))
       (sym (entries_from (length upper.entries)) ∙ drop_whole upper.entries) in
       w.below.tree_is ∙ ap (λ (g : Effects). tree_of w.schema w.t (composed_effects w.x g)) (sym none)

@@ -202,8 +202,8 @@ module _ (tree : Tree) (s : ℕ) (row : Row) (w : IsNext tree (entry_at s (Ins r
         sid_of (Into index) = 0
         sid_of (Put n m k) = n
 
-    start_is : start ≡ key_place w.schema w.t w.x w.over w.key
-    start_is = ap start_of there
+    walk_is : start ≡ key_place w.schema w.t w.x w.over w.key
+    walk_is = ap start_of there
       where
         start_of : Fold → ℕ
         start_of (Into index) = 0
@@ -215,7 +215,7 @@ module _ (tree : Tree) (s : ℕ) (row : Row) (w : IsNext tree (entry_at s (Ins r
         (λ i. (
           (sym (cols_is tree (entry_at s (Ins row)) w) i, sym key_now i),
           (sym sid_is i, sym (list_is tree (entry_at s (Ins row)) w) i),
-          sym start_is i,
+          sym walk_is i,
         ))
         (key_split w.schema w.t w.x w.over w.key)
 

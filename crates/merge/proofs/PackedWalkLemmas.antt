@@ -112,7 +112,7 @@ module _ (p : PackedRows) (m : ℕ) (lawful : IsPackedRows p) where
       ∙ (patches_past p.tree.now.key_cols (p.sid + m) col (entries_left c) lawful.cursor.over.ordered).1
       ∙ ap (patches_in col) (drop-drop (count_passed m c) c.index p.tree.now.entries)
 
--- ---- where a walk starts
+-- ---- where a walk begins
 
 module _ (read : TreeCursor) {count : ℕ} (cursor : IsCursor count read) where
   pub cursor_start : (tree : Tree) (index sid : ℕ) → tree ≡ read.tree → index ≡ read.index → sid ≡ read.sid

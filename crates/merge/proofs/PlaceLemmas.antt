@@ -14,7 +14,7 @@ use Rattle.model.specs.Merging.{merged_rows_from, merged_rows}
 use Rattle.model.specs.Places.{insert_count, delete_count}
 use Rattle.model.proofs.CallerLemmas.{both, first, second}
 use Rattle.delta.specs.Search.{base_cmp, first_cmp, stands_before}
-use Rattle.delta.specs.Starts.{IsStart}
+use Rattle.delta.specs.Walks.{IsWalk}
 use Rattle.delta.proofs.CallerLemmas.{ordered_right}
 use Rattle.merge.specs.Level.{stands_within, IsOver}
 use Rattle.merge.specs.Cursor.{TreeCursor, is_past, IsCursorAt}
@@ -104,7 +104,7 @@ module _ (base : List Row) (c : TreeCursor) (over : IsOver c.tree.key_cols 0 (le
   pub passed_count : delete_count (take c.index es) ≤ c.sid + insert_count (take c.index es)
   passed_count = let r = reach in omega (arith, r.count)
 
--- ---- where a walk starts
+-- ---- where a walk begins
 
 module _ (s : ℕ) where
   -- the test of what comes before the base row
@@ -152,18 +152,18 @@ none_far end s (e ∷ es) lt w h =
     by (Del key) t far = let l = lt_of e.sid end t in omega arith
     by (Mod col value) t far = let l = lt_of e.sid end t in omega arith
 
--- the cursor where a walk starts stands at the position
+-- the cursor where a walk begins stands at the position
 module _ (base : List Row) (c : TreeCursor) (rid : ℕ) (over : IsOver c.tree.key_cols 0 (length base) c.tree.entries)
     (lawful : IsLawful c.tree.key_cols c.tree.entries) (small : length base < 2 ^ 62)
-    (low : rid ≤ length (merged_rows base c.tree.entries)) (start : IsStart c.tree.entries rid c.sid c.index) where
+    (low : rid ≤ length (merged_rows base c.tree.entries)) (walk : IsWalk c.tree.entries rid c.sid c.index) where
   abbrev all : List Entry
   all = c.tree.entries
 
   passed : T (list_all (is_passed 0 c.sid) (take c.index all))
-  passed = stands_passed c.sid (take c.index all) start.before
+  passed = stands_passed c.sid (take c.index all) walk.before
 
   far : T (all_from c.sid (drop c.index all))
-  far = stands_far c.sid (drop c.index all) start.after
+  far = stands_far c.sid (drop c.index all) walk.after
 
   -- its SID is within the rows, since all that the entries add and take away comes before it otherwise
   inside : (w : ℕ) → c.sid ≡ suc (length base) + w → ⊥
@@ -172,7 +172,7 @@ module _ (base : List Row) (c : TreeCursor) (rid : ℕ) (over : IsOver c.tree.ke
       let none = none_far (length base) c.sid (drop c.index all) past (within_drop 0 (length base) c.index all over.within) far in
       let same : take c.index all ≡ all =
       sym (append_none (take c.index all)) ∙ ap (λ ys. take c.index all ++ ys) (sym none) ∙ take-append-drop c.index all in
-      omega (arith, low, start.position, ap insert_count same, ap delete_count same, length-merged_rows c.tree.key_cols base all over)
+      omega (arith, low, walk.position, ap insert_count same, ap delete_count same, length-merged_rows c.tree.key_cols base all over)
     where
       append_none : (xs : List Entry) → xs ++ [] ≡ xs
       append_none [] = refl
@@ -187,7 +187,7 @@ module _ (base : List Row) (c : TreeCursor) (rid : ℕ) (over : IsOver c.tree.ke
       apart : (a b : ℕ) → nat_le a b ≡ false → a ≡ suc b + (a - suc b)
       apart a b e = grind (arith, nat_tests)
 
-  pub start_found : IsCursorAt base rid c
-  start_found =
+  pub walk_found : IsCursorAt base rid c
+  walk_found =
       let few = passed_count base c over lawful small within passed far in
-      cursor_at base c over lawful small within passed far rid (omega (arith, few, start.position))
+      cursor_at base c over lawful small within passed far rid (omega (arith, few, walk.position))

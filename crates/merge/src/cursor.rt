@@ -12,7 +12,7 @@ ghost use Rattle.merge.specs.Cursor.{ChangesNext, DeletesNext, DeletesNone, IsCu
 ghost use Rattle.merge.specs.Cursor.{entries_left, entries_past, is_past, moved, starts_with_delete};
 
 use crate::view::Modifies;
-use delta::{ChangeRef, DeltaTree, Iter, SharedEntry, Start};
+use delta::{ChangeRef, DeltaTree, Iter, SharedEntry, Walk};
 use std::marker::Model;
 use values::SharedRow;
 
@@ -62,11 +62,11 @@ impl<'a> Cursor<'a> {
             → IsCursorAt base rid result }
         ensures inside { result.index ≤ length tree.now.entries }
     {
-        let Start {
+        let Walk {
             index,
             sid,
             entries: mut rest,
-        } = tree.find_start(rid);
+        } = tree.find_walk(rid);
         let next = rest.next();
         Cursor {
             tree,

@@ -143,10 +143,10 @@ pub record IsLeft (o : Managed) (calls : List ClientCall) (clients : ℕ) (left 
 -- ---- refusals
 
 -- why not all of so many clients are started: a place or a thread is refused
-abbrev pub IsStartRefusal : ℕ → RunFault → Type 0
-IsStartRefusal clients (run_fault.Open fault) = ⊥
-IsStartRefusal clients (run_fault.NoThread client) = client < clients
-IsStartRefusal clients run_fault.NoMemory = Unit {0}
+abbrev pub IsSpawnRefusal : ℕ → RunFault → Type 0
+IsSpawnRefusal clients (run_fault.Open fault) = ⊥
+IsSpawnRefusal clients (run_fault.NoThread client) = client < clients
+IsSpawnRefusal clients run_fault.NoMemory = Unit {0}
 
 -- why nothing is left of so many clients. There are too many exactly above 64; where there are none, only memory can be wanted
 abbrev pub IsClientsRefusal : ℕ → RunFault → Type 0

@@ -62,8 +62,8 @@ pub record IsOpening (table script : File) (options : OpenOptions) (manager : Ma
   pub manager_is : manager ≡ opened stable options.limit options.recent options.conflicts
 
 -- the manager and the store, and no transaction open
-abbrev pub start_of : Managed → Typed → Taken → State
-start_of manager script store = record { manager = manager; transactions = replicate (length script.clients) None; store = store }
+abbrev pub first_state : Managed → Typed → Taken → State
+first_state manager script store = record { manager = manager; transactions = replicate (length script.clients) None; store = store }
 
 -- this is left of a run of the script's calls from there on
 pub record IsRunFrom (manager : Managed) (script : Typed) (store : Taken) (left : Left) : Type 0 where
@@ -71,7 +71,7 @@ pub record IsRunFrom (manager : Managed) (script : Typed) (store : Taken) (left 
   pub after : Taken
   pub clients : left.clients ≡ script.clients
   pub run :
-      IsRun (start_of manager script store) script.calls left.lines
+      IsRun (first_state manager script store) script.calls left.lines
       (record { manager = left.manager; transactions = transactions; store = after })
 
 -- this is left of the script's clients on threads of their own, each of which made its calls; a record was made for each commit

@@ -3,7 +3,7 @@ ghost use Rattle.std.specs.Prelude.{◌≡◌, ◌⊎◌, ◌+◌, ◌<◌, ◌�
 ghost use Rattle.std.specs.List.{range_with_len};
 ghost use Rattle.inputs.specs.Typed.{is_typed_call};
 ghost use Rattle.shared.specs.Sessions.{new_seat};
-ghost use Rattle.pdtcli.specs.Clients.{HasMade, HaveMade, IsClientsRefusal, IsStartRefusal, calls_of, each_with, joined_lines};
+ghost use Rattle.pdtcli.specs.Clients.{HasMade, HaveMade, IsClientsRefusal, IsSpawnRefusal, calls_of, each_with, joined_lines};
 ghost use Rattle.pdtcli.specs.Program.{IsRunOnThreads};
 ghost use Rattle.pdtcli.specs.Run.{AreHanded};
 ghost use Rattle.pdtcli.specs.declared.clients.RunFault.TheVariants as run_fault;
@@ -59,14 +59,14 @@ impl From<AllocError> for RunFault {
 /// What comes back of a thread: the session that it was given has made its calls, and these are their lines.
 #[derive(Drop)]
 struct Making<'e, O: Opening> {
-    start: Snapshot<Session<O>>,
+    session: Snapshot<Session<O>>,
     calls: &'e [ClientCall],
 }
 
 impl<'e, O: Opening> Promise<(Session<O>, Vec<ReplyLine>)> for Making<'e, O> {
     ghost use Rattle.pdtcli.specs.Clients.{HasMade};
 
-    ghost kept_by = { λ p r. HasMade O.opened.manager p.start.value p.calls.now r.1.items r.0 };
+    ghost kept_by = { λ p r. HasMade O.opened.manager p.session.value p.calls.now r.1.items r.0 };
 }
 
 /// A thread that makes a session's calls.
@@ -224,7 +224,7 @@ where
         requires numbered { All (λ session. session.client < O.clients) sessions.items }
         ensures made { IfOk result (λ r. HaveMade O.opened.manager (each_with self.entry sessions.items)
             (map vec_items r.1.items) r.0.items) }
-        ensures refused { IfErr result (IsStartRefusal O.clients) }
+        ensures refused { IfErr result (IsSpawnRefusal O.clients) }
     {
         let lent = &self;
         thread::scope(
@@ -234,7 +234,7 @@ where
                 requires numbered { All (λ session. session.client < O.clients) sessions.items }
                 ensures made { IfOk result (λ r. HaveMade O.opened.manager (each_with lent.entry.now sessions.items)
                     (map vec_items r.1.items) r.0.items) }
-                ensures refused { IfErr result (IsStartRefusal O.clients) }
+                ensures refused { IfErr result (IsSpawnRefusal O.clients) }
             { lent.run_in(scope, sessions) },
         )
     }
@@ -250,13 +250,13 @@ where
         requires numbered { All (λ session. session.client < O.clients) sessions.items }
         ensures made { IfOk result (λ r. HaveMade O.opened.manager (each_with self.now sessions.items)
             (map vec_items r.1.items) r.0.items) }
-        ensures refused { IfErr result (IsStartRefusal O.clients) }
+        ensures refused { IfErr result (IsSpawnRefusal O.clients) }
     {
         let count = sessions.len();
         let mut handles = Vec::with_capacity(self.alloc, count)?;
         let back = Vec::with_capacity(self.alloc, count)?;
         let groups = Vec::with_capacity(self.alloc, count)?;
-        let started = self.start_all(scope, sessions, &mut handles);
+        let started = self.spawn_all(scope, sessions, &mut handles);
         let (back, groups) = join_all(self.rt, handles, back, groups);
         match started {
             Ok(()) => Ok((back, groups)),
@@ -265,7 +265,7 @@ where
     }
 
     /// Starts a thread for each session, up to the first for which none could be made.
-    fn start_all<'s>(
+    fn spawn_all<'s>(
         &self,
         scope: &'s Scope<'s, &'e ()>,
         sessions: Vec<Session<O>>,
@@ -276,26 +276,26 @@ where
         requires numbered { All (λ session. session.client < O.clients) sessions.items }
         requires empty { handles.old.items ≡ [] }
         requires room { vec_len sessions ≤ vec_capacity handles.old }
-        ensures started { OnOk result (map (λ h. (h.promise.start.value, h.promise.calls.now)) handles.new.items
+        ensures started { OnOk result (map (λ h. (h.promise.session.value, h.promise.calls.now)) handles.new.items
             ≡ each_with self.now sessions.items) }
         ensures len { vec_len handles.new ≤ vec_len sessions }
-        ensures refused { IfErr result (IsStartRefusal O.clients) }
+        ensures refused { IfErr result (IsSpawnRefusal O.clients) }
     {
         for session in sessions {
-            handles.push_reserved(self.start(scope, session)?);
+            handles.push_reserved(self.spawn(scope, session)?);
         }
         Ok(())
     }
 
     /// Starts one client's thread.
-    fn start<'s>(
+    fn spawn<'s>(
         &self,
         scope: &'s Scope<'s, &'e ()>,
         session: Session<O>,
     ) -> Result<Running<'e, O>, RunFault>
     where
         'e: 's,
-        ensures started { IfOk result (λ h. (h.promise.start.value ≡ session) × (h.promise.calls.now ≡ self.now)) }
+        ensures started { IfOk result (λ h. (h.promise.session.value ≡ session) × (h.promise.calls.now ≡ self.now)) }
         ensures refused { IfErr result (λ fault. (fault ≡ run_fault.NoMemory) ⊎ (fault ≡ run_fault.NoThread session.client)) }
     {
         let rt = self.rt;
@@ -305,7 +305,7 @@ where
         let client = session.client();
         let lines = Vec::with_capacity(self.alloc, count_calls(calls, client))?;
         let promise = Making {
-            start: Snapshot::of(&session),
+            session: Snapshot::of(&session),
             calls,
         };
         let run = move || -> (Session<O>, Vec<ReplyLine>)
@@ -329,7 +329,7 @@ fn join_all<'e, O: Opening, R: Threads>(
 ) -> (Vec<Session<O>>, Vec<Vec<ReplyLine>>)
     requires empty { (back.items ≡ []) × (groups.items ≡ []) }
     requires room { (vec_len handles ≤ vec_capacity back) × (vec_len handles ≤ vec_capacity groups) }
-    ensures { HaveMade O.opened.manager (map (λ h. (h.promise.start.value, h.promise.calls.now)) handles.entry.items)
+    ensures { HaveMade O.opened.manager (map (λ h. (h.promise.session.value, h.promise.calls.now)) handles.entry.items)
         (map vec_items result.1.items) result.0.items }
 {
     for handle in handles {

@@ -24,9 +24,9 @@ impl Rule<Item, u64> for Counted {
 }
 
 /// The book begins with the opening.
-pub(crate) struct Starts;
+pub(crate) struct OpeningFirst;
 
-impl Begin<Item, Item> for Starts {
+impl Begin<Item, Item> for OpeningFirst {
     ghost use Rattle.std.specs.Prelude.{[], ◌∷◌};
 
     ghost log = { λ count opening. opening ∷ [] };

@@ -4,7 +4,7 @@ ghost use mathlib.Core.List.{IsPrefix};
 ghost use Rattle.publishing.specs.Lists.{number_in, with_item};
 ghost use Rattle.publishing.specs.Rules.{counter_of};
 
-use crate::book::{Add, Counted, Nothing, Starts};
+use crate::book::{Add, Counted, Nothing, OpeningFirst};
 use crate::item::Item;
 use crate::opening::Opening;
 use logbook::{Offer, Pens, Seen, Start, Word};
@@ -91,11 +91,10 @@ impl NewBook {
         ensures manager { result.list.opening.manager ≡ manager.now }
     {
         let opening = Item::Opens(Snapshot::of(manager));
-        let (seen, mut pens): (Seen<Item, u64, Counted>, Pens) = Seen::open_row::<Item, Starts>(
-            &opening,
-            Start::alone(),
-            1,
-        );
+        let (seen, mut pens): (Seen<Item, u64, Counted>, Pens) = Seen::open_row::<
+            Item,
+            OpeningFirst,
+        >(&opening, Start::alone(), 1);
         NewBook {
             counter: Word::tracked(0, &mut pens.take()),
             list: SeenList {

@@ -329,27 +329,27 @@ fn each_position_has_its_place(rt: HostRuntime) -> Result<(), Fail> {
     assert_places(&rt, rt.alloc(), "trans", &TRANS, &TRANS_PLACES)
 }
 
-/// A position; how many entries a walk passes to start there, the base row that is next, and the entries that are left.
-type StartCase<'a> = (u64, usize, u64, &'a str);
+/// A position; how many entries a walk from there has passed, the base row that is next, and the entries that are left.
+type WalkCase<'a> = (u64, usize, u64, &'a str);
 
-/// That a walk starts so.
-fn assert_start(
+/// That a walk begins so.
+fn assert_walk(
     rt: &impl Abort,
     alloc: Global,
     tree: &DeltaTree,
-    (rid, index, sid, want): StartCase<'_>,
+    (rid, index, sid, want): WalkCase<'_>,
 ) -> Result<(), NoMemory> {
     assert!(rt; rid <= MOST);
-    let start = tree.find_start(rid);
-    assert_holds_at(rt, (start.index, start.sid) == (index, sid), rid);
-    let text = entries_text(alloc, start.entries)?;
+    let walk = tree.find_walk(rid);
+    assert_holds_at(rt, (walk.index, walk.sid) == (index, sid), rid);
+    let text = entries_text(alloc, walk.entries)?;
     assert_text_at(rt, text.as_str(), want, rid);
     Ok(())
 }
 
 #[test]
 fn a_walk_starts_past_deletes_and_before_modifies(rt: HostRuntime) -> Result<(), Fail> {
-    static CASES: [StartCase<'static>; 6] = [
+    static CASES: [WalkCase<'static>; 6] = [
         (0, 0, 0, "1+20,Bea,8 1-20 2:1=Cy 2:2=7 3+40,Gus,9"),
         (1, 0, 1, "1+20,Bea,8 1-20 2:1=Cy 2:2=7 3+40,Gus,9"),
         (2, 2, 2, "2:1=Cy 2:2=7 3+40,Gus,9"),
@@ -361,7 +361,7 @@ fn a_walk_starts_past_deletes_and_before_modifies(rt: HostRuntime) -> Result<(),
         return Ok(());
     };
     for case in &CASES {
-        assert_start(&rt, rt.alloc(), &tree, *case)?;
+        assert_walk(&rt, rt.alloc(), &tree, *case)?;
     }
     Ok(())
 }

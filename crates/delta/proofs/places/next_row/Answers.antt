@@ -1,13 +1,13 @@
 use Rattle.std.proofs.Common.{is_gt, refl, arith}
 use Rattle.std.proofs.lemmas.Int.{ints}
 use Rattle.delta.proofs.RidLemmas.{gap_from}
-use Rattle.delta.proofs.StartLemmas.{start_bounds}
+use Rattle.delta.proofs.WalkLemmas.{walk_bounds}
 use Rattle.delta.proofs.places.next_row.Goals as goal
 
 pub overflow_sub-shift : goal.overflow_sub-shift
 overflow_sub-shift g c =
     let b =
-    start_bounds (λ x. is_gt (g.P.Probe.stand c.args.probe.now x)) c.requires.first c.args.rid c.args.tree.now.entries c.args.index
+    walk_bounds (λ x. is_gt (g.P.Probe.stand c.args.probe.now x)) c.requires.first c.args.rid c.args.tree.now.entries c.args.index
     c.args.shift
     (gap_from (g.P.Probe.stand c.args.probe.now) _ (λ x. refl) c.args.rid c.args.tree.now.entries c.args.index c.requires.place)
     c.requires.shift c.requires.few in
@@ -16,7 +16,7 @@ overflow_sub-shift g c =
 pub moved-requires : goal.moved-requires
 moved-requires g c =
     let b =
-    start_bounds (λ x. is_gt (g.P.Probe.stand c.args.probe.now x)) c.requires.first c.args.rid c.args.tree.now.entries c.args.index
+    walk_bounds (λ x. is_gt (g.P.Probe.stand c.args.probe.now x)) c.requires.first c.args.rid c.args.tree.now.entries c.args.index
     c.args.shift
     (gap_from (g.P.Probe.stand c.args.probe.now) _ (λ x. refl) c.args.rid c.args.tree.now.entries c.args.index c.requires.place)
     c.requires.shift c.requires.few in
@@ -30,7 +30,7 @@ moved-requires g c =
 pub returns : goal.returns
 returns g c =
     let b =
-    start_bounds (λ x. is_gt (g.P.Probe.stand c.args.probe.now x)) c.requires.first c.args.rid c.args.tree.now.entries c.args.index
+    walk_bounds (λ x. is_gt (g.P.Probe.stand c.args.probe.now x)) c.requires.first c.args.rid c.args.tree.now.entries c.args.index
     c.args.shift
     (gap_from (g.P.Probe.stand c.args.probe.now) _ (λ x. refl) c.args.rid c.args.tree.now.entries c.args.index c.requires.place)
     c.requires.shift c.requires.few in

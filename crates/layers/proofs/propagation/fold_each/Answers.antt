@@ -8,7 +8,7 @@ use Rattle.std.proofs.lemmas.List.{length-map, map-append, take_all}
 use Rattle.delta.specs.declared.SharedEntry.{SharedEntry}
 use Rattle.model.specs.declared.entry.Entry.{Entry}
 use Rattle.layers.specs.Over.{AreConsecutive}
-use Rattle.layers.proofs.RestLemmas.{tree_from, start_is, step}
+use Rattle.layers.proofs.RestLemmas.{tree_from, walk_is, step}
 use Rattle.layers.proofs.propagation.fold_each.Goals as goal
 
 -- the last of the first entries is there, and stands at the index of their number less one
@@ -57,7 +57,7 @@ loop-last-init c =
     sym (length-map c.in_ok-uppers.uppers.items option_copied) ∙ ap length same ∙ length-map upper.entries (λ x. Some x) in
     record {
       uppers = same ∙ ap (λ (es : List Entry). map (λ x. Some x) es) (sym (take_all _ _ (omega (arith, count))));
-      folded = λ (w : AreConsecutive lower upper). copied ∙ start_is lower upper w ∙ ap (tree_from lower upper w) (sym count);
+      folded = λ (w : AreConsecutive lower upper). copied ∙ walk_is lower upper w ∙ ap (tree_from lower upper w) (sym count);
     }
 
 pub unreachable-requires : goal.unreachable-requires

@@ -13,12 +13,12 @@ loop-handle-preserved g c =
     let rest = into_iter_items c.loop-handle.handle-iterator in
     let left = into_iter_items c.next.new.self in
     let step : rest ≡ h ∷ left = let s = c.in-Some.ensures.steps in search rules in
-    let given : Seat × List ClientCall = (h.promise.start.value, h.promise.calls.now) in
+    let given : Seat × List ClientCall = (h.promise.session.value, h.promise.calls.now) in
     let r = c.join-session.result in (
       (
         was.0.0 ++ given ∷ [],
-        next_done (λ h. (h.promise.start.value, h.promise.calls.now)) was.0.0
-            (map (λ h. (h.promise.start.value, h.promise.calls.now)) c.args.handles.items) h rest left step was.0.1,
+        next_done (λ h. (h.promise.session.value, h.promise.calls.now)) was.0.0
+            (map (λ h. (h.promise.session.value, h.promise.calls.now)) c.args.handles.items) h rest left step was.0.1,
         made_step vec_items g.O.Opening.opened.manager was.0.0 c.loop-handle.back.items c.push_reserved.new.self.items
             c.loop-handle.groups.items c.push_reserved-in-loop-handle.new.self.items given r.1 r.0 was.0.2 c.join-session.ensures
             c.push_reserved-in-loop-handle.ensures.items c.push_reserved.ensures.items,

@@ -10,8 +10,8 @@ use Rattle.pdtcli.proofs.clients.join_all.Given as goal
 abbrev pub invariant-loop-handle : goal.invariant-loop-handle
 invariant-loop-handle g l =
     ((done : List (Seat × List ClientCall))
-    × (done ++ map (λ h. (h.promise.start.value, h.promise.calls.now)) (into_iter_items l.handle-iterator)
-    ≡ map (λ h. (h.promise.start.value, h.promise.calls.now)) (vec_items l.fn.handles))
+    × (done ++ map (λ h. (h.promise.session.value, h.promise.calls.now)) (into_iter_items l.handle-iterator)
+    ≡ map (λ h. (h.promise.session.value, h.promise.calls.now)) (vec_items l.fn.handles))
     × HaveMade g.O.Opening.opened.manager done (map vec_items (vec_items l.groups)) (vec_items l.back))
     × (vec_len l.back + into_iter_len l.handle-iterator ≤ vec_capacity l.back)
     × (vec_len l.groups + into_iter_len l.handle-iterator ≤ vec_capacity l.groups)

@@ -9,7 +9,7 @@ use Rattle.delta.specs.Positions.{past_where, IsAtRid}
 use Rattle.delta.specs.declared.places.Place.{Place}
 use Rattle.delta.proofs.CountedLemmas.{placed_from_lawful}
 use Rattle.delta.proofs.RidLemmas.{gap_from, past-where}
-use Rattle.delta.proofs.StartLemmas.{start_is}
+use Rattle.delta.proofs.WalkLemmas.{walk_is}
 use Rattle.delta.proofs.RowLemmas.{row_is}
 use Rattle.delta.proofs.PositionsLemmas.{row_only}
 use Rattle.delta.proofs.tree.DeltaTree.find_rid.Goals as goal
@@ -26,7 +26,7 @@ returns g c =
     let s = c.next_row-sid.result in
     let list : es ≡ c.args.self.now.entries = ap (λ (w : Tree). w.entries) c.self.view_is in
     let ordered = T_from_true _ c.self.invariant.ordered in
-    let start = start_is k rid s es n ordered (gap_from (λ x. past_where (is_delete x)) is_delete (λ x. past-where (is_delete x)) rid es n
+    let start = walk_is k rid s es n ordered (gap_from (λ x. past_where (is_delete x)) is_delete (λ x. past-where (is_delete x)) rid es n
     c.place_of-found.ensures.place) c.next_row-sid.ensures in
     let found = c.row_of.ensures (slice_get es n) c.place_of-found.ensures.at.there in
     let at = subst (λ (place : Place). IsAtRid es rid place) (sym found) (row_is k rid s es n ordered start) in

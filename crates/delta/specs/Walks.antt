@@ -1,4 +1,4 @@
--- Where a walk over the image starts that shows the row at a position first.
+-- Where a walk over the image begins that shows the row at a position first.
 use Rattle.std.specs.Prelude.{◌≡◌, ℕ, ◌≤◌, ◌==◌, ◌&&◌, cond, not, T, IsFalse, Option, Some, None, List, length, take, drop, slice_get}
 use Rattle.std.specs.List.{list_all}
 use Rattle.model.specs.declared.entry.Entry.{Entry}
@@ -11,7 +11,7 @@ use Rattle.delta.specs.Search.{base_cmp, first_cmp, stands_before}
 
 -- so many entries, and all base rows below the SID, come before the position: no entry of the base row at the SID is among
 -- them, all others are at that SID or past it, and the first of those does not delete the base row
-pub record IsStart (entries : List Entry) (rid sid index : ℕ) : Type 0 where
+pub record IsWalk (entries : List Entry) (rid sid index : ℕ) : Type 0 where
   pub within : index ≤ length entries
   pub before : T (list_all (stands_before base_cmp sid) (take index entries))
   pub after : T (list_all (λ e. not (stands_before first_cmp sid e)) (drop index entries))

@@ -16,13 +16,13 @@ use std::sync::ledger::Blank;
 /// Where something is, or comes to stand: how many entries are before it, what those add, and the entries from there
 /// on.
 #[derive(Drop)]
-pub struct Start<'a> {
+pub struct EntryPlace<'a> {
     pub index: usize,
     pub shift: i64,
     pub entries: Iter<'a>,
 }
 
-impl<'a> Start<'a> {
+impl<'a> EntryPlace<'a> {
     /// The entry there, if there is one.
     pub fn entry(&self) -> Option<&'a SharedEntry>
         ensures { (es : List Entry) → self.now.entries ≡ drop self.now.index es → option_copied result ≡ slice_get es self.now.index }
@@ -34,24 +34,24 @@ impl<'a> Start<'a> {
 impl CountedTree {
     /// Where what is looked for stands, where nobody counts nodes.
     #[inline(always)]
-    pub fn place<P: Probe>(&self, target: Target, probe: &P) -> Start<'_>
+    pub fn place<P: Probe>(&self, target: Target, probe: &P) -> EntryPlace<'_>
         requires met { MayMeet target self.now.entries }
         ensures place { IsPlace (is_before (P.stand probe.now) target) (pos 0) self.now.entries result.index }
         ensures shift { result.shift ≡ total (take result.index self.now.entries) }
         ensures rest { result.entries ≡ drop result.index self.now.entries }
     {
-        self.start_at(place_uncounted::<P, Brand>(self, target, probe, Blank::new(1)))
+        self.place_at(place_uncounted::<P, Brand>(self, target, probe, Blank::new(1)))
     }
 
     /// A place with the entries from there on. The leaf that the search ended at is at hand, so that no descent is made for
     /// its entries.
-    fn start_at<'a>(&'a self, spot: Spot<'a>) -> Start<'a>
+    fn place_at<'a>(&'a self, spot: Spot<'a>) -> EntryPlace<'a>
         requires { IsAt self.now.entries spot.index spot.shift spot.leaf.now spot.lead }
         ensures index { result.index ≡ spot.entry.index }
         ensures shift { result.shift ≡ spot.entry.shift }
         ensures rest { result.entries ≡ drop spot.entry.index self.now.entries }
     {
-        Start {
+        EntryPlace {
             index: spot.index,
             shift: spot.shift,
             entries: self.iter_in(spot.index, spot.leaf),

@@ -1,4 +1,4 @@
--- Where a walk starts, by the place where a descent finds the row at a position.
+-- Where a walk begins, by the place where a descent finds the row at a position.
 use Rattle.std.proofs.Common.{◌≡◌, ℕ, zero, suc, pred, ◌+◌, ◌^◌, ◌<◌, ◌≤◌, ◌⊎◌, inl, inr, Bool, true, false, ◌&&◌, T, List, []}
 use Rattle.std.proofs.Common.{◌∷◌, length, take, get_or, nat_cmp, Less, Equal, Greater, is_gt, refl, sym, ap, subst, arith}
 use Rattle.std.proofs.Common.{length-take}
@@ -16,7 +16,7 @@ use Rattle.counted.specs.Sums.{weight_of, total}
 use Rattle.counted.proofs.CallerLemmas.{total-more, total_within}
 use Rattle.delta.specs.Changes.{is_delete_at}
 use Rattle.delta.specs.Search.{base_cmp, first_cmp, stands_before}
-use Rattle.delta.specs.Starts.{IsStart}
+use Rattle.delta.specs.Walks.{IsWalk}
 use Rattle.delta.proofs.RidLemmas.{IsGap}
 use Rattle.delta.proofs.CountedLemmas.{total-is, some_get, some_within, not_so, true_false}
 use Rattle.delta.proofs.SearchLemmas.{nat_cmp-greater, parted, all_before, all_after, first_cmp-closed, base_cmp-closed}
@@ -48,11 +48,11 @@ module _ (after : Change → Bool) (first : (row : Row) → after (Ins row) ≡ 
   lead_le (Mod col value) n up (inr h) = let e = h.0 in omega (arith, ints)
 
   -- what the entries before it add is no more than its position
-  total-start-le : (es : List Entry) (n : ℕ) → IsGap after (pos rid) (pos 0) es n → total (take n es) ≤ℤ pos rid
-  total-start-le [] zero g = omega (arith, ints)
-  total-start-le [] (suc m) g = absurd (let within = g.within in omega arith)
-  total-start-le (e ∷ es) zero g = omega (arith, ints)
-  total-start-le (e ∷ es) (suc m) g =
+  total-walk-le : (es : List Entry) (n : ℕ) → IsGap after (pos rid) (pos 0) es n → total (take n es) ≤ℤ pos rid
+  total-walk-le [] zero g = omega (arith, ints)
+  total-walk-le [] (suc m) g = absurd (let within = g.within in omega arith)
+  total-walk-le (e ∷ es) zero g = omega (arith, ints)
+  total-walk-le (e ∷ es) (suc m) g =
       let within = g.within in
       let x = get_or (e ∷ es) m e in
       let le = lead_le x.change x.sid (total (take m (e ∷ es)) +ℤ pos 0) (g.low m e (omega arith)) in
@@ -60,10 +60,10 @@ module _ (after : Change → Bool) (first : (row : Row) → after (Ins row) ≡ 
       omega (arith, ints)
 
   -- and it moves nothing out of range
-  pub start_bounds : (es : List Entry) (n : ℕ) (shift : ℤ) → IsGap after (pos rid) (pos 0) es n → shift ≡ total (take n es)
+  pub walk_bounds : (es : List Entry) (n : ℕ) (shift : ℤ) → IsGap after (pos rid) (pos 0) es n → shift ≡ total (take n es)
       → length es ≤ 2 ^ 40 → (shift ≤ℤ pos rid) × (pos 0 ≤ℤ (shift +ℤ pos (2 ^ 40))) × (shift ≤ℤ pos (2 ^ 40))
-  start_bounds es n shift g is few =
-      let le = total-start-le es n g in
+  walk_bounds es n shift g is few =
+      let le = total-walk-le es n g in
       let sum = total_within (take n es) in
       (omega (arith, ints), omega (arith, ints, length-take n es), omega (arith, ints, length-take n es))
 
@@ -152,8 +152,8 @@ module _ (key_cols rid s : ℕ) (es : List Entry) (n : ℕ) (ordered : T (are_or
       subst (λ (x : Entry). is_delete_at s x ≡ false) (sym same)
       (follow_live rid s (get_or es n e).change (get_or es n e).sid (total (take n es)) (next_follows e (some_within es n e (sym is))) sum)
 
-  pub start_is : IsStart es rid s n
-  start_is = record {
+  pub walk_is : IsWalk es rid s n
+  walk_is = record {
     within = g.within;
     before = all_before (stands_before base_cmp s) n es (λ k d low lt. each_before (pred n) (omega arith) k d lt);
     after = all_after (stands_before first_cmp s) n es each_after;

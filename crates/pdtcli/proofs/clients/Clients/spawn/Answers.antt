@@ -4,7 +4,7 @@ use Rattle.std.proofs.Crossing.{crosses}
 use Rattle.inputs.proofs.call.ClientCall.TheSendSync as asked
 use Rattle.shared.proofs.Crossing.{session_send, shared_sync}
 use Rattle.pdtcli.proofs.reply.ReplyLine.TheSendSync as line
-use Rattle.pdtcli.proofs.clients.Clients.start.Goals as goal
+use Rattle.pdtcli.proofs.clients.Clients.spawn.Goals as goal
 
 -- a session and its lines go to the thread, and what all share is lent to it
 pub spawn_with-requires-send-F : goal.spawn_with-requires-send-F
