@@ -68,15 +68,15 @@ fn read_typed(
             let key = read_key(alloc, schema, number, fields)?;
             Ok(Call::Read(Read::Get(key)))
         }
-        Verb::At => Ok(Call::Read(Read::At(read_place(number, fields, 2)?))),
+        Verb::At => Ok(Call::Read(Read::At(read_rid(number, fields, 2)?))),
         Verb::Rank => {
             let key = read_key(alloc, schema, number, fields)?;
             Ok(Call::Read(Read::Rank(key)))
         }
         Verb::Len => Ok(Call::Read(Read::Len)),
         Verb::Scan => {
-            let from = read_place(number, fields, 2)?;
-            let to = read_place(number, fields, 3)?;
+            let from = read_rid(number, fields, 2)?;
+            let to = read_rid(number, fields, 3)?;
             Ok(Call::Read(Read::Scan(from, to)))
         }
         Verb::Commit => Ok(Call::Commit),
@@ -88,7 +88,7 @@ fn read_typed(
 }
 
 /// The position that a field says.
-fn read_place(number: u64, fields: &ByteRecord, at: usize) -> Result<u64, ScriptFault>
+fn read_rid(number: u64, fields: &ByteRecord, at: usize) -> Result<u64, ScriptFault>
     requires { at < length (fields_of fields.now) }
     ensures { result ≡ position_at number at (get_or (fields_of fields.now) at []) }
 {
@@ -97,7 +97,7 @@ fn read_place(number: u64, fields: &ByteRecord, at: usize) -> Result<u64, Script
         None => unreachable!(),
     };
     match read_position(bytes) {
-        Some(place) => Ok(place),
+        Some(rid) => Ok(rid),
         None => Err(ScriptFault::BadArgument(number, at)),
     }
 }

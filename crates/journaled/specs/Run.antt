@@ -74,7 +74,7 @@ pub record IsUnopened (opening : Journaled) (had : Taken) (told : Refusal) : Typ
   pub has : Taken
   pub imaged : IsImaged opening had (Err fault) journaled has
 
--- the run has no place for its clients, the table wasn't stored, or what is written isn't whole
+-- the run has no room for its clients, the table wasn't stored, or what is written isn't whole
 abbrev pub IsRunRefusal : Journaled → Taken → Refusal → Type 0
 IsRunRefusal opening had (refusal.Run fault) = Unit {0}
 IsRunRefusal opening had (refusal.Output fault) = Unit {0}

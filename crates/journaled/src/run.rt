@@ -41,7 +41,7 @@ pub struct JournaledRun<D: JournalDevice> {
 ///
 /// # Errors
 ///
-/// `Run` where the run has no place for its clients, `Store` or `JournalFailed` where the table isn't stored: nothing is written then.
+/// `Run` where the run has no room for its clients, `Store` or `JournalFailed` where the table isn't stored: nothing is written then.
 /// `Output` where the output is refused: the run ends there, and the commits that were replied Committed are safe.
 pub fn run_journaled<D: JournalDevice, W: Write>(
     alloc: Global,

@@ -55,7 +55,7 @@ enum Turns<'t, T> {
 
 /// Where the store of a run is.
 #[derive(Clone, Copy)]
-enum Place<'p> {
+enum Storage<'p> {
     Memory,
     /// In the folder.
     Folder(&'p str),
@@ -176,12 +176,12 @@ fn carry_out<T: Threads + Wait + Sync>(
             } else {
                 Turns::InOrder
             };
-            let place = match store {
-                Some(dir) if journal => Place::Journaled(dir),
-                Some(dir) => Place::Folder(dir),
-                None => Place::Memory,
+            let storage = match store {
+                Some(dir) if journal => Storage::Journaled(dir),
+                Some(dir) => Storage::Folder(dir),
+                None => Storage::Memory,
             };
-            run(rt, turns, Inputs { table, script }, place, options)
+            run(rt, turns, Inputs { table, script }, storage, options)
         }
         Settings::Recover { dir, table } => recover_folder(rt, dir, table),
     }
@@ -198,19 +198,19 @@ fn open_files(rt: &HostRuntime, inputs: Inputs<'_>, options: OpenOptions) -> Res
     open_texts(rt.alloc(), bytes_of(&table), bytes_of(&script), options)
 }
 
-/// Runs the script's file over the table's, with a store in the place.
+/// Runs the script's file over the table's, with a store in the storage.
 fn run<T: Threads + Wait + Sync>(
     rt: &HostRuntime,
     turns: Turns<'_, T>,
     inputs: Inputs<'_>,
-    place: Place<'_>,
+    storage: Storage<'_>,
     options: OpenOptions,
 ) -> Result<u8, Refusal> {
     let opened = open_files(rt, inputs, options)?;
-    match place {
-        Place::Journaled(dir) => run_with_journal(rt, dir, opened),
-        Place::Folder(dir) => run_in_folder(rt, turns, dir, opened),
-        Place::Memory => run_in_memory(rt, turns, opened),
+    match storage {
+        Storage::Journaled(dir) => run_with_journal(rt, dir, opened),
+        Storage::Folder(dir) => run_in_folder(rt, turns, dir, opened),
+        Storage::Memory => run_in_memory(rt, turns, opened),
     }
 }
 

@@ -142,7 +142,7 @@ pub record IsLeft (o : Managed) (calls : List ClientCall) (clients : ℕ) (left 
 
 -- ---- refusals
 
--- why not all of so many clients are started: a place or a thread is refused
+-- why not all of so many clients are started: room or a thread is refused
 abbrev pub IsSpawnRefusal : ℕ → RunFault → Type 0
 IsSpawnRefusal clients (run_fault.Open fault) = ⊥
 IsSpawnRefusal clients (run_fault.NoThread client) = client < clients

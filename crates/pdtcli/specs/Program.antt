@@ -82,7 +82,7 @@ pub record IsRunOnThreads (manager : Managed) (script : Typed) (left : Left) : T
   pub records : left.manager.made ≡ manager.made + sum left.counts
   pub lawful : IsManaged left.manager
 
--- the run has no place for its replies, or what it leaves isn't written whole
+-- the run has no room for its replies, or what it leaves isn't written whole
 abbrev pub IsRunRefusal : Managed → Typed → Taken → Refusal → Type 0
 IsRunRefusal manager script store (Run fault) = Unit {0}
 IsRunRefusal manager script store (Output fault) = (left : Left) × IsRunFrom manager script store left

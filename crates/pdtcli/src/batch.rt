@@ -26,7 +26,7 @@ impl Batch {
     ///
     /// # Errors
     ///
-    /// `NoMemory` where the writer's place is refused.
+    /// `NoMemory` where room for the writer is refused.
     pub(crate) fn new(alloc: Global) -> Result<Batch, NoMemory>
         ensures { IfOk result (λ batch. IsWritten batch.records []) }
     {

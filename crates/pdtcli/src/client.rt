@@ -19,7 +19,7 @@ pub(crate) fn count_calls(calls: &[ClientCall], client: u32) -> usize
     calls.iter().filter(|asked| asked.client == client).count()
 }
 
-/// Makes those of the calls that are the client's, in their order and with the gate round each. There is a place for the line
+/// Makes those of the calls that are the client's, in their order and with the gate round each. There is room for the line
 /// of each.
 pub(crate) fn run_client<O: Opening, S: ImageStore, G: Gate, R: Wait>(
     rt: &R,

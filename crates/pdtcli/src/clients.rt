@@ -35,7 +35,7 @@ pub enum RunFault {
     /// No thread could be made for this client. Those that were made have ended.
     #[error("NoThread {0}")]
     NoThread(u32),
-    /// A place for the run was refused.
+    /// Room for the run was refused.
     #[error("NoMemory")]
     NoMemory,
 }
@@ -102,7 +102,7 @@ impl<'e, O: Opening, S: ImageStore, G, R> Model for Clients<'e, O, S, G, R> {
 /// # Errors
 ///
 /// `Open` where the sessions aren't opened, `NoThread` with the first client for which no thread could be made, and
-/// `NoMemory` where a place for the run is refused; a call that finds no memory is answered so, and the run goes on.
+/// `NoMemory` where room for the run is refused; a call that finds no memory is answered so, and the run goes on.
 pub fn run_clients<S: ImageStore + Send, G: Gate, R: Threads + Wait + Sync>(
     rt: &R,
     alloc: Global,

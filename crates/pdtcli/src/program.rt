@@ -97,7 +97,7 @@ pub fn open_texts(
 ///
 /// # Errors
 ///
-/// `Run` where the run has no place for its replies: nothing is written then. `Output` where the output is refused, after
+/// `Run` where the run has no room for its replies: nothing is written then. `Output` where the output is refused, after
 /// some of it may have gone out.
 pub fn run_opened<W: Write>(
     alloc: Global,
@@ -130,7 +130,7 @@ pub fn run_opened<W: Write>(
 ///
 /// # Errors
 ///
-/// `Threads` where the sessions aren't opened, no thread could be made for a client, or a place for the run is refused:
+/// `Threads` where the sessions aren't opened, no thread could be made for a client, or room for the run is refused:
 /// nothing is written then. `Output` where the output is refused, after some of it may have gone out.
 pub fn run_opened_on_threads<S: ImageStore + Send, W: Write, R: Threads + Wait + Sync>(
     rt: &R,

@@ -38,7 +38,7 @@ impl Records {
     ///
     /// # Errors
     ///
-    /// `NoMemory` where the writer's place is refused.
+    /// `NoMemory` where room for the writer is refused.
     #[inline(never)]
     pub(crate) fn after(text: Vec<u8>) -> Result<Records, NoMemory>
         ensures { IfOk result (λ records. IsWritten records text.items) }

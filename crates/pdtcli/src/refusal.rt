@@ -73,7 +73,7 @@ pub enum Refusal {
     DamagedColumn(usize),
     /// A device of the journal failed before the first call.
     JournalFailed,
-    /// The run had no place for its replies.
+    /// The run had no room for its replies.
     Run(NoMemory),
     /// The run of clients on threads of their own left nothing.
     Threads(RunFault),

@@ -21,7 +21,7 @@ use values::NoMemory;
 ///
 /// # Errors
 ///
-/// `NoMemory` where a place for the run is refused; a call that finds no memory is answered so, and the run goes on.
+/// `NoMemory` where room for the run is refused; a call that finds no memory is answered so, and the run goes on.
 pub fn run_serial(
     alloc: Global,
     manager: Manager,
@@ -51,11 +51,11 @@ pub fn run_serial(
     let handed_before = handed_out(&manager);
     let (names, calls) = script.into_parts();
     let mut left = CallQueue::of(calls);
-    let Places {
+    let RunRoom {
         mut callers,
         mut counts,
         mut lines,
-    } = places_for(alloc, names.len(), left.len())?;
+    } = room_for(alloc, names.len(), left.len())?;
     while let Some(asked) = left.next() {
         let client = asked.client;
         let verb = verb_of_call(&asked.call);
@@ -72,21 +72,21 @@ pub fn run_serial(
     Ok(Outcome { left, store })
 }
 
-/// The places of a run, made before its first call.
-struct Places {
+/// The room of a run, made before its first call.
+struct RunRoom {
     callers: Vec<Caller>,
     counts: Vec<u64>,
     lines: Vec<ReplyLine>,
 }
 
-/// A place for each of so many clients, and for the line of each of so many calls.
-fn places_for(alloc: Global, clients: usize, calls: usize) -> Result<Places, NoMemory>
-    ensures callers { IfOk result (λ places. places.callers.items ≡ replicate clients None) }
-    ensures counts { IfOk result (λ places. places.counts.items ≡ map (decided_count []) (range_with_len 0 clients)) }
-    ensures lines { IfOk result (λ places. (places.lines.items ≡ []) × (vec_len places.lines ≡ 0)) }
-    ensures room { IfOk result (λ places. calls ≤ vec_capacity places.lines) }
+/// Room for each of so many clients, and for the line of each of so many calls.
+fn room_for(alloc: Global, clients: usize, calls: usize) -> Result<RunRoom, NoMemory>
+    ensures callers { IfOk result (λ room. room.callers.items ≡ replicate clients None) }
+    ensures counts { IfOk result (λ room. room.counts.items ≡ map (decided_count []) (range_with_len 0 clients)) }
+    ensures lines { IfOk result (λ room. (room.lines.items ≡ []) × (vec_len room.lines ≡ 0)) }
+    ensures room { IfOk result (λ room. calls ≤ vec_capacity room.lines) }
 {
-    Ok(Places {
+    Ok(RunRoom {
         callers: new_callers(alloc, clients)?,
         counts: no_counts(alloc, clients)?,
         lines: Vec::with_capacity(alloc, calls)?,
@@ -104,7 +104,7 @@ pub(crate) fn handed_out(manager: &Manager) -> u64
 ///
 /// # Errors
 ///
-/// `NoMemory` where their place is refused.
+/// `NoMemory` where room for them is refused.
 pub fn new_callers(alloc: Global, count: usize) -> Result<Vec<Caller>, NoMemory>
     ensures { IfOk result (λ callers. callers.items ≡ replicate count None) }
 {

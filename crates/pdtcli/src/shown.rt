@@ -39,7 +39,7 @@ impl ShownRows {
     ///
     /// # Errors
     ///
-    /// `NoMemory` where the table's place is refused.
+    /// `NoMemory` where room for the table is refused.
     pub fn of(alloc: Global, table: StableTable) -> Result<ShownRows, NoMemory>
         ensures { IfOk result (λ rows. rows ≡ table.rows) }
     {

@@ -16,7 +16,7 @@ pub enum ShareFault {
     /// There aren't 1 to 64 clients.
     #[error("BadLimit")]
     BadLimit,
-    /// A reader's place was refused.
+    /// A reader's slot was refused.
     #[error("NoReader")]
     NoReader,
     /// A growth was refused.

@@ -28,13 +28,13 @@ use std::sync::{Mutex, MutexGuard, Wait};
 use values::NoMemory;
 use values::limits::MAX_CLIENTS;
 
-/// How often a reader's place is tried.
+/// How often a reader's slot is tried.
 const MAX_TRIES: u32 = 64;
 
 /// What the sessions share. It is ended by `close`.
 pub struct Shared<O: Opening, S: ImageStore> {
     state: Mutex<Locked<O, S>>,
-    /// The place of the counts that `close` gives.
+    /// Room for the counts that `close` gives.
     counts: Vec<u64>,
     ghost empty: { vec_len counts ≡ 0 },
     ghost room: { O.clients ≤ vec_capacity counts },
@@ -80,7 +80,7 @@ fn published_at(manager: &Manager, list: &SeenList) -> Result<Published, NoMemor
 }
 
 /// A reader that has seen nothing.
-fn place_of(writer: &VersionWriter) -> Result<VersionReader, ShareFault>
+fn new_reader(writer: &VersionWriter) -> Result<VersionReader, ShareFault>
     ensures reader { IfOk result (λ r. (view r.place ≡ None) × (r.place.table_id ≡ writer.now.desk.place.table_id)) }
     ensures refused { IfErr result (λ fault. fault ≡ share_fault.NoReader) }
 {
@@ -98,7 +98,7 @@ fn reader_of(writer: &mut VersionWriter) -> Result<VersionReader, ShareFault>
     ensures reader { IfOk result (λ r. view r.place ≡ view writer.old.desk.place) }
     ensures refused { IfErr result (λ fault. fault ≡ share_fault.NoReader) }
 {
-    let mut reader = place_of(writer)?;
+    let mut reader = new_reader(writer)?;
     let note = writer.tell::<Notes>();
     reader.learn::<Notes>(note);
     Ok(reader)
@@ -123,7 +123,7 @@ fn first_publish<R: Wait>(
     }
 }
 
-/// A writer that has published the manager's newest version, with the list at its opening and a reader's place for each client.
+/// A writer that has published the manager's newest version, with the list at its opening and a reader's slot for each client.
 fn writer_over<R: Wait>(
     alloc: Global,
     manager: &Manager,
@@ -184,7 +184,7 @@ fn sessions_of<O: Opening>(
 ///
 /// # Errors
 ///
-/// `BadLimit` where there aren't 1 to 64 clients, `NoReader` where a reader's place was refused 64 times, `NoMemory`: the
+/// `BadLimit` where there aren't 1 to 64 clients, `NoReader` where a reader's slot was refused 64 times, `NoMemory`: the
 /// manager and the store are dropped.
 pub fn open<O: Opening, S: ImageStore, R: Wait>(
     alloc: Global,

@@ -12,7 +12,7 @@ use Rattle.txn.specs.contracts.mark.Mark.TheInside as mark
 use Rattle.txn.specs.contracts.transaction.Txn as Txn
 use Rattle.txn.specs.contracts.transaction.Txn.TheInside as inside
 use Rattle.txn.specs.contracts.version.Version as Version
-use Rattle.txn.proofs.place.RecordPlace.TheSendSync as place
+use Rattle.txn.proofs.slot.RecordSlot.TheSendSync as slot
 
 pub entries_send : IsSend DeltaTree.the_row
 entries_send = search (tree_send, sendable, crosses) depth 60
@@ -34,7 +34,7 @@ version_sync =
 
 pub txn_send : IsSend Txn.the_row
 txn_send =
-    let a = entries_send in let b = version_send in let c = place.the_send in let d = write.the_send in
+    let a = entries_send in let b = version_send in let c = slot.the_send in let d = write.the_send in
     view_send _ _ _ _ _ (declared_send inside.the_type (
       search (crosses, sendable) depth 20,
       (

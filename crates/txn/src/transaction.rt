@@ -14,7 +14,7 @@ ghost use Rattle.txn.specs.declared.fault.WriteFault.TheVariants as write_fault;
 use crate::fault::WriteFault;
 use crate::mark::Mark;
 use crate::parts::Parts;
-use crate::place::RecordPlace;
+use crate::slot::RecordSlot;
 use crate::version::Version;
 use crate::writes::{Found, FoundRow, edit, with_shared_row};
 use delta::{DeltaTree, Sought};
@@ -35,7 +35,7 @@ pub struct Txn {
     /// Each with the reply that was due.
     writes: Vec<(Write, WriteReply)>,
     /// Where its record will stand, should it commit.
-    place: RecordPlace,
+    slot: RecordSlot,
 }
 
 impl Model for Txn {
@@ -78,7 +78,7 @@ impl Txn {
             row_limit,
             tree: DeltaTree::new(alloc, key_cols),
             writes: Vec::new(alloc),
-            place: RecordPlace::new(alloc)?,
+            slot: RecordSlot::new(alloc)?,
         })
     }
 
@@ -133,7 +133,7 @@ impl Txn {
             row_limit: _,
             tree,
             writes,
-            place: _place,
+            slot: _slot,
         } = self;
         Parts {
             client,
@@ -143,7 +143,7 @@ impl Txn {
         }
     }
 
-    /// Its record, with the reply to its commit, in the place that was made when it began. Takes no memory.
+    /// Its record, with the reply to its commit, in the slot that was made when it began. Takes no memory.
     pub fn into_record(self, reply: CommitReply) -> LinkedList<Record>
         ensures entry { result ≡ record { client = self.client; begin = self.begin; writes = self.writes; reply = reply } ∷ [] }
         ensures lawful { IsTransaction self }
@@ -154,9 +154,9 @@ impl Txn {
             row_limit: _,
             tree: _tree,
             writes,
-            place,
+            slot,
         } = self;
-        place.with(Record::new(client, version.number(), writes, reply))
+        slot.with(Record::new(client, version.number(), writes, reply))
     }
 
     /// Inserts a row.
@@ -302,7 +302,7 @@ impl Txn {
             row_limit: _,
             tree: _tree,
             writes: _writes,
-            place: _place,
+            slot: _slot,
         } = self;
     }
 }

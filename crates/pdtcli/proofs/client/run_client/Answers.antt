@@ -12,7 +12,7 @@ use Rattle.pdtcli.proofs.ClientsLemmas.{made_more, made_same, own_left, other_mo
 use Rattle.pdtcli.proofs.client.run_client.Goals as goal
 use Rattle.pdtcli.proofs.client.run_client.Goals.{then-asked-client, else-asked-client}
 
--- before a call of the client is made there is a place left
+-- before a call of the client is made there is room left
 place_left : (client : ℕ) (calls : List ClientCall) (i : ℕ) (asked : ClientCall) → i < length calls
     → asked ≡ get_or calls i asked → (asked.client == client) ≡ true
     → length (calls_of client (take i calls)) + 1 ≤ length (calls_of client calls)

@@ -1,4 +1,4 @@
-//! The place of a transaction's record in a history.
+//! The slot of a transaction's record in a history.
 ghost use Rattle.std.specs.Prelude.{◌≡◌, ◌∷◌, [], length};
 
 use model::{CommitReply, Record};
@@ -8,22 +8,22 @@ use values::NoMemory;
 
 /// A link of a history, made at the begin of a transaction: its commit takes no memory to enter the record.
 #[derive(Drop)]
-pub(crate) struct RecordPlace {
+pub(crate) struct RecordSlot {
     /// One link. Until the commit it holds a record that stands for none.
     link: LinkedList<Record>,
     ghost single: { length link ≡ 1 },
 }
 
-impl RecordPlace {
-    /// A place with no record in it yet.
-    pub(crate) fn new(alloc: Global) -> Result<RecordPlace, NoMemory> {
+impl RecordSlot {
+    /// A slot with no record in it yet.
+    pub(crate) fn new(alloc: Global) -> Result<RecordSlot, NoMemory> {
         let nothing = Record::new(0, 0, Vec::new(alloc), CommitReply::TooOld(0));
         let mut link = LinkedList::new(alloc);
         link.push_back(nothing)?;
-        Ok(RecordPlace { link })
+        Ok(RecordSlot { link })
     }
 
-    /// The record in its place, as a history of one. Takes no memory.
+    /// The record in its slot, as a history of one. Takes no memory.
     pub(crate) fn with(self, entry: Record) -> LinkedList<Record>
         ensures { result ≡ entry ∷ [] }
     {

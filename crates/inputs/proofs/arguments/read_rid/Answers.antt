@@ -5,7 +5,7 @@ use Rattle.inputs.specs.Calls.{position_at}
 use Rattle.inputs.specs.Cells.{or_else}
 use Rattle.inputs.proofs.ReadLemmas.{field-drop, field-there}
 use Rattle.inputs.proofs.PositionLemmas.{field-is}
-use Rattle.inputs.proofs.arguments.read_place.Goals as goal
+use Rattle.inputs.proofs.arguments.read_rid.Goals as goal
 
 pub unreachable-requires : goal.unreachable-requires
 unreachable-requires c = field-there (fields_of c.args.fields.now) c.args.at (rw c.in-None.is at c.get.ensures.value) c.requires

@@ -1,5 +1,5 @@
 use Rattle.publishing.proofs.CallerLemmas.{admits}
-use Rattle.shared.proofs.shared.place_of.Goals as goal
+use Rattle.shared.proofs.shared.new_reader.Goals as goal
 
 pub reader-requires : goal.reader-requires
 reader-requires c = admits
