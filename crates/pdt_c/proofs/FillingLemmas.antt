@@ -1,4 +1,4 @@
--- Columns that C passes, value by value.
+-- Columns that C gives, value by value.
 use Rattle.std.proofs.Common.{◌≡◌, ◌<◌, ◌≤◌, ◌+◌, ◌∙◌, ℕ, false, List, [], ◌∷◌, ◌++◌, length, map, get_or, subst, Option, Some, None, refl, sym, ap, arith, inl, inr, nat_lt}
 use Rattle.std.proofs.lemmas.Bool.Decides.{nat_tests}
 use Rattle.std.proofs.lemmas.Bool.{cases_lt}
@@ -37,7 +37,7 @@ first_more ty given row values value so_far is =
 -- ---- all columns
 
 module _ (types : List ColumnType) (all : AllGiven) (rows : ℕ) where
-  -- each of these has the values that are passed for it
+  -- each of these has the values that are given for it
   abbrev pub EachFilled : List Column → Type 0
   EachFilled columns =
       (col : ℕ) (d : Column) → col < length columns → IsFilled (get_or types col column.Int) (given_at all col) rows (get_or columns col d)

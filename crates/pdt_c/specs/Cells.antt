@@ -1,4 +1,4 @@
--- Cells as C passes them and is handed them: a number for each, and the bytes of the texts, one after the other.
+-- Cells as C gives them and is handed them: a number for each, and the bytes of the texts, one after the other.
 use Rattle.std.specs.Prelude.{◌≡◌, ℕ, ℤ, pos, true, false, List, [], map, length}
 use Rattle.std.specs.List.{flat_map}
 use Rattle.values.specs.declared.value.ColumnType.{ColumnType}
@@ -32,14 +32,14 @@ numbers_of cells = map number_of cells
 abbrev pub texts_of : List Value → List ℕ
 texts_of cells = flat_map bytes_of cells
 
--- C passes these cells: of these types, by these numbers and bytes, of which none is left over
-pub record ArePassed (types : List ColumnType) (numbers : List ℤ) (texts : List ℕ) (cells : List Value) : Type 0 where
+-- C gives these cells: of these types, by these numbers and bytes, of which none is left over
+pub record AreGiven (types : List ColumnType) (numbers : List ℤ) (texts : List ℕ) (cells : List Value) : Type 0 where
   pub typed : map type_of cells ≡ types
   pub numbers_are : numbers_of cells ≡ numbers
   pub texts_are : texts_of cells ≡ texts
 
--- C passes this cell
-pub record IsPassed (type : ColumnType) (number : ℤ) (text : List ℕ) (cell : Value) : Type 0 where
+-- C gives this cell
+pub record IsGiven (type : ColumnType) (number : ℤ) (text : List ℕ) (cell : Value) : Type 0 where
   pub typed : type_of cell ≡ type
   pub number_is : number_of cell ≡ number
   pub text_is : bytes_of cell ≡ text

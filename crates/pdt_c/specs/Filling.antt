@@ -1,4 +1,4 @@
--- Columns as C passes them: numbers, truths a byte each, and texts by the bytes of all of them and where each begins and ends.
+-- Columns as C gives them: numbers, truths a byte each, and texts by the bytes of all of them and where each begins and ends.
 use Rattle.std.specs.Prelude.{◌≡◌, ℕ, ℤ, ◌+◌, ◌-◌, ◌≤◌, ◌<◌, ◌==◌, nat_lt, true, false, cond, ◌⊎◌, Option, Some, None, List, [], length, map, take, drop, get_or, slice_get}
 use Rattle.std.specs.List.{range_with_len}
 use Rattle.std.specs.Option.{option_map}
@@ -15,7 +15,7 @@ use Rattle.stable.specs.Stable.{Stable, build_fault}
 use Rattle.stable.specs.declared.fault.BuildFault.{BuildFault}
 use Rattle.stable.specs.declared.fault.BuildFault.TheVariants.{TooManyRows}
 
--- what is passed of a column: numbers, or bytes, and for texts where each begins and the last one ends
+-- what is given of a column: numbers, or bytes, and for texts where each begins and the last one ends
 pub record Given : Type 0 where
   pub numbers : List ℤ
   pub offsets : List ℕ
@@ -39,7 +39,7 @@ text_between bytes (Some begin) None = None
 text_between bytes (Some begin) (Some end) =
     cond (nat_lt end begin) None (cond (nat_lt (length bytes) end) None (text_of (take (end - begin) (drop begin bytes))))
 
--- the value of a type that is passed for a row, if there is one
+-- the value of a type that is given for a row, if there is one
 abbrev pub value_at : ColumnType → Given → ℕ → Option Value
 value_at column.Int given row = option_map Int (slice_get given.numbers row)
 value_at column.Bool given row = truth_of (slice_get given.bytes row)
@@ -47,7 +47,7 @@ value_at column.Text given row = text_between given.bytes (slice_get given.offse
 
 -- ---- all values
 
--- how many values are passed: one for each number or byte, and for texts one between each two offsets
+-- how many values are given: one for each number or byte, and for texts one between each two offsets
 abbrev pub count_of : ColumnType → Given → ℕ
 count_of column.Int given = length given.numbers
 count_of column.Bool given = length given.bytes
@@ -57,14 +57,14 @@ count_of column.Text given = length given.offsets - 1
 abbrev pub AreFirst : ColumnType → Given → ℕ → List Value → Type 0
 AreFirst ty given rows values = map Some values ≡ map (value_at ty given) (range_with_len 0 rows)
 
--- a column has a value for each of so many rows, those that are passed, and no more are
+-- a column has a value for each of so many rows, those that are given, and no more are
 pub record IsFilled (ty : ColumnType) (given : Given) (rows : ℕ) (made : Column) : Type 0 where
   pub typed : made.ty ≡ ty
   pub counted : length made.values ≡ rows
   pub values_are : AreFirst ty given rows made.values
   pub none_left : count_of ty given ≤ rows
 
--- the first row for which no value is passed, or the row after the last where there is one more
+-- the first row for which no value is given, or the row after the last where there is one more
 pub record IsUnfilled (ty : ColumnType) (given : Given) (rows row : ℕ) : Type 0 where
   pub before : List Value
   pub first : AreFirst ty given row before
@@ -72,24 +72,24 @@ pub record IsUnfilled (ty : ColumnType) (given : Given) (rows row : ℕ) : Type 
 
 -- ---- all columns
 
--- what is passed of all columns
+-- what is given of all columns
 pub record AllGiven : Type 0 where
   pub numbers : List (List ℤ)
   pub offsets : List (List ℕ)
   pub bytes : List (List ℕ)
 
--- what is passed of one column, nothing past the last
+-- what is given of one column, nothing past the last
 abbrev pub given_at : AllGiven → ℕ → Given
 given_at all col = record { numbers = get_or all.numbers col []; offsets = get_or all.offsets col []; bytes = get_or all.bytes col [] }
 
--- a column of each of these types, each with the values that are passed for so many rows
+-- a column of each of these types, each with the values that are given for so many rows
 pub record AreFilled (types : List ColumnType) (all : AllGiven) (rows : ℕ) (columns : List Column) : Type 0 where
   pub typed : map (λ c. c.ty) columns ≡ types
   pub filled : (col : ℕ) (d : Column) → col < length columns
       → IsFilled (get_or types col column.Int) (given_at all col) rows (get_or columns col d)
 
 -- the table of these columns, so many rows under a schema
-pub record IsTablePassed (schema : Columns) (all : AllGiven) (rows : ℕ) (table : Stable) : Type 0 where
+pub record IsTableGiven (schema : Columns) (all : AllGiven) (rows : ℕ) (table : Stable) : Type 0 where
   pub columns : List Column
   pub filled : AreFilled schema.types all rows columns
   pub table_is : table ≡ record { schema = schema; rows = rows_of rows columns }

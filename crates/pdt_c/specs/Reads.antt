@@ -4,7 +4,7 @@ use Rattle.values.specs.declared.value.Value.{Value}
 use Rattle.model.specs.Table.{rank, row_at, rows_of}
 use Rattle.stable.specs.Rows.{column_values}
 use Rattle.txn.specs.Txn.{Transaction, image_of}
-use Rattle.pdt_c.specs.Cells.{ArePassed, numbers_of, texts_of}
+use Rattle.pdt_c.specs.Cells.{AreGiven, numbers_of, texts_of}
 use Rattle.pdt_c.specs.Writes.{key_types}
 
 -- a row stands in C's room: its numbers, and so many bytes of its texts
@@ -24,33 +24,33 @@ pub record NeedsRoom (txn : Transaction) (rid numbers texts needed : ℕ) : Type
   pub there : slice_get (rows_of (image_of txn)) rid ≡ Some row
   pub more : length row ≤ numbers → texts < needed
 
--- the same of the row of the key that C passed
+-- the same of the row of the key that C gave
 pub record NeedsRoomOf (txn : Transaction) (key_numbers : List ℤ) (key_texts : List ℕ) (numbers texts needed : ℕ) : Type 0 where
   pub key : List Value
-  pub passed : ArePassed (key_types txn) key_numbers key_texts key
+  pub given : AreGiven (key_types txn) key_numbers key_texts key
   pub row : List Value
   pub there : row_at (image_of txn) key ≡ Some row
   pub more : length row ≤ numbers → texts < needed
 
--- the row of the key that C passed was handed out
+-- the row of the key that C gave was handed out
 pub record HandsRowOf (txn : Transaction) (key_numbers : List ℤ) (key_texts : List ℕ)
     (numbers : List ℤ) (texts : List ℕ) (bytes : ℕ) : Type 0 where
   pub key : List Value
-  pub passed : ArePassed (key_types txn) key_numbers key_texts key
+  pub given : AreGiven (key_types txn) key_numbers key_texts key
   pub row : List Value
   pub there : row_at (image_of txn) key ≡ Some row
   pub handed : IsHanded row numbers texts bytes
 
--- the image has no row of the key that C passed
+-- the image has no row of the key that C gave
 pub record HasNoneOf (txn : Transaction) (key_numbers : List ℤ) (key_texts : List ℕ) : Type 0 where
   pub key : List Value
-  pub passed : ArePassed (key_types txn) key_numbers key_texts key
+  pub given : AreGiven (key_types txn) key_numbers key_texts key
   pub none : row_at (image_of txn) key ≡ None
 
--- how many rows stand below the key that C passed, and whether there is one of it
+-- how many rows stand below the key that C gave, and whether there is one of it
 pub record Ranks (txn : Transaction) (key_numbers : List ℤ) (key_texts : List ℕ) (below : ℕ) (there : Bool) : Type 0 where
   pub key : List Value
-  pub passed : ArePassed (key_types txn) key_numbers key_texts key
+  pub given : AreGiven (key_types txn) key_numbers key_texts key
   pub below_is : below ≡ rank key (image_of txn)
   pub there_is : there ≡ is_some (row_at (image_of txn) key)
 

@@ -6,7 +6,7 @@ use Rattle.model.specs.declared.write.Write.{Write}
 use Rattle.model.specs.declared.write.Write.TheVariants.{Insert, Delete, Set}
 use Rattle.model.specs.declared.write.WriteReply.{WriteReply}
 use Rattle.txn.specs.Txn.{Transaction, IsAnswered}
-use Rattle.pdt_c.specs.Cells.{ArePassed, IsPassed}
+use Rattle.pdt_c.specs.Cells.{AreGiven, IsGiven}
 use Rattle.pdt_c.specs.Told.{code_of_reply}
 
 -- a write was answered, and C is told the reply that was due
@@ -19,30 +19,30 @@ pub record IsTold (old : Transaction) (write : Write) (code : ℕ) (new : Transa
 abbrev pub key_types : Transaction → List ColumnType
 key_types txn = take txn.schema.key_cols txn.schema.types
 
--- the row that C passed was inserted, or was answered why not
+-- the row that C gave was inserted, or was answered why not
 pub record Inserts (numbers : List ℤ) (texts : List ℕ) (old : Transaction) (code : ℕ) (new : Transaction) : Type 0 where
   pub row : List Value
-  pub passed : ArePassed old.schema.types numbers texts row
+  pub given : AreGiven old.schema.types numbers texts row
   pub told : IsTold old (Insert row) code new
 
--- the row of the key that C passed was deleted, or was answered why not
+-- the row of the key that C gave was deleted, or was answered why not
 pub record Deletes (numbers : List ℤ) (texts : List ℕ) (old : Transaction) (code : ℕ) (new : Transaction) : Type 0 where
   pub key : List Value
-  pub passed : ArePassed (key_types old) numbers texts key
+  pub given : AreGiven (key_types old) numbers texts key
   pub told : IsTold old (Delete key) code new
 
--- the cell that C passed was set in the row of a key, or was answered why not
+-- the cell that C gave was set in the row of a key, or was answered why not
 pub record SetsCell (key : List Value) (col : ℕ) (number : ℤ) (text : List ℕ)
     (old : Transaction) (code : ℕ) (new : Transaction) : Type 0 where
   pub type : ColumnType
   pub type_is : slice_get old.schema.types col ≡ Some type
   pub cell : Value
-  pub cell_passed : IsPassed type number text cell
+  pub cell_given : IsGiven type number text cell
   pub told : IsTold old (Set key col cell) code new
 
--- in the row of the key that C passed
+-- in the row of the key that C gave
 pub record Sets (numbers : List ℤ) (texts : List ℕ) (col : ℕ) (number : ℤ) (text : List ℕ)
     (old : Transaction) (code : ℕ) (new : Transaction) : Type 0 where
   pub key : List Value
-  pub passed : ArePassed (key_types old) numbers texts key
+  pub given : AreGiven (key_types old) numbers texts key
   pub cell : SetsCell key col number text old code new

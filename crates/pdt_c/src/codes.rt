@@ -7,7 +7,7 @@ ghost use Rattle.pdt_c.specs.declared.codes.TheConstants.{BAD_STORE, BAD_TABLE, 
 ghost use Rattle.codec.specs.declared.fault.SpellFault.TheVariants as spell_fault;
 ghost use Rattle.txn.specs.declared.fault.WriteFault.TheVariants as write_fault;
 
-use crate::passed::cells::CellFault;
+use crate::given::cells::CellFault;
 use codec::SpellFault;
 use devices::StoreFault;
 use frames::ReadFault;

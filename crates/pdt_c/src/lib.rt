@@ -5,10 +5,10 @@
 //! back by its address. A row or a key is its numbers, one for each column, and its texts one after the other: a text's
 //! number is how many bytes it has, a truth's 0 or 1.
 //!
-//! *Where to look.* `calls/` has the exports, by what they are for; `handles/` what C keeps of them; `passed/` cells and
+//! *Where to look.* `calls/` has the exports, by what they are for; `handles/` what C keeps of them; `given/` cells and
 //! columns that come in, and `shown_cells` cells that go out.
 //!
-//! *What a contract sees.* A handle is what it holds, or nothing; cells are those whose numbers and bytes C passed.
+//! *What a contract sees.* A handle is what it holds, or nothing; cells are those whose numbers and bytes C gave.
 //!
 //! *What C owes.* Nothing checks a C caller against the contracts: `door/c/pdt.c` meets each `requires` before it calls.
 #![tactic(auto)]
@@ -16,7 +16,7 @@
 mod byte_column;
 mod calls;
 mod codes;
+mod given;
 mod handles;
-mod passed;
 mod shown_cells;
 mod text_fault;

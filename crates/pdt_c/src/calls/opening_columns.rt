@@ -1,20 +1,20 @@
-//! Opening a manager over columns that C passes: numbers, truths, and the bytes of texts, from where they lie.
+//! Opening a manager over columns that C gives: numbers, truths, and the bytes of texts, from where they lie.
 ghost use Rattle.std.specs.Prelude.{◌≡◌, ◌≢◌, ◌<◌, map};
 ghost use Rattle.stable.specs.declared.fault.BuildFault.TheVariants as build_fault;
-ghost use Rattle.pdt_c.specs.Columns.{OpensColumns, OpensPassed};
+ghost use Rattle.pdt_c.specs.Columns.{OpensColumns, OpensGiven};
 ghost use Rattle.pdt_c.specs.declared.codes.TheConstants.{NOT_ASCENDING, SHAPE};
-ghost use Rattle.pdt_c.specs.declared.passed.columns.PassedFault.TheVariants as passed_fault;
+ghost use Rattle.pdt_c.specs.declared.given.columns.GivenFault.TheVariants as given_fault;
 
 use crate::calls::opening::open_over;
 use crate::codes::{BAD_TABLE, NO_MEMORY, NOT_ASCENDING, SHAPE, TOO_MANY_ROWS, code_of_table};
+use crate::given::columns::{GivenColumns, GivenFault};
 use crate::handles::store::Store;
-use crate::passed::columns::{Passed, PassedFault};
 use inputs::load_table;
 use stable::BuildFault;
 use std::alloc::Global;
 use values::Schema;
 
-/// Where columns that C passes are no table. Rows and columns count from 0.
+/// Where columns that C gives are no table. Rows and columns count from 0.
 #[repr(C)]
 #[derive(Clone, Copy)]
 pub struct Place {
@@ -23,7 +23,7 @@ pub struct Place {
 }
 
 /// Opens a manager over columns with so many rows, into a handle that holds nothing. The header is a text that begins with
-/// the names and the types of the columns. For each column C passes numbers, offsets and bytes, of which it has those of its
+/// the names and the types of the columns. For each column C gives numbers, offsets and bytes, of which it has those of its
 /// type. Where a value or a key isn't as it should be, the place is the first such one of the first such column.
 #[unsafe(no_mangle)]
 pub extern "C" fn pdtr_open_columns(
@@ -43,16 +43,16 @@ pub extern "C" fn pdtr_open_columns(
         (record { numbers = map (λ n. n.now) numbers.now; offsets = map (λ o. o.now) offsets.now; bytes = map (λ b. b.now) bytes.now })
         rows row_limit recent by_row result place.new store.old.value store.new.value }
 {
-    let passed = Passed {
+    let given = GivenColumns {
         numbers,
         offsets,
         bytes,
     };
     match load_table(alloc, header) {
-        Ok(empty) => open_passed(
+        Ok(empty) => open_given(
             alloc,
             empty.schema(),
-            &passed,
+            &given,
             rows,
             recent,
             row_limit,
@@ -65,10 +65,10 @@ pub extern "C" fn pdtr_open_columns(
 }
 
 /// The same under a schema.
-fn open_passed(
+fn open_given(
     alloc: Global,
     schema: &Schema,
-    passed: &Passed<'_>,
+    given: &GivenColumns<'_>,
     rows: usize,
     recent: usize,
     row_limit: u64,
@@ -76,35 +76,35 @@ fn open_passed(
     place: &mut Place,
     store: &mut Store,
 ) -> u32
-    ensures { OpensPassed schema.now passed.now rows row_limit recent by_row result place.new store.old.value store.new.value }
+    ensures { OpensGiven schema.now given.now rows row_limit recent by_row result place.new store.old.value store.new.value }
 {
     let Ok(schema) = schema.copy() else {
         return NO_MEMORY;
     };
-    match passed.table(alloc, schema, rows) {
+    match given.table(alloc, schema, rows) {
         Ok(table) => open_over(alloc, table, recent, row_limit, by_row, store),
-        Err(fault) => code_of_passed(fault, place),
+        Err(fault) => code_of_given(fault, place),
     }
 }
 
 /// The code of why columns make no table, and where.
-fn code_of_passed(fault: PassedFault, place: &mut Place) -> u32
+fn code_of_given(fault: GivenFault, place: &mut Place) -> u32
     ensures some { 0 < result }
-    ensures value { result ≡ SHAPE → fault ≡ passed_fault.Value place.new.row place.new.column }
-    ensures order { result ≡ NOT_ASCENDING → fault ≡ passed_fault.Build (build_fault.NotAscending place.new.row) }
+    ensures value { result ≡ SHAPE → fault ≡ given_fault.Value place.new.row place.new.column }
+    ensures order { result ≡ NOT_ASCENDING → fault ≡ given_fault.Build (build_fault.NotAscending place.new.row) }
 {
     match fault {
-        PassedFault::Value(row, column) => {
+        GivenFault::Value(row, column) => {
             place.row = row as u64;
             place.column = column as u64;
             SHAPE
         }
-        PassedFault::Build(BuildFault::NotAscending(row)) => {
+        GivenFault::Build(BuildFault::NotAscending(row)) => {
             place.row = row as u64;
             NOT_ASCENDING
         }
-        PassedFault::Build(BuildFault::TooManyRows) => TOO_MANY_ROWS,
-        PassedFault::Build(BuildFault::Shape(_, _)) => BAD_TABLE,
-        PassedFault::Build(BuildFault::NoMemory) | PassedFault::NoMemory => NO_MEMORY,
+        GivenFault::Build(BuildFault::TooManyRows) => TOO_MANY_ROWS,
+        GivenFault::Build(BuildFault::Shape(_, _)) => BAD_TABLE,
+        GivenFault::Build(BuildFault::NoMemory) | GivenFault::NoMemory => NO_MEMORY,
     }
 }

@@ -5,7 +5,7 @@ ghost use Rattle.txn.specs.Txn.{image_of};
 ghost use Rattle.pdt_c.specs.Reads.{HandsRow, HandsRowOf, HasNoneOf, NeedsRoom, NeedsRoomOf, Ranks};
 ghost use Rattle.pdt_c.specs.declared.codes.TheConstants.{DONE, MISSING, TOO_SMALL};
 
-use crate::calls::writes::passed_key;
+use crate::calls::writes::given_key;
 use crate::codes::{DONE, MISSING, code_of_cells};
 use crate::handles::transaction::{Transaction, put, take};
 use crate::shown_cells::put_row;
@@ -55,7 +55,7 @@ fn rank(
 ) -> u32
     ensures { result ≡ DONE → Ranks txn.now numbers.now texts.now below.new there.new }
 {
-    match passed_key(alloc, txn, numbers, texts) {
+    match given_key(alloc, txn, numbers, texts) {
         Ok(key) => {
             let (rank, found) = txn.rank(&key);
             *below = rank;
@@ -115,7 +115,7 @@ fn get(
     ensures small { result ≡ TOO_SMALL
         → NeedsRoomOf txn.now numbers.now texts.now (length out_numbers.old) (length out_texts.old) needed.new }
 {
-    let key = match passed_key(alloc, txn, numbers, texts) {
+    let key = match given_key(alloc, txn, numbers, texts) {
         Ok(key) => key,
         Err(fault) => return code_of_cells(fault),
     };

@@ -1,12 +1,12 @@
-//! The writes of a transaction, by the cells that C passes.
+//! The writes of a transaction, by the cells that C gives.
 ghost use Rattle.std.specs.Prelude.{◌≡◌, ◌≢◌, ◌⊎◌, IsSome, IfSome, IfOk, IfErr, OnErr};
-ghost use Rattle.pdt_c.specs.Cells.{ArePassed};
+ghost use Rattle.pdt_c.specs.Cells.{AreGiven};
 ghost use Rattle.pdt_c.specs.Writes.{Deletes, Inserts, Sets, SetsCell, key_types};
 ghost use Rattle.pdt_c.specs.declared.codes.TheConstants.{NO_MEMORY, SHAPE};
 
 use crate::codes::{SHAPE, code_of_cells, code_of_fault, code_of_reply};
+use crate::given::cells::{CellFault, given_cell, given_cells};
 use crate::handles::transaction::{Transaction, put, take};
-use crate::passed::cells::{CellFault, passed_cell, passed_cells};
 use std::alloc::Global;
 use txn::Txn;
 use values::{Key, Row};
@@ -36,7 +36,7 @@ fn insert(alloc: Global, txn: &mut Txn, numbers: &[i64], texts: &[u8]) -> u32
     ensures told { result ≢ SHAPE → result ≢ NO_MEMORY → Inserts numbers.now texts.now txn.old result txn.new }
     ensures refused { (result ≡ SHAPE) ⊎ (result ≡ NO_MEMORY) → txn.new ≡ txn.old }
 {
-    let cells = match passed_cells(alloc, txn.schema().types(), numbers, texts) {
+    let cells = match given_cells(alloc, txn.schema().types(), numbers, texts) {
         Ok(cells) => cells,
         Err(fault) => return code_of_cells(fault),
     };
@@ -46,18 +46,18 @@ fn insert(alloc: Global, txn: &mut Txn, numbers: &[i64], texts: &[u8]) -> u32
     }
 }
 
-/// The key that C passes.
-pub(crate) fn passed_key(
+/// The key that C gives.
+pub(crate) fn given_key(
     alloc: Global,
     txn: &Txn,
     numbers: &[i64],
     texts: &[u8],
 ) -> Result<Key, CellFault>
-    ensures { IfOk result (λ key. ArePassed (key_types txn.now) numbers.now texts.now key) }
+    ensures { IfOk result (λ key. AreGiven (key_types txn.now) numbers.now texts.now key) }
 {
     let schema = txn.schema();
     match schema.types().get(..schema.key_cols()) {
-        Some(types) => Ok(Key::new(passed_cells(alloc, types, numbers, texts)?)),
+        Some(types) => Ok(Key::new(given_cells(alloc, types, numbers, texts)?)),
         None => Err(CellFault::Shape),
     }
 }
@@ -87,7 +87,7 @@ fn delete(alloc: Global, txn: &mut Txn, numbers: &[i64], texts: &[u8]) -> u32
     ensures told { result ≢ SHAPE → result ≢ NO_MEMORY → Deletes numbers.now texts.now txn.old result txn.new }
     ensures refused { (result ≡ SHAPE) ⊎ (result ≡ NO_MEMORY) → txn.new ≡ txn.old }
 {
-    let key = match passed_key(alloc, txn, numbers, texts) {
+    let key = match given_key(alloc, txn, numbers, texts) {
         Ok(key) => key,
         Err(fault) => return code_of_cells(fault),
     };
@@ -116,7 +116,7 @@ pub extern "C" fn pdtr_set(
     ensures refused { (result ≡ SHAPE) ⊎ (result ≡ NO_MEMORY) → txn.new.value ≡ txn.old.value }
 {
     let mut open = take(alloc, txn);
-    let code = match passed_key(alloc, &open.txn, numbers, texts) {
+    let code = match given_key(alloc, &open.txn, numbers, texts) {
         Ok(key) => set(alloc, &mut open.txn, &key, col, number, text),
         Err(fault) => code_of_cells(fault),
     };
@@ -132,7 +132,7 @@ fn set(alloc: Global, txn: &mut Txn, key: &Key, col: usize, number: i64, text: &
         Some(ty) => *ty,
         None => return SHAPE,
     };
-    let cell = match passed_cell(alloc, ty, number, text) {
+    let cell = match given_cell(alloc, ty, number, text) {
         Ok(cell) => cell,
         Err(fault) => return code_of_cells(fault),
     };

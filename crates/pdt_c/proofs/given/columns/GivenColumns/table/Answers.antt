@@ -5,7 +5,7 @@ use Rattle.stable.specs.Stable.{Stable, build_fault}
 use Rattle.std.specs.Prelude.{Some}
 use Rattle.pdt_c.specs.Filling.{AreFilled}
 use Rattle.pdt_c.proofs.FillingLemmas.{count_is, fault_is, some_column}
-use Rattle.pdt_c.proofs.passed.columns.Passed.table.Goals as goal
+use Rattle.pdt_c.proofs.given.columns.GivenColumns.table.Goals as goal
 
 pub returns-in-Ok-clause-ok : goal.returns-in-Ok-clause-ok
 returns-in-Ok-clause-ok c =

@@ -1,6 +1,6 @@
 use Rattle.std.proofs.Common.{arith}
 use Rattle.pdt_c.proofs.FillingLemmas.{text_of-text, text_of-none}
-use Rattle.pdt_c.proofs.passed.filling.text_of.Goals as goal
+use Rattle.pdt_c.proofs.given.filling.text_of.Goals as goal
 
 pub returns-in-Ok-clause-value : goal.returns-in-Ok-clause-value
 returns-in-Ok-clause-value c =

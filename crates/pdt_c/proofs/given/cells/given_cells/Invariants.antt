@@ -1,7 +1,7 @@
 use Rattle.std.proofs.Common.{◌≡◌, ◌++◌, map, take}
 use Rattle.std.specs.List.{flat_map}
 use Rattle.pdt_c.specs.Cells.{type_of, number_of, bytes_of}
-use Rattle.pdt_c.proofs.passed.cells.passed_cells.Given as goal
+use Rattle.pdt_c.proofs.given.cells.given_cells.Given as goal
 
 -- the cells so far are those of the first types and numbers, and their bytes stand before those that are left
 abbrev pub invariant-loop-col : goal.invariant-loop-col

@@ -1,6 +1,6 @@
 use Rattle.std.proofs.Common.{◌≡◌, length}
 use Rattle.pdt_c.specs.Filling.{AreFirst}
-use Rattle.pdt_c.proofs.passed.filling.PassedColumn.fill.Given as goal
+use Rattle.pdt_c.proofs.given.filling.GivenColumn.fill.Given as goal
 
 -- the values of the rows so far
 abbrev pub invariant-loop-row : goal.invariant-loop-row

@@ -1,13 +1,13 @@
-//! Cells that C passes: a number for each, and the bytes of the texts, one after the other.
+//! Cells that C gives: a number for each, and the bytes of the texts, one after the other.
 ghost use Rattle.std.specs.Prelude.{◌≡◌, ◌++◌, ◌≤◌, pos, IfOk};
 ghost use Rattle.values.specs.declared.value.Value.TheVariants as cell;
-ghost use Rattle.pdt_c.specs.Cells.{ArePassed, IsPassed, type_of, number_of, bytes_of};
+ghost use Rattle.pdt_c.specs.Cells.{AreGiven, IsGiven, type_of, number_of, bytes_of};
 
 use std::alloc::{AllocError, AllocFailed, Global};
 use std::str;
 use values::{ColumnType, Text, Value};
 
-/// Why there are no cells of what C passed.
+/// Why there are no cells of what C gave.
 #[derive(Clone, Copy, Debug, PartialEq, Eq, Drop)]
 pub(crate) enum CellFault {
     /// Not as many numbers as columns, a truth that is neither 0 nor 1, a text that is no UTF-8, or fewer or more bytes
@@ -29,14 +29,14 @@ impl<T: Drop> From<AllocFailed<T>> for CellFault {
     }
 }
 
-/// The cell of a type that C passes by its number and its bytes, which are all of them.
-pub(crate) fn passed_cell(
+/// The cell of a type that C gives by its number and its bytes, which are all of them.
+pub(crate) fn given_cell(
     alloc: Global,
     ty: ColumnType,
     number: i64,
     text: &[u8],
 ) -> Result<Value, CellFault>
-    ensures { IfOk result (λ cell. IsPassed ty number text.now cell) }
+    ensures { IfOk result (λ cell. IsGiven ty number text.now cell) }
 {
     let (cell, rest) = first_cell(alloc, ty, &number, text)?;
     if rest.is_empty() {
@@ -46,14 +46,14 @@ pub(crate) fn passed_cell(
     }
 }
 
-/// The cells of these types that C passes.
-pub(crate) fn passed_cells(
+/// The cells of these types that C gives.
+pub(crate) fn given_cells(
     alloc: Global,
     types: &[ColumnType],
     numbers: &[i64],
     texts: &[u8],
 ) -> Result<Vec<Value>, CellFault>
-    ensures { IfOk result (λ cells. ArePassed types.now numbers.now texts.now cells.items) }
+    ensures { IfOk result (λ cells. AreGiven types.now numbers.now texts.now cells.items) }
 {
     if numbers.len() != types.len() {
         return Err(CellFault::Shape);

@@ -1,9 +1,9 @@
-//! Columns of the values that C passes, filled row by row: no row is made.
+//! Columns of the values that C gives, filled row by row: no row is made.
 ghost use Rattle.std.specs.Prelude.{◌≡◌, ◌≢◌, ◌<◌, ◌^◌, ℕ, List, IfOk, IfErr, IfSome, IsTrue, IsFalse, MatchOption, Some, None, length, slice_get};
 ghost use Rattle.values.specs.Lent.{value_of};
 ghost use Rattle.values.specs.Shape.{has_type, is_too_long};
 ghost use Rattle.pdt_c.specs.Filling.{count_of, value_at, text_between, text_of, truth_of, IsFilled, IsUnfilled};
-ghost use Rattle.pdt_c.specs.declared.passed.filling.FillFault.TheVariants as fill_fault;
+ghost use Rattle.pdt_c.specs.declared.given.filling.FillFault.TheVariants as fill_fault;
 
 use stable::Column;
 use std::alloc::Global;
@@ -12,10 +12,10 @@ use std::str;
 use values::limits::MAX_TEXT_BYTES;
 use values::{ColumnType, NoMemory, ValueRef};
 
-/// Why the values that C passes fill no column.
+/// Why the values that C gives fill no column.
 #[derive(Clone, Copy, Debug, PartialEq, Eq, Drop)]
 pub(crate) enum FillFault {
-    /// No value of the column's type is passed for this row, or one is passed for the row after the last.
+    /// No value of the column's type is given for this row, or one is given for the row after the last.
     Row(usize),
     /// A growth was refused.
     NoMemory,
@@ -29,15 +29,15 @@ impl From<NoMemory> for FillFault {
     }
 }
 
-/// What C passes of a column: numbers, or bytes, and for texts where each begins and the last one ends.
+/// What C gives of a column: numbers, or bytes, and for texts where each begins and the last one ends.
 #[derive(Drop)]
-pub(crate) struct PassedColumn<'a> {
+pub(crate) struct GivenColumn<'a> {
     pub(crate) numbers: &'a [i64],
     pub(crate) offsets: &'a [u64],
     pub(crate) bytes: &'a [u8],
 }
 
-impl<'a> Model for PassedColumn<'a> {
+impl<'a> Model for GivenColumn<'a> {
     ghost use Rattle.pdt_c.specs.Filling.{Given};
 
     ghost Value = { Given };
@@ -45,8 +45,8 @@ impl<'a> Model for PassedColumn<'a> {
     ghost view = { λ p. record { numbers = p.numbers.now; offsets = p.offsets.now; bytes = p.bytes.now } };
 }
 
-impl<'a> PassedColumn<'a> {
-    /// The value of the type that is passed for a row, if there is one.
+impl<'a> GivenColumn<'a> {
+    /// The value of the type that is given for a row, if there is one.
     #[inline(always)]
     fn value(&self, ty: ColumnType, row: usize) -> Option<ValueRef<'a>>
         requires { row < 2 ^ 63 }
@@ -70,7 +70,7 @@ impl<'a> PassedColumn<'a> {
         }
     }
 
-    /// How many values of the type are passed.
+    /// How many values of the type are given.
     fn count(&self, ty: ColumnType) -> usize
         ensures { result ≡ count_of ty self.now }
     {
@@ -81,7 +81,7 @@ impl<'a> PassedColumn<'a> {
         }
     }
 
-    /// The column of the values that are passed for so many rows.
+    /// The column of the values that are given for so many rows.
     pub(crate) fn fill(
         &self,
         alloc: Global,

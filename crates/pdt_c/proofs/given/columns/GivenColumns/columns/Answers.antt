@@ -4,7 +4,7 @@ use Rattle.values.specs.declared.value.ColumnType.TheVariants as column
 use Rattle.blocks.specs.Column.{Column}
 use Rattle.pdt_c.specs.Filling.{given_at, Given, IsFilled}
 use Rattle.pdt_c.proofs.FillingLemmas.{EachFilled, filled_more}
-use Rattle.pdt_c.proofs.passed.columns.Passed.columns.Goals as goal
+use Rattle.pdt_c.proofs.given.columns.GivenColumns.columns.Goals as goal
 
 pub loop-col-preserved : goal.loop-col-preserved
 loop-col-preserved c =

@@ -1,7 +1,7 @@
 use Rattle.std.proofs.Common.{◌≡◌, length, map, take}
 use Rattle.blocks.specs.Column.{Column}
 use Rattle.pdt_c.proofs.FillingLemmas.{EachFilled}
-use Rattle.pdt_c.proofs.passed.columns.Passed.columns.Given as goal
+use Rattle.pdt_c.proofs.given.columns.GivenColumns.columns.Given as goal
 
 -- the columns so far are those of the first types, each filled
 abbrev pub invariant-loop-col : goal.invariant-loop-col

@@ -1,4 +1,4 @@
-//! Cells and columns that C passes.
+//! Cells and columns that C gives.
 
 pub(crate) mod cells;
 pub(crate) mod columns;

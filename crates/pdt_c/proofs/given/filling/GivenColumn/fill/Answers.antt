@@ -4,7 +4,7 @@ use Rattle.values.specs.Lent.{value_of}
 use Rattle.values.specs.declared.value.Value.{Value}
 use Rattle.blocks.specs.Column.{Column}
 use Rattle.pdt_c.proofs.FillingLemmas.{first_more}
-use Rattle.pdt_c.proofs.passed.filling.PassedColumn.fill.Goals as goal
+use Rattle.pdt_c.proofs.given.filling.GivenColumn.fill.Goals as goal
 
 pub loop-row-preserved : goal.loop-row-preserved
 loop-row-preserved c =

@@ -2,7 +2,7 @@ use Rattle.std.proofs.Common.{◌++◌, map, ap, arith, ◌∙◌}
 use Rattle.std.specs.List.{flat_map}
 use Rattle.pdt_c.specs.Cells.{type_of, number_of, bytes_of}
 use Rattle.pdt_c.proofs.CellLemmas.{map_more, bytes_move}
-use Rattle.pdt_c.proofs.passed.cells.passed_cells.Goals as goal
+use Rattle.pdt_c.proofs.given.cells.given_cells.Goals as goal
 
 pub loop-col-preserved : goal.loop-col-preserved
 loop-col-preserved c =
