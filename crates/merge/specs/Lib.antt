@@ -1,6 +1,6 @@
 pub mod Image
 pub mod Level
-pub mod Numbered
+pub mod NumberRows
 pub mod View
 pub mod Cursor
 pub mod Stretches

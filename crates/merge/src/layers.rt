@@ -6,7 +6,7 @@ ghost use Rattle.model.specs.Table.{IsTable, rank, row_at};
 ghost use Rattle.merge.specs.Image.{image_rows, image_table};
 ghost use Rattle.merge.specs.Cursor.{IsCursor, rows_left};
 ghost use Rattle.merge.specs.Filling.{IsWide};
-ghost use Rattle.merge.specs.Numbered.{AreNumbered, HasNumberedColumn, numbered_left};
+ghost use Rattle.merge.specs.NumberRows.{AreNumberRows, HasNumberColumn, number_rows_left};
 ghost use Rattle.merge.specs.Packed.{AreNumbersOf, IsFixedWidthColumn, IsNumberColumn, IsPacked, type_at};
 ghost use Rattle.merge.specs.ReadRows.{AreReadRows, HasReadColumn, rows_of_read};
 ghost use Rattle.merge.specs.View.{row_of};
@@ -18,8 +18,8 @@ use crate::cursor::Cursor;
 use crate::image::{CommittedRows, Image};
 use crate::key_row::{find_in, find_over};
 use crate::level::{Level, StableRows, grown, locate_over};
+use crate::number_rows::NumberRows;
 use crate::number_runs::NumberRuns;
-use crate::numbered_rows::NumberedRows;
 use crate::numbers::fill;
 use crate::packed::Packed;
 use crate::placed::PlacedStretches;
@@ -233,7 +233,7 @@ impl<'a> Layers<'a> {
         let start = from.min(self.len);
         let count = (out.len() as u64).min(self.len - start) as usize;
         let room = &mut out[..count];
-        fill(&mut self.numbered_from(packed, col, start), col, room);
+        fill(&mut self.number_rows_from(packed, col, start), col, room);
         count
     }
 
@@ -253,7 +253,7 @@ impl<'a> Layers<'a> {
         let start = from.min(self.len);
         let stop = to.min(self.len);
         let left = stop.saturating_sub(start) as usize;
-        NumberRuns::new(self.numbered_from(packed, col, start), col, left)
+        NumberRuns::new(self.number_rows_from(packed, col, start), col, left)
     }
 
     /// How many rows have a key below this one, and whether a row has the key: by halving in the stable table and one descent
@@ -327,19 +327,19 @@ impl<'a> Layers<'a> {
     }
 
     /// What is left of the image from a position on, under the Read-PDT as it is packed where it is.
-    fn numbered_from(&self, packed: Option<&'a Packed>, col: usize, rid: u64) -> NumberedRows<'a>
+    fn number_rows_from(&self, packed: Option<&'a Packed>, col: usize, rid: u64) -> NumberRows<'a>
         requires rid { rid ≤ length (image_rows self.now) }
         requires packed { IfSome (option_copied packed) (IsPacked self.now.read) }
         requires column { col < length self.now.schema.types }
-        ensures rows { numbered_left result ≡ drop rid (image_rows self.now) }
-        ensures lawful { AreNumbered result }
-        ensures column { HasNumberedColumn (type_at self.now.schema col) col result }
+        ensures rows { number_rows_left result ≡ drop rid (image_rows self.now) }
+        ensures lawful { AreNumberRows result }
+        ensures column { HasNumberColumn (type_at self.now.schema col) col result }
     {
         match self.trans {
-            None => NumberedRows::Committed(self.numbers_from(packed, col, rid)),
+            None => NumberRows::Committed(self.numbers_from(packed, col, rid)),
             Some(trans) => {
                 let cursor = Cursor::at(trans, rid);
-                NumberedRows::Own(Level {
+                NumberRows::Own(Level {
                     below: self.numbers_from(packed, col, cursor.sid()),
                     cursor,
                     layer: Layer::Trans,

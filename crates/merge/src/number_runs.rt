@@ -3,10 +3,10 @@ ghost use Rattle.std.specs.Prelude.{◌≡◌, ◌≤◌, length, map, take};
 ghost use Rattle.std.specs.Iterator.{at_most};
 ghost use Rattle.values.specs.declared.value.ColumnType.TheVariants as column;
 ghost use Rattle.merge.specs.Filling.{numbers_in};
-ghost use Rattle.merge.specs.Numbered.{AreNumbered, HasNumberedColumn, YieldsNumbers, numbered_left};
+ghost use Rattle.merge.specs.NumberRows.{AreNumberRows, HasNumberColumn, YieldsNumbers, number_rows_left};
 ghost use Rattle.merge.specs.Packed.{number_at};
 
-use crate::numbered_rows::NumberedRows;
+use crate::number_rows::NumberRows;
 use crate::numbers::Numbers;
 use std::iter::FusedIterator;
 use std::marker::Model;
@@ -36,7 +36,7 @@ impl NumberRun<'_> {
 /// The numbers that are left of a column in a range of the image, in order, run by run. A contract sees them as their list.
 #[derive(Drop)]
 pub struct NumberRuns<'a> {
-    rows: NumberedRows<'a>,
+    rows: NumberRows<'a>,
     col: usize,
     /// How many are wanted of those that are left.
     left: usize,
@@ -45,23 +45,23 @@ pub struct NumberRuns<'a> {
 impl<'a> Model for NumberRuns<'a> {
     ghost use Rattle.std.specs.Prelude.{List, ℤ, ◌≤◌, length, map, take};
     ghost use Rattle.values.specs.declared.value.ColumnType.TheVariants as column;
-    ghost use Rattle.merge.specs.Numbered.{AreNumbered, HasNumberedColumn, numbered_left};
+    ghost use Rattle.merge.specs.NumberRows.{AreNumberRows, HasNumberColumn, number_rows_left};
     ghost use Rattle.merge.specs.Packed.{number_at};
 
     ghost Value = { List ℤ };
 
-    ghost view = { λ r. take r.left (map (number_at r.col) (numbered_left r.rows)) };
+    ghost view = { λ r. take r.left (map (number_at r.col) (number_rows_left r.rows)) };
 
-    ghost invariant = { λ r. AreNumbered r.rows × HasNumberedColumn column.Int r.col r.rows × (r.left ≤ length (numbered_left r.rows)) };
+    ghost invariant = { λ r. AreNumberRows r.rows × HasNumberColumn column.Int r.col r.rows × (r.left ≤ length (number_rows_left r.rows)) };
 }
 
 impl<'a> NumberRuns<'a> {
     /// The runs of so many rows.
-    pub(crate) fn new(rows: NumberedRows<'a>, col: usize, left: usize) -> NumberRuns<'a>
-        requires lawful { AreNumbered rows }
-        requires column { HasNumberedColumn column.Int col rows }
-        requires left { left ≤ length (numbered_left rows) }
-        ensures { result ≡ take left (map (number_at col) (numbered_left rows.entry)) }
+    pub(crate) fn new(rows: NumberRows<'a>, col: usize, left: usize) -> NumberRuns<'a>
+        requires lawful { AreNumberRows rows }
+        requires column { HasNumberColumn column.Int col rows }
+        requires left { left ≤ length (number_rows_left rows) }
+        ensures { result ≡ take left (map (number_at col) (number_rows_left rows.entry)) }
     {
         NumberRuns { rows, col, left }
     }

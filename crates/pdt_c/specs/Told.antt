@@ -22,11 +22,11 @@ code_of_reply reply.Full = 4
 code_of_reply reply.Missing = 6
 
 -- the number of a column's type, and 0 where there is no such column
-abbrev pub number_of_type : Option ColumnType → ℕ
-number_of_type (Some column.Int) = 1
-number_of_type (Some column.Text) = 2
-number_of_type (Some column.Bool) = 3
-number_of_type None = 0
+abbrev pub code_of_type : Option ColumnType → ℕ
+code_of_type (Some column.Int) = 1
+code_of_type (Some column.Text) = 2
+code_of_type (Some column.Bool) = 3
+code_of_type None = 0
 
 -- so many bytes are these, which stand in C's room if they fit
 abbrev pub IsPut : ℕ → List ℕ → List ℕ → Type 0

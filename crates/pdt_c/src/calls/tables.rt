@@ -1,7 +1,7 @@
 //! What a table has: its number, its columns, and how large its layers are.
 ghost use Rattle.std.specs.Prelude.{◌≡◌, ℕ, IsSome, IfSome, length, slice_get};
 ghost use Rattle.manager.specs.Managed.{newest_version};
-ghost use Rattle.pdt_c.specs.Told.{IsPut, number_of_type};
+ghost use Rattle.pdt_c.specs.Told.{IsPut, code_of_type};
 
 use crate::handles::store;
 use crate::handles::store::Store;
@@ -79,7 +79,7 @@ pub extern "C" fn pdtr_key_columns(alloc: Global, store: &mut Store) -> usize
 pub extern "C" fn pdtr_type(alloc: Global, store: &mut Store, col: usize) -> u32
     requires { IsSome store.old.value }
     ensures kept { store.new.value ≡ store.old.value }
-    ensures number { IfSome store.old.value (λ m. result ≡ number_of_type (slice_get m.schema.types col)) }
+    ensures number { IfSome store.old.value (λ m. result ≡ code_of_type (slice_get m.schema.types col)) }
 {
     let manager = store::take(alloc, store);
     let code = match manager.newest().schema().types().get(col) {

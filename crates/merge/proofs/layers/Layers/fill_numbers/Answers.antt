@@ -20,7 +20,7 @@ returns-clause-values c =
     filled_part c.args.col c.min-count.result _ _ c.fill.new.out _ c.fill.ensures.numbers
     (omega (arith, c.fill.ensures.length, c.min-count.ensures, cut))
     ∙ ap (λ (rs : List Row). map (number_at c.args.col) (take c.min-count.result rs))
-    (c.numbered_from.ensures.rows
+    (c.number_rows_from.ensures.rows
     ∙ drop_cut c.args.from c.min-start.result (image_rows c.args.self.now) (omega (arith, c.min-start.ensures, counted)))
     in
     let have = image_values l.stable.now l.read.now l.write.now (option_copied l.trans) l.len c.args.self.now c.self.view_is

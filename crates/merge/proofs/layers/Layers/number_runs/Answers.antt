@@ -8,7 +8,7 @@ use Rattle.values.specs.declared.value.Value.TheVariants.{Int}
 use Rattle.stable.specs.Rows.{column_values}
 use Rattle.merge.specs.Filling.{HaveValues}
 use Rattle.merge.specs.Image.{Stack, image_rows}
-use Rattle.merge.specs.Numbered.{HasNumberedColumn}
+use Rattle.merge.specs.NumberRows.{HasNumberColumn}
 use Rattle.merge.specs.Packed.{number_at}
 use Rattle.merge.proofs.FillingLemmas.{values_are}
 use Rattle.merge.proofs.PackedPlaceLemmas.{image_values}
@@ -17,7 +17,7 @@ use Rattle.merge.proofs.layers.Layers.number_runs.Goals as goal
 
 pub new-requires-clause-column : goal.new-requires-clause-column
 new-requires-clause-column c =
-    subst (λ (ty : ColumnType). HasNumberedColumn ty c.args.col c.numbered_from.result) c.requires.column.ints c.numbered_from.ensures.column
+    subst (λ (ty : ColumnType). HasNumberColumn ty c.args.col c.number_rows_from.result) c.requires.column.ints c.number_rows_from.ensures.column
 
 pub returns : goal.returns
 returns c =
@@ -35,7 +35,7 @@ returns c =
     let ints = subst (λ (ty : ColumnType). HaveValues ty col part) c.requires.column.ints have in
     ap (map Int)
     (c.new.ensures
-    ∙ ap (λ (rs : List Row). take left (map (number_at col) rs)) c.numbered_from.ensures.rows
+    ∙ ap (λ (rs : List Row). take left (map (number_at col) rs)) c.number_rows_from.ensures.rows
     ∙ take-map (number_at col) left (drop c.min-start.result rows))
     ∙ values_are col part ints
     ∙ ap (column_values col) ((λ i. take (many i) (drop (start i) rows)) ∙ cut_range c.args.from c.args.to rows)

@@ -8,7 +8,7 @@ use Rattle.merge.specs.Image.{write_rows}
 use Rattle.merge.specs.ReadRows.{rows_of_read}
 use Rattle.merge.proofs.LeftLemmas.{none_on_top, tree_on_top}
 use Rattle.merge.proofs.PackedPlaceLemmas.{wide_under}
-use Rattle.merge.proofs.layers.Layers.numbered_from.Goals as goal
+use Rattle.merge.proofs.layers.Layers.number_rows_from.Goals as goal
 
 pub numbers_from-requires-clause-rid : goal.numbers_from-requires-clause-rid
 numbers_from-requires-clause-rid c =

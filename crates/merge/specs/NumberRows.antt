@@ -7,25 +7,25 @@ use Rattle.merge.specs.Cursor.{IsCursor, rows_left}
 use Rattle.merge.specs.Filling.{IsWide, numbers_in}
 use Rattle.merge.specs.ReadRows.{AreReadRows, HasReadColumn, rows_of_read}
 use Rattle.merge.specs.declared.number_runs.NumberRun.{NumberRun}
-use Rattle.merge.specs.declared.numbered_rows.NumberedRows.{NumberedRows}
-use Rattle.merge.specs.declared.numbered_rows.NumberedRows.TheVariants.{Committed, Own}
+use Rattle.merge.specs.declared.number_rows.NumberRows.{NumberRows}
+use Rattle.merge.specs.declared.number_rows.NumberRows.TheVariants.{Committed, Own}
 
 -- the rows that are left
-abbrev pub numbered_left : NumberedRows → List Row
-numbered_left (Committed l) = rows_left l.cursor (rows_of_read l.below)
-numbered_left (Own l) = rows_left l.cursor (rows_left l.below.cursor (rows_of_read l.below.below))
+abbrev pub number_rows_left : NumberRows → List Row
+number_rows_left (Committed l) = rows_left l.cursor (rows_of_read l.below)
+number_rows_left (Own l) = rows_left l.cursor (rows_left l.below.cursor (rows_of_read l.below.below))
 
 -- each cursor is over the rows below it
-abbrev pub AreNumbered : NumberedRows → Type 0
-AreNumbered (Committed l) = AreReadRows l.below × IsCursor (length (rows_of_read l.below)) l.cursor
-AreNumbered (Own l) =
+abbrev pub AreNumberRows : NumberRows → Type 0
+AreNumberRows (Committed l) = AreReadRows l.below × IsCursor (length (rows_of_read l.below)) l.cursor
+AreNumberRows (Own l) =
     (AreReadRows l.below.below × IsCursor (length (rows_of_read l.below.below)) l.below.cursor)
     × IsCursor (length (rows_left l.below.cursor (rows_of_read l.below.below))) l.cursor
 
 -- the numbers of the column may be handed out
-abbrev pub HasNumberedColumn : ColumnType → ℕ → NumberedRows → Type 0
-HasNumberedColumn ty col (Committed l) = HasReadColumn ty col l.below × All (IsWide col) (rows_of_read l.below)
-HasNumberedColumn ty col (Own l) =
+abbrev pub HasNumberColumn : ColumnType → ℕ → NumberRows → Type 0
+HasNumberColumn ty col (Committed l) = HasReadColumn ty col l.below × All (IsWide col) (rows_of_read l.below)
+HasNumberColumn ty col (Own l) =
     (HasReadColumn ty col l.below.below × All (IsWide col) (rows_of_read l.below.below))
     × All (IsWide col) (rows_left l.below.cursor (rows_of_read l.below.below))
 
