@@ -11,6 +11,7 @@ use Rattle.counted.specs.declared.node.TheConstants.{MIN_WIDTH}
 use Rattle.counted.specs.declared.node.path.Path.{Path}
 use Rattle.counted.specs.declared.node.path.Branch.{Branch}
 use Rattle.counted.specs.Edits.{edited}
+use Rattle.counted.specs.Few.{IsCountable, IsFew}
 use Rattle.counted.specs.Grown.{IsGrown, grown_items}
 use Rattle.counted.specs.Branches.{AreBranches, IsPath, IsBranch, around, before, behind, least_width}
 use Rattle.counted.specs.Shapes.{AreChildren, IsChild, all_items, depth_of, items_of}
@@ -104,7 +105,7 @@ power_from m (suc n) =
     let e = ap (λ k. MIN_WIDTH ^ k) (let f : suc n + m ≡ suc (n + m) = omega arith in f) in
     omega arith
 
-depth_few : (d n : ℕ) → IsDepth d n → n < 2 ^ 61 → d ≤ 21
+depth_few : (d n : ℕ) → IsDepth d n → IsFew n → d ≤ 21
 depth_few d n is few =
     elim (cases_lt d 22) [
       | inl lt ↦ omega arith
@@ -116,7 +117,7 @@ depth_few d n is few =
     ]
 
 pub begun : (v : View) (end : ℕ) (branches : List Branch) → branches ≡ [] → IsRoot v → (IsRoot v → IsDepth v.depth (length v.items))
-    → end ≤ length v.items → length v.items < 2 ^ 61 → IsAlong v end v end branches
+    → end ≤ length v.items → IsFew (length v.items) → IsAlong v end v end branches
 begun v end branches none root levels within few =
     subst (IsAlong v end v end) (sym none) (record {
       levels = tt;
@@ -141,7 +142,7 @@ wide_here (s ∷ branches) node root deep full = full (omega arith)
 
 -- a branch taken from an inner node
 pub goes_down : (v node w : View) (children : List Child) (whole end rest : ℕ) (branches new : List Branch) (s : Branch) (d : Child)
-    → IsAlong v whole node end branches → length v.items < 2 ^ 61 → AtInner children node → s.children.now ≡ children
+    → IsAlong v whole node end branches → IsFew (length v.items) → AtInner children node → s.children.now ≡ children
     → s.index < length children → rest + length (all_items (take s.index children)) ≡ end
     → rest ≤ length (items_of (get_or children s.index d))
     → (1 ≤ end → 1 ≤ rest) → new ≡ branches ++ s ∷ [] → w ≡ (get_or children s.index d).node.value → IsAlong v whole w rest new
@@ -230,7 +231,7 @@ pub record IsUp (s : Branch) (g : Grown) : Type 0 where
   pub index : s.index < length s.children.now
   pub two : 2 ≤ length s.children.now
   pub grown : IsGrown (depth_of s.children.now) (MIN_WIDTH - 1) (grown_items g) g
-  pub few : length (all_items s.children.now) + length (grown_items g) < 2 ^ 62
+  pub few : IsCountable (length (all_items s.children.now) + length (grown_items g))
 
 two_at : (branches : List Branch) → 2 ≤ width_at 2 branches
 two_at [] = omega arith
@@ -246,7 +247,7 @@ less_by_one [] = omega arith
 less_by_one (s ∷ branches) = omega arith
 
 pub popped : (all : List Branch) (leaf : List Entry) (left rest : List Branch) (g : Grown) (s : Branch) → left ≡ rest ++ s ∷ []
-    → length (around all leaf) ≤ 2 ^ 61 → IsClimbed all leaf left g → IsUp s g
+    → IsFew (length (around all leaf)) → IsClimbed all leaf left g → IsUp s g
 popped all leaf left rest g s split few h =
     let depth = 1 + (length all - length left) in
     let last = (branches-pop depth 2 rest s (subst (AreBranches depth 2) split h.levels)).last in

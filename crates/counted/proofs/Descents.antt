@@ -1,5 +1,5 @@
 -- How far a descent has come: the entries below a node, among those of the tree.
-use Rattle.std.proofs.Common.{◌≡◌, ℕ, zero, suc, ◌+◌, ◌^◌, ◌<◌, ◌≤◌, inl, inr, Bool, List, [], ◌∷◌, ◌++◌, length, take, drop, get_or}
+use Rattle.std.proofs.Common.{◌≡◌, ℕ, zero, suc, ◌+◌, ◌<◌, ◌≤◌, inl, inr, Bool, List, [], ◌∷◌, ◌++◌, length, take, drop, get_or}
 use Rattle.std.proofs.Common.{to_z, of_z, w64, refl, ap, sym, ◌∙◌, subst, arith, append_assoc, length-append, length-take, length-drop}
 use Rattle.std.proofs.Common.{true, false}
 use Rattle.std.specs.Prelude.{ℤ, pos, ◌+ℤ◌, Option, None, slice_get}
@@ -14,6 +14,7 @@ use Rattle.counted.specs.declared.entry.Lead.{Lead}
 use Rattle.counted.specs.declared.node.Child.{Child}
 use Rattle.counted.specs.declared.spot.Above.{Above}
 use Rattle.counted.specs.Descents.{AreBelow, AreNext, IsAt}
+use Rattle.counted.specs.Few.{IsFew}
 use Rattle.counted.specs.Leads.{lead_of, lead_at}
 use Rattle.counted.specs.Search.{Begins, IsChildPlace, IsNear, IsPlace}
 use Rattle.counted.specs.Shapes.{items_of, all_items, AreChildren}
@@ -223,7 +224,7 @@ below_within items index shift node next b =
 
 -- what the entries before a node add is a small number, where all are few
 pub small : (items : List Entry) (index : ℕ) (shift : ℤ) (node : List Entry) (next : Option Lead) → AreBelow items index shift node next
-    → length items < 2 ^ 61 → to_z w64 (of_z w64 shift) ≡ shift
+    → IsFew (length items) → to_z w64 (of_z w64 shift) ≡ shift
 small items index shift node next b few =
     let w = below_within items index shift node next b in
     let fits = b.here.within in
@@ -231,7 +232,7 @@ small items index shift node next b few =
 
 -- and the entries below it are near
 pub below_near : (items : List Entry) (index : ℕ) (shift : ℤ) (node es : List Entry) (next : Option Lead)
-    → AreBelow items index shift node next → length items < 2 ^ 61 → es ≡ node → IsNear (to_z w64 (of_z w64 shift)) (length es)
+    → AreBelow items index shift node next → IsFew (length items) → es ≡ node → IsNear (to_z w64 (of_z w64 shift)) (length es)
 below_near items index shift node es next b few same =
     let w = below_within items index shift node next b in
     let fits = b.here.within in

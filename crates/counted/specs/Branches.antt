@@ -1,9 +1,10 @@
 -- The way down to a leaf, and what lies around it.
-use Rattle.std.specs.Prelude.{◌≡◌, ℕ, ◌+◌, ◌-◌, ◌^◌, ◌<◌, ◌≤◌, List, [], ◌∷◌, ◌++◌, length, take, drop}
+use Rattle.std.specs.Prelude.{◌≡◌, ℕ, ◌+◌, ◌-◌, ◌<◌, ◌≤◌, List, [], ◌∷◌, ◌++◌, length, take, drop}
 use Rattle.model.specs.declared.entry.Entry.{Entry}
 use Rattle.counted.specs.declared.node.TheConstants.{MAX_WIDTH, MIN_WIDTH}
 use Rattle.counted.specs.declared.node.path.Path.{Path}
 use Rattle.counted.specs.declared.node.path.Branch.{Branch}
+use Rattle.counted.specs.Few.{IsFew}
 use Rattle.counted.specs.Shapes.{AreChildren, all_items, depth_of}
 use Rattle.counted.specs.Views.{View}
 
@@ -26,7 +27,7 @@ pub record IsBranch (depth least : ℕ) (s : Branch) : Type 0 where
   pub index : s.index < length s.children.now
   pub level : depth_of s.children.now ≡ depth
   pub wide : least ≤ length s.children.now
-  pub few : length (all_items s.children.now) < 2 ^ 61
+  pub few : IsFew (length (all_items s.children.now))
 
 -- branches, one a level, from a node at least so wide, and then from nodes that are at least half full, to one of so many levels
 abbrev pub AreBranches : ℕ → ℕ → List Branch → Type 0

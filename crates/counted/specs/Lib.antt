@@ -4,6 +4,7 @@ pub mod Edits
 pub mod Grown
 pub mod Leads
 pub mod Falls
+pub mod Few
 pub mod Paths
 pub mod Branches
 pub mod Roots

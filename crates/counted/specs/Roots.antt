@@ -1,8 +1,9 @@
 -- The root of a tree.
-use Rattle.std.specs.Prelude.{◌≡◌, ℕ, ℤ, ◌<◌, ◌^◌, [], length, Option, Some, None}
+use Rattle.std.specs.Prelude.{◌≡◌, ℕ, ℤ, [], length, Option, Some, None}
 use Rattle.std.proofs.Common.{Global}
 use Rattle.std.specs.declared.sync.Arc.{Arc}
 use Rattle.counted.specs.declared.node.Node.{Node}
+use Rattle.counted.specs.Few.{IsFew}
 use Rattle.counted.specs.Sums.{total}
 use Rattle.counted.specs.Trees.{Tree, IsRoot}
 
@@ -19,4 +20,4 @@ pub record IsTree (root : Option (Arc Node Global)) (len : ℕ) (net : ℤ) : Ty
   pub shape : IsShaped root
   pub count : len ≡ length (view_of_root root).entries
   pub sum : net ≡ total (view_of_root root).entries
-  pub few : len < 2 ^ 61
+  pub few : IsFew len

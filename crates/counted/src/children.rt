@@ -1,5 +1,6 @@
 //! The children of a node, read by what is kept of each.
-ghost use Rattle.std.specs.Prelude.{◌≡◌, ◌+◌, ◌^◌, ◌<◌, ◌≤◌, length, slice_index_or, take, drop};
+ghost use Rattle.std.specs.Prelude.{◌≡◌, ◌+◌, ◌<◌, ◌≤◌, length, slice_index_or, take, drop};
+ghost use Rattle.counted.specs.Few.{IsCountable};
 ghost use Rattle.counted.specs.declared.node.Child.{Child};
 ghost use Rattle.counted.specs.Leads.{lead_at};
 ghost use Rattle.counted.specs.Shapes.{AreChildren, all_items, items_of};
@@ -11,7 +12,7 @@ use crate::node::Child;
 /// How many entries the children have.
 pub(crate) fn count_of(children: &[Child]) -> usize
     requires children { AreChildren children.now }
-    requires few { length (all_items children.now) < 2 ^ 62 }
+    requires few { IsCountable (length (all_items children.now)) }
     ensures { result ≡ length (all_items children.now) }
 {
     let mut count = 0;
@@ -24,7 +25,7 @@ pub(crate) fn count_of(children: &[Child]) -> usize
 /// What the children's entries add.
 pub(crate) fn net_of(children: &[Child]) -> i64
     requires children { AreChildren children.now }
-    requires few { length (all_items children.now) < 2 ^ 62 }
+    requires few { IsCountable (length (all_items children.now)) }
     ensures { result ≡ total (all_items children.now) }
 {
     let mut net = 0;
@@ -38,7 +39,7 @@ pub(crate) fn net_of(children: &[Child]) -> i64
 pub(crate) fn sums_before(children: &[Child], index: usize) -> (usize, i64)
     requires children { AreChildren children.now }
     requires within { index < length children.now }
-    requires few { length (all_items children.now) < 2 ^ 62 }
+    requires few { IsCountable (length (all_items children.now)) }
     ensures count { result.0 ≡ length (all_items (take index children.now)) }
     ensures net { result.1 ≡ total (all_items (take index children.now)) }
 {

@@ -1,8 +1,9 @@
 //! The entries of a tree in order, lent.
-ghost use Rattle.std.specs.Prelude.{◌≡◌, ◌+◌, ◌-◌, ◌^◌, ◌<◌, ◌≤◌, ◌++◌, length, slice_get, take, drop};
+ghost use Rattle.std.specs.Prelude.{◌≡◌, ◌+◌, ◌-◌, ◌<◌, ◌≤◌, ◌++◌, length, slice_get, take, drop};
 ghost use Rattle.std.specs.Iterator.{YieldsFirstRef, item_count};
 ghost use Rattle.std.specs.Option.{option_copied};
 ghost use Rattle.counted.specs.Descents.{AreNext};
+ghost use Rattle.counted.specs.Few.{IsFew};
 ghost use Rattle.counted.specs.Paths.{AreFrom, IsReached};
 
 use crate::SharedEntry;
@@ -109,7 +110,7 @@ fn next_leaf<'a>(
 ) -> (&'a [SharedEntry], &'a [Child])
     requires some { 1 ≤ left }
     requires reached { IsReached tree.now.entries from left behind.now }
-    ensures few { length tree.now.entries < 2 ^ 61 }
+    ensures few { IsFew (length tree.now.entries) }
     ensures some { 1 ≤ length result.0.now }
     ensures within { length result.0.now ≤ left }
     ensures rest { drop from tree.now.entries ≡ result.0.now ++ drop (from + length result.0.now) tree.now.entries }
@@ -132,7 +133,7 @@ fn leaf_after<'a>(
 ) -> (&'a [SharedEntry], &'a [Child])
     requires within { from < length tree.now.entries }
     requires at_hand { AreFrom tree.now.entries from behind.now }
-    ensures few { length tree.now.entries < 2 ^ 61 }
+    ensures few { IsFew (length tree.now.entries) }
     ensures some { 1 ≤ length result.0.now }
     ensures rest { drop from tree.now.entries ≡ result.0.now ++ drop (from + length result.0.now) tree.now.entries }
     ensures at_hand { AreFrom tree.now.entries (from + length result.0.now) result.1.now }

@@ -1,5 +1,6 @@
 //! The entries of one leaf.
 ghost use Rattle.std.specs.Prelude.{◌≡◌, ◌^◌, ◌+◌, ◌<◌, ◌≤◌, ◌++◌, length, IfOk, OnOk};
+ghost use Rattle.counted.specs.Few.{IsCountable};
 ghost use Rattle.counted.specs.declared.node.TheConstants.{MAX_WIDTH};
 ghost use Rattle.counted.specs.Sums.{total};
 ghost use Rattle.counted.specs.Edits.{put_items, edited};
@@ -10,7 +11,7 @@ use std::alloc::{AllocError, Global};
 
 /// What the entries add.
 pub(crate) fn total_of(entries: &[SharedEntry]) -> i64
-    requires { length entries.now < 2 ^ 62 }
+    requires { IsCountable (length entries.now) }
     ensures { result ≡ total entries.now }
 {
     let mut sum = 0;

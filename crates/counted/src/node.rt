@@ -1,8 +1,9 @@
 //! The nodes of a tree. What a node holds is seen in this module and those below it alone, which make, change and measure
 //! nodes, and count none. The searches are outside: they come to a node's contents by `read`, which counts it.
-ghost use Rattle.std.specs.Prelude.{◌≡◌, ◌+◌, ◌^◌, ◌<◌, ◌≤◌, ◌++◌, Some, length, drop, slice_get, IfOk};
+ghost use Rattle.std.specs.Prelude.{◌≡◌, ◌+◌, ◌<◌, ◌≤◌, ◌++◌, Some, length, drop, slice_get, IfOk};
 ghost use Rattle.std.specs.List.{All};
 ghost use Rattle.counted.specs.Edits.{put_items};
+ghost use Rattle.counted.specs.Few.{IsCountable};
 ghost use Rattle.counted.specs.Paths.{Begins, HasSome};
 ghost use Rattle.counted.specs.Shapes.{all_items, view_of, IsBalanced};
 ghost use Rattle.counted.specs.Sums.{total};
@@ -90,7 +91,7 @@ impl Node {
 
     /// How many entries lie below it.
     pub(crate) fn len(&self) -> usize
-        requires { length self.now.items < 2 ^ 62 }
+        requires { IsCountable (length self.now.items) }
         ensures { result ≡ length self.now.items }
     {
         match &self.body {
@@ -101,7 +102,7 @@ impl Node {
 
     /// What the entries below it add.
     pub(crate) fn total(&self) -> i64
-        requires { length self.now.items < 2 ^ 62 }
+        requires { IsCountable (length self.now.items) }
         ensures { result ≡ total self.now.items }
     {
         match &self.body {
@@ -112,7 +113,7 @@ impl Node {
 
     /// The number of levels.
     pub(crate) fn depth(&self) -> usize
-        requires { length self.now.items < 2 ^ 62 }
+        requires { IsCountable (length self.now.items) }
         ensures depth { result ≡ self.now.depth }
         ensures levels { IsRoot self.now → IsDepth self.now.depth (length self.now.items) }
     {

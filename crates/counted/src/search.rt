@@ -1,10 +1,11 @@
 //! Search, by SID or by position, and at one place by what is there.
-ghost use Rattle.std.specs.Prelude.{◌≡◌, ◌+◌, ◌-◌, ◌*◌, ◌^◌, ◌<◌, ◌≤◌, ◌+ℤ◌, pos, ℕ, ℤ, Option, Some, IsSome, length};
+ghost use Rattle.std.specs.Prelude.{◌≡◌, ◌+◌, ◌-◌, ◌*◌, ◌<◌, ◌≤◌, ◌+ℤ◌, pos, ℕ, ℤ, Option, Some, IsSome, length};
 ghost use Rattle.std.specs.Prelude.{slice_get, take};
 ghost use Rattle.std.specs.Ordering.{is_gt, is_lt};
 ghost use Rattle.std.proofs.Common.{Ordering, Less};
 ghost use Rattle.model.specs.declared.entry.Change.{Change};
 ghost use Rattle.model.specs.declared.entry.Entry.{Entry};
+ghost use Rattle.counted.specs.Few.{IsFew};
 ghost use Rattle.counted.specs.declared.node.Child.{Child};
 ghost use Rattle.counted.specs.Changes.{change_of};
 ghost use Rattle.counted.specs.Descents.{IsAt};
@@ -145,7 +146,7 @@ impl Node {
         steps: &mut Steps<L>,
     ) -> Spot<'_>
         requires met { MayMeet target self.now.items }
-        requires few { length self.now.items < 2 ^ 61 }
+        requires few { IsFew (length self.now.items) }
         ensures place { IsPlace (is_before (P.stand probe.now) target) (pos 0) self.now.items result.index }
         ensures at { IsAt self.now.items result.index result.shift result.leaf.now result.lead }
         ensures steps { ((weight : ℤ) → IsSome (P.by_weight probe.now weight)) → steps.new ≡ steps.old + self.now.depth }

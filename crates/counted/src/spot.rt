@@ -1,6 +1,7 @@
 //! Where a search ended.
-ghost use Rattle.std.specs.Prelude.{◌≡◌, ◌+◌, ◌^◌, ◌<◌, ◌≤◌, ◌+ℤ◌, pos, None, List, [], length, take, slice_index_or};
+ghost use Rattle.std.specs.Prelude.{◌≡◌, ◌+◌, ◌<◌, ◌≤◌, ◌+ℤ◌, pos, None, List, [], length, take, slice_index_or};
 ghost use Rattle.model.specs.declared.entry.Entry.{Entry};
+ghost use Rattle.counted.specs.Few.{IsFew};
 ghost use Rattle.counted.specs.declared.node.Child.{Child};
 ghost use Rattle.counted.specs.Descents.{AreBelow, IsAt};
 ghost use Rattle.counted.specs.Leads.{lead_at};
@@ -65,7 +66,7 @@ impl Above {
     pub(crate) fn child(self, children: &[Child], at: usize) -> Above
         requires children { AreChildren children.now }
         requires within { at < length children.now }
-        requires below { (items : List Entry) × (length items < 2 ^ 61)
+        requires below { (items : List Entry) × IsFew (length items)
             × AreBelow items self.index self.shift (all_items children.now) self.next }
         ensures index { result.index ≡ self.index + length (all_items (take at children.now)) }
         ensures shift { result.shift ≡ self.shift +ℤ total (all_items (take at children.now)) }
@@ -84,7 +85,7 @@ impl Above {
     /// A place among the entries of the node, which is a leaf.
     pub(crate) fn spot(self, entries: &[SharedEntry], at: usize) -> Spot<'_>
         requires within { at ≤ length entries.now }
-        requires below { (items : List Entry) × (length items < 2 ^ 61)
+        requires below { (items : List Entry) × IsFew (length items)
             × AreBelow items self.index self.shift entries.now self.next }
         ensures index { result.index ≡ self.index + at }
         ensures at { (items : List Entry)

@@ -1,11 +1,12 @@
 //! The tree.
-ghost use Rattle.std.specs.Prelude.{◌≡◌, ℤ, pos, Some, IsSome, ◌+◌, ◌-◌, ◌*◌, ◌^◌, ◌<◌, ◌≤◌, [], ◌∷◌, ◌++◌, take, drop, slice_get};
+ghost use Rattle.std.specs.Prelude.{◌≡◌, ℤ, pos, Some, IsSome, ◌+◌, ◌-◌, ◌*◌, ◌<◌, ◌≤◌, [], ◌∷◌, ◌++◌, take, drop, slice_get};
 ghost use Rattle.std.specs.Prelude.{length, OnOk, OnErr, IfOk};
 ghost use Rattle.std.specs.Arc.{arc_value};
 ghost use Rattle.std.specs.List.{insert, remove};
 ghost use Rattle.counted.specs.Edits.{put_items, edited};
 ghost use Rattle.std.specs.Option.{option_copied};
 ghost use Rattle.counted.specs.Descents.{IsAt};
+ghost use Rattle.counted.specs.Few.{IsFew};
 ghost use Rattle.counted.specs.Paths.{AreFrom};
 ghost use Rattle.counted.specs.Search.{is_before, IsPlace, MayMeet};
 ghost use Rattle.counted.specs.Sums.{total, shift_before, IsOrdered};
@@ -57,7 +58,7 @@ impl CountedTree {
     /// How many entries it has.
     pub fn len(&self) -> usize
         ensures len { result ≡ length self.now.entries }
-        ensures few { result < 2 ^ 61 }
+        ensures few { IsFew result }
     {
         self.len
     }
@@ -111,7 +112,7 @@ impl CountedTree {
         ensures at { IsAt self.now.entries result.index result.shift result.leaf.now result.lead }
         ensures steps { ((weight : ℤ) → IsSome (P.by_weight probe.now weight)) → steps.new ≡ steps.old + self.now.depth }
         ensures levels { IsDepth self.now.depth (length self.now.entries) }
-        ensures few { length self.now.entries < 2 ^ 61 }
+        ensures few { IsFew (length self.now.entries) }
     {
         match &self.root {
             None => Spot::first(steps),
@@ -124,7 +125,7 @@ impl CountedTree {
 
     /// A tree of these entries, none of which is copied.
     pub fn from_sorted(alloc: Global, entries: Vec<Entry>) -> Result<CountedTree, AllocError>
-        requires { length entries.items < 2 ^ 60 }
+        requires { IsFew (length entries.items) }
         ensures { IfOk result (λ t. t.entries ≡ entries.items) }
     {
         let entries = shared(alloc, entries)?;
@@ -133,7 +134,7 @@ impl CountedTree {
 
     /// A tree of these entries, which go on sharing their changes.
     pub fn from_shared(alloc: Global, entries: Vec<SharedEntry>) -> Result<CountedTree, AllocError>
-        requires { length entries.items < 2 ^ 60 }
+        requires { IsFew (length entries.items) }
         ensures { IfOk result (λ t. t.entries ≡ entries.items) }
     {
         if entries.is_empty() {
@@ -146,7 +147,7 @@ impl CountedTree {
     /// The entries from an index on that lie in one leaf, and the children behind it at the leaf's parent.
     pub(crate) fn leaf_from(&self, at: usize) -> (&[SharedEntry], &[Child])
         requires { at < length self.now.entries }
-        ensures few { length self.now.entries < 2 ^ 61 }
+        ensures few { IsFew (length self.now.entries) }
         ensures some { 1 ≤ length result.0.now }
         ensures rest { drop at self.now.entries ≡ result.0.now ++ drop (at + length result.0.now) self.now.entries }
         ensures children { AreFrom self.now.entries (at + length result.0.now) result.1.now }
@@ -175,7 +176,7 @@ impl CountedTree {
     /// Puts an entry in at an index.
     pub fn insert(&mut self, alloc: Global, at: usize, entry: Entry) -> Result<(), AllocError>
         requires within { at ≤ length self.old.entries }
-        requires few { length self.old.entries < 2 ^ 60 }
+        requires few { IsFew (length self.old.entries + 1) }
         ensures ok { OnOk result (self.new.entries ≡ insert self.old.entries at entry) }
         ensures err { OnErr result (self.new ≡ self.old) }
     {
@@ -186,7 +187,7 @@ impl CountedTree {
     /// Takes away the entry at an index.
     pub fn remove(&mut self, alloc: Global, at: usize) -> Result<(), AllocError>
         requires within { at < length self.old.entries }
-        requires few { length self.old.entries < 2 ^ 60 }
+        requires few { IsFew (length self.old.entries + 1) }
         ensures ok { OnOk result (self.new.entries ≡ remove self.old.entries at) }
         ensures err { OnErr result (self.new ≡ self.old) }
     {
@@ -203,7 +204,7 @@ impl CountedTree {
     ) -> Result<(), AllocError>
         requires start_le_end { start ≤ end }
         requires within { end ≤ length self.old.entries }
-        requires few { length self.old.entries < 2 ^ 60 }
+        requires few { IsFew (length self.old.entries + 1) }
         ensures ok { OnOk result (self.new.entries ≡ take start self.old.entries ++ entry ∷ drop end self.old.entries) }
         ensures err { OnErr result (self.new ≡ self.old) }
     {
@@ -221,7 +222,7 @@ impl CountedTree {
     ) -> Result<(), AllocError>
         requires start_le_end { start ≤ end }
         requires within { end ≤ length self.old.entries }
-        requires few { length self.old.entries < 2 ^ 60 }
+        requires few { IsFew (length self.old.entries + 1) }
         ensures ok { OnOk result (self.new.entries ≡ take start self.old.entries ++ entry ∷ drop end self.old.entries) }
         ensures err { OnErr result (self.new ≡ self.old) }
     {
@@ -249,7 +250,7 @@ impl CountedTree {
     ) -> Result<(), AllocError>
         requires one { gone ≤ 1 }
         requires within { at + gone ≤ length self.old.entries }
-        requires few { length self.old.entries < 2 ^ 60 }
+        requires few { IsFew (length self.old.entries + 1) }
         ensures ok { OnOk result (self.new.entries ≡ edited at gone (put_items put) self.old.entries) }
         ensures err { OnErr result (self.new ≡ self.old) }
     {
@@ -271,7 +272,7 @@ impl CountedTree {
     ) -> Result<CountedTree, AllocError>
         requires one { gone ≤ 1 }
         requires within { at + gone ≤ length self.now.entries }
-        requires few { length self.now.entries < 2 ^ 60 }
+        requires few { IsFew (length self.now.entries + 1) }
         ensures { IfOk result (λ t. t.entries ≡ edited at gone (put_items put) self.now.entries) }
     {
         let root = match &self.root {
@@ -284,7 +285,7 @@ impl CountedTree {
     /// The tree of a root.
     fn of_root(root: Arc<Node, Global>) -> CountedTree
         requires root { IsRoot (arc_value root) }
-        requires few { length (arc_value root).items < 2 ^ 61 }
+        requires few { IsFew (length (arc_value root).items) }
         ensures { result.entries ≡ (arc_value root).items }
     {
         let len = root.len();

@@ -1,7 +1,8 @@
 //! A tree of entries that are in order: level by level, each from the left.
-ghost use Rattle.std.specs.Prelude.{◌≡◌, suc, ◌+◌, ◌^◌, ◌<◌, ◌≤◌, ◌++◌, length, IfOk, OnOk};
+ghost use Rattle.std.specs.Prelude.{◌≡◌, suc, ◌+◌, ◌<◌, ◌≤◌, ◌++◌, length, IfOk, OnOk};
 ghost use Rattle.std.specs.List.{All};
 ghost use Rattle.std.specs.Vec.Iter.{into_iter_items, into_iter_len};
+ghost use Rattle.counted.specs.Few.{IsFew};
 ghost use Rattle.counted.specs.declared.node.TheConstants.{MAX_WIDTH, MIN_WIDTH};
 ghost use Rattle.counted.specs.Shapes.{IsChild, all_items, depth_of};
 ghost use Rattle.counted.specs.Trees.{IsRoot};
@@ -15,7 +16,7 @@ use std::vec::IntoIter;
 
 /// The root over these entries.
 pub(crate) fn root_over(alloc: Global, entries: Vec<SharedEntry>) -> Result<Node, AllocError>
-    requires few { length entries.items < 2 ^ 60 }
+    requires few { IsFew (length entries.items) }
     ensures root { IfOk result IsRoot }
     ensures items { IfOk result (λ n. n.items ≡ entries.items) }
 {
@@ -47,7 +48,7 @@ pub(crate) fn shared(alloc: Global, entries: Vec<Entry>) -> Result<Vec<SharedEnt
 /// Leaves of the entries.
 fn leaves(alloc: Global, entries: Vec<SharedEntry>) -> Result<Vec<Child>, AllocError>
     requires many { MAX_WIDTH < length entries.items }
-    requires few { length entries.items < 2 ^ 60 }
+    requires few { IsFew (length entries.items) }
     ensures some { IfOk result (λ v. 2 ≤ length v.items) }
     ensures items { IfOk result (λ v. all_items v.items ≡ entries.items) }
     ensures each { IfOk result (λ v. All (IsChild 1) v.items) }
@@ -69,7 +70,7 @@ fn leaves(alloc: Global, entries: Vec<SharedEntry>) -> Result<Vec<Child>, AllocE
 fn parents(alloc: Global, children: Vec<Child>) -> Result<Vec<Child>, AllocError>
     requires many { MAX_WIDTH < length children.items }
     requires each { All (IsChild (depth_of children.items)) children.items }
-    requires few { length (all_items children.items) < 2 ^ 60 }
+    requires few { IsFew (length (all_items children.items)) }
     ensures some { IfOk result (λ v. 2 ≤ length v.items) }
     ensures fewer { IfOk result (λ v. length v.items < length children.items) }
     ensures items { IfOk result (λ v. all_items v.items ≡ all_items children.items) }

@@ -1,7 +1,8 @@
 //! Edits by path copying: the nodes of a tree stay as they are, and what changes is in new ones.
-ghost use Rattle.std.specs.Prelude.{◌≡◌, ◌+◌, ◌-◌, ◌*◌, ◌^◌, ◌<◌, ◌≤◌, ◌++◌, ◌∷◌, [], length, take, drop, IfOk, IfSome, IfNone};
+ghost use Rattle.std.specs.Prelude.{◌≡◌, ◌+◌, ◌-◌, ◌*◌, ◌<◌, ◌≤◌, ◌++◌, ◌∷◌, [], length, take, drop, IfOk, IfSome, IfNone};
 ghost use Rattle.std.specs.Arc.{arc_value};
 ghost use Rattle.std.specs.List.{All};
+ghost use Rattle.counted.specs.Few.{IsCountable, IsFew};
 ghost use Rattle.counted.specs.declared.node.TheConstants.{MIN_WIDTH};
 ghost use Rattle.counted.specs.Edits.{put_items, edited};
 ghost use Rattle.counted.specs.Grown.{IsGrown, grown_items};
@@ -27,7 +28,7 @@ impl Node {
         requires root { IsRoot self.now }
         requires one { gone ≤ 1 }
         requires within { at + gone ≤ length self.now.items }
-        requires few { length self.now.items < 2 ^ 61 }
+        requires few { IsFew (length self.now.items + 1) }
         ensures root { IfOk result (λ a. IsRoot (arc_value a)) }
         ensures items { IfOk result (λ a. (arc_value a).items ≡ edited at gone (put_items put) self.now.items) }
     {
@@ -106,7 +107,7 @@ pub(crate) fn replaced(
     requires two { 2 ≤ length children.now }
     requires index { index < length children.now }
     requires grown { IsGrown (depth_of children.now) (MIN_WIDTH - 1) (grown_items grown) grown }
-    requires few { length (all_items children.now) + length (grown_items grown) < 2 ^ 62 }
+    requires few { IsCountable (length (all_items children.now) + length (grown_items grown)) }
     ensures items { IfOk result (λ v. all_items v.items
         ≡ all_items (take index children.now) ++ grown_items grown ++ all_items (drop (index + 1) children.now)) }
     ensures few_more { IfOk result (λ v. length v.items ≤ length children.now + 1) }
@@ -142,7 +143,7 @@ fn mended(
     requires index { index < length children.now }
     requires depth { node.depth ≡ depth_of children.now }
     requires nearly { MIN_WIDTH ≤ node.width + 1 }
-    requires few { length (all_items children.now) + length node.items < 2 ^ 62 }
+    requires few { IsCountable (length (all_items children.now) + length node.items) }
     ensures items { IfOk result (λ v. all_items v.items
         ≡ all_items (take index children.now) ++ node.items ++ all_items (drop (index + 1) children.now)) }
     ensures few_more { IfOk result (λ v. length v.items ≤ length children.now + 1) }

@@ -1,7 +1,8 @@
 //! What a node grows to, and what is kept of it.
-ghost use Rattle.std.specs.Prelude.{◌≡◌, ◌+◌, ◌-◌, ◌*◌, ◌^◌, ◌<◌, ◌≤◌, ◌++◌, length, take, drop, slice_get, Some, ℕ, IfOk, OnOk};
+ghost use Rattle.std.specs.Prelude.{◌≡◌, ◌+◌, ◌-◌, ◌*◌, ◌≤◌, ◌++◌, length, take, drop, slice_get, Some, ℕ, IfOk, OnOk};
 ghost use Rattle.std.specs.List.{All};
 ghost use Rattle.model.specs.declared.entry.Entry.{Entry};
+ghost use Rattle.counted.specs.Few.{IsCountable};
 ghost use Rattle.counted.specs.declared.node.TheConstants.{MAX_WIDTH, MIN_WIDTH};
 ghost use Rattle.counted.specs.Grown.{IsGrown, grown_items, grown_width, AreGrown, IsSameChild, IsSized, AreCounts};
 ghost use Rattle.counted.specs.Leads.{lead_of};
@@ -33,7 +34,7 @@ impl Node {
     /// What is kept of a node that is at least half full.
     fn counts(&self) -> Counts
         requires full { MIN_WIDTH ≤ self.now.width }
-        requires few { length self.now.items < 2 ^ 62 }
+        requires few { IsCountable (length self.now.items) }
         ensures { AreCounts self.now result }
     {
         match &self.body {
@@ -65,7 +66,7 @@ impl Child {
     /// A child with its counts.
     pub(crate) fn new(alloc: Global, node: Node) -> Result<Child, AllocError>
         requires full { MIN_WIDTH ≤ node.width }
-        requires few { length node.items < 2 ^ 62 }
+        requires few { IsCountable (length node.items) }
         ensures counts { IfOk result (IsChild node.depth) }
         ensures items { IfOk result (λ c. items_of c ≡ node.items) }
     {
@@ -104,7 +105,7 @@ pub(crate) fn with_grown(
 ) -> Result<Vec<Child>, AllocError>
     requires range { from ≤ to }
     requires within { to ≤ length children.now }
-    requires few { length (grown_items grown) < 2 ^ 62 }
+    requires few { IsCountable (length (grown_items grown)) }
     requires full { MIN_WIDTH ≤ grown_width grown }
     ensures items { IfOk result (λ v. all_items v.items
         ≡ all_items (take from children.now) ++ grown_items grown ++ all_items (drop to children.now)) }
@@ -121,7 +122,7 @@ pub(crate) fn with_grown(
 
 /// What a node grew to, at the end of a vector.
 fn push_grown(alloc: Global, out: &mut Vec<Child>, grown: Grown) -> Result<(), AllocError>
-    requires few { length (grown_items grown) < 2 ^ 62 }
+    requires few { IsCountable (length (grown_items grown)) }
     requires full { MIN_WIDTH ≤ grown_width grown }
     ensures items { OnOk result (all_items out.new.items ≡ all_items out.old.items ++ grown_items grown) }
     ensures some { OnOk result (length out.old.items + 1 ≤ length out.new.items) }
@@ -141,7 +142,7 @@ fn push_grown(alloc: Global, out: &mut Vec<Child>, grown: Grown) -> Result<(), A
 /// A node as a child, at the end of a vector.
 pub(crate) fn push_node(alloc: Global, out: &mut Vec<Child>, node: Node) -> Result<(), AllocError>
     requires full { MIN_WIDTH ≤ node.width }
-    requires few { length node.items < 2 ^ 62 }
+    requires few { IsCountable (length node.items) }
     ensures items { OnOk result (all_items out.new.items ≡ all_items out.old.items ++ node.items) }
     ensures count { OnOk result (length out.new.items ≡ length out.old.items + 1) }
     ensures each { OnOk result (All (IsChild node.depth) out.old.items → All (IsChild node.depth) out.new.items) }
@@ -227,7 +228,7 @@ pub(crate) fn above(alloc: Global, left: Node, right: Node) -> Result<Node, Allo
     requires depth { left.depth ≡ right.depth }
     requires left_full { MIN_WIDTH ≤ left.width }
     requires right_full { MIN_WIDTH ≤ right.width }
-    requires few { length left.items + length right.items < 2 ^ 62 }
+    requires few { IsCountable (length left.items + length right.items) }
     ensures width { IfOk result (λ n. n.width ≡ 2) }
     ensures items { IfOk result (λ n. n.items ≡ left.items ++ right.items) }
 {

@@ -1,8 +1,9 @@
 //! Edits in place: a node that others share is copied once, where the descent comes to it, and is changed in place from then on.
-ghost use Rattle.std.specs.Prelude.{◌≡◌, ◌+◌, ◌^◌, ◌<◌, ◌≤◌, ◌++◌, ◌∷◌, [], Some, None, length, take, drop, slice_index_or, IfOk};
+ghost use Rattle.std.specs.Prelude.{◌≡◌, ◌+◌, ◌<◌, ◌≤◌, ◌++◌, ◌∷◌, [], Some, None, length, take, drop, slice_index_or, IfOk};
 ghost use Rattle.std.specs.Prelude.{IfErr, IfSome, OnOk};
 ghost use Rattle.std.specs.Arc.{arc_value};
 ghost use Rattle.std.specs.List.{All};
+ghost use Rattle.counted.specs.Few.{IsFew};
 ghost use Rattle.counted.specs.declared.node.TheConstants.{MAX_WIDTH};
 ghost use Rattle.counted.specs.declared.node.Child.{Child};
 ghost use Rattle.counted.specs.Edits.{IsEdit, IsEditedNode, put_items, edited};
@@ -30,7 +31,7 @@ impl CountedTree {
     ) -> Result<(), Option<SharedEntry>>
         requires one { gone ≤ 1 }
         requires within { at + gone ≤ length self.old.entries }
-        requires few { length self.old.entries < 2 ^ 60 }
+        requires few { IsFew (length self.old.entries + 1) }
         ensures ok { OnOk result (self.new.entries ≡ edited at gone (put_items put) self.old.entries) }
         ensures err { IfErr result (λ back. (self.new ≡ self.old) × (back ≡ put)) }
     {
@@ -68,7 +69,7 @@ impl Node {
     ) -> Result<i64, Option<SharedEntry>>
         requires one { gone ≤ 1 }
         requires within { at + gone ≤ length self.old.items }
-        requires few { length self.old.items < 2 ^ 61 }
+        requires few { IsFew (length self.old.items) }
         ensures { IsEditedNode at gone least put self.old self.new result }
     {
         match &mut self.body {
@@ -112,7 +113,7 @@ impl Child {
     ) -> Result<i64, Option<SharedEntry>>
         requires one { gone ≤ 1 }
         requires within { at + gone ≤ length (items_of self.old) }
-        requires few { length (items_of self.old) < 2 ^ 61 }
+        requires few { IsFew (length (items_of self.old)) }
         requires child { IsChild (arc_value self.old.node).depth self.old }
         ensures child { IsChild (arc_value self.old.node).depth self.new }
         ensures ok { IfOk result (IsEdit at gone put (items_of self.old) (items_of self.new)) }
@@ -157,7 +158,7 @@ fn split_of(
     requires children { AreChildren children.now }
     requires index { index < length children.now }
     requires within { (d : Child) → at + gone ≤ length (items_of (slice_index_or children.now index d)) }
-    requires few { length (all_items children.now) < 2 ^ 61 }
+    requires few { IsFew (length (all_items children.now)) }
     ensures { IfSome result (λ split. IsSplit children.now index at gone put.now split.children.items split.added) }
 {
     if gone > 0 || children.len() >= MAX_WIDTH {

@@ -1,5 +1,6 @@
 //! The way down to the leaf of an edit, by which new nodes are made up to the root.
-ghost use Rattle.std.specs.Prelude.{◌≡◌, ◌+◌, ◌^◌, ◌<◌, ◌≤◌, IfOk, length};
+ghost use Rattle.std.specs.Prelude.{◌≡◌, ◌+◌, ◌≤◌, IfOk, length};
+ghost use Rattle.counted.specs.Few.{IsFew};
 ghost use Rattle.counted.specs.Grown.{IsGrown, grown_items};
 ghost use Rattle.counted.specs.Branches.{AreBranches, IsPath, around, least_width};
 ghost use Rattle.counted.specs.Trees.{IsRoot};
@@ -34,7 +35,7 @@ impl Node {
     pub(crate) fn path_to(&self, alloc: Global, end: usize) -> Path<'_>
         requires root { IsRoot self.now }
         requires within { end ≤ length self.now.items }
-        requires few { length self.now.items < 2 ^ 61 }
+        requires few { IsFew (length self.now.items) }
         ensures { IsPath self.now end result }
     {
         self.levels();
@@ -64,7 +65,7 @@ impl<'a> Path<'a> {
     pub(crate) fn grown(self, alloc: Global, leaf: Grown) -> Result<Grown, AllocError>
         requires branches { AreBranches 1 2 self.branches.items }
         requires leaf { IsGrown 1 (least_width self.branches.items) (grown_items leaf) leaf }
-        requires few { length (around self.branches.items (grown_items leaf)) ≤ 2 ^ 61 }
+        requires few { IsFew (length (around self.branches.items (grown_items leaf))) }
         ensures { IfOk result (IsGrown (1 + length self.entry.branches.items) 0 (around self.entry.branches.items (grown_items leaf))) }
     {
         let Path { mut branches, .. } = self;
