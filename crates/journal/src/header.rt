@@ -25,8 +25,8 @@ const VERSION: u32 = 1;
 /// What the register is before a header's first byte.
 const ALL_ONES: u32 = 0xffff_ffff;
 
-/// The least number that no commit has.
-const NUMBER_LIMIT: u64 = 1 << 63;
+/// The least number that no commit has: the numbers of all and sums of two of them fit 64 bits.
+pub const NUMBER_LIMIT: u64 = 1 << 63;
 
 /// The header of a journal. Its seed isn't 0, so that zeros are no frames of it.
 #[derive(Drop)]

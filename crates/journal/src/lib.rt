@@ -20,7 +20,7 @@ mod writing;
 pub use check::crc_from;
 pub use fault::HeaderFault;
 pub use frame::{Ending, Frame, Reading};
-pub use header::{Header, read_header, seed_of, spelt_header, write_header};
+pub use header::{Header, NUMBER_LIMIT, read_header, seed_of, spelt_header, write_header};
 pub use laws::{
     a_burst_is_found, a_changed_byte_is_found, a_crash_leaves_whole_frames, a_header_is_guarded,
     a_header_is_spelt, a_header_reads_back, a_journal_goes_on, a_journal_survives,

@@ -16,7 +16,7 @@ use txn::{Txn, Version};
 use values::NoMemory;
 
 /// How many records a manager makes at most.
-pub(crate) const MAX_RECORDS: u64 = 1 << 62;
+pub const MAX_RECORDS: u64 = 1 << 62;
 
 /// What the commit of a transaction will do, made before anything changes.
 #[derive(Drop)]

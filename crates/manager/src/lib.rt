@@ -27,7 +27,7 @@ mod repack;
 mod restack;
 
 pub use checkpoint::Rebuilt;
-pub use commit::Prepared;
+pub use commit::{MAX_RECORDS, Prepared};
 pub use cut::KeptTrees;
 pub use fault::{CheckpointFault, OpenFault, RedoFault};
 pub use fold::Folded;

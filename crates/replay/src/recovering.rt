@@ -12,13 +12,10 @@ use crate::fault::RecoverFault;
 use crate::laws::recovery_is_a_prefix;
 use crate::replaying::replay;
 use journal::{Ending, a_crash_leaves_whole_frames, read_frames};
-use manager::{Manager, OpenFault};
+use manager::{MAX_RECORDS, Manager, OpenFault};
 use model::ConflictRule;
 use stable::StableTable;
 use std::alloc::Global;
-
-/// The greatest number that the newest commit may have.
-const MAX_NUMBER: u64 = 1 << 62;
 
 /// A table as it was stored, and how many commits had made it.
 #[derive(Drop)]
@@ -120,7 +117,7 @@ pub fn recover(
         Ok(skipped) => skipped,
         Err(missing) => return Err(RecoverFault::Gap(missing)),
     };
-    if due - 1 > MAX_NUMBER {
+    if due - 1 > MAX_RECORDS {
         return Err(RecoverFault::NumbersSpent);
     }
     let mut manager = opened(alloc, image, limits)?;

@@ -3,13 +3,10 @@ ghost use Rattle.std.specs.Prelude.{◌≡◌, Some, IfErr, IfOk, length, map, o
 ghost use Rattle.segments.specs.Pieces.{AreNoJournal, IsJoined, are_behind, base_of, frames_of, last_len, piece_now, piece_of, pieces_of};
 
 use crate::fault::JoinFault;
-use journal::{read_header, seed_of};
+use journal::{NUMBER_LIMIT, read_header, seed_of};
 use manifest::ManifestHead;
 use std::alloc::Global;
 use values::NoMemory;
-
-/// The least number that no commit has.
-const NUMBER_LIMIT: u64 = 1 << 63;
 
 /// The frames of a file, and the number of the commit before them, where the file has a header.
 #[derive(Clone, Copy)]

@@ -9,12 +9,9 @@ use crate::codes::{DONE, GAP, NO_COLUMN, code_of_columns, code_of_marks, code_of
 use devices::{StoredImage, read_store};
 use images::image_number;
 use inputs::load_table;
-use journal::seed_of;
+use journal::{NUMBER_LIMIT, seed_of};
 use std::alloc::Global;
 use values::Schema;
-
-/// The least number that no commit has.
-const NUMBER_LIMIT: u64 = 1 << 63;
 
 /// The newest image of a store, or why it isn't known.
 #[repr(C)]

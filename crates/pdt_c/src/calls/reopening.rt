@@ -14,15 +14,12 @@ use crate::codes::{
 use crate::handles::store::{Store, put};
 use devices::{StoredImage, read_store};
 use inputs::load_table;
-use journal::seed_of;
+use journal::{NUMBER_LIMIT, seed_of};
 use manager::Manager;
 use replay::{FrameBytes, Image, Limits, Recovered, recover};
 use stable::StableTable;
 use std::alloc::Global;
 use values::Schema;
-
-/// The least number that no commit has.
-const NUMBER_LIMIT: u64 = 1 << 63;
 
 /// What was reopened, or why nothing was.
 #[repr(C)]
