@@ -3,10 +3,11 @@ use Rattle.std.proofs.Common.{◌≡◌, ◌∙◌, ℕ, zero, suc, ◌+◌, ◌
 use Rattle.std.specs.Prelude.{ℤ, ◌==◌, nat_lt, slice_set}
 use Rattle.std.specs.List.{All, list_all}
 use Rattle.std.proofs.lemmas.Bool.Decides.{nat_tests}
-use Rattle.std.proofs.lemmas.List.{length-append, length-map, map-append, take-append-drop}
+use Rattle.std.proofs.lemmas.List.{length-append, length-map, length-set, map-append, map-set, take-append-drop}
 use Rattle.std.proofs.lemmas.List.Elements.{All-cons, All-get_or, All-head, All-same, All-tail, All-take}
-use Rattle.std.proofs.Math.Seq.{get_or-append_seam}
+use Rattle.std.proofs.Math.Seq.{get_or-append_seam, map-set_same}
 use Rattle.values.specs.declared.row.Row.{Row}
+use Rattle.values.specs.declared.value.ColumnType.{ColumnType}
 use Rattle.values.specs.declared.value.Value.{Value}
 use Rattle.values.specs.declared.value.Value.TheVariants.{Bool as Truth}
 use Rattle.model.specs.declared.entry.Entry.{Entry}
@@ -17,22 +18,14 @@ use Rattle.model.proofs.CallerLemmas.{first, second}
 use Rattle.merge.specs.Cursor.{TreeCursor, IsCursor, entries_left, rows_left}
 use Rattle.merge.specs.Filling.{FillsRows, IsWide, KeepsModified, modified_by, modified_rows, modifies_between, past_modifies, patched, patches_before, patches_from}
 use Rattle.merge.specs.Packed.{number_at, number_of, patch_at, patches_in, rows_in, with_first}
+use Rattle.merge.specs.PackedLeft.{HasPackedColumn, IsPackedRows, base_left, changes_left, count_before, count_passed, cursor_of, packed_left}
 use Rattle.merge.specs.declared.packed.Patch.{Patch}
+use Rattle.merge.specs.declared.packed_rows.PackedRows.{PackedRows}
 use Rattle.merge.proofs.CursorLemmas.{drop-at}
+use Rattle.merge.proofs.FillingLemmas.{are_wide}
 use Rattle.merge.proofs.PackedLemmas.{rows_in-append}
-use Rattle.merge.proofs.PackedStepLemmas.{between_of}
-
-map-set : {X Y : Type 0} (f : X → Y) (xs : List X) (i : ℕ) (x : X) → map f (slice_set xs i x) ≡ slice_set (map f xs) i (f x)
-map-set f [] zero x = refl
-map-set f [] (suc i) x = refl
-map-set f (y ∷ xs) zero x = refl
-map-set f (y ∷ xs) (suc i) x = ap (λ ys. f y ∷ ys) (map-set f xs i x)
-
-set-same : {X Y : Type 0} (f : X → Y) (xs : List X) (i : ℕ) (x d : X) → f x ≡ f (get_or xs i d) → slice_set (map f xs) i (f x) ≡ map f xs
-set-same f [] zero x d e = refl
-set-same f [] (suc i) x d e = refl
-set-same f (y ∷ xs) zero x d e = ap (λ z. z ∷ map f xs) e
-set-same f (y ∷ xs) (suc i) x d e = ap (λ ys. f y ∷ ys) (set-same f xs i x d e)
+use Rattle.merge.proofs.PackedStepLemmas.{between_of, modifies_past, patches_past}
+use Rattle.merge.proofs.PackedWalkLemmas.{cursor_kept, passed}
 
 get-set : (row : Row) (i j : ℕ) (v d : Value) → j < length row → get_or (slice_set row i v) j d ≡ cond (i == j) v (get_or row j d)
 get-set [] i j v d lt = absurd (omega (arith, lt))
@@ -52,25 +45,13 @@ get-set (x ∷ row) (suc i) (suc j) v d lt =
     same i j = grind (arith, nat_tests)
 
 module _ (col first_sid : ℕ) where
-  length-set_row : (row : Row) (i : ℕ) (v : Value) → length (slice_set row i v) ≡ length row
-  length-set_row [] zero v = refl
-  length-set_row [] (suc i) v = refl
-  length-set_row (x ∷ row) zero v = refl
-  length-set_row (x ∷ row) (suc i) v = ap suc (length-set_row row i v)
-
-  length-set_rows : (xs : List Row) (i : ℕ) (x : Row) → length (slice_set xs i x) ≡ length xs
-  length-set_rows [] zero x = refl
-  length-set_rows [] (suc i) x = refl
-  length-set_rows (y ∷ xs) zero x = refl
-  length-set_rows (y ∷ xs) (suc i) x = ap suc (length-set_rows xs i x)
-
   wide_set : (xs : List Row) (i other : ℕ) (v : Value) → All (IsWide col) xs
       → All (IsWide col) (slice_set xs i (slice_set (get_or xs i []) other v))
   wide_set [] zero other v h = h
   wide_set [] (suc i) other v h = h
   wide_set (x ∷ xs) zero other v h =
       let wide : col < length x = All-head (IsWide col) x xs h in
-      let same = length-set_row x other v in
+      let same = length-set x other v in
       All-cons (IsWide col) (slice_set x other v) xs (omega (arith, same, wide)) (All-tail (IsWide col) x xs h)
   wide_set (x ∷ xs) (suc i) other v h =
       All-cons (IsWide col) x (slice_set xs i (slice_set (get_or xs i []) other v)) (All-head (IsWide col) x xs h)
@@ -93,7 +74,7 @@ module _ (col first_sid : ℕ) where
             (ap number_of (set ∙ ap (λ b. cond b v (get_or row col (Truth false))) e))
         | false ↦ λ e.
             ap (patched first_sid patches)
-            (set-same (number_at col) xs i (slice_set row other v) []
+            (sym (map-set (number_at col) xs i (slice_set row other v)) ∙ map-set_same (number_at col) xs i (slice_set row other v) []
             (ap number_of (set ∙ ap (λ b. cond b v (get_or row col (Truth false))) e)))
       ] refl)
 
@@ -116,7 +97,7 @@ module _ (col first_sid : ℕ) where
       by (Mod other v) is more =
           let ys = modified_by first_sid e.sid (Mod other v) xs in
           let i : ℕ = e.sid - first_sid in
-          let same : length ys ≡ length xs = length-set_rows xs i (slice_set (get_or xs i []) other v) in
+          let same : length ys ≡ length xs = length-set xs i (slice_set (get_or xs i []) other v) in
           ap (λ c. map (number_at col) (modified_rows first_sid es (modified_by first_sid e.sid c xs))) is
           ∙ more ys (wide_set xs i other v wide)
           (subst (λ n. T (list_all (modifies_between first_sid (first_sid + n)) es)) (sym same)
@@ -153,6 +134,35 @@ fills_patched col c most n m kept base left numbers out cursor p many wide is =
         front : (zs : List Row) → take (length zs) (zs ++ ys) ≡ zs
         front [] = refl
         front (z ∷ zs) = ap (λ ws. z ∷ ws) (front zs)
+
+-- a packed walk past so many base rows, which were read and had the packed modifies put in
+module _ (p : PackedRows) (ty : ColumnType) (col most m : ℕ) (lawful : IsPackedRows p) (column : HasPackedColumn ty col p)
+    (kept : KeepsModified most (count_passed m (cursor_of p)) m (cursor_of p)) (left : List Row) (read out : List ℤ)
+    (filled : FillsRows col (base_left p) read left) (many : length read ≡ m)
+    (is : out ≡ patched p.sid (patches_before (p.sid + m) p.patches.now) read) where
+  abbrev pub past : TreeCursor
+  past = record { tree = p.tree.now; index = p.place + count_before (p.sid + m) (drop p.place p.tree.now.entries); sid = p.sid + m }
+
+  both : FillsRows col (packed_left p) out (rows_left (passed p m lawful) left) × IsCursor (length left) (passed p m lawful)
+  both =
+      fills_patched col (cursor_of p) most (count_passed m (cursor_of p)) m kept (base_left p) left read out lawful.cursor filled many
+      (are_wide ty col (base_left p) column.values)
+      (is
+      ∙ ap (λ (ps : List Patch). patched p.sid (patches_before (p.sid + m) ps) read) column.patches_are
+      ∙ ap (λ (ps : List Patch). patched p.sid ps read)
+      (patches_past p.tree.now.key_cols (p.sid + m) col (entries_left (cursor_of p)) lawful.cursor.over.ordered).0)
+
+  pub filled_past : FillsRows col (packed_left p) out (rows_left past left)
+  filled_past = subst (λ (x : TreeCursor). FillsRows col (packed_left p) out (rows_left x left)) (sym (cursor_kept p m lawful)) both.0
+
+  pub cursor_past_rows : IsCursor (length left) past
+  cursor_past_rows = subst (λ (x : TreeCursor). IsCursor (length left) x) (sym (cursor_kept p m lawful)) both.1
+
+  pub changes_past_rows : p.changes.now ≡ changes_left past
+  changes_past_rows =
+      lawful.changes_are
+      ∙ sym (modifies_past (cursor_of p) (count_passed m (cursor_of p)) m kept.modifies)
+      ∙ ap changes_left (sym (cursor_kept p m lawful))
 
 -- ---- inserts
 

@@ -7,13 +7,13 @@ use Rattle.model.specs.declared.entry.Entry.{Entry}
 use Rattle.model.specs.declared.entry.Change.TheVariants.{Ins}
 use Rattle.model.specs.Entries.{entry_at}
 use Rattle.merge.specs.Cursor.{TreeCursor, IsCursor, entries_left, starts_with_delete}
-use Rattle.merge.specs.Filling.{past_modifies, patches_from, starts_with_insert}
-use Rattle.merge.specs.PackedLeft.{IsPackedRows, changes_left, count_before, count_passed, cursor_of}
+use Rattle.merge.specs.Filling.{InsertsNone, past_modifies, patches_from, starts_with_insert}
+use Rattle.merge.specs.PackedLeft.{IsInsertNext, IsPackedRows, changes_left, count_before, count_passed, cursor_of}
 use Rattle.merge.specs.Packed.{patches_in, place_of}
 use Rattle.merge.specs.declared.packed.Patch.{Patch}
 use Rattle.merge.specs.declared.packed.RowChange.{RowChange}
 use Rattle.merge.specs.declared.packed_rows.PackedRows.{PackedRows}
-use Rattle.std.specs.Prelude.{◌==◌, ◌&&◌}
+use Rattle.std.specs.Prelude.{◌==◌, ◌&&◌, MatchOption}
 use Rattle.std.specs.List.Sorted.{IsNonDecreasingBy}
 use Rattle.merge.proofs.PackedLemmas.{patches_ascend, patches_from_place}
 use Rattle.merge.proofs.CursorLemmas.{drop-at, same_itself, same_of}
@@ -87,10 +87,16 @@ module _ (p q : PackedRows) (lawful : IsPackedRows p) (here : IsChangeHere (curs
       ∙ past_patches (cursor_of p) lawful.cursor here.change (drop 1 p.changes.now) here.next here.same sid more over col
       ∙ ap (λ c. patches_in col (entries_left c)) (sym cursor_past)
 
+-- a walk that finds no insert is at none
+pub none_is : (p : PackedRows) (o : Option ℕ) → ((row : ℕ) → o ≡ Some row → ⊥)
+    → MatchOption o (InsertsNone (cursor_of p)) (λ row. IsInsertNext row p) → InsertsNone (cursor_of p)
+none_is p None other h = h
+none_is p (Some row) other h = absurd (other row refl)
+
 -- ---- past base rows
 
 module _ (p : PackedRows) (m : ℕ) (lawful : IsPackedRows p) where
-  abbrev passed : TreeCursor
+  abbrev pub passed : TreeCursor
   passed = past_modifies (count_passed m (cursor_of p)) m (cursor_of p)
 
   -- the cursor of a walk that stands so many base rows on

@@ -110,8 +110,20 @@ impl<'a> PackedRows<'a> {
             → FillsRows col (packed_left self.old) (result ∷ []) (packed_left self.new) }
     {
         let number = self.inserted[row];
-        self.pass_change();
+        self.pass_inserted();
         number
+    }
+
+    /// Goes past the row that is inserted next.
+    #[inline(always)]
+    fn pass_inserted(&mut self)
+        requires lawful { IsPackedRows self.old }
+        requires next { (row : ℕ) × IsInsertNext row self.old }
+        ensures lawful { IsPackedRows self.new }
+        ensures column { (ty : ColumnType) (col : ℕ) → HasPackedColumn ty col self.old → HasPackedColumn ty col self.new }
+        ensures rows { (row : ℕ) (next : IsInsertNext row self.old) → packed_left self.old ≡ next.inserted ∷ packed_left self.new }
+    {
+        self.pass_change();
     }
 
     /// How many base rows come before the next row that is inserted or deleted, at most so many.
@@ -237,7 +249,7 @@ impl<'a> Numbers<'a> for PackedRows<'a> {
     fn skip_row(&mut self) {
         self.pass_deleted();
         if let Some(_) = self.inserted_next() {
-            self.pass_change();
+            self.pass_inserted();
             return;
         }
         self.below.skip_row();

@@ -12,12 +12,8 @@ use Rattle.merge.proofs.FillingLemmas.{fills_also}
 use Rattle.merge.proofs.PackedFillLemmas.{none_nearer}
 use Rattle.merge.proofs.PackedLemmas.{patches_all_from}
 use Rattle.merge.proofs.PackedStepLemmas.{keeps_one, within_all}
+use Rattle.merge.proofs.PackedWalkLemmas.{none_is}
 use Rattle.merge.proofs.packed_rows.PackedRowsNumbers.next_run.Goals as goal
-
-none_is : (p : PackedRows) (o : Option ℕ) → ((row : ℕ) → o ≡ Some row → ⊥)
-    → MatchOption o (InsertsNone (cursor_of p)) (λ row. IsInsertNext row p) → InsertsNone (cursor_of p)
-none_is p None other h = h
-none_is p (Some row) other h = absurd (other row refl)
 
 pub next_inserted-requires-clause-column : goal.next_inserted-requires-clause-column
 next_inserted-requires-clause-column c =

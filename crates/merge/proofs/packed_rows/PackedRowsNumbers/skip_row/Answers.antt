@@ -1,95 +1,21 @@
-use Rattle.std.proofs.Common.{◌≡◌, ◌∙◌, ◌+◌, ◌≤◌, ℕ, Option, Some, None, List, ◌∷◌, length, map, drop, refl, sym, ap, subst}
-use Rattle.std.specs.Prelude.{MatchOption}
+use Rattle.std.proofs.Common.{◌∙◌, List, ◌∷◌, length, drop, sym, ap, subst}
 use Rattle.values.specs.declared.row.Row.{Row as Cells}
-use Rattle.values.specs.declared.limits.TheConstants.{MAX_ROWS}
 use Rattle.merge.specs.Cursor.{TreeCursor, IsCursor, entries_left, rows_left}
-use Rattle.merge.specs.Filling.{HaveValues, InsertsNone}
-use Rattle.merge.specs.Packed.{number_at, patches_in, rows_in}
-use Rattle.merge.specs.PackedLeft.{IsInsertNext, base_left, changes_left, count_passed, cursor_of}
-use Rattle.merge.specs.declared.packed_rows.PackedRows.{PackedRows}
-use Rattle.merge.proofs.CursorLemmas.{inserts_next}
+use Rattle.merge.specs.Packed.{patches_in}
+use Rattle.merge.specs.PackedLeft.{base_left, changes_left, count_passed, cursor_of}
 use Rattle.merge.proofs.PackedStepLemmas.{keeps_one, modifies_past, skips_modified}
-use Rattle.merge.proofs.PackedWalkLemmas.{change_is_here, changes_past, cursor_kept, cursor_lawful, cursor_past, inserts_some, patches_here, patches_kept}
+use Rattle.merge.proofs.PackedWalkLemmas.{cursor_kept, none_is, patches_kept}
 use Rattle.merge.proofs.packed_rows.PackedRowsNumbers.skip_row.Goals as goal
 
-none_is : (p : PackedRows) (o : Option ℕ) → ((row : ℕ) → o ≡ Some row → ⊥)
-    → MatchOption o (InsertsNone (cursor_of p)) (λ row. IsInsertNext row p) → InsertsNone (cursor_of p)
-none_is p None other h = h
-none_is p (Some row) other h = absurd (other row refl)
-
-pub returns-in-Some-clause-lawful : goal.returns-in-Some-clause-lawful
-returns-in-Some-clause-lawful c =
-    let p = c.pass_deleted.new.self in
-    let q = c.pass_change.new.self in
-    let lawful = c.pass_deleted.ensures.lawful in
-    let same = c.pass_change.ensures.same in
-    let next = c.in-Some.ensures in
-    let here = change_is_here (cursor_of p) lawful.cursor p.changes.now lawful.changes_are
-    (inserts_some p.sid (cursor_of p).index p.tree.now.entries next.inserted next.there) in
-    let past : TreeCursor = record { tree = p.tree.now; index = (cursor_of p).index + 1; sid = p.sid } in
-    let step = inserts_next (cursor_of p) next.inserted past next.there refl in
-    let tree = ap (λ (x : PackedRows). x.tree.now) same in
-    let sid = ap (λ (x : PackedRows). x.sid) same in
-    let ahead = step.cursor (length (base_left p)) lawful.cursor in
-    let cursor = cursor_lawful p q lawful here c.pass_change.ensures.place c.pass_change.ensures.changes
-    tree p.sid (length (base_left p)) sid ahead in
-    record {
-      few = subst (λ (x : PackedRows). length x.below.table.now.rows ≤ MAX_ROWS) (sym same) lawful.few;
-      cursor = subst (λ n. IsCursor n (cursor_of q)) (ap (λ (x : PackedRows). length (base_left x)) (sym same)) cursor;
-      changes_are =
-          changes_past p q lawful here c.pass_change.ensures.place c.pass_change.ensures.changes
-          tree p.sid (length (base_left p)) sid ahead;
-    }
-
 pub returns-in-Some-clause-column : goal.returns-in-Some-clause-column
-returns-in-Some-clause-column c = λ ty col h.
-    let column = c.pass_deleted.ensures.column ty col h in
-    let p = c.pass_deleted.new.self in
-    let q = c.pass_change.new.self in
-    let lawful = c.pass_deleted.ensures.lawful in
-    let same = c.pass_change.ensures.same in
-    let next = c.in-Some.ensures in
-    let here = change_is_here (cursor_of p) lawful.cursor p.changes.now lawful.changes_are
-    (inserts_some p.sid (cursor_of p).index p.tree.now.entries next.inserted next.there) in
-    let past : TreeCursor = record { tree = p.tree.now; index = (cursor_of p).index + 1; sid = p.sid } in
-    let step = inserts_next (cursor_of p) next.inserted past next.there refl in
-    let tree = ap (λ (x : PackedRows). x.tree.now) same in
-    let sid = ap (λ (x : PackedRows). x.sid) same in
-    let ahead = step.cursor (length (base_left p)) lawful.cursor in
-    record {
-      inserted_are =
-          ap (λ (x : PackedRows). x.inserted.now) same
-          ∙ column.inserted_are
-          ∙ ap (λ (x : PackedRows). map (number_at col) (rows_in x.tree.now.entries)) (sym same);
-      patches_are =
-          patches_here p q lawful here c.pass_change.ensures.place c.pass_change.ensures.changes
-          tree p.sid (length (base_left p)) sid ahead col
-          (ap (λ (x : PackedRows). x.patches.now) same) column.patches_are;
-      values = subst (λ (x : PackedRows). HaveValues ty col (base_left x)) (sym same) column.values;
-    }
+returns-in-Some-clause-column c = λ ty col h. c.pass_inserted.ensures.column ty col (c.pass_deleted.ensures.column ty col h)
 
 pub returns-in-Some-clause-row : goal.returns-in-Some-clause-row
 returns-in-Some-clause-row c =
-    let p = c.pass_deleted.new.self in
-    let q = c.pass_change.new.self in
-    let lawful = c.pass_deleted.ensures.lawful in
-    let same = c.pass_change.ensures.same in
     let next = c.in-Some.ensures in
-    let here = change_is_here (cursor_of p) lawful.cursor p.changes.now lawful.changes_are
-    (inserts_some p.sid (cursor_of p).index p.tree.now.entries next.inserted next.there) in
-    let past : TreeCursor = record { tree = p.tree.now; index = (cursor_of p).index + 1; sid = p.sid } in
-    let step = inserts_next (cursor_of p) next.inserted past next.there refl in
-    let tree = ap (λ (x : PackedRows). x.tree.now) same in
-    let sid = ap (λ (x : PackedRows). x.sid) same in
-    let ahead = step.cursor (length (base_left p)) lawful.cursor in
-    let cursor = cursor_past p q lawful here c.pass_change.ensures.place c.pass_change.ensures.changes
-    tree p.sid (length (base_left p)) sid ahead in
-    let left_is : rows_left past (base_left p) ≡ rows_left (cursor_of q) (base_left q) =
-    ap (λ x. rows_left x (base_left p)) (sym cursor)
-    ∙ ap (λ (x : PackedRows). rows_left (cursor_of q) (base_left x)) (sym same) in
     record {
       row = next.inserted;
-      rows = sym c.pass_deleted.ensures.rows ∙ step.rows (base_left p) ∙ ap (λ (rows : List Cells). next.inserted ∷ rows) left_is;
+      rows = sym c.pass_deleted.ensures.rows ∙ c.pass_inserted.ensures.rows _ next;
     }
 
 pub returns-clause-lawful : goal.returns-clause-lawful
