@@ -135,7 +135,7 @@ fn payload_at<'a>(
     kind: Kind,
     bytes: &'a [u8],
 ) -> Result<Option<(Frame<'a>, &'a [u8])>, ReadFault>
-    requires { head.now.count ≤ 1024 }
+    requires { head.now.count ≤ MAX_BLOCK_VALUES }
     ensures { Gives found_now result (payload_at col at head.now kind bytes.now) }
 {
     let size = head.size as usize;

@@ -7,7 +7,7 @@ ghost use Rattle.manager.specs.Managed.{IsManaged};
 ghost use Rattle.publishing.specs.Commits.{commits_made};
 ghost use Rattle.publishing.specs.Lists.{number_in};
 ghost use Rattle.std.specs.List.{range_with_len};
-ghost use Rattle.values.specs.declared.limits.TheConstants.{MAX_ROWS};
+ghost use Rattle.values.specs.declared.limits.TheConstants.{MAX_CLIENTS, MAX_ROWS};
 ghost use Rattle.shared.specs.Endings.{IsClosed, IsHandedOut};
 ghost use Rattle.shared.specs.Sessions.{AreBeginnings, WasReplied, WasTold, commits_above, new_seat, number_of};
 ghost use Rattle.shared.specs.declared.fault.CommitFault.TheVariants as commit_fault;
@@ -133,7 +133,7 @@ fn writer_over<R: Wait>(
 ) -> Result<VersionWriter, ShareFault>
     requires opening { (list.now.opening.manager ≡ manager.now) × (list.now.list ≡ []) }
     requires some { 0 < clients }
-    requires limit { clients ≤ 64 }
+    requires limit { clients ≤ MAX_CLIENTS }
     ensures published { IfOk result (λ w. (w.desk.shown.value ≡ list.now) × (view w.desk.place ≡ Some list.now)) }
     ensures refused { IfErr result (λ fault. fault ≢ share_fault.BadLimit) }
 {
@@ -198,10 +198,10 @@ pub fn open<O: Opening, S: ImageStore, R: Wait>(
     requires opening { (fresh.book.list.opening ≡ O.opened) × (fresh.book.list.list ≡ []) × (O.opened.manager ≡ manager) }
     requires store { S.columns store ≡ manager.schema }
     ensures sessions { IfOk result (λ r. r.1.items ≡ map new_seat (range_with_len 0 clients)) }
-    ensures limit { OnOk result ((1 ≤ clients) × (clients ≤ 64)) }
+    ensures limit { OnOk result ((1 ≤ clients) × (clients ≤ MAX_CLIENTS)) }
     ensures none { clients ≡ 0 → result ≡ Err share_fault.BadLimit }
     ensures many { 64 < clients → result ≡ Err share_fault.BadLimit }
-    ensures refused { IfErr result (λ fault. 1 ≤ clients → clients ≤ 64 → fault ≢ share_fault.BadLimit) }
+    ensures refused { IfErr result (λ fault. 1 ≤ clients → clients ≤ MAX_CLIENTS → fault ≢ share_fault.BadLimit) }
 {
     if clients == 0 || clients > MAX_CLIENTS {
         return Err(ShareFault::BadLimit);
